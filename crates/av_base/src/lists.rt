@@ -1,0 +1,139 @@
+ghost use Rattle.std.specs.Prelude.{◌≡◌, [], ◌∷◌, ◌++◌, length, IfOk, OnOk, OnErr};
+
+use super::NoMemory;
+use std::alloc::Global;
+use std::marker::Model;
+
+/// Bytes in memory.
+#[derive(Debug, Drop)]
+pub struct Bytes {
+    bytes: Vec<u8>,
+}
+
+impl Model for Bytes {
+    ghost use Rattle.std.specs.Prelude.{ℕ, List};
+
+    ghost Value = { List ℕ };
+
+    ghost view = { λ b. b.bytes.items };
+}
+
+impl Bytes {
+    pub fn new(alloc: Global) -> Bytes
+        ensures { result ≡ [] }
+    {
+        Bytes {
+            bytes: Vec::new(alloc),
+        }
+    }
+
+    pub fn as_slice(&self) -> &[u8]
+        ensures { result.now ≡ self.now }
+    {
+        self.bytes.as_slice()
+    }
+
+    pub fn len(&self) -> usize
+        ensures { result ≡ length self.now }
+    {
+        self.bytes.len()
+    }
+
+    pub fn push(&mut self, byte: u8) -> Result<(), NoMemory>
+        ensures ok { OnOk result (self.new ≡ self.old ++ byte ∷ []) }
+        ensures err { OnErr result (self.new ≡ self.old) }
+    {
+        self.bytes.push(byte)?;
+        Ok(())
+    }
+
+    pub fn append(&mut self, bytes: &[u8]) -> Result<(), NoMemory>
+        ensures ok { OnOk result (self.new ≡ self.old ++ bytes.now) }
+        ensures err { OnErr result (self.new ≡ self.old) }
+    {
+        self.bytes.extend_from_slice(bytes)?;
+        Ok(())
+    }
+}
+
+/// A text, seen as its bytes.
+#[derive(Debug, Drop)]
+pub struct Text {
+    text: String,
+}
+
+impl Model for Text {
+    ghost use Rattle.std.specs.Prelude.{ℕ, List, string_bytes};
+
+    ghost Value = { List ℕ };
+
+    ghost view = { λ t. string_bytes t.text };
+}
+
+impl Text {
+    pub fn copy(alloc: Global, text: &str) -> Result<Text, NoMemory>
+        ensures { IfOk result (λ t. t ≡ text.now) }
+    {
+        Ok(Text {
+            text: String::from_str(alloc, text)?,
+        })
+    }
+
+    pub fn as_str(&self) -> &str
+        ensures { result.now ≡ self.now }
+    {
+        self.text.as_str()
+    }
+
+    pub fn as_slice(&self) -> &[u8]
+        ensures { result.now ≡ self.now }
+    {
+        self.text.as_bytes()
+    }
+}
+
+/// A list of items in memory.
+#[derive(Debug, Drop)]
+pub struct List<T> {
+    items: Vec<T>,
+}
+
+impl<T> Model for List<T> {
+    ghost use Rattle.std.specs.Prelude.{List as Sequence};
+
+    ghost Value = { Sequence T };
+
+    ghost view = { λ l. l.items.items };
+}
+
+impl<T> List<T> {
+    pub fn new(alloc: Global) -> List<T>
+        ensures { result ≡ [] }
+    {
+        List {
+            items: Vec::new(alloc),
+        }
+    }
+
+    pub fn as_slice(&self) -> &[T]
+        ensures { result.now ≡ self.now }
+    {
+        self.items.as_slice()
+    }
+
+    pub fn len(&self) -> usize
+        ensures { result ≡ length self.now }
+    {
+        self.items.len()
+    }
+}
+
+impl<T: Drop> List<T> {
+    pub fn push(&mut self, item: T) -> Result<(), NoMemory>
+        ensures ok { OnOk result (self.new ≡ self.old ++ item ∷ []) }
+        ensures err { OnErr result (self.new ≡ self.old) }
+    {
+        self.items.push(item)?;
+        Ok(())
+    }
+}
