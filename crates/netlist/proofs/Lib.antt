@@ -1,0 +1,5 @@
+pub mod Lists
+pub mod Inputs
+pub mod Growth
+pub mod Valuations
+pub mod Existence

@@ -1,0 +1,66 @@
+-- Places in lists of lines and of drivers.
+use Rattle.std.proofs.Common.{◌≡◌, ℕ, zero, suc, ◌<◌, List, [], ◌∷◌, ◌++◌, length, slice_get, get_or, set, Bool, true, false, ◌&&◌, IsTrue, Option, Some, None, refl, ap, arith, ◌⊎◌, inl, inr}
+use Rattle.std.specs.List.{list_all}
+use Rattle.netlist.specs.declared.line.Line.{Line}
+use Rattle.netlist.specs.Netlists.{width_at}
+
+pub slice_get-front : {X : Type 0} (xs ys : List X) (n : ℕ) (x : X) → slice_get xs n ≡ Some x → slice_get (xs ++ ys) n ≡ Some x
+slice_get-front [] ys n x e = cc
+slice_get-front (a ∷ xs) ys zero x e = e
+slice_get-front (a ∷ xs) ys (suc n) x e = slice_get-front xs ys n x e
+
+pub slice_get-last : {X : Type 0} (xs : List X) (y : X) → slice_get (xs ++ y ∷ []) (length xs) ≡ Some y
+slice_get-last [] y = refl
+slice_get-last (a ∷ xs) y = slice_get-last xs y
+
+-- what stands in a list with one more item is the item, or stood there before
+pub slice_get-newly : {X : Type 0} (xs : List X) (y z : X) (n : ℕ) → slice_get (xs ++ y ∷ []) n ≡ Some z → (slice_get xs n ≡ Some z) ⊎ (n ≡ length xs) × (y ≡ z)
+slice_get-newly [] y z zero e = inr (refl, (cc))
+slice_get-newly [] y z (suc n) e = inl e
+slice_get-newly (a ∷ xs) y z zero e = inl e
+slice_get-newly (a ∷ xs) y z (suc n) e = elim (slice_get-newly xs y z n e) [ inl o ↦ inl o | inr o ↦ inr (ap suc o.0, o.1) ]
+
+pub slice_get-within : {X : Type 0} (xs : List X) (n : ℕ) (x : X) → slice_get xs n ≡ Some x → n < length xs
+slice_get-within [] n x e = cc
+slice_get-within (a ∷ xs) zero x e = omega arith
+slice_get-within (a ∷ xs) (suc n) x e = let i = slice_get-within xs n x e in omega arith
+
+pub slice_get-some : {X : Type 0} (xs : List X) (n : ℕ) → n < length xs → (x : X) × (slice_get xs n ≡ Some x)
+slice_get-some [] n h = absurd (omega arith)
+slice_get-some (x ∷ xs) zero h = (x, refl)
+slice_get-some (x ∷ xs) (suc n) h = slice_get-some xs n (omega arith)
+
+pub width_at-line : (xs : List Line) (n w : ℕ) → width_at xs n ≡ Some w → (line : Line) × (slice_get xs n ≡ Some line) × (line.width ≡ w)
+width_at-line [] n w e = cc
+width_at-line (x ∷ xs) zero w e = (x, refl, (cc))
+width_at-line (x ∷ xs) (suc n) w e = width_at-line xs n w e
+
+pub width_at-is : (xs : List Line) (n : ℕ) (line : Line) → slice_get xs n ≡ Some line → width_at xs n ≡ Some line.width
+width_at-is xs n line e = rw e refl
+
+pub list_all-push : {X : Type 0} (test : X → Bool) (xs : List X) (y : X) → IsTrue (list_all test xs) → test y ≡ true → IsTrue (list_all test (xs ++ y ∷ []))
+list_all-push test [] y h e = rw e refl
+list_all-push test (x ∷ xs) y h e = at_head (test x) (list_all test xs) (list_all test (xs ++ y ∷ [])) h (λ t. list_all-push test xs y t e) where
+  at_head : (a b b' : Bool) → IsTrue (a && b) → (IsTrue b → IsTrue b') → IsTrue (a && b')
+  at_head true b b' h f = f h
+  at_head false b b' h f = h
+
+-- a driver after one was set: the one, or an earlier one
+pub driver-newly : (ds : List (Option ℕ)) (k n j m : ℕ) → get_or (set ds k (Some n)) j None ≡ Some m → (get_or ds j None ≡ Some m) ⊎ (j ≡ k) × (n ≡ m)
+driver-newly [] k n j m e = inl e
+driver-newly (d ∷ ds) zero n zero m e = inr (refl, (cc))
+driver-newly (d ∷ ds) zero n (suc j) m e = inl e
+driver-newly (d ∷ ds) (suc k) n zero m e = inl e
+driver-newly (d ∷ ds) (suc k) n (suc j) m e = elim (driver-newly ds k n j m e) [ inl o ↦ inl o | inr o ↦ inr (ap suc o.0, o.1) ]
+
+pub driver-set : (ds : List (Option ℕ)) (k n : ℕ) → k < length ds → get_or (set ds k (Some n)) k None ≡ Some n
+driver-set [] k n h = absurd (omega arith)
+driver-set (d ∷ ds) zero n h = refl
+driver-set (d ∷ ds) (suc k) n h = driver-set ds k n (omega arith)
+
+pub driver-kept : (ds : List (Option ℕ)) (k n j m : ℕ) → get_or ds k None ≡ None → get_or ds j None ≡ Some m → get_or (set ds k (Some n)) j None ≡ Some m
+driver-kept [] k n j m u e = cc
+driver-kept (d ∷ ds) zero n zero m u e = cc
+driver-kept (d ∷ ds) zero n (suc j) m u e = e
+driver-kept (d ∷ ds) (suc k) n zero m u e = e
+driver-kept (d ∷ ds) (suc k) n (suc j) m u e = driver-kept ds k n j m u e

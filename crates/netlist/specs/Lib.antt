@@ -1,0 +1,5 @@
+pub mod Names
+pub mod Netlists
+pub mod Runs
+pub mod Longer
+pub mod Signals

@@ -1,0 +1,29 @@
+-- Netlists that grow: what a longer one keeps.
+use Rattle.std.specs.Prelude.{◌≡◌, ℕ, ◌≤◌, length, slice_get, Some}
+use Rattle.netlist.specs.declared.line.Line.{Line}
+use Rattle.netlist.specs.Netlists.{Netlist, HasWidth, driver_of}
+use Rattle.netlist.specs.Runs.{Run, IsRun}
+
+-- a line as the longer list may have it: unchanged
+abbrev pub IsKept : Line → Line → Type 0
+IsKept line later = later ≡ line
+
+-- line n stands in the list, kept
+pub record KeepsLine (netlist : Netlist) (n : ℕ) (line : Line) : Type 0 where
+  pub later : Line
+  pub is : slice_get netlist.lines n ≡ Some later
+  pub kept : IsKept line later
+
+-- name, ports, each line and each driver of the old netlist stand in the new one
+pub record Keeps (old new : Netlist) : Type 0 where
+  pub name : new.name ≡ old.name
+  pub ports : new.ports ≡ old.ports
+  pub lines : (n : ℕ) (line : Line) → slice_get old.lines n ≡ Some line → KeepsLine new n line
+  pub drivers : (k n : ℕ) → driver_of old k ≡ Some n → driver_of new k ≡ Some n
+
+-- the new netlist keeps the old one, so its nets are nets and its runs are runs of the old one
+pub record Extends (old new : Netlist) : Type 0 where
+  pub keeps : Keeps old new
+  pub nets : (n w : ℕ) → HasWidth old n w → HasWidth new n w
+  pub runs : (run : Run) (cycles : ℕ) → IsRun new run cycles → IsRun old run cycles
+  pub count : length old.lines ≤ length new.lines

@@ -1,0 +1,130 @@
+-- A netlist: what contracts see of a builder and of a module.
+use Rattle.std.specs.Prelude.{◌≡◌, ◌≢◌, ℕ, ◌+◌, ◌^◌, ◌<◌, ◌≤◌, Bool, true, false, not, List, [], ◌∷◌, ◌++◌, length, slice_get, slice_index_or, slice_set, take, map, All, AllPairs, count_by, Option, Some, None, option_map, unwrap_or, IsSome, IsTrue, if◌then◌else◌}
+use Rattle.std.specs.List.{list_all}
+use Rattle.av_base.specs.Word.{IsWord}
+use Rattle.netlist.specs.Names.{IsModuleName, IsPortName}
+use Rattle.netlist.specs.declared.line.Equation.{Equation}
+use Rattle.netlist.specs.declared.line.Equation.TheVariants.{Input, Constant}
+use Rattle.netlist.specs.declared.line.Line.{Line}
+use Rattle.netlist.specs.declared.line.PortLine.{PortLine}
+
+-- the module's name, its ports in header order, the line of each net, and for each port the net that drives it
+pub record Netlist : Type 0 where
+  pub name : List ℕ
+  pub ports : List PortLine
+  pub lines : List Line
+  pub drivers : List (Option ℕ)
+
+abbrev pub line_of : ℕ → Equation → Line
+line_of w e = record { width = w; equation = e }
+
+-- the width of net n, where there is one
+abbrev pub width_at : List Line → ℕ → Option ℕ
+width_at lines n = option_map (λ (line : Line). line.width) (slice_get lines n)
+
+-- n is a net of this width
+abbrev pub HasWidth : Netlist → ℕ → ℕ → Type 0
+HasWidth netlist n w = width_at netlist.lines n ≡ Some w
+
+-- the width of net n, or 0 where there is none
+abbrev pub width_of : Netlist → ℕ → ℕ
+width_of netlist n = unwrap_or (width_at netlist.lines n) 0
+
+-- the net that drives port k, where one does
+abbrev pub driver_of : Netlist → ℕ → Option ℕ
+driver_of netlist k = slice_index_or netlist.drivers k None
+
+-- port k is an input of this width
+pub record IsInputPort (ports : List PortLine) (k w : ℕ) : Type 0 where
+  pub port : PortLine
+  pub is : slice_get ports k ≡ Some port
+  pub input : port.output ≡ false
+  pub width : port.width ≡ w
+
+-- port k is an output of this width
+pub record IsOutputPort (ports : List PortLine) (k w : ℕ) : Type 0 where
+  pub port : PortLine
+  pub is : slice_get ports k ≡ Some port
+  pub output : port.output ≡ true
+  pub width : port.width ≡ w
+
+-- how many of the ports are inputs
+abbrev pub input_count : List PortLine → ℕ
+input_count ports = count_by (λ (port : PortLine). not port.output) ports
+
+-- the net of input port k: input nets are numbered in header order, outputs left out
+abbrev pub input_net : List PortLine → ℕ → ℕ
+input_net ports k = input_count (take k ports)
+
+-- the lines of the input nets of ports that are numbered from k
+abbrev pub input_lines : ℕ → List PortLine → List Line
+input_lines k [] = []
+input_lines k (port ∷ ports) = if port.output then input_lines (k + 1) ports else line_of port.width (Input k) ∷ input_lines (k + 1) ports
+
+abbrev pub is_input : Equation → Bool
+is_input (Input port) = true
+is_input (Constant value) = false
+
+-- what the equation of net n, of this width, asks of the netlist that it stands in
+abbrev pub IsSound : Netlist → ℕ → ℕ → Equation → Type 0
+IsSound netlist n w (Input port) = IsInputPort netlist.ports port w
+IsSound netlist n w (Constant value) = IsWord value.width value.bits × (value.width ≡ w)
+
+pub record IsSoundLine (netlist : Netlist) (n : ℕ) (line : Line) : Type 0 where
+  pub some_bit : 1 ≤ line.width
+  pub small : line.width ≤ 128
+  pub equation : IsSound netlist n line.width line.equation
+
+-- the name and the ports that a module may have
+pub record IsHeader (name : List ℕ) (ports : List PortLine) : Type 0 where
+  pub module_name : IsModuleName name
+  pub port_names : All (λ (port : PortLine). IsPortName port.name) ports
+  pub distinct : AllPairs (λ (p q : PortLine). p.name ≢ q.name) ports
+  pub widths : All (λ (port : PortLine). (1 ≤ port.width) × (port.width ≤ 128)) ports
+  pub few : length ports < 2 ^ 32
+
+-- the first nets are the input ports in header order, and no other net is an input
+pub record BeginsWithInputs (ports : List PortLine) (lines : List Line) : Type 0 where
+  pub computed : List Line
+  pub split : lines ≡ input_lines 0 ports ++ computed
+  pub others : IsTrue (list_all (λ (line : Line). not (is_input line.equation)) computed)
+
+-- net n may drive port k: an output of its width
+pub record IsDriver (netlist : Netlist) (k n : ℕ) : Type 0 where
+  pub width : ℕ
+  pub port : IsOutputPort netlist.ports k width
+  pub net : HasWidth netlist n width
+
+-- what each builder keeps
+pub record IsWellMade (netlist : Netlist) : Type 0 where
+  pub header : IsHeader netlist.name netlist.ports
+  pub few : length netlist.lines ≤ 2 ^ 20
+  pub inputs : BeginsWithInputs netlist.ports netlist.lines
+  pub lines : (n : ℕ) (line : Line) → slice_get netlist.lines n ≡ Some line → IsSoundLine netlist n line
+  pub places : length netlist.drivers ≡ length netlist.ports
+  pub drivers : (k n : ℕ) → driver_of netlist k ≡ Some n → IsDriver netlist k n
+
+-- each output port has its driver
+abbrev pub IsDriven : Netlist → Type 0
+IsDriven netlist = (k w : ℕ) → IsOutputPort netlist.ports k w → IsSome (driver_of netlist k)
+
+-- what each module keeps
+pub record IsModule (netlist : Netlist) : Type 0 where
+  pub well_made : IsWellMade netlist
+  pub driven : IsDriven netlist
+
+-- no net drives the port yet
+abbrev pub undriven : PortLine → Option ℕ
+undriven port = None
+
+-- a netlist with its input nets alone
+abbrev pub started : List ℕ → List PortLine → Netlist
+started name ports = record { name = name; ports = ports; lines = input_lines 0 ports; drivers = map undriven ports }
+
+-- the netlist with one more line
+abbrev pub appended : Netlist → ℕ → Equation → Netlist
+appended netlist w e = record netlist { lines = netlist.lines ++ line_of w e ∷ [] }
+
+-- the netlist with port k driven by net n
+abbrev pub with_driver : Netlist → ℕ → ℕ → Netlist
+with_driver netlist k n = record netlist { drivers = slice_set netlist.drivers k (Some n) }

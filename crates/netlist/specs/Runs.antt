@@ -1,0 +1,105 @@
+-- Valuations and runs of a netlist.
+use Rattle.std.specs.Prelude.{◌≡◌, ℕ, ◌+◌, ◌^◌, ◌<◌, Bool, true, false, List, length, slice_get, Option, Some, None, IfSome}
+use Rattle.netlist.specs.declared.line.Equation.{Equation}
+use Rattle.netlist.specs.declared.line.Equation.TheVariants.{Input, Constant}
+use Rattle.netlist.specs.declared.line.Line.{Line}
+use Rattle.netlist.specs.declared.line.PortLine.{PortLine}
+use Rattle.netlist.specs.Netlists.{Netlist, IsInputPort}
+
+-- one cycle: the value at each input port, of each net, and of each word of each memory as the cycle begins
+pub record Cycle : Type 0 where
+  pub input : ℕ → ℕ
+  pub net : ℕ → ℕ
+  pub cell : ℕ → ℕ → ℕ
+
+-- cycle after cycle: `input cycle port`, `net cycle number`, `cell cycle memory address`
+pub record Run : Type 0 where
+  pub input : ℕ → ℕ → ℕ
+  pub net : ℕ → ℕ → ℕ
+  pub cell : ℕ → ℕ → ℕ → ℕ
+
+abbrev pub cycle_of : Run → ℕ → Cycle
+cycle_of run c = record { input = run.input c; net = run.net c; cell = run.cell c }
+
+-- the value that an equation gives its net of this width in a cycle; None where the value is state
+abbrev pub value_of : List Line → Cycle → ℕ → Equation → Option ℕ
+value_of lines cycle w (Input port) = Some (cycle.input port)
+value_of lines cycle w (Constant value) = Some value.bits
+
+-- net n has a value of its width, the one that its equation gives
+pub record NetHolds (lines : List Line) (cycle : Cycle) (n : ℕ) (line : Line) : Type 0 where
+  pub fits : cycle.net n < 2 ^ line.width
+  pub value : IfSome (value_of lines cycle line.width line.equation) (λ x. cycle.net n ≡ x)
+
+-- the equations hold in one cycle, in no order; what registers and memories hold is free
+pub record IsValuation (netlist : Netlist) (cycle : Cycle) : Type 0 where
+  pub nets : (n : ℕ) (line : Line) → slice_get netlist.lines n ≡ Some line → NetHolds netlist.lines cycle n line
+
+-- the value that an equation's net has in the first cycle; None where it isn't a register
+abbrev pub reset_of : Equation → Option ℕ
+reset_of (Input port) = None
+reset_of (Constant value) = None
+
+-- the net whose value a register takes with the clock; None where it isn't a register, or has none yet
+abbrev pub next_of : Equation → Option ℕ
+next_of (Input port) = None
+next_of (Constant value) = None
+
+-- each register begins at its reset value; what memories hold at first is free
+pub record StartsAt (netlist : Netlist) (first : Cycle) : Type 0 where
+  pub registers : (n : ℕ) (line : Line) → slice_get netlist.lines n ≡ Some line → IfSome (reset_of line.equation) (λ x. first.net n ≡ x)
+
+-- the clock's edge between two cycles: each register takes what its next net was
+pub record Steps (netlist : Netlist) (before after : Cycle) : Type 0 where
+  pub registers : (n : ℕ) (line : Line) → slice_get netlist.lines n ≡ Some line → IfSome (next_of line.equation) (λ m. after.net n ≡ before.net m)
+
+-- The run obeys the netlist for so many cycles. `reset` is no net and no port: it is 0 in each cycle, so
+-- the emitted text's reset branches are never taken, and the first cycle has the reset values.
+pub record IsRun (netlist : Netlist) (run : Run) (cycles : ℕ) : Type 0 where
+  pub valuations : (c : ℕ) → c < cycles → IsValuation netlist (cycle_of run c)
+  pub starts : 0 < cycles → StartsAt netlist (cycle_of run 0)
+  pub steps : (c : ℕ) → c + 1 < cycles → Steps netlist (cycle_of run c) (cycle_of run (c + 1))
+
+-- P holds in each cycle of each run
+abbrev pub Always : Netlist → (Run → ℕ → Type 0) → Type 0
+Always netlist P = (run : Run) (cycles : ℕ) → IsRun netlist run cycles → (c : ℕ) → c < cycles → P run c
+
+-- the value at each input port fits its width
+abbrev pub InputsFit : List PortLine → (ℕ → ℕ) → Type 0
+InputsFit ports input = (k w : ℕ) → IsInputPort ports k w → input k < 2 ^ w
+
+-- the net's value is state
+abbrev pub is_state : Equation → Bool
+is_state (Input port) = false
+is_state (Constant value) = false
+
+-- each register's value fits its width
+abbrev pub StateFits : Netlist → Cycle → Type 0
+StateFits netlist cycle = (n : ℕ) (line : Line) → slice_get netlist.lines n ≡ Some line → is_state line.equation ≡ true → cycle.net n < 2 ^ line.width
+
+-- two cycles with equal values at the input ports
+abbrev pub SameInputs : Netlist → Cycle → Cycle → Type 0
+SameInputs netlist x y = (k w : ℕ) → IsInputPort netlist.ports k w → x.input k ≡ y.input k
+
+-- two cycles in which each register, and each word of each memory, is the same
+pub record SameState (netlist : Netlist) (x y : Cycle) : Type 0 where
+  pub registers : (n : ℕ) (line : Line) → slice_get netlist.lines n ≡ Some line → is_state line.equation ≡ true → x.net n ≡ y.net n
+  pub words : (m address : ℕ) → x.cell m address ≡ y.cell m address
+
+-- two cycles in which each net has the same value
+abbrev pub SameNets : Netlist → Cycle → Cycle → Type 0
+SameNets netlist x y = (n : ℕ) → n < length netlist.lines → x.net n ≡ y.net n
+
+-- a valuation with these inputs and this state
+pub record HasValuation (netlist : Netlist) (given : Cycle) : Type 0 where
+  pub cycle : Cycle
+  pub valuation : IsValuation netlist cycle
+  pub inputs : cycle.input ≡ given.input
+  pub state : SameState netlist given cycle
+
+-- a run of so many cycles with these inputs, whose memories hold these words at first
+pub record HasRun (netlist : Netlist) (inputs : ℕ → ℕ → ℕ) (contents : ℕ → ℕ → ℕ) (cycles : ℕ) : Type 0 where
+  pub run : Run
+  pub is_run : IsRun netlist run cycles
+  pub inputs_are : run.input ≡ inputs
+  pub contents_are : run.cell 0 ≡ contents

@@ -1,0 +1,18 @@
+-- What stands at the ports of a netlist in a run.
+use Rattle.std.specs.Prelude.{ℕ, List, Option, option_map, unwrap_or, position, nat_eq}
+use lib.Pointwise.{pointwise}
+use Rattle.netlist.specs.declared.line.PortLine.{PortLine}
+use Rattle.netlist.specs.Netlists.{Netlist, driver_of}
+use Rattle.netlist.specs.Runs.{Run}
+
+-- the value at port k in a cycle: of the net that drives it, and else, at an input port, of the input
+abbrev pub port_value : Netlist → Run → ℕ → ℕ → ℕ
+port_value netlist run c k = unwrap_or (option_map (run.net c) (driver_of netlist k)) (run.input c k)
+
+-- the number of the port with this name
+abbrev pub port_named : List PortLine → List ℕ → Option ℕ
+port_named ports name = position (λ (port : PortLine). pointwise nat_eq port.name name) ports
+
+-- the signal at the port with this name, as a function of the cycle
+abbrev pub signal : Netlist → Run → List ℕ → Option (ℕ → ℕ)
+signal netlist run name = option_map (λ k. λ c. port_value netlist run c k) (port_named netlist.ports name)

@@ -1,0 +1,32 @@
+//! What holds of each run of each netlist. The functions do nothing; their contracts are the laws.
+
+ghost use Rattle.std.specs.Prelude.{◌≡◌, ℕ, ◌<◌, ◌≤◌};
+ghost use Rattle.netlist.specs.Netlists.{Netlist, IsWellMade};
+ghost use Rattle.netlist.specs.Runs.{Run, Cycle, IsRun, IsValuation, InputsFit, StateFits, SameInputs, SameState, SameNets, HasValuation, HasRun};
+ghost use Rattle.netlist.specs.Longer.{Keeps, Extends};
+
+/// Any inputs and first contents, each within its width, have a run of every length.
+pub fn has_run()
+    ensures { (netlist : Netlist) → IsWellMade netlist → (inputs : ℕ → ℕ → ℕ) (contents : ℕ → ℕ → ℕ) (cycles : ℕ) → ((c : ℕ) → c < cycles → InputsFit netlist.ports (inputs c)) → HasRun netlist inputs contents cycles }
+{}
+
+/// Any inputs and state, each within its width, have a valuation.
+pub fn has_valuation()
+    ensures { (netlist : Netlist) → IsWellMade netlist → (given : Cycle) → InputsFit netlist.ports given.input → StateFits netlist given → HasValuation netlist given }
+{}
+
+/// And no second one: two valuations with equal inputs and state agree on every net.
+pub fn agree()
+    ensures { (netlist : Netlist) → IsWellMade netlist → (x y : Cycle) → IsValuation netlist x → IsValuation netlist y → SameInputs netlist x y → SameState netlist x y → SameNets netlist x y }
+{}
+
+/// The first cycles of a run are a run.
+pub fn prefix()
+    ensures { (netlist : Netlist) (run : Run) (cycles fewer : ℕ) → IsRun netlist run cycles → fewer ≤ cycles → IsRun netlist run fewer }
+{}
+
+/// A run of a netlist that keeps another is a run of the other.
+pub fn keeps()
+    ensures extends { (old new : Netlist) → Keeps old new → Extends old new }
+    ensures chain { (old middle new : Netlist) → Keeps old middle → Keeps middle new → Keeps old new }
+{}

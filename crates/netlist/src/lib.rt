@@ -1,0 +1,14 @@
+//! A module as an ordered list of equations, one for each net, of which each maker appends one.
+#![tactic(auto)]
+
+mod builder;
+mod fault;
+mod laws;
+mod line;
+mod module;
+
+pub use builder::Builder;
+pub use fault::NetFault;
+pub use laws::{agree, has_run, has_valuation, keeps, prefix};
+pub use line::{Equation, Line, Net, PortLine};
+pub use module::Module;
