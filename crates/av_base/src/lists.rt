@@ -56,6 +56,18 @@ impl Bytes {
     }
 }
 
+impl From<String> for Bytes {
+    ghost use Rattle.std.specs.Prelude.{string_bytes};
+
+    ghost from_gives = { λ text bytes. bytes ≡ string_bytes text };
+
+    fn from(text: String) -> Bytes {
+        Bytes {
+            bytes: text.into_bytes(),
+        }
+    }
+}
+
 /// A text, seen as its bytes.
 #[derive(Debug, Drop)]
 pub struct Text {

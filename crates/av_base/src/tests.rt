@@ -25,6 +25,8 @@ fn keeps_what_is_pushed(rt: HostRuntime) -> Result<(), Fail> {
     let mut bytes = bytes(rt.alloc(), b"ab")?;
     bytes.push(b'c')?;
     assert_eq!(rt; bytes.as_slice(), b"abc".as_slice());
+    let moved = Bytes::from(String::from_str(rt.alloc(), "moved")?);
+    assert_eq!(rt; moved.as_slice(), b"moved".as_slice());
     let list = numbers(rt.alloc(), &[3, 1])?;
     assert_eq!(rt; list.as_slice(), [3, 1].as_slice());
     let text = Text::copy(rt.alloc(), "name")?;
