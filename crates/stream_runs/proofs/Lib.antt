@@ -1,0 +1,4 @@
+pub mod Beginnings
+pub mod Fills
+pub mod Errors
+pub mod WireLaw

@@ -1,0 +1,6 @@
+pub mod View
+pub mod Source
+pub mod Symbols
+pub mod Delivery
+pub mod Awake
+pub mod Ends
