@@ -1,4 +1,2 @@
 pub mod Beginnings
-pub mod Fills
-pub mod Errors
 pub mod WireLaw

@@ -2,15 +2,13 @@
 use Rattle.std.proofs.Common.{◌≡◌, ℕ, zero, suc, ◌-◌, ◌≤◌, ◌<◌, Bool, true, false, cond, IsTrue, ◌||◌, ◌&&◌, List, [], ◌++◌, map, length, take, drop, refl, ap, sym, ◌∙◌, subst, arith, nat_lt, nat_le}
 use Rattle.std.proofs.lemmas.List.{take_all, drop_at, drop_all}
 use Rattle.std.proofs.lemmas.Bool.{and_parts, cond-true, le-leb, leb-true, le-ltb, or_left, eq-eqb, both_ways}
-use Rattle.stream_runs.specs.View.{EndView, Side, is_high, is_transfer, is_ready_cycle}
+use Rattle.stream_runs.specs.View.{EndView, Side, beat_at, is_high, is_transfer, is_ready_cycle}
 use Rattle.stream_runs.specs.Source.{IsLegalSource, KeepsPace, IsHeld}
 use Rattle.stream_runs.specs.Symbols.{Symbol, without_error, shown_count, shown_symbols, symbols_in, transferred_symbols, kept_symbols, joined_error}
 use Rattle.stream_runs.specs.Delivery.{DeliversPrefix, LagsWithin, ShowsDropped, IsServed, reaches, matched_symbols}
 use Rattle.stream_runs.specs.Awake.{NeverIdles, stream_window, undelivered, makes_beat}
+use Rattle.stream_runs.specs.Laws.{prefix_of_same, kept_more, joined_error_of_beat, length_in, legal_holds_data}
 use Rattle.stream_runs.specs.Ends.{Declared, Signals, side_of, view_of, stream_of, run_of, AreAlike, IsWire, byte_packets, packet_signals}
-use Rattle.stream_runs.proofs.Beginnings.{prefix_of_same}
-use Rattle.stream_runs.proofs.Fills.{kept_more}
-use Rattle.stream_runs.proofs.Errors.{join, joined_is, join_same, errors_of_beat, length_in}
 
 -- two sides that read a beat alike
 pub record ReadAlike (one two : Side) : Type 0 where
@@ -33,11 +31,7 @@ module _ (source sink : Side) (view : EndView) (count : ℕ) (alike : ReadAlike 
   formed c h moves =
       let shown = (and_parts (is_high view.valid c) (nat_lt 0 source.pace.latency || is_high view.ready c) moves).0 in
       let beat = (legal c h).formed shown in
-      (by_last (is_high view.last c) refl beat.holds_data, le-leb (view.channel c) sink.max_channel (omega (arith, beat.in_range)))
-    where
-      by_last : (b : Bool) → is_high view.last c ≡ b → (IsTrue (is_high view.last c) → view.empty c < source.symbols) → 0 < cond b (source.symbols - view.empty c) source.symbols
-      by_last true ends h = omega (arith, h ends)
-      by_last false goes h = positive
+      (legal_holds_data source view count positive legal c h moves, le-leb (view.channel c) sink.max_channel (omega (arith, beat.in_range)))
 
   all_kept : (c : ℕ) → c ≤ count → kept_symbols (reaches sink) source view c ≡ transferred_symbols source view c
   all_kept zero h = refl
@@ -69,7 +63,7 @@ module _ (source sink : Side) (view : EndView) (count : ℕ) (alike : ReadAlike 
       ap (λ (xs : List Symbol). take (shown_count sink view c) (drop (length (transferred_symbols sink view c)) xs)) later
       ∙ (ap (take (shown_count sink view c)) (drop_at (transferred_symbols sink view c) (shown_symbols sink view c) (length (transferred_symbols sink view c)) refl)
       ∙ take_all (shown_count sink view c) (shown_symbols sink view c) (omega (arith, sym (ap length shown) ∙ length_in sink view c moves))) in
-      sym (ap joined_error part ∙ (joined_is (shown_symbols sink view c) ∙ (ap join (errors_of_beat sink view c) ∙ join_same (shown_count sink view c) (view.error c) some)))
+      sym (ap joined_error part ∙ joined_error_of_beat sink (beat_at view c) some)
 
   wire_delivers : DeliversPrefix (reaches sink) source sink view view count
   wire_delivers =

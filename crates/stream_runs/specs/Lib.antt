@@ -4,3 +4,4 @@ pub mod Symbols
 pub mod Delivery
 pub mod Awake
 pub mod Ends
+pub mod Laws
