@@ -1,2 +1,4 @@
 pub mod Beginnings
 pub mod WireLaw
+pub mod Computed
+pub mod StandingStill

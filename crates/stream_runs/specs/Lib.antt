@@ -5,3 +5,4 @@ pub mod Delivery
 pub mod Awake
 pub mod Ends
 pub mod Laws
+pub mod Rows

@@ -41,3 +41,5 @@ pub fn wire_is_served()
         → IsServed (stream_of byte_packets byte_packets 0)
         (run_of (packet_signals ready valid word first last) (packet_signals ready valid word first last) dropped) count }
 {}
+
+pub mod rows;
