@@ -4,7 +4,7 @@ use Rattle.netlist.specs.declared.line.Equation.{Equation}
 use Rattle.netlist.specs.declared.line.Equation.TheVariants.{Input, Constant}
 use Rattle.netlist.specs.declared.line.Line.{Line}
 use Rattle.netlist.specs.declared.line.PortLine.{PortLine}
-use Rattle.netlist.specs.Netlists.{Netlist, driver_of}
+use Rattle.netlist.specs.Netlists.{Netlist}
 
 -- a number below 16 as a hexadecimal digit in lower case
 abbrev pub hex_digit : ℕ → ℕ
