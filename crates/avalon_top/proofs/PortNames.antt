@@ -1,0 +1,172 @@
+-- The names of ports: no two of a wire are the same, and each is found at its place.
+use Rattle.std.proofs.Common.{◌≡◌, ◌≢◌, ℕ, Bool, true, false, ◌&&◌, List, [], ◌∷◌, ◌++◌, length, map, Option, Some, None, nat_eq, nat_lt, cond, codes, refl, sym, ap, ◌∙◌, IsTrue, append_assoc}
+use Rattle.std.specs.List.{list_all, position, position_or_len}
+use Rattle.std.proofs.lemmas.Bool.{and_parts, eq-eqb, false≢true}
+use Rattle.std.proofs.lemmas.List.{length-map, map-append}
+use Rattle.std.proofs.lemmas.Slice.Eq.{bytes_eq-Decides}
+use lib.Pointwise.{pointwise}
+use Rattle.netlist.specs.declared.line.PortLine.{PortLine}
+use Rattle.netlist.specs.Names.{is_name_byte}
+use Rattle.netlist.specs.Signals.{port_named}
+use Rattle.avalon_top.specs.Form.{is_name, begins_with_letter}
+use Rattle.avalon_top.specs.Interconnect.{port_name, port, end_ports, ports_of, IsNamed}
+use Rattle.avalon_top.specs.declared.form.End.{End}
+use Rattle.avalon_top.specs.declared.form.Wire.{Wire}
+
+false_unless : (b : Bool) → (b ≡ true → ⊥) → b ≡ false
+false_unless true h = absurd (h refl)
+false_unless false h = refl
+
+abbrev pub same : List ℕ → List ℕ → Bool
+same = pointwise nat_eq
+
+-- a common beginning counts for nothing
+same-front : (front a b : List ℕ) → same (front ++ a) (front ++ b) ≡ same a b
+same-front [] a b = refl
+same-front (x ∷ front) a b = ap (λ t. t && same (front ++ a) (front ++ b)) (eq-eqb x x refl) ∙ same-front front a b
+
+-- two texts without '$' before the first '$' of one text
+before_dollar : (a b x y : List ℕ) → IsTrue (list_all is_name_byte a) → IsTrue (list_all is_name_byte b) → a ++ 36 ∷ x ≡ b ++ 36 ∷ y → a ≡ b
+before_dollar [] [] x y h k e = refl
+before_dollar [] (c ∷ b) x y h k e =
+    let is : c ≡ 36 = cc in
+    absurd (false≢true (ap is_name_byte (sym is) ∙ (and_parts (is_name_byte c) _ k).0))
+before_dollar (c ∷ a) [] x y h k e =
+    let is : c ≡ 36 = cc in
+    absurd (false≢true (ap is_name_byte (sym is) ∙ (and_parts (is_name_byte c) _ h).0))
+before_dollar (c ∷ a) (d ∷ b) x y h k e =
+    let heads : c ≡ d = cc in
+    let tails : a ++ 36 ∷ x ≡ b ++ 36 ∷ y = cc in
+    let rest = before_dollar a b x y (and_parts (is_name_byte c) _ h).1 (and_parts (is_name_byte d) _ k).1 tails in
+    cc
+
+pub port_name-split : (end : End) (role : List ℕ) → port_name end role ≡ end.instance ++ 36 ∷ (end.interface ++ 36 ∷ role)
+port_name-split end role =
+    append_assoc (end.instance ++ codes "$" ++ end.interface) (codes "$") role
+    ∙ append_assoc (end.instance ++ codes "$") end.interface (36 ∷ role)
+    ∙ append_assoc end.instance (codes "$") (end.interface ++ 36 ∷ role)
+
+pub port_name-is : (end : End) (role whole a b : List ℕ) → whole ≡ a ++ 36 ∷ (b ++ 36 ∷ role) → a ≡ end.instance → b ≡ end.interface → whole ≡ port_name end role
+port_name-is end role whole a b e f g =
+    e ∙ ap (λ (t : List ℕ). t ++ 36 ∷ (b ++ 36 ∷ role)) f ∙ ap (λ (t : List ℕ). end.instance ++ 36 ∷ (t ++ 36 ∷ role)) g ∙ sym (port_name-split end role)
+
+abbrev pub IsNameText : List ℕ → Type 0
+IsNameText name = IsTrue (list_all is_name_byte name)
+
+pub record AreApart (x y : End) : Type 0 where
+  pub one : IsNameText x.instance
+  pub other : IsNameText y.instance
+  pub differ : x.instance ≢ y.instance
+
+same-one_end : (end : End) (a b : List ℕ) → same (port_name end a) (port_name end b) ≡ same a b
+same-one_end end a b = same-front (end.instance ++ codes "$" ++ end.interface ++ codes "$") a b
+
+same-two_ends : (x y : End) (a b : List ℕ) → AreApart x y → same (port_name x a) (port_name y b) ≡ false
+same-two_ends x y a b h =
+    false_unless _ (λ e. h.differ (before_dollar x.instance y.instance _ _ h.one h.other (sym (port_name-split x a) ∙ (bytes_eq-Decides (port_name x a) (port_name y b)).0 e ∙ port_name-split y b)))
+
+-- the ports at which a test holds
+abbrev at_names : List ℕ → List PortLine → List Bool
+at_names name = map (λ (port : PortLine). same port.name name)
+
+cons_eq : {X : Type 0} {x y : X} {xs ys : List X} → x ≡ y → xs ≡ ys → x ∷ xs ≡ y ∷ ys
+cons_eq e f = cc
+
+abbrev pub role_tests : List ℕ → List Bool
+role_tests role = same (codes "ready") role ∷ same (codes "valid") role ∷ same (codes "data") role ∷ same (codes "startofpacket") role ∷ same (codes "endofpacket") role ∷ []
+
+abbrev pub no_test : List Bool
+no_test = false ∷ false ∷ false ∷ false ∷ false ∷ []
+
+tests-one_end : (end : End) (is_sink : Bool) (role : List ℕ) → at_names (port_name end role) (end_ports end is_sink) ≡ role_tests role
+tests-one_end end is_sink role =
+    let at = λ (a : List ℕ). same-one_end end a role in
+    cons_eq (at (codes "ready")) (cons_eq (at (codes "valid")) (cons_eq (at (codes "data")) (cons_eq (at (codes "startofpacket")) (cons_eq (at (codes "endofpacket")) refl))))
+
+tests-two_ends : (x y : End) (is_sink : Bool) (role : List ℕ) → AreApart x y → at_names (port_name y role) (end_ports x is_sink) ≡ no_test
+tests-two_ends x y is_sink role h =
+    let at = λ (a : List ℕ). same-two_ends x y a role h in
+    cons_eq (at (codes "ready")) (cons_eq (at (codes "valid")) (cons_eq (at (codes "data")) (cons_eq (at (codes "startofpacket")) (cons_eq (at (codes "endofpacket")) refl))))
+
+three_parts : (test : PortLine → Bool) (xs ys : List PortLine) (z : PortLine) (es fs : List Bool) (c : Bool) → map test xs ≡ es → map test ys ≡ fs → test z ≡ c
+    → map test (xs ++ ys ++ z ∷ []) ≡ es ++ fs ++ c ∷ []
+three_parts test xs ys z es fs c e f g =
+    map-append test (xs ++ ys) (z ∷ []) ∙ ap (λ (t : List Bool). t ++ test z ∷ []) (map-append test xs ys)
+    ∙ ap (λ (t : List Bool). t ++ map test ys ++ test z ∷ []) e ∙ ap (λ (t : List Bool). es ++ t ++ test z ∷ []) f ∙ ap (λ (t : Bool). es ++ fs ++ t ∷ []) g
+
+-- the first place at which a test holds, from the answers of the test
+abbrev pub first_true : List Bool → Option ℕ
+first_true = position (λ (b : Bool). b)
+
+position_or_len-map : (test : PortLine → Bool) (xs : List PortLine) → position_or_len test xs ≡ position_or_len (λ (b : Bool). b) (map test xs)
+position_or_len-map test [] = refl
+position_or_len-map test (x ∷ xs) = rw (position_or_len-map test xs) refl
+
+named_at : (ports : List PortLine) (name : List ℕ) → port_named ports name ≡ first_true (at_names name ports)
+named_at ports name =
+    let test = λ (port : PortLine). same port.name name in
+    let firsts = position_or_len-map test ports in
+    ap (λ (n : ℕ). cond (nat_lt n (length ports)) (Some n) None) firsts
+    ∙ ap (λ (n : ℕ). cond (nat_lt (position_or_len (λ (b : Bool). b) (map test ports)) n) (Some (position_or_len (λ (b : Bool). b) (map test ports))) None) (sym (length-map ports test))
+
+abbrev pub IsName : List ℕ → Type 0
+IsName name = IsTrue (is_name name)
+
+-- each name of a wire
+pub record Names (wire : Wire) : Type 0 where
+  pub system : IsName wire.system
+  pub source_instance : IsName wire.source.instance
+  pub source_interface : IsName wire.source.interface
+  pub sink_instance : IsName wire.sink.instance
+  pub sink_interface : IsName wire.sink.interface
+
+pub names_of : (wire : Wire) → IsNamed wire → Names wire
+names_of wire named =
+    let one = named.names in
+    let two = (and_parts (is_name wire.system) _ one).1 in
+    let three = (and_parts (is_name wire.source.instance) _ two).1 in
+    let four = (and_parts (is_name wire.source.interface) _ three).1 in
+    let five = (and_parts (is_name wire.sink.instance) _ four).1 in
+    record {
+      system = (and_parts (is_name wire.system) _ one).0;
+      source_instance = (and_parts (is_name wire.source.instance) _ two).0;
+      source_interface = (and_parts (is_name wire.source.interface) _ three).0;
+      sink_instance = (and_parts (is_name wire.sink.instance) _ four).0;
+      sink_interface = (and_parts (is_name wire.sink.interface) _ five).0;
+    }
+
+pub name_first : (name : List ℕ) → IsName name → IsTrue (begins_with_letter name)
+name_first name h = (and_parts (begins_with_letter name) _ h).0
+
+pub name_text : (name : List ℕ) → IsName name → IsNameText name
+name_text name h = (and_parts (list_all is_name_byte name) _ (and_parts (begins_with_letter name) _ h).1).0
+
+pub source_apart : (wire : Wire) → IsNamed wire → AreApart wire.source wire.sink
+source_apart wire named =
+    let names = names_of wire named in
+    record {
+      one = name_text wire.source.instance names.source_instance;
+      other = name_text wire.sink.instance names.sink_instance;
+      differ = named.differ;
+    }
+
+pub turned : (x y : End) → AreApart x y → AreApart y x
+turned x y h = record { one = h.other; other = h.one; differ = λ e. h.differ (sym e) }
+
+pub named_at_source : (wire : Wire) (role : List ℕ) → AreApart wire.source wire.sink
+    → port_named (ports_of wire) (port_name wire.source role) ≡ first_true (role_tests role ++ no_test ++ false ∷ [])
+named_at_source wire role h =
+    let first = tests-one_end wire.source false role in
+    let second = tests-two_ends wire.sink wire.source true role (turned wire.source wire.sink h) in
+    let last = same-two_ends wire.sink wire.source (codes "dropped") role (turned wire.source wire.sink h) in
+    let parts = three_parts (λ (port : PortLine). same port.name (port_name wire.source role)) (end_ports wire.source false) (end_ports wire.sink true) (port wire.sink (codes "dropped") 1 true) _ _ _ first second last in
+    named_at (ports_of wire) (port_name wire.source role) ∙ ap first_true parts
+
+pub named_at_sink : (wire : Wire) (role : List ℕ) → AreApart wire.source wire.sink
+    → port_named (ports_of wire) (port_name wire.sink role) ≡ first_true (no_test ++ role_tests role ++ same (codes "dropped") role ∷ [])
+named_at_sink wire role h =
+    let first = tests-two_ends wire.source wire.sink false role h in
+    let second = tests-one_end wire.sink true role in
+    let last = same-one_end wire.sink (codes "dropped") role in
+    let parts = three_parts (λ (port : PortLine). same port.name (port_name wire.sink role)) (end_ports wire.source false) (end_ports wire.sink true) (port wire.sink (codes "dropped") 1 true) _ _ _ first second last in
+    named_at (ports_of wire) (port_name wire.sink role) ∙ ap first_true parts

@@ -1,0 +1,38 @@
+-- The status of each answer, and the bytes of the line that it writes.
+use Rattle.std.specs.Prelude.{ℕ, List, [], ◌++◌, codes, decimal}
+use Rattle.av_base.specs.declared.faults.Place.{Place}
+use Rattle.avalon_top.specs.declared.exit.ScriptRule.{ScriptRule}
+use Rattle.avalon_top.specs.declared.exit.ScriptRule.TheVariants.{Words, Command, Interface}
+use Rattle.avalon_top.specs.declared.exit.Exit.{Exit}
+use Rattle.avalon_top.specs.declared.exit.Exit.TheVariants as exit
+
+abbrev pub script_rule : ScriptRule → List ℕ
+script_rule (Words n) = codes "T" ++ decimal n
+script_rule (Command n) = codes "C" ++ decimal n
+script_rule (Interface n) = codes "I" ++ decimal n
+
+abbrev pub script_line : Place → ScriptRule → List ℕ
+script_line place rule =
+    codes "script refused: file " ++ decimal place.file ++ codes " line " ++ decimal place.line ++ codes " byte " ++ decimal place.byte ++ codes " rule " ++ script_rule rule ++ codes "\n"
+
+abbrev pub limit_line : ℕ → ℕ → List ℕ
+limit_line which count = codes "limit: L" ++ decimal which ++ codes " count " ++ decimal count ++ codes "\n"
+
+-- the line of an answer, and no byte for those that write none
+abbrev pub line_of : Exit → List ℕ
+line_of exit.Done = []
+line_of exit.Usage = codes "usage: generate|check SYSTEM COMPONENT.. | simulate SYSTEM SCENARIO COMPONENT.. | replay VERILOG WAVES | campaign NUMBER SYSTEM COMPONENT.. | workload NUMBER\n"
+line_of (exit.ReadFault file) = codes "read fault: file " ++ decimal file ++ codes "\n"
+line_of exit.WriteFault = []
+line_of (exit.ScriptRefused place rule) = script_line place rule
+line_of (exit.Limit which count) = limit_line which count
+line_of exit.NoMemory = codes "no memory\n"
+
+abbrev pub status_of : Exit → ℕ
+status_of exit.Done = 0
+status_of exit.Usage = 2
+status_of (exit.ReadFault file) = 3
+status_of exit.WriteFault = 4
+status_of (exit.ScriptRefused place rule) = 5
+status_of (exit.Limit which count) = 7
+status_of exit.NoMemory = 10

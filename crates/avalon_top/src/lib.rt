@@ -1,0 +1,16 @@
+//! The commands of the program: words, files, refusals, and the results that they write.
+#![tactic(auto)]
+
+mod answer;
+mod emit;
+mod exit;
+mod form;
+mod line;
+mod words;
+
+pub use answer::run;
+pub use emit::build;
+pub use exit::{Exit, ScriptRule};
+pub use form::{Component, Direction, End, Wire};
+pub use line::Line;
+pub use words::{Task, read_words};

@@ -1,0 +1,81 @@
+ghost use Rattle.std.specs.Prelude.{◌≡◌, ◌+◌, ◌≤◌, ◌<◌, ◌∷◌, [], ◌++◌, length, decimal};
+
+use arrayvec::ArrayVec;
+use std::marker::Model;
+
+/// A line that is built without taking memory, of at most 256 bytes.
+#[derive(Drop)]
+pub struct Line {
+    text: ArrayVec<u8, 256>,
+}
+
+impl Model for Line {
+    ghost use Rattle.std.specs.Prelude.{List, ℕ};
+
+    ghost Value = { List ℕ };
+
+    ghost view = { λ l. l.text.items };
+}
+
+impl Line {
+    pub fn new() -> Line
+        ensures { result ≡ [] }
+    {
+        Line {
+            text: ArrayVec::new(),
+        }
+    }
+
+    /// A line that begins with these bytes.
+    pub fn of(bytes: &[u8]) -> Line
+        requires { length bytes.now ≤ 256 }
+        ensures { result ≡ bytes.now }
+    {
+        let mut line = Line::new();
+        line.put(bytes);
+        line
+    }
+
+    pub fn as_slice(&self) -> &[u8]
+        ensures { result.now ≡ self.now }
+    {
+        self.text.as_slice()
+    }
+
+    pub fn put(&mut self, bytes: &[u8])
+        requires { length self.old + length bytes.now ≤ 256 }
+        ensures { self.new ≡ self.old ++ bytes.now }
+    {
+        let done = self.text.try_extend_from_slice(bytes).is_ok();
+        prove!(done);
+    }
+
+    /// Appends a number in decimal.
+    pub fn put_number(&mut self, number: u64)
+        requires { length self.old + 20 ≤ 256 }
+        ensures text { self.new ≡ self.old ++ decimal number }
+        ensures short { length self.new ≤ length self.old + 20 }
+    {
+        self.put_decimal(number);
+    }
+
+    fn put_decimal(&mut self, number: u64)
+        requires { length self.old + length (decimal number) ≤ 256 }
+        ensures { self.new ≡ self.old ++ decimal number }
+    {
+        if number < 10 {
+            self.put_digit(number as u8);
+            return;
+        }
+        self.put_decimal(number / 10);
+        self.put_digit((number % 10) as u8);
+    }
+
+    fn put_digit(&mut self, digit: u8)
+        requires small { digit < 10 }
+        requires room { length self.old < 256 }
+        ensures { self.new ≡ self.old ++ (48 + digit) ∷ [] }
+    {
+        self.text.push(b'0' + digit);
+    }
+}
