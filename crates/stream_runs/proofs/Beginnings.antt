@@ -1,14 +1,8 @@
 -- Beginnings of what passes an end, and of runs.
-use Rattle.std.proofs.Common.{◌≡◌, ℕ, ◌≤◌, ◌<◌, List, length, ap, sym, ◌∙◌, arith, get_or}
-use Rattle.std.proofs.lemmas.List.{get_or_append_left}
-use Rattle.histories.specs.History.{IsPrefix}
+use Rattle.std.proofs.Common.{ℕ, ◌≤◌, arith}
 use Rattle.stream_runs.specs.Laws.{shorter_delivery}
 use Rattle.stream_runs.specs.Delivery.{Stream, StreamRun, IsServed}
 use Rattle.stream_runs.specs.Awake.{NeverIdles}
-
--- what stands in a beginning stands in the whole, at the same place
-pub prefix_get : {A : Type 0} (d : A) (xs ys : List A) (k : ℕ) → IsPrefix xs ys → k < length xs → get_or xs k d ≡ get_or ys k d
-prefix_get d xs ys k p h = sym (get_or_append_left xs p.rest d k h) ∙ ap (λ zs. get_or zs k d) p.joins
 
 pub shorter_served : (stream : Stream) (run : StreamRun) (b c : ℕ) → b ≤ c → IsServed stream run c → IsServed stream run b
 shorter_served stream run b c h s =

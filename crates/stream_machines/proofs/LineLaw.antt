@@ -1,0 +1,349 @@
+-- A whole stream is served.
+use Rattle.std.proofs.Common.{◌≡◌, ℕ, zero, suc, ◌+◌, ◌-◌, ◌*◌, ◌≤◌, ◌<◌, Bool, true, false, cond, IsTrue, ◌||◌, List, [], ◌∷◌, ◌++◌, map, length, drop, refl, ap, sym, ◌∙◌, subst, inl, inr, arith, nat_lt, nat_le, eqb, ◌&&◌}
+use Rattle.std.proofs.Math.Nat.{mul-le-mul_left}
+use Rattle.std.proofs.lemmas.List.{length-map, drop-map, drop-append-le}
+use Rattle.std.proofs.lemmas.Bool.{both_ways, and_from, leb-true, le-leb, lt-ltb, cond-true}
+use Rattle.stream_runs.specs.Laws.{length_in_order}
+use Rattle.stream_runs.specs.View.{is_high, is_transfer}
+use Rattle.histories.specs.History.{IsPrefix}
+use Rattle.stream_runs.specs.Symbols.{Symbol, without_error, transferred_symbols, kept_symbols}
+use Rattle.stream_runs.specs.Source.{IsLegalSource, IsLegalAt}
+use Rattle.stream_runs.specs.Delivery.{reaches, stream_lag, larger_allowance, IsServed}
+use Rattle.stream_runs.specs.Awake.{stream_window, undelivered, beats_begun, beats_with_room, NeverIdles}
+use Rattle.stream_machines.specs.Stage.{Shape, StageRun, StageLaw, KeepsStageLaw, chain_run, inside}
+use Rattle.stream_machines.specs.Parts.{narrow_shape, widen_shape, plain_run}
+use Rattle.stream_machines.specs.Buffers.{buffer_shape}
+use Rattle.stream_machines.specs.Wires.{wire_shape, wire_run}
+use Rattle.stream_machines.specs.Line.{Numbers, Line, IsLine, side_one, side_two, side_three, side_four, sink_of, shape_two, shape_three, shape_four, shape_five, line_shape, stream_of_line, run_of_line}
+use Rattle.stream_machines.proofs.Kept.{kept_in_middle}
+use Rattle.stream_machines.proofs.ChainLaw.{chain_keeps}
+use Rattle.stream_machines.proofs.AwakeLaw.{stage_delivers, stage_accepts}
+use Rattle.stream_machines.proofs.BuffersLaw.{queue_keeps, queue_has_room}
+use Rattle.stream_machines.proofs.WidenLaw.{widen_keeps}
+use Rattle.stream_machines.proofs.NarrowLaw.{narrow_keeps}
+use Rattle.stream_machines.proofs.BuffersLaw.{ready_buffer_keeps}
+use Rattle.stream_machines.proofs.WiresLaw.{filter_keeps, delay_keeps, same_ready, not_reached}
+
+-- behind a side of ready latency 0, a part that holds something adds one step
+pub step_at_most : (hold a b : ℕ) → cond (nat_le hold 0) (a + b) (a + b + 1) ≤ a + b + 1
+step_at_most hold a b = by_test (nat_le hold 0)
+  where
+    by_test : (t : Bool) → cond t (a + b) (a + b + 1) ≤ a + b + 1
+    by_test true = omega arith
+    by_test false = omega arith
+
+pub times_le : (a b c : ℕ) → a ≤ b → a * c ≤ b * c
+times_le a b c h = let turned : c * a ≤ c * b = mul-le-mul_left c h in omega arith
+
+-- a beginning stays one where as much is left out of both
+pub prefix_drop : (k : ℕ) (xs ys : List Symbol) → IsPrefix xs ys → k ≤ length xs → IsPrefix (drop k xs) (drop k ys)
+prefix_drop k xs ys p h = record { rest = p.rest; joins = sym (drop-append-le k xs p.rest h) ∙ ap (drop k) p.joins }
+
+beats-without_error : (size room : ℕ) (xs : List Symbol) → beats_with_room size room (map without_error xs) ≡ beats_with_room size room xs
+beats-without_error size room [] = refl
+beats-without_error size room (x ∷ xs) =
+    by_test (eqb room 0 || x.first) (beats-without_error size (cond x.last 0 (size - 1)) xs) (beats-without_error size (cond x.last 0 (room - 1)) xs)
+  where
+    by_test : (b : Bool) → beats_with_room size (cond x.last 0 (size - 1)) (map without_error xs) ≡ beats_with_room size (cond x.last 0 (size - 1)) xs
+        → beats_with_room size (cond x.last 0 (room - 1)) (map without_error xs) ≡ beats_with_room size (cond x.last 0 (room - 1)) xs
+        → cond b (1 + beats_with_room size (cond x.last 0 (size - 1)) (map without_error xs)) (beats_with_room size (cond x.last 0 (room - 1)) (map without_error xs))
+        ≡ cond b (1 + beats_with_room size (cond x.last 0 (size - 1)) xs) (beats_with_room size (cond x.last 0 (room - 1)) xs)
+    by_test true p q = ap (λ k. 1 + k) p
+    by_test false p q = q
+
+more_beats : (size room : ℕ) (xs ys : List Symbol) → beats_with_room size room xs ≤ beats_with_room size room (xs ++ ys)
+more_beats size room [] ys = omega arith
+more_beats size room (x ∷ xs) ys =
+    by_test (eqb room 0 || x.first) (more_beats size (cond x.last 0 (size - 1)) xs ys) (more_beats size (cond x.last 0 (room - 1)) xs ys)
+  where
+    by_test : (b : Bool) → beats_with_room size (cond x.last 0 (size - 1)) xs ≤ beats_with_room size (cond x.last 0 (size - 1)) (xs ++ ys)
+        → beats_with_room size (cond x.last 0 (room - 1)) xs ≤ beats_with_room size (cond x.last 0 (room - 1)) (xs ++ ys)
+        → cond b (1 + beats_with_room size (cond x.last 0 (size - 1)) xs) (beats_with_room size (cond x.last 0 (room - 1)) xs)
+        ≤ cond b (1 + beats_with_room size (cond x.last 0 (size - 1)) (xs ++ ys)) (beats_with_room size (cond x.last 0 (room - 1)) (xs ++ ys))
+    by_test true p q = omega (arith, p)
+    by_test false p q = q
+
+pub beats_in_front : (size room : ℕ) (xs ys : List Symbol) → IsPrefix (map without_error xs) (map without_error ys) → beats_with_room size room xs ≤ beats_with_room size room ys
+beats_in_front size room xs ys p =
+    let more = more_beats size room (map without_error xs) p.rest in
+    let whole : beats_with_room size room (map without_error xs ++ p.rest) ≡ beats_with_room size room (map without_error ys) = ap (beats_with_room size room) p.joins in
+    omega (arith, more, whole, beats-without_error size room xs, beats-without_error size room ys)
+
+module _ (n : Numbers) (l : Line) (line : IsLine n l) where
+  within : (channel : ℕ) → channel ≤ n.max_channel → IsTrue (reaches (sink_of n) channel)
+  within channel h = le-leb channel n.max_channel h
+
+  some_source : 0 < n.source.symbols
+  some_source = by_size (mul-le-mul_left n.common line.some_narrow)
+    where
+      by_size : n.common * 1 ≤ n.common * n.narrow_parts → 0 < n.source.symbols
+      by_size h = omega (arith, line.size, line.some_common)
+
+  some_sink : 0 < n.common * n.wide_parts
+  some_sink = by_size (mul-le-mul_left n.common line.some_wide)
+    where
+      by_size : n.common * 1 ≤ n.common * n.wide_parts → 0 < n.common * n.wide_parts
+      by_size h = omega (arith, line.some_common)
+
+  abbrev run_two : StageRun
+  run_two = chain_run (wire_shape (reaches (sink_of n)) n.source (side_one n) n.source.pace.latency false) (buffer_shape (reaches (sink_of n)) (n.source.pace.latency + 1) (side_one n)) (wire_run n.source l.source l.filtered) (plain_run l.filtered l.buffered)
+
+  abbrev run_three : StageRun
+  run_three = chain_run (shape_two n) (narrow_shape (reaches (sink_of n)) (side_two n) (side_three n)) run_two (plain_run l.buffered l.parted)
+
+  abbrev run_four : StageRun
+  run_four = chain_run (shape_three n) (widen_shape (reaches (sink_of n)) n.wide_parts (side_three n) (side_four n)) run_three (plain_run l.parted l.gathered)
+
+  abbrev run_five : StageRun
+  run_five = chain_run (shape_four n) (buffer_shape (reaches (sink_of n)) n.depth (side_four n)) run_four (plain_run l.gathered l.queued)
+
+  abbrev line_run : StageRun
+  line_run = chain_run (shape_five n) (wire_shape (reaches (sink_of n)) (side_four n) (sink_of n) 0 false) run_five (wire_run (side_four n) l.queued l.sink)
+
+  two_keeps : KeepsStageLaw (shape_two n) run_two
+  two_keeps =
+      chain_keeps _ _ _ _
+      (record {
+        same_side = refl;
+        same_view = refl;
+        passed_on = λ channel passed. passed;
+        has_symbols = some_source;
+        divides = (1, inl (omega arith));
+        has_errors = λ some _. some;
+        delayed = λ _. (refl, refl, same_ready (reaches (sink_of n)) n.max_channel n.source l.source l.filtered line.filter some_source (λ channel h passed. leb-true channel n.max_channel passed) line.delayed);
+        always_ready = λ need. absurd (cc);
+      })
+      (filter_keeps (reaches (sink_of n)) n.max_channel n.source l.source l.filtered line.filter some_source (λ channel h passed. leb-true channel n.max_channel passed))
+      (ready_buffer_keeps (reaches (sink_of n)) (side_one n) l.filtered l.buffered l.buffer line.buffer line.strict some_source within)
+
+  three_keeps : KeepsStageLaw (shape_three n) run_three
+  three_keeps =
+      chain_keeps _ _ _ _
+      (record {
+        same_side = refl;
+        same_view = refl;
+        passed_on = λ channel passed. passed;
+        has_symbols = some_source;
+        divides = (1, inl (omega arith));
+        has_errors = λ some _. some;
+        delayed = λ d. absurd (cc);
+        always_ready = λ need. absurd (cc);
+      })
+      two_keeps
+      (narrow_keeps (reaches (sink_of n)) l.pieces_of (side_two n) (side_three n) l.buffered l.parted l.left line.narrow line.splits line.some_common some_source refl refl refl refl refl within)
+
+  four_keeps : KeepsStageLaw (shape_four n) run_four
+  four_keeps =
+      chain_keeps _ _ _ _
+      (record {
+        same_side = refl;
+        same_view = refl;
+        passed_on = λ channel passed. passed;
+        has_symbols = some_source;
+        divides = (n.narrow_parts, inl line.size);
+        has_errors = λ some _. some;
+        delayed = λ d. absurd (cc);
+        always_ready = λ need. absurd (cc);
+      })
+      three_keeps
+      (widen_keeps (reaches (sink_of n)) n.wide_parts (side_three n) (side_four n) l.parted l.gathered l.beats line.widen line.some_wide line.some_common refl refl refl refl refl refl refl line.channels within)
+
+  five_keeps : KeepsStageLaw (shape_five n) run_five
+  five_keeps =
+      chain_keeps _ _ _ _
+      (record {
+        same_side = refl;
+        same_view = refl;
+        passed_on = λ channel passed. passed;
+        has_symbols = some_source;
+        divides = (1, inr (omega arith));
+        has_errors = λ some _. some;
+        delayed = λ d. absurd (cc);
+        always_ready = λ need. absurd (cc);
+      })
+      four_keeps
+      (queue_keeps (reaches (sink_of n)) n.depth (side_four n) l.gathered l.queued l.queue line.queue refl some_sink within)
+
+  pub line_keeps : KeepsStageLaw (line_shape n) line_run
+  line_keeps =
+      chain_keeps _ _ _ _
+      (record {
+        same_side = refl;
+        same_view = refl;
+        passed_on = λ channel passed. passed;
+        has_symbols = some_source;
+        divides = (1, inr (omega arith));
+        has_errors = λ some _. some;
+        delayed = λ d. absurd (cc);
+        always_ready = λ need. absurd (cc);
+      })
+      five_keeps
+      (delay_keeps (reaches (sink_of n)) n.latency (side_four n) l.queued l.sink line.delay refl some_sink within)
+
+  -- ---- the numbers
+
+  step_two : (shape_two n).step ≡ 0
+  step_two = cond-true (nat_lt 0 n.source.pace.latency) _ _ (lt-ltb 0 n.source.pace.latency line.delayed)
+
+  largest_two : (shape_two n).largest ≡ 0
+  largest_two = cond-true (nat_lt 0 n.source.pace.latency) _ _ (lt-ltb 0 n.source.pace.latency line.delayed)
+
+  step_three : (shape_three n).step ≤ 1
+  step_three = omega (arith, step_at_most (n.source.symbols - n.common) (shape_two n).step 0, step_two)
+
+  largest_three : (shape_three n).largest ≤ n.source.symbols - n.common
+  largest_three = omega (arith, largest_two, ap (λ s. (s + 1) * (n.source.symbols - n.common)) step_two)
+
+  step_four : (shape_four n).step ≤ 2
+  step_four = omega (arith, step_at_most ((n.wide_parts - 1) * n.common) (shape_three n).step 0, step_three)
+
+  largest_four : (shape_four n).largest ≤ n.source.symbols - n.common + 2 * ((n.wide_parts - 1) * n.common)
+  largest_four = omega (arith, largest_three, times_le ((shape_three n).step + 1) 2 ((n.wide_parts - 1) * n.common) (omega (arith, step_three)))
+
+  step_five : (shape_five n).step ≤ 3
+  step_five = omega (arith, step_at_most (n.depth * (n.common * n.wide_parts)) (shape_four n).step 0, step_four)
+
+  largest_five : (shape_five n).largest ≤ n.source.symbols - n.common + 2 * ((n.wide_parts - 1) * n.common) + 3 * (n.depth * (n.common * n.wide_parts))
+  largest_five = omega (arith, largest_four, times_le ((shape_four n).step + 1) 3 (n.depth * (n.common * n.wide_parts)) (omega (arith, step_four)))
+
+  step_all : (line_shape n).step ≤ 3
+  step_all = omega (arith, step_five)
+
+  largest_all : (line_shape n).largest ≤ n.source.symbols - n.common + 2 * ((n.wide_parts - 1) * n.common) + 3 * (n.depth * (n.common * n.wide_parts))
+  largest_all = omega (arith, largest_five)
+
+  abbrev held_four : ℕ
+  held_four = (n.source.pace.latency + 1) * n.source.symbols + (n.source.symbols - n.common) + (n.wide_parts - 1) * n.common
+
+  hold_four : (shape_four n).hold ≡ held_four
+  hold_four = omega arith
+
+  hold_all : (line_shape n).hold ≡ held_four + n.depth * (n.common * n.wide_parts)
+  hold_all = omega arith
+
+  -- the sizes that the limits are made of
+  wide_less : (n.wide_parts - 1) * n.common + n.common ≡ n.common * n.wide_parts
+  wide_less = by_parts n.wide_parts line.some_wide
+    where
+      by_parts : (k : ℕ) → 0 < k → (k - 1) * n.common + n.common ≡ n.common * k
+      by_parts zero h = absurd (omega arith)
+      by_parts (suc k) h = let less : suc k - 1 ≡ k = omega arith in let product : (suc k - 1) * n.common ≡ k * n.common = ap (λ j. j * n.common) less in omega (arith, product)
+
+  common_less : n.common ≤ n.source.symbols
+  common_less = by_size (mul-le-mul_left n.common line.some_narrow)
+    where
+      by_size : n.common * 1 ≤ n.common * n.narrow_parts → n.common ≤ n.source.symbols
+      by_size h = omega (arith, line.size)
+
+  latency_less : n.source.symbols * (n.source.pace.latency + 3) ≤ n.source.symbols * (larger_allowance (stream_of_line n) + 3)
+  latency_less = mul-le-mul_left n.source.symbols (omega (arith, line.strict))
+
+  source_split : n.source.symbols * (n.source.pace.latency + 3) ≡ (n.source.pace.latency + 1) * n.source.symbols + 2 * n.source.symbols
+  source_split = omega arith
+
+  sink_split : (n.common * n.wide_parts) * (n.depth + 3) ≡ n.depth * (n.common * n.wide_parts) + 3 * (n.common * n.wide_parts)
+  sink_split = omega arith
+
+  limit_is : stream_lag (stream_of_line n) ≡ n.source.symbols * (larger_allowance (stream_of_line n) + 3) + (n.common * n.wide_parts) * (n.depth + 3)
+  limit_is = refl
+
+  lag_fits : (line_shape n).hold ≤ stream_lag (stream_of_line n)
+  lag_fits = omega (arith, hold_all, wide_less, common_less, latency_less, source_split, sink_split, limit_is)
+
+  latency_within : n.source.pace.latency ≤ larger_allowance (stream_of_line n)
+  latency_within = omega (arith, line.strict)
+
+  window_is : stream_window (stream_of_line n) ≡ 8 * (n.source.symbols * (larger_allowance (stream_of_line n) + 3) + (n.common * n.wide_parts) * (n.depth + 3) + 2 * larger_allowance (stream_of_line n) + 8)
+  window_is = refl
+
+  window_fits : n.source.pace.latency + (line_shape n).largest + ((line_shape n).step + 1) * (line_shape n).hold < stream_window (stream_of_line n)
+  window_fits =
+      let product = times_le ((line_shape n).step + 1) 4 (line_shape n).hold (omega (arith, step_all)) in
+      omega (arith, product, hold_all, largest_all, wide_less, common_less, latency_less, source_split, sink_split, window_is, latency_within)
+
+  front_fits : n.source.pace.latency + (shape_four n).largest + ((shape_four n).step + 1) * (shape_four n).hold < stream_window (stream_of_line n)
+  front_fits =
+      let product = times_le ((shape_four n).step + 1) 3 (shape_four n).hold (omega (arith, step_four)) in
+      omega (arith, product, hold_four, largest_four, wide_less, common_less, latency_less, source_split, sink_split, window_is, latency_within)
+
+  rest_fits : (line_shape n).rest < (sink_of n).symbols
+  rest_fits = omega (arith, wide_less, line.some_common)
+
+  -- ---- the queue's beats are the first of the undelivered ones
+
+  module _ (count : ℕ) (legal : IsLegalSource n.source l.source count) where
+    no_need : (shape : Shape) → shape.needs_ready ≡ false → IsTrue shape.needs_ready → ⊥
+    no_need shape none need = both_ways _ none need
+
+    front_law : StageLaw (shape_four n) run_four count
+    front_law = four_keeps.law count legal (λ need. absurd (cc))
+
+    gathered_legal : (c : ℕ) → c < count → IsLegalAt (side_four n) l.gathered c
+    gathered_legal c h = four_keeps.legal c (λ b k. legal b (omega arith)) (λ need. absurd (cc))
+
+    queued_legal : (c : ℕ) → c < count → IsLegalAt (side_four n) l.queued c
+    queued_legal c h = five_keeps.legal c (λ b k. legal b (omega arith)) (λ need. absurd (cc))
+
+    five_law : StageLaw (shape_five n) run_five count
+    five_law = five_keeps.law count legal (λ need. absurd (cc))
+
+    queue_law : StageLaw (buffer_shape (reaches (sink_of n)) n.depth (side_four n)) (plain_run l.gathered l.queued) count
+    queue_law = (queue_keeps (reaches (sink_of n)) n.depth (side_four n) l.gathered l.queued l.queue line.queue refl some_sink within).law count gathered_legal (λ need. absurd (cc))
+
+    delay_law : StageLaw (wire_shape (reaches (sink_of n)) (side_four n) (sink_of n) 0 false) (wire_run (side_four n) l.queued l.sink) count
+    delay_law = (delay_keeps (reaches (sink_of n)) n.latency (side_four n) l.queued l.sink line.delay refl some_sink within).law count queued_legal (λ need. absurd (cc))
+
+    -- all that came between the parts passes
+    gathered_kept : (c : ℕ) → c ≤ count → kept_symbols (reaches (sink_of n)) (side_four n) l.gathered c ≡ transferred_symbols (side_four n) l.gathered c
+    gathered_kept c h = kept_in_middle (reaches (sink_of n)) (reaches (sink_of n)) (transferred_symbols n.source l.source c) (transferred_symbols (side_four n) l.gathered c) (λ channel passed. passed) (front_law.prefix.in_order c h)
+
+    queued_kept : (c : ℕ) → c ≤ count → kept_symbols (reaches (sink_of n)) (side_four n) l.queued c ≡ transferred_symbols (side_four n) l.queued c
+    queued_kept c h = kept_in_middle (reaches (sink_of n)) (reaches (sink_of n)) (transferred_symbols n.source l.source c) (transferred_symbols (side_four n) l.queued c) (λ channel passed. passed) (five_law.prefix.in_order c h)
+
+    same_given : (c : ℕ) → c ≤ count → length (transferred_symbols (sink_of n) l.sink c) ≡ length (transferred_symbols (side_four n) l.queued c)
+    same_given c h =
+        let all = ap length (queued_kept c h) in
+        omega (arith, length_in_order _ _ (delay_law.prefix.in_order c h), delay_law.hold c h, all)
+
+    in_queue : (c : ℕ) → c ≤ count → IsPrefix (map without_error (inside (buffer_shape (reaches (sink_of n)) n.depth (side_four n)) (plain_run l.gathered l.queued) c))
+        (map without_error (undelivered (reaches (sink_of n)) n.source (sink_of n) l.source l.sink c))
+    in_queue c h =
+        let k : ℕ = length (transferred_symbols (side_four n) l.queued c) in
+        let least : length (transferred_symbols (side_four n) l.queued c) ≤ length (transferred_symbols (side_four n) l.gathered c) = omega (arith, length_in_order _ _ (queue_law.prefix.in_order c h), ap length (gathered_kept c h)) in
+        let front = prefix_drop (length (transferred_symbols (side_four n) l.queued c)) (map without_error (transferred_symbols (side_four n) l.gathered c)) (map without_error (kept_symbols (reaches (sink_of n)) n.source l.source c))
+        (front_law.prefix.in_order c h) (omega (arith, least, length-map (transferred_symbols (side_four n) l.gathered c) without_error)) in
+        let from : drop (length (transferred_symbols (side_four n) l.queued c)) (map without_error (transferred_symbols (side_four n) l.gathered c)) ≡ map without_error (inside (buffer_shape (reaches (sink_of n)) n.depth (side_four n)) (plain_run l.gathered l.queued) c) =
+        drop-map without_error (length (transferred_symbols (side_four n) l.queued c)) (transferred_symbols (side_four n) l.gathered c) ∙ ap (λ (xs : List Symbol). map without_error (drop (length (transferred_symbols (side_four n) l.queued c)) xs)) (sym (gathered_kept c h)) in
+        let to : drop (length (transferred_symbols (side_four n) l.queued c)) (map without_error (kept_symbols (reaches (sink_of n)) n.source l.source c)) ≡ map without_error (undelivered (reaches (sink_of n)) n.source (sink_of n) l.source l.sink c) =
+        drop-map without_error (length (transferred_symbols (side_four n) l.queued c)) (kept_symbols (reaches (sink_of n)) n.source l.source c) ∙ ap (λ j. map without_error (drop j (kept_symbols (reaches (sink_of n)) n.source l.source c))) (sym (same_given c h)) in
+        subst (λ (xs : List Symbol). IsPrefix xs (map without_error (undelivered (reaches (sink_of n)) n.source (sink_of n) l.source l.sink c))) from
+        (subst (λ (ys : List Symbol). IsPrefix (drop (length (transferred_symbols (side_four n) l.queued c)) (map without_error (transferred_symbols (side_four n) l.gathered c))) ys) to front)
+
+    queue_shows : (c : ℕ) → c < count → beats_begun (n.common * n.wide_parts) (undelivered (reaches (sink_of n)) n.source (sink_of n) l.source l.sink c) + n.source.symbols ≤ n.depth → is_high l.gathered.ready c ≡ true
+    queue_shows c h room =
+        queue_has_room (reaches (sink_of n)) n.depth (side_four n) l.gathered l.queued l.queue line.queue refl some_sink within c (λ b k. gathered_legal b (omega arith))
+        (omega (arith, some_source, beats_in_front (n.common * n.wide_parts) 0 _ _ (in_queue c (omega arith))))
+
+    law : StageLaw (line_shape n) line_run count
+    law = line_keeps.law count legal (λ need. absurd (cc))
+
+    pub line_served : IsServed (stream_of_line n) (run_of_line l) count
+    line_served =
+        record {
+          delivers = law.prefix;
+          lags = λ c h. omega (arith, law.hold c h, lag_fits);
+          proper = λ c h. (line_keeps.legal c (λ b k. legal b (omega arith)) (λ need. absurd (cc))).paced;
+          drops = λ c h. line.drops c ∙ ap (λ b. is_transfer n.source.pace l.source c && b) (not_reached n.max_channel (l.source.channel c));
+        }
+
+    pub line_awake : NeverIdles (stream_window (stream_of_line n)) (stream_of_line n) (run_of_line l) count
+    line_awake =
+        record {
+          delivers = λ start h ready full. stage_delivers (line_shape n) line_run count law rest_fits start (stream_window (stream_of_line n)) h (omega (arith, window_fits)) ready full;
+          accepts = λ start h ready. stage_accepts (line_shape n) line_run count law legal line.strict start (stream_window (stream_of_line n)) h window_fits ready;
+          takes_in = λ start h room. stage_accepts (shape_four n) run_four count front_law legal line.strict start (stream_window (stream_of_line n)) h front_fits
+              (λ c from to. and_from _ _ (le-leb 0 c (omega arith)) (now c (queue_shows c (omega arith) (room c from to))));
+        }
+      where
+        now : (c : ℕ) → is_high l.gathered.ready c ≡ true → is_high l.gathered.ready (c - 0) ≡ true
+        now c shown = let same : c ≡ c - 0 = omega arith in subst (λ b. is_high l.gathered.ready b ≡ true) same shown

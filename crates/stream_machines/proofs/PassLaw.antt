@@ -1,0 +1,146 @@
+-- A stage that passes each beat as it is keeps the law of a stage.
+use Rattle.std.proofs.Common.{◌≡◌, ◌⊎◌, ℕ, zero, suc, ◌+◌, ◌-◌, ◌≤◌, ◌<◌, Bool, true, false, cond, not, IsTrue, ◌||◌, ◌&&◌, List, [], ◌++◌, map, length, take, drop, refl, ap, sym, ◌∙◌, subst, inl, inr, arith, nat_lt, nat_le, eqb}
+use Rattle.std.specs.List.{list_any}
+use Rattle.std.proofs.lemmas.List.{take_all, drop_at, drop_all}
+use Rattle.std.proofs.lemmas.Bool.{cases_Bool, and_parts, and_from, cond-true, ltb-false, ltb-true, le-leb, lt-leb, leb-true, leb-false, ne_eqb, both_ways, cond-false, le-ltb}
+use Rattle.stream_runs.specs.View.{Pace, EndView, Side, beat_at, is_high, is_transfer, is_ready_cycle}
+use Rattle.stream_runs.specs.Symbols.{transferred_symbols, shown_symbols, kept_symbols, Symbol, without_error, shown_count, joined_error}
+use Rattle.stream_runs.specs.Source.{IsLegalSource, may_show, is_allowed_late}
+use Rattle.stream_runs.specs.Delivery.{matched_symbols}
+use Rattle.stream_machines.specs.Stage.{inside, is_at_rest, is_exempt, RankMoves, StageLaw, KeepsStageLaw, PassesReady, pass_shape, pass_run, ready_cycles}
+use Rattle.stream_runs.specs.Laws.{prefix_of_same, kept_more, legal_holds_data, length_in, joined_error_of_beat}
+use Rattle.stream_machines.proofs.Fills.{HoldsData}
+
+-- a high signal counts as one
+abbrev pub one_if : Bool → ℕ
+one_if b = cond b 1 0
+
+suc_le : (a b : ℕ) → nat_le (suc a) (suc b) ≡ nat_le a b
+suc_le a b = by_test (cases_Bool (nat_le a b))
+  where
+    by_test : (nat_le a b ≡ true) ⊎ (nat_le a b ≡ false) → nat_le (suc a) (suc b) ≡ nat_le a b
+    by_test (inl below) = le-leb (suc a) (suc b) (omega (arith, leb-true a b below)) ∙ sym below
+    by_test (inr above) = lt-leb (suc a) (suc b) (omega (arith, leb-false a b above)) ∙ sym above
+
+pub ready_cycles_step : (length : ℕ) (view : EndView) (c : ℕ) → ready_cycles length view (suc c) + one_if (nat_le length c && is_high view.ready (c - length)) ≡ ready_cycles length view c + one_if (is_high view.ready c)
+ready_cycles_step zero view c = let same : c - 0 ≡ c = omega arith in let low : nat_le 0 c ≡ true = le-leb 0 c (omega arith) in rw (low, same) refl
+ready_cycles_step (suc length) view zero = by_length length
+  where
+    by_length : (n : ℕ) → one_if (is_high view.ready 0) + ready_cycles n view 0 + one_if (nat_le (suc n) 0 && is_high view.ready (0 - suc n)) ≡ 0 + one_if (is_high view.ready 0)
+    by_length zero = omega arith
+    by_length (suc n) = rw (lt-leb (suc (suc n)) 0 (omega arith)) (omega arith)
+ready_cycles_step (suc length) view (suc c) =
+    let same : suc c - suc length ≡ c - length = omega arith in
+    let test : (nat_le (suc length) (suc c) && is_high view.ready (suc c - suc length)) ≡ (nat_le length c && is_high view.ready (c - length)) =
+    ap (λ b. b && is_high view.ready (suc c - suc length)) (suc_le length c) ∙ ap (λ n. nat_le length c && is_high view.ready n) same in
+    let earlier = ready_cycles_step length view c in
+    omega (arith, earlier, ap one_if test)
+
+pub ready_cycles_le : (length : ℕ) (view : EndView) (c : ℕ) → ready_cycles length view c ≤ length
+ready_cycles_le zero view c = omega arith
+ready_cycles_le (suc length) view zero = omega arith
+ready_cycles_le (suc length) view (suc c) = let earlier = ready_cycles_le length view c in by_ready (is_high view.ready c) earlier
+  where
+    by_ready : (b : Bool) → ready_cycles length view c ≤ length → one_if b + ready_cycles length view c ≤ suc length
+    by_ready true h = omega arith
+    by_ready false h = omega arith
+
+-- where the allowance is the latency, above 0, a beat is shown in ready cycles alone
+pub strict_shows : (pace : Pace) (view : EndView) (c : ℕ) → pace.allowance ≡ pace.latency → nat_lt 0 pace.latency ≡ true → may_show pace view c ≡ true → is_ready_cycle pace view c ≡ true
+strict_shows pace view c strict delayed allowed =
+    let above : 0 < pace.latency = ltb-true 0 pace.latency delayed in
+    let some_latency : eqb pace.latency 0 ≡ false = ne_eqb pace.latency 0 (λ e. omega arith) in
+    let second = subst (λ b. (b || cond (nat_lt pace.latency pace.allowance) (is_allowed_late pace view c) (is_ready_cycle pace view c)) ≡ true) some_latency allowed in
+    sym (cond-false (nat_lt pace.latency pace.allowance) (is_allowed_late pace view c) (is_ready_cycle pace view c) (le-ltb pace.latency pace.allowance (omega arith))) ∙ second
+
+module _ (passes : ℕ → Bool) (side : Side) (view : EndView) (positive : 0 < side.symbols)
+    (all_pass : (channel : ℕ) → channel ≤ side.max_channel → IsTrue (passes channel)) (count : ℕ) (legal : IsLegalSource side view count) where
+  pub all_kept : (c : ℕ) → c ≤ count → kept_symbols passes side view c ≡ transferred_symbols side view c
+  all_kept zero h = refl
+  all_kept (suc c) h = kept_more passes side view c ∙ (ap (λ (xs : List Symbol). xs ++ cond (is_transfer side.pace view c && passes (view.channel c)) (shown_symbols side view c) []) (all_kept c (omega arith)) ∙ ap (λ (xs : List Symbol). transferred_symbols side view c ++ xs) (by_transfer (is_transfer side.pace view c) refl))
+    where
+      by_transfer : (b : Bool) → is_transfer side.pace view c ≡ b → cond (b && passes (view.channel c)) (shown_symbols side view c) [] ≡ cond b (shown_symbols side view c) []
+      by_transfer false stays = refl
+      by_transfer true moves =
+          let shown = (and_parts (is_high view.valid c) (nat_lt 0 side.pace.latency || is_high view.ready c) moves).0 in
+          cond-true (passes (view.channel c)) (shown_symbols side view c) [] (all_pass (view.channel c) ((legal c h).formed shown).in_range)
+
+  some : HoldsData side view count
+  some = legal_holds_data side view count positive legal
+
+  pass_errors : (c : ℕ) → c < count → IsTrue (is_transfer side.pace view c) → view.error c ≡ joined_error (matched_symbols passes side side view view c)
+  pass_errors c h moves =
+      let later : kept_symbols passes side view (suc c) ≡ transferred_symbols side view c ++ shown_symbols side view c =
+      all_kept (suc c) h ∙ ap (λ (xs : List Symbol). transferred_symbols side view c ++ xs) (cond-true (is_transfer side.pace view c) (shown_symbols side view c) [] moves) in
+      let part : matched_symbols passes side side view view c ≡ shown_symbols side view c =
+      ap (λ (xs : List Symbol). take (shown_count side view c) (drop (length (transferred_symbols side view c)) xs)) later
+      ∙ (ap (take (shown_count side view c)) (drop_at (transferred_symbols side view c) (shown_symbols side view c) (length (transferred_symbols side view c)) refl)
+      ∙ take_all (shown_count side view c) (shown_symbols side view c) (omega (arith, sym (ap length (cond-true (is_transfer side.pace view c) (shown_symbols side view c) [] moves)) ∙ length_in side view c moves))) in
+      sym (ap joined_error part ∙ joined_error_of_beat side (beat_at view c) (some c h moves))
+
+  nothing_inside : (c : ℕ) → c ≤ count → inside (pass_shape passes side) (pass_run side view) c ≡ []
+  nothing_inside c h = ap (drop (length (transferred_symbols side view c))) (all_kept c h) ∙ drop_all (length (transferred_symbols side view c)) (transferred_symbols side view c) (omega arith)
+
+  rest_is : (c : ℕ) → c ≤ count → is_high view.ready c ≡ true → is_at_rest (pass_shape passes side) (pass_run side view) c ≡ true
+  rest_is c h ready =
+      let none = nothing_inside c h in
+      and_from _ _ ready (subst (λ (xs : List Symbol). (nat_le (length xs) 0 && not (list_any (λ (symbol : Symbol). symbol.last) xs)) ≡ true) (sym none) refl)
+
+  not_ready : (c : ℕ) → c ≤ count → is_at_rest (pass_shape passes side) (pass_run side view) c ≡ false → is_high view.ready c ≡ false
+  not_ready c h restless = by_ready (cases_Bool (is_high view.ready c))
+    where
+      by_ready : (is_high view.ready c ≡ true) ⊎ (is_high view.ready c ≡ false) → is_high view.ready c ≡ false
+      by_ready (inl ready) = absurd (both_ways _ restless (rest_is c h ready))
+      by_ready (inr unready) = unready
+
+  step_of : (c : ℕ) → ready_cycles side.pace.latency view (suc c) + one_if (is_ready_cycle side.pace view c) ≡ ready_cycles side.pace.latency view c + one_if (is_high view.ready c)
+  step_of c = ready_cycles_step side.pace.latency view c
+
+  pass_ranked : (c : ℕ) → c < count → RankMoves (pass_shape passes side) (pass_run side view) c
+  pass_ranked c h =
+      record {
+        bounded = ready_cycles_le side.pace.latency view c;
+        stays = λ quiet moving. stays (cases_Bool (is_high view.ready c)) (cases_Bool (nat_lt 0 side.pace.latency)) moving;
+        falls = λ quiet ready restless. falls ready (not_ready c (omega arith) restless);
+        rises = λ given moving. omega (arith, stays (cases_Bool (is_high view.ready c)) (cases_Bool (nat_lt 0 side.pace.latency)) moving);
+      }
+    where
+      no_rise : is_high view.ready c ≡ false → ready_cycles side.pace.latency view (suc c) ≤ ready_cycles side.pace.latency view c
+      no_rise unready = let step : ready_cycles side.pace.latency view (suc c) + one_if (is_ready_cycle side.pace view c) ≡ ready_cycles side.pace.latency view c + 0 = subst (λ b. ready_cycles side.pace.latency view (suc c) + one_if (is_ready_cycle side.pace view c) ≡ ready_cycles side.pace.latency view c + one_if b) unready (step_of c) in omega (arith, step)
+
+      at_zero : nat_lt 0 side.pace.latency ≡ false → ready_cycles side.pace.latency view (suc c) ≤ ready_cycles side.pace.latency view c
+      at_zero direct = let none = ltb-false 0 side.pace.latency direct in omega (arith, ready_cycles_le side.pace.latency view (suc c))
+
+      stays : (is_high view.ready c ≡ true) ⊎ (is_high view.ready c ≡ false) → (nat_lt 0 side.pace.latency ≡ true) ⊎ (nat_lt 0 side.pace.latency ≡ false)
+          → (is_exempt (pass_shape passes side) (pass_run side view) c) ≡ false → ready_cycles side.pace.latency view (suc c) ≤ ready_cycles side.pace.latency view c
+      stays (inr unready) d moving = no_rise unready
+      stays (inl ready) (inr direct) moving = at_zero direct
+      stays (inl ready) (inl delayed) moving = absurd (both_ways _ moving (and_from _ _ (rest_is c (omega arith) ready) (and_from _ _ delayed delayed)))
+
+      falls : is_ready_cycle side.pace view c ≡ true → is_high view.ready c ≡ false → ready_cycles side.pace.latency view (suc c) < ready_cycles side.pace.latency view c
+      falls ready unready =
+          let step : ready_cycles side.pace.latency view (suc c) + 1 ≡ ready_cycles side.pace.latency view c + 0 =
+          subst (λ b. ready_cycles side.pace.latency view (suc c) + one_if b ≡ ready_cycles side.pace.latency view c + 0) ready
+          (subst (λ b. ready_cycles side.pace.latency view (suc c) + one_if (is_ready_cycle side.pace view c) ≡ ready_cycles side.pace.latency view c + one_if b) unready (step_of c)) in
+          omega (arith, step)
+
+  pass_law : StageLaw (pass_shape passes side) (pass_run side view) count
+  pass_law =
+      record {
+        prefix = record {
+          in_order = λ c h. prefix_of_same _ _ (ap (map without_error) (sym (all_kept c h)));
+          holds_data = some;
+          errors = λ _. pass_errors;
+        };
+        hold = λ c h. omega (arith, ap length (all_kept c h));
+        rank = pass_ranked;
+      }
+
+-- a stage that passes each beat as it is, between ends of any pace
+pub pass_keeps : (passes : ℕ → Bool) (side : Side) (view : EndView) → 0 < side.symbols
+    → ((channel : ℕ) → channel ≤ side.max_channel → IsTrue (passes channel)) → KeepsStageLaw (pass_shape passes side) (pass_run side view)
+pass_keeps passes side view positive all_pass =
+    record { law = λ count legal _. pass_law passes side view positive all_pass count legal; legal = λ c legal _. legal c (omega arith) }
+
+pub pass_passes_ready : (passes : ℕ → Bool) (side : Side) (view : EndView) → PassesReady (pass_shape passes side) (pass_run side view)
+pass_passes_ready passes side view c legal ready = ready c (omega arith)

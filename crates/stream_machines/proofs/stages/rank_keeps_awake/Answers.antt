@@ -1,0 +1,8 @@
+use Rattle.stream_machines.proofs.stages.rank_keeps_awake.Goals as goal
+use Rattle.stream_machines.proofs.AwakeLaw
+
+pub returns-clause-delivers : goal.returns-clause-delivers
+returns-clause-delivers c = AwakeLaw.stage_delivers
+
+pub returns-clause-accepts : goal.returns-clause-accepts
+returns-clause-accepts c = AwakeLaw.stage_accepts
