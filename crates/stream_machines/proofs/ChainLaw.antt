@@ -177,14 +177,6 @@ chain_passes_ready first second one two fits keeps_one passes_one passes_two c l
     let passes_one' = subst (λ (run : StageRun). PassesReady (first_of first second) run) one_is (subst (λ (shape : Shape). PassesReady shape one) first_is passes_one) in
     passes_one' c legal (middle_always_ready first second one two fits keeps_one' passes_two (suc c) legal ready)
 
--- what a chain shows downstream depends on what its parts keep and on what is shown upstream alone
-pub chain_is_forward : (one_kept one_kept' two_kept two_kept' : ℕ → List ℕ) (one one' two two' : StageRun) → one.down ≡ two.up → one'.down ≡ two'.up
-    → IsForward one_kept one_kept' one one' → IsForward two_kept two_kept' two two'
-    → (b c : ℕ) → one_kept b ≡ one_kept' c → two_kept b ≡ two_kept' c → ShowAlike one.up one'.up b c → ShowAlike two.down two'.down b c
-chain_is_forward one_kept one_kept' two_kept two_kept' one one' two two' same same' forward_one forward_two b c kept_one kept_two alike =
-    let middle : ShowAlike one.down one'.down b c = forward_one b c kept_one alike in
-    forward_two b c kept_two (subst (λ (view : EndView). ShowAlike view two'.up b c) same (subst (λ (view : EndView). ShowAlike one.down view b c) same' middle))
-
 -- a chain that holds nothing has no step, if its parts have none
 pub chain_step : (first second : Shape) → (first.hold ≡ 0 → first.step ≡ 0) → (second.hold ≡ 0 → second.step ≡ 0) → (chain_shape first second).hold ≡ 0 → (chain_shape first second).step ≡ 0
 chain_step first second one two none =

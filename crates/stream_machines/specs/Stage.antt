@@ -80,10 +80,6 @@ pub record ShowAlike (one two : EndView) (b c : ℕ) : Type 0 where
   pub valid : one.valid b ≡ two.valid c
   pub beat : beat_at one b ≡ beat_at two c
 
--- what is shown downstream depends on what the stage keeps and what is shown upstream alone, so on no ready of the cycle; kept is what the stage's registers hold as a cycle begins
-abbrev pub IsForward : (ℕ → List ℕ) → (ℕ → List ℕ) → StageRun → StageRun → Type 0
-IsForward kept_one kept_two one two = (b c : ℕ) → kept_one b ≡ kept_two c → ShowAlike one.up two.up b c → ShowAlike one.down two.down b c
-
 -- the two parts fit: the sides between them agree, and every channel that passes the first passes the second
 pub record Fits (first second : Shape) (one two : StageRun) : Type 0 where
   pub same_side : first.down ≡ second.up

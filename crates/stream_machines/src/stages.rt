@@ -1,11 +1,11 @@
 //! The law of a stage: what keeps it, and what follows from it.
 
-ghost use Rattle.std.specs.Prelude.{◌⊎◌, ℕ, suc, ◌+◌, ◌*◌, ◌<◌, ◌≤◌, ◌≡◌, Bool, List, IsTrue};
+ghost use Rattle.std.specs.Prelude.{ℕ, ◌+◌, ◌*◌, ◌<◌, ◌≤◌, ◌≡◌, Bool, List, IsTrue};
 ghost use Rattle.stream_runs.specs.View.{Side, EndView, is_high, is_transfer, is_ready_cycle};
 ghost use Rattle.stream_runs.specs.Symbols.{Symbol};
 ghost use Rattle.stream_runs.specs.Source.{IsLegalSource};
 ghost use Rattle.stream_runs.specs.Awake.{Throughout, Sometime, makes_beat, undelivered};
-ghost use Rattle.stream_machines.specs.Stage.{inside, ShowAlike, IsForward, Shape, StageRun, StageLaw, KeepsStageLaw, PassesReady, Fits, chain_shape, chain_run, pass_shape, pass_run};
+ghost use Rattle.stream_machines.specs.Stage.{Shape, StageRun, StageLaw, KeepsStageLaw, PassesReady, Fits, chain_shape, chain_run, pass_shape, pass_run};
 ghost use Rattle.stream_machines.specs.Flow.{IsFlow};
 
 /// A stage that passes each beat as it is keeps the law, between ends of any pace, and passes ready.
@@ -15,17 +15,13 @@ pub fn pass_is_a_stage()
     ensures ready { (passes : ℕ → Bool) (side : Side) (view : EndView) → PassesReady (pass_shape passes side) (pass_run side view) }
 {}
 
-/// A chain of two stages that fit is a stage. Where both parts pass ready, so does the chain; where
-/// neither depends on this cycle's ready, the chain doesn't; and where it holds nothing, its rank
-/// never rises.
+/// A chain of two stages that fit is a stage. Where both parts pass ready, so does the chain; and
+/// where it holds nothing, its rank never rises.
 pub fn chain_is_a_stage()
     ensures keeps { (first second : Shape) (one two : StageRun) → Fits first second one two → KeepsStageLaw first one → KeepsStageLaw second two
         → KeepsStageLaw (chain_shape first second) (chain_run first second one two) }
     ensures ready { (first second : Shape) (one two : StageRun) → Fits first second one two → KeepsStageLaw first one → PassesReady first one → PassesReady second two
         → PassesReady (chain_shape first second) (chain_run first second one two) }
-    ensures forward { (one_kept one_kept' two_kept two_kept' : ℕ → List ℕ) (one one' two two' : StageRun) → one.down ≡ two.up → one'.down ≡ two'.up
-        → IsForward one_kept one_kept' one one' → IsForward two_kept two_kept' two two'
-        → (b c : ℕ) → one_kept b ≡ one_kept' c → two_kept b ≡ two_kept' c → ShowAlike one.up one'.up b c → ShowAlike two.down two'.down b c }
     ensures step { (first second : Shape) → (first.hold ≡ 0 → first.step ≡ 0) → (second.hold ≡ 0 → second.step ≡ 0)
         → (chain_shape first second).hold ≡ 0 → (chain_shape first second).step ≡ 0 }
 {}

@@ -2,3 +2,4 @@ pub mod Beginnings
 pub mod WireLaw
 pub mod Computed
 pub mod StandingStill
+pub mod ErrorLemmas

@@ -1,6 +1,7 @@
 -- Runs that were worked out by hand, cycle by cycle, and runs with a fault.
 use Rattle.std.specs.Prelude.{ℕ, zero, suc, List, [], ◌∷◌, slice_index, is_some, Option, Some, None, Bool, true, false, unwrap_or, if◌then◌else◌}
 use Rattle.stream_runs.specs.View.{EndView, Beat, Pace, Side}
+use Rattle.stream_runs.specs.Ends.{Signals, stream_of, byte_packets, packet_signals}
 use Rattle.stream_runs.specs.Delivery.{DeliversPrefix, Stream, StreamRun, reaches}
 
 -- what a stream's sink is given, alone
@@ -258,3 +259,23 @@ swallowed = record { source = showing always (Some (word 0x11) ∷ []); sink = s
 -- a source that never sees ready, before a sink that is never ready
 abbrev pub both_shut : StreamRun
 both_shut = record { source = showing never []; sink = showing never []; dropped = never }
+
+-- ---- a wire of byte packets: 11, 22 and 33, the sink's ready low in cycle 1
+
+abbrev pub byte_wire : Stream
+byte_wire = stream_of byte_packets byte_packets 0
+
+abbrev pub packet : Signals
+packet = packet_signals (signal_of (1 ∷ 0 ∷ 1 ∷ 1 ∷ 1 ∷ [])) (signal_of (1 ∷ 1 ∷ 1 ∷ 1 ∷ [])) (signal_of (0x11 ∷ 0x22 ∷ 0x22 ∷ 0x33 ∷ [])) (signal_of (1 ∷ [])) (signal_of (0 ∷ 0 ∷ 0 ∷ 1 ∷ []))
+
+-- both marks change places
+abbrev pub swapped_packet : Signals
+swapped_packet = record packet { startofpacket = packet.endofpacket; endofpacket = packet.startofpacket }
+
+-- the source sees ready throughout, and sends a beat a cycle
+abbrev pub hurried_packet : Signals
+hurried_packet = packet_signals always (signal_of (1 ∷ 1 ∷ 1 ∷ [])) (signal_of (0x11 ∷ 0x22 ∷ 0x33 ∷ [])) (signal_of (1 ∷ [])) (signal_of (0 ∷ 0 ∷ 1 ∷ []))
+
+-- the same at a sink that isn't ready in cycle 1
+abbrev pub overrun_packet : Signals
+overrun_packet = record hurried_packet { ready = packet.ready }

@@ -42,4 +42,5 @@ pub fn wire_is_served()
         (run_of (packet_signals ready valid word first last) (packet_signals ready valid word first last) dropped) count }
 {}
 
+pub mod beat;
 pub mod rows;

@@ -7,8 +7,5 @@ returns-clause-keeps c = ChainLaw.chain_keeps
 pub returns-clause-ready : goal.returns-clause-ready
 returns-clause-ready c = ChainLaw.chain_passes_ready
 
-pub returns-clause-forward : goal.returns-clause-forward
-returns-clause-forward c = ChainLaw.chain_is_forward
-
 pub returns-clause-step : goal.returns-clause-step
 returns-clause-step c = ChainLaw.chain_step
