@@ -7,7 +7,7 @@ use Rattle.histories.specs.History.{IsPrefix}
 use Rattle.stream_runs.specs.Symbols.{transferred_symbols, symbols_in, kept_symbols, Symbol, without_error, shown_count, joined_error}
 use Rattle.stream_runs.specs.Source.{IsLegalSource, IsLegalAt}
 use Rattle.stream_runs.specs.Delivery.{DeliversPrefix, matched_symbols}
-use Rattle.stream_machines.specs.Stage.{Shape, StageRun, StageLaw, KeepsStageLaw, PassesReady, Fits, ShowAlike, IsForward, chain_shape, chain_run}
+use Rattle.stream_machines.specs.Stage.{Shape, StageRun, StageLaw, KeepsStageLaw, PassesReady, Fits, chain_shape, chain_run}
 use Rattle.histories.specs.Laws.{prefix_length, prefix_trans, prefix_map}
 use Rattle.stream_runs.specs.Laws.{symbols_grow, length_in, length_in_order, legal_holds_data}
 use Rattle.stream_machines.proofs.Kept.{kept_in_middle}
