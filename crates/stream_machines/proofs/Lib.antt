@@ -11,7 +11,7 @@ pub mod FlowLaw
 pub mod Marks
 pub mod FlowKeeps
 pub mod Pieces
-pub mod Rows
+pub mod Joining
 pub mod Direct
 pub mod WidenLaw
 pub mod NarrowLaw

@@ -13,7 +13,7 @@ use Rattle.stream_machines.specs.Parts.{IsNarrowRun, IsSplit, IsFirstOf, is_none
 use Rattle.stream_machines.proofs.FlowLaw.{no_rank}
 use Rattle.stream_machines.proofs.FlowKeeps.{flow_keeps}
 use Rattle.stream_machines.proofs.Direct.{direct_transfer, direct_ready, rests_with, kept_in_all, kept_shown_all}
-use Rattle.stream_machines.proofs.Rows.{total, IsRow, length_of_all, same_held, row_of_split, symbols_of_split}
+use Rattle.stream_machines.proofs.Joining.{total, IsRow, length_of_all, same_held, row_of_split, symbols_of_split}
 
 -- what is left of a beat: its last pieces, which leave out at least one
 record Left (narrow wide : Side) (beats : List Beat) : Type 0 where

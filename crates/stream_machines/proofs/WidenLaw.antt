@@ -15,7 +15,7 @@ use Rattle.stream_machines.specs.Parts.{IsWidenRun, IsJoined, completes, widen_s
 use Rattle.stream_machines.proofs.FlowLaw.{no_rank}
 use Rattle.stream_machines.proofs.FlowKeeps.{flow_keeps}
 use Rattle.stream_machines.proofs.Direct.{direct_transfer, direct_ready, rests_with, kept_in_all, kept_shown_all, or_none}
-use Rattle.stream_machines.proofs.Rows.{IsRow, AllGo, row-append, go-append, total_going, length_of_all, errors_of_row, no_last, row_channel, held_is, symbols_of_joined}
+use Rattle.stream_machines.proofs.Joining.{IsRow, AllGo, row-append, go-append, total_going, length_of_all, errors_of_row, no_last, row_channel, held_is, symbols_of_joined}
 
 -- a beat goes out where one comes in that completes a wide beat
 ports_meet : (v l r : Bool) → ((v && l) && r) ≡ ((v && (not (v && l) || r)) && (v && l))

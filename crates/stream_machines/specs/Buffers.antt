@@ -31,7 +31,8 @@ pub record HoldsBeats (through : Bool) (side : Side) (up down : EndView) (held :
 abbrev pub buffer_shape : (ℕ → Bool) → ℕ → Side → Shape
 buffer_shape passes places side = record { up = side; down = direct_side side; passes = passes; hold = places * side.symbols; rest = 0; step = 0; largest = 0; needs_ready = false }
 
--- a buffer with a place more than the ready latency: it shows ready where the beats that it holds, and those that may still come of the ready that it showed, leave a place
+-- a buffer with a place more than the ready latency: it shows ready where the beats that it holds, and those that may
+-- still come of the ready that it showed, leave a place
 pub record IsBufferRun (side : Side) (up down : EndView) (held : ℕ → List Beat) : Type 0 where
   pub holds : HoldsBeats true side up down held
   pub asks : (c : ℕ) → is_high up.ready c ≡ nat_lt (length (held c) + ready_cycles side.pace.latency up c) (side.pace.latency + 1)
@@ -41,7 +42,8 @@ pub record IsRegisterRun (side : Side) (up down : EndView) (held : ℕ → List 
   pub holds : HoldsBeats false side up down held
   pub asks : (c : ℕ) → is_high up.ready c ≡ (nat_lt (length (held c)) 1 || is_high down.ready c)
 
--- a buffer behind a source that sends some beats after the last ready, as many as its allowance says: it shows ready where the beats that it holds leave a place for all of those, and one for the beat of the cycle
+-- a buffer behind a source that sends some beats after the last ready, as many as its allowance says: it shows ready
+-- where the beats that it holds leave a place for all of those, and one for the beat of the cycle
 pub record IsAllowanceRun (places : ℕ) (side : Side) (up down : EndView) (held : ℕ → List Beat) : Type 0 where
   pub holds : HoldsBeats true side up down held
   pub asks : (c : ℕ) → is_high up.ready c ≡ nat_lt (length (held c) + side.pace.allowance) places

@@ -55,7 +55,8 @@ abbrev pub every_other : ℕ → ℕ
 every_other zero = 1
 every_other (suc c) = 1 - every_other c
 
--- an idle source that sees ready in every other cycle, as a buffer with one place behind ready latency 1 shows it, and an idle sink that is always ready
+-- an idle source that sees ready in every other cycle, as a buffer with one place behind ready latency 1 shows it, and
+-- an idle sink that is always ready
 abbrev pub blinking : EndView
 blinking = showing every_other []
 

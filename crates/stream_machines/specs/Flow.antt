@@ -34,7 +34,12 @@ pub record ShowsNext (shape : Shape) (run : StageRun) (store : ℕ → List Symb
 -- an adapter with a list of the symbols that it holds as each cycle begins
 pub record IsFlow (shape : Shape) (run : StageRun) (store : ℕ → List Symbol) : Type 0 where
   pub starts : store 0 ≡ []
-  pub passes_on : (c : ℕ) → IsLegalSource shape.up run.up (suc c) → (IsTrue shape.needs_ready → IsReadyBefore run.down (suc c)) → PassesOn shape run store c
-  pub shows : (c : ℕ) → IsLegalSource shape.up run.up (suc c) → (IsTrue shape.needs_ready → IsReadyBefore run.down c) → IsTrue (is_high run.down.valid c) → ShowsNext shape run store c
-  pub paced : (c : ℕ) → IsLegalSource shape.up run.up (suc c) → (IsTrue shape.needs_ready → IsReadyBefore run.down c) → KeepsPace shape.down.pace run.down c
-  pub ranked : (c : ℕ) → IsLegalSource shape.up run.up (suc c) → (IsTrue shape.needs_ready → IsReadyBefore run.down (suc c)) → inside shape run c ≡ store c → RankMoves shape run c
+  pub passes_on : (c : ℕ) → IsLegalSource shape.up run.up (suc c)
+      → (IsTrue shape.needs_ready → IsReadyBefore run.down (suc c)) → PassesOn shape run store c
+  pub shows : (c : ℕ) → IsLegalSource shape.up run.up (suc c) → (IsTrue shape.needs_ready → IsReadyBefore run.down c)
+      → IsTrue (is_high run.down.valid c) → ShowsNext shape run store c
+  pub paced : (c : ℕ) → IsLegalSource shape.up run.up (suc c) → (IsTrue shape.needs_ready → IsReadyBefore run.down c)
+      → KeepsPace shape.down.pace run.down c
+  pub ranked : (c : ℕ) → IsLegalSource shape.up run.up (suc c)
+      → (IsTrue shape.needs_ready → IsReadyBefore run.down (suc c)) → inside shape run c ≡ store c
+      → RankMoves shape run c

@@ -8,7 +8,8 @@ use Rattle.stream_machines.specs.Parts.{IsNarrowRun, IsSplit, IsWidenRun, narrow
 use Rattle.stream_machines.specs.Buffers.{IsBufferRun, IsQueueRun, buffer_shape, direct_side, zero_pace}
 use Rattle.stream_machines.specs.Wires.{IsFilterRun, ShowsSuppressed, IsDelayRun, IsTieRun, wire_shape, filtered_side, delayed_side}
 
--- the numbers of a stream: its source, the sink's largest channel and ready latency, the largest number of symbols that both beats are made of, how many times it is in each, and the depth of the queue
+-- the numbers of a stream: its source, the sink's largest channel and ready latency, the largest number of symbols that
+-- both beats are made of, how many times it is in each, and the depth of the queue
 pub record Numbers : Type 0 where
   pub source : Side
   pub max_channel : ℕ
@@ -66,7 +67,8 @@ pub record IsLine (n : Numbers) (l : Line) : Type 0 where
   pub filter : IsFilterRun (reaches (sink_of n)) n.source l.source l.filtered
   pub drops : ShowsSuppressed (reaches (sink_of n)) n.source l.source l.dropped
   pub buffer : IsBufferRun (side_one n) l.filtered l.buffered l.buffer
-  pub splits : (beat : Beat) → 0 < symbol_count (side_two n) beat → IsSplit (side_three n) (side_two n) beat (l.pieces_of beat)
+  pub splits : (beat : Beat) → 0 < symbol_count (side_two n) beat
+      → IsSplit (side_three n) (side_two n) beat (l.pieces_of beat)
   pub narrow : IsNarrowRun l.pieces_of (side_two n) (side_three n) l.buffered l.parted l.left
   pub widen : IsWidenRun n.wide_parts (side_three n) (side_four n) l.parted l.gathered l.beats
   pub queue : IsQueueRun n.depth (side_four n) l.gathered l.queued l.queue
@@ -162,7 +164,8 @@ pub record IsDirectLine (n : Numbers) (l : Line) : Type 0 where
   pub channels : IsFalse n.source.packets → 1 < n.wide_parts → n.max_channel ≡ 0
   pub filter : IsFilterRun (reaches (sink_of n)) n.source l.source l.filtered
   pub drops : ShowsSuppressed (reaches (sink_of n)) n.source l.source l.dropped
-  pub splits : (beat : Beat) → 0 < symbol_count (side_two n) beat → IsSplit (side_three n) (side_two n) beat (l.pieces_of beat)
+  pub splits : (beat : Beat) → 0 < symbol_count (side_two n) beat
+      → IsSplit (side_three n) (side_two n) beat (l.pieces_of beat)
   pub narrow : IsNarrowRun l.pieces_of (side_two n) (side_three n) l.filtered l.parted l.left
   pub widen : IsWidenRun n.wide_parts (side_three n) (side_four n) l.parted l.gathered l.beats
   pub queue : IsQueueRun n.depth (side_four n) l.gathered l.queued l.queue

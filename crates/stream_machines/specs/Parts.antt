@@ -1,4 +1,5 @@
--- A beat of more symbols and the beats of fewer symbols that it is made of or comes apart into; both have the first symbol in the high-order bits.
+-- A beat of more symbols and the beats of fewer symbols that it is made of or comes apart into; both have the first
+-- symbol in the high-order bits.
 use Rattle.std.specs.Prelude.{ℕ, suc, ◌+◌, ◌-◌, ◌*◌, ◌<◌, ◌≡◌, Bool, true, false, not, ◌&&◌, ◌||◌, ◌==◌, if◌then◌else◌, IsTrue, List, [], ◌∷◌, ◌++◌, map, length, fold, bit_or, drop}
 use Rattle.stream_runs.specs.View.{EndView, Beat, Side, beat_at, is_high, is_transfer}
 use Rattle.stream_runs.specs.Symbols.{symbol_count, value_of}
@@ -37,7 +38,8 @@ pub record IsWidenRun (parts : ℕ) (narrow wide : Side) (up down : EndView) (ga
   pub starts : gathered 0 ≡ []
   pub asks : (c : ℕ) → is_high up.ready c ≡ (not (completes parts up (gathered c) c) || is_high down.ready c)
   pub valid : (c : ℕ) → is_high down.valid c ≡ completes parts up (gathered c) c
-  pub shows : (c : ℕ) → IsTrue (is_high down.valid c) → IsJoined narrow wide (gathered c) (beat_at up c) (beat_at down c)
+  pub shows : (c : ℕ) → IsTrue (is_high down.valid c)
+      → IsJoined narrow wide (gathered c) (beat_at up c) (beat_at down c)
   pub same : (b c : ℕ) → gathered b ≡ gathered c → beat_at up b ≡ beat_at up c → beat_at down b ≡ beat_at down c
   pub moves : (c : ℕ) → gathered (suc c) ≡ (if is_transfer narrow.pace up c then (if completes parts up (gathered c) c then [] else gathered c ++ beat_at up c ∷ []) else gathered c)
 

@@ -7,7 +7,8 @@ use Rattle.stream_runs.specs.Source.{IsLegalSource, IsLegalAt}
 use Rattle.stream_runs.specs.Delivery.{DeliversPrefix, LagsWithin}
 use Rattle.stream_runs.specs.Awake.{undelivered}
 
--- what a stage promises of itself: its sides, the channels that it passes, how many symbols it may hold, how many it may keep for good, how much a symbol may raise its rank, its largest rank, and whether its sink must always be ready
+-- what a stage promises of itself: its sides, the channels that it passes, how many symbols it may hold, how many it
+-- may keep for good, how much a symbol may raise its rank, its largest rank, and whether its sink must always be ready
 pub record Shape : Type 0 where
   pub up : Side
   pub down : Side
@@ -49,8 +50,10 @@ is_exempt shape run c = is_at_rest shape run c && is_delayed shape
 pub record RankMoves (shape : Shape) (run : StageRun) (c : ℕ) : Type 0 where
   pub bounded : run.rank c ≤ shape.largest
   pub stays : IsFalse (gives shape run c) → IsFalse (is_exempt shape run c) → run.rank (suc c) ≤ run.rank c
-  pub falls : IsFalse (gives shape run c) → IsTrue (is_ready_cycle shape.down.pace run.down c) → IsFalse (is_at_rest shape run c) → run.rank (suc c) < run.rank c
-  pub rises : IsTrue (gives shape run c) → IsFalse (is_exempt shape run c) → run.rank (suc c) ≤ run.rank c + shape.step * length (symbols_in shape.down run.down c)
+  pub falls : IsFalse (gives shape run c) → IsTrue (is_ready_cycle shape.down.pace run.down c)
+      → IsFalse (is_at_rest shape run c) → run.rank (suc c) < run.rank c
+  pub rises : IsTrue (gives shape run c) → IsFalse (is_exempt shape run c)
+      → run.rank (suc c) ≤ run.rank c + shape.step * length (symbols_in shape.down run.down c)
 
 -- what a stage keeps in the cycles before count
 pub record StageLaw (shape : Shape) (run : StageRun) (count : ℕ) : Type 0 where
@@ -58,10 +61,13 @@ pub record StageLaw (shape : Shape) (run : StageRun) (count : ℕ) : Type 0 wher
   pub hold : LagsWithin shape.hold shape.passes shape.up shape.down run.up run.down count
   pub rank : (c : ℕ) → c < count → RankMoves shape run c
 
--- the stage keeps its law as long as its upstream beats are legal, and its sink always ready where it needs that; its beats are legal a cycle longer
+-- the stage keeps its law as long as its upstream beats are legal, and its sink always ready where it needs that; its
+-- beats are legal a cycle longer
 pub record KeepsStageLaw (shape : Shape) (run : StageRun) : Type 0 where
-  pub law : (count : ℕ) → IsLegalSource shape.up run.up count → (IsTrue shape.needs_ready → IsReadyBefore run.down count) → StageLaw shape run count
-  pub legal : (c : ℕ) → IsLegalSource shape.up run.up (suc c) → (IsTrue shape.needs_ready → IsReadyBefore run.down c) → IsLegalAt shape.down run.down c
+  pub law : (count : ℕ) → IsLegalSource shape.up run.up count
+      → (IsTrue shape.needs_ready → IsReadyBefore run.down count) → StageLaw shape run count
+  pub legal : (c : ℕ) → IsLegalSource shape.up run.up (suc c) → (IsTrue shape.needs_ready → IsReadyBefore run.down c)
+      → IsLegalAt shape.down run.down c
 
 -- as long as the sink was always ready, the stage shows ready
 abbrev pub PassesReady : Shape → StageRun → Type 0
@@ -86,12 +92,14 @@ pub record Fits (first second : Shape) (one two : StageRun) : Type 0 where
   pub same_view : one.down ≡ two.up
   pub passed_on : (channel : ℕ) → IsTrue (first.passes channel) → IsTrue (second.passes channel)
   pub has_symbols : 0 < first.up.symbols
-  -- the symbols per beat between the parts divide those of one end, so that no error reaches a beat that holds none of its symbols
+  -- the symbols per beat between the parts divide those of one end, so that no error reaches a beat that holds none of
+  -- its symbols
   pub divides : (parts : ℕ) × ((first.up.symbols ≡ second.up.symbols * parts) ⊎ (second.down.symbols ≡ second.up.symbols * parts))
   -- an error that reaches the end passes the middle
   pub has_errors : 0 < second.down.error_bits → 0 < first.up.error_bits → 0 < second.up.error_bits
   -- before a delayed side the first part holds nothing, keeps the pace, and shows the ready that it sees
-  pub delayed : IsTrue (nat_lt 0 second.up.pace.latency) → (first.hold ≡ 0) × (first.up.pace ≡ second.up.pace) × ((c : ℕ) → is_high one.up.ready c ≡ is_high two.up.ready c)
+  pub delayed : IsTrue (nat_lt 0 second.up.pace.latency)
+      → (first.hold ≡ 0) × (first.up.pace ≡ second.up.pace) × ((c : ℕ) → is_high one.up.ready c ≡ is_high two.up.ready c)
   -- a first part that needs an always ready sink has one
   pub always_ready : IsTrue first.needs_ready → PassesReady second two
 

@@ -31,7 +31,8 @@ suppresses passes side up c = is_transfer side.pace up c && not (passes (up.chan
 abbrev pub ShowsSuppressed : (ℕ → Bool) → Side → EndView → (ℕ → ℕ) → Type 0
 ShowsSuppressed passes side up dropped = (c : ℕ) → is_high dropped c ≡ suppresses passes side up c
 
--- ready comes so many cycles later, and no beat is shown but in a ready cycle; a delay of no cycles at ready latency 0 is a wire, which shows each beat at once
+-- ready comes so many cycles later, and no beat is shown but in a ready cycle; a delay of no cycles at ready latency 0
+-- is a wire, which shows each beat at once
 abbrev pub delayed_side : Side → ℕ → Side
 delayed_side side cycles = record side { pace = record { latency = side.pace.latency + cycles; allowance = side.pace.latency + cycles } }
 
@@ -70,5 +71,6 @@ pub record IsReorderRun (side : Side) (up down : EndView) : Type 0 where
   pub asks : (c : ℕ) → up.ready c ≡ down.ready c
   pub valid : (c : ℕ) → down.valid c ≡ up.valid c
   pub shows : (c : ℕ) → beat_at down c ≡ (record (beat_at up c) { word = down.word c })
-  pub words : (c : ℕ) → (k : ℕ) → k < side.symbols → value_of (turned_side side) (down.word c) k ≡ value_of side (up.word c) k
+  pub words : (c : ℕ) → (k : ℕ) → k < side.symbols
+      → value_of (turned_side side) (down.word c) k ≡ value_of side (up.word c) k
   pub same : (b c : ℕ) → up.word b ≡ up.word c → down.word b ≡ down.word c

@@ -15,9 +15,14 @@ ghost use Rattle.stream_machines.specs.Faults.{pair_of_channels, two_channel_sou
 pub fn faults()
     ensures legal { IsLegalSource (byte_side (later 0) 1) two_channel_source 2 }
     ensures no_widen_of_channels { (down : EndView) (rank : ℕ → ℕ)
-        → ¬ KeepsStageLaw (widen_shape (λ _. true) 2 (byte_side (later 0) 1) pair_of_channels) (record { up = two_channel_source; down = down; rank = rank }) }
-    ensures no_early_piece { ¬ DeliversPrefix (λ _. true) (pair_side true) (byte_side (later 0) 0) waiting_source eager_sink 2 }
-    ensures no_lost_error { ¬ DeliversPrefix (λ _. true) noisy_side noisy_side noisy_source quiet_sink 1 }
-    ensures no_blinking { (hold rest step largest : ℕ) (rank : ℕ → ℕ) → ¬ KeepsStageLaw (any_stage hold rest step largest) (idle_run rank) }
-    ensures no_wire_behind_delay { ¬ RankMoves (chain_shape front_delay back_wire) (chain_run front_delay back_wire front_run back_run) 0 }
+        → ¬ KeepsStageLaw (widen_shape (λ _. true) 2 (byte_side (later 0) 1) pair_of_channels)
+        (record { up = two_channel_source; down = down; rank = rank }) }
+    ensures no_early_piece { ¬ DeliversPrefix (λ _. true) (pair_side true)
+        (byte_side (later 0) 0) waiting_source eager_sink 2 }
+    ensures no_lost_error { ¬ DeliversPrefix
+        (λ _. true) noisy_side noisy_side noisy_source quiet_sink 1 }
+    ensures no_blinking { (hold rest step largest : ℕ) (rank : ℕ → ℕ)
+        → ¬ KeepsStageLaw (any_stage hold rest step largest) (idle_run rank) }
+    ensures no_wire_behind_delay { ¬ RankMoves (chain_shape front_delay back_wire)
+        (chain_run front_delay back_wire front_run back_run) 0 }
 {}

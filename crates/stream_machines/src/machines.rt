@@ -14,124 +14,192 @@ ghost use Rattle.stream_machines.specs.Words.{pieces, joined_beat, turned_word, 
 /// A queue that shows ready where it begins a cycle with room, and through which a beat passes where
 /// it is empty, is a stage. It shows ready while its symbols begin fewer beats than it has places.
 pub fn queue_is_a_stage()
-    ensures keeps { (passes : ℕ → Bool) (depth : ℕ) (side : Side) (up down : EndView) (held : ℕ → List Beat) → IsQueueRun depth side up down held
-        → side.pace.latency ≡ 0 → 0 < side.symbols → PassesAll passes side → KeepsStageLaw (buffer_shape passes depth side) (plain_run up down) }
-    ensures ready { (passes : ℕ → Bool) (depth : ℕ) (side : Side) (up down : EndView) (held : ℕ → List Beat) → IsQueueRun depth side up down held
+    ensures keeps { (passes : ℕ → Bool) (depth : ℕ) (side : Side) (up down : EndView)
+        (held : ℕ → List Beat) → IsQueueRun depth side up down held
+        → side.pace.latency ≡ 0 → 0 < side.symbols → PassesAll passes side
+        → KeepsStageLaw (buffer_shape passes depth side) (plain_run up down) }
+    ensures ready { (passes : ℕ → Bool) (depth : ℕ) (side : Side) (up down : EndView)
+        (held : ℕ → List Beat) → IsQueueRun depth side up down held
         → side.pace.latency ≡ 0 → PassesReady (buffer_shape passes depth side) (plain_run up down) }
-    ensures has_room { (passes : ℕ → Bool) (depth : ℕ) (side : Side) (up down : EndView) (held : ℕ → List Beat) → IsQueueRun depth side up down held
-        → side.pace.latency ≡ 0 → 0 < side.symbols → PassesAll passes side → (c : ℕ) → IsLegalSource side up c
-        → beats_begun side.symbols (inside (buffer_shape passes depth side) (plain_run up down) c) < depth → IsTrue (is_high up.ready c) }
+    ensures has_room { (passes : ℕ → Bool) (depth : ℕ) (side : Side) (up down : EndView)
+        (held : ℕ → List Beat) → IsQueueRun depth side up down held
+        → side.pace.latency ≡ 0 → 0 < side.symbols → PassesAll passes side → (c : ℕ)
+        → IsLegalSource side up c
+        → beats_begun side.symbols
+        (inside (buffer_shape passes depth side) (plain_run up down) c) < depth
+        → IsTrue (is_high up.ready c) }
 {}
 
 /// The machine that gathers beats is a stage; it asks for beats while it shows none, and keeps less
 /// than a wide beat for good.
 pub fn widen_is_a_stage()
-    ensures keeps { (passes : ℕ → Bool) (parts : ℕ) (narrow wide : Side) (up down : EndView) (gathered : ℕ → List Beat) → IsWidenRun parts narrow wide up down gathered
-        → 0 < parts → 0 < narrow.symbols → wide.symbols ≡ narrow.symbols * parts → narrow.pace.latency ≡ 0 → narrow.pace.allowance ≡ 0 → wide.pace ≡ narrow.pace
-        → narrow.packets ≡ wide.packets → narrow.error_bits ≡ wide.error_bits → narrow.max_channel ≡ wide.max_channel
+    ensures keeps { (passes : ℕ → Bool) (parts : ℕ) (narrow wide : Side) (up down : EndView)
+        (gathered : ℕ → List Beat) → IsWidenRun parts narrow wide up down gathered
+        → 0 < parts → 0 < narrow.symbols → wide.symbols ≡ narrow.symbols * parts
+        → narrow.pace.latency ≡ 0 → narrow.pace.allowance ≡ 0 → wide.pace ≡ narrow.pace
+        → narrow.packets ≡ wide.packets → narrow.error_bits ≡ wide.error_bits
+        → narrow.max_channel ≡ wide.max_channel
         → (IsFalse narrow.packets → 1 < parts → narrow.max_channel ≡ 0)
-        → PassesAll passes narrow → KeepsStageLaw (widen_shape passes parts narrow wide) (plain_run up down) }
-    ensures ready { (passes : ℕ → Bool) (parts : ℕ) (narrow wide : Side) (up down : EndView) (gathered : ℕ → List Beat) → IsWidenRun parts narrow wide up down gathered
+        → PassesAll passes narrow
+        → KeepsStageLaw (widen_shape passes parts narrow wide) (plain_run up down) }
+    ensures ready { (passes : ℕ → Bool) (parts : ℕ) (narrow wide : Side) (up down : EndView)
+        (gathered : ℕ → List Beat) → IsWidenRun parts narrow wide up down gathered
         → PassesReady (widen_shape passes parts narrow wide) (plain_run up down) }
-    ensures asks { (parts : ℕ) (narrow wide : Side) (up down : EndView) (gathered : ℕ → List Beat) → IsWidenRun parts narrow wide up down gathered → AsksWhileIdle up down }
-    ensures rest { (passes : ℕ → Bool) (parts : ℕ) (narrow wide : Side) → 0 < parts → 0 < narrow.symbols → wide.symbols ≡ narrow.symbols * parts
+    ensures asks { (parts : ℕ) (narrow wide : Side) (up down : EndView) (gathered : ℕ → List Beat)
+        → IsWidenRun parts narrow wide up down gathered → AsksWhileIdle up down }
+    ensures rest { (passes : ℕ → Bool) (parts : ℕ) (narrow wide : Side) → 0 < parts
+        → 0 < narrow.symbols → wide.symbols ≡ narrow.symbols * parts
         → (widen_shape passes parts narrow wide).rest < wide.symbols }
 {}
 
 /// The machine that takes beats apart is a stage, and passes ready where a beat has one part.
 pub fn narrow_is_a_stage()
-    ensures keeps { (passes : ℕ → Bool) (pieces_of : Beat → List Beat) (wide narrow : Side) (up down : EndView) (left : ℕ → List Beat) → IsNarrowRun pieces_of wide narrow up down left
-        → ((beat : Beat) → 0 < symbol_count wide beat → IsSplit narrow wide beat (pieces_of beat)) → 0 < narrow.symbols → 0 < wide.symbols → wide.pace.latency ≡ 0 → narrow.pace ≡ wide.pace
-        → wide.packets ≡ narrow.packets → wide.error_bits ≡ narrow.error_bits → wide.max_channel ≡ narrow.max_channel
-        → PassesAll passes wide → KeepsStageLaw (narrow_shape passes wide narrow) (plain_run up down) }
-    ensures ready { (passes : ℕ → Bool) (pieces_of : Beat → List Beat) (wide narrow : Side) (up down : EndView) (left : ℕ → List Beat) → IsNarrowRun pieces_of wide narrow up down left
-        → ((beat : Beat) → 0 < symbol_count wide beat → IsSplit narrow wide beat (pieces_of beat)) → 0 < narrow.symbols → wide.symbols ≡ narrow.symbols → wide.pace.latency ≡ 0 → narrow.pace ≡ wide.pace
-        → PassesAll passes wide → PassesReady (narrow_shape passes wide narrow) (plain_run up down) }
+    ensures keeps { (passes : ℕ → Bool) (pieces_of : Beat → List Beat) (wide narrow : Side)
+        (up down : EndView) (left : ℕ → List Beat) → IsNarrowRun pieces_of wide narrow up down left
+        → ((beat : Beat) → 0 < symbol_count wide beat → IsSplit narrow wide beat (pieces_of beat))
+        → 0 < narrow.symbols → 0 < wide.symbols → wide.pace.latency ≡ 0 → narrow.pace ≡ wide.pace
+        → wide.packets ≡ narrow.packets → wide.error_bits ≡ narrow.error_bits
+        → wide.max_channel ≡ narrow.max_channel
+        → PassesAll passes wide
+        → KeepsStageLaw (narrow_shape passes wide narrow) (plain_run up down) }
+    ensures ready { (passes : ℕ → Bool) (pieces_of : Beat → List Beat) (wide narrow : Side)
+        (up down : EndView) (left : ℕ → List Beat) → IsNarrowRun pieces_of wide narrow up down left
+        → ((beat : Beat) → 0 < symbol_count wide beat → IsSplit narrow wide beat (pieces_of beat))
+        → 0 < narrow.symbols → wide.symbols ≡ narrow.symbols → wide.pace.latency ≡ 0
+        → narrow.pace ≡ wide.pace
+        → PassesAll passes wide
+        → PassesReady (narrow_shape passes wide narrow) (plain_run up down) }
 {}
 
 /// A buffer behind a source of some ready latency is a stage: with a place more than the latency, or
 /// behind a larger allowance with more places than that.
 pub fn buffer_is_a_stage()
-    ensures keeps { (passes : ℕ → Bool) (side : Side) (up down : EndView) (held : ℕ → List Beat) → IsBufferRun side up down held → side.pace.allowance ≡ side.pace.latency → 0 < side.symbols
-        → PassesAll passes side → KeepsStageLaw (buffer_shape passes (side.pace.latency + 1) side) (plain_run up down) }
-    ensures ready { (passes : ℕ → Bool) (side : Side) (up down : EndView) (held : ℕ → List Beat) → IsBufferRun side up down held → side.pace.allowance ≡ side.pace.latency
+    ensures keeps { (passes : ℕ → Bool) (side : Side) (up down : EndView) (held : ℕ → List Beat)
+        → IsBufferRun side up down held → side.pace.allowance ≡ side.pace.latency → 0 < side.symbols
+        → PassesAll passes side
+        → KeepsStageLaw (buffer_shape passes (side.pace.latency + 1) side) (plain_run up down) }
+    ensures ready { (passes : ℕ → Bool) (side : Side) (up down : EndView) (held : ℕ → List Beat)
+        → IsBufferRun side up down held → side.pace.allowance ≡ side.pace.latency
         → PassesReady (buffer_shape passes (side.pace.latency + 1) side) (plain_run up down) }
-    ensures allowance { (passes : ℕ → Bool) (places : ℕ) (side : Side) (up down : EndView) (held : ℕ → List Beat) → IsAllowanceRun places side up down held
-        → 0 < side.pace.latency → side.pace.latency < side.pace.allowance → side.pace.allowance < places
-        → 0 < side.symbols → PassesAll passes side → KeepsStageLaw (buffer_shape passes places side) (plain_run up down) }
+    ensures allowance { (passes : ℕ → Bool) (places : ℕ) (side : Side) (up down : EndView)
+        (held : ℕ → List Beat) → IsAllowanceRun places side up down held
+        → 0 < side.pace.latency → side.pace.latency < side.pace.allowance
+        → side.pace.allowance < places
+        → 0 < side.symbols → PassesAll passes side
+        → KeepsStageLaw (buffer_shape passes places side) (plain_run up down) }
 {}
 
 /// A register for one beat is a stage.
 pub fn register_is_a_stage()
-    ensures { (passes : ℕ → Bool) (side : Side) (up down : EndView) (held : ℕ → List Beat) → IsRegisterRun side up down held → side.pace.latency ≡ 0 → 0 < side.symbols
+    ensures { (passes : ℕ → Bool) (side : Side) (up down : EndView) (held : ℕ → List Beat)
+        → IsRegisterRun side up down held → side.pace.latency ≡ 0 → 0 < side.symbols
         → PassesAll passes side → KeepsStageLaw (buffer_shape passes 1 side) (plain_run up down) }
 {}
 
 /// A delay of ready is a stage, behind any ready latency.
 pub fn delay_is_a_stage()
-    ensures { (passes : ℕ → Bool) (cycles : ℕ) (side : Side) (up down : EndView) → IsDelayRun cycles side up down → side.pace.allowance ≡ side.pace.latency → 0 < side.symbols
-        → PassesAll passes side → KeepsStageLaw (wire_shape passes side (delayed_side side cycles) side.pace.latency false) (wire_run side up down) }
+    ensures { (passes : ℕ → Bool) (cycles : ℕ) (side : Side) (up down : EndView)
+        → IsDelayRun cycles side up down → side.pace.allowance ≡ side.pace.latency
+        → 0 < side.symbols
+        → PassesAll passes side
+        → KeepsStageLaw (wire_shape passes side (delayed_side side cycles) side.pace.latency false)
+        (wire_run side up down) }
 {}
 
 /// Ready tied to 1 is a stage that needs an always ready sink, behind any pace.
 pub fn tie_is_a_stage()
-    ensures keeps { (passes : ℕ → Bool) (side : Side) (up down : EndView) → IsTieRun up down → 0 < side.symbols
-        → PassesAll passes side → KeepsStageLaw (wire_shape passes side (direct_side side) 0 true) (plain_run up down) }
-    ensures ready { (passes : ℕ → Bool) (side : Side) (up down : EndView) → IsTieRun up down → PassesReady (wire_shape passes side (direct_side side) 0 true) (plain_run up down) }
+    ensures keeps { (passes : ℕ → Bool) (side : Side) (up down : EndView) → IsTieRun up down
+        → 0 < side.symbols
+        → PassesAll passes side
+        → KeepsStageLaw (wire_shape passes side (direct_side side) 0 true) (plain_run up down) }
+    ensures ready { (passes : ℕ → Bool) (side : Side) (up down : EndView) → IsTieRun up down
+        → PassesReady (wire_shape passes side (direct_side side) 0 true) (plain_run up down) }
 {}
 
 /// The filter on channels is a stage at any pace; at ready latency 0 it asks for beats while it shows none.
 pub fn filter_is_a_stage()
-    ensures keeps { (passes : ℕ → Bool) (largest : ℕ) (side : Side) (up down : EndView) → IsFilterRun passes side up down → 0 < side.symbols
+    ensures keeps { (passes : ℕ → Bool) (largest : ℕ) (side : Side) (up down : EndView)
+        → IsFilterRun passes side up down → 0 < side.symbols
         → ((channel : ℕ) → channel ≤ side.max_channel → IsTrue (passes channel) → channel ≤ largest)
-        → KeepsStageLaw (wire_shape passes side (filtered_side side largest) side.pace.latency false) (wire_run side up down) }
-    ensures ready { (passes : ℕ → Bool) (largest : ℕ) (side : Side) (up down : EndView) → IsFilterRun passes side up down → 0 < side.symbols
+        → KeepsStageLaw
+        (wire_shape passes side (filtered_side side largest) side.pace.latency false)
+        (wire_run side up down) }
+    ensures ready { (passes : ℕ → Bool) (largest : ℕ) (side : Side) (up down : EndView)
+        → IsFilterRun passes side up down → 0 < side.symbols
         → ((channel : ℕ) → channel ≤ side.max_channel → IsTrue (passes channel) → channel ≤ largest)
-        → PassesReady (wire_shape passes side (filtered_side side largest) side.pace.latency false) (wire_run side up down) }
-    ensures asks { (passes : ℕ → Bool) (side : Side) (up down : EndView) → IsFilterRun passes side up down → side.pace.latency ≡ 0 → AsksWhileIdle up down }
+        → PassesReady (wire_shape passes side (filtered_side side largest) side.pace.latency false)
+        (wire_run side up down) }
+    ensures asks { (passes : ℕ → Bool) (side : Side) (up down : EndView)
+        → IsFilterRun passes side up down → side.pace.latency ≡ 0 → AsksWhileIdle up down }
 {}
 
 /// An error port tied to 0 is a stage, behind a source without one, at any pace.
 pub fn error_tie_is_a_stage()
-    ensures keeps { (passes : ℕ → Bool) (error_bits : ℕ) (side : Side) (up down : EndView) → IsErrorTieRun up down → side.error_bits ≡ 0 → 0 < side.symbols
-        → PassesAll passes side → KeepsStageLaw (wire_shape passes side (with_error_bits side error_bits) side.pace.latency false) (wire_run side up down) }
-    ensures ready { (passes : ℕ → Bool) (error_bits : ℕ) (side : Side) (up down : EndView) → IsErrorTieRun up down
-        → PassesReady (wire_shape passes side (with_error_bits side error_bits) side.pace.latency false) (wire_run side up down) }
+    ensures keeps { (passes : ℕ → Bool) (error_bits : ℕ) (side : Side) (up down : EndView)
+        → IsErrorTieRun up down → side.error_bits ≡ 0 → 0 < side.symbols
+        → PassesAll passes side
+        → KeepsStageLaw
+        (wire_shape passes side (with_error_bits side error_bits) side.pace.latency false)
+        (wire_run side up down) }
+    ensures ready { (passes : ℕ → Bool) (error_bits : ℕ) (side : Side) (up down : EndView)
+        → IsErrorTieRun up down
+        → PassesReady
+        (wire_shape passes side (with_error_bits side error_bits) side.pace.latency false)
+        (wire_run side up down) }
 {}
 
 /// Setting the empty symbols of each beat to 0 is a stage, at any pace.
 pub fn clear_is_a_stage()
-    ensures keeps { (passes : ℕ → Bool) (side : Side) (up down : EndView) → IsClearRun side up down → side.first_high ≡ true → 0 < side.symbols
-        → PassesAll passes side → KeepsStageLaw (wire_shape passes side side side.pace.latency false) (wire_run side up down) }
-    ensures ready { (passes : ℕ → Bool) (side : Side) (up down : EndView) → IsClearRun side up down → PassesReady (wire_shape passes side side side.pace.latency false) (wire_run side up down) }
-    ensures clears { (side : Side) (up down : EndView) → IsClearRun side up down → side.first_high ≡ true → (c : ℕ) → HasClearEmpty side (beat_at down c) }
+    ensures keeps { (passes : ℕ → Bool) (side : Side) (up down : EndView) → IsClearRun side up down
+        → side.first_high ≡ true → 0 < side.symbols
+        → PassesAll passes side
+        → KeepsStageLaw (wire_shape passes side side side.pace.latency false)
+        (wire_run side up down) }
+    ensures ready { (passes : ℕ → Bool) (side : Side) (up down : EndView) → IsClearRun side up down
+        → PassesReady (wire_shape passes side side side.pace.latency false)
+        (wire_run side up down) }
+    ensures clears { (side : Side) (up down : EndView) → IsClearRun side up down
+        → side.first_high ≡ true → (c : ℕ) → HasClearEmpty side (beat_at down c) }
 {}
 
 /// Turning the symbols of each beat is a stage, at any pace.
 pub fn reorder_is_a_stage()
-    ensures keeps { (passes : ℕ → Bool) (side : Side) (up down : EndView) → IsReorderRun side up down → 0 < side.symbols
-        → PassesAll passes side → KeepsStageLaw (wire_shape passes side (turned_side side) side.pace.latency false) (wire_run side up down) }
-    ensures ready { (passes : ℕ → Bool) (side : Side) (up down : EndView) → IsReorderRun side up down
-        → PassesReady (wire_shape passes side (turned_side side) side.pace.latency false) (wire_run side up down) }
+    ensures keeps { (passes : ℕ → Bool) (side : Side) (up down : EndView)
+        → IsReorderRun side up down → 0 < side.symbols
+        → PassesAll passes side
+        → KeepsStageLaw (wire_shape passes side (turned_side side) side.pace.latency false)
+        (wire_run side up down) }
+    ensures ready { (passes : ℕ → Bool) (side : Side) (up down : EndView)
+        → IsReorderRun side up down
+        → PassesReady (wire_shape passes side (turned_side side) side.pace.latency false)
+        (wire_run side up down) }
 {}
 
 /// The pieces of a beat, the beat that joins others, and the turned word are what the machines need.
 pub fn words_fit()
-    ensures pieces { (narrow wide : Side) (parts : ℕ) (whole : Beat) → 0 < narrow.symbols → wide.symbols ≡ narrow.symbols * parts → narrow.symbol_bits ≡ wide.symbol_bits
-        → wide.first_high ≡ true → narrow.first_high ≡ true → 0 < parts → 0 < symbol_count wide whole → IsSplit narrow wide whole (pieces narrow wide parts whole) }
-    ensures joined { (narrow wide : Side) (parts : ℕ) → 0 < narrow.symbols → wide.symbols ≡ narrow.symbols * parts → narrow.symbol_bits ≡ wide.symbol_bits
+    ensures pieces { (narrow wide : Side) (parts : ℕ) (whole : Beat) → 0 < narrow.symbols
+        → wide.symbols ≡ narrow.symbols * parts → narrow.symbol_bits ≡ wide.symbol_bits
+        → wide.first_high ≡ true → narrow.first_high ≡ true → 0 < parts
+        → 0 < symbol_count wide whole → IsSplit narrow wide whole (pieces narrow wide parts whole) }
+    ensures joined { (narrow wide : Side) (parts : ℕ) → 0 < narrow.symbols
+        → wide.symbols ≡ narrow.symbols * parts → narrow.symbol_bits ≡ wide.symbol_bits
         → wide.first_high ≡ true → narrow.first_high ≡ true
-        → (earlier : List Beat) (latest : Beat) → length earlier < parts → IsJoined narrow wide earlier latest (joined_beat narrow wide parts earlier latest) }
-    ensures turned { (side : Side) (word k : ℕ) → k < side.symbols → value_of (turned_side side) (turned_word side.symbol_bits side.symbols word) k ≡ value_of side word k }
+        → (earlier : List Beat) (latest : Beat) → length earlier < parts
+        → IsJoined narrow wide earlier latest (joined_beat narrow wide parts earlier latest) }
+    ensures turned { (side : Side) (word k : ℕ) → k < side.symbols
+        → value_of (turned_side side) (turned_word side.symbol_bits side.symbols word) k
+        ≡ value_of side word k }
 {}
 
 /// A symbol of a part of a word is the symbol at that place of the whole word.
 pub fn parts_of_words()
     ensures { (word bits size part place : ℕ) → place < size
-        → word / 2 ^ (bits * (size * part)) % 2 ^ (bits * size) / 2 ^ (bits * place) % 2 ^ bits ≡ word / 2 ^ (bits * (size * part + place)) % 2 ^ bits }
+        → word / 2 ^ (bits * (size * part)) % 2 ^ (bits * size) / 2 ^ (bits * place) % 2 ^ bits
+        ≡ word / 2 ^ (bits * (size * part + place)) % 2 ^ bits }
 {}
 
 /// The symbols of a beat that holds data fill or begin one beat.
 pub fn beats_are_counted()
-    ensures { (side : Side) (beat : Beat) (xs : List Symbol) → 0 < symbol_count side beat → beats_begun side.symbols (symbols_of side beat ++ xs) ≡ 1 + beats_begun side.symbols xs }
+    ensures { (side : Side) (beat : Beat) (xs : List Symbol) → 0 < symbol_count side beat
+        → beats_begun side.symbols (symbols_of side beat ++ xs) ≡ 1 + beats_begun side.symbols xs }
 {}

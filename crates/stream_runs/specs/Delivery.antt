@@ -13,11 +13,13 @@ matched_symbols passes source sink from to c =
 -- in the cycles before count, what the sink is given is a prefix of what is kept of the source's symbols
 pub record DeliversPrefix (passes : ℕ → Bool) (source sink : Side) (from to : EndView) (count : ℕ) : Type 0 where
   -- in data, channel and marks
-  pub in_order : (c : ℕ) → c ≤ count → IsPrefix (map without_error (delivered_symbols sink to c)) (map without_error (kept_symbols passes source from c))
+  pub in_order : (c : ℕ) → c ≤ count
+      → IsPrefix (map without_error (delivered_symbols sink to c)) (map without_error (kept_symbols passes source from c))
   -- each beat holds a symbol
   pub holds_data : (c : ℕ) → c < count → IsTrue (is_transfer sink.pace to c) → 0 < shown_count sink to c
   -- at a sink with error, the error of a beat is that of all source beats whose symbols it holds
-  pub errors : 0 < sink.error_bits → (c : ℕ) → c < count → IsTrue (is_transfer sink.pace to c) → to.error c ≡ joined_error (matched_symbols passes source sink from to c)
+  pub errors : 0 < sink.error_bits → (c : ℕ) → c < count → IsTrue (is_transfer sink.pace to c)
+      → to.error c ≡ joined_error (matched_symbols passes source sink from to c)
 
 -- no more symbols than this were kept and not delivered, at each moment up to the cycle
 abbrev pub LagsWithin : ℕ → (ℕ → Bool) → Side → Side → EndView → EndView → ℕ → Type 0
@@ -53,7 +55,8 @@ larger_allowance stream = max stream.source.pace.allowance stream.sink.pace.allo
 abbrev pub stream_lag : Stream → ℕ
 stream_lag stream = stream.source.symbols * (larger_allowance stream + 3) + stream.sink.symbols * (stream.fifo_depth + 3)
 
--- in the cycles before count the stream is served: the sink is given a prefix of what its channels let through, with its errors, at most so late,
+-- in the cycles before count the stream is served: the sink is given a prefix of what its channels let through, with
+-- its errors, at most so late,
 -- by the rules of ready, and dropped shows what doesn't reach it
 pub record IsServed (stream : Stream) (run : StreamRun) (count : ℕ) : Type 0 where
   pub delivers : DeliversPrefix (reaches stream.sink) stream.source stream.sink run.source run.sink count

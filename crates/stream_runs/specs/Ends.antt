@@ -90,7 +90,8 @@ pub record AreAlike (source sink : Declared) : Type 0 where
   pub packets : source.packets ≡ sink.packets
   pub empty_bits : source.empty_bits ≡ sink.empty_bits
 
--- a wire: each output is driven by the input of the same role at the other end, so both ends show the same, and dropped is 0 in the cycles before count
+-- a wire: each output is driven by the input of the same role at the other end, so both ends show the same, and dropped
+-- is 0 in the cycles before count
 pub record IsWire (source sink : Signals) (dropped : ℕ → ℕ) (count : ℕ) : Type 0 where
   pub joined : sink ≡ source
   pub drops_none : (c : ℕ) → c < count → dropped c ≡ 0

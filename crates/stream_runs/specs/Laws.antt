@@ -21,14 +21,17 @@ pub prefix_of_same : {A : Type 0} (xs ys : List A) → xs ≡ ys → IsPrefix xs
 prefix_of_same xs ys e = record { rest = []; joins = append-nil xs ∙ e }
 
 -- what transferred before a cycle begins what transferred before a later one
-pub symbols_grow : (side : Side) (view : EndView) (b c : ℕ) → b ≤ c → IsPrefix (transferred_symbols side view b) (transferred_symbols side view c)
+pub symbols_grow : (side : Side) (view : EndView) (b c : ℕ) → b ≤ c
+    → IsPrefix (transferred_symbols side view b) (transferred_symbols side view c)
 symbols_grow side view b c h = before_prefix (symbols_in side view) b c h
 
-pub kept_grow : (passes : ℕ → Bool) (side : Side) (view : EndView) (b c : ℕ) → b ≤ c → IsPrefix (kept_symbols passes side view b) (kept_symbols passes side view c)
+pub kept_grow : (passes : ℕ → Bool) (side : Side) (view : EndView) (b c : ℕ) → b ≤ c
+    → IsPrefix (kept_symbols passes side view b) (kept_symbols passes side view c)
 kept_grow passes side view b c h = prefix_filter (λ (symbol : Symbol). passes symbol.channel) (symbols_grow side view b c h)
 
 -- a delivery is one up to each earlier cycle
-pub shorter_delivery : (passes : ℕ → Bool) (source sink : Side) (from to : EndView) (b c : ℕ) → b ≤ c → DeliversPrefix passes source sink from to c → DeliversPrefix passes source sink from to b
+pub shorter_delivery : (passes : ℕ → Bool) (source sink : Side) (from to : EndView) (b c : ℕ) → b ≤ c
+    → DeliversPrefix passes source sink from to c → DeliversPrefix passes source sink from to b
 shorter_delivery passes source sink from to b c h s =
     record {
       in_order = λ d k. s.in_order d (le_trans k h);
@@ -39,15 +42,18 @@ shorter_delivery passes source sink from to b c h s =
 -- ---- the symbols of one beat
 
 -- as many symbols transfer as the beat holds
-pub length_in : (side : Side) (view : EndView) (c : ℕ) → IsTrue (is_transfer side.pace view c) → length (symbols_in side view c) ≡ shown_count side view c
+pub length_in : (side : Side) (view : EndView) (c : ℕ) → IsTrue (is_transfer side.pace view c)
+    → length (symbols_in side view c) ≡ shown_count side view c
 length_in side view c moves = ap length (cond-true (is_transfer side.pace view c) (shown_symbols side view c) [] moves) ∙ length-map-range_with_len (shown_symbol side view c) 0 (shown_count side view c)
 
 -- in order, no more are delivered than were kept
-pub length_in_order : (xs ys : List Symbol) → IsPrefix (map without_error xs) (map without_error ys) → length xs ≤ length ys
+pub length_in_order : (xs ys : List Symbol) → IsPrefix (map without_error xs) (map without_error ys)
+    → length xs ≤ length ys
 length_in_order xs ys p = subst (λ n. n ≤ length ys) (length-map xs without_error) (subst (λ n. length (map without_error xs) ≤ n) (length-map ys without_error) (prefix_length p))
 
 -- all symbols of a beat are on one channel
-pub filter_beat : (passes : ℕ → Bool) (side : Side) (view : EndView) (c : ℕ) (js : List ℕ) (b : Bool) → passes (view.channel c) ≡ b
+pub filter_beat : (passes : ℕ → Bool) (side : Side) (view : EndView) (c : ℕ) (js : List ℕ) (b : Bool)
+    → passes (view.channel c) ≡ b
     → filter (λ symbol. passes symbol.channel) (map (shown_symbol side view c) js) ≡ (if b then map (shown_symbol side view c) js else [])
 filter_beat passes side view c [] true e = refl
 filter_beat passes side view c [] false e = refl
@@ -60,30 +66,36 @@ pub kept_more : (passes : ℕ → Bool) (side : Side) (view : EndView) (c : ℕ)
 kept_more passes side view c =
     filter-append (λ (symbol : Symbol). passes symbol.channel) (transferred_symbols side view c) (symbols_in side view c) ∙ ap (λ xs. kept_symbols passes side view c ++ xs) (by_transfer (is_transfer side.pace view c))
   where
-    by_transfer : (b : Bool) → filter (λ (symbol : Symbol). passes symbol.channel) (if b then shown_symbols side view c else []) ≡ (if b && passes (view.channel c) then shown_symbols side view c else [])
+    by_transfer : (b : Bool)
+        → filter (λ (symbol : Symbol). passes symbol.channel) (if b then shown_symbols side view c else []) ≡ (if b && passes (view.channel c) then shown_symbols side view c else [])
     by_transfer true = filter_beat passes side view c (range_with_len 0 (shown_count side view c)) (passes (view.channel c)) refl
     by_transfer false = refl
 
 -- the symbols of a beat bear its error
-same_error : (side : Side) (beat : Beat) (js : List ℕ) → fold (λ error (symbol : Symbol). bit_or error symbol.error) beat.error (map (symbol_in side beat) js) ≡ beat.error
+same_error : (side : Side) (beat : Beat) (js : List ℕ)
+    → fold (λ error (symbol : Symbol). bit_or error symbol.error) beat.error (map (symbol_in side beat) js) ≡ beat.error
 same_error side beat [] = refl
 same_error side beat (j ∷ js) = ap (λ e. fold (λ error (symbol : Symbol). bit_or error symbol.error) e (map (symbol_in side beat) js)) (or_self beat.error) ∙ same_error side beat js
 
-joined_error_of_some : (side : Side) (beat : Beat) (first n : ℕ) → 0 < n → joined_error (map (symbol_in side beat) (range_with_len first n)) ≡ beat.error
+joined_error_of_some : (side : Side) (beat : Beat) (first n : ℕ) → 0 < n
+    → joined_error (map (symbol_in side beat) (range_with_len first n)) ≡ beat.error
 joined_error_of_some side beat first zero h = absurd (not-suc-le-zero h)
 joined_error_of_some side beat first (suc n) h =
     ap (λ e. fold (λ error (symbol : Symbol). bit_or error symbol.error) e (map (symbol_in side beat) (range_with_len (first + 1) n))) (or_zero_l beat.error) ∙ same_error side beat (range_with_len (first + 1) n)
 
-pub joined_error_of_beat : (side : Side) (beat : Beat) → 0 < symbol_count side beat → joined_error (symbols_of side beat) ≡ beat.error
+pub joined_error_of_beat : (side : Side) (beat : Beat) → 0 < symbol_count side beat
+    → joined_error (symbols_of side beat) ≡ beat.error
 joined_error_of_beat side beat h = joined_error_of_some side beat 0 (symbol_count side beat) h
 
 -- ---- legal sources
 
 -- a beat that a legal source shows holds a symbol
-pub shown_holds : (side : Side) (view : EndView) → 0 < side.symbols → (c : ℕ) → IsLegalAt side view c → IsTrue (is_high view.valid c) → 0 < shown_count side view c
+pub shown_holds : (side : Side) (view : EndView) → 0 < side.symbols → (c : ℕ) → IsLegalAt side view c
+    → IsTrue (is_high view.valid c) → 0 < shown_count side view c
 shown_holds side view positive c legal shown = by_last (is_high view.last c) refl ((legal.formed shown).holds_data)
   where
-    by_last : (b : Bool) → is_high view.last c ≡ b → (IsTrue (is_high view.last c) → view.empty c < side.symbols) → 0 < (if b then side.symbols - view.empty c else side.symbols)
+    by_last : (b : Bool) → is_high view.last c ≡ b → (IsTrue (is_high view.last c) → view.empty c < side.symbols)
+        → 0 < (if b then side.symbols - view.empty c else side.symbols)
     by_last true ends h = sub-pos_iff_lt.1 (h ends)
     by_last false goes h = positive
 

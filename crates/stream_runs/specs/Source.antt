@@ -22,7 +22,8 @@ beats_since_ready pace view (suc c) =
 abbrev pub is_allowed_late : Pace → EndView → ℕ → Bool
 is_allowed_late pace view c = nat_le pace.latency c && was_ready view (c - pace.latency) && nat_le (beats_since_ready pace view c) pace.allowance
 
--- the pace lets a beat be shown in the cycle: always at latency 0, else in ready cycles, and where the allowance is above the latency as long as it lasts
+-- the pace lets a beat be shown in the cycle: always at latency 0, else in ready cycles, and where the allowance is
+-- above the latency as long as it lasts
 abbrev pub may_show : Pace → EndView → ℕ → Bool
 may_show pace view c = (pace.latency == 0) || (if nat_lt pace.latency pace.allowance then is_allowed_late pace view c else is_ready_cycle pace view c)
 
@@ -61,7 +62,8 @@ pub record IsWellFormed (side : Side) (opened : Bool) (channel : ℕ) (beat : Be
 -- in the cycle the source is legal
 pub record IsLegalAt (side : Side) (view : EndView) (c : ℕ) : Type 0 where
   pub paced : KeepsPace side.pace view c
-  pub formed : IsTrue (is_high view.valid c) → IsWellFormed side (is_open side.pace view c) (channel_before side.pace view c) (beat_at view c)
+  pub formed : IsTrue (is_high view.valid c)
+      → IsWellFormed side (is_open side.pace view c) (channel_before side.pace view c) (beat_at view c)
 
 -- the source is legal in each cycle before this one
 abbrev pub IsLegalSource : Side → EndView → ℕ → Type 0

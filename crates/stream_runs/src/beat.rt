@@ -6,7 +6,8 @@ ghost use Rattle.stream_runs.specs.Symbols.{Symbol, symbol_count, value_of, join
 
 /// How many symbols of a beat hold data. `empty` counts only where the beat ends a packet (`last`).
 pub fn count_symbols(symbols: u8, last: bool, empty: u8) -> u8
-    ensures { (side : Side) (beat : Beat) → side.symbols ≡ symbols → (beat.last == 1) ≡ last → beat.empty ≡ empty
+    ensures { (side : Side) (beat : Beat) → side.symbols ≡ symbols → (beat.last == 1) ≡ last
+        → beat.empty ≡ empty
         → result ≡ symbol_count side beat }
 {
     if last {
@@ -21,7 +22,8 @@ pub fn read_symbol(word: u128, symbols: u8, symbol_bits: u8, first_high: bool, n
     requires in_beat { number < symbols }
     requires some_bits { 0 < symbol_bits }
     requires fits { symbols * symbol_bits ≤ 128 }
-    ensures { (side : Side) → side.symbols ≡ symbols → side.symbol_bits ≡ symbol_bits → side.first_high ≡ first_high
+    ensures { (side : Side) → side.symbols ≡ symbols → side.symbol_bits ≡ symbol_bits
+        → side.first_high ≡ first_high
         → result ≡ value_of side word number }
 {
     let place = if first_high {
@@ -39,7 +41,8 @@ pub fn read_symbol(word: u128, symbols: u8, symbol_bits: u8, first_high: bool, n
 
 /// All bits that are set in one of the errors: the error of a beat that holds symbols with these errors.
 pub fn join_errors(errors: &[u32]) -> u32
-    ensures { (symbols : List Symbol) → map (λ symbol. symbol.error) symbols ≡ errors.now → result ≡ joined_error symbols }
+    ensures { (symbols : List Symbol) → map (λ symbol. symbol.error) symbols ≡ errors.now
+        → result ≡ joined_error symbols }
 {
     fold_errors(errors)
 }

@@ -1,6 +1,9 @@
 //! What a stream of beats means at its two ends, cycle by cycle.
 #![tactic(auto)]
 
+pub mod beat;
+pub mod rows;
+
 ghost use Rattle.std.specs.Prelude.{ℕ, ◌≤◌, ◌<◌, ◌≡◌, Bool, List, length, IsTrue};
 ghost use Rattle.histories.specs.History.{IsPrefix};
 ghost use Rattle.stream_runs.specs.View.{EndView, Side};
@@ -13,14 +16,20 @@ ghost use Rattle.stream_runs.specs.Ends.{Declared, Signals, side_of, view_of, st
 /// A run of a stream is one up to each earlier cycle: what a source keeps to and what a stream is
 /// given in the cycles before `count`, it does in the cycles before each smaller number.
 pub fn shorter_runs()
-    ensures legal { (side : Side) (view : EndView) (b c : ℕ) → b ≤ c → IsLegalSource side view c → IsLegalSource side view b }
-    ensures proper { (side : Side) (view : EndView) (b c : ℕ) → b ≤ c → IsProperAtSink side view c → IsProperAtSink side view b }
-    ensures delivers { (passes : ℕ → Bool) (source sink : Side) (from to : EndView) (b c : ℕ) → b ≤ c
-        → DeliversPrefix passes source sink from to c → DeliversPrefix passes source sink from to b }
-    ensures served { (stream : Stream) (run : StreamRun) (b c : ℕ) → b ≤ c → IsServed stream run c → IsServed stream run b }
+    ensures legal { (side : Side) (view : EndView) (b c : ℕ) → b ≤ c → IsLegalSource side view c
+        → IsLegalSource side view b }
+    ensures proper { (side : Side) (view : EndView) (b c : ℕ) → b ≤ c → IsProperAtSink side view c
+        → IsProperAtSink side view b }
+    ensures delivers { (passes : ℕ → Bool) (source sink : Side) (from to : EndView) (b c : ℕ)
+        → b ≤ c
+        → DeliversPrefix passes source sink from to c
+        → DeliversPrefix passes source sink from to b }
+    ensures served { (stream : Stream) (run : StreamRun) (b c : ℕ) → b ≤ c → IsServed stream run c
+        → IsServed stream run b }
     ensures awake { (window : ℕ) (stream : Stream) (run : StreamRun) (b c : ℕ) → b ≤ c
         → NeverIdles window stream run c → NeverIdles window stream run b }
-    ensures accepted { (side : Side) (view : EndView) (b c : ℕ) → b ≤ c → IsPrefix (accepted_symbols side view b) (accepted_symbols side view c) }
+    ensures accepted { (side : Side) (view : EndView) (b c : ℕ) → b ≤ c
+        → IsPrefix (accepted_symbols side view b) (accepted_symbols side view c) }
     ensures kept { (passes : ℕ → Bool) (side : Side) (view : EndView) (b c : ℕ) → b ≤ c
         → IsPrefix (kept_symbols passes side view b) (kept_symbols passes side view c) }
 {}
@@ -35,12 +44,12 @@ pub fn wire_is_served()
     ensures awake { (source sink : Declared) (from to : Signals) (dropped : ℕ → ℕ) (count : ℕ)
         → AreAlike source sink → 0 < source.symbols → IsWire from to dropped count
         → IsLegalSource (side_of source) (view_of from) count
-        → NeverIdles (stream_window (stream_of source sink 0)) (stream_of source sink 0) (run_of from to dropped) count }
-    ensures byte_packets { (ready valid word first last dropped : ℕ → ℕ) (count : ℕ) → ((c : ℕ) → c < count → dropped c ≡ 0)
-        → IsLegalSource (side_of byte_packets) (view_of (packet_signals ready valid word first last)) count
+        → NeverIdles (stream_window (stream_of source sink 0)) (stream_of source sink 0)
+        (run_of from to dropped) count }
+    ensures byte_packets { (ready valid word first last dropped : ℕ → ℕ) (count : ℕ)
+        → ((c : ℕ) → c < count → dropped c ≡ 0)
+        → IsLegalSource (side_of byte_packets)
+        (view_of (packet_signals ready valid word first last)) count
         → IsServed (stream_of byte_packets byte_packets 0)
         (run_of (packet_signals ready valid word first last) (packet_signals ready valid word first last) dropped) count }
 {}
-
-pub mod beat;
-pub mod rows;

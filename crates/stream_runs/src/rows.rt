@@ -15,9 +15,11 @@ pub fn byte_packet_wires()
     ensures served { IsServed byte_wire (run_of packet packet never) 5 }
     ensures roles_swapped { ¬ IsDelivered byte_wire (run_of packet swapped_packet never) 5 }
     ensures hurried_source { IsLegalSource (side_of byte_packets) (view_of hurried_packet) 4 }
-    ensures ready_tied_high { ¬ IsDelivered byte_wire (run_of hurried_packet overrun_packet never) 4 }
+    ensures ready_tied_high { ¬ IsDelivered byte_wire
+        (run_of hurried_packet overrun_packet never) 4 }
     ensures beat_not_held { ¬ IsProperAtSink (side_of byte_packets) (view_of overrun_packet) 4 }
-    ensures dropped_follows_valid { ¬ ShowsDropped (side_of byte_packets) (side_of byte_packets) (view_of packet) (view_of packet).valid 5 }
+    ensures dropped_follows_valid { ¬ ShowsDropped (side_of byte_packets) (side_of byte_packets)
+        (view_of packet) (view_of packet).valid 5 }
 {}
 
 /// Three symbols a beat become four: a sink's beat holds symbols of two source beats, bears both
@@ -27,7 +29,8 @@ pub fn three_symbols_to_four()
     ensures served { IsServed three_to_four (three_to_four_run (four_sink 1 1 1)) 5 }
     ensures empty_dropped { ¬ IsDelivered three_to_four (three_to_four_run (four_sink 1 1 0)) 5 }
     ensures error_not_joined { ¬ IsDelivered three_to_four (three_to_four_run (four_sink 0 1 1)) 5 }
-    ensures error_not_repeated { ¬ IsDelivered three_to_four (three_to_four_run (four_sink 1 0 1)) 5 }
+    ensures error_not_repeated { ¬ IsDelivered three_to_four
+        (three_to_four_run (four_sink 1 0 1)) 5 }
     ensures symbols_swapped { ¬ IsDelivered three_to_four (three_to_four_run swapped_sink) 5 }
     ensures mark_late { ¬ IsDelivered three_to_four (three_to_four_run late_mark_sink) 5 }
     ensures beat_lost { ¬ IsDelivered three_to_four (three_to_four_run lost_beat_sink) 5 }
@@ -52,12 +55,18 @@ pub fn symbol_order()
 /// A beat on a channel above the sink's is dropped, and `dropped` shows it.
 pub fn channels_apart()
     ensures source { IsLegalSource (byte_side (later 0) 7) channel_source 4 }
-    ensures served { IsServed fewer_channels (channel_run filtered_sink (signal_of (0 ∷ 1 ∷ []))) 4 }
-    ensures channel_cut { ¬ IsDelivered fewer_channels (channel_run cut_sink (signal_of (0 ∷ 1 ∷ []))) 4 }
-    ensures channel_cut_so_far { ¬ IsDelivered fewer_channels (channel_run cut_sink_so_far (signal_of (0 ∷ 1 ∷ []))) 4 }
-    ensures dropped_follows_valid { ¬ ShowsDropped (byte_side (later 0) 7) (byte_side (later 0) 3) channel_source channel_source.valid 4 }
-    ensures dropped_stays_low { ¬ ShowsDropped (byte_side (later 0) 7) (byte_side (later 0) 3) channel_source never 4 }
-    ensures dropped_late { ¬ ShowsDropped (byte_side (later 0) 7) (byte_side (later 0) 3) channel_source (signal_of (0 ∷ 0 ∷ 1 ∷ [])) 4 }
+    ensures served { IsServed fewer_channels
+        (channel_run filtered_sink (signal_of (0 ∷ 1 ∷ []))) 4 }
+    ensures channel_cut { ¬ IsDelivered fewer_channels
+        (channel_run cut_sink (signal_of (0 ∷ 1 ∷ []))) 4 }
+    ensures channel_cut_so_far { ¬ IsDelivered fewer_channels
+        (channel_run cut_sink_so_far (signal_of (0 ∷ 1 ∷ []))) 4 }
+    ensures dropped_follows_valid { ¬ ShowsDropped (byte_side (later 0) 7)
+        (byte_side (later 0) 3) channel_source channel_source.valid 4 }
+    ensures dropped_stays_low { ¬ ShowsDropped (byte_side (later 0) 7)
+        (byte_side (later 0) 3) channel_source never 4 }
+    ensures dropped_late { ¬ ShowsDropped (byte_side (later 0) 7)
+        (byte_side (later 0) 3) channel_source (signal_of (0 ∷ 0 ∷ 1 ∷ [])) 4 }
 {}
 
 /// A sink that stalls is given all beats of a source that sends two cycles after ready.
@@ -81,16 +90,26 @@ pub fn allowances()
 
 /// What a source may do, and what it may not.
 pub fn illegal_sources()
-    ensures legal { IsLegalSource channel_packets (two_beats 1 (on_channel 1 (opens (word 1))) (on_channel 1 (closes 0 (word 2)))) 3 }
-    ensures waits { IsLegalSource channel_packets (two_beats 0 (opens (word 1)) (opens (word 1))) 2 }
-    ensures beat_changed { ¬ IsLegalSource channel_packets (two_beats 0 (opens (word 1)) (opens (word 2))) 2 }
-    ensures channel_changed { ¬ IsLegalSource channel_packets (two_beats 1 (on_channel 1 (opens (word 1))) (on_channel 0 (closes 0 (word 2)))) 2 }
-    ensures no_beginning { ¬ IsLegalSource channel_packets (two_beats 1 (word 1) (closes 0 (word 2))) 2 }
-    ensures begun_twice { ¬ IsLegalSource channel_packets (two_beats 1 (opens (word 1)) (opens (word 2))) 2 }
-    ensures all_empty { ¬ IsLegalSource channel_packets (two_beats 1 (opens (word 1)) (closes 1 (word 2))) 2 }
-    ensures channel_above { ¬ IsLegalSource channel_packets (two_beats 1 (on_channel 2 (opens (word 1))) (on_channel 2 (closes 0 (word 2)))) 2 }
-    ensures error_without_port { ¬ IsLegalSource channel_packets (two_beats 1 (with_error 1 (opens (word 1))) (closes 0 (word 2))) 2 }
-    ensures mark_without_packets { ¬ IsLegalSource (byte_side (later 0) 0) (two_beats 1 (opens (word 1)) (word 2)) 2 }
+    ensures legal { IsLegalSource channel_packets
+        (two_beats 1 (on_channel 1 (opens (word 1))) (on_channel 1 (closes 0 (word 2)))) 3 }
+    ensures waits { IsLegalSource channel_packets
+        (two_beats 0 (opens (word 1)) (opens (word 1))) 2 }
+    ensures beat_changed { ¬ IsLegalSource channel_packets
+        (two_beats 0 (opens (word 1)) (opens (word 2))) 2 }
+    ensures channel_changed { ¬ IsLegalSource channel_packets
+        (two_beats 1 (on_channel 1 (opens (word 1))) (on_channel 0 (closes 0 (word 2)))) 2 }
+    ensures no_beginning { ¬ IsLegalSource channel_packets
+        (two_beats 1 (word 1) (closes 0 (word 2))) 2 }
+    ensures begun_twice { ¬ IsLegalSource channel_packets
+        (two_beats 1 (opens (word 1)) (opens (word 2))) 2 }
+    ensures all_empty { ¬ IsLegalSource channel_packets
+        (two_beats 1 (opens (word 1)) (closes 1 (word 2))) 2 }
+    ensures channel_above { ¬ IsLegalSource channel_packets
+        (two_beats 1 (on_channel 2 (opens (word 1))) (on_channel 2 (closes 0 (word 2)))) 2 }
+    ensures error_without_port { ¬ IsLegalSource channel_packets
+        (two_beats 1 (with_error 1 (opens (word 1))) (closes 0 (word 2))) 2 }
+    ensures mark_without_packets { ¬ IsLegalSource (byte_side (later 0) 0)
+        (two_beats 1 (opens (word 1)) (word 2)) 2 }
 {}
 
 /// How many beats symbols fill or begin, that a stream whose source sees no ready idles, and that one
@@ -98,8 +117,12 @@ pub fn illegal_sources()
 pub fn standing_still()
     ensures one_packet { beats_begun 4 (transferred_symbols (packet_side 3) three_source 3) ≡ 2 }
     ensures two_packets { beats_begun 4 (transferred_symbols (packet_side 1) two_packets 5) ≡ 2 }
-    ensures shut_out { (window fifo_depth : ℕ) → 0 < window → ¬ NeverIdles window (plain_stream fifo_depth) shut_out window }
-    ensures swallowed { (window fifo_depth : ℕ) → 0 < window → ¬ NeverIdles window (plain_stream fifo_depth) swallowed (1 + window) }
-    ensures both_shut { (window fifo_depth : ℕ) → 0 < window → 0 < fifo_depth → ¬ NeverIdles window (plain_stream fifo_depth) both_shut window }
-    ensures lag { ¬ LagsWithin 0 (reaches (byte_side (later 0) 0)) (byte_side (later 0) 0) (byte_side (later 0) 0) swallowed.source swallowed.sink 1 }
+    ensures shut_out { (window fifo_depth : ℕ) → 0 < window
+        → ¬ NeverIdles window (plain_stream fifo_depth) shut_out window }
+    ensures swallowed { (window fifo_depth : ℕ) → 0 < window
+        → ¬ NeverIdles window (plain_stream fifo_depth) swallowed (1 + window) }
+    ensures both_shut { (window fifo_depth : ℕ) → 0 < window → 0 < fifo_depth
+        → ¬ NeverIdles window (plain_stream fifo_depth) both_shut window }
+    ensures lag { ¬ LagsWithin 0 (reaches (byte_side (later 0) 0)) (byte_side (later 0) 0)
+        (byte_side (later 0) 0) swallowed.source swallowed.sink 1 }
 {}
