@@ -56,8 +56,7 @@ abbrev pub stream_lag : Stream → ℕ
 stream_lag stream = stream.source.symbols * (larger_allowance stream + 3) + stream.sink.symbols * (stream.fifo_depth + 3)
 
 -- in the cycles before count the stream is served: the sink is given a prefix of what its channels let through, with
--- its errors, at most so late,
--- by the rules of ready, and dropped shows what doesn't reach it
+-- its errors and at most so late, by the rules of ready, and dropped shows what doesn't reach it
 pub record IsServed (stream : Stream) (run : StreamRun) (count : ℕ) : Type 0 where
   pub delivers : DeliversPrefix (reaches stream.sink) stream.source stream.sink run.source run.sink count
   pub lags : LagsWithin (stream_lag stream) (reaches stream.sink) stream.source stream.sink run.source run.sink count

@@ -18,7 +18,7 @@ beats_since_ready pace view zero = if is_high view.ready zero then 0 else (if is
 beats_since_ready pace view (suc c) =
     if is_high view.ready (suc c) then 0 else beats_since_ready pace view c + (if is_transfer pace view (suc c) then 1 else 0)
 
--- the allowance lasts: ready has been high, at least the latency ago, and no more beats came since it was last high
+-- the allowance lasts: ready has been high at least the latency ago, and at most so many beats came since it was last high
 abbrev pub is_allowed_late : Pace → EndView → ℕ → Bool
 is_allowed_late pace view c = nat_le pace.latency c && was_ready view (c - pace.latency) && nat_le (beats_since_ready pace view c) pace.allowance
 
