@@ -1,6 +1,6 @@
 //! The machines of the adapters, each with the law that it keeps.
 
-ghost use Rattle.std.specs.Prelude.{◌/◌, ◌%◌, ◌^◌, ◌++◌, List, length, ◌≡◌, ℕ, suc, ◌+◌, ◌-◌, ◌*◌, ◌<◌, ◌≤◌, Bool, true, false, IsTrue, IsFalse};
+ghost use Rattle.std.specs.Prelude.{◌/◌, ◌%◌, ◌^◌, ◌++◌, List, length, ◌≡◌, ℕ, ◌+◌, ◌*◌, ◌<◌, ◌≤◌, Bool, true, false, IsTrue, IsFalse};
 ghost use Rattle.stream_runs.specs.View.{Side, EndView, Beat, beat_at, is_high};
 ghost use Rattle.stream_runs.specs.Symbols.{Symbol, value_of, symbols_of, symbol_count};
 ghost use Rattle.stream_runs.specs.Source.{IsLegalSource};

@@ -1,6 +1,6 @@
 //! The symbols of a beat and the errors of beats, computed.
 
-ghost use Rattle.std.specs.Prelude.{ℕ, ◌*◌, ◌<◌, ◌≤◌, ◌≡◌, ◌==◌, List, map, fold, bit_or};
+ghost use Rattle.std.specs.Prelude.{◌*◌, ◌<◌, ◌≤◌, ◌≡◌, ◌==◌, List, map, fold, bit_or};
 ghost use Rattle.stream_runs.specs.View.{Beat, Side};
 ghost use Rattle.stream_runs.specs.Symbols.{Symbol, symbol_count, value_of, joined_error};
 

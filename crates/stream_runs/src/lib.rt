@@ -4,12 +4,12 @@
 pub mod beat;
 pub mod rows;
 
-ghost use Rattle.std.specs.Prelude.{ℕ, ◌≤◌, ◌<◌, ◌≡◌, Bool, List, length, IsTrue};
+ghost use Rattle.std.specs.Prelude.{ℕ, ◌≤◌, ◌<◌, ◌≡◌, Bool};
 ghost use Rattle.histories.specs.History.{IsPrefix};
 ghost use Rattle.stream_runs.specs.View.{EndView, Side};
 ghost use Rattle.stream_runs.specs.Source.{IsLegalSource, IsProperAtSink};
 ghost use Rattle.stream_runs.specs.Symbols.{accepted_symbols, kept_symbols};
-ghost use Rattle.stream_runs.specs.Delivery.{DeliversPrefix, LagsWithin, ShowsDropped, Stream, StreamRun, IsServed};
+ghost use Rattle.stream_runs.specs.Delivery.{DeliversPrefix, Stream, StreamRun, IsServed};
 ghost use Rattle.stream_runs.specs.Awake.{NeverIdles, stream_window};
 ghost use Rattle.stream_runs.specs.Ends.{Declared, Signals, side_of, view_of, stream_of, run_of, AreAlike, IsWire, byte_packets, packet_signals};
 

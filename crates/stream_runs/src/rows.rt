@@ -1,12 +1,11 @@
 //! Runs that were worked out by hand meet the definitions, and runs with a fault don't.
 
-ghost use Rattle.std.specs.Prelude.{ℕ, ◌+◌, [], ◌∷◌, ◌≤◌, ◌<◌, ◌≡◌, true, false};
-ghost use Rattle.stream_runs.specs.View.{Beat, Side};
+ghost use Rattle.std.specs.Prelude.{ℕ, ◌+◌, [], ◌∷◌, ◌<◌, ◌≡◌, true};
 ghost use Rattle.stream_runs.specs.Source.{IsLegalSource, IsProperAtSink};
 ghost use Rattle.stream_runs.specs.Symbols.{transferred_symbols};
-ghost use Rattle.stream_runs.specs.Delivery.{DeliversPrefix, LagsWithin, ShowsDropped, Stream, StreamRun, IsServed, reaches, stream_lag};
+ghost use Rattle.stream_runs.specs.Delivery.{LagsWithin, ShowsDropped, IsServed, reaches};
 ghost use Rattle.stream_runs.specs.Awake.{NeverIdles, beats_begun};
-ghost use Rattle.stream_runs.specs.Rows.{IsDelivered, always, never, signal_of, word, on_channel, with_error, opens, closes, later, packet_side, byte_side, pair_side, three_source, four_sink, three_to_four, three_to_four_run, swapped_sink, late_mark_sink, lost_beat_sink, hasty_sink, short_source, four_to_one, four_to_one_run, single_sink, padded_sink, hollow_sink, one_word, high_to_low, high_to_low_run, channel_source, fewer_channels, channel_run, filtered_sink, cut_sink, cut_sink_so_far, late_source, late_to_direct, late_run, stalled_sink, losing_sink, doubling_sink, changing_sink, withdrawing_sink, bold_side, bold_source, channel_packets, two_beats, two_packets, plain_stream, shut_out, swallowed, both_shut, byte_wire, packet, swapped_packet, hurried_packet, overrun_packet};
+ghost use Rattle.stream_runs.specs.Rows.{IsDelivered, never, signal_of, word, on_channel, with_error, opens, closes, later, packet_side, byte_side, pair_side, three_source, four_sink, three_to_four, three_to_four_run, swapped_sink, late_mark_sink, lost_beat_sink, hasty_sink, short_source, four_to_one, four_to_one_run, single_sink, padded_sink, hollow_sink, one_word, high_to_low, high_to_low_run, channel_source, fewer_channels, channel_run, filtered_sink, cut_sink, cut_sink_so_far, late_source, late_to_direct, late_run, stalled_sink, losing_sink, doubling_sink, changing_sink, withdrawing_sink, bold_side, bold_source, channel_packets, two_beats, two_packets, plain_stream, shut_out, swallowed, both_shut, byte_wire, packet, swapped_packet, hurried_packet, overrun_packet};
 ghost use Rattle.stream_runs.specs.Ends.{side_of, view_of, run_of, byte_packets};
 
 /// A wire of byte packets, and wires with a fault.
