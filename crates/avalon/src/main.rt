@@ -1,0 +1,29 @@
+//! The program: reads the words, runs them over files and standard output, and ends with the status.
+#![tactic(auto)]
+
+use av_base::{DirShelf, StdSink};
+use avalon_top::{Exit, run};
+use std::process::ExitCode;
+use std::rt::{Env, Files};
+use std::{env, io};
+
+/// The words after the program's name.
+fn words_given<R: Env + AllocGlobal>(rt: &R) -> io::Result<Vec<String>> {
+    Ok(env::args(rt)?.skip(1).collect(rt.alloc())?)
+}
+
+fn answer<R: Files + Print + AllocGlobal>(rt: &R, words: &[String]) -> Exit {
+    let mut shelf = DirShelf::new(rt, words);
+    let mut sink = StdSink::new(io::writer(rt));
+    run(rt.alloc(), words, &mut shelf, &mut sink)
+}
+
+fn main(rt: HostRuntime) -> ExitCode {
+    let exit = match words_given(&rt) {
+        Ok(words) => answer(&rt, words.as_slice()),
+        Err(error) if error.kind() == io::ErrorKind::OutOfMemory => Exit::NoMemory,
+        // A word that is no text has no reading, nor have the words that it stands among.
+        Err(_) => answer(&rt, &[]),
+    };
+    ExitCode::from(exit.status())
+}
