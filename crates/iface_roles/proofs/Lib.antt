@@ -1,0 +1,4 @@
+pub mod KindLemmas
+pub mod NameLemmas
+pub mod PropertyLemmas
+pub mod RoleLemmas

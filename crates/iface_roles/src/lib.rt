@@ -1,0 +1,11 @@
+//! Roles, properties, and one interface of a component.
+#![tactic(auto)]
+
+mod kinds;
+mod names;
+mod properties;
+mod roles;
+
+pub use kinds::{Kind, PortDirection, Side};
+pub use properties::{Property, PropertyId, property_of};
+pub use roles::{Role, role_of};

@@ -1,0 +1,177 @@
+ghost use Rattle.std.specs.Prelude.{◌≡◌, ◌↔◌, find};
+ghost use Rattle.iface_roles.specs.Names.{same_name};
+ghost use Rattle.iface_roles.specs.Roles.{role_row, all_roles, IsNamed};
+
+use crate::kinds::Kind;
+use crate::names::same_name;
+
+/// What a port of a memory-mapped or a streaming interface is for. The order is that of the ports in a header.
+#[derive(Clone, Copy, Debug, PartialEq, Eq)]
+pub enum Role {
+    Address,
+    Read,
+    Write,
+    WriteData,
+    ByteEnable,
+    BurstCount,
+    WaitRequest,
+    ReadData,
+    ReadDataValid,
+    Response,
+    WriteResponseValid,
+    Lock,
+    DebugAccess,
+    BeginBurstTransfer,
+    Ready,
+    Valid,
+    Data,
+    Channel,
+    Error,
+    StartOfPacket,
+    EndOfPacket,
+    Empty,
+}
+
+/// The side that drives a port.
+#[derive(Clone, Copy, Debug, PartialEq, Eq)]
+pub(crate) enum Driver {
+    ByStart,
+    ByEnd,
+    ByEither,
+}
+
+/// The widths that a port may have.
+#[derive(Clone, Copy, Debug, PartialEq, Eq)]
+pub(crate) enum Widths {
+    /// From the first number to the second.
+    From(u32, u32),
+    /// 8, 16, 32, 64 or 128 bits.
+    Word,
+    /// A bit for each byte of the word.
+    Lanes,
+    /// The symbols of a beat times their bits.
+    Symbols,
+    /// Enough bits to count the symbols of a beat, and at most 8.
+    EmptySymbols,
+    AnyWidth,
+}
+
+/// What is fixed of a role.
+#[derive(Clone, Copy, Debug)]
+pub(crate) struct Row {
+    pub name: &'static str,
+    pub kind: Kind,
+    pub driver: Driver,
+    pub widths: Widths,
+}
+
+const fn mm(name: &'static str, driver: Driver, widths: Widths) -> Row
+    ensures name { result.name.now ≡ name.now }
+    ensures kind { result.kind ≡ Kind.Mm }
+    ensures driver { result.driver ≡ driver }
+    ensures widths { result.widths ≡ widths }
+{
+    Row {
+        name,
+        kind: Kind::Mm,
+        driver,
+        widths,
+    }
+}
+
+const fn stream(name: &'static str, driver: Driver, widths: Widths) -> Row
+    ensures name { result.name.now ≡ name.now }
+    ensures kind { result.kind ≡ Kind.Stream }
+    ensures driver { result.driver ≡ driver }
+    ensures widths { result.widths ≡ widths }
+{
+    Row {
+        name,
+        kind: Kind::Stream,
+        driver,
+        widths,
+    }
+}
+
+impl Role {
+    pub(crate) const ALL: [Role; 22] = [
+        Role::Address,
+        Role::Read,
+        Role::Write,
+        Role::WriteData,
+        Role::ByteEnable,
+        Role::BurstCount,
+        Role::WaitRequest,
+        Role::ReadData,
+        Role::ReadDataValid,
+        Role::Response,
+        Role::WriteResponseValid,
+        Role::Lock,
+        Role::DebugAccess,
+        Role::BeginBurstTransfer,
+        Role::Ready,
+        Role::Valid,
+        Role::Data,
+        Role::Channel,
+        Role::Error,
+        Role::StartOfPacket,
+        Role::EndOfPacket,
+        Role::Empty,
+    ];
+
+    /// The table of roles.
+    pub(crate) fn row(self) -> Row
+        ensures name { result.name.now ≡ (role_row self).name }
+        ensures kind { result.kind ≡ (role_row self).kind }
+        ensures driver { result.driver ≡ (role_row self).driver }
+        ensures widths { result.widths ≡ (role_row self).widths }
+    {
+        use Driver::{ByEither, ByEnd, ByStart};
+        use Widths::{AnyWidth, EmptySymbols, From, Lanes, Symbols, Word};
+        match self {
+            Role::Address => mm("address", ByStart, From(1, 32)),
+            Role::Read => mm("read", ByStart, From(1, 1)),
+            Role::Write => mm("write", ByStart, From(1, 1)),
+            Role::WriteData => mm("writedata", ByStart, Word),
+            Role::ByteEnable => mm("byteenable", ByStart, Lanes),
+            Role::BurstCount => mm("burstcount", ByStart, From(1, 11)),
+            Role::WaitRequest => mm("waitrequest", ByEnd, From(1, 1)),
+            Role::ReadData => mm("readdata", ByEnd, Word),
+            Role::ReadDataValid => mm("readdatavalid", ByEnd, From(1, 1)),
+            Role::Response => mm("response", ByEnd, From(2, 2)),
+            Role::WriteResponseValid => mm("writeresponsevalid", ByEither, AnyWidth),
+            Role::Lock => mm("lock", ByEither, AnyWidth),
+            Role::DebugAccess => mm("debugaccess", ByEither, AnyWidth),
+            Role::BeginBurstTransfer => mm("beginbursttransfer", ByEither, AnyWidth),
+            Role::Ready => stream("ready", ByEnd, From(1, 1)),
+            Role::Valid => stream("valid", ByStart, From(1, 1)),
+            Role::Data => stream("data", ByStart, Symbols),
+            Role::Channel => stream("channel", ByStart, From(1, 16)),
+            Role::Error => stream("error", ByStart, From(1, 32)),
+            Role::StartOfPacket => stream("startofpacket", ByStart, From(1, 1)),
+            Role::EndOfPacket => stream("endofpacket", ByStart, From(1, 1)),
+            Role::Empty => stream("empty", ByStart, EmptySymbols),
+        }
+    }
+
+    fn is_named(self, text: &str) -> bool
+        ensures { result ≡ same_name (role_row self).name text.now }
+    {
+        same_name(self.row().name, text)
+    }
+}
+
+fn find_named(text: &str) -> Option<Role>
+    ensures { result ≡ find (λ role. same_name (role_row role).name text.now) all_roles }
+{
+    Role::ALL.iter().copied().find(|role| role.is_named(text))
+}
+
+/// The role that `text` names in interfaces of `kind`, without regard to the case of ASCII letters.
+/// Clock, reset, conduit and interrupt interfaces have none.
+pub fn role_of(kind: Kind, text: &str) -> Option<Role>
+    ensures { (role : Role) → (result ≡ Some role) ↔ IsNamed kind role text.now }
+{
+    let role = find_named(text)?;
+    (role.row().kind == kind).then_some(role)
+}
