@@ -1,11 +1,13 @@
 //! Roles, properties, and one interface of a component.
 #![tactic(auto)]
 
+mod interface;
 mod kinds;
 mod names;
 mod properties;
 mod roles;
 
+pub use interface::Interface;
 pub use kinds::{Kind, PortDirection, Side};
 pub use properties::{Property, PropertyId, property_of};
 pub use roles::{Role, role_of};

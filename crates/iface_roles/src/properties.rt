@@ -1,4 +1,4 @@
-ghost use Rattle.std.specs.Prelude.{◌≡◌, ◌↔◌, IsTrue, find};
+ghost use Rattle.std.specs.Prelude.{◌≡◌, ◌↔◌, ◌<◌, IsTrue, find};
 ghost use Rattle.std.specs.List.{list_any};
 ghost use Rattle.iface_roles.specs.Kinds.{is_avalon};
 ghost use Rattle.iface_roles.specs.Names.{same_name};
@@ -16,7 +16,7 @@ ghost use Rattle.iface_roles.specs.Properties.{
   IsInRange,
 };
 
-use crate::kinds::Kind;
+use crate::kinds::{Kind, Side};
 use crate::names::same_name;
 
 /// A property of memory-mapped and streaming interfaces.
@@ -85,6 +85,27 @@ pub(crate) enum Values {
     ClockName,
 }
 
+impl Values {
+    fn least(self) -> u32
+        ensures { result ≡ least_of self }
+    {
+        match self {
+            Values::Number(low, _) => low,
+            _ => 0,
+        }
+    }
+
+    fn greatest(self) -> u32
+        ensures { result ≡ greatest_of self }
+    {
+        match self {
+            Values::Number(_, high) => high,
+            Values::Any | Values::ClockName => u32::MAX,
+            Values::Truth | Values::Units | Values::Time | Values::Alignment => 1,
+        }
+    }
+}
+
 /// The value of a property that isn't set.
 #[derive(Clone, Copy, Debug, PartialEq, Eq)]
 pub(crate) enum Default {
@@ -93,6 +114,20 @@ pub(crate) enum Default {
     BySide(u32, u32),
     /// Another port or property decides it.
     Computed,
+}
+
+impl Default {
+    /// The default at a side; 0 where it is computed.
+    pub(crate) fn at(self, side: Side) -> u32
+        ensures { result ≡ fixed_default self side }
+    {
+        match (self, side) {
+            (Default::Fixed(number), _) => number,
+            (Default::BySide(start, _), Side::Start) => start,
+            (Default::BySide(_, end), Side::End) => end,
+            (Default::Computed, _) => 0,
+        }
+    }
 }
 
 /// What is fixed of a property.
@@ -164,6 +199,8 @@ const PASSED_OVER: [&str; 25] = [
 ];
 
 impl PropertyId {
+    ghost use Rattle.iface_roles.specs.Held.{property_place};
+
     pub(crate) const ALL: [PropertyId; 26] = [
         PropertyId::AddressUnits,
         PropertyId::ReadLatency,
@@ -252,6 +289,22 @@ impl PropertyId {
             AssociatedClock => named("associatedClock", OfBoth, ClockName, Fixed(0)),
             Enabled => named("ENABLED", OfBoth, Truth, Fixed(1)),
         }
+    }
+
+    /// The place of the property's row in the table.
+    pub(crate) fn place(self) -> usize
+        ensures value { result ≡ property_place self }
+        ensures in_table { result < 26 }
+    {
+        self as usize
+    }
+
+    /// Whether the number is within the property's range.
+    pub(crate) fn allows(self, number: u32) -> bool
+        ensures { IsTrue result ↔ IsInRange self number }
+    {
+        let values = self.row().values;
+        values.least() <= number && number <= values.greatest()
     }
 
     fn is_called(self, text: &str) -> bool

@@ -1,4 +1,4 @@
-ghost use Rattle.std.specs.Prelude.{◌≡◌, ◌↔◌, find};
+ghost use Rattle.std.specs.Prelude.{◌≡◌, ◌↔◌, ◌<◌, find};
 ghost use Rattle.iface_roles.specs.Names.{same_name};
 ghost use Rattle.iface_roles.specs.Roles.{role_row, all_roles, IsNamed};
 
@@ -94,6 +94,8 @@ const fn stream(name: &'static str, driver: Driver, widths: Widths) -> Row
 }
 
 impl Role {
+    ghost use Rattle.iface_roles.specs.Held.{role_place};
+
     pub(crate) const ALL: [Role; 22] = [
         Role::Address,
         Role::Read,
@@ -152,6 +154,14 @@ impl Role {
             Role::EndOfPacket => stream("endofpacket", ByStart, From(1, 1)),
             Role::Empty => stream("empty", ByStart, EmptySymbols),
         }
+    }
+
+    /// The place of the role's row in the table.
+    pub(crate) fn place(self) -> usize
+        ensures value { result ≡ role_place self }
+        ensures in_table { result < 22 }
+    {
+        self as usize
     }
 
     fn is_named(self, text: &str) -> bool
