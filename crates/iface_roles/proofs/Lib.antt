@@ -3,3 +3,4 @@ pub mod KindLemmas
 pub mod NameLemmas
 pub mod PropertyLemmas
 pub mod RoleLemmas
+pub mod RuleLemmas

@@ -2,4 +2,6 @@ pub mod Held
 pub mod Kinds
 pub mod Names
 pub mod Properties
+pub mod Records
 pub mod Roles
+pub mod Rules

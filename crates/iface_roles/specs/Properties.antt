@@ -132,3 +132,8 @@ fixed_default (Fixed n) side = n
 fixed_default (BySide host agent) Start = host
 fixed_default (BySide host agent) End = agent
 fixed_default Computed side = 0
+
+abbrev pub is_computed : Default → Bool
+is_computed Computed = true
+is_computed (Fixed n) = false
+is_computed (BySide host agent) = false

@@ -1,5 +1,5 @@
-ghost use Rattle.std.specs.Prelude.{◌≡◌, ◌↔◌, ◌<◌, ◌≤◌, IsTrue, None, Some, if◌then◌else◌};
-ghost use Rattle.iface_roles.specs.Properties.{property_row, greatest_of, is_of, IsInRange};
+ghost use Rattle.std.specs.Prelude.{◌≡◌, ◌↔◌, ◌<◌, ◌≤◌, IsTrue, false, None, Some, if◌then◌else◌};
+ghost use Rattle.iface_roles.specs.Properties.{property_row, least_of, greatest_of, is_computed, is_of, IsInRange};
 ghost use Rattle.iface_roles.specs.Roles.{role_row};
 
 use crate::kinds::{Kind, PortDirection, Side};
@@ -93,6 +93,18 @@ impl Interface {
         true
     }
 
+    pub(crate) fn kind(&self) -> Kind
+        ensures { result ≡ self.now.kind }
+    {
+        self.kind
+    }
+
+    pub(crate) fn side(&self) -> Side
+        ensures { result ≡ self.now.side }
+    {
+        self.side
+    }
+
     pub(crate) fn port(&self, role: Role) -> Option<Port>
         ensures { result ≡ port_of self.now role }
     {
@@ -120,7 +132,8 @@ impl Interface {
 
     pub(crate) fn setting(&self, id: PropertyId) -> u32
         ensures value { result ≡ setting_of self.now id }
-        ensures range { result ≤ greatest_of (property_row id).values }
+        ensures low { is_computed (property_row id).default ≡ false → least_of (property_row id).values ≤ result }
+        ensures high { result ≤ greatest_of (property_row id).values }
     {
         self.settings[id.place()].unwrap_or(id.row().default.at(self.side))
     }

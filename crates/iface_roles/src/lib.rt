@@ -5,9 +5,12 @@ mod interface;
 mod kinds;
 mod names;
 mod properties;
+mod records;
 mod roles;
+mod rules;
 
 pub use interface::Interface;
 pub use kinds::{Kind, PortDirection, Side};
 pub use properties::{Property, PropertyId, property_of};
+pub use records::{AgentPort, Finished, HostPort, SinkPort, SourcePort};
 pub use roles::{Role, role_of};
