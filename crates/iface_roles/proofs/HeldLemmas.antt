@@ -1,5 +1,5 @@
 -- Settings by the place of their property.
-use Rattle.std.proofs.Common.{◌≡◌, ◌≢◌, ℕ, List, [], ◌∷◌, Option, Some, None, get_or, zero, suc, set, refl, ap, sym, ◌∙◌, subst, eqb, Bool, true, false, get_or-set_other}
+use Rattle.std.proofs.Common.{◌≡◌, ◌≢◌, ℕ, List, [], ◌∷◌, Option, Some, None, get_or, zero, suc, set, refl, ap, sym, ◌∙◌, subst, eqb, true, false, get_or-set_other}
 use Rattle.std.specs.Prelude.{slice_get, slice_set}
 use Rattle.std.proofs.lemmas.Bool.Decides.{Decides-eqb, not_from_Decides}
 use Rattle.iface_roles.specs.Held.{property_place, AreInRange}

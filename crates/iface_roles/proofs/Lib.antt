@@ -1,3 +1,4 @@
+pub mod FitLemmas
 pub mod HeldLemmas
 pub mod KindLemmas
 pub mod NameLemmas

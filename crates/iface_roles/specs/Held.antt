@@ -1,5 +1,5 @@
 -- What an interface holds: its ports by role, and its settings by property.
-use Rattle.std.specs.Prelude.{◌≡◌, ◌+◌, ℕ, Bool, true, false, List, Option, Some, None, replicate, slice_index_or, slice_set, is_some, unwrap_or, if◌then◌else◌}
+use Rattle.std.specs.Prelude.{ℕ, Bool, true, false, List, Option, Some, None, replicate, slice_index_or, slice_set, is_some, unwrap_or, if◌then◌else◌}
 use Rattle.std.specs.Option.{option_map_or, ForSome}
 use Rattle.iface_roles.specs.declared.interface.Port.{Port}
 use Rattle.iface_roles.specs.declared.kinds.Kind.{Kind}

@@ -1,5 +1,5 @@
 -- The record of an interface that keeps the rules: a function of what it holds.
-use Rattle.std.specs.Prelude.{◌≡◌, ◌≤◌, ℕ, Bool, true, false, ◌&&◌, ◌||◌, not, ◌==◌, nat_lt, Option, Some, None, unwrap_or, if◌then◌else◌}
+use Rattle.std.specs.Prelude.{◌≤◌, ℕ, Bool, ◌||◌, ◌==◌, nat_lt, unwrap_or, if◌then◌else◌}
 use Rattle.iface_roles.specs.declared.kinds.Kind.{Kind}
 use Rattle.iface_roles.specs.declared.kinds.Kind.TheVariants.{Clock, Reset, Mm, Stream, Conduit, Interrupt}
 use Rattle.iface_roles.specs.declared.kinds.Side.{Side}
@@ -44,6 +44,13 @@ host_of i = record {
   wraps = is_true i LinewrapBursts;
 }
 
+-- it has a port that no connection takes at an agent
+abbrev pub is_left_out_agent : Held → Bool
+is_left_out_agent i = has i Lock || has i DebugAccess || has i BeginBurstTransfer
+
+abbrev pub has_setup_or_hold : Held → Bool
+has_setup_or_hold i = nat_lt 0 (setting_of i SetupTime) || nat_lt 0 (setting_of i HoldTime)
+
 abbrev pub agent_of : Held → AgentPort
 agent_of i = record {
   address_bits = width_of i Address;
@@ -56,7 +63,7 @@ agent_of i = record {
   valid = has i ReadDataValid;
   waits = has i WaitRequest;
   response = has i Response;
-  left_out = has i Lock || has i DebugAccess || has i BeginBurstTransfer;
+  left_out = is_left_out_agent i;
   write_response = has i WriteResponseValid;
   allowance = setting_of i WaitRequestAllowance;
   wraps = is_true i LinewrapBursts;

@@ -1,14 +1,16 @@
-ghost use Rattle.std.specs.Prelude.{◌≡◌, ◌<◌, ◌≤◌, MatchResult, IfOk, IfErr};
+ghost use Rattle.std.specs.Prelude.{◌≡◌, ◌<◌, ◌≤◌, IfOk, IfErr};
 ghost use Rattle.iface_roles.specs.Held.{has, width_of, setting_of};
 ghost use Rattle.iface_roles.specs.Properties.{property_row, greatest_of};
 ghost use Rattle.iface_roles.specs.Records.{
   is_true,
   host_of,
   agent_of,
+  is_left_out_agent,
+  has_setup_or_hold,
   source_of,
   sink_of,
-  finished,
   allowance_of,
+  finished,
   FitsMm,
   FitsStream,
 };
@@ -176,6 +178,121 @@ impl Interface {
             write_response: self.has(Role::WriteResponseValid),
             allowance: self.setting(PropertyId::WaitRequestAllowance),
             wraps: self.is_true(PropertyId::LinewrapBursts),
+        }
+    }
+
+    fn agent(&self) -> AgentPort
+        requires { FitsMm self.now }
+        ensures { result ≡ agent_of self.now }
+    {
+        AgentPort {
+            address_bits: self.bits(Role::Address),
+            byte_units: self.counts_bytes(),
+            word_bytes: self.word_bytes() as u8,
+            reads: self.has(Role::Read),
+            writes: self.has(Role::Write),
+            enables: self.has(Role::ByteEnable),
+            burst_bits: self.bits(Role::BurstCount),
+            valid: self.has(Role::ReadDataValid),
+            waits: self.has(Role::WaitRequest),
+            response: self.has(Role::Response),
+            left_out: self.is_left_out_agent(),
+            write_response: self.has(Role::WriteResponseValid),
+            allowance: self.setting(PropertyId::WaitRequestAllowance),
+            wraps: self.is_true(PropertyId::LinewrapBursts),
+            boundaries: self.is_true(PropertyId::BurstOnBurstBoundariesOnly),
+            read_latency: self.small_setting(PropertyId::ReadLatency),
+            read_wait: self.small_setting(PropertyId::ReadWaitTime),
+            write_wait: self.small_setting(PropertyId::WriteWaitTime),
+            pending: self.small_setting(PropertyId::MaximumPendingReadTransactions),
+            setup_hold: self.has_setup_or_hold(),
+        }
+    }
+
+    fn is_left_out_agent(&self) -> bool
+        ensures { result ≡ is_left_out_agent self.now }
+    {
+        self.has(Role::Lock) || self.has(Role::DebugAccess) || self.has(Role::BeginBurstTransfer)
+    }
+
+    fn has_setup_or_hold(&self) -> bool
+        ensures { result ≡ has_setup_or_hold self.now }
+    {
+        self.setting(PropertyId::SetupTime) > 0 || self.setting(PropertyId::HoldTime) > 0
+    }
+
+    fn source(&self) -> SourcePort
+        requires { FitsStream self.now }
+        ensures { result ≡ source_of self.now }
+    {
+        SourcePort {
+            symbols: self.symbols() as u8,
+            symbol_bits: self.symbol_bits() as u16,
+            first_high: self.is_true(PropertyId::FirstSymbolInHighOrderBits),
+            ready: self.has(Role::Ready),
+            latency: self.small_setting(PropertyId::ReadyLatency),
+            allowance: self.allowance(),
+            channel_bits: self.bits(Role::Channel),
+            max_channel: self.setting(PropertyId::MaxChannel),
+            error_bits: self.bits(Role::Error),
+            packets: self.has(Role::StartOfPacket),
+            empty_bits: self.bits(Role::Empty),
+        }
+    }
+
+    fn sink(&self) -> SinkPort
+        requires { FitsStream self.now }
+        ensures { result ≡ sink_of self.now }
+    {
+        SinkPort {
+            symbols: self.symbols() as u8,
+            symbol_bits: self.symbol_bits() as u16,
+            first_high: self.is_true(PropertyId::FirstSymbolInHighOrderBits),
+            ready: self.has(Role::Ready),
+            latency: self.small_setting(PropertyId::ReadyLatency),
+            allowance: self.allowance(),
+            channel_bits: self.bits(Role::Channel),
+            max_channel: self.setting(PropertyId::MaxChannel),
+            error_bits: self.bits(Role::Error),
+            packets: self.has(Role::StartOfPacket),
+            empty_bits: self.bits(Role::Empty),
+        }
+    }
+
+    /// A ready allowance of 0 stands for the ready latency, as one that isn't set.
+    fn allowance(&self) -> u8
+        ensures { result ≡ allowance_of self.now }
+    {
+        let allowance = self.small_setting(PropertyId::ReadyAllowance);
+        if allowance == 0 {
+            self.small_setting(PropertyId::ReadyLatency)
+        } else {
+            allowance
+        }
+    }
+
+    fn record(&self) -> Finished
+        requires { KeepsRules self.now }
+        ensures { result ≡ finished self.now }
+    {
+        match (self.kind(), self.side()) {
+            (Kind::Mm, Side::Start) => Finished::Host(self.host()),
+            (Kind::Mm, Side::End) => Finished::Agent(self.agent()),
+            (Kind::Stream, Side::Start) => Finished::Source(self.source()),
+            (Kind::Stream, Side::End) => Finished::Sink(self.sink()),
+            _ => Finished::Other,
+        }
+    }
+
+    /// The record of the interface, or the number of the least of the rules I1 to I14 that fails. Whether the
+    /// interface's clock is there, a part of I14, is judged elsewhere.
+    pub fn finish(&self) -> Result<Finished, u8>
+        ensures accepted { IfOk result (λ known. KeepsRules self.now × (known ≡ finished self.now)) }
+        ensures refused { IfErr result (IsLeastBroken self.now) }
+    {
+        match self.first_broken() {
+            Some(rule) => Err(rule),
+            None => Ok(self.record()),
         }
     }
 }

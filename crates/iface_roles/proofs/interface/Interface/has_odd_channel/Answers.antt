@@ -1,7 +1,5 @@
-use Rattle.std.proofs.Common.{◌≡◌, Bool, true, false, Decides, sym, ◌∙◌, nat_lt, arith}
+use Rattle.std.proofs.Common.{◌≡◌, false, sym, ◌∙◌, nat_lt, arith}
 use Rattle.std.proofs.lemmas.Bool.Decides.{nat_tests}
-use Rattle.iface_roles.specs.Held.{has}
-use Rattle.iface_roles.specs.declared.roles.Role.TheVariants.{Channel}
 use Rattle.iface_roles.proofs.RuleLemmas.{has_odd_channel-wide}
 use Rattle.iface_roles.proofs.interface.Interface.has_odd_channel.Goals as goal
 

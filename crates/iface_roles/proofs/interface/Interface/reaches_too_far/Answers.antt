@@ -1,4 +1,4 @@
-use Rattle.std.proofs.Common.{◌≡◌, ◌<◌, sym, ap, subst, ◌∙◌, nat_lt, arith}
+use Rattle.std.proofs.Common.{◌<◌, sym, ap, ◌∙◌, nat_lt, arith}
 use Rattle.iface_roles.specs.Held.{width_of}
 use Rattle.iface_roles.specs.declared.roles.Role.TheVariants.{Address}
 use Rattle.iface_roles.proofs.RuleLemmas.{reaches_too_far-bytes, reaches_too_far-words}
