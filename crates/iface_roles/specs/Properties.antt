@@ -1,18 +1,20 @@
 -- The table of properties.
-use Rattle.std.specs.Prelude.{◌≤◌, ◌⊎◌, ℕ, Bool, true, false, ◌||◌, not, IsTrue, List, [], ◌∷◌, codes}
+use Rattle.std.specs.Prelude.{◌≡◌, ◌≤◌, ◌⊎◌, ℕ, Bool, true, false, ◌||◌, not, IsTrue, List, [], ◌∷◌, Option, Some, None, codes, if◌then◌else◌}
 use Rattle.std.specs.List.{list_any}
+use Rattle.std.specs.Option.{option_or}
 use Rattle.iface_roles.specs.declared.kinds.Kind.{Kind}
 use Rattle.iface_roles.specs.declared.kinds.Kind.TheVariants.{Mm, Stream}
 use Rattle.iface_roles.specs.declared.kinds.Side.{Side}
 use Rattle.iface_roles.specs.declared.kinds.Side.TheVariants.{Start, End}
 use Rattle.iface_roles.specs.declared.properties.PropertyId.{PropertyId}
 use Rattle.iface_roles.specs.declared.properties.PropertyId.TheVariants.{AddressUnits, ReadLatency, ReadWaitTime, WriteWaitTime, MaximumPendingReadTransactions, WaitRequestAllowance, SetupTime, HoldTime, ExplicitAddressSpan, BitsPerSymbol, BurstCountUnits, TimingUnits, AddressAlignment, LinewrapBursts, BurstOnBurstBoundariesOnly, IsBigEndian, SymbolsPerBeat, DataBitsPerSymbol, FirstSymbolInHighOrderBits, MaxChannel, ReadyLatency, ReadyAllowance, BeatsPerCycle, EmptyWithinPacket, AssociatedClock, Enabled}
+use Rattle.iface_roles.specs.declared.properties.Row.{Row}
 use Rattle.iface_roles.specs.declared.properties.Kinds.{Kinds}
 use Rattle.iface_roles.specs.declared.properties.Kinds.TheVariants.{OfMm, OfStream, OfBoth}
 use Rattle.iface_roles.specs.declared.properties.Values.{Values}
 use Rattle.iface_roles.specs.declared.properties.Values.TheVariants.{Number, Any, Truth, Units, Time, Alignment, ClockName}
-use Rattle.iface_roles.specs.declared.properties.Default.{Default}
-use Rattle.iface_roles.specs.declared.properties.Default.TheVariants.{Fixed, BySide, Computed}
+use Rattle.iface_roles.specs.declared.properties.DefaultValue.{DefaultValue}
+use Rattle.iface_roles.specs.declared.properties.DefaultValue.TheVariants.{Fixed, BySide, Computed}
 use Rattle.iface_roles.specs.Kinds.{is_avalon}
 use Rattle.iface_roles.specs.Names.{same_name}
 
@@ -23,13 +25,21 @@ pub record PropertyRow : Type 0 where
   pub synonym : List ℕ
   pub kinds : Kinds
   pub values : Values
-  pub default : Default
+  pub default : DefaultValue
 
-abbrev pub row : List ℕ → Kinds → Values → Default → PropertyRow
+abbrev pub row : List ℕ → Kinds → Values → DefaultValue → PropertyRow
 row n k v d = record { name = n; synonym = n; kinds = k; values = v; default = d }
 
-abbrev pub row_also : List ℕ → List ℕ → Kinds → Values → Default → PropertyRow
+abbrev pub row_also : List ℕ → List ℕ → Kinds → Values → DefaultValue → PropertyRow
 row_also n s k v d = record { name = n; synonym = s; kinds = k; values = v; default = d }
+
+-- what code keeps as a row is the row
+pub record IsRow (kept : Row) (table : PropertyRow) : Type 0 where
+  pub name : kept.name.now ≡ table.name
+  pub synonym : kept.synonym.now ≡ table.synonym
+  pub kinds : kept.kinds ≡ table.kinds
+  pub values : kept.values ≡ table.values
+  pub default : kept.default ≡ table.default
 
 abbrev pub property_row : PropertyId → PropertyRow
 property_row AddressUnits = row (codes "addressUnits") OfMm Units (BySide 1 0)
@@ -127,13 +137,28 @@ pub record IsInRange (id : PropertyId) (number : ℕ) : Type 0 where
   pub high : number ≤ greatest_of (property_row id).values
 
 -- what the property is where it isn't set, and no other port or property decides it
-abbrev pub fixed_default : Default → Side → ℕ
+abbrev pub fixed_default : DefaultValue → Side → ℕ
 fixed_default (Fixed n) side = n
 fixed_default (BySide host agent) Start = host
 fixed_default (BySide host agent) End = agent
 fixed_default Computed side = 0
 
-abbrev pub is_computed : Default → Bool
+abbrev pub is_computed : DefaultValue → Bool
 is_computed Computed = true
 is_computed (Fixed n) = false
 is_computed (BySide host agent) = false
+
+-- the number of the text among two words
+abbrev pub which : List ℕ → List ℕ → List ℕ → Option ℕ
+which zero one text =
+    if same_name zero text then Some 0 else (if same_name one text then Some 1 else None)
+
+-- the number that a word stands for, where the values are words
+abbrev pub number_of : Values → List ℕ → Option ℕ
+number_of Truth text = option_or (which (codes "false") (codes "true") text) (which (codes "0") (codes "1") text)
+number_of Units text = which (codes "WORDS") (codes "SYMBOLS") text
+number_of Time text = which (codes "Cycles") (codes "Nanoseconds") text
+number_of Alignment text = which (codes "DYNAMIC") (codes "NATIVE") text
+number_of (Number low high) text = None
+number_of Any text = None
+number_of ClockName text = None

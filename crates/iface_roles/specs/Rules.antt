@@ -15,7 +15,7 @@ use Rattle.iface_roles.specs.declared.roles.Role.TheVariants.{Address, Read, Wri
 use Rattle.iface_roles.specs.declared.roles.Driver.{Driver}
 use Rattle.iface_roles.specs.declared.roles.Driver.TheVariants.{ByStart, ByEnd, ByEither}
 use Rattle.iface_roles.specs.declared.roles.Widths.{Widths}
-use Rattle.iface_roles.specs.declared.roles.Widths.TheVariants.{From, Word, Lanes, Symbols, EmptySymbols, AnyWidth}
+use Rattle.iface_roles.specs.declared.roles.Widths.TheVariants.{Between, Word, Lanes, Symbols, EmptySymbols, AnyWidth}
 use Rattle.iface_roles.specs.Held.{Held, port_of, has, width_of, set_to, setting_of}
 use Rattle.iface_roles.specs.Kinds.{is_avalon}
 use Rattle.iface_roles.specs.Roles.{role_row, all_roles}
@@ -89,7 +89,7 @@ has_odd_lanes i = has i ByteEnable && not (width_of i ByteEnable == word_bytes i
 
 -- the widths allow these bits; those of data, lanes and empty symbols are other rules'
 abbrev pub allows : Widths → ℕ → Bool
-allows (From low high) bits = nat_le low bits && nat_le bits high
+allows (Between low high) bits = nat_le low bits && nat_le bits high
 allows Word bits = true
 allows Lanes bits = true
 allows Symbols bits = true

@@ -11,6 +11,6 @@ mod rules;
 
 pub use interface::Interface;
 pub use kinds::{Kind, PortDirection, Side};
-pub use properties::{Property, PropertyId, property_of};
+pub use properties::{Property, PropertyId, Values, property_of};
 pub use records::{AgentPort, Finished, HostPort, SinkPort, SourcePort};
 pub use roles::{Role, role_of};

@@ -3,6 +3,8 @@ ghost use Rattle.std.specs.List.{list_any};
 ghost use Rattle.iface_roles.specs.Kinds.{is_avalon};
 ghost use Rattle.iface_roles.specs.Names.{same_name};
 ghost use Rattle.iface_roles.specs.Properties.{
+  row,
+  row_also,
   property_row,
   all_properties,
   is_of,
@@ -11,9 +13,12 @@ ghost use Rattle.iface_roles.specs.Properties.{
   least_of,
   greatest_of,
   fixed_default,
+  which,
+  number_of,
   IsKnownAs,
   IsPassedOver,
   IsInRange,
+  IsRow,
 };
 
 use crate::kinds::{Kind, Side};
@@ -67,13 +72,14 @@ pub(crate) enum Kinds {
     OfBoth,
 }
 
-/// The values that a property takes, and the numbers by which they are kept.
+/// What a property is set to, and the numbers by which words are kept.
 #[derive(Clone, Copy, Debug, PartialEq, Eq)]
-pub(crate) enum Values {
-    /// From the first number to the second.
+pub enum Values {
+    /// A number from the first to the second.
     Number(u32, u32),
+    /// Any number.
     Any,
-    /// `false` is 0, `true` is 1.
+    /// `false` or `0` is 0, `true` or `1` is 1.
     Truth,
     /// `WORDS` is 0, `SYMBOLS` is 1.
     Units,
@@ -85,7 +91,34 @@ pub(crate) enum Values {
     ClockName,
 }
 
+/// The number of the text among two words, without regard to the case of ASCII letters.
+fn which(zero: &str, one: &str, text: &str) -> Option<u32>
+    ensures { result ≡ which zero.now one.now text.now }
+{
+    if same_name(zero, text) {
+        Some(0)
+    } else if same_name(one, text) {
+        Some(1)
+    } else {
+        None
+    }
+}
+
 impl Values {
+    /// The number of a truth value or of another word, without regard to the case of ASCII letters. None for any other
+    /// text, and where the values are numbers or the name of a clock.
+    pub fn number_of(self, text: &str) -> Option<u32>
+        ensures { result ≡ number_of self text.now }
+    {
+        match self {
+            Values::Truth => which("false", "true", text).or(which("0", "1", text)),
+            Values::Units => which("WORDS", "SYMBOLS", text),
+            Values::Time => which("Cycles", "Nanoseconds", text),
+            Values::Alignment => which("DYNAMIC", "NATIVE", text),
+            Values::Number(..) | Values::Any | Values::ClockName => None,
+        }
+    }
+
     fn least(self) -> u32
         ensures { result ≡ least_of self }
     {
@@ -108,7 +141,7 @@ impl Values {
 
 /// The value of a property that isn't set.
 #[derive(Clone, Copy, Debug, PartialEq, Eq)]
-pub(crate) enum Default {
+pub(crate) enum DefaultValue {
     Fixed(u32),
     /// At a start, and at an end.
     BySide(u32, u32),
@@ -116,16 +149,16 @@ pub(crate) enum Default {
     Computed,
 }
 
-impl Default {
+impl DefaultValue {
     /// The default at a side; 0 where it is computed.
     pub(crate) fn at(self, side: Side) -> u32
         ensures { result ≡ fixed_default self side }
     {
         match (self, side) {
-            (Default::Fixed(number), _) => number,
-            (Default::BySide(start, _), Side::Start) => start,
-            (Default::BySide(_, end), Side::End) => end,
-            (Default::Computed, _) => 0,
+            (DefaultValue::Fixed(number), _) => number,
+            (DefaultValue::BySide(start, _), Side::Start) => start,
+            (DefaultValue::BySide(_, end), Side::End) => end,
+            (DefaultValue::Computed, _) => 0,
         }
     }
 }
@@ -138,15 +171,11 @@ pub(crate) struct Row {
     pub synonym: &'static str,
     pub kinds: Kinds,
     pub values: Values,
-    pub default: Default,
+    pub default: DefaultValue,
 }
 
-const fn named(name: &'static str, kinds: Kinds, values: Values, default: Default) -> Row
-    ensures name { result.name.now ≡ name.now }
-    ensures synonym { result.synonym.now ≡ name.now }
-    ensures kinds { result.kinds ≡ kinds }
-    ensures values { result.values ≡ values }
-    ensures default { result.default ≡ default }
+const fn named(name: &'static str, kinds: Kinds, values: Values, default: DefaultValue) -> Row
+    ensures { IsRow result (row name.now kinds values default) }
 {
     Row {
         name,
@@ -157,13 +186,22 @@ const fn named(name: &'static str, kinds: Kinds, values: Values, default: Defaul
     }
 }
 
+const fn mm(name: &'static str, values: Values, default: DefaultValue) -> Row
+    ensures { IsRow result (row name.now Kinds.OfMm values default) }
+{
+    named(name, Kinds::OfMm, values, default)
+}
+
+const fn stream(name: &'static str, values: Values, default: DefaultValue) -> Row
+    ensures { IsRow result (row name.now Kinds.OfStream values default) }
+{
+    named(name, Kinds::OfStream, values, default)
+}
+
 impl Row {
     const fn also(self, synonym: &'static str) -> Row
-        ensures name { result.name.now ≡ self.name.now }
-        ensures synonym { result.synonym.now ≡ synonym.now }
-        ensures kinds { result.kinds ≡ self.kinds }
-        ensures values { result.values ≡ self.values }
-        ensures default { result.default ≡ self.default }
+        ensures { IsRow result
+            (row_also self.name.now synonym.now self.kinds self.values self.default) }
     {
         Row { synonym, ..self }
     }
@@ -232,63 +270,51 @@ impl PropertyId {
 
     /// The table of properties.
     pub(crate) fn row(self) -> Row
-        ensures name { result.name.now ≡ (property_row self).name }
-        ensures synonym { result.synonym.now ≡ (property_row self).synonym }
-        ensures kinds { result.kinds ≡ (property_row self).kinds }
-        ensures values { result.values ≡ (property_row self).values }
-        ensures default { result.default ≡ (property_row self).default }
+        ensures { IsRow result (property_row self) }
     {
-        use Default::{BySide, Computed, Fixed};
-        use Kinds::{OfBoth, OfMm, OfStream};
+        use DefaultValue::{BySide, Computed, Fixed};
+        use Kinds::OfBoth;
         use PropertyId::*;
         use Values::{Alignment, Any, ClockName, Number, Time, Truth, Units};
         match self {
-            AddressUnits => named("addressUnits", OfMm, Units, BySide(1, 0)),
-            ReadLatency => named("readLatency", OfMm, Number(0, 63), Fixed(0)),
-            ReadWaitTime => named("readWaitTime", OfMm, Number(0, 255), Fixed(1)).also(
-                "readWaitStates",
-            ),
-            WriteWaitTime => named("writeWaitTime", OfMm, Number(0, 255), Fixed(0)).also(
-                "writeWaitStates",
-            ),
-            MaximumPendingReadTransactions => named(
+            AddressUnits => mm("addressUnits", Units, BySide(1, 0)),
+            ReadLatency => mm("readLatency", Number(0, 63), Fixed(0)),
+            ReadWaitTime => mm("readWaitTime", Number(0, 255), Fixed(1)).also("readWaitStates"),
+            WriteWaitTime => mm("writeWaitTime", Number(0, 255), Fixed(0)).also("writeWaitStates"),
+            MaximumPendingReadTransactions => mm(
                 "maximumPendingReadTransactions",
-                OfMm,
                 Number(0, 64),
                 Fixed(0),
             ),
-            WaitRequestAllowance => named("waitrequestAllowance", OfMm, Any, Fixed(0)),
-            SetupTime => named("setupTime", OfMm, Any, Fixed(0)),
-            HoldTime => named("holdTime", OfMm, Any, Fixed(0)),
-            ExplicitAddressSpan => named("explicitAddressSpan", OfMm, Any, Fixed(0)),
-            BitsPerSymbol => named("bitsPerSymbol", OfMm, Any, Fixed(8)),
-            BurstCountUnits => named("burstcountUnits", OfMm, Units, Fixed(0)),
-            TimingUnits => named("timingUnits", OfMm, Time, Fixed(0)),
-            AddressAlignment => named("addressAlignment", OfMm, Alignment, Fixed(0)),
-            LinewrapBursts => named("linewrapBursts", OfMm, Truth, Fixed(0)),
-            BurstOnBurstBoundariesOnly => named(
-                "burstOnBurstBoundariesOnly",
-                OfMm,
-                Truth,
-                Fixed(0),
-            ),
-            IsBigEndian => named("isBigEndian", OfMm, Truth, Fixed(0)),
-            SymbolsPerBeat => named("symbolsPerBeat", OfStream, Number(1, 32), Computed),
-            DataBitsPerSymbol => named("dataBitsPerSymbol", OfStream, Number(1, 512), Fixed(8)),
-            FirstSymbolInHighOrderBits => named(
-                "firstSymbolInHighOrderBits",
-                OfStream,
-                Truth,
-                Fixed(1),
-            ),
-            MaxChannel => named("maxChannel", OfStream, Any, Fixed(0)),
-            ReadyLatency => named("readyLatency", OfStream, Number(0, 63), Fixed(0)),
-            ReadyAllowance => named("readyAllowance", OfStream, Number(0, 63), Computed),
-            BeatsPerCycle => named("beatsPerCycle", OfStream, Any, Fixed(1)),
-            EmptyWithinPacket => named("emptyWithinPacket", OfStream, Truth, Fixed(0)),
+            WaitRequestAllowance => mm("waitrequestAllowance", Any, Fixed(0)),
+            SetupTime => mm("setupTime", Any, Fixed(0)),
+            HoldTime => mm("holdTime", Any, Fixed(0)),
+            ExplicitAddressSpan => mm("explicitAddressSpan", Any, Fixed(0)),
+            BitsPerSymbol => mm("bitsPerSymbol", Any, Fixed(8)),
+            BurstCountUnits => mm("burstcountUnits", Units, Fixed(0)),
+            TimingUnits => mm("timingUnits", Time, Fixed(0)),
+            AddressAlignment => mm("addressAlignment", Alignment, Fixed(0)),
+            LinewrapBursts => mm("linewrapBursts", Truth, Fixed(0)),
+            BurstOnBurstBoundariesOnly => mm("burstOnBurstBoundariesOnly", Truth, Fixed(0)),
+            IsBigEndian => mm("isBigEndian", Truth, Fixed(0)),
+            SymbolsPerBeat => stream("symbolsPerBeat", Number(1, 32), Computed),
+            DataBitsPerSymbol => stream("dataBitsPerSymbol", Number(1, 512), Fixed(8)),
+            FirstSymbolInHighOrderBits => stream("firstSymbolInHighOrderBits", Truth, Fixed(1)),
+            MaxChannel => stream("maxChannel", Any, Fixed(0)),
+            ReadyLatency => stream("readyLatency", Number(0, 63), Fixed(0)),
+            ReadyAllowance => stream("readyAllowance", Number(0, 63), Computed),
+            BeatsPerCycle => stream("beatsPerCycle", Any, Fixed(1)),
+            EmptyWithinPacket => stream("emptyWithinPacket", Truth, Fixed(0)),
             AssociatedClock => named("associatedClock", OfBoth, ClockName, Fixed(0)),
             Enabled => named("ENABLED", OfBoth, Truth, Fixed(1)),
         }
+    }
+
+    /// What the property is set to.
+    pub fn values(self) -> Values
+        ensures { result ≡ (property_row self).values }
+    {
+        self.row().values
     }
 
     /// The place of the property's row in the table.

@@ -1,6 +1,6 @@
 ghost use Rattle.std.specs.Prelude.{◌≡◌, ◌↔◌, ◌<◌, find};
 ghost use Rattle.iface_roles.specs.Names.{same_name};
-ghost use Rattle.iface_roles.specs.Roles.{role_row, all_roles, IsNamed};
+ghost use Rattle.iface_roles.specs.Roles.{row, role_row, all_roles, IsNamed, IsRow};
 
 use crate::kinds::Kind;
 use crate::names::same_name;
@@ -44,7 +44,7 @@ pub(crate) enum Driver {
 #[derive(Clone, Copy, Debug, PartialEq, Eq)]
 pub(crate) enum Widths {
     /// From the first number to the second.
-    From(u32, u32),
+    Between(u32, u32),
     /// 8, 16, 32, 64 or 128 bits.
     Word,
     /// A bit for each byte of the word.
@@ -66,10 +66,7 @@ pub(crate) struct Row {
 }
 
 const fn mm(name: &'static str, driver: Driver, widths: Widths) -> Row
-    ensures name { result.name.now ≡ name.now }
-    ensures kind { result.kind ≡ Kind.Mm }
-    ensures driver { result.driver ≡ driver }
-    ensures widths { result.widths ≡ widths }
+    ensures { IsRow result (row name.now Kind.Mm driver widths) }
 {
     Row {
         name,
@@ -80,10 +77,7 @@ const fn mm(name: &'static str, driver: Driver, widths: Widths) -> Row
 }
 
 const fn stream(name: &'static str, driver: Driver, widths: Widths) -> Row
-    ensures name { result.name.now ≡ name.now }
-    ensures kind { result.kind ≡ Kind.Stream }
-    ensures driver { result.driver ≡ driver }
-    ensures widths { result.widths ≡ widths }
+    ensures { IsRow result (row name.now Kind.Stream driver widths) }
 {
     Row {
         name,
@@ -123,35 +117,32 @@ impl Role {
 
     /// The table of roles.
     pub(crate) fn row(self) -> Row
-        ensures name { result.name.now ≡ (role_row self).name }
-        ensures kind { result.kind ≡ (role_row self).kind }
-        ensures driver { result.driver ≡ (role_row self).driver }
-        ensures widths { result.widths ≡ (role_row self).widths }
+        ensures { IsRow result (role_row self) }
     {
         use Driver::{ByEither, ByEnd, ByStart};
-        use Widths::{AnyWidth, EmptySymbols, From, Lanes, Symbols, Word};
+        use Widths::{AnyWidth, Between, EmptySymbols, Lanes, Symbols, Word};
         match self {
-            Role::Address => mm("address", ByStart, From(1, 32)),
-            Role::Read => mm("read", ByStart, From(1, 1)),
-            Role::Write => mm("write", ByStart, From(1, 1)),
+            Role::Address => mm("address", ByStart, Between(1, 32)),
+            Role::Read => mm("read", ByStart, Between(1, 1)),
+            Role::Write => mm("write", ByStart, Between(1, 1)),
             Role::WriteData => mm("writedata", ByStart, Word),
             Role::ByteEnable => mm("byteenable", ByStart, Lanes),
-            Role::BurstCount => mm("burstcount", ByStart, From(1, 11)),
-            Role::WaitRequest => mm("waitrequest", ByEnd, From(1, 1)),
+            Role::BurstCount => mm("burstcount", ByStart, Between(1, 11)),
+            Role::WaitRequest => mm("waitrequest", ByEnd, Between(1, 1)),
             Role::ReadData => mm("readdata", ByEnd, Word),
-            Role::ReadDataValid => mm("readdatavalid", ByEnd, From(1, 1)),
-            Role::Response => mm("response", ByEnd, From(2, 2)),
+            Role::ReadDataValid => mm("readdatavalid", ByEnd, Between(1, 1)),
+            Role::Response => mm("response", ByEnd, Between(2, 2)),
             Role::WriteResponseValid => mm("writeresponsevalid", ByEither, AnyWidth),
             Role::Lock => mm("lock", ByEither, AnyWidth),
             Role::DebugAccess => mm("debugaccess", ByEither, AnyWidth),
             Role::BeginBurstTransfer => mm("beginbursttransfer", ByEither, AnyWidth),
-            Role::Ready => stream("ready", ByEnd, From(1, 1)),
-            Role::Valid => stream("valid", ByStart, From(1, 1)),
+            Role::Ready => stream("ready", ByEnd, Between(1, 1)),
+            Role::Valid => stream("valid", ByStart, Between(1, 1)),
             Role::Data => stream("data", ByStart, Symbols),
-            Role::Channel => stream("channel", ByStart, From(1, 16)),
-            Role::Error => stream("error", ByStart, From(1, 32)),
-            Role::StartOfPacket => stream("startofpacket", ByStart, From(1, 1)),
-            Role::EndOfPacket => stream("endofpacket", ByStart, From(1, 1)),
+            Role::Channel => stream("channel", ByStart, Between(1, 16)),
+            Role::Error => stream("error", ByStart, Between(1, 32)),
+            Role::StartOfPacket => stream("startofpacket", ByStart, Between(1, 1)),
+            Role::EndOfPacket => stream("endofpacket", ByStart, Between(1, 1)),
             Role::Empty => stream("empty", ByStart, EmptySymbols),
         }
     }

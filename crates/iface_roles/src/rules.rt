@@ -57,7 +57,7 @@ impl Widths {
         ensures { result ≡ allows self bits }
     {
         match self {
-            Widths::From(low, high) => low <= bits && bits <= high,
+            Widths::Between(low, high) => low <= bits && bits <= high,
             _ => true,
         }
     }
