@@ -340,7 +340,8 @@ impl PropertyId {
         same_name(row.name, text) || same_name(row.synonym, text)
     }
 
-    fn is_of(self, kind: Kind) -> bool
+    /// Whether interfaces of the kind have the property.
+    pub(crate) fn is_of(self, kind: Kind) -> bool
         ensures { result ≡ is_of (property_row self).kinds kind }
     {
         match self.row().kinds {

@@ -1,4 +1,4 @@
-ghost use Rattle.std.specs.Prelude.{◌≡◌, ◌↔◌, ◌<◌, find};
+ghost use Rattle.std.specs.Prelude.{◌≡◌, ◌↔◌, ◌<◌, IsTrue, find};
 ghost use Rattle.iface_roles.specs.Names.{same_name};
 ghost use Rattle.iface_roles.specs.Roles.{row, role_row, all_roles, IsNamed, IsRow};
 
@@ -155,6 +155,13 @@ impl Role {
         self as usize
     }
 
+    /// Whether interfaces of the kind have the role.
+    pub(crate) fn is_of(self, kind: Kind) -> bool
+        ensures { IsTrue result ↔ ((role_row self).kind ≡ kind) }
+    {
+        self.row().kind == kind
+    }
+
     fn is_named(self, text: &str) -> bool
         ensures { result ≡ same_name (role_row self).name text.now }
     {
@@ -174,5 +181,5 @@ pub fn role_of(kind: Kind, text: &str) -> Option<Role>
     ensures { (role : Role) → (result ≡ Some role) ↔ IsNamed kind role text.now }
 {
     let role = find_named(text)?;
-    (role.row().kind == kind).then_some(role)
+    role.is_of(kind).then_some(role)
 }
