@@ -5,3 +5,4 @@ pub mod NameLemmas
 pub mod PropertyLemmas
 pub mod RoleLemmas
 pub mod RuleLemmas
+pub mod Worked

@@ -20,7 +20,9 @@ pub(crate) struct Port {
 pub struct Interface {
     kind: Kind,
     side: Side,
+    /// By the place of the role in its table.
     ports: [Option<Port>; 22],
+    /// By the place of the property in its table.
     settings: [Option<u32>; 26],
 }
 
@@ -130,6 +132,7 @@ impl Interface {
         self.settings[id.place()]
     }
 
+    /// The last setting of the property, or its default; 0 where another port or property decides that.
     pub(crate) fn setting(&self, id: PropertyId) -> u32
         ensures value { result ≡ setting_of self.now id }
         ensures low { is_computed (property_row id).default ≡ false → least_of (property_row id).values ≤ result }

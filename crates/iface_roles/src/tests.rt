@@ -1,46 +1,43 @@
-use crate::PortDirection::{Bidir, Input, Output};
 use crate::properties::PropertyId as Id;
 use crate::{
     AgentPort, Finished, HostPort, Interface, Kind, PortDirection, Property, PropertyId, Role,
     Side, SinkPort, SourcePort, Values, property_of, role_of,
 };
 
-type Ports<'a> = &'a [(Role, PortDirection, u32)];
-
-type Settings<'a> = &'a [(PropertyId, u32)];
-
-fn interface(kind: Kind, side: Side, ports: Ports<'_>, settings: Settings<'_>) -> Interface {
+/// An interface of ports as `<read:1`, an input, `>readdata:32`, an output, and `lock:1`, of both directions, and of
+/// settings as `readLatency=1`. None where a word isn't one of these.
+fn interface(kind: Kind, side: Side, ports: &str, settings: &str) -> Option<Interface> {
     let mut made = Interface::new(kind, side);
-    for (role, direction, width) in ports {
-        if role.is_of(kind) {
-            made.add_port(*role, *direction, *width);
+    for port in ports.split_whitespace() {
+        let (head, width) = port.split_once(':')?;
+        let (direction, name) = if let Some(name) = head.strip_prefix('<') {
+            (PortDirection::Input, name)
+        } else if let Some(name) = head.strip_prefix('>') {
+            (PortDirection::Output, name)
+        } else {
+            (PortDirection::Bidir, head)
+        };
+        let role = role_of(kind, name)?;
+        let width = width.parse::<u32>().ok()?;
+        if !role.is_of(kind) || !made.add_port(role, direction, width) {
+            return None;
         }
     }
-    for (id, number) in settings {
-        if id.is_of(kind) {
-            made.set(*id, *number);
+    for setting in settings.split_whitespace() {
+        let (name, number) = setting.split_once('=')?;
+        let number = number.parse::<u32>().ok()?;
+        match property_of(kind, name) {
+            Property::Known(id) if id.is_of(kind) && made.set(id, number) => {}
+            _ => return None,
         }
     }
-    made
+    Some(made)
 }
 
-/// The rule that refuses an agent.
-fn agent(ports: Ports<'_>, settings: Settings<'_>) -> Option<u8> {
-    interface(Kind::Mm, Side::End, ports, settings)
-        .finish()
-        .err()
-}
-
-fn host(ports: Ports<'_>, settings: Settings<'_>) -> Option<u8> {
-    interface(Kind::Mm, Side::Start, ports, settings)
-        .finish()
-        .err()
-}
-
-fn source(ports: Ports<'_>, settings: Settings<'_>) -> Option<u8> {
-    interface(Kind::Stream, Side::Start, ports, settings)
-        .finish()
-        .err()
+/// The rule that refuses the interface: 0 where none does.
+fn rule(kind: Kind, side: Side, ports: &str, settings: &str) -> Option<u8> {
+    let made = interface(kind, side, ports, settings)?;
+    Some(made.finish().err().unwrap_or(0))
 }
 
 #[test]
@@ -119,9 +116,9 @@ fn names_are_found_in_any_case(rt: HostRuntime) {
 #[test]
 fn ports_stay_and_the_last_setting_counts(rt: HostRuntime) {
     let mut ram = Interface::new(Kind::Mm, Side::End);
-    assert!(rt; ram.add_port(Role::Read, Input, 1));
-    assert!(rt; ram.add_port(Role::ReadData, Output, 32));
-    assert!(rt; !ram.add_port(Role::ReadData, Input, 8));
+    assert!(rt; ram.add_port(Role::Read, PortDirection::Input, 1));
+    assert!(rt; ram.add_port(Role::ReadData, PortDirection::Output, 32));
+    assert!(rt; !ram.add_port(Role::ReadData, PortDirection::Input, 8));
     assert!(rt; ram.set(Id::ReadLatency, 1));
     assert!(rt; ram.set(Id::ReadLatency, 63));
     assert!(rt; !ram.set(Id::ReadLatency, 64));
@@ -155,143 +152,139 @@ fn ports_stay_and_the_last_setting_counts(rt: HostRuntime) {
 
 #[test]
 fn rules_of_memory_mapped_interfaces(rt: HostRuntime) {
-    let (read, data) = ((Role::Read, Input, 1), (Role::ReadData, Output, 32));
-    let (write, out) = ((Role::Write, Input, 1), (Role::WriteData, Input, 32));
-    let (wait, valid) = (
-        (Role::WaitRequest, Output, 1),
-        (Role::ReadDataValid, Output, 1),
-    );
-    let address = |width: u32| (Role::Address, Input, width);
-    let burst = |width: u32| (Role::BurstCount, Input, width);
-    for (ports, want) in [
-        ([].as_slice(), Some(1)),
-        (&[read, data], None),
-        (&[read], Some(2)),
-        (&[write, out, data], Some(2)),
-        (&[read, data, write], Some(3)),
-        (&[read, data, out], Some(3)),
-        (&[read, data, write, out], None),
-        (&[read, data, write, (Role::WriteData, Input, 16)], Some(4)),
-        (&[read, (Role::ReadData, Output, 8)], None),
-        (&[read, (Role::ReadData, Output, 24)], Some(5)),
-        (&[write, (Role::WriteData, Input, 128)], None),
-        (&[write, (Role::WriteData, Input, 256)], Some(5)),
-        (&[read, data, (Role::ByteEnable, Input, 4)], None),
-        (&[read, data, (Role::ByteEnable, Input, 2)], Some(6)),
+    for (ports, settings, want) in [
+        ("", "", 1),
+        ("<read:1 >readdata:32", "", 0),
+        ("<read:1", "", 2),
+        ("<write:1 <writedata:32 >readdata:32", "", 2),
+        ("<read:1 >readdata:32 <write:1", "", 3),
+        ("<read:1 >readdata:32 <writedata:32", "", 3),
+        ("<read:1 >readdata:32 <write:1 <writedata:32", "", 0),
+        ("<read:1 >readdata:32 <write:1 <writedata:16", "", 4),
+        ("<read:1 >readdata:8", "", 0),
+        ("<read:1 >readdata:24", "", 5),
+        ("<write:1 <writedata:128", "", 0),
+        ("<write:1 <writedata:256", "", 5),
+        ("<read:1 >readdata:32 <byteenable:4", "", 0),
+        ("<read:1 >readdata:32 <byteenable:2", "", 6),
+        ("<read:1 >readdata:8 <byteenable:1", "", 0),
+        ("<read:1 >readdata:32 >response:2", "", 0),
+        ("<read:1 >readdata:32 >response:1", "", 7),
+        ("<read:1 >readdata:32 <address:0", "", 7),
+        ("<read:1 >readdata:32 <address:33", "", 7),
         (
-            &[
-                read,
-                (Role::ReadData, Output, 8),
-                (Role::ByteEnable, Input, 1),
-            ],
-            None,
+            "<read:1 >readdata:32 >readdatavalid:1 >waitrequest:1 <burstcount:11",
+            "",
+            0,
         ),
-        (&[read, data, (Role::Response, Output, 2)], None),
-        (&[read, data, (Role::Response, Output, 1)], Some(7)),
-        (&[read, data, address(0)], Some(7)),
-        (&[read, data, address(33)], Some(7)),
-        (&[read, data, valid, wait, burst(11)], None),
-        (&[read, data, valid, wait, burst(12)], Some(7)),
-        (&[(Role::Read, Output, 1), data], Some(8)),
-        (&[read, (Role::ReadData, Bidir, 32)], Some(8)),
-        (&[read, data, (Role::Lock, Bidir, 5)], None),
-        (&[write, out, valid], Some(9)),
-        (&[write, out, burst(4)], Some(9)),
-        (&[write, out, burst(4), wait], None),
-        (&[read, data, burst(4), wait], Some(9)),
-        (&[read, data, address(30)], None),
-        (&[read, data, address(31)], Some(10)),
+        (
+            "<read:1 >readdata:32 >readdatavalid:1 >waitrequest:1 <burstcount:12",
+            "",
+            7,
+        ),
+        (">read:1 >readdata:32", "", 8),
+        ("<read:1 readdata:32", "", 8),
+        ("<read:1 >readdata:32 lock:5", "", 0),
+        ("<write:1 <writedata:32 >readdatavalid:1", "", 9),
+        ("<write:1 <writedata:32 <burstcount:4", "", 9),
+        ("<write:1 <writedata:32 <burstcount:4 >waitrequest:1", "", 0),
+        ("<read:1 >readdata:32 <burstcount:4 >waitrequest:1", "", 9),
+        ("<read:1 >readdata:32 <address:30", "", 0),
+        ("<read:1 >readdata:32 <address:31", "", 10),
+        ("<read:1 >readdata:32 <address:32", "addressUnits=1", 0),
+        ("<read:1 >readdata:32", "readLatency=1", 0),
+        ("<read:1 >readdata:32", "bitsPerSymbol=8 enabled=1", 0),
+        ("<read:1 >readdata:32", "bitsPerSymbol=9", 14),
+        ("<read:1 >readdata:32", "burstcountUnits=1", 14),
+        ("<read:1 >readdata:32", "timingUnits=1", 14),
+        ("<read:1 >readdata:32", "timingUnits=1 timingUnits=0", 0),
+        ("<read:1 >readdata:32", "addressAlignment=1", 14),
+        ("<read:1 >readdata:32", "isBigEndian=1", 14),
+        ("<read:1 >readdata:32", "explicitAddressSpan=1", 14),
+        ("<read:1 >readdata:32", "enabled=0", 14),
+        ("<read:1", "enabled=0", 2),
     ] {
-        assert_eq!(rt; agent(ports, &[]), want, "{ports:?}");
+        assert_eq!(rt;
+            rule(Kind::Mm, Side::End, ports, settings),
+            Some(want),
+            "{ports} {settings}"
+        );
     }
-    let (fetch, word) = ((Role::Read, Output, 1), (Role::ReadData, Input, 32));
-    assert_eq!(rt; host(&[fetch, word], &[]), Some(1));
-    assert_eq!(rt;
-        host(&[fetch, word, (Role::Address, Output, 32)], &[]),
-        None
-    );
-    assert_eq!(rt;
-        host(
-            &[fetch, word, (Role::Address, Output, 31)],
-            &[(Id::AddressUnits, 0)]
-        ),
-        Some(10)
-    );
-    assert_eq!(rt;
-        host(
-            &[fetch, word, (Role::Address, Output, 32)],
-            &[(Id::ReadLatency, 1)]
-        ),
-        Some(14)
-    );
-    for (id, number, want) in [
-        (Id::ReadLatency, 1, None),
-        (Id::BitsPerSymbol, 8, None),
-        (Id::BitsPerSymbol, 9, Some(14)),
-        (Id::BurstCountUnits, 1, Some(14)),
-        (Id::TimingUnits, 1, Some(14)),
-        (Id::AddressAlignment, 1, Some(14)),
-        (Id::IsBigEndian, 1, Some(14)),
-        (Id::ExplicitAddressSpan, 1, Some(14)),
-        (Id::Enabled, 0, Some(14)),
-        (Id::Enabled, 1, None),
+    for (ports, settings, want) in [
+        (">read:1 <readdata:32", "", 1),
+        (">address:32", "", 1),
+        (">read:1 <readdata:32 >address:32", "", 0),
+        (">read:1 <readdata:32 >address:30", "addressUnits=0", 0),
+        (">read:1 <readdata:32 >address:31", "addressUnits=0", 10),
+        (">read:1 <readdata:32 >address:32", "readLatency=1", 14),
     ] {
-        assert_eq!(rt; agent(&[read, data], &[(id, number)]), want, "{id:?}");
+        assert_eq!(rt;
+            rule(Kind::Mm, Side::Start, ports, settings),
+            Some(want),
+            "{ports} {settings}"
+        );
     }
-    assert_eq!(rt;
-        agent(&[read, data], &[(Id::TimingUnits, 1), (Id::TimingUnits, 0)]),
-        None
-    );
-    assert_eq!(rt; agent(&[read], &[(Id::TimingUnits, 1)]), Some(2));
 }
 
 #[test]
 fn rules_of_streams(rt: HostRuntime) {
-    let (data, valid) = ((Role::Data, Output, 8), (Role::Valid, Output, 1));
-    let (first, last) = (
-        (Role::StartOfPacket, Output, 1),
-        (Role::EndOfPacket, Output, 1),
-    );
-    let symbols = |count: u32| (Role::Data, Output, 8 * count);
-    let empty = |width: u32| (Role::Empty, Output, width);
-    for (ports, want) in [
-        ([data].as_slice(), Some(1)),
-        (&[valid], Some(1)),
-        (&[data, valid], None),
-        (&[(Role::Data, Output, 12), valid], Some(5)),
-        (&[symbols(32), valid], None),
-        (&[symbols(33), valid], Some(5)),
-        (&[data, valid, (Role::Channel, Output, 17)], Some(7)),
-        (&[data, valid, (Role::Error, Output, 32)], None),
-        (&[data, valid, (Role::Error, Output, 33)], Some(7)),
-        (&[data, valid, (Role::Ready, Input, 1)], None),
-        (&[data, valid, (Role::Ready, Output, 1)], Some(8)),
-        (&[data, valid, first], Some(11)),
-        (&[data, valid, last], Some(11)),
-        (&[data, valid, first, last], None),
-        (&[symbols(2), valid, first, last], Some(12)),
-        (&[symbols(2), valid, first, last, empty(1)], None),
-        (&[symbols(3), valid, first, last, empty(1)], Some(12)),
-        (&[symbols(3), valid, first, last, empty(8)], None),
-        (&[symbols(3), valid, first, last, empty(9)], Some(12)),
-        (&[data, valid, empty(1)], Some(12)),
+    for (ports, settings, want) in [
+        (">data:8", "", 1),
+        (">valid:1", "", 1),
+        (">data:8 >valid:1", "", 0),
+        (">data:12 >valid:1", "", 5),
+        (">data:256 >valid:1", "", 0),
+        (">data:264 >valid:1", "", 5),
+        (">data:8 >valid:1", "symbolsPerBeat=1", 0),
+        (">data:8 >valid:1", "symbolsPerBeat=2", 5),
+        (
+            ">data:8 >valid:1",
+            "symbolsPerBeat=2 dataBitsPerSymbol=4",
+            0,
+        ),
+        (">data:8 >valid:1", "dataBitsPerSymbol=3", 5),
+        (">data:8 >valid:1 >channel:17", "", 7),
+        (">data:8 >valid:1 >error:32", "", 0),
+        (">data:8 >valid:1 >error:33", "", 7),
+        (">data:8 >valid:1 <ready:1", "", 0),
+        (">data:8 >valid:1 >ready:1", "", 8),
+        (">data:8 >valid:1 >startofpacket:1", "", 11),
+        (">data:8 >valid:1 >endofpacket:1", "", 11),
+        (">data:8 >valid:1 >startofpacket:1 >endofpacket:1", "", 0),
+        (">data:8 >valid:1 >empty:1", "", 12),
+        (">data:16 >valid:1 >startofpacket:1 >endofpacket:1", "", 12),
+        (
+            ">data:16 >valid:1 >startofpacket:1 >endofpacket:1 >empty:1",
+            "",
+            0,
+        ),
+        (
+            ">data:24 >valid:1 >startofpacket:1 >endofpacket:1 >empty:1",
+            "",
+            12,
+        ),
+        (
+            ">data:24 >valid:1 >startofpacket:1 >endofpacket:1 >empty:8",
+            "",
+            0,
+        ),
+        (
+            ">data:24 >valid:1 >startofpacket:1 >endofpacket:1 >empty:9",
+            "",
+            12,
+        ),
+        (">data:8 >valid:1", "maxChannel=1", 13),
+        (">data:8 >valid:1 >channel:4", "maxChannel=15", 0),
+        (">data:8 >valid:1 >channel:4", "maxChannel=16", 13),
+        (">data:8 >valid:1", "beatsPerCycle=2", 14),
+        (">data:8 >valid:1", "emptyWithinPacket=1", 14),
     ] {
-        assert_eq!(rt; source(ports, &[]), want, "{ports:?}");
+        assert_eq!(rt;
+            rule(Kind::Stream, Side::Start, ports, settings),
+            Some(want),
+            "{ports} {settings}"
+        );
     }
-    for (id, number, want) in [
-        (Id::SymbolsPerBeat, 1, None),
-        (Id::SymbolsPerBeat, 2, Some(5)),
-        (Id::DataBitsPerSymbol, 4, None),
-        (Id::DataBitsPerSymbol, 3, Some(5)),
-        (Id::MaxChannel, 15, None),
-        (Id::MaxChannel, 16, Some(13)),
-        (Id::BeatsPerCycle, 2, Some(14)),
-        (Id::EmptyWithinPacket, 1, Some(14)),
-    ] {
-        let ports = [data, valid, (Role::Channel, Output, 4)];
-        assert_eq!(rt; source(&ports, &[(id, number)]), want, "{id:?}");
-    }
-    assert_eq!(rt; source(&[data, valid], &[(Id::MaxChannel, 1)]), Some(13));
 }
 
 const HOST: HostPort = HostPort {
@@ -336,43 +329,26 @@ const AGENT: AgentPort = AgentPort {
 
 #[test]
 fn the_desk_has_its_records(rt: HostRuntime) {
-    let (address, read) = ((Role::Address, Output, 20), (Role::Read, Output, 1));
-    let (data, wait) = ((Role::ReadData, Input, 32), (Role::WaitRequest, Input, 1));
-    let valid = (Role::ReadDataValid, Input, 1);
-    let instruction = interface(
-        Kind::Mm,
-        Side::Start,
-        &[address, read, data, wait, valid],
-        &[],
-    );
-    assert_eq!(rt; instruction.finish(), Ok(Finished::Host(HOST)));
-
-    let (write, out) = ((Role::Write, Output, 1), (Role::WriteData, Output, 32));
-    let (enable, debug) = (
-        (Role::ByteEnable, Output, 4),
-        (Role::DebugAccess, Output, 1),
-    );
-    let ports = [address, read, write, out, enable, wait, data, valid, debug];
-    let want = HostPort {
+    let data_host = HostPort {
         writes: true,
         enables: true,
         ..HOST
     };
-    assert_eq!(rt;
-        interface(Kind::Mm, Side::Start, &ports, &[]).finish(),
-        Ok(Finished::Host(want))
-    );
-
-    let (read, write) = ((Role::Read, Input, 1), (Role::Write, Input, 1));
-    let ports = [
-        (Role::Address, Input, 14),
-        read,
-        write,
-        (Role::WriteData, Input, 32),
-        (Role::ByteEnable, Input, 4),
-        (Role::ReadData, Output, 32),
-    ];
-    let want = AgentPort {
+    for (ports, want) in [
+        (
+            ">address:20 >read:1 <waitrequest:1 <readdata:32 <readdatavalid:1",
+            HOST,
+        ),
+        (
+            ">address:20 >read:1 >write:1 >writedata:32 >byteenable:4 <waitrequest:1 <readdata:32 <readdatavalid:1 \
+             >debugaccess:1",
+            data_host,
+        ),
+    ] {
+        let host = interface(Kind::Mm, Side::Start, ports, "").map(|host| host.finish());
+        assert_eq!(rt; host, Some(Ok(Finished::Host(want))), "{ports}");
+    }
+    let ram = AgentPort {
         address_bits: 14,
         word_bytes: 4,
         enables: true,
@@ -380,41 +356,31 @@ fn the_desk_has_its_records(rt: HostRuntime) {
         read_wait: 0,
         ..AGENT
     };
-    let ram = interface(
-        Kind::Mm,
-        Side::End,
-        &ports,
-        &[(Id::ReadLatency, 1), (Id::ReadWaitTime, 0)],
-    );
-    assert_eq!(rt; ram.finish(), Ok(Finished::Agent(want)));
-
-    let address = (Role::Address, Input, 3);
-    let ports = [
-        address,
-        read,
-        write,
-        (Role::WriteData, Input, 16),
-        (Role::ReadData, Output, 16),
-    ];
-    let timer = interface(Kind::Mm, Side::End, &ports, &[]);
-    assert_eq!(rt; timer.finish(), Ok(Finished::Agent(AGENT)));
-    let uart = interface(Kind::Mm, Side::End, &ports, &[(Id::WriteWaitTime, 1)]);
-    let want = AgentPort {
+    let uart = AgentPort {
         write_wait: 1,
         ..AGENT
     };
-    assert_eq!(rt; uart.finish(), Ok(Finished::Agent(want)));
+    let small = "<address:3 <read:1 <write:1 <writedata:16 >readdata:16";
+    for (ports, settings, want) in [
+        (
+            "<address:14 <read:1 <write:1 <writedata:32 <byteenable:4 >readdata:32",
+            "readLatency=1 readWaitTime=0",
+            ram,
+        ),
+        (small, "", AGENT),
+        (small, "writeWaitStates=1", uart),
+    ] {
+        let agent = interface(Kind::Mm, Side::End, ports, settings).map(|agent| agent.finish());
+        assert_eq!(rt;
+            agent,
+            Some(Ok(Finished::Agent(want))),
+            "{ports} {settings}"
+        );
+    }
 }
 
 #[test]
 fn streams_have_their_records(rt: HostRuntime) {
-    let ports = [
-        (Role::Ready, Input, 1),
-        (Role::Valid, Output, 1),
-        (Role::Data, Output, 8),
-        (Role::StartOfPacket, Output, 1),
-        (Role::EndOfPacket, Output, 1),
-    ];
     let want = SourcePort {
         symbols: 1,
         symbol_bits: 8,
@@ -428,47 +394,31 @@ fn streams_have_their_records(rt: HostRuntime) {
         packets: true,
         empty_bits: 0,
     };
-    let out = interface(Kind::Stream, Side::Start, &ports, &[]);
-    assert_eq!(rt; out.finish(), Ok(Finished::Source(want)));
+    let ports = "<ready:1 >valid:1 >data:8 >startofpacket:1 >endofpacket:1";
+    let source = interface(Kind::Stream, Side::Start, ports, "").map(|source| source.finish());
+    assert_eq!(rt; source, Some(Ok(Finished::Source(want))));
 
-    let ports = [
-        (Role::Ready, Output, 1),
-        (Role::Valid, Input, 1),
-        (Role::Data, Input, 8),
-        (Role::StartOfPacket, Input, 1),
-        (Role::EndOfPacket, Input, 1),
-    ];
-    let want = SinkPort {
-        symbols: 1,
-        symbol_bits: 8,
-        first_high: true,
-        ready: true,
-        latency: 0,
-        allowance: 0,
-        channel_bits: 0,
-        max_channel: 0,
-        error_bits: 0,
-        packets: true,
-        empty_bits: 0,
-    };
-    let st = interface(Kind::Stream, Side::End, &ports, &[]);
-    assert_eq!(rt; st.finish(), Ok(Finished::Sink(want)));
-    for (latency, allowance, kept) in [(2, 0, 2), (2, 5, 5), (0, 0, 0)] {
-        let settings = [
-            (Id::ReadyAllowance, allowance),
-            (Id::ReadyLatency, u32::from(latency)),
-        ];
-        let late = interface(Kind::Stream, Side::End, &ports, &settings);
+    let ports = ">ready:1 <valid:1 <data:8 <startofpacket:1 <endofpacket:1";
+    for (settings, latency, allowance) in [
+        ("", 0, 0),
+        ("readyAllowance=0 readyLatency=2", 2, 2),
+        ("readyAllowance=5 readyLatency=2", 2, 5),
+    ] {
         let want = SinkPort {
+            symbols: 1,
+            symbol_bits: 8,
+            first_high: true,
+            ready: true,
             latency,
-            allowance: kept,
-            ..want
+            allowance,
+            channel_bits: 0,
+            max_channel: 0,
+            error_bits: 0,
+            packets: true,
+            empty_bits: 0,
         };
-        assert_eq!(rt;
-            late.finish(),
-            Ok(Finished::Sink(want)),
-            "{latency} {allowance}"
-        );
+        let sink = interface(Kind::Stream, Side::End, ports, settings).map(|sink| sink.finish());
+        assert_eq!(rt; sink, Some(Ok(Finished::Sink(want))), "{settings}");
     }
     assert_eq!(rt;
         Interface::new(Kind::Conduit, Side::Start).finish(),
