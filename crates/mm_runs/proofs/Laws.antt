@@ -1,0 +1,107 @@
+-- Laws of histories, of legality and of links.
+use Rattle.std.proofs.Common.{ℕ, zero, suc, ◌≤◌, ◌≡◌, ◌-◌, [], arith, refl, List, ◌++◌, filter, flat_map, map, sym, ap, ◌∙◌, subst, Bool, append_assoc, append-nil, inl, inr, length, length-append, nat_eq, true, eq-eqb}
+use Rattle.std.proofs.lemmas.Grind.{flat_map-append}
+use Rattle.std.proofs.lemmas.List.{map-append}
+use Rattle.std.proofs.lemmas.List.Elements.{filter-append}
+use Rattle.mm_runs.proofs.Below.{less_or_same}
+use Rattle.histories.specs.History.{before, IsPrefix}
+use Rattle.mm_runs.specs.Views.{System, Run, Signals, Shape}
+use Rattle.mm_runs.specs.Legal.{AreLegal, AreOwed}
+use Rattle.mm_runs.specs.Order.{issued, taken}
+use Rattle.mm_runs.specs.Link.{Target, Port, IsLink, AreLegalAt, AnswersAreOwed}
+
+pub same_number : (n : ℕ) → nat_eq n n ≡ true
+same_number n = eq-eqb n n refl
+
+pub prefix_refl : {A : Type 0} (xs : List A) → IsPrefix xs xs
+prefix_refl xs = record { rest = []; joins = append-nil xs }
+
+pub prefix_trans : {A : Type 0} {xs ys zs : List A} → IsPrefix xs ys → IsPrefix ys zs → IsPrefix xs zs
+prefix_trans {A} {xs} p q = record { rest = p.rest ++ q.rest; joins = sym (append_assoc xs p.rest q.rest) ∙ ap (λ l. l ++ q.rest) p.joins ∙ q.joins }
+
+pub before_extends : {A : Type 0} (adds : ℕ → List A) (c : ℕ) → IsPrefix (before adds c) (before adds (suc c))
+before_extends adds c = record { rest = adds c; joins = refl }
+
+-- a history only grows
+pub before_prefix : {A : Type 0} (adds : ℕ → List A) (c d : ℕ) → c ≤ d → IsPrefix (before adds c) (before adds d)
+before_prefix adds c zero h = let same : 0 ≡ c = omega arith in subst (λ c. IsPrefix (before adds c) []) same (prefix_refl [])
+before_prefix adds c (suc d) h =
+    elim (less_or_same (suc d) c (omega arith)) [
+      | inl less ↦ prefix_trans (before_prefix adds c d (omega arith)) (before_extends adds d)
+      | inr same ↦ subst (λ c. IsPrefix (before adds c) (before adds (suc d))) same (prefix_refl _)
+    ]
+
+pub prefix_filter : {A : Type 0} (test : A → Bool) {xs ys : List A} → IsPrefix xs ys → IsPrefix (filter test xs) (filter test ys)
+prefix_filter test {xs} p = record { rest = filter test p.rest; joins = sym (filter-append test xs p.rest) ∙ ap (filter test) p.joins }
+
+pub prefix_flat_map : {A B : Type 0} (f : A → List B) {xs ys : List A} → IsPrefix xs ys → IsPrefix (flat_map f xs) (flat_map f ys)
+prefix_flat_map f {xs} p = record { rest = flat_map f p.rest; joins = sym (flat_map-append f xs p.rest) ∙ ap (flat_map f) p.joins }
+
+pub prefix_map : {A B : Type 0} (f : A → B) {xs ys : List A} → IsPrefix xs ys → IsPrefix (map f xs) (map f ys)
+prefix_map f {xs} p = record { rest = map f p.rest; joins = sym (map-append f xs p.rest) ∙ ap (map f) p.joins }
+
+-- a front is no longer than the whole
+pub prefix_length : {A : Type 0} {xs ys : List A} → IsPrefix xs ys → length xs ≤ length ys
+prefix_length {A} {xs} p = let e = ap length (sym p.joins) ∙ length-append xs p.rest in omega (arith, e)
+
+-- what is issued only grows
+pub issued_prefix : (system : System) (run : Run) (host agent c d : ℕ) → c ≤ d → IsPrefix (issued system run host agent c) (issued system run host agent d)
+issued_prefix system run host agent c d h = prefix_flat_map _ (prefix_filter _ (before_prefix _ c d h))
+
+-- what is taken only grows
+pub taken_prefix : (system : System) (run : Run) (agent c d : ℕ) → c ≤ d → IsPrefix (taken system run agent c) (taken system run agent d)
+taken_prefix system run agent c d h = prefix_flat_map _ (before_prefix _ c d h)
+
+-- a prefix of a legal run is legal
+pub legal_before : (shape : Shape) (signals : Signals) (accepts : ℕ → Bool) (shorter end : ℕ) → shorter ≤ end → AreLegal shape signals accepts end → AreLegal shape signals accepts shorter
+legal_before shape signals accepts shorter end h legal = record {
+  one_kind = λ c low. legal.one_kind c (omega arith);
+  held = λ c low. legal.held c (omega arith);
+  least = λ c low. legal.least c (omega arith);
+  most = λ c low. legal.most c (omega arith);
+  finished = λ c low. legal.finished c (omega arith);
+}
+
+pub owed_before : (valid asked : ℕ → ℕ) (shorter end : ℕ) → shorter ≤ end → AreOwed valid asked end → AreOwed valid asked shorter
+owed_before valid asked shorter end h owed = λ c low. owed c (omega arith)
+
+pub legal_at_before : (port : Port) (shorter end : ℕ) → shorter ≤ end → AreLegalAt port end → AreLegalAt port shorter
+legal_at_before port shorter end h legal = record {
+  legal = legal_before _ _ _ shorter end h legal.legal;
+  tag = λ c low. legal.tag c (omega arith);
+  more = λ c low. legal.more c (omega arith);
+}
+
+-- two parts in a row: the upper one gives legal commands on, and the lower one answers what is owed
+module _ (up middle down : Port) (end : ℕ)
+    (legal_on : (c : ℕ) → c ≤ end → AreLegalAt up c → AnswersAreOwed middle (c - 1) → AreLegalAt middle c)
+    (owed_back : (c : ℕ) → c ≤ end → AreLegalAt middle c → AnswersAreOwed down c → AnswersAreOwed middle c) where
+  -- the commands between them are legal
+  pub legal_between : (c : ℕ) → c ≤ end → AreLegalAt up c → AnswersAreOwed down (c - 1) → AreLegalAt middle c
+  legal_between zero h legal owed = legal_on zero h legal (λ c low. absurd (omega arith))
+  legal_between (suc c) h legal owed =
+      let earlier : AnswersAreOwed down c = λ k low. owed k (omega arith) in
+      let legal_earlier : AreLegalAt middle c = legal_between c (omega arith) (legal_at_before up c (suc c) (omega arith) legal) (λ k low. earlier k (omega arith)) in
+      let owed_there : AnswersAreOwed middle c = owed_back c (omega arith) legal_earlier earlier in
+      legal_on (suc c) h legal (λ k low. owed_there k (omega arith))
+
+  -- and the answers there are owed
+  pub owed_between : (c : ℕ) → c ≤ end → AreLegalAt up c → AnswersAreOwed down c → AnswersAreOwed middle c
+  owed_between c h legal owed = owed_back c h (legal_between c h legal (λ k low. owed k (omega arith))) owed
+
+-- two links in a row
+module _ (target : Target) (first_hold second_hold : ℕ) (up middle down : Port) (end : ℕ)
+    (first : IsLink target first_hold up middle end) (second : IsLink target second_hold middle down end) where
+  pub middle_legal : (c : ℕ) → c ≤ end → AreLegalAt up c → AnswersAreOwed down (c - 1) → AreLegalAt middle c
+  middle_legal = legal_between up middle down end (λ c h legal owed. (first.commands c h legal owed).legal) (λ c h legal owed. (second.answers c h legal owed).owed)
+
+  pub middle_owed : (c : ℕ) → c ≤ end → AreLegalAt up c → AnswersAreOwed down c → AnswersAreOwed middle c
+  middle_owed = owed_between up middle down end (λ c h legal owed. (first.commands c h legal owed).legal) (λ c h legal owed. (second.answers c h legal owed).owed)
+
+  -- they give legal commands on
+  pub chain_legal : (c : ℕ) → c ≤ end → AreLegalAt up c → AnswersAreOwed down (c - 1) → AreLegalAt down c
+  chain_legal c h legal owed = (second.commands c h (middle_legal c h legal owed) owed).legal
+
+  -- and answer what is owed
+  pub chain_owed : (c : ℕ) → c ≤ end → AreLegalAt up c → AnswersAreOwed down c → AnswersAreOwed up c
+  chain_owed c h legal owed = (first.answers c h legal (middle_owed c h legal owed)).owed
