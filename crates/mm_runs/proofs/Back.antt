@@ -1,7 +1,7 @@
 -- The lines of the parts give what is promised of the words that hosts are given.
 use Rattle.std.proofs.Common.{ℕ, zero, suc, ◌<◌, ◌≤◌, ◌≡◌, ◌+◌, ◌-◌, [], ◌∷◌, ◌++◌, List, Bool, true, false, Option, Some, None, arith, refl, sym, ap, ap₂, ◌∙◌, subst, length, map, flat_map, zip, take, drop, slice_get, MatchOption, length-append, if◌then◌else◌}
 use Rattle.std.proofs.lemmas.Option.{slice_get_within}
-use Rattle.mm_runs.proofs.Laws.{prefix_trans, prefix_map, prefix_filter, prefix_flat_map, before_extends, prefix_length}
+use Rattle.histories.specs.Laws.{prefix_trans, prefix_map, prefix_filter, prefix_flat_map, before_extends, prefix_length}
 use Rattle.mm_runs.proofs.Pipes.{taken_above}
 use Rattle.mm_runs.proofs.ChainAnswers.{holds_below, zip_front}
 use Rattle.mm_runs.proofs.Wire.{prefix_get, prefix_take}

@@ -2,7 +2,8 @@
 use Rattle.std.proofs.Common.{ℕ, zero, suc, ◌<◌, ◌≤◌, ◌≡◌, ◌+◌, ◌-◌, [], ◌∷◌, ◌++◌, List, true, false, IsTrue, arith, refl, sym, ap, ap₂, ◌∙◌, subst, append_assoc, append-nil, length, map, flat_map, take, drop, zip, MatchOption, inl, inr, take-append-drop, length-append, length-drop}
 use Rattle.std.proofs.lemmas.List.{map-append, length-map, drop_at, take-map, drop-map, take-append-le}
 use Rattle.std.proofs.lemmas.Bool.{cases_Bool}
-use Rattle.mm_runs.proofs.Laws.{middle_legal, middle_owed, chain_owed, prefix_trans, prefix_map, prefix_flat_map, before_extends}
+use Rattle.mm_runs.proofs.Laws.{middle_legal, middle_owed, chain_owed}
+use Rattle.histories.specs.Laws.{prefix_trans, prefix_map, prefix_flat_map, before_extends}
 use Rattle.mm_runs.proofs.Wire.{Asks, asks_of, asked_shown, asked_taken, zip_push, zip_length, prefix_get, prefix_take, same_counts}
 use Rattle.histories.specs.History.{IsPrefix, is_high}
 use Rattle.mm_runs.specs.Operations.{Beat, filled_lanes, byte_at}

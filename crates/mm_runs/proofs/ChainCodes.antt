@@ -4,7 +4,7 @@ use Rattle.std.proofs.lemmas.List.{map-append, length-map, take-map, drop-map}
 use Rattle.std.proofs.lemmas.Option.{slice_get-map}
 use Rattle.std.specs.Option.{option_map}
 use Rattle.std.proofs.lemmas.Bool.{cases_Bool}
-use Rattle.mm_runs.proofs.Laws.{prefix_trans, prefix_map, prefix_flat_map, prefix_filter}
+use Rattle.histories.specs.Laws.{prefix_trans, prefix_map, prefix_flat_map, prefix_filter}
 use Rattle.mm_runs.proofs.Held.{front_within}
 use Rattle.mm_runs.proofs.Wire.{Asks, asks_of, asked_shown, asked_taken, taken_is_shown, zip_push, prefix_get, same_counts}
 use Rattle.mm_runs.proofs.ChainAnswers.{zip_front, answers_extend, reads_before, answered_beat, bytes_below}

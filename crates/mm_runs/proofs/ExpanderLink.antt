@@ -1,14 +1,14 @@
 -- The commands of an expander's run.
 use Rattle.std.proofs.Common.{ℕ, zero, suc, ◌<◌, ◌≤◌, ◌≡◌, ◌*◌, [], ◌∷◌, ◌++◌, List, Bool, true, false, not, ◌&&◌, arith, refl, sym, ap, ap₂, ◌∙◌, append_assoc, append-nil, subst, length, if◌then◌else◌, nat_eq, le_of_eq}
 use Rattle.std.proofs.lemmas.Bool.{not-true, and_parts}
-use Rattle.mm_runs.proofs.Laws.{prefix_flat_map, prefix_filter, prefix_length}
-use Rattle.mm_runs.proofs.Standing.{standing, KeepsItems, legal_keeps, accepts_shows, shown_is_accepted_and_standing}
+use Rattle.histories.specs.Laws.{prefix_flat_map, prefix_filter, prefix_length, shown_is_accepted_and_standing}
+use Rattle.mm_runs.proofs.Standing.{legal_keeps, accepts_shows}
+use Rattle.histories.specs.History.{standing, KeepsItems, only_if, IsPrefix, stands_on, AreWithin}
 use Rattle.mm_runs.proofs.Wire.{marked_keeps, total_sizes, all_reached}
 use Rattle.mm_runs.proofs.Held.{within_trans}
 use Rattle.mm_runs.proofs.Stage.{burst_is, taken_is, marked_append, fit_when_shown, fits, fit_push, fit_at, prefix_behind, legal_when_shown}
 use Rattle.mm_runs.proofs.StageLink.{items_prefix, transfers_within}
 use Rattle.mm_runs.proofs.Expander.{expand_append, expand_fits, expand_items, expand_operations, expand_within, expand_beats}
-use Rattle.histories.specs.History.{only_if, IsPrefix, stands_on, AreWithin}
 use Rattle.mm_runs.specs.Views.{Shape, levels_at, CommandView, AnswerView}
 use Rattle.mm_runs.specs.Operations.{pieces}
 use Rattle.mm_runs.specs.Commands.{Burst, burst_before, shows, is_held}

@@ -9,8 +9,8 @@ use Rattle.mm_runs.specs.Operations.{Beat, Operation, operation_of_kind, operati
 use Rattle.mm_runs.specs.Commands.{Burst, burst_before, transfer_of, write_transfer, read_transfer, read_beat, is_of_reads, shows}
 use Rattle.mm_runs.specs.Link.{Target, Port, Marked, Item, AreLegalAt, takes, taken_at, shown_at, marked_at, items, items_from, items_of, acted_after, operations_among, operations_in, beat_operations, closes, has_acted, words_at, words_owed, read_beats, reads_of, answers_at, bytes_in, has_word_ready}
 use Rattle.mm_runs.specs.Link.Item.{Acts, Ends}
-use Rattle.mm_runs.specs.Tight.{is_owed}
-use Rattle.mm_runs.proofs.Laws.{prefix_filter, prefix_flat_map, prefix_trans, prefix_length}
+use Rattle.mm_runs.specs.Rank.{is_owed}
+use Rattle.histories.specs.Laws.{prefix_filter, prefix_flat_map, prefix_trans, prefix_length}
 use Rattle.mm_runs.proofs.Wire.{taken_is_shown, zip_length}
 use Rattle.std.proofs.lemmas.Bool.{and_from}
 

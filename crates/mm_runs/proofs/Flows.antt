@@ -2,7 +2,7 @@
 use Rattle.std.proofs.Common.{ℕ, ◌≤◌, ◌≡◌, ◌+◌, ◌-◌, ◌*◌, [], ◌∷◌, ◌++◌, List, Bool, true, false, not, ◌&&◌, ◌||◌, if◌then◌else◌, arith, refl, sym, ap, ap₂, ◌∙◌, subst, length, take, map, filter, flat_map, append_assoc, append-nil, mul-le-mul_left, mul_assoc, nat_eq, length-append}
 use Rattle.std.proofs.lemmas.Grind.{flat_map-append}
 use Rattle.std.proofs.Math.Seq.{take-append_seam}
-use Rattle.mm_runs.proofs.Laws.{prefix_trans, prefix_map, prefix_flat_map}
+use Rattle.histories.specs.Laws.{prefix_trans, prefix_map, prefix_flat_map}
 use Rattle.mm_runs.proofs.Held.{unreached_through, front_within, within_trans}
 use Rattle.histories.specs.History.{IsPrefix, unreached, total, AreWithin, only_if}
 use Rattle.mm_runs.specs.Views.{Shape}

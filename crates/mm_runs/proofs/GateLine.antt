@@ -2,11 +2,11 @@
 use Rattle.std.proofs.Common.{ℕ, zero, suc, ◌<◌, ◌≤◌, ◌≡◌, ◌-◌, ◌+◌, ◌^◌, [], ◌∷◌, ◌++◌, Bool, true, false, not, ◌&&◌, ◌||◌, IsTrue, IsFalse, if◌then◌else◌, nat_lt, arith, refl, sym, ap, ap₂, ◌∙◌, subst, length, map, append-nil}
 use Rattle.std.proofs.lemmas.List.{map-append, length-map}
 use Rattle.std.proofs.lemmas.Bool.{and_parts, not-true, and_right}
-use Rattle.mm_runs.proofs.Laws.{prefix_refl}
-use Rattle.mm_runs.proofs.Standing.{KeepsItems, shown_is_accepted_and_standing, accepts_shows, legal_keeps}
+use Rattle.histories.specs.Laws.{prefix_refl, shown_is_accepted_and_standing}
+use Rattle.mm_runs.proofs.Standing.{accepts_shows, legal_keeps}
+use Rattle.histories.specs.History.{KeepsItems, IsPrefix, only_if, is_high}
 use Rattle.mm_runs.proofs.RegisterBeats.{shown_by, same_marked}
 use Rattle.mm_runs.proofs.RegisterLegal.{standing_count}
-use Rattle.histories.specs.History.{IsPrefix, only_if, is_high}
 use Rattle.mm_runs.specs.Views.{Shape, Levels, levels_at, HostSide, HostView, System, Run}
 use Rattle.mm_runs.specs.Commands.{Transfer, shows, is_held, presents, burst_before, burst_after, transfer_of, transfer_at, accepted, presented}
 use Rattle.mm_runs.specs.Legal.{host_accepts, IsLegalHost, is_under_way}

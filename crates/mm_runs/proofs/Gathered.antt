@@ -3,7 +3,7 @@ use Rattle.std.proofs.Common.{ℕ, ◌<◌, ◌≤◌, ◌≡◌, ◌+◌, ◌-�
 use Rattle.std.specs.List.{list_all}
 use Rattle.std.proofs.lemmas.List.{map-append}
 use Rattle.std.proofs.lemmas.Bool.{and_parts}
-use Rattle.mm_runs.proofs.Laws.{prefix_trans, prefix_map, prefix_filter, prefix_flat_map, before_prefix}
+use Rattle.histories.specs.Laws.{prefix_trans, prefix_map, prefix_filter, prefix_flat_map, before_prefix}
 use Rattle.mm_runs.proofs.Flows.{prefix_items}
 use Rattle.mm_runs.proofs.Whole.{owners_of_groups, turn_after, acts_after, groups_whole, whole_together, all_of_copies}
 use Rattle.mm_runs.proofs.TurnOrder.{turns, prefix_turns, turns_of_groups, turn_of, host_turns, by_turns, by_turn, commands_with, together_front, together_back}

@@ -2,13 +2,14 @@
 use Rattle.std.proofs.Common.{ℕ, zero, suc, ◌<◌, ◌≤◌, ◌≡◌, ◌+◌, ◌-◌, ◌*◌, [], ◌∷◌, ◌++◌, List, Bool, true, false, IsTrue, if◌then◌else◌, arith, refl, sym, ap, ◌∙◌, subst, length, map, filter, flat_map, nat_eq, length-append, mul-le-mul_right}
 use Rattle.std.proofs.lemmas.List.{map-append}
 use Rattle.std.proofs.lemmas.List.Elements.{filter-append}
-use Rattle.mm_runs.proofs.Laws.{prefix_trans, prefix_map, prefix_filter, same_number}
+use Rattle.mm_runs.proofs.Laws.{same_number}
+use Rattle.histories.specs.Laws.{prefix_trans, prefix_map, prefix_filter, shown_is_accepted_and_standing, unreached_length}
 use Rattle.mm_runs.proofs.Flows.{carries_trans, carries_of_links, operations_front, counted}
 use Rattle.mm_runs.proofs.Parts.{port_fronts, tagged_fronts, placed_fronts, host_fronts, host_carries, pipe_carries, kept_length, of_host_same, issued_same}
 use Rattle.mm_runs.proofs.Path.{carrier_of_path}
 use Rattle.mm_runs.proofs.Settle.{legal_run_before}
-use Rattle.mm_runs.proofs.Standing.{standing, shown_is_accepted_and_standing, accepts_shows, legal_keeps}
-use Rattle.histories.specs.History.{IsPrefix, unreached, only_if, stands_on}
+use Rattle.mm_runs.proofs.Standing.{accepts_shows, legal_keeps}
+use Rattle.histories.specs.History.{standing, IsPrefix, unreached, only_if, stands_on}
 use Rattle.mm_runs.specs.Views.{System, Run}
 use Rattle.mm_runs.specs.Operations.{pieces}
 use Rattle.mm_runs.specs.Commands.{Transfer, shows, transfer_at, agent_accepts}
@@ -17,7 +18,6 @@ use Rattle.mm_runs.specs.Order.{transfer_operations, for_agent, of_host, has_tag
 use Rattle.mm_runs.specs.Link.{shown_at}
 use Rattle.mm_runs.specs.Lines.{Inside, Holds, Wired, Carries, Group, Sent, sizes_of, operations_of_groups, beats_of, groups_of, port_flow, tagged_flow, placed_flow, host_flow, placed, placed_group, sent_by, host_accepted, with_tag, target_of, AgentCarriesCommands, ArbiterCarriesCommands, PipeCarriesCommands}
 use Rattle.mm_runs.specs.Whole.{IsLegalRun}
-use Rattle.mm_runs.proofs.Held.{unreached_length}
 use Rattle.mm_runs.proofs.Back.{legal_everywhere, owed_earlier, host_commands}
 
 -- the beats for a place

@@ -1,14 +1,8 @@
 -- Two links in a row hold at most what both hold.
-use Rattle.std.proofs.Common.{ℕ, zero, suc, ◌≤◌, ◌≡◌, ◌+◌, ◌-◌, [], ◌∷◌, ◌++◌, List, arith, refl, sym, subst, take, nat_lt, if◌then◌else◌, le_refl, tests, length}
+use Rattle.std.proofs.Common.{ℕ, zero, suc, ◌≤◌, ◌≡◌, ◌+◌, ◌-◌, [], ◌∷◌, ◌++◌, List, arith, refl, sym, subst, take, nat_lt, if◌then◌else◌, tests}
 use Rattle.histories.specs.History.{unreached, total, AreWithin}
+use Rattle.histories.specs.Laws.{unreached_falls}
 use Rattle.histories.specs.History.AreWithin.{all_placed, placed, next_room}
-
--- fewer are unreached where more is reached
-unreached_falls : (sizes : List ℕ) (n m : ℕ) → n ≤ m → unreached sizes m ≤ unreached sizes n
-unreached_falls [] n m h = le_refl 0
-unreached_falls (size ∷ sizes) n m h =
-    let rest = unreached_falls sizes (n - size) (m - size) (omega arith) in
-    grind (arith, tests, rest)
 
 -- one step, on numbers: `a` to `f` are what is left unreached behind the first group
 one_step : (n u d t a b e : ℕ) → d ≤ u →
@@ -78,8 +72,3 @@ within_trans lower middle upper all_placed h = all_placed
 within_trans lower middle upper (next_room {upper = others} within) h = within_trans lower others upper within (without_empty others middle upper h refl)
 within_trans lower middle upper (placed {size} {room} {lower = rest} {upper = others} fits within) h =
     place_first size room rest others fits (λ upper there. within_trans rest ((room - size) ∷ others) upper within there) middle upper h refl
-
--- no more are unreached than there are
-pub unreached_length : (sizes : List ℕ) (n : ℕ) → unreached sizes n ≤ length sizes
-unreached_length [] n = omega arith
-unreached_length (size ∷ sizes) n = let rest = unreached_length sizes (n - size) in grind (arith, tests, rest)

@@ -1,9 +1,9 @@
 -- What was shown and isn't wholly taken is what was accepted and isn't, and at most the beat that stands.
 use Rattle.std.proofs.Common.{ℕ, zero, suc, ◌≤◌, ◌+◌, ◌-◌, [], ◌∷◌, ◌++◌, List, Bool, true, false, arith, sym, ap, ◌∙◌, subst, append-nil, length, tests}
 use Rattle.std.proofs.lemmas.List.{map-append}
-use Rattle.mm_runs.proofs.Standing.{standing, shown_is_accepted_and_standing}
+use Rattle.histories.specs.Laws.{shown_is_accepted_and_standing}
+use Rattle.histories.specs.History.{standing, unreached, only_if, stands_on}
 use Rattle.mm_runs.proofs.Wire.{marked_keeps}
-use Rattle.histories.specs.History.{unreached, only_if, stands_on}
 use Rattle.mm_runs.specs.Commands.{shows}
 use Rattle.mm_runs.specs.Link.{Target, Port, Marked, AreLegalAt, shown_at, taken_at, sizes, takes, marked_at, operations_in}
 

@@ -1,10 +1,7 @@
 -- Laws of histories, of legality and of links.
-use Rattle.std.proofs.Common.{ℕ, zero, suc, ◌≤◌, ◌≡◌, ◌-◌, [], arith, refl, List, ◌++◌, filter, flat_map, map, sym, ap, ◌∙◌, subst, Bool, append_assoc, append-nil, inl, inr, length, length-append, nat_eq, true, eq-eqb}
-use Rattle.std.proofs.lemmas.Grind.{flat_map-append}
-use Rattle.std.proofs.lemmas.List.{map-append}
-use Rattle.std.proofs.lemmas.List.Elements.{filter-append}
-use Rattle.mm_runs.proofs.Below.{less_or_same}
-use Rattle.histories.specs.History.{before, IsPrefix}
+use Rattle.std.proofs.Common.{ℕ, zero, suc, ◌≤◌, ◌≡◌, ◌-◌, arith, refl, Bool, nat_eq, true, eq-eqb}
+use Rattle.histories.specs.History.{IsPrefix}
+use Rattle.histories.specs.Laws.{before_prefix, prefix_filter, prefix_flat_map}
 use Rattle.mm_runs.specs.Views.{System, Run, Signals, Shape}
 use Rattle.mm_runs.specs.Legal.{AreLegal, AreOwed}
 use Rattle.mm_runs.specs.Order.{issued, taken}
@@ -12,37 +9,6 @@ use Rattle.mm_runs.specs.Link.{Target, Port, IsLink, AreLegalAt, AnswersAreOwed}
 
 pub same_number : (n : ℕ) → nat_eq n n ≡ true
 same_number n = eq-eqb n n refl
-
-pub prefix_refl : {A : Type 0} (xs : List A) → IsPrefix xs xs
-prefix_refl xs = record { rest = []; joins = append-nil xs }
-
-pub prefix_trans : {A : Type 0} {xs ys zs : List A} → IsPrefix xs ys → IsPrefix ys zs → IsPrefix xs zs
-prefix_trans {A} {xs} p q = record { rest = p.rest ++ q.rest; joins = sym (append_assoc xs p.rest q.rest) ∙ ap (λ l. l ++ q.rest) p.joins ∙ q.joins }
-
-pub before_extends : {A : Type 0} (adds : ℕ → List A) (c : ℕ) → IsPrefix (before adds c) (before adds (suc c))
-before_extends adds c = record { rest = adds c; joins = refl }
-
--- a history only grows
-pub before_prefix : {A : Type 0} (adds : ℕ → List A) (c d : ℕ) → c ≤ d → IsPrefix (before adds c) (before adds d)
-before_prefix adds c zero h = let same : 0 ≡ c = omega arith in subst (λ c. IsPrefix (before adds c) []) same (prefix_refl [])
-before_prefix adds c (suc d) h =
-    elim (less_or_same (suc d) c (omega arith)) [
-      | inl less ↦ prefix_trans (before_prefix adds c d (omega arith)) (before_extends adds d)
-      | inr same ↦ subst (λ c. IsPrefix (before adds c) (before adds (suc d))) same (prefix_refl _)
-    ]
-
-pub prefix_filter : {A : Type 0} (test : A → Bool) {xs ys : List A} → IsPrefix xs ys → IsPrefix (filter test xs) (filter test ys)
-prefix_filter test {xs} p = record { rest = filter test p.rest; joins = sym (filter-append test xs p.rest) ∙ ap (filter test) p.joins }
-
-pub prefix_flat_map : {A B : Type 0} (f : A → List B) {xs ys : List A} → IsPrefix xs ys → IsPrefix (flat_map f xs) (flat_map f ys)
-prefix_flat_map f {xs} p = record { rest = flat_map f p.rest; joins = sym (flat_map-append f xs p.rest) ∙ ap (flat_map f) p.joins }
-
-pub prefix_map : {A B : Type 0} (f : A → B) {xs ys : List A} → IsPrefix xs ys → IsPrefix (map f xs) (map f ys)
-prefix_map f {xs} p = record { rest = map f p.rest; joins = sym (map-append f xs p.rest) ∙ ap (map f) p.joins }
-
--- a front is no longer than the whole
-pub prefix_length : {A : Type 0} {xs ys : List A} → IsPrefix xs ys → length xs ≤ length ys
-prefix_length {A} {xs} p = let e = ap length (sym p.joins) ∙ length-append xs p.rest in omega (arith, e)
 
 -- what is issued only grows
 pub issued_prefix : (system : System) (run : Run) (host agent c d : ℕ) → c ≤ d → IsPrefix (issued system run host agent c) (issued system run host agent d)

@@ -4,7 +4,7 @@ use Rattle.std.specs.Prelude.{⊤}
 use Rattle.std.proofs.lemmas.Option.{slice_get-get_or}
 use Rattle.std.proofs.lemmas.List.Elements.{filter-append}
 use Rattle.std.proofs.lemmas.Grind.{flat_map-append}
-use Rattle.mm_runs.proofs.Laws.{prefix_trans, prefix_map, prefix_filter, prefix_flat_map, prefix_length}
+use Rattle.histories.specs.Laws.{prefix_trans, prefix_map, prefix_filter, prefix_flat_map, prefix_length}
 use Rattle.mm_runs.proofs.Wire.{prefix_get, prefix_take}
 use Rattle.mm_runs.proofs.Flows.{operations_front}
 use Rattle.mm_runs.proofs.Parts.{shown_grows}

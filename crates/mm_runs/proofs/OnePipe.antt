@@ -1,6 +1,6 @@
 -- One register for commands and one for answers are a pipe of one stage.
 use Rattle.std.proofs.Common.{ℕ, zero, suc, ◌≤◌, ◌≡◌, ◌-◌, ◌+◌, [], ◌++◌, Bool, true, false, ◌&&◌, arith, refl, sym, ap, ap₂, ◌∙◌, subst, length, map, nat_eq, append-nil, length-append}
-use Rattle.mm_runs.proofs.Laws.{prefix_refl}
+use Rattle.histories.specs.Laws.{prefix_refl}
 use Rattle.mm_runs.proofs.Parts.{held_of_fronts, sizes_flat}
 use Rattle.mm_runs.proofs.RegisterBeats.{is_ahead, taken_later, shown_later}
 use Rattle.mm_runs.proofs.RegisterLegal.{register_legal}

@@ -4,8 +4,8 @@ use Rattle.histories.specs.History.{only_if}
 use Rattle.mm_runs.specs.Views.{Shape}
 use Rattle.mm_runs.specs.Commands.{is_held, shows}
 use Rattle.mm_runs.specs.Link.{Target, Port, Marked, AreLegalAt, takes, taken_at, shown_at, marked_at, operations_among, words_at, read_beats, is_last_joined}
-use Rattle.mm_runs.specs.Tight.{is_last_write, is_writing, is_owed, is_unclosed, may_rest, is_excused_tight, has_commands, FallsForCommands, HoldsOneBeat}
-use Rattle.mm_runs.proofs.WireTight.{all_taken, quiet, never_less, rests_or_moves, three_cases}
+use Rattle.mm_runs.specs.Rank.{is_last_write, is_writing, is_owed, is_unclosed, may_rest, is_excused, has_commands, LinkRankFalls, HoldsOneBeat}
+use Rattle.mm_runs.proofs.WireRank.{all_taken, quiet, never_less, rests_or_moves, three_cases}
 use Rattle.std.proofs.lemmas.Bool.{both_ways}
 
 second_still : (a b : Bool) → IsTrue (not (a || b)) → IsFalse b
@@ -24,14 +24,14 @@ not_held s t h = grind (arith, tests)
 twice : (t : Bool) → IsFalse t → IsTrue (not (t || t))
 twice t h = grind (arith, tests)
 
-pub register_falls : (target : Target) (up down : Port) (end : ℕ) → AreLegalAt up end → HoldsOneBeat up down end → FallsForCommands target up down (λ c. 0) 0 end
+pub register_falls : (target : Target) (up down : Port) (end : ℕ) → AreLegalAt up end → HoldsOneBeat up down end → LinkRankFalls target up down (λ c. 0) 0 end
 register_falls target up down end legal register = record {
   bounded = λ c h. omega arith;
   falls = λ c h work still must. absurd (never c h work still must);
   stays = λ c h work still. omega arith;
 }
   where
-    never : (c : ℕ) → c < end → IsTrue (has_commands target up down c) → IsTrue (not (takes down c || takes up c)) → IsTrue (not (is_excused_tight up down c)) → ⊥
+    never : (c : ℕ) → c < end → IsTrue (has_commands target up down c) → IsTrue (not (takes down c || takes up c)) → IsTrue (not (is_excused up down c)) → ⊥
     never c h work still must =
         let q = quiet (is_held down.commands.signals (takes down) c) (is_owed down c && not (is_writing down c)) (may_rest up c) must in
         let none_below = first_still (takes down c) (takes up c) still in

@@ -2,9 +2,9 @@
 use Rattle.std.proofs.Common.{ℕ, suc, ◌<◌, ◌≤◌, ◌≡◌, ◌+◌, ◌-◌, [], ◌∷◌, ◌++◌, List, Bool, true, false, if◌then◌else◌, arith, refl, sym, ap, ap₂, ◌∙◌, subst, length, map, filter, flat_map, nat_eq, nat_lt, tests, le_refl}
 use Rattle.std.proofs.lemmas.List.{map-append, length-map}
 use Rattle.std.proofs.lemmas.List.Elements.{filter-append}
-use Rattle.mm_runs.proofs.Laws.{before_prefix, prefix_trans, prefix_map, prefix_filter}
+use Rattle.histories.specs.Laws.{before_prefix, prefix_trans, prefix_map, prefix_filter, accepted_prefix, unreached_length}
 use Rattle.mm_runs.proofs.Flows.{AreFronts, prefix_items}
-use Rattle.mm_runs.proofs.Standing.{accepted_prefix, accepts_shows, legal_keeps}
+use Rattle.mm_runs.proofs.Standing.{accepts_shows, legal_keeps}
 use Rattle.mm_runs.proofs.Wire.{taken_is_shown}
 use Rattle.histories.specs.History.{IsPrefix, unreached, total, AreWithin}
 use Rattle.histories.specs.History.AreWithin.{all_placed, placed as room_placed, next_room}
@@ -15,7 +15,6 @@ use Rattle.mm_runs.specs.Legal.{IsLegalHost}
 use Rattle.mm_runs.specs.Order.{transfer_operations, for_agent, of_host, has_tag, Tagged, place_of, is_agent, host_transfers}
 use Rattle.mm_runs.specs.Link.{Target, Port, Marked, closes, AreLegalAt, shown_at, taken_at, operations_in}
 use Rattle.mm_runs.specs.Lines.{Carries, Group, Sent, items_among, sizes_of, operations_of_groups, groups_of, group_of, port_flow, tagged_flow, placed_flow, host_flow, host_accepted, placed_group, with_tag, placed, sent_by, sent_of, tagged_operations, TaggedPort, PipeCarriesCommands, HostCarriesCommands, target_of}
-use Rattle.mm_runs.proofs.Held.{unreached_length}
 
 -- ---- fronts
 

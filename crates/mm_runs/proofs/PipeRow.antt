@@ -1,11 +1,12 @@
 -- Pipes in a row are one pipe.
 use Rattle.std.proofs.Common.{ℕ, zero, suc, ◌≤◌, ◌≡◌, ◌-◌, ◌+◌, arith, refl, ap, ◌∙◌, subst, length}
-use Rattle.mm_runs.proofs.Laws.{prefix_trans, prefix_map, legal_at_before}
+use Rattle.mm_runs.proofs.Laws.{legal_at_before}
+use Rattle.histories.specs.Laws.{prefix_trans, prefix_map}
 use Rattle.std.proofs.Common.{le_of_eq, le_refl}
 use Rattle.mm_runs.proofs.Wire.{all_reached}
 use Rattle.mm_runs.proofs.Flows.{counted}
 use Rattle.mm_runs.proofs.Parts.{prefix_within, tagged_fronts, shown_grows}
-use Rattle.mm_runs.proofs.Laws.{prefix_filter, prefix_refl}
+use Rattle.histories.specs.Laws.{prefix_filter, prefix_refl}
 use Rattle.mm_runs.proofs.Pipes.{owed_above}
 use Rattle.histories.specs.History.{IsPrefix, total}
 use Rattle.mm_runs.specs.Views.{System, Shape}

@@ -2,7 +2,7 @@
 use Rattle.std.proofs.Common.{ℕ, zero, suc, ◌≤◌, ◌-◌, ◌≡◌, ◌||◌, Bool, true, false, IsTrue, List, ◌++◌, arith, refl, sym, subst, length, [], ◌∷◌}
 use Rattle.std.proofs.lemmas.Bool.{and_parts}
 use Rattle.std.specs.List.{list_all}
-use Rattle.mm_runs.proofs.Laws.{prefix_trans, prefix_filter, prefix_flat_map, before_prefix, prefix_length}
+use Rattle.histories.specs.Laws.{prefix_trans, prefix_filter, prefix_flat_map, before_prefix, prefix_length}
 use Rattle.histories.specs.History.{IsPrefix}
 use Rattle.mm_runs.specs.Views.{System}
 use Rattle.mm_runs.specs.Operations.{Beat}

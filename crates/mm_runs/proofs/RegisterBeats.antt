@@ -1,10 +1,10 @@
 -- A register hands on just the beats that it took, at least one cycle later.
 use Rattle.std.proofs.Common.{ℕ, zero, suc, ◌≤◌, ◌≡◌, [], ◌∷◌, ◌++◌, Bool, true, false, not, ◌&&◌, ◌||◌, if◌then◌else◌, arith, refl, sym, ap, ap₂, ◌∙◌, subst, append-nil}
 use Rattle.std.proofs.lemmas.Bool.{and_parts, and_right}
-use Rattle.mm_runs.proofs.Laws.{prefix_refl}
-use Rattle.mm_runs.proofs.Standing.{KeepsItems, shown_is_accepted_and_standing, accepts_shows}
+use Rattle.histories.specs.Laws.{prefix_refl, shown_is_accepted_and_standing}
+use Rattle.mm_runs.proofs.Standing.{accepts_shows}
+use Rattle.histories.specs.History.{KeepsItems, IsPrefix, only_if, is_high}
 use Rattle.mm_runs.proofs.Wire.{taken_is_shown}
-use Rattle.histories.specs.History.{IsPrefix, only_if, is_high}
 use Rattle.mm_runs.specs.Views.{Shape, Levels, levels_at}
 use Rattle.mm_runs.specs.Commands.{Burst, shows, is_held, burst_before, burst_after, transfer_of}
 use Rattle.mm_runs.specs.Link.{Port, Marked, AreLegalAt, takes, marked_at, taken_at, shown_at}

@@ -1,9 +1,9 @@
 -- What a side takes is told by its list of beats; what a stage with a queue shows is legal, and was taken above before.
 use Rattle.std.proofs.Common.{ℕ, zero, suc, ◌<◌, ◌≤◌, ◌≡◌, [], ◌∷◌, ◌++◌, List, Bool, true, false, not, ◌&&◌, ◌||◌, IsTrue, IsFalse, arith, refl, sym, ap, ap₂, ◌∙◌, append_assoc, append-nil, subst, drop, if◌then◌else◌}
 use Rattle.std.proofs.lemmas.Bool.{not-true, and_parts}
-use Rattle.mm_runs.proofs.Standing.{shown_is_accepted_and_standing, standing}
+use Rattle.histories.specs.Laws.{shown_is_accepted_and_standing}
+use Rattle.histories.specs.History.{standing, before, only_if, is_high, IsPrefix}
 use Rattle.mm_runs.proofs.Wire.{marked_keeps}
-use Rattle.histories.specs.History.{before, only_if, is_high, IsPrefix}
 use Rattle.mm_runs.specs.Views.{Shape, levels_at, CommandView, AnswerView}
 use Rattle.mm_runs.specs.Commands.{Burst, burst_after, burst_before, shows, is_held, presents}
 use Rattle.mm_runs.specs.Legal.{is_under_way}

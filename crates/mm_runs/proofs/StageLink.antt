@@ -3,10 +3,9 @@ use Rattle.std.proofs.Common.{ℕ, zero, suc, ◌<◌, ◌≤◌, ◌≡◌, ◌
 use Rattle.std.proofs.lemmas.List.{map-append, length-map, take-append-le}
 use Rattle.std.proofs.lemmas.Bool.{le-ltb}
 use Rattle.std.proofs.Math.Seq.{drop-append_seam}
-use Rattle.mm_runs.proofs.Laws.{prefix_flat_map, prefix_filter, prefix_trans, before_extends, prefix_length, prefix_map}
+use Rattle.histories.specs.Laws.{prefix_flat_map, prefix_filter, prefix_trans, before_extends, prefix_length, prefix_map, unreached_length}
 use Rattle.mm_runs.proofs.Wire.{own_bytes, own_code, taken_is_shown, same_pieces, total_sizes, zip_push, zip_length, same_counts, prefix_get, prefix_take, asks_of, asked_taken}
 use Rattle.mm_runs.proofs.ChainAnswers.{answers_extend}
-use Rattle.mm_runs.proofs.Held.{unreached_length}
 use Rattle.mm_runs.proofs.Stage.{prefix_behind, shown_front, stage_legal, taken_split}
 use Rattle.histories.specs.History.{only_if, is_high, IsPrefix, unreached, total, AreWithin}
 use Rattle.mm_runs.specs.Views.{Shape, CommandView, AnswerView}

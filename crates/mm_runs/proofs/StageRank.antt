@@ -1,34 +1,22 @@
 -- The rank of a stage: at most 1 for commands alone, and at most 2 with its answers.
-use Rattle.std.proofs.Common.{ℕ, suc, ◌<◌, ◌≤◌, ◌≡◌, ◌+◌, [], ◌∷◌, ◌++◌, List, Bool, true, false, not, ◌&&◌, ◌||◌, IsTrue, arith, refl, sym, ap, ap₂, ◌∙◌, append-nil, subst, length, drop, nat_lt, nat_le, take, if◌then◌else◌, le_refl, ltb-true, lt-ltb}
+use Rattle.std.proofs.Common.{ℕ, suc, ◌<◌, ◌≤◌, ◌≡◌, [], ◌∷◌, ◌++◌, List, Bool, true, false, not, ◌&&◌, ◌||◌, IsTrue, arith, refl, sym, ap, ap₂, ◌∙◌, append-nil, subst, length, nat_lt, le_refl, ltb-true, lt-ltb}
 use Rattle.std.proofs.lemmas.Bool.{le-ltb, both_ways, or_parts, not-true}
-use Rattle.mm_runs.proofs.Standing.{shown_is_accepted_and_standing}
+use Rattle.histories.specs.Laws.{shown_is_accepted_and_standing, prefix_length, before_extends}
 use Rattle.mm_runs.proofs.Wire.{marked_keeps}
 use Rattle.mm_runs.proofs.Stage.{taken_split}
 use Rattle.mm_runs.proofs.StageLink.{words_later}
 use Rattle.histories.specs.History.{only_if, is_high}
 use Rattle.mm_runs.specs.Views.{Shape, CommandView, AnswerView}
 use Rattle.mm_runs.specs.Commands.{shows, is_held}
-use Rattle.mm_runs.specs.Link.{Target, Port, AreLegalAt, takes, marked_at, shown_at, taken_at, operations_among, read_beats, words_at, answers_at, reads_of, has_word_ready, is_last_joined, has_work, moves, words_owed}
-use Rattle.mm_runs.specs.Machines.{Raw, raw_at, raws, idle, marked, burst_of, ShowsHead, IsStageRun, port_of, one_if, is_empty, stage_rank, owing_rank}
-use Rattle.mm_runs.specs.Tight.{FallsTight, is_excused_tight, is_owed, is_writing, is_last_write, may_rest, FallsForCommands, has_commands}
-use Rattle.mm_runs.proofs.Laws.{prefix_length, before_extends}
+use Rattle.mm_runs.specs.Link.{Target, Port, AreLegalAt, takes, marked_at, shown_at, taken_at, operations_among, read_beats, words_at, is_last_joined, words_owed}
+use Rattle.mm_runs.specs.Machines.{Raw, raws, idle, marked, burst_of, ShowsHead, IsStageRun, port_of, one_if, owing_rank}
+use Rattle.mm_runs.specs.Rank.{is_excused, is_owed, is_writing, is_last_write, may_rest, LinkRankFalls, has_commands}
 
 none_of : (a b d : Bool) → not (a || b || d) ≡ true → (a ≡ false) × (b ≡ false) × (d ≡ false)
 none_of true b d e = cc
 none_of false true d e = cc
 none_of false false true e = cc
 none_of false false false e = (refl, refl, refl)
-
-no_work : (a b d e : Bool) → (a || b || d || e) ≡ true → a ≡ false → b ≡ false → d ≡ false → e ≡ false → ⊥
-no_work a b d e work na nb nd ne = cc
-
--- what is left open may rest, or its word is owed below
-neither : (op lw o : Bool) → (o && not (op && lw)) ≡ false → (op && true && (lw || not o)) ≡ false → (op ≡ false) × (o ≡ false)
-neither true true o e f = cc
-neither true false true e f = cc
-neither true false false e f = cc
-neither false lw true e f = cc
-neither false lw false e f = (refl, refl)
 
 -- what is left open isn't excused only while its word has come below and not above
 open_owes : (op lw o above : Bool) → op ≡ true → (o && not (op && lw)) ≡ false → (op && true && (lw || not above)) ≡ false → (o ≡ false) × (above ≡ true)
@@ -86,18 +74,6 @@ module _ (depth : ℕ) (shape : Shape) (uc dc : CommandView) (ua da : AnswerView
       let room : length (queue c) < depth = subst (λ q. length q < depth) (sym none) some in
       not_shown (shows uc.signals c) (is_high (uc.wait c)) (opens c room) taken
 
-  -- a part that isn't excused, where the words above are those below
-  nothing_left : (c : ℕ) → c < end → queue c ≡ [] → takes up c ≡ false → takes down c ≡ false → words_at up (suc c) ≡ words_at down (suc c) → IsTrue (not (is_excused_tight up down c)) →
-      (is_last_joined (taken_at down (suc c)) ≡ false) × (is_owed down c ≡ false)
-  nothing_left c h none not_up not_down words wants =
-      let quiet = quiet_above c none not_up in
-      let taken = both_taken c none not_up not_down in
-      let owed : is_owed up c ≡ is_owed down c = ap₂ (λ w l. nat_lt (length w) (length (read_beats l))) words taken in
-      let rests = none_of (is_held dc.signals (takes down) c) (is_owed down c && not (is_writing down c)) (may_rest up c) wants in
-      neither (is_last_joined (taken_at down (suc c))) (is_last_write (taken_at down (suc c))) (is_owed down c) rests.1
-      (ap₂ (λ l o. is_last_joined l && true && (is_last_write l || not o)) (sym taken) (sym owed)
-      ∙ ap (λ s. is_last_joined (taken_at up (suc c)) && not s && (is_last_write (taken_at up (suc c)) || not (is_owed up c))) (sym quiet) ∙ rests.2)
-
   none_held : (c : ℕ) → shows uc.signals c ≡ false → is_held uc.signals (takes up) c ≡ false
   none_held c quiet = ap (λ s. s && not (takes up c)) quiet
 
@@ -107,67 +83,13 @@ module _ (depth : ℕ) (shape : Shape) (uc dc : CommandView) (ua da : AnswerView
       ap (λ l. nat_lt (length (operations_among target shape (taken_at down (suc c)))) (length (operations_among target shape l))) (all_taken c h none not_up not_down quiet) ∙ le-ltb _ _ (le_refl _)
 
   -- the head of the queue stands below
-  stands : (c : ℕ) (raw : Raw) (later : List Raw) → ShowsHead down c (raw ∷ later) → takes down c ≡ false → IsTrue (not (is_excused_tight up down c)) → ⊥
+  stands : (c : ℕ) (raw : Raw) (later : List Raw) → ShowsHead down c (raw ∷ later) → takes down c ≡ false → IsTrue (not (is_excused up down c)) → ⊥
   stands c raw later head not_down wants =
       let rests = none_of (is_held dc.signals (takes down) c) (is_owed down c && not (is_writing down c)) (may_rest up c) wants in
       let held : is_held dc.signals (takes down) c ≡ true = ap₂ (λ s t. s && not t) head.0 not_down in
       both_ways (is_held dc.signals (takes down) c) rests.0 held
 
-  falls_empty : (c : ℕ) → c < end → queue c ≡ [] → takes down c ≡ false → is_high (ua.valid c) ≡ false → IsTrue (has_work target up down c) → IsTrue (not (is_excused_tight up down c)) →
-      (t : Bool) → takes up c ≡ t → (v : Bool) → is_high (da.valid c) ≡ v → one_if (is_empty (queue (suc c))) + one_if (not (is_high (ua.valid (suc c)))) < 2
-  falls_empty c h none not_down low work wants true taken v valid =
-      let filled : queue (suc c) ≡ raw_at up c ∷ [] = run.next c ∙ ap₂ (λ q t. drop (if takes down c then 1 else 0) q ++ only_if t (raw_at up c)) none taken ∙ ap (λ b. drop (if b then 1 else 0) [] ++ raw_at up c ∷ []) not_down in
-      let few = at_most_one (not (is_high (ua.valid (suc c)))) in
-      let zero_here : one_if (is_empty (queue (suc c))) ≡ 0 = ap (λ q. one_if (is_empty q)) filled in
-      omega (arith, few, zero_here)
-  falls_empty c h none not_down low work wants false taken true valid =
-      let few = at_most_one (is_empty (queue (suc c))) in
-      let zero_here : one_if (not (is_high (ua.valid (suc c)))) ≡ 0 = ap (λ v. one_if (not (is_high v))) (run.valid c) ∙ ap (λ b. one_if (not b)) valid in
-      omega (arith, few, zero_here)
-  falls_empty c h none not_down low work wants false taken false valid =
-      let quiet = quiet_above c none taken in
-      let words : words_at up (suc c) ≡ words_at down (suc c) = words_later depth shape uc dc ua da queue run c ∙ sym (append-nil (words_at down c)) ∙ ap (λ v. words_at down c ++ only_if v (record { word = da.word c; code = da.code c })) (sym valid) in
-      let left = nothing_left c h none taken not_down words wants in
-      absurd (no_work (is_held uc.signals (takes up) c) (nat_lt (length (operations_among target shape (taken_at down (suc c)))) (length (operations_among target shape (shown_at up (suc c))))) (is_last_joined (taken_at down (suc c))) (has_word_ready target up down (suc c)) work
-      (none_held c quiet) (none_untaken c h none taken not_down quiet) left.0
-      (ap₂ (λ w l. nat_lt (length w) (length (read_beats l)) && nat_le (reads_of target shape (take (suc (length w)) (read_beats l))) (length (answers_at target down (suc c)))) words (all_taken c h none taken not_down quiet)
-      ∙ ap (λ b. b && nat_le (reads_of target shape (take (suc (length (words_at down (suc c)))) (read_beats (taken_at down (suc c))))) (length (answers_at target down (suc c)))) left.1))
-
-  pub stage_has_rank : FallsTight target up down (stage_rank queue ua) 2 end
-  stage_has_rank = record {
-    bounded = λ c h. let a = at_most_one (is_empty (queue c)) in let b = at_most_one (not (is_high (ua.valid c))) in omega (arith, a, b);
-    falls = λ c h work still wants. falls c h work still wants (queue c) refl (run.heads c);
-    stays = λ c h work still. stays c h work still (queue c) refl (run.heads c);
-  }
-    where
-      falls : (c : ℕ) → c < end → IsTrue (has_work target up down c) → IsTrue (not (moves up down c)) → IsTrue (not (is_excused_tight up down c)) → (q : List Raw) → queue c ≡ q → ShowsHead down c q → stage_rank queue ua (suc c) < stage_rank queue ua c
-      falls c h work still wants [] is head =
-          let still_parts = none_of (takes down c) (is_high (ua.valid c)) (takes up c && is_high (uc.write c)) still in
-          let now : stage_rank queue ua c ≡ 2 = ap₂ (λ q v. one_if (is_empty q) + one_if (not v)) is still_parts.1 in
-          subst (λ n. stage_rank queue ua (suc c) < n) (sym now) (falls_empty c h is still_parts.0 still_parts.1 work wants (takes up c) refl (is_high (da.valid c)) refl)
-      falls c h work still wants (raw ∷ later) is head =
-          let still_parts = none_of (takes down c) (is_high (ua.valid c)) (takes up c && is_high (uc.write c)) still in
-          absurd (stands c raw later head still_parts.0 wants)
-
-      stays : (c : ℕ) → c < end → IsTrue (has_work target up down c) → IsTrue (not (moves up down c)) → (q : List Raw) → queue c ≡ q → ShowsHead down c q → stage_rank queue ua (suc c) ≤ stage_rank queue ua c
-      stays c h work still q is head =
-          let still_parts = none_of (takes down c) (is_high (ua.valid c)) (takes up c && is_high (uc.write c)) still in
-          let low : one_if (not (is_high (ua.valid c))) ≡ 1 = ap (λ v. one_if (not v)) still_parts.1 in
-          let few = at_most_one (not (is_high (ua.valid (suc c)))) in
-          let rest = kept q (run.next c ∙ ap₂ (λ t q. drop (if t then 1 else 0) q ++ only_if (takes up c) (raw_at up c)) still_parts.0 is) is in
-          omega (arith, low, few, rest)
-        where
-          kept : (q : List Raw) → queue (suc c) ≡ q ++ only_if (takes up c) (raw_at up c) → queue c ≡ q → one_if (is_empty (queue (suc c))) ≤ one_if (is_empty (queue c))
-          kept [] next is =
-              let full : one_if (is_empty (queue c)) ≡ 1 = ap (λ q. one_if (is_empty q)) is in
-              let few = at_most_one (is_empty (queue (suc c))) in
-              omega (arith, full, few)
-          kept (x ∷ xs) next is =
-              let none : one_if (is_empty (queue (suc c))) ≡ 0 = ap (λ q. one_if (is_empty q)) next in
-              omega (arith, none)
-
-  -- for commands alone
-  pub stage_falls : FallsForCommands target up down (owing_rank down) 1 end
+  pub stage_falls : LinkRankFalls target up down (owing_rank down) 1 end
   stage_falls = record {
     bounded = λ c h. at_most_one (nat_lt (length (words_at down c)) (words_owed down c));
     falls = λ c h work still wants. falls c h work (or_parts (takes down c) (takes up c) (not-true (takes down c || takes up c) still)) wants (queue c) refl (run.heads c);
@@ -177,7 +99,7 @@ module _ (depth : ℕ) (shape : Shape) (uc dc : CommandView) (ua da : AnswerView
       same_taken : (c : ℕ) → takes down c ≡ false → taken_at down (suc c) ≡ taken_at down c
       same_taken c none = ap (λ t. taken_at down c ++ only_if t (marked_at down c)) none ∙ append-nil (taken_at down c)
 
-      falls : (c : ℕ) → c < end → IsTrue (has_commands target up down c) → (takes down c ≡ false) × (takes up c ≡ false) → IsTrue (not (is_excused_tight up down c)) → (q : List Raw) → queue c ≡ q → ShowsHead down c q → owing_rank down (suc c) < owing_rank down c
+      falls : (c : ℕ) → c < end → IsTrue (has_commands target up down c) → (takes down c ≡ false) × (takes up c ≡ false) → IsTrue (not (is_excused up down c)) → (q : List Raw) → queue c ≡ q → ShowsHead down c q → owing_rank down (suc c) < owing_rank down c
       falls c h work still wants (raw ∷ later) is head = absurd (stands c raw later head still.0 wants)
       falls c h work still wants [] is head =
           let quiet = quiet_above c is still.1 in

@@ -1,7 +1,7 @@
 -- Words with the tags of their commands, in order, are owed for each tag by itself.
 use Rattle.std.proofs.Common.{ℕ, zero, suc, ◌≡◌, ◌+◌, [], ◌∷◌, ◌++◌, List, Bool, true, false, ◌&&◌, if◌then◌else◌, arith, refl, sym, ap, ap₂, ◌∙◌, length, map, filter, flat_map, nat_eq, length-append}
 use Rattle.std.proofs.lemmas.List.Elements.{filter-append}
-use Rattle.mm_runs.proofs.Laws.{prefix_filter, prefix_length}
+use Rattle.histories.specs.Laws.{prefix_filter, prefix_length}
 use Rattle.histories.specs.History.{only_if, is_high}
 use Rattle.mm_runs.specs.Views.{System}
 use Rattle.mm_runs.specs.Operations.{Beat}

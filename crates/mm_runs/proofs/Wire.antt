@@ -7,9 +7,9 @@ use Rattle.mm_runs.specs.Views.Kind.{Reads}
 use Rattle.std.proofs.lemmas.Bool.{le-ltb}
 use Rattle.std.proofs.lemmas.List.{length-map}
 use Rattle.std.proofs.Math.Seq.{drop-append_seam}
-use Rattle.mm_runs.proofs.Laws.{prefix_refl, prefix_flat_map, prefix_filter, prefix_trans, before_extends}
-use Rattle.mm_runs.proofs.Standing.{KeepsItems, accepted_prefix, accepts_shows, legal_keeps}
-use Rattle.histories.specs.History.{before, only_if, is_high, unreached, total, AreWithin, IsPrefix}
+use Rattle.histories.specs.Laws.{prefix_refl, prefix_flat_map, prefix_filter, prefix_trans, before_extends, accepted_prefix}
+use Rattle.mm_runs.proofs.Standing.{accepts_shows, legal_keeps}
+use Rattle.histories.specs.History.{KeepsItems, before, only_if, is_high, unreached, total, AreWithin, IsPrefix}
 use Rattle.histories.specs.History.AreWithin.{all_placed, placed, next_room}
 use Rattle.mm_runs.specs.Views.{Shape}
 use Rattle.mm_runs.specs.Operations.{Beat, filled_lanes, pieces, byte_at}

@@ -4,7 +4,7 @@ use Rattle.histories.specs.History.{before, only_if, is_high, unreached, total, 
 use Rattle.mm_runs.specs.Views.{Shape, CommandView, AnswerView}
 use Rattle.mm_runs.specs.Operations.{Beat, Operation, operations_of, filled_lanes, filled_of_piece, byte_at, pieces}
 use Rattle.mm_runs.specs.Commands.{Transfer, accepts_by, is_held, shows, transfer_at, is_of_reads}
-use Rattle.mm_runs.specs.Legal.{AreLegal, AreOwed, Word, is_under_way}
+use Rattle.mm_runs.specs.Legal.{AreLegal, AreOwed, Word}
 use Rattle.mm_runs.specs.Order.{Answer, HoldsAnswers, greatest_code}
 
 -- one side of a link: its word, its commands and its answers
@@ -186,32 +186,6 @@ abbrev pub is_last_joined : List Marked → Bool
 is_last_joined [] = false
 is_last_joined (m ∷ []) = m.more
 is_last_joined (m ∷ next ∷ later) = is_last_joined (next ∷ later)
-
--- a link has work in a cycle
-abbrev pub has_work : Target → Port → Port → ℕ → Bool
-has_work target up down c =
-    is_held up.commands.signals (takes up) c
-    || nat_lt (length (operations_among target down.shape (taken_at down (suc c)))) (length (operations_among target up.shape (shown_at up (suc c))))
-    || is_last_joined (taken_at down (suc c))
-    || has_word_ready target up down (suc c)
-
--- a cycle that moves something on
-abbrev pub moves : Port → Port → ℕ → Bool
-moves up down c =
-    takes down c || is_high (up.answers.valid c) || (takes up c && is_high (up.commands.write c))
-
--- a cycle in which a link may stand still
-abbrev pub is_excused : Port → Port → ℕ → Bool
-is_excused up down c =
-    is_high (down.commands.wait c)
-    || nat_lt (length (words_at down (suc c))) (words_owed down (suc c))
-    || (is_under_way up.shape up.commands.signals (takes up) c && not (shows up.commands.signals c))
-
--- the rank falls while there is work and nothing moves
-pub record Falls (target : Target) (up down : Port) (rank : ℕ → ℕ) (largest end : ℕ) : Type 0 where
-  pub bounded : (c : ℕ) → c ≤ end → rank c ≤ largest
-  pub falls : (c : ℕ) → c < end → IsTrue (has_work target up down c) → IsTrue (not (moves up down c)) → IsTrue (not (is_excused up down c)) → rank (suc c) < rank c
-  pub stays : (c : ℕ) → c < end → IsTrue (has_work target up down c) → IsTrue (not (moves up down c)) → rank (suc c) ≤ rank c
 
 -- the transfer that a side shows in a cycle, and those before it
 abbrev pub earlier_shown : Port → ℕ → List Marked

@@ -167,10 +167,6 @@ abbrev pub is_empty : {A : Type 0} → List A → Bool
 is_empty {A} [] = true
 is_empty {A} (x ∷ xs) = false
 
--- 1 for an empty queue and 1 for an empty answer register
-abbrev pub stage_rank : (ℕ → List Raw) → AnswerView → ℕ → ℕ
-stage_rank queue answers c = one_if (is_empty (queue c)) + one_if (not (is_high (answers.valid c)))
-
 -- 1 while a word is owed below, as the cycle begins
 abbrev pub owing_rank : Port → ℕ → ℕ
 owing_rank down c = one_if (nat_lt (length (words_at down c)) (words_owed down c))

@@ -1,0 +1,12 @@
+pub mod ShortRuns
+pub mod Traces
+pub mod LinkTrace
+pub mod JointRun
+pub mod HungRun
+pub mod OwingRun
+pub mod StarvingRun
+pub mod DebtRun
+pub mod Refused
+pub mod Ranks
+pub mod FaultRuns
+pub mod SplitterRun
