@@ -3,10 +3,11 @@ use Rattle.std.proofs.Common.{ℕ, zero, suc, ◌<◌, ◌≤◌, ◌≡◌, not
 use Rattle.mm_runs.specs.Commands.{is_held}
 use Rattle.histories.specs.Below.{each_below}
 use Rattle.histories.specs.History.AreWithin.{all_placed, placed, next_room}
-use Rattle.mm_runs.specs.Link.{CarriesCommands, AreLegalAt, takes, moves, words_at, words_owed, taken_at}
+use Rattle.mm_runs.specs.Link.{CarriesCommands, AreLegalAt, takes, words_at, words_owed, taken_at}
+use Rattle.mm_rows.specs.Laxer.{moves, is_excused_half, FallsHalf}
+use Rattle.mm_runs.specs.Rank.{is_owed}
 use Rattle.mm_runs.specs.Awake.{AwakeWithin, IsWanted, serves}
 use Rattle.mm_rows.specs.MoreExamples.{byte_target}
-use Rattle.mm_runs.specs.Tight.{is_owed, is_excused_half, FallsHalf}
 use Rattle.mm_rows.specs.Hung.{debt_top, debt_bottom, debt_system, debt_run}
 use Rattle.mm_rows.proofs.ShortRuns.{legal_by_cycles, carries_by_cycles, second_excuse}
 

@@ -4,7 +4,8 @@ use Rattle.mm_runs.specs.Commands.{burst_before}
 use Rattle.mm_runs.specs.Legal.{is_under_way}
 use Rattle.histories.specs.Below.{each_below}
 use Rattle.histories.specs.History.AreWithin.{all_placed, placed}
-use Rattle.mm_runs.specs.Link.{CarriesCommands, AreLegalAt, Falls, takes, moves, is_excused, words_at, words_owed}
+use Rattle.mm_runs.specs.Link.{CarriesCommands, AreLegalAt, takes, words_at, words_owed}
+use Rattle.mm_rows.specs.Laxer.{FallsLax, moves, is_excused_lax}
 use Rattle.mm_runs.specs.Awake.{AwakeWithin, IsWanted, serves}
 use Rattle.mm_rows.specs.MoreExamples.{byte_target}
 use Rattle.mm_rows.specs.Hung.{hung_top, hung_middle, hung_bottom, hung_system, hung_run}
@@ -18,7 +19,7 @@ top_falls end = record {
   stays = λ c h work still. omega arith;
 }
   where
-    never : (c : ℕ) → IsTrue (not (moves hung_top hung_middle c)) → IsTrue (not (is_excused hung_top hung_middle c)) → ⊥
+    never : (c : ℕ) → IsTrue (not (moves hung_top hung_middle c)) → IsTrue (not (is_excused_lax hung_top hung_middle c)) → ⊥
     never zero still must = cc
     never (suc c) still must = cc
 
@@ -38,7 +39,7 @@ bottom_falls end = record {
   stays = λ c h work still. omega arith;
 }
   where
-    never : (c : ℕ) → IsTrue (not (moves hung_middle hung_bottom c)) → IsTrue (not (is_excused hung_middle hung_bottom c)) → ⊥
+    never : (c : ℕ) → IsTrue (not (moves hung_middle hung_bottom c)) → IsTrue (not (is_excused_lax hung_middle hung_bottom c)) → ⊥
     never zero still must = cc
     never (suc c) still must = last_excuse (nat_lt (length (words_at hung_bottom (suc (suc c)))) (words_owed hung_bottom (suc (suc c)))) _ (under_way c) must
 

@@ -3,8 +3,7 @@ use Rattle.std.proofs.Common.{ℕ, suc, ◌<◌, ◌≤◌, ◌≡◌, ◌-◌, 
 use Rattle.std.specs.Prelude.{⊤}
 use Rattle.std.specs.List.{list_all}
 use Rattle.histories.specs.Below.{each_below}
-use Rattle.mm_runs.proofs.Laws.{legal_at_before}
-use Rattle.mm_runs.proofs.Wire.{wire_is_link}
+use Rattle.mm_runs.specs.Shorter.{legal_at_before}
 use Rattle.histories.specs.History.{IsPrefix, is_high, unreached, total, AreWithin}
 use Rattle.histories.specs.History.AreWithin.{all_placed, placed}
 use Rattle.mm_runs.specs.Views.{levels_at}
@@ -12,7 +11,7 @@ use Rattle.mm_runs.specs.Operations.{pieces}
 use Rattle.mm_runs.specs.Legal.{IsLegalHost, is_under_way, unanswered, given, host_accepts, words_asked}
 use Rattle.mm_runs.specs.Commands.{is_held, words_before, agent_accepts}
 use Rattle.mm_runs.specs.Order.{host_transfers, is_agent, is_joined, beats_taken, of_host, taken, answers, answers_to}
-use Rattle.mm_runs.specs.Link.{AreLegalAt, AnswersAreOwed, Marked, takes, shown_at, taken_at, words_owed, words_at, answers_at, read_beats}
+use Rattle.mm_runs.specs.Link.{Target, Port, IsLink, AreLegalAt, AnswersAreOwed, Marked, takes, shown_at, taken_at, words_owed, words_at, answers_at, read_beats}
 use Rattle.mm_runs.specs.Blocks.{worded, blocks_at, codes_of}
 use Rattle.mm_runs.specs.Lines.{Carries, IsHostLine, IsRouteLine, IsArbiterLine, IsPipeLine, IsAgentLine, IsPath, Wired, sent_of, sent_by, host_accepted, placed_flow, port_flow, tagged_flow, target_of, items_among, beats_of, sizes_of, IsRouted, HasDefaultCode, asked_at, placed_blocks, bytes_of, answers_with, words_with, with_tag, are_whole, tagged_operations, groups_of}
 use Rattle.mm_runs.specs.Lines.IsPath.{single}
@@ -467,15 +466,16 @@ agent_line = record {
 number_of_host : (h : ℕ) → (nat_eq h 0 || (nat_eq h 1 || false)) ≡ true → h < 2
 number_of_host h joined = grind (arith, tests, joined)
 
-pub joint_is_wired : Wired joint_system joint_run joint_inside joint_holds 6
-joint_is_wired = record {
+-- `wire`: a wire is a link that holds nothing
+pub joint_is_wired : ((target : Target) (port : Port) (end : ℕ) → 0 < port.shape.word_bytes → IsLink target 0 port port end) → Wired joint_system joint_run joint_inside joint_holds 6
+joint_is_wired wire = record {
   placed = λ h t a e. let same : 0 ≡ a = cc in omega arith;
   joined = λ a h joined. number_of_host h joined;
   words = λ h a is there. each_below (λ h. pieces (joint_inside.after_route h a).shape (joint_inside.before_arbiter h a).shape ≤ pieces (joint_system.host h).shape (joint_system.agent a).shape) 2 h ((tt, omega arith), omega arith) is;
   few = omega arith;
   host = λ h is. each_below (λ h. IsHostLine joint_system joint_run h 0 (host_port h) 6) 2 h ((tt, host0_line), host1_line) is;
   route = λ h is. each_below (λ h. IsRouteLine joint_system h 0 (host_port h) (λ a. host_port h) 6) 2 h ((tt, route0_line), route1_line) is;
-  links = λ h a is there. each_below (λ h. IsPath (target_of joint_system a) 6 0 (host_port h) (host_port h)) 2 h ((tt, single (wire_is_link (target_of joint_system a) (host_port 0) 6 (omega arith))), single (wire_is_link (target_of joint_system a) (host_port 1) 6 (omega arith))) is;
+  links = λ h a is there. each_below (λ h. IsPath (target_of joint_system a) 6 0 (host_port h) (host_port h)) 2 h ((tt, single (wire (target_of joint_system a) (host_port 0) 6 (omega arith))), single (wire (target_of joint_system a) (host_port 1) 6 (omega arith))) is;
   lanes = λ h a is there. made (λ c low legal owed k less. refl);
   arbiter = λ a there. each_below (λ a. IsArbiterLine joint_system a 0 (λ h. host_port h) (joint_inside.after_arbiter a) 6) 1 a (tt, arbiter_line) there;
   pipe = λ a there. each_below (λ a. IsPipeLine joint_system a 1 1 (joint_inside.after_arbiter a) (joint_inside.before_agent a) 6) 1 a (tt, pipe_line) there;

@@ -4,10 +4,11 @@ use Rattle.mm_runs.specs.Commands.{is_held, burst_before}
 use Rattle.mm_runs.specs.Legal.{is_under_way}
 use Rattle.histories.specs.Below.{each_below}
 use Rattle.histories.specs.History.AreWithin.{all_placed, placed, next_room}
-use Rattle.mm_runs.specs.Link.{CarriesCommands, AreLegalAt, takes, moves, words_at, words_owed, taken_at}
+use Rattle.mm_runs.specs.Link.{CarriesCommands, AreLegalAt, takes, words_at, words_owed, taken_at}
+use Rattle.mm_rows.specs.Laxer.{moves, is_excused_half, FallsHalf}
+use Rattle.mm_runs.specs.Rank.{is_owed}
 use Rattle.mm_runs.specs.Awake.{AwakeWithin, IsWanted, serves}
 use Rattle.mm_rows.specs.MoreExamples.{byte_target}
-use Rattle.mm_runs.specs.Tight.{is_owed, is_excused_half, FallsHalf}
 use Rattle.mm_rows.specs.Hung.{owing_top, owing_middle, owing_bottom, hung_system, owing_run}
 use Rattle.mm_rows.proofs.ShortRuns.{legal_by_cycles, carries_by_cycles, second_excuse, last_excuse}
 

@@ -1,7 +1,5 @@
 -- A wire has no rank of at most 2 while a joined command is waited for.
-use Rattle.std.proofs.Common.{ℕ, Bool, arith, refl, le_refl, suc, ◌<◌, ◌≤◌}
-use Rattle.std.proofs.lemmas.Bool.{and_parts}
-use Rattle.mm_runs.specs.Commands.{shows}
+use Rattle.std.proofs.Common.{ℕ, arith, refl, suc, ◌<◌, ◌≤◌}
 use Rattle.mm_rows.specs.Laxer.{FallsLax}
 use Rattle.mm_rows.specs.MoreExamples.{byte_target, joined_side}
 

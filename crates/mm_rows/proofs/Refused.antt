@@ -2,7 +2,8 @@
 use Rattle.std.proofs.Common.{ℕ, arith, refl}
 use Rattle.mm_rows.specs.MoreExamples.{byte_target}
 use Rattle.mm_rows.specs.Hung.{hung_top, hung_middle, owing_top, owing_middle, starving_top, starving_bottom, debt_top, debt_bottom}
-use Rattle.mm_runs.specs.Tight.{FallsByWords, AnswersPromptly}
+use Rattle.mm_rows.specs.Laxer.{FallsByWords}
+use Rattle.mm_runs.specs.Rank.{AnswersPromptly}
 use Rattle.mm_rows.proofs.Ranks.{never_three}
 
 pub hung_falls_not : (rank : ℕ → ℕ) → FallsByWords byte_target hung_top hung_middle rank 2 4 → ⊥

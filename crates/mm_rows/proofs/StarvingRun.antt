@@ -2,10 +2,10 @@
 use Rattle.std.proofs.Common.{ℕ, zero, suc, ◌<◌, ◌≤◌, not, arith, refl, IsTrue}
 use Rattle.histories.specs.Below.{each_below}
 use Rattle.histories.specs.History.AreWithin.{all_placed, placed, next_room}
-use Rattle.mm_runs.specs.Link.{CarriesCommands, AreLegalAt, moves}
+use Rattle.mm_runs.specs.Link.{CarriesCommands, AreLegalAt}
+use Rattle.mm_rows.specs.Laxer.{moves, FallsByWords}
 use Rattle.mm_runs.specs.Awake.{AwakeWithin, IsWanted, serves}
 use Rattle.mm_rows.specs.MoreExamples.{byte_target}
-use Rattle.mm_runs.specs.Tight.{FallsByWords}
 use Rattle.mm_rows.specs.Hung.{starving_top, starving_bottom, starving_system, starving_run}
 use Rattle.mm_rows.proofs.ShortRuns.{legal_by_cycles, carries_by_cycles}
 

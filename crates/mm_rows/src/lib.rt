@@ -8,14 +8,15 @@ ghost use Rattle.mm_runs.specs.Awake.{touches_from, turns_of, begun_within, HasF
 ghost use Rattle.mm_runs.specs.Link.Item.{Acts, Ends};
 ghost use Rattle.mm_rows.specs.MoreExamples.{waiting_agent, held_writes, late_read, two_reads, agent_with_bound, two_agents, limited_run, unlimited_run, default_run, byte_system, byte_reads, shared_system, turn_run, fair_tags, unfair_tags, owners_by, byte_target, wide_side, byte_side, loose_side, stuck_run, slow_run, packed_run, unpacked_run, staged_system, taken_after, early_word, fickle_host, hasty_host, eager_agent, memory_run, coded_system, coded_run, burst_side, held_back_side, too_early_side, plain_system, one_by_one_run, joined_side, stuck_at_default_run};
 ghost use Rattle.mm_rows.specs.Hung.{hung_top, hung_middle, hung_bottom, hung_system, hung_run, owing_top, owing_middle, owing_bottom, owing_run, starving_top, starving_bottom, starving_system, starving_run, debt_top, debt_bottom, debt_system, debt_run};
-ghost use Rattle.mm_runs.specs.Tight.{FallsHalf, FallsByWords, AnswersPromptly};
+ghost use Rattle.mm_rows.specs.Laxer.{FallsLax, FallsHalf, FallsByWords};
+ghost use Rattle.mm_runs.specs.Rank.{AnswersPromptly};
 ghost use Rattle.mm_runs.specs.Machines.{idle, IsExpanderRun, split_parts, parts_sent};
 ghost use Rattle.mm_rows.specs.MachineExamples.{second_piece};
 ghost use Rattle.mm_runs.specs.Operations.{pieces, bytes_read};
 ghost use Rattle.mm_runs.specs.Operations.Operation.{Write, Read};
 ghost use Rattle.mm_runs.specs.Legal.{IsLegalHost, IsProperAtAgent, IsProperAtHost, IsLegalAgent, unanswered};
 ghost use Rattle.mm_runs.specs.Order.{issued, taken, of_host, owners_taken, are_together, answers, Ordered, Returned, IsLimited, words_given_in, beats_taken, ActsAsMemory, untaken, HasResponses};
-ghost use Rattle.mm_runs.specs.Link.{items, CarriesCommands, Falls, shown_at, taken_at};
+ghost use Rattle.mm_runs.specs.Link.{items, CarriesCommands, shown_at, taken_at};
 ghost use Rattle.mm_rows.specs.Faults.{laneless_system, laneless_run, laneless_port, split_system, split_run, split_port};
 ghost use Rattle.mm_rows.specs.Joint.{joint_system, joint_run, joint_inside, joint_holds};
 ghost use Rattle.mm_runs.specs.Lines.{target_of, Wired};
@@ -181,7 +182,9 @@ pub fn further_runs()
 pub fn lines_can_be_kept()
     ensures wired { Wired joint_system joint_run joint_inside joint_holds 6 }
     ensures legal { IsLegalRun joint_system joint_run 6 }
-{}
+{
+    mm_runs::wire_is_a_link()
+}
 
 /// A beat without a lane has no operation before an agent without byte enables, and is an operation at it: so it may not be shown there.
 pub fn laneless_beat()

@@ -1,10 +1,10 @@
 -- Laws of histories, of legality and of links.
-use Rattle.std.proofs.Common.{ℕ, zero, suc, ◌≤◌, ◌≡◌, ◌-◌, arith, refl, Bool, nat_eq, true, eq-eqb}
+use Rattle.std.proofs.Common.{ℕ, zero, suc, ◌≤◌, ◌≡◌, ◌-◌, arith, refl, nat_eq, true, eq-eqb}
 use Rattle.histories.specs.History.{IsPrefix}
 use Rattle.histories.specs.Laws.{before_prefix, prefix_filter, prefix_flat_map}
-use Rattle.mm_runs.specs.Views.{System, Run, Signals, Shape}
-use Rattle.mm_runs.specs.Legal.{AreLegal, AreOwed}
+use Rattle.mm_runs.specs.Views.{System, Run}
 use Rattle.mm_runs.specs.Order.{issued, taken}
+use Rattle.mm_runs.specs.Shorter.{legal_at_before}
 use Rattle.mm_runs.specs.Link.{Target, Port, IsLink, AreLegalAt, AnswersAreOwed}
 
 pub same_number : (n : ℕ) → nat_eq n n ≡ true
@@ -17,26 +17,6 @@ issued_prefix system run host agent c d h = prefix_flat_map _ (prefix_filter _ (
 -- what is taken only grows
 pub taken_prefix : (system : System) (run : Run) (agent c d : ℕ) → c ≤ d → IsPrefix (taken system run agent c) (taken system run agent d)
 taken_prefix system run agent c d h = prefix_flat_map _ (before_prefix _ c d h)
-
--- a prefix of a legal run is legal
-pub legal_before : (shape : Shape) (signals : Signals) (accepts : ℕ → Bool) (shorter end : ℕ) → shorter ≤ end → AreLegal shape signals accepts end → AreLegal shape signals accepts shorter
-legal_before shape signals accepts shorter end h legal = record {
-  one_kind = λ c low. legal.one_kind c (omega arith);
-  held = λ c low. legal.held c (omega arith);
-  least = λ c low. legal.least c (omega arith);
-  most = λ c low. legal.most c (omega arith);
-  finished = λ c low. legal.finished c (omega arith);
-}
-
-pub owed_before : (valid asked : ℕ → ℕ) (shorter end : ℕ) → shorter ≤ end → AreOwed valid asked end → AreOwed valid asked shorter
-owed_before valid asked shorter end h owed = λ c low. owed c (omega arith)
-
-pub legal_at_before : (port : Port) (shorter end : ℕ) → shorter ≤ end → AreLegalAt port end → AreLegalAt port shorter
-legal_at_before port shorter end h legal = record {
-  legal = legal_before _ _ _ shorter end h legal.legal;
-  tag = λ c low. legal.tag c (omega arith);
-  more = λ c low. legal.more c (omega arith);
-}
 
 -- two parts in a row: the upper one gives legal commands on, and the lower one answers what is owed
 module _ (up middle down : Port) (end : ℕ)

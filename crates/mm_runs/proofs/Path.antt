@@ -2,7 +2,8 @@
 use Rattle.std.proofs.Common.{ℕ, ◌<◌, ◌≤◌, ◌≡◌, ◌+◌, ◌-◌, ◌*◌, arith, sym, ap, ◌∙◌, subst, length, take, mul-le-mul_left, mul-le-mul_right, mul_assoc}
 use Rattle.std.proofs.lemmas.List.{map-append}
 use Rattle.std.proofs.Math.Seq.{take-append_seam}
-use Rattle.mm_runs.proofs.Laws.{legal_at_before, legal_between, owed_between}
+use Rattle.mm_runs.proofs.Laws.{legal_between, owed_between}
+use Rattle.mm_runs.specs.Shorter.{legal_at_before}
 use Rattle.histories.specs.Laws.{prefix_trans, prefix_refl}
 use Rattle.mm_runs.proofs.Held.{unreached_through, front_within, within_trans}
 use Rattle.mm_runs.proofs.Wire.{taken_is_shown, total_sizes, wire_is_link}

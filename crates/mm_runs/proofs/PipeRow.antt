@@ -1,6 +1,6 @@
 -- Pipes in a row are one pipe.
 use Rattle.std.proofs.Common.{ℕ, zero, suc, ◌≤◌, ◌≡◌, ◌-◌, ◌+◌, arith, refl, ap, ◌∙◌, subst, length}
-use Rattle.mm_runs.proofs.Laws.{legal_at_before}
+use Rattle.mm_runs.specs.Shorter.{legal_at_before}
 use Rattle.histories.specs.Laws.{prefix_trans, prefix_map}
 use Rattle.std.proofs.Common.{le_of_eq, le_refl}
 use Rattle.mm_runs.proofs.Wire.{all_reached}

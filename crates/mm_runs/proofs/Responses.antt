@@ -4,7 +4,8 @@ use Rattle.std.specs.Prelude.{⊤}
 use Rattle.std.proofs.lemmas.Option.{slice_get_within}
 use Rattle.std.proofs.lemmas.List.{length-map, drop-drop}
 use Rattle.std.proofs.lemmas.List.Elements.{filter-append}
-use Rattle.mm_runs.proofs.Laws.{legal_at_before, same_number}
+use Rattle.mm_runs.proofs.Laws.{same_number}
+use Rattle.mm_runs.specs.Shorter.{legal_at_before}
 use Rattle.histories.specs.Laws.{prefix_trans, prefix_map, prefix_length}
 use Rattle.mm_runs.proofs.Parts.{total_front}
 use Rattle.mm_runs.proofs.Wire.{prefix_get, prefix_take, zip_push}

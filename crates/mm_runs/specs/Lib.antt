@@ -11,4 +11,5 @@ pub mod Blocks
 pub mod Lines
 pub mod Register
 pub mod Gate
+pub mod Shorter
 pub mod Machines
