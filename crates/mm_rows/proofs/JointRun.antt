@@ -11,6 +11,7 @@ use Rattle.mm_runs.specs.Operations.{pieces}
 use Rattle.mm_runs.specs.Legal.{IsLegalHost, is_under_way, unanswered, given, host_accepts, words_asked}
 use Rattle.mm_runs.specs.Commands.{is_held, words_before, agent_accepts}
 use Rattle.mm_runs.specs.Order.{host_transfers, is_agent, is_joined, beats_taken, of_host, taken, answers, answers_to}
+use Rattle.mm_runs.specs.Views.Responses.{AreZero}
 use Rattle.mm_runs.specs.Link.{Target, Port, IsLink, AreLegalAt, AnswersAreOwed, Marked, takes, shown_at, taken_at, words_owed, words_at, answers_at, read_beats}
 use Rattle.mm_runs.specs.Blocks.{worded, blocks_at, codes_of}
 use Rattle.mm_runs.specs.Lines.{Carries, IsHostLine, IsRouteLine, IsArbiterLine, IsPipeLine, IsAgentLine, IsPath, Wired, sent_of, sent_by, host_accepted, placed_flow, port_flow, tagged_flow, target_of, items_among, beats_of, sizes_of, IsRouted, HasDefaultCode, asked_at, placed_blocks, bytes_of, answers_with, words_with, with_tag, are_whole, tagged_operations, groups_of}
@@ -134,7 +135,7 @@ host0_owed c h = each_below (λ c. words_before (host_port 0).answers.valid (suc
 host0_later : (c : ℕ) → c < 6 → words_before (joint_run.at_host 0).answer_valid (suc c) ≤ words_asked (joint_system.host 0).shape (joint_run.at_host 0).signals (host_accepts (joint_run.at_host 0)) c
 host0_later c h = each_below (λ c. words_before (joint_run.at_host 0).answer_valid (suc c) ≤ words_asked (joint_system.host 0).shape (joint_run.at_host 0).signals (host_accepts (joint_run.at_host 0)) c) 6 c ((((((tt, omega arith), omega arith), omega arith), omega arith), omega arith), omega arith) h
 
-host0_line : IsHostLine joint_system joint_run 0 0 (host_port 0) 6
+host0_line : IsHostLine AreZero joint_system joint_run 0 0 (host_port 0) 6
 host0_line = record {
   commands = λ c low legal owed. record {
     in_order = λ k less. host0_in_order k (omega arith);
@@ -147,10 +148,8 @@ host0_line = record {
     proper = record {
       bounded = λ k less. host0_bounded k (omega arith);
       later = λ valid k less. host0_later k (omega arith);
-      response = λ k less has. refl;
     };
-    code = λ k less has. cc;
-    quiet = λ k less has. cc;
+    responds = λ k less. refl;
   };
 }
 
@@ -271,7 +270,7 @@ host1_owed c h = each_below (λ c. words_before (host_port 1).answers.valid (suc
 host1_later : (c : ℕ) → c < 6 → words_before (joint_run.at_host 1).answer_valid (suc c) ≤ words_asked (joint_system.host 1).shape (joint_run.at_host 1).signals (host_accepts (joint_run.at_host 1)) c
 host1_later c h = each_below (λ c. words_before (joint_run.at_host 1).answer_valid (suc c) ≤ words_asked (joint_system.host 1).shape (joint_run.at_host 1).signals (host_accepts (joint_run.at_host 1)) c) 6 c ((((((tt, omega arith), omega arith), omega arith), omega arith), omega arith), omega arith) h
 
-host1_line : IsHostLine joint_system joint_run 1 0 (host_port 1) 6
+host1_line : IsHostLine AreZero joint_system joint_run 1 0 (host_port 1) 6
 host1_line = record {
   commands = λ c low legal owed. record {
     in_order = λ k less. host1_in_order k (omega arith);
@@ -284,10 +283,8 @@ host1_line = record {
     proper = record {
       bounded = λ k less. host1_bounded k (omega arith);
       later = λ valid k less. host1_later k (omega arith);
-      response = λ k less has. refl;
     };
-    code = λ k less has. cc;
-    quiet = λ k less has. cc;
+    responds = λ k less. refl;
   };
 }
 
@@ -467,13 +464,13 @@ number_of_host : (h : ℕ) → (nat_eq h 0 || (nat_eq h 1 || false)) ≡ true �
 number_of_host h joined = grind (arith, tests, joined)
 
 -- `wire`: a wire is a link that holds nothing
-pub joint_is_wired : ((target : Target) (port : Port) (end : ℕ) → 0 < port.shape.word_bytes → IsLink target 0 port port end) → Wired joint_system joint_run joint_inside joint_holds 6
+pub joint_is_wired : ((target : Target) (port : Port) (end : ℕ) → 0 < port.shape.word_bytes → IsLink target 0 port port end) → Wired AreZero joint_system joint_run joint_inside joint_holds 6
 joint_is_wired wire = record {
   placed = λ h t a e. let same : 0 ≡ a = cc in omega arith;
   joined = λ a h joined. number_of_host h joined;
   words = λ h a is there. each_below (λ h. pieces (joint_inside.after_route h a).shape (joint_inside.before_arbiter h a).shape ≤ pieces (joint_system.host h).shape (joint_system.agent a).shape) 2 h ((tt, omega arith), omega arith) is;
   few = omega arith;
-  host = λ h is. each_below (λ h. IsHostLine joint_system joint_run h 0 (host_port h) 6) 2 h ((tt, host0_line), host1_line) is;
+  host = λ h is. each_below (λ h. IsHostLine AreZero joint_system joint_run h 0 (host_port h) 6) 2 h ((tt, host0_line), host1_line) is;
   route = λ h is. each_below (λ h. IsRouteLine joint_system h 0 (host_port h) (λ a. host_port h) 6) 2 h ((tt, route0_line), route1_line) is;
   links = λ h a is there. each_below (λ h. IsPath (target_of joint_system a) 6 0 (host_port h) (host_port h)) 2 h ((tt, single (wire (target_of joint_system a) (host_port 0) 6 (omega arith))), single (wire (target_of joint_system a) (host_port 1) 6 (omega arith))) is;
   lanes = λ h a is there. made (λ c low legal owed k less. refl);

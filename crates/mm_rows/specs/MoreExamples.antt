@@ -12,6 +12,8 @@ use Rattle.mm_rows.specs.Examples.{signal, always, shape_of, host_of, agent_of, 
 abbrev pub waiting_agent : AgentSide
 waiting_agent = record {
   shape = shape_of 4 4 true;
+  has_read = true;
+  has_write = true;
   has_wait = false;
   has_valid = false;
   has_response = false;
@@ -51,6 +53,8 @@ two_reads = record {
 abbrev pub agent_with_bound : ℕ → AgentSide
 agent_with_bound bound = record {
   shape = shape_of 4 4 true;
+  has_read = true;
+  has_write = true;
   has_wait = true;
   has_valid = true;
   has_response = false;
@@ -258,7 +262,7 @@ memory_run byte = run_of no_host no_host (record {
 
 -- a 32-bit host with response reads the word at 0 of an 8-bit agent, whose byte 2 has code 2
 abbrev pub coded_system : System
-coded_system = record (system_of (record { shape = shape_of 4 1 true; has_valid = true; has_response = true }) (agent_of 1 false 16) (0 ∷ [])) {
+coded_system = record (system_of (record { shape = shape_of 4 1 true; has_burst = true; has_valid = true; has_response = true }) (agent_of 1 false 16) (0 ∷ [])) {
   place = λ h kind address. if nat_lt address 16 then Some 0 else None;
 }
 
@@ -307,7 +311,7 @@ too_early_side = write_port 1 (1 ∷ []) [] (9 ∷ []) 1 [] []
 
 -- one host and one agent of one word size without bursts
 abbrev pub plain_system : System
-plain_system = record (system_of (record { shape = record { word_bytes = 4; unit_bytes = 1; burst_bits = 1; has_enables = true }; has_valid = true; has_response = false }) (agent_of 4 true 256) (0 ∷ [])) { hosts = 1 }
+plain_system = record (system_of (record { shape = record { word_bytes = 4; unit_bytes = 1; burst_bits = 1; has_enables = true }; has_burst = false; has_valid = true; has_response = false }) (agent_of 4 true 256) (0 ∷ [])) { hosts = 1 }
 
 -- the second read waits although the agent has room for it
 abbrev pub one_by_one_run : Run

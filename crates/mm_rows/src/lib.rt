@@ -19,6 +19,7 @@ ghost use Rattle.mm_runs.specs.Order.{issued, taken, of_host, owners_taken, are_
 ghost use Rattle.mm_runs.specs.Link.{items, CarriesCommands, shown_at, taken_at};
 ghost use Rattle.mm_rows.specs.Faults.{laneless_system, laneless_run, laneless_port, split_system, split_run, split_port};
 ghost use Rattle.mm_rows.specs.Joint.{joint_system, joint_run, joint_inside, joint_holds};
+ghost use Rattle.mm_runs.specs.Views.Responses.{AreZero};
 ghost use Rattle.mm_runs.specs.Lines.{target_of, Wired};
 ghost use Rattle.mm_runs.specs.Whole.{IsLegalRun};
 ghost use Rattle.mm_rows.specs.Examples.{host_of, shape_of, system_of, run_of, no_host, narrow_system, narrow_run, narrow_host, all_lanes_run, stray_run, busy_run, wide_system, wrap_run, whole_bursts_run, mixed_bursts_run, packed_system, read_run};
@@ -180,7 +181,7 @@ pub fn further_runs()
 
 /// The lines are no idle premise: a legal run of two hosts, an agent and a pipeline stage keeps them all.
 pub fn lines_can_be_kept()
-    ensures wired { Wired joint_system joint_run joint_inside joint_holds 6 }
+    ensures wired { Wired AreZero joint_system joint_run joint_inside joint_holds 6 }
     ensures legal { IsLegalRun joint_system joint_run 6 }
 {
     mm_runs::wire_is_a_link()

@@ -8,7 +8,7 @@ use Rattle.mm_runs.proofs.Wire.{prefix_get, prefix_take}
 use Rattle.mm_runs.proofs.Path.{carrier_of_path}
 use Rattle.mm_runs.proofs.Settle.{AllLegal, AllOwed, all_legal, all_owed, owed_before_all}
 use Rattle.histories.specs.History.{IsPrefix, only_if, is_high}
-use Rattle.mm_runs.specs.Views.{System, Run}
+use Rattle.mm_runs.specs.Views.{Responses, System, Run}
 use Rattle.mm_runs.specs.Operations.{Beat, byte_at, filled_lanes}
 use Rattle.mm_runs.specs.Commands.{Transfer, is_of_reads, reads_among}
 use Rattle.mm_runs.specs.Legal.{Word, given, gives_word, IsProperAtHost}
@@ -57,12 +57,12 @@ asked_front system run host hold down end c carries low =
     prefix_flat_map _ (prefix_filter _ plain)
 
 -- and hands on its words in the same cycles
-pub given_count : (system : System) (run : Run) (host : ℕ) (down : Port) (end c : ℕ) → HostCarriesAnswers system run host down end → c ≤ end →
+pub given_count : (responses : Responses) (system : System) (run : Run) (host : ℕ) (down : Port) (end c : ℕ) → HostCarriesAnswers responses system run host down end → c ≤ end →
     length (given (system.host host) (run.at_host host) c) ≡ length (words_at down c)
-given_count system run host down end zero carries low = refl
-given_count system run host down end (suc c) carries low =
+given_count responses system run host down end zero carries low = refl
+given_count responses system run host down end (suc c) carries low =
     length-append (given (system.host host) (run.at_host host) c) _
-    ∙ ap₂ (λ a b. a + b) (given_count system run host down end c carries (omega arith)) (one (gives_word (system.host host) (run.at_host host) c) (is_high (down.answers.valid c)) _ _ (carries.gives c (omega arith)))
+    ∙ ap₂ (λ a b. a + b) (given_count responses system run host down end c carries (omega arith)) (one (gives_word (system.host host) (run.at_host host) c) (is_high (down.answers.valid c)) _ _ (carries.gives c (omega arith)))
     ∙ sym (length-append (words_at down c) _)
   where
     one : (a b : Bool) (x y : Word) → a ≡ b → length (only_if a x) ≡ length (only_if b y)
@@ -132,17 +132,17 @@ routed_word system run host cycle number up down w v same agents front below rou
             (holds_below lanes (reads_for system host a (take number (asked_at system host up (suc cycle)))) (answers_at (target_of system a) (down a) (suc cycle)) (answers_to host (answers system run a (suc cycle - system.stages))) w
             (below a (placed a refl)) routed))
 
-module _ (system : System) (run : Run) (inside : Inside) (holds : Holds) (end : ℕ) (wired : Wired system run inside holds end) (legal : IsLegalRun system run end) where
+module _ (responses : Responses) (system : System) (run : Run) (inside : Inside) (holds : Holds) (end : ℕ) (wired : Wired responses system run inside holds end) (legal : IsLegalRun system run end) where
   pub legal_everywhere : AllLegal system inside end
-  legal_everywhere = all_legal system run inside holds end wired end (omega arith) legal
+  legal_everywhere = all_legal responses system run inside holds end wired end (omega arith) legal
 
   pub owed_everywhere : AllOwed system inside end
-  owed_everywhere = all_owed system run inside holds end wired end (omega arith) legal
+  owed_everywhere = all_owed responses system run inside holds end wired end (omega arith) legal
 
   pub owed_earlier : AllOwed system inside (end - 1)
-  owed_earlier = owed_before_all system run inside holds end wired (end - 1) end (omega arith) owed_everywhere
+  owed_earlier = owed_before_all responses system run inside holds end wired (end - 1) end (omega arith) owed_everywhere
 
-  pub host_answers : (h : ℕ) → h < system.hosts → HostCarriesAnswers system run h (inside.after_host h) end
+  pub host_answers : (h : ℕ) → h < system.hosts → HostCarriesAnswers responses system run h (inside.after_host h) end
   host_answers h is = (wired.host h is).answers end (omega arith) (legal.hosts h is) (owed_everywhere.after_host h is)
 
   pub host_commands : (h : ℕ) → h < system.hosts → HostCarriesCommands system run h holds.host (inside.after_host h) end
@@ -173,7 +173,7 @@ module _ (system : System) (run : Run) (inside : Inside) (holds : Holds) (end : 
   pub returned : (h : ℕ) → h < system.hosts → Returned system run h end
   returned h is c low gives =
       let valid : is_high ((inside.after_host h).answers.valid c) ≡ true = sym ((host_answers h is).gives c low) ∙ gives in
-      let number = given_count system run h (inside.after_host h) end c (host_answers h is) (omega arith) in
+      let number = given_count responses system run h (inside.after_host h) end c (host_answers h is) (omega arith) in
       let word = (host_answers h is).word c low valid in
       subst (λ n. IsWordOf system run h c n (record { word = (run.at_host h).answer_word c; code = (run.at_host h).response c }) (slice_get (asked system run h (suc c)) n)) (sym number)
       (routed_word system run h c (length (words_at (inside.after_host h) c)) (inside.after_host h) (inside.after_route h)

@@ -9,7 +9,7 @@ use Rattle.mm_runs.proofs.Whole.{owners_of_groups, turn_after, acts_after, group
 use Rattle.mm_runs.proofs.TurnOrder.{turns, prefix_turns, turns_of_groups, turn_of, host_turns, by_turns, by_turn, commands_with, together_front, together_back}
 use Rattle.mm_runs.proofs.Headline.{at_agent, arbiter_commands, arbiter_path, pipe_commands}
 use Rattle.histories.specs.History.{IsPrefix}
-use Rattle.mm_runs.specs.Views.{System, Run, Shape}
+use Rattle.mm_runs.specs.Views.{Responses, System, Run, Shape}
 use Rattle.mm_runs.specs.Operations.{Operation}
 use Rattle.mm_runs.specs.Commands.{Transfer}
 use Rattle.mm_runs.specs.Order.{Owner, are_together, Tagged, owners_taken, owners, taken, is_joined, host_transfers, place_of, is_agent}
@@ -53,7 +53,7 @@ groups_joined : (test : ℕ → Bool) (target : Target) (shape : Shape) (ms : Li
 groups_joined test target shape [] = refl
 groups_joined test target shape (m ∷ ms) = ap (λ b. test m.tag && b) (groups_joined test target shape ms)
 
-module _ (system : System) (run : Run) (inside : Inside) (holds : Holds) (end : ℕ) (wired : Wired system run inside holds end) (legal : IsLegalRun system run end) where
+module _ (responses : Responses) (system : System) (run : Run) (inside : Inside) (holds : Holds) (end : ℕ) (wired : Wired responses system run inside holds end) (legal : IsLegalRun system run end) where
   pub together : (a c : ℕ) → a < system.agents → c ≤ end → IsTrue (are_together (owners_taken system run a c))
   together a c there low =
       let target = target_of system a in
@@ -61,11 +61,11 @@ module _ (system : System) (run : Run) (inside : Inside) (holds : Holds) (end : 
       let near = inside.before_agent a in
       let d = c - system.stages in
       let groups = groups_of target far.shape (shown_at far.port d) in
-      let own = (at_agent system run inside holds end wired legal a there).in_order c low in
+      let own = (at_agent responses system run inside holds end wired legal a there).in_order c low in
       let through : IsPrefix (groups_of target near.shape (shown_at near.port c)) groups =
-      subst (λ shape. IsPrefix (groups_of target shape (shown_at near.port c)) groups) (wired.pipe a there).same (prefix_map (group_of target far.shape) ((pipe_commands system run inside holds end wired legal a there).shown c low)) in
+      subst (λ shape. IsPrefix (groups_of target shape (shown_at near.port c)) groups) (wired.pipe a there).same (prefix_map (group_of target far.shape) ((pipe_commands responses system run inside holds end wired legal a there).shown c low)) in
       let all_taken : IsPrefix (taken system run a c) (tagged_operations groups) = prefix_trans own (prefix_flat_map _ through) in
-      let commands = arbiter_commands system run inside holds end wired legal a there in
+      let commands = arbiter_commands responses system run inside holds end wired legal a there in
       let whole : groups_whole groups ≡ true = sym (same_whole target far.shape (shown_at far.port d)) ∙ commands.whole d (omega arith) in
       let owners_there = owners_of_groups (λ _. 0) (λ _. false) groups in
       let joined : list_all (λ (o : Owner). is_joined system a o.tag) owners_there ≡ true =
@@ -88,7 +88,7 @@ module _ (system : System) (run : Run) (inside : Inside) (holds : Holds) (end : 
           let groups = groups_of target far.shape (shown_at far.port d) in
           let own : commands_with h (owners_of_groups (λ _. 0) (λ _. false) groups) ≡ turns 0 (items_among false ((tagged_flow h target far.port).shown d)) =
           turns_of_groups h (λ _. 0) (λ _. false) groups ∙ ap (λ l. turns 0 (items_among false l)) (filter_groups target far.shape h (shown_at far.port d)) in
-          let above = (arbiter_path system run inside holds end wired legal h a is there).in_order d (omega arith) in
+          let above = (arbiter_path responses system run inside holds end wired legal h a is there).in_order d (omega arith) in
           let grows : IsPrefix (host_transfers system run h e) (host_transfers system run h c) = before_prefix _ e c (omega arith) in
           let items = prefix_items false (prefix_map (placed_group system h a) (prefix_filter (λ (s : Sent). is_agent a (place_of system h s.transfer)) (prefix_map (λ (t : Transfer). record { transfer = t; closes = t.ends }) grows))) in
           let front = prefix_turns 0 (prefix_trans above items) in

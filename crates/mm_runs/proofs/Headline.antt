@@ -10,11 +10,11 @@ use Rattle.mm_runs.proofs.Path.{carrier_of_path}
 use Rattle.mm_runs.proofs.Settle.{legal_run_before}
 use Rattle.mm_runs.proofs.Standing.{accepts_shows, legal_keeps}
 use Rattle.histories.specs.History.{standing, IsPrefix, unreached, only_if, stands_on}
-use Rattle.mm_runs.specs.Views.{System, Run}
+use Rattle.mm_runs.specs.Views.{Responses, System, Run}
 use Rattle.mm_runs.specs.Operations.{pieces}
 use Rattle.mm_runs.specs.Commands.{Transfer, shows, transfer_at, agent_accepts}
 use Rattle.mm_runs.specs.Legal.{IsProperAtAgent, host_accepts}
-use Rattle.mm_runs.specs.Order.{transfer_operations, for_agent, of_host, has_tag, Tagged, TaggedBeat, place_of, is_agent, is_joined, issued, taken, host_transfers, beats_taken, words_covered, IsNear}
+use Rattle.mm_runs.specs.Order.{transfer_operations, for_agent, of_host, has_tag, Tagged, TaggedBeat, place_of, is_agent, is_joined, issued, taken, host_transfers, beats_taken, words_covered, LagsWithin, command_lag}
 use Rattle.mm_runs.specs.Link.{shown_at}
 use Rattle.mm_runs.specs.Lines.{Inside, Holds, Wired, Carries, Group, Sent, sizes_of, operations_of_groups, beats_of, groups_of, port_flow, tagged_flow, placed_flow, host_flow, placed, placed_group, sent_by, host_accepted, with_tag, target_of, AgentCarriesCommands, ArbiterCarriesCommands, PipeCarriesCommands}
 use Rattle.mm_runs.specs.Whole.{IsLegalRun}
@@ -55,9 +55,9 @@ few_stand shown accepts item (suc c) = by_test (stands_on shown accepts c)
     by_test true = omega arith
     by_test false = omega arith
 
-module _ (system : System) (run : Run) (inside : Inside) (holds : Holds) (end : ℕ) (wired : Wired system run inside holds end) (legal : IsLegalRun system run end) where
+module _ (responses : Responses) (system : System) (run : Run) (inside : Inside) (holds : Holds) (end : ℕ) (wired : Wired responses system run inside holds end) (legal : IsLegalRun system run end) where
   pub at_agent : (a : ℕ) → a < system.agents → AgentCarriesCommands system run a holds.agent (inside.before_agent a) end
-  at_agent a there = (wired.agent a there).commands end (omega arith) ((legal_everywhere system run inside holds end wired legal).before_agent a there) ((legal_run_before system run (end - 1) end (omega arith) legal).agents a there)
+  at_agent a there = (wired.agent a there).commands end (omega arith) ((legal_everywhere responses system run inside holds end wired legal).before_agent a there) ((legal_run_before system run (end - 1) end (omega arith) legal).agents a there)
 
   -- from the route to the port before the agent
   pub inner_path : (h a : ℕ) → h < system.hosts → a < system.agents →
@@ -66,31 +66,31 @@ module _ (system : System) (run : Run) (inside : Inside) (holds : Holds) (end : 
   inner_path h a is there =
       let target = target_of system a in
       let third = carries_of_links h target holds.links (inside.after_route h a) (inside.before_arbiter h a) end
-      ((carrier_of_path (wired.links h a is there)).commands end (omega arith) ((legal_everywhere system run inside holds end wired legal).after_route h a is there) ((owed_earlier system run inside holds end wired legal).before_arbiter h a is there)) in
-      let fourth = ((wired.arbiter a there).commands end (omega arith) ((legal_everywhere system run inside holds end wired legal).before_arbiter a there) ((owed_earlier system run inside holds end wired legal).after_arbiter a there)).carries h is in
+      ((carrier_of_path (wired.links h a is there)).commands end (omega arith) ((legal_everywhere responses system run inside holds end wired legal).after_route h a is there) ((owed_earlier responses system run inside holds end wired legal).before_arbiter h a is there)) in
+      let fourth = ((wired.arbiter a there).commands end (omega arith) ((legal_everywhere responses system run inside holds end wired legal).before_arbiter a there) ((owed_earlier responses system run inside holds end wired legal).after_arbiter a there)).carries h is in
       let fifth = pipe_carries system a holds.pipe h (inside.after_arbiter a) (inside.before_agent a) end is (wired.pipe a there).same
-      ((wired.pipe a there).commands end (omega arith) ((legal_everywhere system run inside holds end wired legal).after_arbiter a there).legal ((owed_earlier system run inside holds end wired legal).before_agent a there)) in
-      let front = port_fronts target (inside.after_route h a) end ((legal_everywhere system run inside holds end wired legal).after_route h a is there) in
-      let one = carries_trans _ _ _ _ _ _ _ _ _ _ end front (port_fronts target (inside.before_arbiter h a) end ((legal_everywhere system run inside holds end wired legal).before_arbiter a there h is).0) third fourth in
-      carries_trans _ _ _ _ _ _ _ _ _ _ end front (tagged_fronts h target (inside.after_arbiter a).port end ((legal_everywhere system run inside holds end wired legal).after_arbiter a there).legal) one fifth
+      ((wired.pipe a there).commands end (omega arith) ((legal_everywhere responses system run inside holds end wired legal).after_arbiter a there).legal ((owed_earlier responses system run inside holds end wired legal).before_agent a there)) in
+      let front = port_fronts target (inside.after_route h a) end ((legal_everywhere responses system run inside holds end wired legal).after_route h a is there) in
+      let one = carries_trans _ _ _ _ _ _ _ _ _ _ end front (port_fronts target (inside.before_arbiter h a) end ((legal_everywhere responses system run inside holds end wired legal).before_arbiter a there h is).0) third fourth in
+      carries_trans _ _ _ _ _ _ _ _ _ _ end front (tagged_fronts h target (inside.after_arbiter a).port end ((legal_everywhere responses system run inside holds end wired legal).after_arbiter a there).legal) one fifth
 
   pub route_carries : (h a : ℕ) → h < system.hosts → a < system.agents →
       Carries h holds.route 0 1 (placed_flow system h a (inside.after_host h)) (port_flow (target_of system a) (inside.after_route h a)) end
-  route_carries h a is there = ((wired.route h is).commands end (omega arith) ((legal_everywhere system run inside holds end wired legal).after_host h is) (λ a there. (owed_earlier system run inside holds end wired legal).after_route h a is there)).carries a there
+  route_carries h a is there = ((wired.route h is).commands end (omega arith) ((legal_everywhere responses system run inside holds end wired legal).after_host h is) (λ a there. (owed_earlier responses system run inside holds end wired legal).after_route h a is there)).carries a there
 
   -- from the host's port to the route
   pub outer_path : (h a : ℕ) → h < system.hosts → a < system.agents →
       Carries h (holds.host + holds.route) (0 + 0) (1 * 1) (host_flow system run h a) (port_flow (target_of system a) (inside.after_route h a)) end
   outer_path h a is there =
-      carries_trans _ _ _ _ _ _ _ _ _ _ end (host_fronts system run h a end (legal.hosts h is)) (placed_fronts system h a (inside.after_host h) end ((legal_everywhere system run inside holds end wired legal).after_host h is))
-      (host_carries system run h a holds.host (inside.after_host h) end (legal.hosts h is) (host_commands system run inside holds end wired legal h is))
+      carries_trans _ _ _ _ _ _ _ _ _ _ end (host_fronts system run h a end (legal.hosts h is)) (placed_fronts system h a (inside.after_host h) end ((legal_everywhere responses system run inside holds end wired legal).after_host h is))
+      (host_carries system run h a holds.host (inside.after_host h) end (legal.hosts h is) (host_commands responses system run inside holds end wired legal h is))
       (route_carries h a is there)
 
   pub arbiter_commands : (a : ℕ) → a < system.agents → ArbiterCarriesCommands system a holds.arbiter (λ h. inside.before_arbiter h a) (inside.after_arbiter a) end
-  arbiter_commands a there = (wired.arbiter a there).commands end (omega arith) ((legal_everywhere system run inside holds end wired legal).before_arbiter a there) ((owed_earlier system run inside holds end wired legal).after_arbiter a there)
+  arbiter_commands a there = (wired.arbiter a there).commands end (omega arith) ((legal_everywhere responses system run inside holds end wired legal).before_arbiter a there) ((owed_earlier responses system run inside holds end wired legal).after_arbiter a there)
 
   pub pipe_commands : (a : ℕ) → a < system.agents → PipeCarriesCommands system a holds.pipe system.stages (inside.after_arbiter a) (inside.before_agent a) end
-  pipe_commands a there = (wired.pipe a there).commands end (omega arith) ((legal_everywhere system run inside holds end wired legal).after_arbiter a there).legal ((owed_earlier system run inside holds end wired legal).before_agent a there)
+  pipe_commands a there = (wired.pipe a there).commands end (omega arith) ((legal_everywhere responses system run inside holds end wired legal).after_arbiter a there).legal ((owed_earlier responses system run inside holds end wired legal).before_agent a there)
 
   -- from the host's port to the arbiter
   pub arbiter_path : (h a : ℕ) → h < system.hosts → a < system.agents →
@@ -100,9 +100,9 @@ module _ (system : System) (run : Run) (inside : Inside) (holds : Holds) (end : 
   arbiter_path h a is there =
       let target = target_of system a in
       let third = carries_of_links h target holds.links (inside.after_route h a) (inside.before_arbiter h a) end
-      ((carrier_of_path (wired.links h a is there)).commands end (omega arith) ((legal_everywhere system run inside holds end wired legal).after_route h a is there) ((owed_earlier system run inside holds end wired legal).before_arbiter h a is there)) in
-      let front = port_fronts target (inside.after_route h a) end ((legal_everywhere system run inside holds end wired legal).after_route h a is there) in
-      let one = carries_trans _ _ _ _ _ _ _ _ _ _ end front (port_fronts target (inside.before_arbiter h a) end ((legal_everywhere system run inside holds end wired legal).before_arbiter a there h is).0) third ((arbiter_commands a there).carries h is) in
+      ((carrier_of_path (wired.links h a is there)).commands end (omega arith) ((legal_everywhere responses system run inside holds end wired legal).after_route h a is there) ((owed_earlier responses system run inside holds end wired legal).before_arbiter h a is there)) in
+      let front = port_fronts target (inside.after_route h a) end ((legal_everywhere responses system run inside holds end wired legal).after_route h a is there) in
+      let one = carries_trans _ _ _ _ _ _ _ _ _ _ end front (port_fronts target (inside.before_arbiter h a) end ((legal_everywhere responses system run inside holds end wired legal).before_arbiter a there h is).0) third ((arbiter_commands a there).carries h is) in
       carries_trans _ _ _ _ _ _ _ _ _ _ end (host_fronts system run h a end (legal.hosts h is)) front (outer_path h a is there) one
 
   -- from the host's port to the port before the agent
@@ -111,7 +111,7 @@ module _ (system : System) (run : Run) (inside : Inside) (holds : Holds) (end : 
       ((1 * (1 * pieces (inside.after_route h a).shape (inside.before_arbiter h a).shape)) * (1 * 1))
       (host_flow system run h a) (tagged_flow h (target_of system a) (inside.before_agent a).port) end
   whole_path h a is there =
-      carries_trans _ _ _ _ _ _ _ _ _ _ end (host_fronts system run h a end (legal.hosts h is)) (port_fronts (target_of system a) (inside.after_route h a) end ((legal_everywhere system run inside holds end wired legal).after_route h a is there)) (outer_path h a is there) (inner_path h a is there)
+      carries_trans _ _ _ _ _ _ _ _ _ _ end (host_fronts system run h a end (legal.hosts h is)) (port_fronts (target_of system a) (inside.after_route h a) end ((legal_everywhere responses system run inside holds end wired legal).after_route h a is there)) (outer_path h a is there) (inner_path h a is there)
 
   -- what an agent has taken of a host is the front of what it has been shown
   pub own_front : (h a c : ℕ) → h < system.hosts → a < system.agents → c ≤ end →
@@ -154,15 +154,15 @@ module _ (system : System) (run : Run) (inside : Inside) (holds : Holds) (end : 
       omega (arith, here, above, plain, wide)
 
   -- few presented write beats and read commands aren't taken yet
-  pub near : (h a : ℕ) → h < system.hosts → a < system.agents → IsNear system run h a end
-  near h a is there c low =
+  pub lags : (h a : ℕ) → h < system.hosts → a < system.agents → LagsWithin (command_lag system) system run h a end
+  lags h a is there c low =
       let flow = host_flow system run h a in
       let close = tagged_flow h (target_of system a) (inside.before_agent a).port in
       let path = whole_path h a is there in
       let n = length (of_host h (taken system run a c)) in
       let few = counted (sizes_of (flow.shown c)) (sizes_of (flow.taken c)) (sizes_of (close.shown c)) (sizes_of (close.taken c)) _ _ n
       (prefix_map (λ (g : Group). length g.operations) (host_fronts system run h a end (legal.hosts h is) c low))
-      (prefix_map (λ (g : Group). length g.operations) (tagged_fronts h (target_of system a) (inside.before_agent a).port end ((legal_everywhere system run inside holds end wired legal).before_agent a there).legal c low))
+      (prefix_map (λ (g : Group). length g.operations) (tagged_fronts h (target_of system a) (inside.before_agent a).port end ((legal_everywhere responses system run inside holds end wired legal).before_agent a there).legal c low))
       (path.within c low) (path.held c low) ((at_agent a there).held h c is low) in
       let view = run.at_host h in
       let left : List Transfer = standing (shows view.signals) (host_accepts view) (transfer_at (system.host h).shape view.signals (host_accepts view)) c in

@@ -11,7 +11,7 @@ use Rattle.mm_runs.proofs.Parts.{shown_grows}
 use Rattle.mm_runs.proofs.Back.{asked_front, given_count, host_answers, host_commands, route_answers}
 use Rattle.mm_runs.proofs.Headline.{own_front, inner_path, route_carries}
 use Rattle.histories.specs.History.{IsPrefix, only_if, is_first, is_high, numbers}
-use Rattle.mm_runs.specs.Views.{System, Run, Shape, Levels, levels_at, Kind}
+use Rattle.mm_runs.specs.Views.{Responses, System, Run, Shape, Levels, levels_at, Kind}
 use Rattle.mm_runs.specs.Views.Kind.{Reads, Writes}
 use Rattle.mm_runs.specs.Operations.{Beat, Operation, is_read, operation_at, operation_of_kind, filled_lanes}
 use Rattle.mm_runs.specs.Commands.{Transfer, Burst, burst_before, byte_address, transfer_of, write_transfer, read_transfer, read_beat, is_of_reads, reads_among, shows}
@@ -138,7 +138,7 @@ module _ (system : System) (host agent : ℕ) where
       one_match (is_agent agent (place_of system host m.transfer)) (is_of_reads m.transfer.kind) m.transfer (record { transfer = m.transfer; closes = closes m })
       (filter (λ (s : Sent). is_agent agent (place_of system host s.transfer)) (sent_of ms)) (reads_among (map (λ (m : Marked). m.transfer) ms)) refl refl h.0 (reads_match ms h.1)
 
-module _ (system : System) (run : Run) (inside : Inside) (holds : Holds) (end : ℕ) (wired : Wired system run inside holds end) (legal : IsLegalRun system run end) where
+module _ (responses : Responses) (system : System) (run : Run) (inside : Inside) (holds : Holds) (end : ℕ) (wired : Wired responses system run inside holds end) (legal : IsLegalRun system run end) where
   -- the reads that an agent has taken of a host are among those that the route has shown
   reads_shown : (h a c : ℕ) → h < system.hosts → a < system.agents → c ≤ end →
       length (filter is_read (of_host h (taken system run a c))) ≤ length (filter is_read (operations_of_groups ((port_flow (target_of system a) (inside.after_route h a)).shown c)))
@@ -147,8 +147,8 @@ module _ (system : System) (run : Run) (inside : Inside) (holds : Holds) (end : 
       let near = inside.before_agent a in
       let far = inside.after_route h a in
       let earlier = c - ((0 + 0) + system.stages) in
-      let own = own_front system run inside holds end wired legal h a c is there low in
-      let above = operations_front ((tagged_flow h target near.port).shown c) ((port_flow target far).shown earlier) ((inner_path system run inside holds end wired legal h a is there).in_order c low) in
+      let own = own_front responses system run inside holds end wired legal h a c is there low in
+      let above = operations_front ((tagged_flow h target near.port).shown c) ((port_flow target far).shown earlier) ((inner_path responses system run inside holds end wired legal h a is there).in_order c low) in
       let grows = prefix_flat_map (λ (g : Group). g.operations) (prefix_map (group_of target far.shape) (shown_grows far earlier c (omega arith))) in
       prefix_length (prefix_filter is_read (prefix_trans own (prefix_trans above grows)))
 
@@ -162,7 +162,7 @@ module _ (system : System) (run : Run) (inside : Inside) (holds : Holds) (end : 
       let placed_now = (placed_flow system h a up).shown c in
       let items : IsPrefix (items_among false ((port_flow target (inside.after_route h a)).shown c)) (items_among false placed_now) =
       subst (λ k. IsPrefix (items_among false ((port_flow target (inside.after_route h a)).shown c)) (items_among false ((placed_flow system h a up).shown k))) now
-      ((route_carries system run inside holds end wired legal h a is there).in_order c low) in
+      ((route_carries responses system run inside holds end wired legal h a is there).in_order c low) in
       let few = prefix_length (prefix_filter is_read (operations_front ((port_flow target (inside.after_route h a)).shown c) placed_now items)) in
       let match = reads_match system h a (shown_at up c) (uniform_shown system h a up c) in
       omega (arith, few, match)
@@ -170,8 +170,8 @@ module _ (system : System) (run : Run) (inside : Inside) (holds : Holds) (end : 
   pub limited : (h a : ℕ) → h < system.hosts → a < system.agents → IsLimited system run h a end
   limited h a is within c number low few other later =
       let up = inside.after_host h in
-      let front = asked_front system run h holds.host up end (suc c) (host_commands system run inside holds end wired legal h is) (omega arith) in
-      let counts = given_count system run h up end (suc c) (host_answers system run inside holds end wired legal h is) (omega arith) in
+      let front = asked_front system run h holds.host up end (suc c) (host_commands responses system run inside holds end wired legal h is) (omega arith) in
+      let counts = given_count responses system run h up end (suc c) (host_answers responses system run inside holds end wired legal h is) (omega arith) in
       let shown = reads_shown h a (suc c) is within (omega arith) in
       subst (λ n. number < n) (sym counts) (by_size front shown (nat_lt number (length (asked_at system h up (suc c)))) refl)
     where
@@ -185,7 +185,7 @@ module _ (system : System) (run : Run) (inside : Inside) (holds : Holds) (end : 
           let q : Asked = get_or (asked_at system h up (suc c)) number (record { place = None; beat = record { kind = Reads; address = 0; word = 0; enables = 0 } }) in
           let got : slice_get (asked_at system h up (suc c)) number ≡ Some q = slice_get-get_or (asked_at system h up (suc c)) number _ inside_front in
           let got_all : slice_get (asked system run h (suc c)) number ≡ slice_get (asked_at system h up (suc c)) number = prefix_get front number q got ∙ sym got in
-          (route_answers system run inside holds end wired legal h is).limited a c number within low inside_front
+          (route_answers responses system run inside holds end wired legal h is).limited a c number within low inside_front
           (subst (λ o. MatchOption o ⊤ (λ q. IsTrue (not (is_agent a q.place)))) got_all other)
           (let sooner : reads_for system h a (take number (asked_at system h up (suc c))) < length (filter is_read (of_host h (taken system run a (suc c)))) = subst (λ l. reads_for system h a l < length (filter is_read (of_host h (taken system run a (suc c))))) same later in omega (arith, sooner, shown))
       by_size front shown false less =

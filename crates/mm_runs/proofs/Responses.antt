@@ -14,13 +14,15 @@ use Rattle.mm_runs.proofs.Greatest.{greatest_grows, flat_append}
 use Rattle.mm_runs.proofs.ChainCodes.{answer_codes, middle_greatest, total_blocks, highest_of, codes_within}
 use Rattle.mm_runs.proofs.Back.{asked_front, asked_placed, given_count, host_answers, host_commands, route_answers, piped_answers, legal_everywhere, owed_everywhere}
 use Rattle.histories.specs.History.{IsPrefix, is_high, total, only_if}
-use Rattle.mm_runs.specs.Views.{System, Run}
+use Rattle.mm_runs.specs.Views.{Responses, System, Run}
 use Rattle.mm_runs.specs.Operations.{filled_lanes}
 use Rattle.mm_runs.specs.Legal.{Word}
-use Rattle.mm_runs.specs.Order.{Asked, HasCodeOf, HasResponses, asked, answers, answers_to, reads_for, beat_operations, is_agent, greatest_code}
+use Rattle.mm_runs.specs.Order.{Asked, HasCodeOf, RespondsBy, asked, answers, answers_to, reads_for, beat_operations, is_agent, greatest_code}
 use Rattle.mm_runs.specs.Link.{Port, Target, Marked, IsLink, AreLegalAt, AnswersAreOwed, shown_at, words_at, answers_at}
 use Rattle.mm_runs.specs.Blocks.{Block, flat, sizes_of, highest, AreGreatest, worded, codes_of, blocks_at}
-use Rattle.mm_runs.specs.Lines.{IsPath, Inside, Holds, Wired, bytes_of, asked_at, target_of, placed_block, placed_blocks, HasDefaultCode}
+use Rattle.mm_runs.specs.Legal.{gives_word}
+use Rattle.mm_runs.specs.Views.Responses.{AreZero, AreCodes}
+use Rattle.mm_runs.specs.Lines.{HostResponds, IsPath, Inside, Holds, Wired, bytes_of, asked_at, target_of, placed_block, placed_blocks, HasDefaultCode}
 use Rattle.mm_runs.specs.Lines.IsPath.{single, above, below}
 use Rattle.mm_runs.specs.Whole.{IsLegalRun}
 
@@ -125,21 +127,21 @@ codes_of_path {target} {end} (below {rest = ahead} {last} {up} {middle} {down} b
     greatest_behind (worded (blocks_at target up c)) (codes_of (answers_at target middle c)) (codes_of (answers_at target down c)) (codes_front target middle down c (words c low legal_there owed))
     (omega (arith, enough, sizes)) (codes_of_path rest c low legal owed_there)
 
-module _ (system : System) (run : Run) (inside : Inside) (holds : Holds) (end : ℕ) (wired : Wired system run inside holds end) (legal : IsLegalRun system run end) where
+module _ (responses : Responses) (system : System) (run : Run) (inside : Inside) (holds : Holds) (end : ℕ) (wired : Wired responses system run inside holds end) (legal : IsLegalRun system run end) where
   codes_back : (h a c : ℕ) → h < system.hosts → a < system.agents → c ≤ end → AreGreatest (worded (placed_blocks system h a (inside.after_host h) c)) (codes_of (answers_to h (answers system run a (c - system.stages))))
   codes_back h a c is there low =
       let target = target_of system a in
       let up = inside.after_host h in
       let middle = inside.after_route h a in
       let down = inside.before_arbiter h a in
-      let front = (route_answers system run inside holds end wired legal h is).codes a c there low in
-      let links = codes_of_path (wired.links h a is there) c low (legal_at_before middle c end low ((legal_everywhere system run inside holds end wired legal).after_route h a is there)) (λ k less. (owed_everywhere system run inside holds end wired legal).before_arbiter h a is there k (omega arith)) in
-      let first = ((wired.arbiter a there).answers end (omega arith) ((legal_everywhere system run inside holds end wired legal).before_arbiter a there) ((owed_everywhere system run inside holds end wired legal).after_arbiter a there)).codes h c is low in
-      let second = piped_answers system run inside holds end wired legal h a c is there low in
-      let third = ((wired.agent a there).answers end (omega arith) ((legal_everywhere system run inside holds end wired legal).before_agent a there) (legal.agents a there)).codes h (c - system.stages) is (omega arith) in
+      let front = (route_answers responses system run inside holds end wired legal h is).codes a c there low in
+      let links = codes_of_path (wired.links h a is there) c low (legal_at_before middle c end low ((legal_everywhere responses system run inside holds end wired legal).after_route h a is there)) (λ k less. (owed_everywhere responses system run inside holds end wired legal).before_arbiter h a is there k (omega arith)) in
+      let first = ((wired.arbiter a there).answers end (omega arith) ((legal_everywhere responses system run inside holds end wired legal).before_arbiter a there) ((owed_everywhere responses system run inside holds end wired legal).after_arbiter a there)).codes h c is low in
+      let second = piped_answers responses system run inside holds end wired legal h a c is there low in
+      let third = ((wired.agent a there).answers end (omega arith) ((legal_everywhere responses system run inside holds end wired legal).before_agent a there) (legal.agents a there)).codes h (c - system.stages) is (omega arith) in
       let back : IsPrefix (codes_of (answers_at target down c)) (codes_of (answers_to h (answers system run a (c - system.stages)))) =
       prefix_trans (subst (λ l. IsPrefix (codes_of (answers_at target down c)) (codes_of l)) second first) third in
-      let bytes = prefix_length (((carrier_of_path (wired.links h a is there)).answers end (omega arith) ((legal_everywhere system run inside holds end wired legal).after_route h a is there) ((owed_everywhere system run inside holds end wired legal).before_arbiter h a is there)).bytes c low) in
+      let bytes = prefix_length (((carrier_of_path (wired.links h a is there)).answers end (omega arith) ((legal_everywhere responses system run inside holds end wired legal).after_route h a is there) ((owed_everywhere responses system run inside holds end wired legal).before_arbiter h a is there)).bytes c low) in
       let mine : length (bytes_of (answers_at target middle c)) ≡ length (answers_at target middle c) = length-map (answers_at target middle c) _ in
       let theirs : length (bytes_of (answers_at target down c)) ≡ length (answers_at target down c) = length-map (answers_at target down c) _ in
       let codes : length (codes_of (answers_at target down c)) ≡ length (answers_at target down c) = length-map (answers_at target down c) _ in
@@ -182,7 +184,7 @@ module _ (system : System) (run : Run) (inside : Inside) (holds : Holds) (end : 
 
   code_of_word : (h c code : ℕ) → h < system.hosts → c < end → IsTrue (is_high ((inside.after_host h).answers.valid c)) → code ≡ (inside.after_host h).answers.code c →
       HasCodeOf system run h c (length (words_at (inside.after_host h) c)) code (slice_get (asked system run h (suc c)) (length (words_at (inside.after_host h) c)))
-  code_of_word h c code is low valid same = by_question (slice_get (asked_at system h up (suc c)) number) refl ((route_answers system run inside holds end wired legal h is).default_code c low valid)
+  code_of_word h c code is low valid same = by_question (slice_get (asked_at system h up (suc c)) number) refl ((route_answers responses system run inside holds end wired legal h is).default_code c low valid)
     where
       up : Port
       up = inside.after_host h
@@ -191,7 +193,7 @@ module _ (system : System) (run : Run) (inside : Inside) (holds : Holds) (end : 
       number = length (words_at (inside.after_host h) c)
 
       front : IsPrefix (asked_at system h (inside.after_host h) (suc c)) (asked system run h (suc c))
-      front = asked_front system run h holds.host (inside.after_host h) end (suc c) (host_commands system run inside holds end wired legal h is) (omega arith)
+      front = asked_front system run h holds.host (inside.after_host h) end (suc c) (host_commands responses system run inside holds end wired legal h is) (omega arith)
 
       by_question : (o : Option Asked) → slice_get (asked_at system h (inside.after_host h) (suc c)) (length (words_at (inside.after_host h) c)) ≡ o → HasDefaultCode ((inside.after_host h).answers.code c) o →
           HasCodeOf system run h c (length (words_at (inside.after_host h) c)) code (slice_get (asked system run h (suc c)) (length (words_at (inside.after_host h) c)))
@@ -215,15 +217,21 @@ module _ (system : System) (run : Run) (inside : Inside) (holds : Holds) (end : 
               same ∙ word_code h a c q is (placed a at) low valid at e some
               ∙ ap (λ l. greatest_code (take (length (filled_lanes (system.host h).shape (system.agent a).shape q.beat.enables)) (drop (reads_for system h a l) (answers_to h (answers system run a (suc c - system.stages)))))) (sym earlier)
 
-  pub responses : (h : ℕ) → h < system.hosts → HasResponses system run h end
-  responses h is = record {
-    of_words = λ c low has gives.
-        let answered = host_answers system run inside holds end wired legal h is in
-        let valid : is_high ((inside.after_host h).answers.valid c) ≡ true = sym (answered.gives c low) ∙ gives in
-        let number = given_count system run h (inside.after_host h) end c answered (omega arith) in
+  by_rule : (rule : Responses) → (h : ℕ) → h < system.hosts →
+      ((c : ℕ) → c < end → gives_word (system.host h) (run.at_host h) c ≡ is_high ((inside.after_host h).answers.valid c)) →
+      HostResponds rule system run h (inside.after_host h) end → RespondsBy rule system run h end
+  by_rule AreZero h is gives responds = responds
+  by_rule AreCodes h is gives responds = record {
+    of_words = λ c low has given_here.
+        let valid : is_high ((inside.after_host h).answers.valid c) ≡ true = sym (gives c low) ∙ given_here in
+        let number = given_count responses system run h (inside.after_host h) end c (host_answers responses system run inside holds end wired legal h is) (omega arith) in
         subst (λ n. HasCodeOf system run h c n ((run.at_host h).response c) (slice_get (asked system run h (suc c)) n)) (sym number)
-        (code_of_word h c ((run.at_host h).response c) is low valid (answered.code c low has valid));
-    quiet = λ c low has silent.
-        let answered = host_answers system run inside holds end wired legal h is in
-        answered.quiet c low has (ap not (sym (answered.gives c low)) ∙ silent);
+        (code_of_word h c ((run.at_host h).response c) is low valid (responds.code c low has valid));
+    quiet = λ c low has silent. responds.quiet c low has (ap not (sym (gives c low)) ∙ silent);
+    absent = λ c low has. responds.absent c low has;
   }
+
+  pub responded : (h : ℕ) → h < system.hosts → RespondsBy responses system run h end
+  responded h is =
+      let answered = host_answers responses system run inside holds end wired legal h is in
+      by_rule responses h is answered.gives answered.responds

@@ -144,7 +144,7 @@ AwakeAtDefault system run end = AwakeAtDefaultWithin (window system 0) system ru
 -- a host whose plain commands reach the agent one for one
 abbrev pub is_alike : HostSide → AgentSide → Bool
 is_alike host agent =
-    nat_eq host.word_bytes agent.word_bytes && nat_eq host.burst_bits 1 && (not host.has_enables || agent.has_enables)
+    nat_eq host.word_bytes agent.word_bytes && not host.has_burst && (not host.has_enables || agent.has_enables)
 
 -- a command that has no operation at any agent
 abbrev pub has_no_operation : System → Run → ℕ → ℕ → ℕ → Bool

@@ -8,7 +8,8 @@ use Rattle.mm_runs.specs.Commands.{shows, accepts_by, is_held, presents, agent_a
 abbrev pub is_under_way : Shape → Signals → (ℕ → Bool) → ℕ → Bool
 is_under_way shape signals accepts cycle = nat_lt 0 (burst_before shape signals accepts cycle).left
 
--- in the cycles before `end` the commands are those of a legal host
+-- in the cycles before `end` the commands are those of a legal host: a read or a write at a time, a beat that waits stands unchanged,
+-- a burst is of 1 to the longest number of beats, and a write burst is finished before a read comes
 pub record AreLegal (shape : Shape) (signals : Signals) (accepts : ℕ → Bool) (end : ℕ) : Type 0 where
   pub one_kind : (c : ℕ) → c < end → IsTrue (not (is_high (signals.read c) && is_high (signals.write c)))
   pub held : (c : ℕ) → suc c < end → IsTrue (is_held signals accepts c) → levels_at signals c ≡ levels_at signals (suc c)
@@ -30,6 +31,7 @@ IsLegalHost side view end = AreLegal side.shape view.signals (host_accepts view)
 abbrev pub words_asked : Shape → Signals → (ℕ → Bool) → ℕ → ℕ
 words_asked shape signals accepts cycle = length (read_beats (accepted shape signals accepts cycle))
 
+-- an agent with readdatavalid gives no word before a read that asks for it. Nothing else is asked of an agent
 pub record IsLegalAgent (side : AgentSide) (view : AgentView) (end : ℕ) : Type 0 where
   pub owed : IsTrue side.has_valid → AreOwed view.answer_valid (words_asked side.shape view.signals (agent_accepts side view)) end
 
@@ -38,10 +40,17 @@ abbrev pub unanswered : Shape → Signals → (ℕ → Bool) → ℕ → ℕ →
 unanswered shape signals accepts words cycle =
     unreached (map (λ t. length t.beats) (reads_among (accepted shape signals accepts cycle))) words
 
+-- after each cycle no more read commands are unanswered than the agent bears
+abbrev pub IsWithinPendingBound : AgentSide → AgentView → ℕ → Type 0
+IsWithinPendingBound side view end =
+    (c : ℕ) → c < end → IsTrue side.has_valid →
+    unanswered side.shape view.signals (agent_accepts side view) (words_before view.answer_valid (suc c)) (suc c) ≤ side.pending
+
+-- the module's own side at an agent: the commands of a legal host, at addresses of whole words, within the bound
 pub record IsProperAtAgent (side : AgentSide) (view : AgentView) (end : ℕ) : Type 0 where
   pub legal : AreLegal side.shape view.signals (agent_accepts side view) end
   pub aligned : (c : ℕ) → c < end → IsTrue (shows view.signals c) → (view.address c * side.unit_bytes) % side.word_bytes ≡ 0
-  pub bounded : (c : ℕ) → c < end → IsTrue side.has_valid → unanswered side.shape view.signals (agent_accepts side view) (words_before view.answer_valid (suc c)) (suc c) ≤ side.pending
+  pub bounded : IsWithinPendingBound side view end
 
 -- whether a host is given a word in a cycle
 abbrev pub gives_word : HostSide → HostView → ℕ → Bool
@@ -58,7 +67,7 @@ abbrev pub given : HostSide → HostView → ℕ → List Word
 given side view cycle =
     before (λ c. only_if (gives_word side view c) (record { word = view.answer_word c; code = view.response c })) cycle
 
+-- the module's own side at a host: at most 16 reads under way, and no word before its read. What `response` carries is said apart
 pub record IsProperAtHost (side : HostSide) (view : HostView) (end : ℕ) : Type 0 where
   pub bounded : (c : ℕ) → c < end → unanswered side.shape view.signals (host_accepts view) (length (given side view (suc c))) (suc c) ≤ 16
   pub later : IsTrue side.has_valid → AreOwed view.answer_valid (words_asked side.shape view.signals (host_accepts view)) end
-  pub response : (c : ℕ) → c < end → IsFalse side.has_response → view.response c ≡ 0

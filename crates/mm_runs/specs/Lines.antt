@@ -2,7 +2,8 @@
 use Rattle.std.specs.Prelude.{◌≡◌, ℕ, suc, ◌+◌, ◌-◌, ◌*◌, ◌<◌, ◌≤◌, Bool, true, false, not, ◌&&◌, ◌||◌, List, [], ◌∷◌, ◌++◌, length, map, take, drop, nat_eq, IsTrue, Option, Some, filter, flat_map, zip, slice_get, MatchOption, ⊤}
 use Rattle.std.specs.List.{list_all}
 use Rattle.histories.specs.History.{before, only_if, is_high, unreached, total, AreWithin, IsPrefix}
-use Rattle.mm_runs.specs.Views.{Shape, System, Run}
+use Rattle.mm_runs.specs.Views.{Shape, System, Run, Responses}
+use Rattle.mm_runs.specs.Views.Responses.{AreZero, AreCodes}
 use Rattle.mm_runs.specs.Operations.{Beat, Operation, filled_lanes, is_read, pieces}
 use Rattle.mm_runs.specs.Commands.{Transfer, agent_accepts, accepted, is_of_reads, reads_among}
 use Rattle.mm_runs.specs.Legal.{host_accepts, given, gives_word, Word, IsLegalHost, IsLegalAgent, IsProperAtHost, IsProperAtAgent}
@@ -127,16 +128,25 @@ pub record HostCarriesCommands (system : System) (run : Run) (host hold : ℕ) (
   pub held : (c : ℕ) → c ≤ end → length (host_accepted system run host c) ≤ length (taken_at down c) + hold
   pub legal : AreLegalAt down end
 
-pub record HostCarriesAnswers (system : System) (run : Run) (host : ℕ) (down : Port) (end : ℕ) : Type 0 where
+-- the codes of the words behind the part next to the host are those at its port
+pub record HasHostCodes (system : System) (run : Run) (host : ℕ) (down : Port) (end : ℕ) : Type 0 where
+  pub code : (c : ℕ) → c < end → IsTrue (system.host host).has_response → IsTrue (is_high (down.answers.valid c)) → (run.at_host host).response c ≡ down.answers.code c
+  pub quiet : (c : ℕ) → c < end → IsTrue (system.host host).has_response → IsTrue (not (is_high (down.answers.valid c))) → (run.at_host host).response c ≡ 0
+  pub absent : (c : ℕ) → c < end → IsTrue (not (system.host host).has_response) → (run.at_host host).response c ≡ 0
+
+abbrev pub HostResponds : Responses → System → Run → ℕ → Port → ℕ → Type 0
+HostResponds AreZero system run host down end = (c : ℕ) → c < end → (run.at_host host).response c ≡ 0
+HostResponds AreCodes system run host down end = HasHostCodes system run host down end
+
+pub record HostCarriesAnswers (responses : Responses) (system : System) (run : Run) (host : ℕ) (down : Port) (end : ℕ) : Type 0 where
   pub gives : (c : ℕ) → c < end → gives_word (system.host host) (run.at_host host) c ≡ is_high (down.answers.valid c)
   pub word : (c : ℕ) → c < end → IsTrue (is_high (down.answers.valid c)) → (run.at_host host).answer_word c ≡ down.answers.word c
   pub proper : IsProperAtHost (system.host host) (run.at_host host) end
-  pub code : (c : ℕ) → c < end → IsTrue (system.host host).has_response → IsTrue (is_high (down.answers.valid c)) → (run.at_host host).response c ≡ down.answers.code c
-  pub quiet : (c : ℕ) → c < end → IsTrue (system.host host).has_response → IsTrue (not (is_high (down.answers.valid c))) → (run.at_host host).response c ≡ 0
+  pub responds : HostResponds responses system run host down end
 
-pub record IsHostLine (system : System) (run : Run) (host hold : ℕ) (down : Port) (end : ℕ) : Type 0 where
+pub record IsHostLine (responses : Responses) (system : System) (run : Run) (host hold : ℕ) (down : Port) (end : ℕ) : Type 0 where
   pub commands : (c : ℕ) → c ≤ end → IsLegalHost (system.host host) (run.at_host host) c → AnswersAreOwed down (c - 1) → HostCarriesCommands system run host hold down c
-  pub answers : (c : ℕ) → c ≤ end → IsLegalHost (system.host host) (run.at_host host) c → AnswersAreOwed down c → HostCarriesAnswers system run host down c
+  pub answers : (c : ℕ) → c ≤ end → IsLegalHost (system.host host) (run.at_host host) c → AnswersAreOwed down c → HostCarriesAnswers responses system run host down c
 
 -- no beat without an operation stands before an agent without byte enables
 abbrev pub HasLanes : Target → Port → ℕ → Type 0
@@ -355,12 +365,12 @@ pub record Holds : Type 0 where
   pub agent : ℕ
 
 -- each part keeps its line. What lies between two parts is one boundary, so one part's lower side is the next one's upper side
-pub record Wired (system : System) (run : Run) (inside : Inside) (holds : Holds) (end : ℕ) : Type 0 where
+pub record Wired (responses : Responses) (system : System) (run : Run) (inside : Inside) (holds : Holds) (end : ℕ) : Type 0 where
   pub placed : (h : ℕ) (t : Transfer) (a : ℕ) → place_of system h t ≡ Some a → a < system.agents
   pub joined : (a h : ℕ) → IsTrue (is_joined system a h) → h < system.hosts
   pub words : (h a : ℕ) → h < system.hosts → a < system.agents → pieces (inside.after_route h a).shape (inside.before_arbiter h a).shape ≤ pieces (system.host h).shape (system.agent a).shape
   pub few : ((((holds.host + holds.route) + holds.links) + holds.arbiter) + holds.pipe) + holds.agent ≤ 5 + 2 * system.stages
-  pub host : (h : ℕ) → h < system.hosts → IsHostLine system run h holds.host (inside.after_host h) end
+  pub host : (h : ℕ) → h < system.hosts → IsHostLine responses system run h holds.host (inside.after_host h) end
   pub route : (h : ℕ) → h < system.hosts → IsRouteLine system h holds.route (inside.after_host h) (inside.after_route h) end
   pub links : (h a : ℕ) → h < system.hosts → a < system.agents → IsPath (target_of system a) end holds.links (inside.after_route h a) (inside.before_arbiter h a)
   pub lanes : (h a : ℕ) → h < system.hosts → a < system.agents → BringsLanes system run h a (inside.after_route h a) (inside.before_arbiter h a) end

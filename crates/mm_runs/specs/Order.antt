@@ -2,8 +2,9 @@
 use Rattle.std.specs.Prelude.{◌≡◌, ℕ, suc, ◌+◌, ◌-◌, ◌*◌, ◌<◌, ◌≤◌, Bool, true, false, not, ◌&&◌, List, [], ◌∷◌, ◌++◌, length, map, take, drop, replicate, if◌then◌else◌, nat_eq, nat_le, IsTrue, Option, Some, None, filter, flat_map, zip, fold, max, slice_index, slice_get, MatchOption, ⊤}
 use Rattle.std.specs.List.{list_any, list_all}
 use Rattle.histories.specs.History.{before, only_if, is_high, unreached, numbers, IsPrefix}
-use Rattle.mm_runs.specs.Views.{Shape, HostSide, System, Run}
-use Rattle.mm_runs.specs.Operations.{Beat, Operation, operations_of, own_operations, filled_lanes, is_enabled, byte_at, is_read, bytes_read, pieces}
+use Rattle.mm_runs.specs.Views.{Shape, HostSide, System, Run, Responses}
+use Rattle.mm_runs.specs.Views.Responses.{AreZero, AreCodes}
+use Rattle.mm_runs.specs.Operations.{Beat, Operation, operations_of, own_operations, filled_lanes, is_enabled, byte_at, is_read, bytes_read, memory_after, pieces}
 use Rattle.mm_runs.specs.Commands.{Transfer, agent_accepts, presented, accepted_in, is_of_reads, reads_among}
 use Rattle.mm_runs.specs.Legal.{host_accepts, given, gives_word, Word}
 
@@ -237,12 +238,18 @@ HasCodeOf system run host cycle number code (Some question) =
     code ≡ greatest_code (take (length lanes) (drop (reads_for system host agent (take number (asked system run host (suc cycle))))
     (answers_to host (answers system run agent (suc cycle - system.stages))))))
 
--- read responses: what is said of a host's `response` once agents' codes reach the hosts
+-- `response` bears the code of the word that is given, and is 0 where none is
 pub record HasResponses (system : System) (run : Run) (host end : ℕ) : Type 0 where
   pub of_words : (c : ℕ) → c < end → IsTrue (system.host host).has_response → IsTrue (gives_word (system.host host) (run.at_host host) c) →
       HasCodeOf system run host c (length (given (system.host host) (run.at_host host) c)) ((run.at_host host).response c)
       (slice_get (asked system run host (suc c)) (length (given (system.host host) (run.at_host host) c)))
   pub quiet : (c : ℕ) → c < end → IsTrue (system.host host).has_response → IsTrue (not (gives_word (system.host host) (run.at_host host) c)) → (run.at_host host).response c ≡ 0
+  pub absent : (c : ℕ) → c < end → IsTrue (not (system.host host).has_response) → (run.at_host host).response c ≡ 0
+
+-- what a host's `response` carries
+abbrev pub RespondsBy : Responses → System → Run → ℕ → ℕ → Type 0
+RespondsBy AreZero system run host end = (c : ℕ) → c < end → (run.at_host host).response c ≡ 0
+RespondsBy AreCodes system run host end = HasResponses system run host end
 
 -- each answer is what the writes taken before have left
 abbrev pub ActsAsMemory : System → Run → (ℕ → ℕ) → ℕ → ℕ → Type 0
@@ -264,5 +271,31 @@ untaken system run host agent cycle =
     unreached (map (λ t. length (transfer_operations system host agent t)) (for_agent system host agent (host_transfers system run host cycle)))
     (length (of_host host (taken system run agent cycle)))
 
-abbrev pub IsNear : System → Run → ℕ → ℕ → ℕ → Type 0
-IsNear system run host agent end = (c : ℕ) → c ≤ end → untaken system run host agent c ≤ 6 + 2 * system.stages
+-- the largest number of them that is promised
+abbrev pub command_lag : System → ℕ
+command_lag system = 6 + 2 * system.stages
+
+abbrev pub LagsWithin : ℕ → System → Run → ℕ → ℕ → ℕ → Type 0
+LagsWithin lag system run host agent end = (c : ℕ) → c ≤ end → untaken system run host agent c ≤ lag
+
+-- what the reads of a host find in an agent's memory, in the order in which they are taken
+abbrev pub bytes_for : ℕ → (ℕ → ℕ) → List Tagged → List ℕ
+bytes_for host contents [] = []
+bytes_for host contents (t ∷ later) =
+    (if is_read t.operation && nat_eq t.tag host then bytes_read contents (t.operation ∷ []) else [])
+    ++ bytes_for host (memory_after contents (t.operation ∷ [])) later
+
+-- a word that a host is given from an agent holds the bytes that the writes taken before its reads have left
+abbrev pub IsWordFromMemory : System → Run → ℕ → ℕ → (ℕ → ℕ) → ℕ → ℕ → Word → Option Asked → Type 0
+IsWordFromMemory system run host agent contents cycle number given question =
+    MatchOption question ⊥ (λ q. IsTrue (is_agent agent q.place) →
+    let lanes = filled_lanes (system.host host).shape (system.agent agent).shape q.beat.enables in
+    map (byte_at given.word) lanes
+    ≡ take (length lanes) (drop (reads_for system host agent (take number (asked system run host (suc cycle)))) (bytes_for host contents (taken system run agent (suc cycle - system.stages)))))
+
+abbrev pub ReadsFromMemory : System → Run → ℕ → ℕ → (ℕ → ℕ) → ℕ → Type 0
+ReadsFromMemory system run host agent contents end =
+    (c : ℕ) → c < end → IsTrue (gives_word (system.host host) (run.at_host host) c) →
+    IsWordFromMemory system run host agent contents c (length (given (system.host host) (run.at_host host) c))
+    (record { word = (run.at_host host).answer_word c; code = (run.at_host host).response c })
+    (slice_get (asked system run host (suc c)) (length (given (system.host host) (run.at_host host) c)))

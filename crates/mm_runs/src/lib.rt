@@ -7,7 +7,7 @@ ghost use Rattle.mm_runs.specs.Commands.{shows, accepted, presented, Burst, byte
 ghost use Rattle.mm_runs.specs.Rank.{HoldsOneBeat, LinkRankFalls, link_part, link_budget, is_owed, IsUnhindered, KeepLinkRanks};
 ghost use Rattle.ranks.specs.Junction.{budgets};
 ghost use Rattle.ranks.specs.Window.{KeepsRank, allowances};
-ghost use Rattle.mm_runs.specs.Views.{System, Run, Shape, Signals, CommandView, AnswerView};
+ghost use Rattle.mm_runs.specs.Views.{Responses, System, Run, Shape, Signals, CommandView, AnswerView};
 ghost use Rattle.mm_runs.specs.Machines.{Raw, raws, marked, idle, IsStageRun, port_of, IsFitBeat, burst_past, Expands, IsExpanderRun, split_parts, piece_of, owing_rank, select_of, select_parts};
 ghost use Rattle.mm_runs.specs.Operations.{Beat, pieces, own_operations, operations_of};
 ghost use Rattle.mm_runs.specs.Legal.{AreLegal, IsLegalHost};
@@ -76,7 +76,7 @@ pub fn links_code()
 
 /// The lines of the parts give what is promised at the ports, for any number of hosts, agents and stages.
 pub fn the_lines_give_the_headline()
-    ensures { (system : System) (run : Run) (inside : Inside) (holds : Holds) (end : ℕ) → Wired system run inside holds end → IsLegalRun system run end → IsSafe system run end }
+    ensures { (responses : Responses) (system : System) (run : Run) (inside : Inside) (holds : Holds) (end : ℕ) → Wired responses system run inside holds end → IsLegalRun system run end → IsSafe responses system run end }
 {}
 
 /// Whether an agent's base is subtracted before or behind the route, or nowhere, is all one to the operations.
