@@ -6,7 +6,7 @@ use Rattle.histories.specs.Below.{each_below}
 use Rattle.histories.specs.History.AreWithin.{all_placed, placed}
 use Rattle.mm_runs.specs.Link.{CarriesCommands, AreLegalAt, takes, words_at, words_owed}
 use Rattle.mm_rows.specs.Laxer.{FallsLax, moves, is_excused_lax}
-use Rattle.mm_runs.specs.Awake.{AwakeWithin, IsWanted, serves}
+use Rattle.mm_runs.specs.Awake.{ServesWithin, IsWanted, serves}
 use Rattle.mm_rows.specs.MoreExamples.{byte_target}
 use Rattle.mm_rows.specs.Hung.{hung_top, hung_middle, hung_bottom, hung_system, hung_run}
 use Rattle.mm_rows.proofs.ShortRuns.{legal_by_cycles, carries_by_cycles, last_excuse}
@@ -70,9 +70,9 @@ bottom_carries = carries_by_cycles byte_target 1 hung_middle hung_bottom 4
     bottom_legal
 
 -- the host waits from cycle 1 on, and isn't served
-pub hung_is_not : AwakeWithin 3 hung_system hung_run 0 4 → ⊥
+pub hung_is_not : ServesWithin 3 hung_system hung_run 0 4 → ⊥
 hung_is_not awake =
     let wanted = λ (c : ℕ) (low : 1 ≤ c) (high : c < 4). each_below (λ c. 1 ≤ c → IsWanted hung_system hung_run 0 0 1 c) 4 c
     ((((tt, λ low. absurd (omega (arith, low))), λ low. record { oldest = refl; for_agent = refl; ready = refl; answered = refl; bursts = refl }), λ low. record { oldest = refl; for_agent = refl; ready = refl; answered = refl; bursts = refl }), λ low. record { oldest = refl; for_agent = refl; ready = refl; answered = refl; bursts = refl }) high low in
-    let served = awake 1 0 1 (omega arith) wanted in
+    let served = awake 1 0 1 (omega arith) (omega arith) wanted in
     each_below (λ c. 1 ≤ c → IsTrue (serves hung_system hung_run 0 c) → ⊥) 4 served.0 ((((tt, λ low h. absurd (omega (arith, low))), λ low h. cc), λ low h. cc), λ low h. cc) served.2 served.1 served.3

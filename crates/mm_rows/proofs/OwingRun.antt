@@ -7,7 +7,7 @@ use Rattle.histories.specs.History.AreWithin.{all_placed, placed, next_room}
 use Rattle.mm_runs.specs.Link.{CarriesCommands, AreLegalAt, takes, words_at, words_owed, taken_at}
 use Rattle.mm_rows.specs.Laxer.{moves, is_excused_half, FallsHalf}
 use Rattle.mm_runs.specs.Rank.{is_owed}
-use Rattle.mm_runs.specs.Awake.{AwakeWithin, IsWanted, serves}
+use Rattle.mm_runs.specs.Awake.{ServesWithin, IsWanted, serves}
 use Rattle.mm_rows.specs.MoreExamples.{byte_target}
 use Rattle.mm_rows.specs.Hung.{owing_top, owing_middle, owing_bottom, hung_system, owing_run}
 use Rattle.mm_rows.proofs.ShortRuns.{legal_by_cycles, carries_by_cycles, second_excuse, last_excuse}
@@ -92,9 +92,9 @@ bottom_carries = carries_by_cycles byte_target 1 owing_middle owing_bottom 4
     bottom_legal
 
 -- the host waits from cycle 2 on, and isn't served
-pub owing_is_not : AwakeWithin 3 hung_system owing_run 0 5 → ⊥
+pub owing_is_not : ServesWithin 3 hung_system owing_run 0 5 → ⊥
 owing_is_not awake =
     let wanted = λ (c : ℕ) (low : 2 ≤ c) (high : c < 5). each_below (λ c. 2 ≤ c → IsWanted hung_system owing_run 0 0 1 c) 5 c
     (((((tt, λ low. absurd (omega (arith, low))), λ low. absurd (omega (arith, low))), λ low. record { oldest = refl; for_agent = refl; ready = refl; answered = refl; bursts = refl }), λ low. record { oldest = refl; for_agent = refl; ready = refl; answered = refl; bursts = refl }), λ low. record { oldest = refl; for_agent = refl; ready = refl; answered = refl; bursts = refl }) high low in
-    let served = awake 2 0 1 (omega arith) wanted in
+    let served = awake 2 0 1 (omega arith) (omega arith) wanted in
     each_below (λ c. 2 ≤ c → IsTrue (serves hung_system owing_run 0 c) → ⊥) 5 served.0 (((((tt, λ low h. absurd (omega (arith, low))), λ low h. absurd (omega (arith, low))), λ low h. cc), λ low h. cc), λ low h. cc) served.2 served.1 served.3

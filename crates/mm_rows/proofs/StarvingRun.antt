@@ -4,7 +4,7 @@ use Rattle.histories.specs.Below.{each_below}
 use Rattle.histories.specs.History.AreWithin.{all_placed, placed, next_room}
 use Rattle.mm_runs.specs.Link.{CarriesCommands, AreLegalAt}
 use Rattle.mm_rows.specs.Laxer.{moves, FallsByWords}
-use Rattle.mm_runs.specs.Awake.{AwakeWithin, IsWanted, serves}
+use Rattle.mm_runs.specs.Awake.{ServesWithin, IsWanted, serves}
 use Rattle.mm_rows.specs.MoreExamples.{byte_target}
 use Rattle.mm_rows.specs.Hung.{starving_top, starving_bottom, starving_system, starving_run}
 use Rattle.mm_rows.proofs.ShortRuns.{legal_by_cycles, carries_by_cycles}
@@ -34,9 +34,9 @@ top_carries = carries_by_cycles byte_target 1 starving_top starving_bottom 4
     top_legal
 
 -- agent 0 is wanted for its word, and isn't served
-pub starving_is_not : AwakeWithin 3 starving_system starving_run 0 5 → ⊥
+pub starving_is_not : ServesWithin 3 starving_system starving_run 0 5 → ⊥
 starving_is_not awake =
     let wanted = λ (c : ℕ) (low : 2 ≤ c) (high : c < 5). each_below (λ c. 2 ≤ c → IsWanted starving_system starving_run 0 0 1 c) 5 c
     (((((tt, λ low. absurd (omega (arith, low))), λ low. absurd (omega (arith, low))), λ low. record { oldest = refl; for_agent = refl; ready = refl; answered = refl; bursts = refl }), λ low. record { oldest = refl; for_agent = refl; ready = refl; answered = refl; bursts = refl }), λ low. record { oldest = refl; for_agent = refl; ready = refl; answered = refl; bursts = refl }) high low in
-    let served = awake 2 0 1 (omega arith) wanted in
+    let served = awake 2 0 1 (omega arith) (omega arith) wanted in
     each_below (λ c. 2 ≤ c → IsTrue (serves starving_system starving_run 0 c) → ⊥) 5 served.0 (((((tt, λ low h. absurd (omega (arith, low))), λ low h. absurd (omega (arith, low))), λ low h. cc), λ low h. cc), λ low h. cc) served.2 served.1 served.3

@@ -7,8 +7,8 @@ use Rattle.mm_runs.specs.Legal.{IsLegalHost, gives_word, given, IsProperAtAgent,
 use Rattle.mm_runs.specs.Commands.{agent_accepts, is_held, words_before}
 use Rattle.mm_runs.specs.Order.{Ordered, of_host, taken, issued, beats_taken, words_covered, is_joined, owners_taken, are_together, Returned, IsWordOf, asked}
 use Rattle.std.specs.List.{list_all}
-use Rattle.mm_runs.specs.Awake.{TakesTurns, shows_plain_write, AwakeWithin, IsWanted, serves, ReadsAheadWithin, IsAsked, IsPassedByFew, AwakeAtDefaultWithin, is_wanted_at_default, is_given_from, is_written_to}
-use Rattle.mm_rows.specs.MoreExamples.{shared_system, turn_run, unfair_tags, stuck_run, plain_system, one_by_one_run, two_agents, stuck_at_default_run, agent_with_bound, two_reads}
+use Rattle.mm_runs.specs.Awake.{TakesTurns, shows_plain_write, ServesWithin, IsWanted, serves, ReadsAheadWithin, IsAsked, IsPassedByFew, ServesDefaultWithin, is_wanted_at_default, is_given_from, is_written_to}
+use Rattle.mm_rows.specs.MoreExamples.{shared_system, turn_run, unfair_tags, stuck_run, plain_system, one_by_one_run, plain_pair, held_read_run, two_agents, stuck_at_default_run, agent_with_bound, two_reads}
 use Rattle.mm_rows.specs.Examples.{narrow_system, narrow_run, narrow_host, host_of, all_lanes_run, stray_run, wide_system, whole_bursts_run, mixed_bursts_run, busy_run, packed_system, read_run}
 
 narrow_prefix : (c host : ℕ) → c ≤ 2 → host < 2 → IsPrefix (of_host host (taken narrow_system narrow_run 0 c)) (issued narrow_system narrow_run host 0 (c - 0))
@@ -83,11 +83,11 @@ unfair_is_not turns =
     omega (arith, bad)
 
 -- a host that waits for ever isn't served within three cycles
-pub stuck_is_not : AwakeWithin 3 wide_system stuck_run 0 3 → ⊥
+pub stuck_is_not : ServesWithin 3 wide_system stuck_run 0 3 → ⊥
 stuck_is_not awake =
     let wanted = λ (c : ℕ) (low : 0 ≤ c) (high : c < 3). each_below (IsWanted wide_system stuck_run 0 0 1) 3 c
     (((tt, record { oldest = refl; for_agent = refl; ready = refl; answered = refl; bursts = refl }), record { oldest = refl; for_agent = refl; ready = refl; answered = refl; bursts = refl }), record { oldest = refl; for_agent = refl; ready = refl; answered = refl; bursts = refl }) high in
-    let served = awake 0 0 1 (omega arith) wanted in
+    let served = awake 0 0 1 (omega arith) (omega arith) wanted in
     each_below (λ c. IsTrue (serves wide_system stuck_run 0 c) → ⊥) 3 served.0 (((tt, λ h. cc), λ h. cc), λ h. cc) served.2 served.3
 
 -- what holds cycle by cycle and host by host is the record
@@ -122,22 +122,38 @@ one_by_one_is_not ahead =
       record { ready = refl; room = omega arith; untaken = omega arith; few = omega arith; only = refl },
     ) (omega arith) in
     let there = λ (c : ℕ) (low : 1 ≤ c) (high : c < 1 + 3). (let same : (c - 1) + 1 ≡ c = omega arith in subst (λ k. IsAsked plain_system one_by_one_run 0 0 k) same (asked c low high)) in
-    let served = ahead refl refl 1 0 (omega arith) there in
+    let served = ahead refl refl 1 0 (omega arith) (omega arith) there in
     let place : (served.0 - 1) + 1 ≡ served.0 = omega (arith, served.1) in
     each_below (λ k. IsTrue (agent_accepts (plain_system.agent 0) (one_by_one_run.at_agent 0) (k + 1)) → ⊥) 3 (served.0 - 1) (((tt, λ h. cc), λ h. cc), λ h. cc) (omega (arith, served.2, served.1))
     (subst (λ k. IsTrue (agent_accepts (plain_system.agent 0) (one_by_one_run.at_agent 0) k)) (sym place) served.3)
 
+-- a second read that waits behind a write to another agent, which is finished
+pub held_read_is_not : ReadsAheadWithin 3 plain_pair held_read_run 0 5 → ⊥
+held_read_is_not ahead =
+    let asked = λ (c : ℕ) (low : 2 ≤ c) (high : c < 2 + 3). each_below (λ k. IsAsked plain_pair held_read_run 0 0 (k + 2)) 3 (c - 2) (
+      (
+        (tt, record { ready = refl; room = omega arith; untaken = omega arith; few = omega arith; only = refl }),
+        record { ready = refl; room = omega arith; untaken = omega arith; few = omega arith; only = refl },
+      ),
+      record { ready = refl; room = omega arith; untaken = omega arith; few = omega arith; only = refl },
+    ) (omega arith) in
+    let there = λ (c : ℕ) (low : 2 ≤ c) (high : c < 2 + 3). (let same : (c - 2) + 2 ≡ c = omega arith in subst (λ k. IsAsked plain_pair held_read_run 0 0 k) same (asked c low high)) in
+    let served = ahead refl refl 2 0 (omega arith) (omega arith) there in
+    let place : (served.0 - 2) + 2 ≡ served.0 = omega (arith, served.1) in
+    each_below (λ k. IsTrue (agent_accepts (plain_pair.agent 0) (held_read_run.at_agent 0) (k + 2)) → ⊥) 3 (served.0 - 2) (((tt, λ h. cc), λ h. cc), λ h. cc) (omega (arith, served.2, served.1))
+    (subst (λ k. IsTrue (agent_accepts (plain_pair.agent 0) (held_read_run.at_agent 0) k)) (sym place) served.3)
+
 -- a host that is passed by six commands of another with three shares
 pub passed_is_not : IsPassedByFew 1 shared_system (turn_run (replicate 8 0)) 0 8 → ⊥
 passed_is_not fair =
-    let bad = fair 0 6 1 1 (omega arith) (omega arith) (record { presented = refl; counted = refl; not_begun = refl; earlier = refl }) refl in
+    let bad = fair 0 6 1 1 (omega arith) (omega arith) (omega arith) (record { presented = refl; counted = refl; not_begun = refl; earlier = refl }) refl in
     omega (arith, bad)
 
 -- a read of the default agent that waits for ever
-pub stuck_at_default_is_not : AwakeAtDefaultWithin 3 two_agents stuck_at_default_run 3 → ⊥
+pub stuck_at_default_is_not : ServesDefaultWithin 3 two_agents stuck_at_default_run 3 → ⊥
 stuck_at_default_is_not awake =
     let wanted = λ (c : ℕ) (low : 0 ≤ c) (high : c < 3). each_below (λ c. IsTrue (is_wanted_at_default two_agents stuck_at_default_run 0 1 c)) 3 c (((tt, refl), refl), refl) high in
-    let served = awake 0 0 1 (omega arith) wanted in
+    let served = awake 0 0 1 (omega arith) (omega arith) wanted in
     each_below (λ c. IsTrue (is_given_from two_agents stuck_at_default_run None c 0 || is_written_to two_agents stuck_at_default_run None c 0) → ⊥) 3 served.0 (((tt, λ h. cc), λ h. cc), λ h. cc) served.2 served.3
 
 -- two reads within a bound of two

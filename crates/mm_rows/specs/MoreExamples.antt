@@ -336,3 +336,24 @@ stuck_at_default_run = two_agent_run (record {
   answer_valid = always 0;
   response = always 0;
 }) (read_once [] [] []) (read_once [] [] [])
+
+-- one plain host and two agents: a read of agent 0, which is never answered, a write to agent 1, and a second read of agent 0 that waits
+-- although the agent has room for it
+abbrev pub plain_pair : System
+plain_pair = record two_agents { host = plain_system.host }
+
+abbrev pub held_read_run : Run
+held_read_run = two_agent_run (record {
+  signals = record { read = signal (1 ∷ 0 ∷ 1 ∷ 1 ∷ 1 ∷ []); write = signal (0 ∷ 1 ∷ []); address = signal (0 ∷ 256 ∷ 4 ∷ 4 ∷ 4 ∷ []); word = always 7; enables = always 15; count = always 1 };
+  wait = signal (0 ∷ 0 ∷ 1 ∷ 1 ∷ 1 ∷ []);
+  answer_word = always 0;
+  answer_valid = always 0;
+  response = always 0;
+}) (read_once (1 ∷ []) [] []) (written_to (0 ∷ 1 ∷ []) [] (0 ∷ 7 ∷ []) 15 [])
+
+-- the read of eight bytes from 3 on, whose first touch is read in two beats
+abbrev pub reads_from_three : HostView
+reads_from_three = record reads_eight { signals = record { read = signal (1 ∷ []); write = always 0; address = always 3; word = always 0; enables = always 1; count = always 8 } }
+
+abbrev pub twice_read_run : Run
+twice_read_run = run_of reads_from_three no_host (asked_by (1 ∷ 1 ∷ []) (8 ∷ 240 ∷ []))

@@ -4,9 +4,10 @@
 ghost use Rattle.std.specs.Prelude.{◌≡◌, ◌-◌, ◌∷◌, [], true, false, ℕ, None, map, length, replicate};
 ghost use Rattle.histories.specs.History.{before, numbers};
 ghost use Rattle.mm_runs.specs.Commands.{agent_accepts};
-ghost use Rattle.mm_runs.specs.Awake.{touches_from, turns_of, begun_within, HasFullTurns, TakesTurns, AwakeWithin, AwakeAtDefaultWithin, ReadsAheadWithin, IsPassedByFew, serves, beats_between, IsPacked};
+ghost use Rattle.mm_runs.specs.Awake.{turns_of, begun_within, HasFullTurns, TakesTurns, ServesWithin, ServesDefaultWithin, ReadsAheadWithin, IsPassedByFew, serves};
+ghost use Rattle.mm_runs.specs.Packed.{operations_touched, beats_between, ReadsEachTouchedWordOnce};
 ghost use Rattle.mm_runs.specs.Link.Item.{Acts, Ends};
-ghost use Rattle.mm_rows.specs.MoreExamples.{waiting_agent, held_writes, late_read, two_reads, agent_with_bound, two_agents, limited_run, unlimited_run, default_run, byte_system, byte_reads, shared_system, turn_run, fair_tags, unfair_tags, owners_by, byte_target, wide_side, byte_side, loose_side, stuck_run, slow_run, packed_run, unpacked_run, staged_system, taken_after, early_word, fickle_host, hasty_host, eager_agent, memory_run, coded_system, coded_run, burst_side, held_back_side, too_early_side, plain_system, one_by_one_run, joined_side, stuck_at_default_run};
+ghost use Rattle.mm_rows.specs.MoreExamples.{waiting_agent, held_writes, late_read, two_reads, agent_with_bound, two_agents, limited_run, unlimited_run, default_run, byte_system, byte_reads, shared_system, turn_run, fair_tags, unfair_tags, owners_by, byte_target, wide_side, byte_side, loose_side, stuck_run, slow_run, packed_run, unpacked_run, twice_read_run, plain_pair, held_read_run, staged_system, taken_after, early_word, fickle_host, hasty_host, eager_agent, memory_run, coded_system, coded_run, burst_side, held_back_side, too_early_side, plain_system, one_by_one_run, joined_side, stuck_at_default_run};
 ghost use Rattle.mm_rows.specs.Hung.{hung_top, hung_middle, hung_bottom, hung_system, hung_run, owing_top, owing_middle, owing_bottom, owing_run, starving_top, starving_bottom, starving_system, starving_run, debt_top, debt_bottom, debt_system, debt_run};
 ghost use Rattle.mm_rows.specs.Laxer.{FallsLax, FallsHalf, FallsByWords};
 ghost use Rattle.mm_runs.specs.Rank.{AnswersPromptly};
@@ -87,9 +88,10 @@ pub fn limiter()
 
 /// Eight bytes of a 64-bit agent make one touch, or two.
 pub fn touches()
-    ensures aligned { touches_from (byte_system 256) 0 0 None (byte_reads 0) ≡ 1 }
-    ensures unaligned { touches_from (byte_system 256) 0 0 None (byte_reads 3) ≡ 2 }
-    ensures wrapped { touches_from (byte_system 8) 0 0 None (byte_reads 3) ≡ 2 }
+    ensures aligned { operations_touched (byte_system 256) 0 0 1 None (byte_reads 0) ≡ 8 }
+    ensures unaligned { operations_touched (byte_system 256) 0 0 1 None (byte_reads 3) ≡ 5 }
+    ensures both { operations_touched (byte_system 256) 0 0 2 None (byte_reads 3) ≡ 8 }
+    ensures wrapped { operations_touched (byte_system 8) 0 0 1 None (byte_reads 3) ≡ 5 }
 {}
 
 /// Turns of 3 and 1 shares, and turns of one each.
@@ -109,8 +111,9 @@ pub fn link_items()
 /// Whole runs that break the promises on turns and on service.
 pub fn unserved()
     ensures unfair { TakesTurns shared_system (turn_run unfair_tags) 0 20 → ⊥ }
-    ensures stuck { AwakeWithin 3 wide_system stuck_run 0 3 → ⊥ }
+    ensures stuck { ServesWithin 3 wide_system stuck_run 0 3 → ⊥ }
     ensures one_by_one { ReadsAheadWithin 3 plain_system one_by_one_run 0 4 → ⊥ }
+    ensures held_read { ReadsAheadWithin 3 plain_pair held_read_run 0 5 → ⊥ }
     ensures passed { IsPassedByFew 1 shared_system (turn_run (replicate 8 0)) 0 8 → ⊥ }
     ensures slow { serves wide_system slow_run 0 2 ≡ true }
 {}
@@ -118,7 +121,8 @@ pub fn unserved()
 /// One beat for a touch is packed, one for each byte is not.
 pub fn packed()
     ensures right { beats_between (byte_system 256) 0 0 8 0 (beats_taken (byte_system 256) packed_run 0 1) ≡ 1 }
-    ensures wrong { IsPacked (byte_system 256) unpacked_run 0 0 8 → ⊥ }
+    ensures wrong { ReadsEachTouchedWordOnce (byte_system 256) unpacked_run 0 0 8 → ⊥ }
+    ensures twice { ReadsEachTouchedWordOnce (byte_system 256) twice_read_run 0 0 2 → ⊥ }
 {}
 
 /// A write is taken no earlier than the stages let it.
@@ -174,7 +178,7 @@ pub fn no_rank_at_a_gap()
 
 /// Right and wrong runs at the default agent, at an agent's bound, and of a lag.
 pub fn further_runs()
-    ensures default { AwakeAtDefaultWithin 3 two_agents stuck_at_default_run 3 → ⊥ }
+    ensures default { ServesDefaultWithin 3 two_agents stuck_at_default_run 3 → ⊥ }
     ensures bound { IsProperAtAgent (agent_with_bound 2) two_reads 2 }
     ensures lag { untaken wide_system stuck_run 0 0 9 ≡ 1 }
 {}
@@ -206,7 +210,7 @@ pub fn laws_may_hang()
     ensures lower { CarriesCommands byte_target 1 hung_middle hung_bottom 4 }
     ensures upper_rank { (end : ℕ) → FallsLax byte_target hung_top hung_middle (λ c. 0) 0 end }
     ensures lower_rank { (end : ℕ) → FallsLax byte_target hung_middle hung_bottom (λ c. 0) 0 end }
-    ensures asleep { AwakeWithin 3 hung_system hung_run 0 4 → ⊥ }
+    ensures asleep { ServesWithin 3 hung_system hung_run 0 4 → ⊥ }
 {}
 
 /// The same where a link is excused by the wait below it only if a beat stands there: one link waits for a word, the other for a beat.
@@ -215,21 +219,21 @@ pub fn laws_may_hang_owing()
     ensures lower { CarriesCommands byte_target 1 owing_middle owing_bottom 4 }
     ensures upper_rank { (end : ℕ) → FallsHalf byte_target owing_top owing_middle (λ c. 0) 0 end }
     ensures lower_rank { (end : ℕ) → FallsHalf byte_target owing_middle owing_bottom (λ c. 0) 0 end }
-    ensures asleep { AwakeWithin 3 hung_system owing_run 0 5 → ⊥ }
+    ensures asleep { ServesWithin 3 hung_system owing_run 0 5 → ⊥ }
 {}
 
 /// A link that keeps all laws, the rank with tight exceptions among them, and never gives a word that has come while writes of the same host go on.
 pub fn laws_may_starve()
     ensures commands { CarriesCommands byte_target 1 starving_top starving_bottom 4 }
     ensures rank { (end : ℕ) → FallsByWords byte_target starving_top starving_bottom (λ c. 0) 0 end }
-    ensures asleep { AwakeWithin 3 starving_system starving_run 0 5 → ⊥ }
+    ensures asleep { ServesWithin 3 starving_system starving_run 0 5 → ⊥ }
 {}
 
 /// A link that keeps the laws, the rank with its first exception tight, and holds back a burst for one agent while another agent owes a word: a host behind it is never served.
 pub fn laws_may_block()
     ensures commands { CarriesCommands byte_target 1 debt_top debt_bottom 4 }
     ensures rank { (end : ℕ) → FallsHalf byte_target debt_top debt_bottom (λ c. 0) 0 end }
-    ensures asleep { AwakeWithin 3 debt_system debt_run 0 5 → ⊥ }
+    ensures asleep { ServesWithin 3 debt_system debt_run 0 5 → ⊥ }
 {}
 
 /// The tight clauses refuse the runs that hang, starve and block.

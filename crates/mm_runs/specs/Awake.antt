@@ -1,13 +1,13 @@
 -- Service within a window, fairness, and packed reads.
-use Rattle.std.specs.Prelude.{◌≡◌, ℕ, suc, ◌+◌, ◌-◌, ◌*◌, ◌/◌, ◌%◌, ◌<◌, ◌≤◌, Bool, true, false, not, ◌&&◌, ◌||◌, List, [], ◌∷◌, length, map, take, drop, if◌then◌else◌, nat_eq, nat_le, nat_lt, max, IsTrue, IsFalse, Option, Some, None, filter, flat_map, zip, sum, slice_get, slice_index, MatchOption, ⊤}
+use Rattle.std.specs.Prelude.{◌≡◌, ℕ, suc, ◌+◌, ◌-◌, ◌*◌, ◌<◌, ◌≤◌, Bool, true, false, not, ◌&&◌, ◌||◌, List, [], ◌∷◌, length, map, take, drop, if◌then◌else◌, nat_eq, nat_le, nat_lt, max, IsTrue, IsFalse, Option, Some, None, filter, flat_map, zip, sum, slice_index}
 use Rattle.std.specs.List.{list_any, list_all}
 use Rattle.histories.specs.History.{before, is_high, numbers}
 use Rattle.mm_runs.specs.Views.{HostSide, AgentSide, System, Run}
 use Rattle.mm_runs.specs.Views.Kind.{Writes}
-use Rattle.mm_runs.specs.Operations.{Beat, filled_of_piece}
+use Rattle.mm_runs.specs.Operations.{filled_of_piece}
 use Rattle.mm_runs.specs.Commands.{Transfer, shows, agent_accepts, transfer_at, burst_before, accepted, read_beats, is_of_reads, words_before}
 use Rattle.mm_runs.specs.Legal.{host_accepts, given, gives_word, is_under_way, unanswered}
-use Rattle.mm_runs.specs.Order.{Owner, TaggedBeat, asked, place_of, is_agent, host_transfers, for_agent, beat_operations, transfer_operations, issued, taken, of_host, beats_taken, words_given_in, is_read_beat, owners_taken, is_same_owner, command_numbers, operations_at}
+use Rattle.mm_runs.specs.Order.{Owner, asked, place_of, is_agent, host_transfers, for_agent, transfer_operations, issued, taken, of_host, beats_taken, words_given_in, is_read_beat, owners_taken, is_same_owner, command_numbers}
 
 -- two places are one
 abbrev pub is_place : Option ℕ → Option ℕ → Bool
@@ -32,19 +32,33 @@ abbrev pub is_for : System → Run → ℕ → Option ℕ → ℕ → ℕ → Bo
 is_for system run host place number cycle =
     list_any (λ t. is_place place (place_of system host t)) (of_command number (host_transfers system run host cycle))
 
--- the operations of a host's commands up to a number are taken at an agent
+-- `own` members of a row of `all` so far, the last of which are these, are among the first `reached`
+abbrev pub are_reached : ℕ → ℕ → ℕ → Bool
+are_reached own all reached = nat_eq own 0 || nat_le all reached
+
+abbrev pub count_for : System → ℕ → ℕ → List Transfer → ℕ
+count_for system host agent transfers = length (flat_map (transfer_operations system host agent) (for_agent system host agent transfers))
+
+-- the operations of a command at an agent are taken
 abbrev pub are_taken : System → Run → ℕ → ℕ → ℕ → ℕ → Bool
 are_taken system run host number cycle agent =
-    nat_le
-    (length (flat_map (transfer_operations system host agent) (for_agent system host agent (up_to number (host_transfers system run host (suc cycle))))))
+    let presented = host_transfers system run host (suc cycle) in
+    are_reached (count_for system host agent (of_command number presented)) (count_for system host agent (up_to number presented))
     (length (of_host host (taken system run agent cycle)))
+
+-- the words of a command are given
+abbrev pub are_given : System → Run → ℕ → ℕ → ℕ → Bool
+are_given system run host number cycle =
+    let presented = host_transfers system run host (suc cycle) in
+    are_reached (length (read_beats (of_command number presented))) (length (read_beats (up_to number presented)))
+    (length (given (system.host host) (run.at_host host) cycle))
 
 -- by the cycles before this one all beats of a command are accepted, all its operations taken and all its words given
 abbrev pub is_finished : System → Run → ℕ → ℕ → ℕ → Bool
 is_finished system run host number cycle =
     nat_le number (length (filter (λ t. t.ends) (accepted (system.host host).shape (run.at_host host).signals (host_accepts (run.at_host host)) cycle)))
     && list_all (are_taken system run host number cycle) (numbers 0 system.agents)
-    && nat_le (length (read_beats (up_to number (host_transfers system run host (suc cycle))))) (length (given (system.host host) (run.at_host host) cycle))
+    && are_given system run host number cycle
 
 -- presented by the end of this cycle, and not finished before it
 abbrev pub is_unfinished : System → Run → ℕ → ℕ → ℕ → Bool
@@ -91,8 +105,12 @@ is_written_to system run place cycle host =
 abbrev pub longest_wait : AgentSide → ℕ
 longest_wait side = if side.has_wait then 0 else max side.read_wait side.write_wait
 
-abbrev pub window : System → ℕ → ℕ
-window system wait = 64 * (4 + system.stages) + 2 * wait
+-- the number of cycles within which a wanted agent is served: generous, so that ranks that add up over the parts fit in it
+abbrev pub window_of : System → ℕ → ℕ
+window_of system wait = 64 * (4 + system.stages) + 2 * wait
+
+abbrev pub agent_window : System → ℕ → ℕ
+agent_window system agent = window_of system (longest_wait (system.agent agent))
 
 -- in each cycle of a window
 abbrev pub Throughout : ℕ → ℕ → (ℕ → Type 0) → Type 0
@@ -118,28 +136,22 @@ serves system run agent cycle =
     || list_any (is_written_to system run (Some agent) cycle) (numbers 0 system.hosts)
 
 -- a wanted agent is served within so many cycles
-abbrev pub AwakeWithin : ℕ → System → Run → ℕ → ℕ → Type 0
-AwakeWithin size system run agent end =
-    (from host number : ℕ) → from + size ≤ end →
+abbrev pub ServesWithin : ℕ → System → Run → ℕ → ℕ → Type 0
+ServesWithin size system run agent end =
+    (from host number : ℕ) → from + size ≤ end → host < system.hosts →
     Throughout from size (IsWanted system run agent host number) →
     Sometime from size (λ c. IsTrue (serves system run agent c))
-
-abbrev pub Awake : System → Run → ℕ → ℕ → Type 0
-Awake system run agent end = AwakeWithin (window system (longest_wait (system.agent agent))) system run agent end
 
 -- the default agent is wanted, by the host of the command alone
 abbrev pub is_wanted_at_default : System → Run → ℕ → ℕ → ℕ → Bool
 is_wanted_at_default system run host number cycle =
     is_oldest system run host number cycle && is_for system run host None number (suc cycle) && shows_its_burst system run None cycle host
 
-abbrev pub AwakeAtDefaultWithin : ℕ → System → Run → ℕ → Type 0
-AwakeAtDefaultWithin size system run end =
-    (from host number : ℕ) → from + size ≤ end →
+abbrev pub ServesDefaultWithin : ℕ → System → Run → ℕ → Type 0
+ServesDefaultWithin size system run end =
+    (from host number : ℕ) → from + size ≤ end → host < system.hosts →
     Throughout from size (λ c. IsTrue (is_wanted_at_default system run host number c)) →
     Sometime from size (λ c. IsTrue (is_given_from system run None c host || is_written_to system run None c host))
-
-abbrev pub AwakeAtDefault : System → Run → ℕ → Type 0
-AwakeAtDefault system run end = AwakeAtDefaultWithin (window system 0) system run end
 
 -- a host whose plain commands reach the agent one for one
 abbrev pub is_alike : HostSide → AgentSide → Bool
@@ -171,12 +183,15 @@ abbrev pub ReadsAheadWithin : ℕ → System → Run → ℕ → ℕ → Type 0
 ReadsAheadWithin size system run agent end =
     IsTrue (system.agent agent).has_valid →
     IsTrue (list_all (λ host. is_alike (system.host host) (system.agent agent)) (system.joined agent)) →
-    (from host : ℕ) → from + size ≤ end →
+    (from host : ℕ) → from + size ≤ end → host < system.hosts →
     Throughout from size (IsAsked system run agent host) →
     Sometime from size (λ c. IsTrue (agent_accepts (system.agent agent) (run.at_agent agent) c))
 
-abbrev pub ReadsAhead : System → Run → ℕ → ℕ → Type 0
-ReadsAhead system run agent end = ReadsAheadWithin (window system (longest_wait (system.agent agent))) system run agent end
+-- the module never idles beyond the window while an unstalled agent, or the default agent, is wanted
+pub record NeverIdles (system : System) (run : Run) (end : ℕ) : Type 0 where
+  pub agents : (a : ℕ) → a < system.agents → ServesWithin (agent_window system a) system run a end
+  pub default : ServesDefaultWithin (window_of system 0) system run end
+  pub ahead : (a : ℕ) → a < system.agents → ReadsAheadWithin (agent_window system a) system run a end
 
 -- each owner once, where it comes first
 abbrev pub first_owners : List Owner → List Owner → List Owner
@@ -221,13 +236,10 @@ pub record IsWaiting (system : System) (run : Run) (agent host number cycle : �
 -- a waiting command is passed by at most so many others
 abbrev pub IsPassedByFew : ℕ → System → Run → ℕ → ℕ → Type 0
 IsPassedByFew few system run agent end =
-    (from later host number : ℕ) → from ≤ later → later ≤ end →
+    (from later host number : ℕ) → from ≤ later → later ≤ end → host < system.hosts →
     IsWaiting system run agent host number from →
     IsFalse (has_begun system run agent host number later) →
     begun_by_others system run agent host later ≤ begun_by_others system run agent host from + shares_of_others system agent host + few
-
-abbrev pub IsFair : System → Run → ℕ → ℕ → Type 0
-IsFair system run agent end = IsPassedByFew (4 * system.stages + 32) system run agent end
 
 -- commands of one host without a break
 pub record Turn : Type 0 where
@@ -282,46 +294,7 @@ TakesTurns system run agent end =
     IsTrue (list_all (λ host. are_finished_before system run host (commands_begun system run host (suc from)) from) (system.joined agent)) →
     HasFullTurns system agent (turns_of (begun_within system run agent from size))
 
--- where a host word lies in the agent's words, if it has an operation
-pub record Touch : Type 0 where
-  pub word : ℕ
-  pub offset : ℕ
-
-abbrev pub touch_of : System → ℕ → ℕ → Beat → Touch
-touch_of system host agent beat =
-    let offset = (beat.address - system.base host agent) % (system.agent agent).span in
-    record { word = offset / (system.agent agent).word_bytes; offset = offset }
-
--- a host word goes on in the touch of the one before it
-abbrev pub goes_on : Option Touch → Touch → Bool
-goes_on None touch = false
-goes_on (Some last) touch = nat_eq last.word touch.word && nat_lt last.offset touch.offset
-
--- how many touches the host words of a read make, after the one before them
-abbrev pub touches_from : System → ℕ → ℕ → Option Touch → List Beat → ℕ
-touches_from system host agent last [] = 0
-touches_from system host agent last (beat ∷ later) =
-    if nat_eq (length (beat_operations system host agent beat)) 0
-    then touches_from system host agent None later
-    else (if goes_on last (touch_of system host agent beat) then 0 else 1)
-    + touches_from system host agent (Some (touch_of system host agent beat)) later
-
--- how many of these beats have operations with a number from `low` to below `high`, where `reached` came before
-abbrev pub beats_between : System → ℕ → ℕ → ℕ → ℕ → List TaggedBeat → ℕ
-beats_between system agent low high reached [] = 0
-beats_between system agent low high reached (beat ∷ later) =
-    let passed = reached + length (operations_at system agent beat) in
-    (if nat_lt reached passed && nat_lt reached high && nat_lt low passed then 1 else 0)
-    + beats_between system agent low high passed later
-
--- a read command is taken in no more beats than it has touches. `number` is its place among the host's transfers for the agent
-abbrev pub IsPacked : System → Run → ℕ → ℕ → ℕ → Type 0
-IsPacked system run host agent end =
-    (c number : ℕ) → c ≤ end →
-    let transfers = for_agent system host agent (host_transfers system run host c) in
-    let low = length (flat_map (transfer_operations system host agent) (take number transfers)) in
-    MatchOption (slice_get transfers number) ⊤ (λ t.
-    IsTrue (is_of_reads t.kind) → IsTrue (nat_le (system.host host).word_bytes (system.agent agent).word_bytes) →
-    beats_between system agent low (low + length (transfer_operations system host agent t)) 0
-    (filter (λ b. nat_eq b.tag host) (beats_taken system run agent c))
-    ≤ touches_from system host agent None t.beats)
+-- each waiting command is passed by few others, and hosts that write without gaps take turns by their shares
+pub record IsFair (system : System) (run : Run) (end : ℕ) : Type 0 where
+  pub few : (a : ℕ) → a < system.agents → IsPassedByFew (4 * system.stages + 32) system run a end
+  pub turns : (a : ℕ) → a < system.agents → TakesTurns system run a end

@@ -5,6 +5,7 @@ pub mod Legal
 pub mod Order
 pub mod Link
 pub mod Awake
+pub mod Packed
 pub mod Rank
 pub mod Whole
 pub mod Blocks

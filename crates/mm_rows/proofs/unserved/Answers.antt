@@ -1,4 +1,4 @@
-use Rattle.mm_rows.proofs.Traces.{unfair_is_not, stuck_is_not, one_by_one_is_not, passed_is_not}
+use Rattle.mm_rows.proofs.Traces.{unfair_is_not, stuck_is_not, one_by_one_is_not, held_read_is_not, passed_is_not}
 use Rattle.mm_rows.proofs.unserved.Goals as goal
 
 pub returns-clause-unfair : goal.returns-clause-unfair
@@ -12,3 +12,6 @@ returns-clause-one_by_one c = one_by_one_is_not
 
 pub returns-clause-passed : goal.returns-clause-passed
 returns-clause-passed c = passed_is_not
+
+pub returns-clause-held_read : goal.returns-clause-held_read
+returns-clause-held_read c = held_read_is_not
