@@ -10,6 +10,7 @@ pub mod Rank
 pub mod Whole
 pub mod Blocks
 pub mod Lines
+pub mod Straight
 pub mod Register
 pub mod Gate
 pub mod Shorter

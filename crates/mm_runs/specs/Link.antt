@@ -1,8 +1,8 @@
 -- The law of a link: a part that hands commands on and answers back.
-use Rattle.std.specs.Prelude.{◌≡◌, ℕ, suc, ◌+◌, ◌-◌, ◌*◌, ◌<◌, ◌≤◌, Bool, true, false, not, ◌&&◌, ◌||◌, List, [], ◌∷◌, ◌++◌, length, map, take, drop, nat_eq, nat_lt, nat_le, IsTrue, filter, flat_map, zip, slice_get, MatchOption}
+use Rattle.std.specs.Prelude.{◌≡◌, ℕ, suc, ◌-◌, ◌*◌, ◌<◌, ◌≤◌, Bool, true, false, not, ◌&&◌, ◌||◌, List, [], ◌∷◌, ◌++◌, length, map, take, drop, nat_eq, nat_lt, nat_le, IsTrue, filter, flat_map, zip, slice_get, MatchOption}
 use Rattle.histories.specs.History.{before, only_if, is_high, unreached, total, AreWithin, IsPrefix, first_shown, all_accepted}
 use Rattle.mm_runs.specs.Views.{Shape, CommandView, AnswerView}
-use Rattle.mm_runs.specs.Operations.{Beat, Operation, operations_of, filled_lanes, filled_of_piece, byte_at, pieces}
+use Rattle.mm_runs.specs.Operations.{Beat, Operation, operations_of, filled_lanes, byte_at, pieces}
 use Rattle.mm_runs.specs.Commands.{Transfer, accepts_by, is_held, shows, transfer_at, is_of_reads}
 use Rattle.mm_runs.specs.Legal.{AreLegal, AreOwed, Word}
 use Rattle.mm_runs.specs.Order.{Answer, HoldsAnswers, greatest_code}
@@ -187,53 +187,12 @@ is_last_joined [] = false
 is_last_joined (m ∷ []) = m.more
 is_last_joined (m ∷ next ∷ later) = is_last_joined (next ∷ later)
 
--- the transfer that a side shows in a cycle, and those before it
-abbrev pub earlier_shown : Port → ℕ → List Marked
-earlier_shown port cycle = take (length (shown_at port (suc cycle)) - 1) (shown_at port (suc cycle))
-
--- by the cycles before this one, all that was shown before the present beat is wholly taken
-abbrev pub is_next : Target → Port → Port → ℕ → Bool
-is_next target up down c =
-    nat_eq (length (operations_among target down.shape (taken_at down c))) (length (operations_among target up.shape (earlier_shown up c)))
-
--- and its words are answered upstream
-abbrev pub is_answered_before : Port → ℕ → Bool
-is_answered_before up c = nat_le (length (read_beats (earlier_shown up c))) (length (words_at up c))
-
--- one beat with an enabled lane
-abbrev pub is_plain : Target → Shape → Marked → Bool
-is_plain target shape marked =
-    marked.transfer.begins && marked.transfer.ends && nat_eq (length marked.transfer.beats) 1
-    && is_nonempty (operations_in target shape marked)
-
--- a plain command passes straight through. `ahead` lifts the condition on answers
-pub record IsStraight (ahead : Bool) (target : Target) (up down : Port) (end : ℕ) : Type 0 where
-  pub shown : (c : ℕ) → c < end → up.shape.word_bytes ≡ down.shape.word_bytes →
-      IsTrue (shows up.commands.signals c && is_plain target up.shape (marked_at up c)) →
-      IsTrue (is_next target up down c && (ahead || is_answered_before up c)) →
-      IsTrue (shows down.commands.signals c) × (operations_in target down.shape (marked_at down c) ≡ operations_in target up.shape (marked_at up c))
-  pub accepted : (c : ℕ) → c < end → up.shape.word_bytes ≡ down.shape.word_bytes →
-      IsTrue (shows up.commands.signals c && is_plain target up.shape (marked_at up c)) →
-      IsTrue (is_next target up down c && (ahead || is_answered_before up c)) →
-      takes up c ≡ takes down c
-
--- a command that is next shows its first beat downstream within three cycles, whatever waits there.
--- `may_burst`: the host has no byte enables, or the agent has them
-abbrev pub IsPrompt : Bool → Target → Port → Port → ℕ → Type 0
-IsPrompt may_burst target up down end =
-    (c : ℕ) → c + 3 < end →
-    IsTrue (shows up.commands.signals c && (marked_at up c).transfer.begins) →
-    IsTrue (is_of_reads (marked_at up c).transfer.kind || (marked_at up c).transfer.ends || may_burst) →
-    IsTrue (is_nonempty (flat_map (λ b. filled_of_piece up.shape down.shape b.enables 0) (take 1 (marked_at up c).transfer.beats))) →
-    IsTrue (is_next target up down c && is_answered_before up c) →
-    (d : ℕ) × (c ≤ d) × (d ≤ c + 3) × IsTrue (shows down.commands.signals d)
-
 -- the read operations of each read beat that a side has shown
 abbrev pub beat_sizes : Target → Port → ℕ → List ℕ
 beat_sizes target port cycle =
     map (λ (b : Beat). length (filled_lanes port.shape target.shape b.enables)) (read_beats (shown_at port cycle))
 
--- a proposed clause, where the downstream word isn't larger: the operations of a downstream read beat are of one upstream read beat alone
+-- where the downstream word isn't larger: the operations of a downstream read beat are of one upstream read beat alone
 abbrev pub BeatsAreWithin : Target → Port → Port → ℕ → Type 0
 BeatsAreWithin target up down end = (c : ℕ) → c ≤ end → AreWithin (beat_sizes target down c) (beat_sizes target up c)
 

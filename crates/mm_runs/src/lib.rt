@@ -12,7 +12,8 @@ ghost use Rattle.mm_runs.specs.Machines.{Raw, raws, marked, idle, IsStageRun, po
 ghost use Rattle.mm_runs.specs.Operations.{Beat, pieces, own_operations, operations_of};
 ghost use Rattle.mm_runs.specs.Legal.{AreLegal, IsLegalHost};
 ghost use Rattle.mm_runs.specs.Order.{from_base, issued, taken, are_together, answers, Owner, is_same_owner};
-ghost use Rattle.mm_runs.specs.Link.{Target, Port, IsLink, AreLegalAt, AnswersAreOwed, items, CarriesCommands, IsStraight, IsPrompt, HasRightBytes, HasRightCode, BeatsAreWithin, BeatsCover, words_at, shown_at, taken_at, sizes, operations_among, has_word_ready};
+ghost use Rattle.mm_runs.specs.Link.{Target, Port, IsLink, AreLegalAt, AnswersAreOwed, items, CarriesCommands, HasRightBytes, HasRightCode, BeatsAreWithin, BeatsCover, words_at, shown_at, taken_at, sizes, operations_among, has_word_ready};
+ghost use Rattle.mm_runs.specs.Straight.{GoesStraightThrough, IsShownPromptly};
 ghost use Rattle.mm_runs.specs.Gate.{IsGate};
 ghost use Rattle.mm_runs.specs.Register.{AreRegisters};
 ghost use Rattle.mm_runs.specs.Lines.{HostCarriesCommands, AreTaggedInOrder, AreOwedByTag, Inside, Holds, Wired, TaggedPort, IsPipeLine};
@@ -63,8 +64,8 @@ pub fn accepted_is_front()
 
 /// A wire is straight and prompt.
 pub fn wire_is_straight()
-    ensures straight { (ahead : Bool) (target : Target) (port : Port) (end : ℕ) → IsStraight ahead target port port end }
-    ensures prompt { (may_burst : Bool) (target : Target) (port : Port) (end : ℕ) → IsPrompt may_burst target port port end }
+    ensures straight { (ahead : ℕ → Bool) (target : Target) (port : Port) (end : ℕ) → GoesStraightThrough ahead target port port end }
+    ensures prompt { (may_burst : Bool) (target : Target) (port : Port) (end : ℕ) → IsShownPromptly may_burst target port port end }
 {}
 
 /// Two links in a row give the right codes, where the read beats in the middle lie within those above, or within those below.
