@@ -11,6 +11,9 @@ pub mod Whole
 pub mod Blocks
 pub mod Lines
 pub mod Straight
+pub mod Turns
+pub mod Plan
+pub mod Moment
 pub mod Register
 pub mod Gate
 pub mod Shorter

@@ -1,0 +1,57 @@
+-- What a plan and the views of its ports keep: it is given by the rules on connections and maps, and the definitions of runs rest on it.
+use Rattle.std.specs.Prelude.{◌≡◌, ℕ, ◌+◌, ◌*◌, ◌^◌, ◌<◌, ◌≤◌, max, Bool, Some, IsTrue, IsFalse, ◌↔◌}
+use Rattle.mm_runs.specs.Views.{Shape, Signals, AgentSide, System, Run, Kind}
+use Rattle.mm_runs.specs.Views.Kind.{Reads, Writes}
+use Rattle.mm_runs.specs.Order.{is_joined}
+
+-- the bytes that an agent takes in the map of a host
+abbrev pub footprint : ℕ → ℕ → ℕ
+footprint span host_word_bytes = max span host_word_bytes
+
+abbrev pub serves_kind : AgentSide → Kind → Bool
+serves_kind side Reads = side.has_read
+serves_kind side Writes = side.has_write
+
+-- the footprint of an agent in the map of a host holds a byte address
+pub record IsInFootprint (system : System) (host agent address : ℕ) : Type 0 where
+  pub joined : IsTrue (is_joined system agent host)
+  pub from_base : system.base host agent ≤ address
+  pub below_end : address < system.base host agent + footprint (system.agent agent).span (system.host host).word_bytes
+
+pub record IsShape (shape : Shape) : Type 0 where
+  pub word : 0 < shape.word_bytes
+  pub unit : 0 < shape.unit_bytes
+  pub burst : 0 < shape.burst_bits
+
+pub record IsPlan (system : System) : Type 0 where
+  pub hosts : (h : ℕ) → h < system.hosts → IsShape (system.host h).shape
+  pub agents : (a : ℕ) → a < system.agents → IsShape (system.agent a).shape
+  pub plain : (h : ℕ) → h < system.hosts → IsFalse (system.host h).has_burst → (system.host h).burst_bits ≡ 1
+  -- the bound on unanswered reads: an absent property and 0 count as 1
+  pub pending : (a : ℕ) → a < system.agents → 1 ≤ (system.agent a).pending
+  -- an agent with a fixed latency has no bursts, so a read command asks for one word
+  pub fixed : (a : ℕ) → a < system.agents → IsFalse (system.agent a).has_valid → (system.agent a).burst_bits ≡ 1
+  -- a span is a power of two words or units, at least one word
+  pub span : (a : ℕ) → a < system.agents → (bits : ℕ) × ((system.agent a).span ≡ 2 ^ bits) × ((system.agent a).word_bytes ≤ (system.agent a).span)
+  pub joined : (a h : ℕ) → IsTrue (is_joined system a h) → h < system.hosts
+  pub shares : (a h : ℕ) → IsTrue (is_joined system a h) → 1 ≤ system.shares h a
+  -- a base is a multiple of the footprint, and so of the span
+  pub base : (h a : ℕ) → IsTrue (is_joined system a h) → (k : ℕ) × (system.base h a ≡ k * footprint (system.agent a).span (system.host h).word_bytes)
+  -- an address is for the agent whose footprint holds it, if this agent has its kind of transfer
+  pub place : (h a address : ℕ) (kind : Kind) → h < system.hosts →
+      (system.place h kind address ≡ Some a) ↔ ((a < system.agents) × IsInFootprint system h a address × IsTrue (serves_kind (system.agent a) kind))
+
+-- the levels fit the lanes of their port, and an absent byteenable reads as all ones, an absent burstcount as 1
+pub record FitsPorts (shape : Shape) (has_burst : Bool) (signals : Signals) : Type 0 where
+  pub enables : (c : ℕ) → signals.enables c < 2 ^ shape.word_bytes
+  pub all_lanes : IsFalse shape.has_enables → (c : ℕ) → signals.enables c + 1 ≡ 2 ^ shape.word_bytes
+  pub word : (c : ℕ) → signals.word c < 256 ^ shape.word_bytes
+  pub one_beat : IsFalse has_burst → (c : ℕ) → signals.count c ≡ 1
+
+-- the views of a run's ports, with what absent ports read
+pub record AreViews (system : System) (run : Run) : Type 0 where
+  pub hosts : (h : ℕ) → h < system.hosts → FitsPorts (system.host h).shape (system.host h).has_burst (run.at_host h).signals
+  pub no_response : (h c : ℕ) → h < system.hosts → IsFalse (system.host h).has_response → (run.at_host h).response c ≡ 0
+  pub enables : (a c : ℕ) → a < system.agents → (run.at_agent a).enables c < 2 ^ (system.agent a).word_bytes
+  pub no_wait : (a c : ℕ) → a < system.agents → IsFalse (system.agent a).has_wait → (run.at_agent a).wait c ≡ 0
+  pub no_code : (a c : ℕ) → a < system.agents → IsFalse (system.agent a).has_response → (run.at_agent a).response c ≡ 0
