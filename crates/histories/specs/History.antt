@@ -10,6 +10,10 @@ before {A} adds (suc cycle) = before adds cycle ++ adds cycle
 abbrev pub only_if : {A : Type 0} → Bool → A → List A
 only_if {A} test x = if test then x ∷ [] else []
 
+-- 1 where the test holds
+abbrev pub one_if : Bool → ℕ
+one_if test = if test then 1 else 0
+
 -- an item is shown and not accepted, so it stands on
 abbrev pub stands_on : (ℕ → Bool) → (ℕ → Bool) → ℕ → Bool
 stands_on shown accepts cycle = shown cycle && not (accepts cycle)

@@ -49,6 +49,7 @@ top_legal : AreLegalAt hung_middle 4
 top_legal = legal_by_cycles hung_middle 4 ((((tt, λ held. cc), λ held. cc), λ held. cc), λ held. cc) ((((tt, refl), refl), refl), refl)
     ((((tt, omega arith), omega arith), omega arith), omega arith) ((((tt, omega arith), omega arith), omega arith), omega arith)
     ((((tt, λ h. refl), λ h. refl), λ h. refl), λ h. refl)
+    ((((tt, λ s. cc), λ s. cc), λ s. cc), λ s. cc)
 
 pub top_carries : CarriesCommands byte_target 1 hung_top hung_middle 4
 top_carries = carries_by_cycles byte_target 1 hung_top hung_middle 4
@@ -61,6 +62,7 @@ bottom_legal : AreLegalAt hung_bottom 4
 bottom_legal = legal_by_cycles hung_bottom 4 ((((tt, λ held. cc), λ held. cc), λ held. cc), λ held. cc) ((((tt, refl), refl), refl), refl)
     ((((tt, omega arith), omega arith), omega arith), omega arith) ((((tt, omega arith), omega arith), omega arith), omega arith)
     ((((tt, λ h. refl), λ h. refl), λ h. refl), λ h. refl)
+    ((((tt, λ s. cc), λ s. cc), λ s. cc), λ s. cc)
 
 pub bottom_carries : CarriesCommands byte_target 1 hung_middle hung_bottom 4
 bottom_carries = carries_by_cycles byte_target 1 hung_middle hung_bottom 4

@@ -9,7 +9,7 @@ use Rattle.histories.specs.History.AreWithin.{all_placed, placed}
 use Rattle.mm_runs.specs.Views.{levels_at}
 use Rattle.mm_runs.specs.Operations.{pieces}
 use Rattle.mm_runs.specs.Legal.{IsLegalHost, is_under_way, unanswered, given, host_accepts, words_asked}
-use Rattle.mm_runs.specs.Commands.{is_held, words_before, agent_accepts}
+use Rattle.mm_runs.specs.Commands.{is_held, words_before, agent_accepts, shows, transfer_at}
 use Rattle.mm_runs.specs.Order.{host_transfers, is_agent, is_joined, beats_taken, of_host, taken, answers, answers_to}
 use Rattle.mm_runs.specs.Views.Responses.{AreZero}
 use Rattle.mm_runs.specs.Link.{Target, Port, IsLink, AreLegalAt, AnswersAreOwed, Marked, takes, shown_at, taken_at, words_owed, words_at, answers_at, read_beats}
@@ -32,6 +32,9 @@ p0_finished c h = each_below (λ c. IsTrue (is_under_way (host_port 0).shape (ho
 p0_tag : (c : ℕ) → c < 5 → IsTrue (is_held (host_port 0).commands.signals (takes (host_port 0)) c) → (host_port 0).commands.tag c ≡ (host_port 0).commands.tag (suc c)
 p0_tag c h = each_below (λ c. IsTrue (is_held (host_port 0).commands.signals (takes (host_port 0)) c) → (host_port 0).commands.tag c ≡ (host_port 0).commands.tag (suc c)) 5 c (((((tt, λ held. cc), λ held. cc), λ held. cc), λ held. cc), λ held. cc) h
 
+p0_joined : (c : ℕ) → c < 6 → IsTrue (shows (host_port 0).commands.signals c) → IsTrue ((transfer_at (host_port 0).shape (host_port 0).commands.signals (takes (host_port 0)) c).ends || is_high ((host_port 0).commands.more c))
+p0_joined c h = each_below (λ c. IsTrue (shows (host_port 0).commands.signals c) → IsTrue ((transfer_at (host_port 0).shape (host_port 0).commands.signals (takes (host_port 0)) c).ends || is_high ((host_port 0).commands.more c))) 6 c ((((((tt, λ s. cc), λ s. cc), λ s. cc), λ s. cc), λ s. cc), λ s. cc) h
+
 p0_legal : AreLegalAt (host_port 0) 6
 p0_legal = record {
   legal = record {
@@ -43,6 +46,7 @@ p0_legal = record {
   };
   tag = λ c low held. p0_tag c (omega arith) held;
   more = λ c _ _. refl;
+  joined = p0_joined;
 }
 
 p1_kind : (c : ℕ) → c < 6 → IsTrue (not (is_high ((host_port 1).commands.signals.read c) && is_high ((host_port 1).commands.signals.write c)))
@@ -57,6 +61,9 @@ p1_finished c h = each_below (λ c. IsTrue (is_under_way (host_port 1).shape (ho
 p1_tag : (c : ℕ) → c < 5 → IsTrue (is_held (host_port 1).commands.signals (takes (host_port 1)) c) → (host_port 1).commands.tag c ≡ (host_port 1).commands.tag (suc c)
 p1_tag c h = each_below (λ c. IsTrue (is_held (host_port 1).commands.signals (takes (host_port 1)) c) → (host_port 1).commands.tag c ≡ (host_port 1).commands.tag (suc c)) 5 c (((((tt, λ held. refl), λ held. cc), λ held. cc), λ held. cc), λ held. cc) h
 
+p1_joined : (c : ℕ) → c < 6 → IsTrue (shows (host_port 1).commands.signals c) → IsTrue ((transfer_at (host_port 1).shape (host_port 1).commands.signals (takes (host_port 1)) c).ends || is_high ((host_port 1).commands.more c))
+p1_joined c h = each_below (λ c. IsTrue (shows (host_port 1).commands.signals c) → IsTrue ((transfer_at (host_port 1).shape (host_port 1).commands.signals (takes (host_port 1)) c).ends || is_high ((host_port 1).commands.more c))) 6 c ((((((tt, λ s. cc), λ s. cc), λ s. cc), λ s. cc), λ s. cc), λ s. cc) h
+
 p1_legal : AreLegalAt (host_port 1) 6
 p1_legal = record {
   legal = record {
@@ -68,6 +75,7 @@ p1_legal = record {
   };
   tag = λ c low held. p1_tag c (omega arith) held;
   more = λ c _ _. refl;
+  joined = p1_joined;
 }
 
 x_kind : (c : ℕ) → c < 6 → IsTrue (not (is_high ((joint_inside.after_arbiter 0).port.commands.signals.read c) && is_high ((joint_inside.after_arbiter 0).port.commands.signals.write c)))
@@ -82,6 +90,9 @@ x_finished c h = each_below (λ c. IsTrue (is_under_way (joint_inside.after_arbi
 x_tag : (c : ℕ) → c < 5 → IsTrue (is_held (joint_inside.after_arbiter 0).port.commands.signals (takes (joint_inside.after_arbiter 0).port) c) → (joint_inside.after_arbiter 0).port.commands.tag c ≡ (joint_inside.after_arbiter 0).port.commands.tag (suc c)
 x_tag c h = each_below (λ c. IsTrue (is_held (joint_inside.after_arbiter 0).port.commands.signals (takes (joint_inside.after_arbiter 0).port) c) → (joint_inside.after_arbiter 0).port.commands.tag c ≡ (joint_inside.after_arbiter 0).port.commands.tag (suc c)) 5 c (((((tt, λ held. cc), λ held. cc), λ held. cc), λ held. cc), λ held. cc) h
 
+x_joined : (c : ℕ) → c < 6 → IsTrue (shows (joint_inside.after_arbiter 0).port.commands.signals c) → IsTrue ((transfer_at (joint_inside.after_arbiter 0).port.shape (joint_inside.after_arbiter 0).port.commands.signals (takes (joint_inside.after_arbiter 0).port) c).ends || is_high ((joint_inside.after_arbiter 0).port.commands.more c))
+x_joined c h = each_below (λ c. IsTrue (shows (joint_inside.after_arbiter 0).port.commands.signals c) → IsTrue ((transfer_at (joint_inside.after_arbiter 0).port.shape (joint_inside.after_arbiter 0).port.commands.signals (takes (joint_inside.after_arbiter 0).port) c).ends || is_high ((joint_inside.after_arbiter 0).port.commands.more c))) 6 c ((((((tt, λ s. cc), λ s. cc), λ s. cc), λ s. cc), λ s. cc), λ s. cc) h
+
 x_legal : AreLegalAt (joint_inside.after_arbiter 0).port 6
 x_legal = record {
   legal = record {
@@ -93,6 +104,7 @@ x_legal = record {
   };
   tag = λ c low held. x_tag c (omega arith) held;
   more = λ c _ _. refl;
+  joined = x_joined;
 }
 
 y_kind : (c : ℕ) → c < 6 → IsTrue (not (is_high ((joint_inside.before_agent 0).port.commands.signals.read c) && is_high ((joint_inside.before_agent 0).port.commands.signals.write c)))
@@ -107,6 +119,9 @@ y_finished c h = each_below (λ c. IsTrue (is_under_way (joint_inside.before_age
 y_tag : (c : ℕ) → c < 5 → IsTrue (is_held (joint_inside.before_agent 0).port.commands.signals (takes (joint_inside.before_agent 0).port) c) → (joint_inside.before_agent 0).port.commands.tag c ≡ (joint_inside.before_agent 0).port.commands.tag (suc c)
 y_tag c h = each_below (λ c. IsTrue (is_held (joint_inside.before_agent 0).port.commands.signals (takes (joint_inside.before_agent 0).port) c) → (joint_inside.before_agent 0).port.commands.tag c ≡ (joint_inside.before_agent 0).port.commands.tag (suc c)) 5 c (((((tt, λ held. cc), λ held. cc), λ held. cc), λ held. cc), λ held. cc) h
 
+y_joined : (c : ℕ) → c < 6 → IsTrue (shows (joint_inside.before_agent 0).port.commands.signals c) → IsTrue ((transfer_at (joint_inside.before_agent 0).port.shape (joint_inside.before_agent 0).port.commands.signals (takes (joint_inside.before_agent 0).port) c).ends || is_high ((joint_inside.before_agent 0).port.commands.more c))
+y_joined c h = each_below (λ c. IsTrue (shows (joint_inside.before_agent 0).port.commands.signals c) → IsTrue ((transfer_at (joint_inside.before_agent 0).port.shape (joint_inside.before_agent 0).port.commands.signals (takes (joint_inside.before_agent 0).port) c).ends || is_high ((joint_inside.before_agent 0).port.commands.more c))) 6 c ((((((tt, λ s. cc), λ s. cc), λ s. cc), λ s. cc), λ s. cc), λ s. cc) h
+
 y_legal : AreLegalAt (joint_inside.before_agent 0).port 6
 y_legal = record {
   legal = record {
@@ -118,6 +133,7 @@ y_legal = record {
   };
   tag = λ c low held. y_tag c (omega arith) held;
   more = λ c _ _. refl;
+  joined = y_joined;
 }
 
 host0_in_order : (c : ℕ) → c < 7 → IsPrefix (sent_of (shown_at (host_port 0) c)) (sent_by (host_transfers joint_system joint_run 0 c))

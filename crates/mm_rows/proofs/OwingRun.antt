@@ -71,6 +71,7 @@ top_legal : AreLegalAt owing_middle 4
 top_legal = legal_by_cycles owing_middle 4 ((((tt, λ held. cc), λ held. cc), λ held. cc), λ held. cc) ((((tt, refl), refl), refl), refl)
     ((((tt, omega arith), omega arith), omega arith), omega arith) ((((tt, omega arith), omega arith), omega arith), omega arith)
     ((((tt, λ h. cc), λ h. refl), λ h. refl), λ h. refl)
+    ((((tt, λ s. cc), λ s. cc), λ s. cc), λ s. cc)
 
 pub top_carries : CarriesCommands byte_target 1 owing_top owing_middle 4
 top_carries = carries_by_cycles byte_target 1 owing_top owing_middle 4
@@ -83,6 +84,7 @@ bottom_legal : AreLegalAt owing_bottom 4
 bottom_legal = legal_by_cycles owing_bottom 4 ((((tt, λ held. cc), λ held. cc), λ held. cc), λ held. cc) ((((tt, refl), refl), refl), refl)
     ((((tt, omega arith), omega arith), omega arith), omega arith) ((((tt, omega arith), omega arith), omega arith), omega arith)
     ((((tt, λ h. cc), λ h. refl), λ h. refl), λ h. refl)
+    ((((tt, λ s. cc), λ s. cc), λ s. cc), λ s. cc)
 
 pub bottom_carries : CarriesCommands byte_target 1 owing_middle owing_bottom 4
 bottom_carries = carries_by_cycles byte_target 1 owing_middle owing_bottom 4

@@ -25,6 +25,7 @@ top_legal : AreLegalAt starving_bottom 4
 top_legal = legal_by_cycles starving_bottom 4 ((((tt, λ held. cc), λ held. cc), λ held. cc), λ held. cc) ((((tt, refl), refl), refl), refl)
     ((((tt, omega arith), omega arith), omega arith), omega arith) ((((tt, omega arith), omega arith), omega arith), omega arith)
     ((((tt, λ h. cc), λ h. refl), λ h. refl), λ h. refl)
+    ((((tt, λ s. cc), λ s. cc), λ s. cc), λ s. cc)
 
 pub top_carries : CarriesCommands byte_target 1 starving_top starving_bottom 4
 top_carries = carries_by_cycles byte_target 1 starving_top starving_bottom 4

@@ -36,8 +36,8 @@ fill [] room lower upper sum within = subst (λ n. AreWithin lower (n ∷ upper)
 fill (l ∷ ls) room lower upper sum within = placed (omega (arith, sum)) (fill ls (room - l) lower upper (omega (arith, sum)) within)
 
 module _ (target : Target) (wide narrow : Shape) (parts : Burst → Raw → List Raw)
-    (Stands : Burst → Type 0) (stays : (burst : Burst) (raw : Raw) → IsFitBeat wide burst raw.levels → Stands burst → Stands (burst_past wide burst raw))
-    (law : (burst : Burst) (raw : Raw) (below : Burst) → IsFitBeat wide burst raw.levels → Stands burst → below.left ≡ 0 → Expands target wide narrow parts burst raw below) where
+    (Stands : Burst → Type 0) (stays : (burst : Burst) (raw : Raw) → IsFitBeat wide burst raw → Stands burst → Stands (burst_past wide burst raw))
+    (law : (burst : Burst) (raw : Raw) (below : Burst) → IsFitBeat wide burst raw → Stands burst → below.left ≡ 0 → Expands target wide narrow parts burst raw below) where
   pub expand_fits : (burst : Burst) (xs : List Raw) (below : Burst) → AreFit wide burst xs → Stands burst → below.left ≡ 0 →
       AreFit narrow below (expand wide parts burst xs) × ((burst_of narrow below (expand wide parts burst xs)).left ≡ 0)
   expand_fits burst [] below fit stands none = (tt, none)

@@ -48,15 +48,15 @@ shown_fit port end (suc c) legal h = by_test (is_held port.commands.signals (tak
         let same : raws port (suc c) ≡ raws port c = ap (λ b. raws port c ++ only_if b (raw_at port c)) not_accepted ∙ append-nil _ in
         let fit = fit_when_shown port end c legal h (and_parts (shows port.commands.signals c) (not (takes port c)) held).0 in
         subst (λ l. AreFit port.shape idle (l ++ raw_at port c ∷ [])) (sym same)
-        (fit_push port.shape idle (raws port c) (raw_at port c) (fits port end c legal (omega arith)) (subst (λ b. IsFitBeat port.shape b (levels_at port.commands.signals c)) (burst_is port c) fit))
+        (fit_push port.shape idle (raws port c) (raw_at port c) (fits port end c legal (omega arith)) (subst (λ b. IsFitBeat port.shape b (raw_at port c)) (burst_is port c) fit))
 
 same_head : {A : Type 0} (xs : List A) (a b : A) (l m : List A) → xs ++ a ∷ l ≡ xs ++ b ∷ m → a ≡ b
 same_head [] a b l m e = cc
 same_head (x ∷ xs) a b l m e = same_head xs a b l m cc
 
 module _ (target : Target) (wide narrow : Shape) (parts : Burst → Raw → List Raw)
-    (Stands : Burst → Type 0) (first_stands : Stands idle) (stays : (burst : Burst) (raw : Raw) → IsFitBeat wide burst raw.levels → Stands burst → Stands (burst_past wide burst raw))
-    (law : (burst : Burst) (raw : Raw) (below : Burst) → IsFitBeat wide burst raw.levels → Stands burst → below.left ≡ 0 → Expands target wide narrow parts burst raw below)
+    (Stands : Burst → Type 0) (first_stands : Stands idle) (stays : (burst : Burst) (raw : Raw) → IsFitBeat wide burst raw → Stands burst → Stands (burst_past wide burst raw))
+    (law : (burst : Burst) (raw : Raw) (below : Burst) → IsFitBeat wide burst raw → Stands burst → below.left ≡ 0 → Expands target wide narrow parts burst raw below)
     (uc dc : CommandView) (ua da : AnswerView) (sent rest : ℕ → List Raw) (end : ℕ) (run : IsExpanderRun parts (port_of wide uc ua) (port_of narrow dc da) sent rest end) where
   after_step : (c : ℕ) → c < end → (t : Bool) → takes (port_of wide uc ua) c ≡ t →
       (expand wide parts idle (raws (port_of wide uc ua) c) ++ sent c) ++ only_if (takes (port_of narrow dc da) c) (raw_at (port_of narrow dc da) c)
@@ -136,13 +136,13 @@ module _ (target : Target) (wide narrow : Shape) (parts : Burst → Raw → List
         ∙ sym (append_assoc (expand wide parts idle (raws (port_of wide uc ua) c)) (sent c) (raw_at (port_of narrow dc da) c ∷ rest c))
         ∙ ap (λ l. l ++ raw_at (port_of narrow dc da) c ∷ rest c) (sym (gone c (omega arith)))
 
-    fit_below : (c : ℕ) → c < end → shows dc.signals c ≡ true → IsFitBeat narrow (burst_before narrow dc.signals (takes (port_of narrow dc da)) c) (levels_at dc.signals c)
+    fit_below : (c : ℕ) → c < end → shows dc.signals c ≡ true → IsFitBeat narrow (burst_before narrow dc.signals (takes (port_of narrow dc da)) c) (raw_at (port_of narrow dc da) c)
     fit_below c h shown =
         let fit = fit_when_shown (port_of wide uc ua) end c legal h (run.stands c (omega arith) shown) in
-        let above = fit_push wide idle (raws (port_of wide uc ua) c) (raw_at (port_of wide uc ua) c) (fits (port_of wide uc ua) end c legal (omega arith)) (subst (λ b. IsFitBeat wide b (levels_at uc.signals c)) (burst_is (port_of wide uc ua) c) fit) in
+        let above = fit_push wide idle (raws (port_of wide uc ua) c) (raw_at (port_of wide uc ua) c) (fits (port_of wide uc ua) end c legal (omega arith)) (subst (λ b. IsFitBeat wide b (raw_at (port_of wide uc ua) c)) (burst_is (port_of wide uc ua) c) fit) in
         let below = (expand_fits target wide narrow parts Stands stays law idle (raws (port_of wide uc ua) c ++ raw_at (port_of wide uc ua) c ∷ []) idle above first_stands refl).0 in
         let here = fit_at narrow idle (raws (port_of narrow dc da) c) (raw_at (port_of narrow dc da) c) (rest c) (subst (AreFit narrow idle) (whole c h shown) below) in
-        subst (λ b. IsFitBeat narrow b (levels_at dc.signals c)) (sym (burst_is (port_of narrow dc da) c)) here
+        subst (λ b. IsFitBeat narrow b (raw_at (port_of narrow dc da) c)) (sym (burst_is (port_of narrow dc da) c)) here
 
     still : (c : ℕ) → c < end → is_held dc.signals (takes (port_of narrow dc da)) c ≡ true → sent (suc c) ≡ sent c
     still c h held =

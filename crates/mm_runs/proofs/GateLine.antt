@@ -4,7 +4,7 @@ use Rattle.std.proofs.lemmas.List.{map-append, length-map}
 use Rattle.std.proofs.lemmas.Bool.{and_parts, not-true, and_right}
 use Rattle.histories.specs.Laws.{prefix_refl, shown_is_accepted_and_standing}
 use Rattle.mm_runs.proofs.Standing.{accepts_shows, legal_keeps}
-use Rattle.histories.specs.History.{KeepsItems, IsPrefix, only_if, is_high}
+use Rattle.histories.specs.History.{KeepsItems, IsPrefix, one_if, only_if, is_high}
 use Rattle.mm_runs.proofs.RegisterBeats.{shown_by, same_marked}
 use Rattle.mm_runs.proofs.RegisterLegal.{standing_count}
 use Rattle.mm_runs.specs.Views.{Shape, Levels, levels_at, HostSide, HostView, System, Run}
@@ -12,6 +12,7 @@ use Rattle.mm_runs.specs.Commands.{Transfer, shows, is_held, presents, burst_bef
 use Rattle.mm_runs.specs.Legal.{host_accepts, IsLegalHost, is_under_way}
 use Rattle.mm_runs.specs.Link.{Port, Marked, AreLegalAt, takes, marked_at, taken_at, shown_at, closes}
 use Rattle.mm_runs.specs.Lines.{Sent, sent_of, sent_by, HostCarriesCommands}
+use Rattle.mm_runs.specs.Straight.{port_of_host}
 use Rattle.mm_runs.specs.Gate.{IsGate, is_blocked, silent}
 
 abbrev from_port : Marked → Sent
@@ -19,6 +20,10 @@ from_port m = record { transfer = m.transfer; closes = closes m }
 
 abbrev from_host : Transfer → Sent
 from_host t = record { transfer = t; closes = t.ends }
+
+ends_or_joins : (ends : Bool) → IsTrue (ends || is_high (one_if (not ends)))
+ends_or_joins true = refl
+ends_or_joins false = refl
 
 blocked_values : (r w : Bool) → r ≡ true → not (r && w) ≡ true → w ≡ false
 blocked_values true true e k = sym k
@@ -75,9 +80,10 @@ module _ (side : HostSide) (view : HostView) (down : Port) (shut : ℕ → Bool)
   same_sent : (c : ℕ) → c ≤ end → blocked c ≡ false → from_port (marked_at down c) ≡ from_host (own c)
   same_sent c low e =
       let same = same_transfer c low e in
-      ap₂ (λ t m. record { transfer = t; closes = t.ends && not (is_high m) }) same (gate.more c) ∙ ap (λ b. record { transfer = own c; closes = b }) (plain (own c).ends)
+      ap (λ m. record { transfer = (marked_at down c).transfer; closes = (marked_at down c).transfer.ends && not (is_high m) }) (gate.more c)
+      ∙ ap (λ (t : Transfer). record { transfer = t; closes = t.ends && not (is_high (one_if (not t.ends))) }) same ∙ ap (λ b. record { transfer = own c; closes = b }) (plain (own c).ends)
     where
-      plain : (b : Bool) → (b && true) ≡ b
+      plain : (b : Bool) → (b && not (is_high (one_if (not b)))) ≡ b
       plain true = refl
       plain false = refl
 
@@ -128,7 +134,7 @@ module _ (side : HostSide) (view : HostView) (down : Port) (shut : ℕ → Bool)
         let bursts : burst_before down.shape down.commands.signals (takes down) c ≡ burst_before down.shape down.commands.signals (takes down) (suc c) =
         ap (λ b. burst_after down.shape (levels_at down.commands.signals c) b (burst_before down.shape down.commands.signals (takes down) c)) (sym none) in (
           ap shown_by (sym levels) ∙ parts.0,
-          same_marked down.shape down.shape _ _ _ _ _ _ _ _ refl (gate.tag c ∙ sym (gate.tag (suc c))) (gate.more c ∙ sym (gate.more (suc c))) levels bursts,
+          same_marked down.shape down.shape _ _ _ _ _ _ _ _ refl (gate.tag c ∙ sym (gate.tag (suc c))) (gate.more c ∙ ap₂ (λ l b. one_if (not (transfer_of down.shape l b).ends)) levels bursts ∙ sym (gate.more (suc c))) levels bursts,
         );
   }
 
@@ -166,14 +172,15 @@ module _ (side : HostSide) (view : HostView) (down : Port) (shut : ℕ → Bool)
 
   -- the host's own port as a side
   abbrev host_side : Port
-  host_side = record {
-    shape = side.shape;
-    commands = record { signals = view.signals; more = λ _. 0; tag = λ _. 0; wait = view.wait };
-    answers = record { valid = λ _. 0; word = λ _. 0; code = λ _. 0 };
-  }
+  host_side = port_of_host side view 0
 
   host_side_legal : AreLegalAt host_side end
-  host_side_legal = record { legal = legal; tag = λ c low held. refl; more = λ c low held. refl }
+  host_side_legal = record {
+    legal = legal;
+    tag = λ c low held. refl;
+    more = λ c low held. ap (λ (t : Transfer). one_if (not t.ends)) ((legal_keeps side.shape view.signals (host_accepts view) end (accepts_shows view.signals view.wait) legal).held c low held).1;
+    joined = λ c low shown. ends_or_joins (own c).ends;
+  }
 
   shown_first : (c : ℕ) → IsTrue (presents down.commands.signals (takes down) c) → shows down.commands.signals c ≡ true
   shown_first zero shown = shown
@@ -213,7 +220,8 @@ module _ (side : HostSide) (view : HostView) (down : Port) (shut : ℕ → Bool)
       finished = λ c low under. gate_finished c low under (blocked c) refl;
     };
     tag = λ c low held. gate.tag c ∙ sym (gate.tag (suc c));
-    more = λ c low held. gate.more c ∙ sym (gate.more (suc c));
+    more = λ c low held. gate.more c ∙ ap (λ (m : Marked). one_if (not m.transfer.ends)) (keeps.held c low held).1 ∙ sym (gate.more (suc c));
+    joined = λ c low shown. ap (λ m. (marked_at down c).transfer.ends || is_high m) (gate.more c) ∙ ends_or_joins (marked_at down c).transfer.ends;
   }
 
 pub gate_keeps : (system : System) (run : Run) (host : ℕ) (down : Port) (shut : ℕ → Bool) (end : ℕ) → IsGate (system.host host) (run.at_host host) down shut → IsLegalHost (system.host host) (run.at_host host) end →

@@ -52,7 +52,7 @@ module _ (target : Target) (narrow : Shape) (units : narrow.unit_bytes ≡ 1) wh
     pub operations : operations_in target narrow (mark narrow below (single tag more beat)) ≡ ops_of beat
     pub closes : closes (mark narrow below (single tag more beat)) ≡ not (is_high more)
     pub free : (burst_past narrow below (single tag more beat)).left ≡ 0
-    pub fit : IsFitBeat narrow below (single tag more beat).levels
+    pub fit : IsFitBeat narrow below (single tag more beat)
     pub beats : length (mark narrow below (single tag more beat)).transfer.beats ≡ 1
 
   one_at : (done first tag more : ℕ) (kind : Kind) (a w e : ℕ) → a % narrow.word_bytes ≡ 0 → One (record { left = 0; done = done; first = first }) tag more (record { kind = kind; address = a; word = w; enables = e })
@@ -60,14 +60,14 @@ module _ (target : Target) (narrow : Shape) (units : narrow.unit_bytes ≡ 1) wh
     operations = append-nil _ ∙ ap (λ x. ops_of (record { kind = Writes; address = x; word = w; enables = e })) (whole_address a narrow.unit_bytes narrow.word_bytes units aligned);
     closes = refl;
     free = refl;
-    fit = record { one_kind = refl; least = λ h. omega arith; most = λ h. one-le-pow (narrow.burst_bits - 1) 2 (omega arith); finished = λ h. cc };
+    fit = record { one_kind = refl; least = λ h. omega arith; most = λ h. one-le-pow (narrow.burst_bits - 1) 2 (omega arith); finished = λ h. cc; joined = refl };
     beats = refl;
   }
   one_at done first tag more Reads a w e aligned = record {
     operations = append-nil _ ∙ ap (λ x. ops_of (record { kind = Reads; address = x; word = w; enables = e })) (whole_address a narrow.unit_bytes narrow.word_bytes units aligned);
     closes = refl;
     free = refl;
-    fit = record { one_kind = refl; least = λ h. omega arith; most = λ h. one-le-pow (narrow.burst_bits - 1) 2 (omega arith); finished = λ h. cc };
+    fit = record { one_kind = refl; least = λ h. omega arith; most = λ h. one-le-pow (narrow.burst_bits - 1) 2 (omega arith); finished = λ h. cc; joined = refl };
     beats = refl;
   }
 

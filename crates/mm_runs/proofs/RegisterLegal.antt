@@ -1,10 +1,10 @@
 -- What a register shows is legal where what it takes is.
-use Rattle.std.proofs.Common.{ℕ, zero, suc, ◌<◌, ◌≤◌, ◌≡◌, ◌-◌, ◌^◌, Bool, true, false, not, ◌&&◌, ◌||◌, IsTrue, IsFalse, if◌then◌else◌, nat_lt, arith, refl, sym, ap, ◌∙◌, subst}
+use Rattle.std.proofs.Common.{ℕ, zero, suc, ◌<◌, ◌≤◌, ◌≡◌, ◌-◌, ◌^◌, Bool, true, false, not, ◌&&◌, ◌||◌, IsTrue, IsFalse, if◌then◌else◌, nat_lt, arith, refl, sym, ap, ap₂, ◌∙◌, subst}
 use Rattle.std.proofs.lemmas.Bool.{and_parts, not-true}
 use Rattle.mm_runs.proofs.RegisterBeats.{is_ahead, next_levels, takes_none, takes_below, shown_by, stalls}
 use Rattle.histories.specs.History.{is_high}
 use Rattle.mm_runs.specs.Views.{Shape, Levels, levels_at}
-use Rattle.mm_runs.specs.Commands.{shows, is_held, presents, burst_before, burst_after}
+use Rattle.mm_runs.specs.Commands.{shows, is_held, presents, burst_before, burst_after, transfer_at, transfer_of}
 use Rattle.mm_runs.specs.Legal.{is_under_way}
 use Rattle.mm_runs.specs.Link.{Port, AreLegalAt, takes}
 use Rattle.mm_runs.specs.Register.{IsRegister}
@@ -65,6 +65,23 @@ module _ (up down : Port) (register : IsRegister up down) (end : ℕ) (legal : A
       by_stall true e ih = ap (λ (l : Levels). is_high l.read) (next_levels up down register c true e) ∙ ih (subst (λ b. nat_lt 0 b.left ≡ true) (still_burst c e) under)
       by_stall false e ih = ap (λ (l : Levels). is_high l.read) (next_levels up down register c false e) ∙ legal.legal.finished c (omega arith) (subst (λ b. nat_lt 0 b.left ≡ true) (same_burst c e) under)
 
+  -- a beat that ends no burst has `more` high
+  joined : (c : ℕ) → c < end → IsTrue (shows down.commands.signals c) → IsTrue ((transfer_at down.shape down.commands.signals (takes down) c).ends || is_high (down.commands.more c))
+  joined zero low shown = let bad : ⊥ = let none = register.empty in cc in absurd bad
+  joined (suc c) low shown = by_stall (stalls up down register c) refl (joined c (omega arith))
+    where
+      by_stall : (b : Bool) → stalls up down register c ≡ b → (IsTrue (shows down.commands.signals c) → IsTrue ((transfer_at down.shape down.commands.signals (takes down) c).ends || is_high (down.commands.more c))) →
+          IsTrue ((transfer_at down.shape down.commands.signals (takes down) (suc c)).ends || is_high (down.commands.more (suc c)))
+      by_stall true e ih =
+          let levels = next_levels up down register c true e in
+          ap₂ (λ t m. t || is_high m) (ap₂ (λ l b. (transfer_of down.shape l b).ends) levels (still_burst c e)) (register.more c ∙ ap (λ b. if b then down.commands.more c else up.commands.more c) e)
+          ∙ ih (ap shown_by (sym levels) ∙ shown)
+      by_stall false e ih =
+          let levels = next_levels up down register c false e in
+          ap₂ (λ t m. t || is_high m) (ap₂ (λ l b. (transfer_of down.shape l b).ends) levels (same_burst c e)) (register.more c ∙ ap (λ b. if b then down.commands.more c else up.commands.more c) e)
+          ∙ ap (λ s. (transfer_of s (levels_at up.commands.signals c) (burst_before up.shape up.commands.signals (takes up) c)).ends || is_high (up.commands.more c)) register.shape
+          ∙ legal.joined c (omega arith) (ap shown_by (sym levels) ∙ shown)
+
   pub register_legal : AreLegalAt down end
   register_legal = record {
     legal = record {
@@ -76,4 +93,5 @@ module _ (up down : Port) (register : IsRegister up down) (end : ℕ) (legal : A
     };
     tag = λ c low held. sym (register.tag c ∙ ap (λ b. if b then down.commands.tag c else up.commands.tag c) held);
     more = λ c low held. sym (register.more c ∙ ap (λ b. if b then down.commands.more c else up.commands.more c) held);
+    joined = joined;
   }

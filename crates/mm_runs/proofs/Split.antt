@@ -210,24 +210,24 @@ module _ (target : Target) (wide narrow : Shape) (units : narrow.unit_bytes ≡ 
   split_expands burst raw below one free none = by_parts burst raw below one free none (chosen raw) refl
 
   module _ (no_bursts : wide.burst_bits ≡ 1) where
-    one_of_fit : (burst : Burst) (levels : Levels) → IsFitBeat wide burst levels → burst.left ≡ 0 → levels.count ≡ 1
-    one_of_fit burst levels fit free =
+    one_of_fit : (burst : Burst) (raw : Raw) → IsFitBeat wide burst raw → burst.left ≡ 0 → raw.levels.count ≡ 1
+    one_of_fit burst raw fit free =
         let idle : nat_lt 0 burst.left ≡ false = ap (nat_lt 0) free in
         let least = fit.least idle in
-        let most : levels.count ≤ 2 ^ (1 - 1) = subst (λ b. levels.count ≤ 2 ^ (b - 1)) no_bursts (fit.most idle) in
+        let most : raw.levels.count ≤ 2 ^ (1 - 1) = subst (λ b. raw.levels.count ≤ 2 ^ (b - 1)) no_bursts (fit.most idle) in
         omega (arith, least, most)
 
-    stays_free : (burst : Burst) (raw : Raw) → IsFitBeat wide burst raw.levels → burst.left ≡ 0 → (burst_past wide burst raw).left ≡ 0
+    stays_free : (burst : Burst) (raw : Raw) → IsFitBeat wide burst raw → burst.left ≡ 0 → (burst_past wide burst raw).left ≡ 0
     stays_free burst raw fit free = by_write (is_high raw.levels.write)
       where
         by_write : (w : Bool) → (if w then next_burst wide raw.levels burst else burst).left ≡ 0
         by_write false = free
         by_write true =
-            ap₂ (λ l n. (next_burst wide (record raw.levels { count = n }) (record { left = l; done = burst.done; first = burst.first })).left) free (one_of_fit burst raw.levels fit free)
+            ap₂ (λ l n. (next_burst wide (record raw.levels { count = n }) (record { left = l; done = burst.done; first = burst.first })).left) free (one_of_fit burst raw fit free)
 
     -- a splitter of commands of one beat carries commands and holds nothing
     pub split_carries : (uc dc : CommandView) (ua da : AnswerView) (sent rest : ℕ → List Raw) (end : ℕ) → IsExpanderRun (split_parts wide narrow) (port_of wide uc ua) (port_of narrow dc da) sent rest end →
         AreLegalAt (port_of wide uc ua) end → CarriesCommands target 0 (port_of wide uc ua) (port_of narrow dc da) end
     split_carries uc dc ua da sent rest end run legal =
         expander_commands target wide narrow (split_parts wide narrow) (λ burst. burst.left ≡ 0) refl stays_free
-        (λ burst raw below fit free none. split_expands burst raw below (one_of_fit burst raw.levels fit free) free none) uc dc ua da sent rest end run legal
+        (λ burst raw below fit free none. split_expands burst raw below (one_of_fit burst raw fit free) free none) uc dc ua da sent rest end run legal

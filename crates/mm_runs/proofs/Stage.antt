@@ -41,26 +41,30 @@ taken_is port (suc c) = ap₂ (λ xs ys. xs ++ ys) (taken_is port c) (mark_step 
 
 -- what a legal side shows is fit
 pub fit_when_shown : (port : Port) (end c : ℕ) → AreLegalAt port end → c < end → IsTrue (shows port.commands.signals c) →
-    IsFitBeat port.shape (burst_before port.shape port.commands.signals (takes port) c) (levels_at port.commands.signals c)
+    IsFitBeat port.shape (burst_before port.shape port.commands.signals (takes port) c) (raw_at port c)
 fit_when_shown port end zero legal h shown = record {
   one_kind = legal.legal.one_kind 0 h;
   least = λ free. legal.legal.least 0 h shown free;
   most = λ free. legal.legal.most 0 h shown free;
   finished = λ busy. legal.legal.finished 0 h busy;
+  joined = legal.joined 0 h shown;
 }
 fit_when_shown port end (suc c) legal h shown =
     by_test (is_held port.commands.signals (takes port) c) refl
     (λ held. fit_when_shown port end c legal (omega arith) (and_parts (shows port.commands.signals c) (not (takes port c)) held).0)
   where
     by_test : (b : Bool) → is_held port.commands.signals (takes port) c ≡ b →
-        (is_held port.commands.signals (takes port) c ≡ true → IsFitBeat port.shape (burst_before port.shape port.commands.signals (takes port) c) (levels_at port.commands.signals c)) →
-        IsFitBeat port.shape (burst_before port.shape port.commands.signals (takes port) (suc c)) (levels_at port.commands.signals (suc c))
+        (is_held port.commands.signals (takes port) c ≡ true → IsFitBeat port.shape (burst_before port.shape port.commands.signals (takes port) c) (raw_at port c)) →
+        IsFitBeat port.shape (burst_before port.shape port.commands.signals (takes port) (suc c)) (raw_at port (suc c))
     by_test true held before =
         let same : levels_at port.commands.signals c ≡ levels_at port.commands.signals (suc c) = legal.legal.held c h held in
         let not_accepted : takes port c ≡ false = not-true (takes port c) (and_parts (shows port.commands.signals c) (not (takes port c)) held).1 in
         let burst : burst_before port.shape port.commands.signals (takes port) c ≡ burst_before port.shape port.commands.signals (takes port) (suc c) = rw not_accepted in
-        subst (λ b. IsFitBeat port.shape b (levels_at port.commands.signals (suc c))) burst
-        (subst (λ l. IsFitBeat port.shape (burst_before port.shape port.commands.signals (takes port) c) l) same (before held))
+        let raws_same : raw_at port c ≡ raw_at port (suc c) =
+        ap (λ l. record { levels = l; more = port.commands.more c; tag = port.commands.tag c }) same
+        ∙ ap₂ (λ m t. record { levels = levels_at port.commands.signals (suc c); more = m; tag = t }) (legal.more c h held) (legal.tag c h held) in
+        subst (λ b. IsFitBeat port.shape b (raw_at port (suc c))) burst
+        (subst (IsFitBeat port.shape (burst_before port.shape port.commands.signals (takes port) c)) raws_same (before held))
     by_test false free before =
         let presented : IsTrue (presents port.commands.signals (takes port) (suc c)) = rw (shown, free) refl in
         record {
@@ -68,13 +72,14 @@ fit_when_shown port end (suc c) legal h shown =
           least = λ free. legal.legal.least (suc c) h presented free;
           most = λ free. legal.legal.most (suc c) h presented free;
           finished = λ busy. legal.legal.finished (suc c) h busy;
+          joined = legal.joined (suc c) h shown;
         }
 
-pub fit_push : (shape : Shape) (burst : Burst) (xs : List Raw) (raw : Raw) → AreFit shape burst xs → IsFitBeat shape (burst_of shape burst xs) raw.levels → AreFit shape burst (xs ++ raw ∷ [])
+pub fit_push : (shape : Shape) (burst : Burst) (xs : List Raw) (raw : Raw) → AreFit shape burst xs → IsFitBeat shape (burst_of shape burst xs) raw → AreFit shape burst (xs ++ raw ∷ [])
 fit_push shape burst [] raw fits fit = (fit, tt)
 fit_push shape burst (x ∷ xs) raw fits fit = (fits.0, fit_push shape (burst_past shape burst x) xs raw fits.1 fit)
 
-pub fit_at : (shape : Shape) (burst : Burst) (xs : List Raw) (raw : Raw) (later : List Raw) → AreFit shape burst (xs ++ raw ∷ later) → IsFitBeat shape (burst_of shape burst xs) raw.levels
+pub fit_at : (shape : Shape) (burst : Burst) (xs : List Raw) (raw : Raw) (later : List Raw) → AreFit shape burst (xs ++ raw ∷ later) → IsFitBeat shape (burst_of shape burst xs) raw
 fit_at shape burst [] raw later fits = fits.0
 fit_at shape burst (x ∷ xs) raw later fits = fit_at shape (burst_past shape burst x) xs raw later fits.1
 
@@ -87,7 +92,7 @@ fits port end (suc c) legal h =
     by_test : (b : Bool) → takes port c ≡ b → AreFit port.shape idle (raws port c) → AreFit port.shape idle (raws port c ++ only_if b (raw_at port c))
     by_test true taken earlier =
         let fit = fit_when_shown port end c legal (omega arith) (and_parts (shows port.commands.signals c) (not (is_high (port.commands.wait c))) taken).0 in
-        fit_push port.shape idle (raws port c) (raw_at port c) earlier (subst (λ b. IsFitBeat port.shape b (levels_at port.commands.signals c)) (burst_is port c) fit)
+        fit_push port.shape idle (raws port c) (raw_at port c) earlier (subst (λ b. IsFitBeat port.shape b (raw_at port c)) (burst_is port c) fit)
     by_test false taken earlier = subst (AreFit port.shape idle) (sym (append-nil (raws port c))) earlier
 
 pub prefix_behind : {A : Type 0} (xs : List A) {some all : List A} → IsPrefix some all → IsPrefix (xs ++ some) (xs ++ all)
@@ -109,7 +114,7 @@ module _ (depth : ℕ) (up down : Port) (queue : ℕ → List Raw) (run : IsStag
 
 -- a side is legal whose beats are fit, and are held while they wait
 module _ (shape : Shape) (dc : CommandView) (da : AnswerView) (end : ℕ)
-    (fit : (c : ℕ) → c < end → shows dc.signals c ≡ true → IsFitBeat shape (burst_before shape dc.signals (takes (port_of shape dc da)) c) (levels_at dc.signals c))
+    (fit : (c : ℕ) → c < end → shows dc.signals c ≡ true → IsFitBeat shape (burst_before shape dc.signals (takes (port_of shape dc da)) c) (raw_at (port_of shape dc da) c))
     (held : (c : ℕ) → suc c < end → is_held dc.signals (takes (port_of shape dc da)) c ≡ true → raw_at (port_of shape dc da) c ≡ raw_at (port_of shape dc da) (suc c)) where
   neither : (r w : Bool) → (r || w) ≡ false → (r ≡ false) × (not (r && w) ≡ true)
   neither true w h = cc
@@ -138,6 +143,7 @@ module _ (shape : Shape) (dc : CommandView) (da : AnswerView) (end : ℕ)
     };
     tag = λ c h stands. ap (λ (r : Raw). r.tag) (held c h stands);
     more = λ c h stands. ap (λ (r : Raw). r.more) (held c h stands);
+    joined = λ c h shown. (fit c h shown).joined;
   }
 
 -- the same, where both sides have one shape
@@ -169,16 +175,16 @@ module _ (depth : ℕ) (shape : Shape) (uc dc : CommandView) (ua da : AnswerView
 
   module _ (end : ℕ) (legal : AreLegalAt (port_of shape uc ua) end) where
     -- what is shown below is fit
-    fit_below : (c : ℕ) → c < end → shows dc.signals c ≡ true → IsFitBeat shape (burst_before shape dc.signals (takes (port_of shape dc da)) c) (levels_at dc.signals c)
+    fit_below : (c : ℕ) → c < end → shows dc.signals c ≡ true → IsFitBeat shape (burst_before shape dc.signals (takes (port_of shape dc da)) c) (raw_at (port_of shape dc da) c)
     fit_below c h shown = by_queue (queue c) refl (run.heads c)
       where
-        by_queue : (q : List Raw) → queue c ≡ q → ShowsHead (port_of shape dc da) c q → IsFitBeat shape (burst_before shape dc.signals (takes (port_of shape dc da)) c) (levels_at dc.signals c)
+        by_queue : (q : List Raw) → queue c ≡ q → ShowsHead (port_of shape dc da) c q → IsFitBeat shape (burst_before shape dc.signals (takes (port_of shape dc da)) c) (raw_at (port_of shape dc da) c)
         by_queue [] is head = cc
         by_queue (raw ∷ later) is head =
             let all : raws (port_of shape uc ua) c ≡ raws (port_of shape dc da) c ++ raw ∷ later = all_there depth (port_of shape uc ua) (port_of shape dc da) queue run c ∙ ap (λ q. raws (port_of shape dc da) c ++ q) is in
             let fit = fit_at shape idle (raws (port_of shape dc da) c) raw later (subst (AreFit shape idle) all (fits (port_of shape uc ua) end c legal (omega arith))) in
-            subst (λ b. IsFitBeat shape b (levels_at dc.signals c)) (sym (burst_is (port_of shape dc da) c))
-            (subst (λ l. IsFitBeat shape (burst_of shape idle (raws (port_of shape dc da) c)) l) (sym (ap (λ (r : Raw). r.levels) head.1)) fit)
+            subst (λ b. IsFitBeat shape b (raw_at (port_of shape dc da) c)) (sym (burst_is (port_of shape dc da) c))
+            (subst (IsFitBeat shape (burst_of shape idle (raws (port_of shape dc da) c))) (sym head.1) fit)
 
     pub stage_legal : AreLegalAt (port_of shape dc da) end
     stage_legal = legal_when_shown shape dc da end fit_below (λ c h held. held_on c held)

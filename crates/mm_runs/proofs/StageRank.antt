@@ -5,11 +5,11 @@ use Rattle.histories.specs.Laws.{shown_is_accepted_and_standing, prefix_length, 
 use Rattle.mm_runs.proofs.Wire.{marked_keeps}
 use Rattle.mm_runs.proofs.Stage.{taken_split}
 use Rattle.mm_runs.proofs.StageLink.{words_later}
-use Rattle.histories.specs.History.{only_if, is_high}
+use Rattle.histories.specs.History.{one_if, only_if, is_high}
 use Rattle.mm_runs.specs.Views.{Shape, CommandView, AnswerView}
 use Rattle.mm_runs.specs.Commands.{shows, is_held}
 use Rattle.mm_runs.specs.Link.{Target, Port, AreLegalAt, takes, marked_at, shown_at, taken_at, operations_among, read_beats, words_at, is_last_joined, words_owed}
-use Rattle.mm_runs.specs.Machines.{Raw, raws, idle, marked, burst_of, ShowsHead, IsStageRun, port_of, one_if, owing_rank}
+use Rattle.mm_runs.specs.Machines.{Raw, raws, idle, marked, burst_of, ShowsHead, IsStageRun, port_of, owing_rank}
 use Rattle.mm_runs.specs.Rank.{is_excused, is_owed, is_writing, is_last_write, may_rest, LinkRankFalls, has_commands}
 
 none_of : (a b d : Bool) → not (a || b || d) ≡ true → (a ≡ false) × (b ≡ false) × (d ≡ false)

@@ -148,11 +148,12 @@ HasRightBytes target up down number cycle =
 abbrev pub words_owed : Port → ℕ → ℕ
 words_owed port cycle = length (read_beats (taken_at port cycle))
 
--- the commands of a side are legal, and a held one keeps its tag and its `more`
+-- the commands of a side are legal, a held one keeps its tag and its `more`, and a beat that doesn't end its burst has `more` high
 pub record AreLegalAt (port : Port) (end : ℕ) : Type 0 where
   pub legal : AreLegal port.shape port.commands.signals (takes port) end
   pub tag : (c : ℕ) → suc c < end → IsTrue (is_held port.commands.signals (takes port) c) → port.commands.tag c ≡ port.commands.tag (suc c)
   pub more : (c : ℕ) → suc c < end → IsTrue (is_held port.commands.signals (takes port) c) → port.commands.more c ≡ port.commands.more (suc c)
+  pub joined : (c : ℕ) → c < end → IsTrue (shows port.commands.signals c) → IsTrue ((transfer_at port.shape port.commands.signals (takes port) c).ends || is_high (port.commands.more c))
 
 abbrev pub AnswersAreOwed : Port → ℕ → Type 0
 AnswersAreOwed port end = AreOwed port.answers.valid (words_owed port) end

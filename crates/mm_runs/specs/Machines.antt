@@ -1,6 +1,6 @@
 -- Machines of links over views: what a side takes, as a list of beats; a stage with a queue; machines that send each beat in parts.
 use Rattle.std.specs.Prelude.{◌≡◌, ℕ, zero, suc, ◌≤◌, ◌<◌, ◌+◌, ◌-◌, ◌*◌, ◌/◌, ◌%◌, ◌^◌, Bool, true, false, not, ◌&&◌, ◌||◌, List, [], ◌∷◌, ◌++◌, length, drop, if◌then◌else◌, nat_lt, nat_eq, filter, map, IsTrue, IsFalse}
-use Rattle.histories.specs.History.{only_if, is_high, all_accepted, numbers}
+use Rattle.histories.specs.History.{one_if, only_if, is_high, all_accepted, numbers}
 use Rattle.mm_runs.specs.Views.{Shape, Levels, levels_at, CommandView, AnswerView}
 use Rattle.mm_runs.specs.Operations.{Beat, pieces}
 use Rattle.mm_runs.specs.Views.Kind.{Reads, Writes}
@@ -39,11 +39,12 @@ burst_of shape burst [] = burst
 burst_of shape burst (raw ∷ later) = burst_of shape (burst_past shape burst raw) later
 
 -- a beat that a legal host may show where a burst stands so
-pub record IsFitBeat (shape : Shape) (burst : Burst) (levels : Levels) : Type 0 where
-  pub one_kind : IsTrue (not (is_high levels.read && is_high levels.write))
-  pub least : IsFalse (nat_lt 0 burst.left) → 1 ≤ levels.count
-  pub most : IsFalse (nat_lt 0 burst.left) → levels.count ≤ 2 ^ (shape.burst_bits - 1)
-  pub finished : IsTrue (nat_lt 0 burst.left) → IsFalse (is_high levels.read)
+pub record IsFitBeat (shape : Shape) (burst : Burst) (raw : Raw) : Type 0 where
+  pub one_kind : IsTrue (not (is_high raw.levels.read && is_high raw.levels.write))
+  pub least : IsFalse (nat_lt 0 burst.left) → 1 ≤ raw.levels.count
+  pub most : IsFalse (nat_lt 0 burst.left) → raw.levels.count ≤ 2 ^ (shape.burst_bits - 1)
+  pub finished : IsTrue (nat_lt 0 burst.left) → IsFalse (is_high raw.levels.read)
+  pub joined : IsTrue ((transfer_of shape raw.levels burst).ends || is_high raw.more)
 
 abbrev pub port_of : Shape → CommandView → AnswerView → Port
 port_of shape commands answers = record { shape = shape; commands = commands; answers = answers }
@@ -81,7 +82,7 @@ expand shape parts burst (raw ∷ later) = parts burst raw ++ expand shape parts
 -- all beats of a list are fit
 abbrev pub AreFit : Shape → Burst → List Raw → Type 0
 AreFit shape burst [] = Unit {0}
-AreFit shape burst (raw ∷ later) = IsFitBeat shape burst raw.levels × AreFit shape (burst_past shape burst raw) later
+AreFit shape burst (raw ∷ later) = IsFitBeat shape burst raw × AreFit shape (burst_past shape burst raw) later
 
 -- whether the joined command has had an operation and isn't closed, after these transfers
 abbrev pub acted_past : Target → Shape → Bool → List Marked → Bool
@@ -159,9 +160,6 @@ abbrev pub split_parts : Shape → Shape → Burst → Raw → List Raw
 split_parts wide narrow burst raw =
     let beat = beat_of wide raw.levels in
     joined raw.tag raw.more (or_first narrow (not (is_high raw.more) || not (is_high raw.levels.write)) beat (touched wide narrow beat))
-
-abbrev pub one_if : Bool → ℕ
-one_if test = if test then 1 else 0
 
 abbrev pub is_empty : {A : Type 0} → List A → Bool
 is_empty {A} [] = true

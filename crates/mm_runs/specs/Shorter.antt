@@ -22,4 +22,5 @@ legal_at_before port shorter end h legal = record {
   legal = legal_before _ _ _ shorter end h legal.legal;
   tag = λ c low. legal.tag c (lt_of_lt_of_le low h);
   more = λ c low. legal.more c (lt_of_lt_of_le low h);
+  joined = λ c low. legal.joined c (lt_of_lt_of_le low h);
 }

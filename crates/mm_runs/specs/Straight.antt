@@ -1,7 +1,7 @@
 -- Commands that go straight through a part, and first beats that are shown promptly.
 use Rattle.std.specs.Prelude.{◌≡◌, ℕ, suc, ◌+◌, ◌-◌, ◌*◌, ◌<◌, ◌≤◌, Bool, not, ◌&&◌, ◌||◌, List, [], ◌∷◌, ◌++◌, length, map, take, drop, if◌then◌else◌, nat_eq, nat_lt, nat_le, IsTrue, Some, filter, flat_map, slice_get, fold}
 use Rattle.std.specs.List.{list_any, list_all}
-use Rattle.histories.specs.History.{is_high, numbers, standing}
+use Rattle.histories.specs.History.{one_if, is_high, numbers, standing}
 use Rattle.mm_runs.specs.Views.{Shape, HostSide, HostView, System, Run}
 use Rattle.mm_runs.specs.Operations.{Beat, filled_lanes, is_enabled, own_operations, piece_bytes}
 use Rattle.mm_runs.specs.Commands.{shows, agent_accepts, is_of_reads, transfer_at, words_before}
@@ -95,20 +95,17 @@ pub record IsShownPromptly (may_burst : Bool) (target : Target) (up down : Port)
 
 -- ---- mm_host: its upper side is the host's port
 
-abbrev pub one_where : Bool → ℕ
-one_where test = if test then 1 else 0
-
 -- a host's port as the side of a link: `more` joins the beats of a burst
 abbrev pub port_of_host : HostSide → HostView → ℕ → Port
 port_of_host side view host = record {
   shape = side.shape;
   commands = record {
     signals = view.signals;
-    more = λ c. one_where (not (transfer_at side.shape view.signals (λ k. shows view.signals k && not (is_high (view.wait k))) c).ends);
+    more = λ c. one_if (not (transfer_at side.shape view.signals (λ k. shows view.signals k && not (is_high (view.wait k))) c).ends);
     tag = λ c. host;
     wait = view.wait;
   };
-  answers = record { valid = λ c. one_where (gives_word side view c); word = view.answer_word; code = view.response };
+  answers = record { valid = λ c. one_if (gives_word side view c); word = view.answer_word; code = view.response };
 }
 
 -- fewer than 16 reads were under way at the end of the cycle before

@@ -151,7 +151,7 @@ pub fn beat_is_pieces()
 
 /// A machine that sends each beat in parts carries commands and holds nothing, where the parts of a beat keep what `Expands` says.
 pub fn expander_carries()
-    ensures { (target : Target) (wide narrow : Shape) (parts : Burst → Raw → List Raw) (stands : Burst → Bool) → IsTrue (stands idle) → ((burst : Burst) (raw : Raw) → IsFitBeat wide burst raw.levels → IsTrue (stands burst) → IsTrue (stands (burst_past wide burst raw))) → ((burst : Burst) (raw : Raw) (below : Burst) → IsFitBeat wide burst raw.levels → IsTrue (stands burst) → below.left ≡ 0 → Expands target wide narrow parts burst raw below) → (uc dc : CommandView) (ua da : AnswerView) (sent rest : ℕ → List Raw) (end : ℕ) → IsExpanderRun parts (port_of wide uc ua) (port_of narrow dc da) sent rest end → AreLegalAt (port_of wide uc ua) end → CarriesCommands target 0 (port_of wide uc ua) (port_of narrow dc da) end }
+    ensures { (target : Target) (wide narrow : Shape) (parts : Burst → Raw → List Raw) (stands : Burst → Bool) → IsTrue (stands idle) → ((burst : Burst) (raw : Raw) → IsFitBeat wide burst raw → IsTrue (stands burst) → IsTrue (stands (burst_past wide burst raw))) → ((burst : Burst) (raw : Raw) (below : Burst) → IsFitBeat wide burst raw → IsTrue (stands burst) → below.left ≡ 0 → Expands target wide narrow parts burst raw below) → (uc dc : CommandView) (ua da : AnswerView) (sent rest : ℕ → List Raw) (end : ℕ) → IsExpanderRun parts (port_of wide uc ua) (port_of narrow dc da) sent rest end → AreLegalAt (port_of wide uc ua) end → CarriesCommands target 0 (port_of wide uc ua) (port_of narrow dc da) end }
 {}
 
 /// A splitter of commands of one beat, from a wide host to narrow words with byte enables, carries commands and holds nothing.
