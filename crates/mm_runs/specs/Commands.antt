@@ -1,5 +1,5 @@
 -- What a cycle shows, presents and accepts at a side that carries commands.
-use Rattle.std.specs.Prelude.{ℕ, zero, suc, ◌+◌, ◌-◌, ◌*◌, ◌%◌, Bool, true, false, not, ◌&&◌, ◌||◌, List, [], ◌∷◌, length, map, if◌then◌else◌, nat_eq, filter, flat_map}
+use Rattle.std.specs.Prelude.{ℕ, zero, suc, ◌+◌, ◌-◌, ◌*◌, ◌%◌, ◌^◌, Bool, true, false, not, ◌&&◌, ◌||◌, List, [], ◌∷◌, length, map, if◌then◌else◌, nat_eq, filter, flat_map}
 use Rattle.histories.specs.History.{before, only_if, is_high, numbers, stands_on, is_first, first_shown, all_accepted}
 use Rattle.mm_runs.specs.Views.{Signals, Levels, levels_at, Shape, AgentSide, AgentView, Kind}
 use Rattle.mm_runs.specs.Views.Kind.{Reads, Writes}
@@ -7,6 +7,10 @@ use Rattle.mm_runs.specs.Operations.{Beat}
 
 abbrev pub shows : Signals → ℕ → Bool
 shows signals cycle = is_high (signals.read cycle) || is_high (signals.write cycle)
+
+-- the longest burst, in beats, by the width of burstcount
+abbrev pub longest_burst : ℕ → ℕ
+longest_burst bits = 2 ^ (bits - 1)
 
 -- where there is waitrequest
 abbrev pub accepts_by : Signals → (ℕ → ℕ) → ℕ → Bool

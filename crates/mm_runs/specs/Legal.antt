@@ -1,8 +1,8 @@
 -- The rules of the interfaces: legal hosts and agents, and the module's own side.
-use Rattle.std.specs.Prelude.{◌≡◌, ℕ, suc, ◌-◌, ◌*◌, ◌%◌, ◌^◌, ◌<◌, ◌≤◌, Bool, not, ◌&&◌, List, length, map, if◌then◌else◌, nat_lt, IsTrue, IsFalse}
+use Rattle.std.specs.Prelude.{◌≡◌, ℕ, suc, ◌*◌, ◌%◌, ◌<◌, ◌≤◌, Bool, not, ◌&&◌, List, length, map, if◌then◌else◌, nat_lt, IsTrue, IsFalse}
 use Rattle.histories.specs.History.{before, only_if, is_high, unreached}
 use Rattle.mm_runs.specs.Views.{Signals, levels_at, Shape, HostSide, AgentSide, HostView, AgentView}
-use Rattle.mm_runs.specs.Commands.{shows, accepts_by, is_held, presents, agent_accepts, burst_before, accepted, reads_among, read_beats, words_before}
+use Rattle.mm_runs.specs.Commands.{longest_burst, shows, accepts_by, is_held, presents, agent_accepts, burst_before, accepted, reads_among, read_beats, words_before}
 
 -- a write burst whose first beat was accepted, and whose last one wasn't before this cycle
 abbrev pub is_under_way : Shape → Signals → (ℕ → Bool) → ℕ → Bool
@@ -14,7 +14,7 @@ pub record AreLegal (shape : Shape) (signals : Signals) (accepts : ℕ → Bool)
   pub one_kind : (c : ℕ) → c < end → IsTrue (not (is_high (signals.read c) && is_high (signals.write c)))
   pub held : (c : ℕ) → suc c < end → IsTrue (is_held signals accepts c) → levels_at signals c ≡ levels_at signals (suc c)
   pub least : (c : ℕ) → c < end → IsTrue (presents signals accepts c) → IsFalse (is_under_way shape signals accepts c) → 1 ≤ signals.count c
-  pub most : (c : ℕ) → c < end → IsTrue (presents signals accepts c) → IsFalse (is_under_way shape signals accepts c) → signals.count c ≤ 2 ^ (shape.burst_bits - 1)
+  pub most : (c : ℕ) → c < end → IsTrue (presents signals accepts c) → IsFalse (is_under_way shape signals accepts c) → signals.count c ≤ longest_burst shape.burst_bits
   pub finished : (c : ℕ) → c < end → IsTrue (is_under_way shape signals accepts c) → IsFalse (is_high (signals.read c))
 
 -- no word before a command that asks it, in an earlier cycle

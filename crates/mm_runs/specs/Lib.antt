@@ -18,3 +18,4 @@ pub mod Register
 pub mod Gate
 pub mod Shorter
 pub mod Machines
+pub mod Values

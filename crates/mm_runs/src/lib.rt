@@ -1,6 +1,10 @@
 //! Definitions of memory-mapped runs, and laws about them.
 #![tactic(auto)]
 
+mod plain;
+
+pub use plain::{BeatValue, ByteOperation, End, Transfer, filled_lanes, footprint, longest_burst, operations_of, own_operations};
+
 ghost use Rattle.std.specs.Prelude.{suc, ◌||◌, nat_lt, ◌≡◌, ◌<◌, ◌≤◌, ◌+◌, ◌-◌, ◌*◌, ◌∷◌, [], true, false, ℕ, Bool, List, Some, length, slice_get, IsTrue, ◌%◌, ◌^◌, flat_map};
 ghost use Rattle.histories.specs.History.{before, IsPrefix, numbers, is_high, unreached, AreWithin};
 ghost use Rattle.mm_runs.specs.Commands.{shows, accepted, presented, Burst, byte_address};
