@@ -11,6 +11,7 @@ pub mod Whole
 pub mod Blocks
 pub mod Lines
 pub mod Straight
+pub mod PartRanks
 pub mod Turns
 pub mod Plan
 pub mod Moment

@@ -45,7 +45,7 @@ path_at target ports c = record {
   ready = λ i. has_word_ready target (ports (suc i)) (ports i) (suc c);
 }
 
--- A command is presented and not accepted, not wholly taken, or left open below
+-- a command is presented and not accepted, not wholly taken, or left open below
 abbrev pub has_commands : Target → Port → Port → ℕ → Bool
 has_commands target up down c =
     is_held up.commands.signals (takes up) c
