@@ -12,7 +12,7 @@ use Rattle.mm_runs.specs.Legal.{IsLegalHost, is_under_way, unanswered, given, ho
 use Rattle.mm_runs.specs.Commands.{is_held, words_before, agent_accepts, shows, transfer_at}
 use Rattle.mm_runs.specs.Order.{host_transfers, is_agent, is_joined, beats_taken, of_host, taken, answers, answers_to}
 use Rattle.mm_runs.specs.Views.Responses.{AreZero}
-use Rattle.mm_runs.specs.Link.{Target, Port, IsLink, AreLegalAt, AnswersAreOwed, Marked, takes, shown_at, taken_at, words_owed, words_at, answers_at, read_beats}
+use Rattle.mm_runs.specs.Link.{Target, Port, KeepsLinkLaw, AreLegalAt, AnswersAreOwed, Marked, takes, shown_at, taken_at, words_owed, words_at, answers_at, read_beats}
 use Rattle.mm_runs.specs.Blocks.{worded, blocks_at, codes_of}
 use Rattle.mm_runs.specs.Lines.{Carries, IsHostLine, IsRouteLine, IsArbiterLine, IsPipeLine, IsAgentLine, IsPath, Wired, sent_of, sent_by, host_accepted, placed_flow, port_flow, tagged_flow, target_of, items_among, beats_of, sizes_of, IsRouted, HasDefaultCode, asked_at, placed_blocks, bytes_of, answers_with, words_with, with_tag, are_whole, tagged_operations, groups_of}
 use Rattle.mm_runs.specs.Lines.IsPath.{single}
@@ -480,7 +480,7 @@ number_of_host : (h : ℕ) → (nat_eq h 0 || (nat_eq h 1 || false)) ≡ true �
 number_of_host h joined = grind (arith, tests, joined)
 
 -- `wire`: a wire is a link that holds nothing
-pub joint_is_wired : ((target : Target) (port : Port) (end : ℕ) → 0 < port.shape.word_bytes → IsLink target 0 port port end) → Wired AreZero joint_system joint_run joint_inside joint_holds 6
+pub joint_is_wired : ((target : Target) (port : Port) (end : ℕ) → 0 < port.shape.word_bytes → KeepsLinkLaw target 0 port port end) → Wired AreZero joint_system joint_run joint_inside joint_holds 6
 joint_is_wired wire = record {
   placed = λ h t a e. let same : 0 ≡ a = cc in omega arith;
   joined = λ a h joined. number_of_host h joined;

@@ -5,7 +5,7 @@ use Rattle.histories.specs.History.{IsPrefix, is_high}
 use Rattle.mm_runs.specs.Views.{levels_at, System, Run}
 use Rattle.mm_runs.specs.Legal.{IsLegalHost, gives_word, given, IsProperAtAgent, is_under_way, unanswered}
 use Rattle.mm_runs.specs.Commands.{agent_accepts, is_held, words_before}
-use Rattle.mm_runs.specs.Order.{Ordered, of_host, taken, issued, beats_taken, words_covered, is_joined, owners_taken, are_together, Returned, IsWordOf, asked}
+use Rattle.mm_runs.specs.Order.{ServesInGrantedOrder, of_host, taken, issued, beats_taken, words_covered, is_joined, owners_taken, are_together, ReturnsInCommandOrder, IsWordOf, asked}
 use Rattle.std.specs.List.{list_all}
 use Rattle.mm_runs.specs.Awake.{TakesTurns, shows_plain_write, ServesWithin, IsWanted, serves, ReadsAheadWithin, IsAsked, IsPassedByFew, ServesDefaultWithin, is_wanted_at_default, is_given_from, is_written_to}
 use Rattle.mm_rows.specs.MoreExamples.{shared_system, turn_run, unfair_tags, stuck_run, plain_system, one_by_one_run, plain_pair, held_read_run, two_agents, stuck_at_default_run, agent_with_bound, two_reads}
@@ -27,7 +27,7 @@ narrow_together : (c : ℕ) → c < 3 → IsTrue (are_together (owners_taken nar
 narrow_together c h = each_below (λ c. IsTrue (are_together (owners_taken narrow_system narrow_run 0 c))) 3 c (((tt, refl), refl), refl) h
 
 -- the narrow write is ordered
-pub narrow_is_ordered : Ordered narrow_system narrow_run 0 2
+pub narrow_is_ordered : ServesInGrantedOrder narrow_system narrow_run 0 2
 narrow_is_ordered = record {
   tags = narrow_tags;
   in_order = narrow_prefix;
@@ -36,19 +36,19 @@ narrow_is_ordered = record {
 }
 
 -- a piece with all lanes enabled breaks the order of the operations
-pub all_lanes_is_not : Ordered narrow_system all_lanes_run 0 4 → ⊥
+pub all_lanes_is_not : ServesInGrantedOrder narrow_system all_lanes_run 0 4 → ⊥
 all_lanes_is_not o = let bad = o.in_order 4 0 (omega arith) (omega arith) in let e = bad.joins in cc
 
 -- a write under a tag that no host has
-pub stray_is_not : Ordered narrow_system stray_run 0 1 → ⊥
+pub stray_is_not : ServesInGrantedOrder narrow_system stray_run 0 1 → ⊥
 stray_is_not o = let bad = o.tags 0 (omega arith) refl in cc
 
 -- a host changed within a burst
-pub mixed_is_not : Ordered wide_system mixed_bursts_run 0 4 → ⊥
+pub mixed_is_not : ServesInGrantedOrder wide_system mixed_bursts_run 0 4 → ⊥
 mixed_is_not o = let bad = o.together 4 (omega arith) in cc
 
 -- beats without a lane, more than the words that the host's beat covers
-pub busy_is_not : Ordered wide_system busy_run 0 3 → ⊥
+pub busy_is_not : ServesInGrantedOrder wide_system busy_run 0 3 → ⊥
 busy_is_not o = let bad = o.beats 3 0 (omega arith) (omega arith) in omega arith
 
 narrow_kind : (c : ℕ) → c < 2 → IsTrue (not (is_high (narrow_host.read c) && is_high (narrow_host.write c)))
@@ -68,7 +68,7 @@ narrow_is_legal = record {
 }
 
 -- the read of byte 5 brings it back
-pub read_is_returned : Returned packed_system read_run 0 2
+pub read_is_returned : ReturnsInCommandOrder packed_system read_run 0 2
 read_is_returned c h = each_below (λ c. IsTrue (gives_word (packed_system.host 0) (read_run.at_host 0) c) → IsWordOf packed_system read_run 0 c (length (given (packed_system.host 0) (read_run.at_host 0) c))
     (record { word = (read_run.at_host 0).answer_word c; code = (read_run.at_host 0).response c })
     (slice_get (asked packed_system read_run 0 (suc c)) (length (given (packed_system.host 0) (read_run.at_host 0) c)))) 2 c ((tt, λ h. cc), λ h. record { enough = omega arith; bytes = refl }) h
@@ -96,7 +96,7 @@ pub ordered_of_each : (system : System) (run : Run) (agent end : ℕ) →
     OfEach (λ c. OfEach (λ host. IsPrefix (of_host host (taken system run agent c)) (issued system run host agent (c - system.stages))) system.hosts) (suc end) →
     OfEach (λ c. IsTrue (are_together (owners_taken system run agent c))) (suc end) →
     OfEach (λ c. OfEach (λ host. length (filter (λ b. nat_eq b.tag host) (beats_taken system run agent c)) ≤ words_covered system run host agent c) system.hosts) (suc end) →
-    Ordered system run agent end
+    ServesInGrantedOrder system run agent end
 ordered_of_each system run agent end tags in_order together beats = record {
   tags = λ c h. each_below (λ c. IsTrue (agent_accepts (system.agent agent) (run.at_agent agent) c) → IsTrue (is_joined system agent ((run.at_agent agent).grant c))) end c tags h;
   in_order = λ c host h low. each_cycle_host (λ c host. IsPrefix (of_host host (taken system run agent c)) (issued system run host agent (c - system.stages))) end system.hosts c host in_order h low;
@@ -104,7 +104,7 @@ ordered_of_each system run agent end tags in_order together beats = record {
   beats = λ c host h low. each_cycle_host (λ c host. length (filter (λ b. nat_eq b.tag host) (beats_taken system run agent c)) ≤ words_covered system run host agent c) end system.hosts c host beats h low;
 }
 
-pub whole_bursts_are : Ordered wide_system whole_bursts_run 0 4
+pub whole_bursts_are : ServesInGrantedOrder wide_system whole_bursts_run 0 4
 whole_bursts_are = ordered_of_each wide_system whole_bursts_run 0 4
     (((((tt, λ _. refl), λ _. refl), λ _. refl), λ _. refl))
     ((((((tt, ((tt, record { rest = _; joins = refl }), record { rest = _; joins = refl })), ((tt, record { rest = _; joins = refl }), record { rest = _; joins = refl })), ((tt, record { rest = _; joins = refl }), record { rest = _; joins = refl })), ((tt, record { rest = _; joins = refl }), record { rest = _; joins = refl })), ((tt, record { rest = _; joins = refl }), record { rest = _; joins = refl })))

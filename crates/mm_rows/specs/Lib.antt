@@ -5,3 +5,4 @@ pub mod Faults
 pub mod Hung
 pub mod MachineExamples
 pub mod Laxer
+pub mod TurnRows

@@ -5,6 +5,8 @@ ghost use Rattle.std.specs.Prelude.{◌≡◌, ◌-◌, ◌∷◌, [], true, fal
 ghost use Rattle.histories.specs.History.{before, numbers};
 ghost use Rattle.mm_runs.specs.Commands.{agent_accepts};
 ghost use Rattle.mm_runs.specs.Awake.{turns_of, begun_within, HasFullTurns, TakesTurns, ServesWithin, ServesDefaultWithin, ReadsAheadWithin, IsPassedByFew, serves};
+ghost use Rattle.mm_runs.specs.Turns.{TakesTurnsByRule};
+ghost use Rattle.mm_rows.specs.TurnRows.{seats, askers, granted, by_shares, one_share_each, first_host_first};
 ghost use Rattle.mm_runs.specs.Packed.{operations_touched, beats_between, ReadsEachTouchedWordOnce};
 ghost use Rattle.mm_runs.specs.Link.Item.{Acts, Ends};
 ghost use Rattle.mm_rows.specs.MoreExamples.{waiting_agent, held_writes, late_read, two_reads, agent_with_bound, two_agents, limited_run, unlimited_run, default_run, byte_system, byte_reads, shared_system, turn_run, fair_tags, unfair_tags, owners_by, byte_target, wide_side, byte_side, loose_side, stuck_run, slow_run, packed_run, unpacked_run, twice_read_run, plain_pair, held_read_run, staged_system, taken_after, early_word, fickle_host, hasty_host, eager_agent, memory_run, coded_system, coded_run, burst_side, held_back_side, too_early_side, plain_system, one_by_one_run, joined_side, stuck_at_default_run};
@@ -16,7 +18,7 @@ ghost use Rattle.mm_rows.specs.MachineExamples.{second_piece};
 ghost use Rattle.mm_runs.specs.Operations.{pieces, bytes_read};
 ghost use Rattle.mm_runs.specs.Operations.Operation.{Write, Read};
 ghost use Rattle.mm_runs.specs.Legal.{IsLegalHost, IsProperAtAgent, IsProperAtHost, IsLegalAgent, unanswered};
-ghost use Rattle.mm_runs.specs.Order.{issued, taken, of_host, owners_taken, are_together, answers, Ordered, Returned, IsLimited, words_given_in, beats_taken, ActsAsMemory, untaken, HasResponses};
+ghost use Rattle.mm_runs.specs.Order.{issued, taken, of_host, owners_taken, are_together, answers, ServesInGrantedOrder, ReturnsInCommandOrder, KeepsReadOrder, words_given_in, beats_taken, ActsAsMemory, untaken, HasResponses};
 ghost use Rattle.mm_runs.specs.Link.{items, CarriesCommands, shown_at, taken_at};
 ghost use Rattle.mm_rows.specs.Faults.{laneless_system, laneless_run, laneless_port, split_system, split_run, split_port};
 ghost use Rattle.mm_rows.specs.Joint.{joint_system, joint_run, joint_inside, joint_holds};
@@ -53,17 +55,17 @@ pub fn packed_read()
 
 /// Right runs keep the definitions.
 pub fn right_runs()
-    ensures ordered { Ordered narrow_system narrow_run 0 2 }
+    ensures ordered { ServesInGrantedOrder narrow_system narrow_run 0 2 }
     ensures legal { IsLegalHost (host_of 4 true) narrow_host 2 }
-    ensures returned { Returned packed_system read_run 0 2 }
+    ensures returned { ReturnsInCommandOrder packed_system read_run 0 2 }
 {}
 
 /// Wrong runs break them: a piece with all lanes enabled, a stray tag, beats without a lane, a host that is changed within a burst.
 pub fn wrong_runs()
-    ensures all_lanes { Ordered narrow_system all_lanes_run 0 4 → ⊥ }
-    ensures stray { Ordered narrow_system stray_run 0 1 → ⊥ }
-    ensures busy { Ordered wide_system busy_run 0 3 → ⊥ }
-    ensures mixed { Ordered wide_system mixed_bursts_run 0 4 → ⊥ }
+    ensures all_lanes { ServesInGrantedOrder narrow_system all_lanes_run 0 4 → ⊥ }
+    ensures stray { ServesInGrantedOrder narrow_system stray_run 0 1 → ⊥ }
+    ensures busy { ServesInGrantedOrder wide_system busy_run 0 3 → ⊥ }
+    ensures mixed { ServesInGrantedOrder wide_system mixed_bursts_run 0 4 → ⊥ }
 {}
 
 /// Without waitrequest a write of two wait cycles stands for three, and a word comes two cycles after its read.
@@ -80,10 +82,10 @@ pub fn pending_reads()
 
 /// Reads of two agents, with a limiter and without.
 pub fn limiter()
-    ensures right { Returned two_agents limited_run 0 4 }
-    ensures wrong { Returned two_agents unlimited_run 0 4 → ⊥ }
-    ensures passed { IsLimited two_agents unlimited_run 0 1 4 → ⊥ }
-    ensures default { Returned two_agents default_run 0 2 }
+    ensures right { ReturnsInCommandOrder two_agents limited_run 0 4 }
+    ensures wrong { ReturnsInCommandOrder two_agents unlimited_run 0 4 → ⊥ }
+    ensures passed { KeepsReadOrder two_agents unlimited_run 0 1 4 → ⊥ }
+    ensures default { ReturnsInCommandOrder two_agents default_run 0 2 }
 {}
 
 /// Eight bytes of a 64-bit agent make one touch, or two.
@@ -128,7 +130,7 @@ pub fn packed()
 /// A write is taken no earlier than the stages let it.
 pub fn stages()
     ensures right { of_host 0 (taken staged_system (taken_after (0 ∷ 0 ∷ 1 ∷ [])) 0 3) ≡ issued staged_system (taken_after (0 ∷ 0 ∷ 1 ∷ [])) 0 0 1 }
-    ensures wrong { Ordered staged_system (taken_after (0 ∷ 1 ∷ [])) 0 2 → ⊥ }
+    ensures wrong { ServesInGrantedOrder staged_system (taken_after (0 ∷ 1 ∷ [])) 0 2 → ⊥ }
 {}
 
 /// Runs in which a component or the module breaks the rules of its interface.
@@ -148,14 +150,14 @@ pub fn memory()
 /// The code of a word is the greatest of those of its answers.
 pub fn codes()
     ensures right { HasResponses coded_system (coded_run 15 4 0x44332211 2) 0 6 }
-    ensures bytes { Returned coded_system (coded_run 15 4 0x44332211 2) 0 6 }
+    ensures bytes { ReturnsInCommandOrder coded_system (coded_run 15 4 0x44332211 2) 0 6 }
     ensures last_piece { HasResponses coded_system (coded_run 15 4 0x44332211 0) 0 6 → ⊥ }
     ensures one_lane { HasResponses coded_system (coded_run 1 1 0x11 0) 0 6 }
 {}
 
 /// Whole bursts in turn are ordered.
 pub fn ordered_bursts()
-    ensures ordered { Ordered wide_system whole_bursts_run 0 4 }
+    ensures ordered { ServesInGrantedOrder wide_system whole_bursts_run 0 4 }
     ensures near { untaken wide_system whole_bursts_run 1 0 2 ≡ 1 }
 {}
 
@@ -194,14 +196,14 @@ pub fn lines_can_be_kept()
 /// A beat without a lane has no operation before an agent without byte enables, and is an operation at it: so it may not be shown there.
 pub fn laneless_beat()
     ensures before { items (target_of laneless_system 0) laneless_port 1 ≡ [] }
-    ensures after { Ordered laneless_system laneless_run 0 1 → ⊥ }
+    ensures after { ServesInGrantedOrder laneless_system laneless_run 0 1 → ⊥ }
 {}
 
 /// A limiter on what is taken behind the route is too weak: a piece is taken at the agent while the route's command still stands.
 pub fn limiter_by_taken()
     ensures taken { taken_at split_port 2 ≡ [] }
     ensures shown { length (shown_at split_port 2) ≡ 1 }
-    ensures broken { IsLimited split_system split_run 0 0 2 → ⊥ }
+    ensures broken { KeepsReadOrder split_system split_run 0 0 2 → ⊥ }
 {}
 
 /// Two links that keep the laws, with ranks that are always 0, and a run of them in which a wanted agent is never served.
@@ -247,4 +249,11 @@ pub fn tight_clauses_refuse()
 /// The write of aabbccdd with the lanes 6 in two pieces is a run of the splitter.
 pub fn splitter_run()
     ensures { IsExpanderRun (split_parts wide_side.shape byte_side.shape) wide_side byte_side (parts_sent wide_side byte_side) second_piece 3 }
+{}
+
+/// Shares of 3 and 1 give the order 0 0 0 1 0 1 1 1 1 1 1 1. One share for each host, and the first host always first, break the rule.
+pub fn turns_at_ports()
+    ensures right { TakesTurnsByRule seats askers (granted by_shares) 12 }
+    ensures one_each { TakesTurnsByRule seats askers (granted one_share_each) 12 → ⊥ }
+    ensures first { TakesTurnsByRule seats askers (granted first_host_first) 12 → ⊥ }
 {}

@@ -12,7 +12,7 @@ use Rattle.mm_runs.specs.Views.{Responses, System, Run}
 use Rattle.mm_runs.specs.Operations.{Beat, byte_at, filled_lanes}
 use Rattle.mm_runs.specs.Commands.{Transfer, is_of_reads, reads_among}
 use Rattle.mm_runs.specs.Legal.{Word, given, gives_word, IsProperAtHost}
-use Rattle.mm_runs.specs.Order.{place_of, Answer, Asked, HoldsAnswers, IsDefaultWord, IsWordOf, Returned, asked, answers, answers_to, reads_for, host_transfers}
+use Rattle.mm_runs.specs.Order.{place_of, Answer, Asked, HoldsAnswers, IsDefaultWord, IsWordOf, ReturnsInCommandOrder, asked, answers, answers_to, reads_for, host_transfers}
 use Rattle.mm_runs.specs.Link.{Port, Marked, shown_at, taken_at, read_beats, words_at, answers_at, bytes_in}
 use Rattle.mm_runs.specs.Lines.{Inside, Holds, Wired, Sent, TaggedPort, with_tag, words_with, answers_with, bytes_of, asked_at, asked_among, sent_of, sent_by, target_of, IsRouted, PipeCarriesCommands, AreDelayed, AreOwedByTag, HostCarriesCommands, HostCarriesAnswers, RouteCarriesAnswers}
 use Rattle.mm_runs.specs.Whole.{IsLegalRun}
@@ -170,7 +170,7 @@ module _ (responses : Responses) (system : System) (run : Run) (inside : Inside)
       prefix_trans first (prefix_trans (subst (λ l. IsPrefix (bytes_of (answers_at target (inside.before_arbiter h a) c)) (bytes_of l)) (piped_answers h a c is there low) second) fourth)
 
   -- every word that a host is given is the right one
-  pub returned : (h : ℕ) → h < system.hosts → Returned system run h end
+  pub returned : (h : ℕ) → h < system.hosts → ReturnsInCommandOrder system run h end
   returned h is c low gives =
       let valid : is_high ((inside.after_host h).answers.valid c) ≡ true = sym ((host_answers h is).gives c low) ∙ gives in
       let number = given_count responses system run h (inside.after_host h) end c (host_answers h is) (omega arith) in

@@ -9,7 +9,7 @@ use Rattle.histories.specs.History.{IsPrefix, is_high}
 use Rattle.mm_runs.specs.Operations.{Beat, filled_lanes, byte_at}
 use Rattle.mm_runs.specs.Legal.{Word}
 use Rattle.mm_runs.specs.Order.{Answer, HoldsAnswers}
-use Rattle.mm_runs.specs.Link.{Target, Port, CarriesAnswers, AreLegalAt, AnswersAreOwed, taken_at, shown_at, read_beats, words_at, words_owed, answers_at, bytes_in, reads_of, beat_operations, IsAnswered, own_answers, HasGreatestCode, HasRightBytes, IsLink}
+use Rattle.mm_runs.specs.Link.{Target, Port, CarriesAnswers, AreLegalAt, AnswersAreOwed, taken_at, shown_at, read_beats, words_at, words_owed, answers_at, bytes_in, reads_of, beat_operations, IsAnswered, own_answers, HasGreatestCode, HasRightBytes, KeepsLinkLaw}
 use Rattle.mm_runs.specs.Lines.{bytes_of}
 
 -- new answers that are the next of the others keep a front a front
@@ -152,7 +152,7 @@ chain_answered target up middle down end legal legal_there owed owed_there first
     (answered_beat target up middle end c legal h asks (first.answered c h valid))
 
 -- the law of links gives it
-pub chain_bytes : (target : Target) (first_hold second_hold : ℕ) (up middle down : Port) (end : ℕ) → IsLink target first_hold up middle end → IsLink target second_hold middle down end →
+pub chain_bytes : (target : Target) (first_hold second_hold : ℕ) (up middle down : Port) (end : ℕ) → KeepsLinkLaw target first_hold up middle end → KeepsLinkLaw target second_hold middle down end →
     AreLegalAt up end → AnswersAreOwed down end → (c : ℕ) → c < end → IsTrue (is_high (up.answers.valid c)) → HasRightBytes target up down (length (words_at up c)) c
 chain_bytes target first_hold second_hold up middle down end first second legal owed c h valid =
     let legal_there : AreLegalAt middle end = middle_legal target first_hold second_hold up middle down end first second end (omega arith) legal (λ k low. owed k (omega arith)) in

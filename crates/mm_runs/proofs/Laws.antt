@@ -5,7 +5,7 @@ use Rattle.histories.specs.Laws.{before_prefix, prefix_filter, prefix_flat_map}
 use Rattle.mm_runs.specs.Views.{System, Run}
 use Rattle.mm_runs.specs.Order.{issued, taken}
 use Rattle.mm_runs.specs.Shorter.{legal_at_before}
-use Rattle.mm_runs.specs.Link.{Target, Port, IsLink, AreLegalAt, AnswersAreOwed}
+use Rattle.mm_runs.specs.Link.{Target, Port, KeepsLinkLaw, AreLegalAt, AnswersAreOwed}
 
 pub same_number : (n : ℕ) → nat_eq n n ≡ true
 same_number n = eq-eqb n n refl
@@ -37,7 +37,7 @@ module _ (up middle down : Port) (end : ℕ)
 
 -- two links in a row
 module _ (target : Target) (first_hold second_hold : ℕ) (up middle down : Port) (end : ℕ)
-    (first : IsLink target first_hold up middle end) (second : IsLink target second_hold middle down end) where
+    (first : KeepsLinkLaw target first_hold up middle end) (second : KeepsLinkLaw target second_hold middle down end) where
   pub middle_legal : (c : ℕ) → c ≤ end → AreLegalAt up c → AnswersAreOwed down (c - 1) → AreLegalAt middle c
   middle_legal = legal_between up middle down end (λ c h legal owed. (first.commands c h legal owed).legal) (λ c h legal owed. (second.answers c h legal owed).owed)
 

@@ -15,7 +15,7 @@ use Rattle.mm_runs.specs.Views.{Responses, System, Run, Shape, Levels, levels_at
 use Rattle.mm_runs.specs.Views.Kind.{Reads, Writes}
 use Rattle.mm_runs.specs.Operations.{Beat, Operation, is_read, operation_at, operation_of_kind, filled_lanes}
 use Rattle.mm_runs.specs.Commands.{Transfer, Burst, burst_before, byte_address, transfer_of, write_transfer, read_transfer, read_beat, is_of_reads, reads_among, shows}
-use Rattle.mm_runs.specs.Order.{Asked, transfer_operations, beat_operations, place_of, is_agent, of_host, taken, reads_for, asked, IsLimited, from_base}
+use Rattle.mm_runs.specs.Order.{Asked, transfer_operations, beat_operations, place_of, is_agent, of_host, taken, reads_for, asked, KeepsReadOrder, from_base}
 use Rattle.mm_runs.specs.Link.{closes, Port, Marked, shown_at, marked_at, takes, words_at}
 use Rattle.mm_runs.specs.Lines.{group_of, items_among, placed_flow, Inside, Holds, Wired, Sent, Group, sent_of, placed, placed_group, operations_of_groups, port_flow, tagged_flow, asked_at, asked_among, target_of}
 use Rattle.mm_runs.specs.Whole.{IsLegalRun}
@@ -167,7 +167,7 @@ module _ (responses : Responses) (system : System) (run : Run) (inside : Inside)
       let match = reads_match system h a (shown_at up c) (uniform_shown system h a up c) in
       omega (arith, few, match)
 
-  pub limited : (h a : ℕ) → h < system.hosts → a < system.agents → IsLimited system run h a end
+  pub limited : (h a : ℕ) → h < system.hosts → a < system.agents → KeepsReadOrder system run h a end
   limited h a is within c number low few other later =
       let up = inside.after_host h in
       let front = asked_front system run h holds.host up end (suc c) (host_commands responses system run inside holds end wired legal h is) (omega arith) in

@@ -5,10 +5,10 @@ use Rattle.mm_runs.proofs.ChainCodes.{chain_code}
 use Rattle.mm_runs.proofs.Rising.{chain_code_rising}
 use Rattle.mm_runs.proofs.Held.{within_trans}
 use Rattle.histories.specs.History.{is_high}
-use Rattle.mm_runs.specs.Link.{Target, Port, IsLink, AreLegalAt, AnswersAreOwed, words_at, HasRightCode, BeatsAreWithin, BeatsCover}
+use Rattle.mm_runs.specs.Link.{Target, Port, KeepsLinkLaw, AreLegalAt, AnswersAreOwed, words_at, HasRightCode, BeatsAreWithin, BeatsCover}
 
 module _ (target : Target) (first_hold second_hold : ℕ) (up middle down : Port) (end : ℕ)
-    (first : IsLink target first_hold up middle end) (second : IsLink target second_hold middle down end) (legal : AreLegalAt up end) (owed : AnswersAreOwed down end) where
+    (first : KeepsLinkLaw target first_hold up middle end) (second : KeepsLinkLaw target second_hold middle down end) (legal : AreLegalAt up end) (owed : AnswersAreOwed down end) where
   there : AreLegalAt middle end
   there = middle_legal target first_hold second_hold up middle down end first second end (omega arith) legal (λ k low. owed k (omega arith))
 

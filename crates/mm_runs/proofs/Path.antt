@@ -10,12 +10,12 @@ use Rattle.mm_runs.proofs.Wire.{taken_is_shown, total_sizes, wire_is_link}
 use Rattle.mm_runs.proofs.ChainAnswers.{bytes_below}
 use Rattle.histories.specs.History.{IsPrefix, unreached, total, AreWithin}
 use Rattle.mm_runs.specs.Operations.{pieces}
-use Rattle.mm_runs.specs.Link.{Target, Port, Marked, IsLink, AreLegalAt, AnswersAreOwed, shown_at, taken_at, sizes, held_by, operations_among, operations_in, CarriesCommands}
+use Rattle.mm_runs.specs.Link.{Target, Port, Marked, KeepsLinkLaw, AreLegalAt, AnswersAreOwed, shown_at, taken_at, sizes, held_by, operations_among, operations_in, CarriesCommands}
 use Rattle.mm_runs.specs.Lines.{IsCarrier, IsPath}
 use Rattle.mm_runs.specs.Lines.IsPath.{single, above, below}
 
 -- one link
-pub carrier_of_link : (target : Target) (hold : ℕ) (up down : Port) (end : ℕ) → IsLink target hold up down end → IsCarrier target hold up down end
+pub carrier_of_link : (target : Target) (hold : ℕ) (up down : Port) (end : ℕ) → KeepsLinkLaw target hold up down end → IsCarrier target hold up down end
 carrier_of_link target hold up down end link = record {
   commands = link.commands;
   answers = λ c low legal owed.
@@ -95,7 +95,7 @@ carrier_of_path {target} {end} (above between link words rest) = two_carriers ta
 carrier_of_path {target} {end} (below between rest link words) = two_carriers target _ _ _ _ _ end between (carrier_of_path rest) (carrier_of_link target _ _ _ end link)
 
 -- two links in a row carry commands as one link
-pub chain_commands : (target : Target) (first_hold second_hold : ℕ) (up middle down : Port) (end : ℕ) → IsLink target first_hold up middle end → IsLink target second_hold middle down end →
+pub chain_commands : (target : Target) (first_hold second_hold : ℕ) (up middle down : Port) (end : ℕ) → KeepsLinkLaw target first_hold up middle end → KeepsLinkLaw target second_hold middle down end →
     pieces middle.shape down.shape * pieces up.shape middle.shape ≤ pieces up.shape down.shape → (c : ℕ) → c ≤ end → AreLegalAt up c → AnswersAreOwed down (c - 1) → CarriesCommands target (first_hold + second_hold) up down c
 chain_commands target first_hold second_hold up middle down end first second between =
     (two_carriers target first_hold second_hold up middle down end between (carrier_of_link target first_hold up middle end first) (carrier_of_link target second_hold middle down end second)).commands

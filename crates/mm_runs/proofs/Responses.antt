@@ -18,7 +18,7 @@ use Rattle.mm_runs.specs.Views.{Responses, System, Run}
 use Rattle.mm_runs.specs.Operations.{filled_lanes}
 use Rattle.mm_runs.specs.Legal.{Word}
 use Rattle.mm_runs.specs.Order.{Asked, HasCodeOf, RespondsBy, asked, answers, answers_to, reads_for, beat_operations, is_agent, greatest_code}
-use Rattle.mm_runs.specs.Link.{Port, Target, Marked, IsLink, AreLegalAt, AnswersAreOwed, shown_at, words_at, answers_at}
+use Rattle.mm_runs.specs.Link.{Port, Target, Marked, KeepsLinkLaw, AreLegalAt, AnswersAreOwed, shown_at, words_at, answers_at}
 use Rattle.mm_runs.specs.Blocks.{Block, flat, sizes_of, highest, AreGreatest, worded, codes_of, blocks_at}
 use Rattle.mm_runs.specs.Legal.{gives_word}
 use Rattle.mm_runs.specs.Views.Responses.{AreZero, AreCodes}
@@ -77,7 +77,7 @@ pub greatest_behind : (up : List Block) (codes lower : List ℕ) → IsPrefix co
 greatest_behind up codes lower p enough g = subst (λ l. AreGreatest up l) p.joins (greatest_grows up codes p.rest enough g)
 
 -- one link gives what is asked of the links
-pub greatest_of_link : (target : Target) (hold : ℕ) (up down : Port) (end c : ℕ) → IsLink target hold up down end → c ≤ end → AreLegalAt up c → AnswersAreOwed down c → AreGreatest (blocks_at target up c) (codes_of (answers_at target down c))
+pub greatest_of_link : (target : Target) (hold : ℕ) (up down : Port) (end c : ℕ) → KeepsLinkLaw target hold up down end → c ≤ end → AreLegalAt up c → AnswersAreOwed down c → AreGreatest (blocks_at target up c) (codes_of (answers_at target down c))
 greatest_of_link target hold up down end c link low legal owed = let carries = link.answers c low legal owed in middle_greatest target up down c legal carries.owed carries c (omega arith)
 
 flat_worded : (bs : List Block) → flat (worded bs) ≡ flat bs

@@ -13,7 +13,7 @@ use Rattle.mm_runs.specs.Commands.{Burst, words_before}
 use Rattle.mm_runs.specs.Operations.{Beat, filled_lanes}
 use Rattle.mm_runs.specs.Legal.{Word}
 use Rattle.mm_runs.specs.Order.{Answer, HoldsAnswers, greatest_code}
-use Rattle.mm_runs.specs.Link.{Target, Marked, IsLink, AreLegalAt, AnswersAreOwed, takes, shown_at, taken_at, operations_in, operations_among, read_beats, words_at, answers_at, bytes_in, reads_of, beat_operations, IsAnswered, HasGreatestCode, sizes, held_by, items_from, items_of, acted_after}
+use Rattle.mm_runs.specs.Link.{Target, Marked, KeepsLinkLaw, AreLegalAt, AnswersAreOwed, takes, shown_at, taken_at, operations_in, operations_among, read_beats, words_at, answers_at, bytes_in, reads_of, beat_operations, IsAnswered, HasGreatestCode, sizes, held_by, items_from, items_of, acted_after}
 use Rattle.mm_runs.specs.Machines.{Raw, raw_at, raws, idle, burst_past, marked, burst_of, IsStageRun, port_of}
 use Rattle.mm_runs.proofs.Parts.{prefix_within}
 
@@ -151,7 +151,7 @@ module _ (depth : ℕ) (shape : Shape) (uc dc : CommandView) (ua da : AnswerView
             × HasGreatestCode (filled_lanes shape target.shape beat.enables) (drop (reads_of target shape (take (length (words_at (port_of shape dc da) j)) (read_beats (shown_at (port_of shape uc ua) (suc (suc j)))))) (answers_at target (port_of shape dc da) (suc (suc j)))) w)
 
   -- a stage is a link that holds what its queue holds
-  pub stage_is_link : (target : Target) (end : ℕ) → 0 < shape.word_bytes → IsLink target depth (port_of shape uc ua) (port_of shape dc da) end
+  pub stage_is_link : (target : Target) (end : ℕ) → 0 < shape.word_bytes → KeepsLinkLaw target depth (port_of shape uc ua) (port_of shape dc da) end
   stage_is_link target end words = record {
     commands = λ c h legal owed. record {
       in_order = λ k low. items_prefix target shape false (above target c legal k low);

@@ -16,7 +16,7 @@ use Rattle.mm_runs.specs.Operations.{Beat, filled_lanes, pieces, byte_at}
 use Rattle.mm_runs.specs.Commands.{shows}
 use Rattle.mm_runs.specs.Legal.{Word}
 use Rattle.mm_runs.specs.Order.{Answer, HoldsAnswers, greatest_code}
-use Rattle.mm_runs.specs.Link.{Target, Port, Marked, IsLink, AreLegalAt, AnswersAreOwed, takes, marked_at, shown_at, taken_at, operations_in, operations_among, read_beats, words_at, words_owed, answers_at, bytes_in, reads_of, beat_operations, IsAnswered, HasGreatestCode, sizes, held_by}
+use Rattle.mm_runs.specs.Link.{Target, Port, Marked, KeepsLinkLaw, AreLegalAt, AnswersAreOwed, takes, marked_at, shown_at, taken_at, operations_in, operations_among, read_beats, words_at, words_owed, answers_at, bytes_in, reads_of, beat_operations, IsAnswered, HasGreatestCode, sizes, held_by}
 
 pub marked_keeps : (port : Port) (end : ℕ) → AreLegalAt port end → KeepsItems (shows port.commands.signals) (takes port) (marked_at port) end
 marked_keeps port end legal =
@@ -180,7 +180,7 @@ wire_held : (target : Target) (port : Port) (c : ℕ) → held_by target port po
 wire_held target port c = le_of_eq (all_reached (sizes target port.shape (taken_at port c)) (length (operations_among target port.shape (taken_at port c))) (le_of_eq (total_sizes target port.shape (taken_at port c))))
 
 -- a wire is a link that holds nothing
-pub wire_is_link : (target : Target) (port : Port) (end : ℕ) → 0 < port.shape.word_bytes → IsLink target 0 port port end
+pub wire_is_link : (target : Target) (port : Port) (end : ℕ) → 0 < port.shape.word_bytes → KeepsLinkLaw target 0 port port end
 wire_is_link target port end words = record {
   commands = λ c h legal owed. record {
     in_order = λ c h. prefix_refl _;

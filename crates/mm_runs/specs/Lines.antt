@@ -8,7 +8,7 @@ use Rattle.mm_runs.specs.Operations.{Beat, Operation, filled_lanes, is_read, pie
 use Rattle.mm_runs.specs.Commands.{Transfer, agent_accepts, accepted, is_of_reads, reads_among}
 use Rattle.mm_runs.specs.Legal.{host_accepts, given, gives_word, Word, IsLegalHost, IsLegalAgent, IsProperAtHost, IsProperAtAgent}
 use Rattle.mm_runs.specs.Order.{beat_operations as placed_operations, Tagged, Answer, Asked, HoldsAnswers, IsDefaultWord, is_agent, place_of, transfer_operations, taken, of_host, beats_taken, answers, answers_to, is_joined, reads_for, host_transfers}
-use Rattle.mm_runs.specs.Link.{Port, Target, Marked, Item, shown_at, taken_at, closes, operations_in, beat_operations, is_nonempty, read_beats, words_at, bytes_in, answers_at, AreLegalAt, AnswersAreOwed, CarriesCommands, IsLink}
+use Rattle.mm_runs.specs.Link.{Port, Target, Marked, Item, shown_at, taken_at, closes, operations_in, beat_operations, is_nonempty, read_beats, words_at, bytes_in, answers_at, AreLegalAt, AnswersAreOwed, CarriesCommands, KeepsLinkLaw}
 use Rattle.mm_runs.specs.Blocks.{Block, worded, codes_of, blocks_at}
 use Rattle.mm_runs.specs.Link.Item.{Acts, Ends}
 
@@ -175,8 +175,8 @@ pub record RouteCarriesCommands (system : System) (host hold : ℕ) (up : Port) 
   pub lanes : (a : ℕ) → a < system.agents → ((c : ℕ) → c ≤ end → HavePlacedLanes system host a (sent_of (shown_at up c))) → HasLanes (target_of system a) (down a) end
 
 -- where a read that is presented for an agent came after a read beat for another place, the word of that beat is answered
-abbrev pub IsLimitedAt : System → ℕ → Port → (ℕ → Port) → ℕ → Type 0
-IsLimitedAt system host up down end =
+abbrev pub KeepsReadOrderAt : System → ℕ → Port → (ℕ → Port) → ℕ → Type 0
+KeepsReadOrderAt system host up down end =
     (a c number : ℕ) → a < system.agents → c < end → number < length (asked_at system host up (suc c)) →
     MatchOption (slice_get (asked_at system host up (suc c)) number) ⊤ (λ q. IsTrue (not (is_agent a q.place))) →
     reads_for system host a (take number (asked_at system host up (suc c))) < length (filter is_read (operations_of_groups ((port_flow (target_of system a) (down a)).shown (suc c)))) →
@@ -204,7 +204,7 @@ HasDefaultCode code question = MatchOption question ⊥ (λ q. MatchOption q.pla
 pub record RouteCarriesAnswers (system : System) (host : ℕ) (up : Port) (down : ℕ → Port) (end : ℕ) : Type 0 where
   pub answered : (c : ℕ) → c < end → IsTrue (is_high (up.answers.valid c)) →
       IsRouted system host up down c (length (words_at up c)) (record { word = up.answers.word c; code = up.answers.code c }) (slice_get (asked_at system host up (suc c)) (length (words_at up c)))
-  pub limited : IsLimitedAt system host up down end
+  pub limited : KeepsReadOrderAt system host up down end
   pub codes : (a c : ℕ) → a < system.agents → c ≤ end → IsPrefix (worded (placed_blocks system host a up c)) (worded (blocks_at (target_of system a) (down a) c))
   pub default_code : (c : ℕ) → c < end → IsTrue (is_high (up.answers.valid c)) → HasDefaultCode (up.answers.code c) (slice_get (asked_at system host up (suc c)) (length (words_at up c)))
   pub owed : AnswersAreOwed up end
@@ -231,11 +231,11 @@ IsWordForWord target up down end =
 
 -- any number of links in a row, of which one alone may not be word for word
 pub data IsPath (target : Target) (end : ℕ) : ℕ → Port → Port → Type 0 where
-  single : {hold : ℕ} {up down : Port} → IsLink target hold up down end → IsPath target end hold up down
+  single : {hold : ℕ} {up down : Port} → KeepsLinkLaw target hold up down end → IsPath target end hold up down
   above : {first rest : ℕ} {up middle down : Port} → pieces middle.shape down.shape * pieces up.shape middle.shape ≤ pieces up.shape down.shape →
-      IsLink target first up middle end → IsWordForWord target up middle end → IsPath target end rest middle down → IsPath target end (first + rest) up down
+      KeepsLinkLaw target first up middle end → IsWordForWord target up middle end → IsPath target end rest middle down → IsPath target end (first + rest) up down
   below : {rest last : ℕ} {up middle down : Port} → pieces middle.shape down.shape * pieces up.shape middle.shape ≤ pieces up.shape down.shape →
-      IsPath target end rest up middle → IsLink target last middle down end → IsWordForWord target middle down end → IsPath target end (rest + last) up down
+      IsPath target end rest up middle → KeepsLinkLaw target last middle down end → IsWordForWord target middle down end → IsPath target end (rest + last) up down
 
 -- ---- mm_arbiter
 

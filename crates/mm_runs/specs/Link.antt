@@ -172,7 +172,7 @@ pub record CarriesAnswers (target : Target) (up down : Port) (end : ℕ) : Type 
   pub owed : AnswersAreOwed up end
 
 -- the law of a link in one run: commands need the answers of earlier cycles alone to be owed
-pub record IsLink (target : Target) (hold : ℕ) (up down : Port) (end : ℕ) : Type 0 where
+pub record KeepsLinkLaw (target : Target) (hold : ℕ) (up down : Port) (end : ℕ) : Type 0 where
   pub commands : (c : ℕ) → c ≤ end → AreLegalAt up c → AnswersAreOwed down (c - 1) → CarriesCommands target hold up down c
   pub answers : (c : ℕ) → c ≤ end → AreLegalAt up c → AnswersAreOwed down c → CarriesAnswers target up down c
 

@@ -142,7 +142,7 @@ abbrev pub is_joined : System → ℕ → ℕ → Bool
 is_joined system agent host = list_any (nat_eq host) (system.joined agent)
 
 -- an agent's operations stand in each host's order, whole commands, with no beat too many
-pub record Ordered (system : System) (run : Run) (agent end : ℕ) : Type 0 where
+pub record ServesInGrantedOrder (system : System) (run : Run) (agent end : ℕ) : Type 0 where
   pub tags : (c : ℕ) → c < end → IsTrue (agent_accepts (system.agent agent) (run.at_agent agent) c) → IsTrue (is_joined system agent ((run.at_agent agent).grant c))
   pub in_order : (c host : ℕ) → c ≤ end → host < system.hosts → IsPrefix (of_host host (taken system run agent c)) (issued system run host agent (c - system.stages))
   pub together : (c : ℕ) → c ≤ end → IsTrue (are_together (owners_taken system run agent c))
@@ -221,8 +221,8 @@ IsWordOf system run host cycle number given (Some question) =
     given)
 
 -- every word that a host is given holds the answers to its operations. `number` words came before it
-abbrev pub Returned : System → Run → ℕ → ℕ → Type 0
-Returned system run host end =
+abbrev pub ReturnsInCommandOrder : System → Run → ℕ → ℕ → Type 0
+ReturnsInCommandOrder system run host end =
     (c : ℕ) → c < end → IsTrue (gives_word (system.host host) (run.at_host host) c) →
     IsWordOf system run host c (length (given (system.host host) (run.at_host host) c))
     (record { word = (run.at_host host).answer_word c; code = (run.at_host host).response c })
@@ -258,8 +258,8 @@ ActsAsMemory system run contents agent end =
     IsPrefix (map (λ a. a.byte) (answers system run agent c)) (bytes_read contents (map (λ t. t.operation) (taken system run agent c)))
 
 -- the limiter: when an agent takes a read of a host, the host has been given all earlier words for other places
-abbrev pub IsLimited : System → Run → ℕ → ℕ → ℕ → Type 0
-IsLimited system run host agent end =
+abbrev pub KeepsReadOrder : System → Run → ℕ → ℕ → ℕ → Type 0
+KeepsReadOrder system run host agent end =
     (c number : ℕ) → c < end → number < length (asked system run host (suc c)) →
     MatchOption (slice_get (asked system run host (suc c)) number) ⊤ (λ q. IsTrue (not (is_agent agent q.place))) →
     reads_for system host agent (take number (asked system run host (suc c))) < length (filter is_read (of_host host (taken system run agent (suc c)))) →

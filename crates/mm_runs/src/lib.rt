@@ -3,8 +3,6 @@
 
 mod plain;
 
-pub use plain::{BeatValue, ByteOperation, End, Transfer, filled_lanes, footprint, longest_burst, operations_of, own_operations};
-
 ghost use Rattle.std.specs.Prelude.{suc, ◌||◌, nat_lt, ◌≡◌, ◌<◌, ◌≤◌, ◌+◌, ◌-◌, ◌*◌, ◌∷◌, [], true, false, ℕ, Bool, List, Some, length, slice_get, IsTrue, ◌%◌, ◌^◌, flat_map};
 ghost use Rattle.histories.specs.History.{before, IsPrefix, numbers, is_high, unreached, AreWithin};
 ghost use Rattle.mm_runs.specs.Commands.{shows, accepted, presented, Burst, byte_address};
@@ -16,12 +14,17 @@ ghost use Rattle.mm_runs.specs.Machines.{Raw, raws, marked, idle, IsStageRun, po
 ghost use Rattle.mm_runs.specs.Operations.{Beat, pieces, own_operations, operations_of};
 ghost use Rattle.mm_runs.specs.Legal.{AreLegal, IsLegalHost};
 ghost use Rattle.mm_runs.specs.Order.{from_base, issued, taken, are_together, answers, Owner, is_same_owner};
-ghost use Rattle.mm_runs.specs.Link.{Target, Port, IsLink, AreLegalAt, AnswersAreOwed, items, CarriesCommands, HasRightBytes, HasRightCode, BeatsAreWithin, BeatsCover, words_at, shown_at, taken_at, sizes, operations_among, has_word_ready};
+ghost use Rattle.mm_runs.specs.Link.{Target, Port, KeepsLinkLaw, AreLegalAt, AnswersAreOwed, items, CarriesCommands, HasRightBytes, HasRightCode, BeatsAreWithin, BeatsCover, words_at, shown_at, taken_at, sizes, operations_among, has_word_ready};
 ghost use Rattle.mm_runs.specs.Straight.{GoesStraightThrough, IsShownPromptly};
 ghost use Rattle.mm_runs.specs.Gate.{IsGate};
 ghost use Rattle.mm_runs.specs.Register.{AreRegisters};
 ghost use Rattle.mm_runs.specs.Lines.{HostCarriesCommands, AreTaggedInOrder, AreOwedByTag, Inside, Holds, Wired, TaggedPort, IsPipeLine};
 ghost use Rattle.mm_runs.specs.Whole.{IsLegalRun, IsSafe};
+
+pub use plain::{
+    BeatValue, ByteOperation, End, Transfer, filled_lanes, footprint, longest_burst, operations_of,
+    own_operations,
+};
 
 /// Histories only grow, and a prefix of a legal run is legal.
 pub fn histories_grow()
@@ -32,13 +35,13 @@ pub fn histories_grow()
 
 /// Two links in a row are one link in all that is said of commands, and pass legality down and owed answers up.
 pub fn links_compose()
-    ensures commands { (target : Target) (first_hold second_hold : ℕ) (up middle down : Port) (end : ℕ) → IsLink target first_hold up middle end → IsLink target second_hold middle down end → pieces middle.shape down.shape * pieces up.shape middle.shape ≤ pieces up.shape down.shape → (c : ℕ) → c ≤ end → AreLegalAt up c → AnswersAreOwed down (c - 1) → CarriesCommands target (first_hold + second_hold) up down c }
-    ensures owed { (target : Target) (first_hold second_hold : ℕ) (up middle down : Port) (end : ℕ) → IsLink target first_hold up middle end → IsLink target second_hold middle down end → (c : ℕ) → c ≤ end → AreLegalAt up c → AnswersAreOwed down c → AnswersAreOwed up c }
+    ensures commands { (target : Target) (first_hold second_hold : ℕ) (up middle down : Port) (end : ℕ) → KeepsLinkLaw target first_hold up middle end → KeepsLinkLaw target second_hold middle down end → pieces middle.shape down.shape * pieces up.shape middle.shape ≤ pieces up.shape down.shape → (c : ℕ) → c ≤ end → AreLegalAt up c → AnswersAreOwed down (c - 1) → CarriesCommands target (first_hold + second_hold) up down c }
+    ensures owed { (target : Target) (first_hold second_hold : ℕ) (up middle down : Port) (end : ℕ) → KeepsLinkLaw target first_hold up middle end → KeepsLinkLaw target second_hold middle down end → (c : ℕ) → c ≤ end → AreLegalAt up c → AnswersAreOwed down c → AnswersAreOwed up c }
 {}
 
 /// Two links in a row bring back the right bytes.
 pub fn links_answer()
-    ensures { (target : Target) (first_hold second_hold : ℕ) (up middle down : Port) (end : ℕ) → IsLink target first_hold up middle end → IsLink target second_hold middle down end → AreLegalAt up end → AnswersAreOwed down end → (c : ℕ) → c < end → IsTrue (is_high (up.answers.valid c)) → HasRightBytes target up down (length (words_at up c)) c }
+    ensures { (target : Target) (first_hold second_hold : ℕ) (up middle down : Port) (end : ℕ) → KeepsLinkLaw target first_hold up middle end → KeepsLinkLaw target second_hold middle down end → AreLegalAt up end → AnswersAreOwed down end → (c : ℕ) → c < end → IsTrue (is_high (up.answers.valid c)) → HasRightBytes target up down (length (words_at up c)) c }
 {}
 
 /// At most one beat more is shown and not wholly taken than is accepted and not wholly taken.
@@ -58,7 +61,7 @@ pub fn own_is_split()
 
 /// A wire is a link that holds nothing.
 pub fn wire_is_a_link()
-    ensures { (target : Target) (port : Port) (end : ℕ) → 0 < port.shape.word_bytes → IsLink target 0 port port end }
+    ensures { (target : Target) (port : Port) (end : ℕ) → 0 < port.shape.word_bytes → KeepsLinkLaw target 0 port port end }
 {}
 
 /// What a legal side has accepted is the front of what it has presented.
@@ -74,8 +77,8 @@ pub fn wire_is_straight()
 
 /// Two links in a row give the right codes, where the read beats in the middle lie within those above, or within those below.
 pub fn links_code()
-    ensures falling { (target : Target) (first_hold second_hold : ℕ) (up middle down : Port) (end : ℕ) → IsLink target first_hold up middle end → IsLink target second_hold middle down end → AreLegalAt up end → AnswersAreOwed down end → BeatsAreWithin target up middle end → (c : ℕ) → c < end → IsTrue (is_high (up.answers.valid c)) → HasRightCode target up down (length (words_at up c)) c }
-    ensures rising { (target : Target) (first_hold second_hold : ℕ) (up middle down : Port) (end : ℕ) → IsLink target first_hold up middle end → IsLink target second_hold middle down end → AreLegalAt up end → AnswersAreOwed down end → BeatsCover target middle down end → (c : ℕ) → c < end → IsTrue (is_high (up.answers.valid c)) → HasRightCode target up down (length (words_at up c)) c }
+    ensures falling { (target : Target) (first_hold second_hold : ℕ) (up middle down : Port) (end : ℕ) → KeepsLinkLaw target first_hold up middle end → KeepsLinkLaw target second_hold middle down end → AreLegalAt up end → AnswersAreOwed down end → BeatsAreWithin target up middle end → (c : ℕ) → c < end → IsTrue (is_high (up.answers.valid c)) → HasRightCode target up down (length (words_at up c)) c }
+    ensures rising { (target : Target) (first_hold second_hold : ℕ) (up middle down : Port) (end : ℕ) → KeepsLinkLaw target first_hold up middle end → KeepsLinkLaw target second_hold middle down end → AreLegalAt up end → AnswersAreOwed down end → BeatsCover target middle down end → (c : ℕ) → c < end → IsTrue (is_high (up.answers.valid c)) → HasRightCode target up down (length (words_at up c)) c }
     ensures within { (target : Target) (up middle down : Port) (end : ℕ) → BeatsAreWithin target up middle end → BeatsAreWithin target middle down end → BeatsAreWithin target up down end }
 {}
 
@@ -135,7 +138,7 @@ pub fn register_falls()
 
 /// A stage with a queue and an answer register is a link that holds what its queue holds.
 pub fn stage_is_a_link()
-    ensures { (depth : ℕ) (shape : Shape) (uc dc : CommandView) (ua da : AnswerView) (queue : ℕ → List Raw) → IsStageRun depth (port_of shape uc ua) (port_of shape dc da) queue → (target : Target) (end : ℕ) → 0 < shape.word_bytes → IsLink target depth (port_of shape uc ua) (port_of shape dc da) end }
+    ensures { (depth : ℕ) (shape : Shape) (uc dc : CommandView) (ua da : AnswerView) (queue : ℕ → List Raw) → IsStageRun depth (port_of shape uc ua) (port_of shape dc da) queue → (target : Target) (end : ℕ) → 0 < shape.word_bytes → KeepsLinkLaw target depth (port_of shape uc ua) (port_of shape dc da) end }
 {}
 
 /// The transfers of a side are told by the list of beats that it has taken.

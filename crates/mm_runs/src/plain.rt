@@ -92,7 +92,13 @@ fn is_kept(all: bool, enables: u16, lane: u32) -> bool
 }
 
 /// Adds the lanes of a range that are enabled, or all of them.
-fn push_lanes(lanes: &mut Vec<u32>, first: u32, count: u32, enables: u16, all: bool) -> Result<(), AllocError>
+fn push_lanes(
+    lanes: &mut Vec<u32>,
+    first: u32,
+    count: u32,
+    enables: u16,
+    all: bool,
+) -> Result<(), AllocError>
     requires { first + count ≤ 16 }
     ensures ok { OnOk result (lanes.new.items ≡ lanes.old.items ++ lanes_of all enables (numbers first count)) }
     ensures small { OnOk result (All (λ lane. lane < 16) lanes.old.items → All (λ lane. lane < 16) lanes.new.items) }
@@ -160,7 +166,12 @@ fn operation(span: u64, beat: BeatValue, lane: u32) -> ByteOperation
 }
 
 /// The operations of these lanes of a beat.
-fn operations_at(alloc: Global, span: u64, beat: BeatValue, lanes: &[u32]) -> Result<Vec<ByteOperation>, AllocError>
+fn operations_at(
+    alloc: Global,
+    span: u64,
+    beat: BeatValue,
+    lanes: &[u32],
+) -> Result<Vec<ByteOperation>, AllocError>
     requires span { 0 < span }
     requires lanes { All (λ lane. lane < 16) lanes.now }
     requires address { beat.address + 16 < 2 ^ 64 }
@@ -174,7 +185,13 @@ fn operations_at(alloc: Global, span: u64, beat: BeatValue, lanes: &[u32]) -> Re
 }
 
 /// The byte operations of a beat of `from` at an agent with the words of `to`, whose span has so many bytes.
-pub fn operations_of(alloc: Global, from: End, to: End, span: u64, beat: BeatValue) -> Result<Vec<ByteOperation>, AllocError>
+pub fn operations_of(
+    alloc: Global,
+    from: End,
+    to: End,
+    span: u64,
+    beat: BeatValue,
+) -> Result<Vec<ByteOperation>, AllocError>
     requires some { 0 < from.word_bytes }
     requires words { 0 < to.word_bytes }
     requires small { from.word_bytes ≤ 16 }
@@ -187,7 +204,12 @@ pub fn operations_of(alloc: Global, from: End, to: End, span: u64, beat: BeatVal
 }
 
 /// The byte operations of a beat at an agent's own port: its enabled lanes.
-pub fn own_operations(alloc: Global, words: End, span: u64, beat: BeatValue) -> Result<Vec<ByteOperation>, AllocError>
+pub fn own_operations(
+    alloc: Global,
+    words: End,
+    span: u64,
+    beat: BeatValue,
+) -> Result<Vec<ByteOperation>, AllocError>
     requires small { words.word_bytes ≤ 16 }
     requires span { 0 < span }
     requires address { beat.address + 16 < 2 ^ 64 }
@@ -222,7 +244,7 @@ mod tests {
     /// A 32-bit host writes aabbccdd at 4 with the lanes 6 to an 8-bit agent: cc at 5, then bb at 6.
     #[test]
     fn two_enabled_bytes_are_two_writes(rt: HostRuntime) {
-        let operations = operations_of(rt.alloc(), WIDE, BYTES, 16, WRITE).unwrap();
+        let operations = operations_of(rt.alloc(), WIDE, BYTES, 16, WRITE).expect(&rt, "memory");
         let cc = ByteOperation::Write {
             offset: 5,
             byte: 0xcc,
@@ -241,7 +263,7 @@ mod tests {
             word_bytes: 2,
             has_enables: false,
         };
-        let lanes = filled_lanes(rt.alloc(), WIDE, pairs, 4).unwrap();
+        let lanes = filled_lanes(rt.alloc(), WIDE, pairs, 4).expect(&rt, "memory");
         assert_eq!(rt; lanes.as_slice(), [2, 3].as_slice());
     }
 
@@ -258,8 +280,11 @@ mod tests {
             word: 0,
             enables: 0x20,
         };
-        let operations = own_operations(rt.alloc(), words, 256, read).unwrap();
-        assert_eq!(rt; operations.as_slice(), [ByteOperation::Read { offset: 5 }].as_slice());
+        let operations = own_operations(rt.alloc(), words, 256, read).expect(&rt, "memory");
+        assert_eq!(rt;
+            operations.as_slice(),
+            [ByteOperation::Read { offset: 5 }].as_slice()
+        );
     }
 
     #[test]

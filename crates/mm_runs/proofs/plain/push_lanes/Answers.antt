@@ -19,9 +19,9 @@ loop-lane-preserved c =
     let next : c.loop-lane.lane + 1 ≡ suc c.loop-lane.lane = omega arith in
     record {
       joins = ap (λ l. l ++ lanes_of c.args.all c.args.enables (numbers (c.loop-lane.lane + 1) k)) (c.in_ok-push_if.ensures.ok ∙ ap (λ b. items ++ only_if b c.loop-lane.lane) c.is_kept.ensures)
-    ∙ ap (λ x. (items ++ only_if (c.args.all || is_enabled c.args.enables c.loop-lane.lane) c.loop-lane.lane) ++ lanes_of c.args.all c.args.enables (numbers x k)) next
-    ∙ lane_more c.args.all c.args.enables items c.loop-lane.lane k
-    ∙ ap (λ n. items ++ lanes_of c.args.all c.args.enables (numbers c.loop-lane.lane n)) (sym left) ∙ c.loop-lane.invariant.joins;
+          ∙ ap (λ x. (items ++ only_if (c.args.all || is_enabled c.args.enables c.loop-lane.lane) c.loop-lane.lane) ++ lanes_of c.args.all c.args.enables (numbers x k)) next
+          ∙ lane_more c.args.all c.args.enables items c.loop-lane.lane k
+          ∙ ap (λ n. items ++ lanes_of c.args.all c.args.enables (numbers c.loop-lane.lane n)) (sym left) ∙ c.loop-lane.invariant.joins;
       small = λ h. c.in_ok-push_if.ensures.small (omega (arith, less, c.requires)) (c.loop-lane.invariant.small h);
     }
 
