@@ -18,5 +18,6 @@ pub mod Moment
 pub mod Register
 pub mod Gate
 pub mod Shorter
+pub mod ShorterRuns
 pub mod Machines
 pub mod Values

@@ -13,7 +13,8 @@ ghost use Rattle.mm_runs.specs.Views.{Responses, System, Run, Shape, Signals, Co
 ghost use Rattle.mm_runs.specs.Machines.{Raw, raws, marked, idle, IsStageRun, port_of, IsFitBeat, burst_past, Expands, IsExpanderRun, split_parts, piece_of, owing_rank, select_of, select_parts};
 ghost use Rattle.mm_runs.specs.Operations.{Beat, pieces, own_operations, operations_of};
 ghost use Rattle.mm_runs.specs.Legal.{AreLegal, IsLegalHost};
-ghost use Rattle.mm_runs.specs.Order.{from_base, issued, taken, are_together, answers, Owner, is_same_owner};
+ghost use Rattle.mm_runs.specs.Awake.{NeverIdles, IsFair};
+ghost use Rattle.mm_runs.specs.Order.{ActsAsMemory, ReadsFromMemory, ReturnsInCommandOrder, from_base, issued, taken, are_together, answers, Owner, is_same_owner};
 ghost use Rattle.mm_runs.specs.Link.{Target, Port, KeepsLinkLaw, AreLegalAt, AnswersAreOwed, items, CarriesCommands, HasRightBytes, HasRightCode, BeatsAreWithin, BeatsCover, words_at, shown_at, taken_at, sizes, operations_among, has_word_ready};
 ghost use Rattle.mm_runs.specs.Straight.{GoesStraightThrough, IsShownPromptly};
 ghost use Rattle.mm_runs.specs.Gate.{IsGate};
@@ -31,6 +32,19 @@ pub fn histories_grow()
     ensures issued { (system : System) (run : Run) (host agent c d : ℕ) → c ≤ d → IsPrefix (issued system run host agent c) (issued system run host agent d) }
     ensures taken { (system : System) (run : Run) (agent c d : ℕ) → c ≤ d → IsPrefix (taken system run agent c) (taken system run agent d) }
     ensures legal { (shape : Shape) (signals : Signals) (accepts : ℕ → Bool) (shorter end : ℕ) → shorter ≤ end → AreLegal shape signals accepts end → AreLegal shape signals accepts shorter }
+{}
+
+/// What is asked of a run and what is promised of it holds of a shorter run.
+pub fn shorter_runs()
+    ensures legal { (shorter end : ℕ) → shorter ≤ end → (system : System) (run : Run) → IsLegalRun system run end → IsLegalRun system run shorter }
+    ensures safe { (shorter end : ℕ) → shorter ≤ end → (responses : Responses) (system : System) (run : Run) → IsSafe responses system run end → IsSafe responses system run shorter }
+    ensures awake { (shorter end : ℕ) → shorter ≤ end → (system : System) (run : Run) → NeverIdles system run end → NeverIdles system run shorter }
+    ensures fair { (shorter end : ℕ) → shorter ≤ end → (system : System) (run : Run) → IsFair system run end → IsFair system run shorter }
+{}
+
+/// Where an agent acts as memory, every byte that a host is given from it is what the writes before its read have left.
+pub fn memory_is_read_back()
+    ensures { (system : System) (run : Run) (agent : ℕ) (contents : ℕ → ℕ) (end host : ℕ) → ActsAsMemory system run contents agent end → ReturnsInCommandOrder system run host end → ReadsFromMemory system run host agent contents end }
 {}
 
 /// Two links in a row are one link in all that is said of commands, and pass legality down and owed answers up.

@@ -1,0 +1,14 @@
+use Rattle.mm_runs.specs.ShorterRuns.{legal_run_before, safe_before, awake_before, fair_before}
+use Rattle.mm_runs.proofs.shorter_runs.Goals as goal
+
+pub returns-clause-legal : goal.returns-clause-legal
+returns-clause-legal c = legal_run_before
+
+pub returns-clause-safe : goal.returns-clause-safe
+returns-clause-safe c = safe_before
+
+pub returns-clause-awake : goal.returns-clause-awake
+returns-clause-awake c = awake_before
+
+pub returns-clause-fair : goal.returns-clause-fair
+returns-clause-fair c = fair_before
