@@ -27,10 +27,11 @@ pub record IsPlan (system : System) : Type 0 where
   pub hosts : (h : ℕ) → h < system.hosts → IsShape (system.host h).shape
   pub agents : (a : ℕ) → a < system.agents → IsShape (system.agent a).shape
   pub plain : (h : ℕ) → h < system.hosts → IsFalse (system.host h).has_burst → (system.host h).burst_bits ≡ 1
+  pub plain_agent : (a : ℕ) → a < system.agents → IsFalse (system.agent a).has_burst → (system.agent a).burst_bits ≡ 1
   -- the bound on unanswered reads: an absent property and 0 count as 1
   pub pending : (a : ℕ) → a < system.agents → 1 ≤ (system.agent a).pending
   -- an agent with a fixed latency has no bursts, so a read command asks for one word
-  pub fixed : (a : ℕ) → a < system.agents → IsFalse (system.agent a).has_valid → (system.agent a).burst_bits ≡ 1
+  pub fixed : (a : ℕ) → a < system.agents → IsFalse (system.agent a).has_valid → IsFalse (system.agent a).has_burst
   -- a span is a power of two words or units, at least one word
   pub span : (a : ℕ) → a < system.agents → (bits : ℕ) × ((system.agent a).span ≡ 2 ^ bits) × ((system.agent a).word_bytes ≤ (system.agent a).span)
   pub joined : (a h : ℕ) → IsTrue (is_joined system a h) → h < system.hosts
@@ -52,6 +53,6 @@ pub record FitsPorts (shape : Shape) (has_burst : Bool) (signals : Signals) : Ty
 pub record AreViews (system : System) (run : Run) : Type 0 where
   pub hosts : (h : ℕ) → h < system.hosts → FitsPorts (system.host h).shape (system.host h).has_burst (run.at_host h).signals
   pub no_response : (h c : ℕ) → h < system.hosts → IsFalse (system.host h).has_response → (run.at_host h).response c ≡ 0
-  pub enables : (a c : ℕ) → a < system.agents → (run.at_agent a).enables c < 2 ^ (system.agent a).word_bytes
+  pub agents : (a : ℕ) → a < system.agents → FitsPorts (system.agent a).shape (system.agent a).has_burst (run.at_agent a).signals
   pub no_wait : (a c : ℕ) → a < system.agents → IsFalse (system.agent a).has_wait → (run.at_agent a).wait c ≡ 0
   pub no_code : (a c : ℕ) → a < system.agents → IsFalse (system.agent a).has_response → (run.at_agent a).response c ≡ 0
