@@ -14,3 +14,6 @@ pub use exit::{Exit, ScriptRule};
 pub use form::{Component, Direction, End, Wire};
 pub use line::Line;
 pub use words::{Task, read_words};
+
+#[cfg(test)]
+mod tests;
