@@ -3,10 +3,14 @@ use av_base::{Bytes, List, MemShelf, MemSink, Place};
 use std::alloc::{AllocError, Global};
 use std::test::Fail;
 
-const SYSTEM: &[u8] =
-    b"create_system one\nadd_instance gen gen\nadd_instance chk chk\nadd_connection gen.out chk.st\n";
+// No clause says what these texts are: proofs of the tests read none of their bytes.
 
-const SOURCE: &[u8] = b"package require -exact qsys 16.0
+fn system() -> &'static [u8] {
+    b"create_system one\nadd_instance gen gen\nadd_instance chk chk\nadd_connection gen.out chk.st\n"
+}
+
+fn source() -> &'static [u8] {
+    b"package require -exact qsys 16.0
 set_module_property NAME gen
 add_interface out avalon_streaming start
 add_interface_port out o_ready ready Input 1
@@ -14,18 +18,22 @@ add_interface_port out o_valid valid Output 1
 add_interface_port out o_data data Output 8
 add_interface_port out o_sop startofpacket Output 1
 add_interface_port out o_eop endofpacket Output 1
-";
+"
+}
 
-const SINK: &[u8] = b"set_module_property NAME chk
+fn sink_component() -> &'static [u8] {
+    b"set_module_property NAME chk
 add_interface st avalon_streaming end
 add_interface_port st i_ready ready Output 1
 add_interface_port st i_valid valid Input 1
 add_interface_port st i_data data Input 8
 add_interface_port st i_sop startofpacket Input 1
 add_interface_port st i_eop endofpacket Input 1
-";
+"
+}
 
-const TEXT: &[u8] = b"module one_interconnect (
+fn wire_text() -> &'static [u8] {
+    b"module one_interconnect (
   input wire clk,
   input wire reset,
   output wire [0:0] gen$out$ready,
@@ -53,10 +61,12 @@ const TEXT: &[u8] = b"module one_interconnect (
   assign chk$st$endofpacket = n3;
   assign chk$st$dropped = n5;
 endmodule
-";
+"
+}
 
-const USAGE: &[u8] =
-    b"usage: generate|check SYSTEM COMPONENT.. | simulate SYSTEM SCENARIO COMPONENT.. | replay VERILOG WAVES | campaign NUMBER SYSTEM COMPONENT.. | workload NUMBER\n";
+fn usage() -> &'static [u8] {
+    b"usage: generate|check SYSTEM COMPONENT.. | simulate SYSTEM SCENARIO COMPONENT.. | replay VERILOG WAVES | campaign NUMBER SYSTEM COMPONENT.. | workload NUMBER\n"
+}
 
 fn words_of(alloc: Global, texts: &[&str]) -> Result<Vec<String>, AllocError> {
     let mut words = Vec::new(alloc);
@@ -103,18 +113,21 @@ const THREE: [&str; 4] = ["generate", "one.tcl", "gen.tcl", "chk.tcl"];
 
 #[test]
 fn generates_the_wire_of_either_order(rt: HostRuntime) -> Result<(), Fail> {
-    for files in [[SYSTEM, SOURCE, SINK], [SYSTEM, SINK, SOURCE]] {
+    for files in [
+        [system(), source(), sink_component()],
+        [system(), sink_component(), source()],
+    ] {
         let (exit, sink) = answer(rt.alloc(), &THREE, &files)?;
         assert_eq!(rt; exit, Exit::Done);
         assert_eq!(rt; exit.status(), 0);
-        assert_eq!(rt; sink.bytes(), TEXT);
+        assert_eq!(rt; sink.bytes(), wire_text());
     }
     Ok(())
 }
 
-#[test]
-fn reads_words_by_the_table(rt: HostRuntime) -> Result<(), Fail> {
-    let table: [(&[&str], bool); 13] = [
+/// Words, and whether they have a reading.
+fn tried_words() -> [(&'static [&'static str], bool); 13] {
+    [
         (&[], false),
         (&["generate"], false),
         (&["generate", "a"], true),
@@ -128,15 +141,19 @@ fn reads_words_by_the_table(rt: HostRuntime) -> Result<(), Fail> {
         (&["replay", "a", "b"], false),
         (&["workload", "01"], false),
         (&["campaign", "5", "a"], false),
-    ];
-    for (texts, reads) in table {
+    ]
+}
+
+#[test]
+fn reads_words_by_the_table(rt: HostRuntime) -> Result<(), Fail> {
+    for (texts, reads) in tried_words() {
         let words = words_of(rt.alloc(), texts)?;
         assert_eq!(rt; read_words(words.as_slice()).is_some(), reads, "{texts:?}");
         if !reads {
             let (exit, sink) = answer(rt.alloc(), texts, &[])?;
             assert_eq!(rt; exit, Exit::Usage);
             assert_eq!(rt; exit.status(), 2);
-            assert_eq!(rt; sink.bytes(), USAGE);
+            assert_eq!(rt; sink.bytes(), usage());
         }
     }
     Ok(())
@@ -150,33 +167,40 @@ fn changed(alloc: Global, text: &[u8], old: &str, new: &str) -> Result<Bytes, Fa
 }
 
 /// Which file a change makes one that isn't built: its place among the files, what it has, and what it is to have.
-const CHANGES: [(usize, &str, &str, u32); 14] = [
-    (0, "create_system one", "create_system 1one", 1),
-    (0, "add_instance chk chk", "add_instance gen chk", 1),
-    (0, "gen.out chk.st", "chk.st gen.out", 1),
-    (0, "gen.out", "gen.in", 1),
-    (0, "create_system one\n", "create_system {one}\n", 1),
-    (0, "chk.st\n", "chk.st\nsave_system\n", 1),
-    (1, "NAME gen", "NAME chk", 1),
-    (1, "NAME gen", "NAME 9gen", 2),
-    (1, "data Output 8", "data Output 16", 2),
-    (1, "o_eop", "o-eop", 2),
-    (1, "avalon_streaming start", "avalon_streaming source", 2),
-    (1, "16.0", "16.0;", 2),
-    (2, "ready Output 1", "ready Input 1", 3),
-    (2, "set_module_property NAME chk\n", "", 3),
-];
+fn changes() -> [(usize, &str, &str, u32); 14] {
+    [
+        (0, "create_system one", "create_system 1one", 1),
+        (0, "add_instance chk chk", "add_instance gen chk", 1),
+        (0, "gen.out chk.st", "chk.st gen.out", 1),
+        (0, "gen.out", "gen.in", 1),
+        (0, "create_system one\n", "create_system {one}\n", 1),
+        (0, "chk.st\n", "chk.st\nsave_system\n", 1),
+        (1, "NAME gen", "NAME chk", 1),
+        (1, "NAME gen", "NAME 9gen", 2),
+        (1, "data Output 8", "data Output 16", 2),
+        (1, "o_eop", "o-eop", 2),
+        (1, "avalon_streaming start", "avalon_streaming source", 2),
+        (1, "16.0", "16.0;", 2),
+        (2, "ready Output 1", "ready Input 1", 3),
+        (2, "set_module_property NAME chk\n", "", 3),
+    ]
+}
 
 #[test]
 fn names_the_first_file_that_is_not_built(rt: HostRuntime) -> Result<(), Fail> {
     let alloc = rt.alloc();
-    for (place, old, new, file) in CHANGES {
-        let texts = [SYSTEM, SOURCE, SINK];
-        let text = changed(alloc, texts.get(place).copied().unwrap_or(SYSTEM), old, new)?;
+    for (place, old, new, file) in changes() {
+        let texts = [system(), source(), sink_component()];
+        let text = changed(
+            alloc,
+            texts.get(place).copied().unwrap_or(system()),
+            old,
+            new,
+        )?;
         let files = match place {
-            0 => [text.as_slice(), SOURCE, SINK],
-            1 => [SYSTEM, text.as_slice(), SINK],
-            _ => [SYSTEM, SOURCE, text.as_slice()],
+            0 => [text.as_slice(), source(), sink_component()],
+            1 => [system(), text.as_slice(), sink_component()],
+            _ => [system(), source(), text.as_slice()],
         };
         let (exit, sink) = answer(alloc, &THREE, &files)?;
         let place = Place {
@@ -195,8 +219,8 @@ fn names_the_first_file_that_is_not_built(rt: HostRuntime) -> Result<(), Fail> {
 #[test]
 fn builds_two_components_and_no_more(rt: HostRuntime) -> Result<(), Fail> {
     let alloc = rt.alloc();
-    let second = changed(alloc, SOURCE, "NAME gen", "NAME gen2")?;
-    let files = [SYSTEM, SOURCE, SINK, second.as_slice()];
+    let second = changed(alloc, source(), "NAME gen", "NAME gen2")?;
+    let files = [system(), source(), sink_component(), second.as_slice()];
     let words = ["generate", "one.tcl", "gen.tcl", "chk.tcl", "gen2.tcl"];
     let (exit, sink) = answer(alloc, &words, &files)?;
     assert_eq!(rt; exit.status(), 5);
@@ -204,7 +228,7 @@ fn builds_two_components_and_no_more(rt: HostRuntime) -> Result<(), Fail> {
         sink.bytes(),
         b"script refused: file 1 line 1 byte 0 rule C21\n".as_slice()
     );
-    let (exit, _) = answer(alloc, &["generate", "one.tcl"], &[SYSTEM])?;
+    let (exit, _) = answer(alloc, &["generate", "one.tcl"], &[system()])?;
     assert_eq!(rt; exit.status(), 5);
     Ok(())
 }
@@ -255,7 +279,7 @@ fn names_the_file_of_each_call_that_fails(rt: HostRuntime) -> Result<(), Fail> {
     let words = words_of(alloc, &THREE)?;
     // Each file takes two calls: one that gives its bytes, and one that finds its end.
     for (call, file) in [(0, 1), (1, 1), (2, 2), (3, 2), (4, 3), (5, 3)] {
-        let files = files_of(alloc, &[SYSTEM, SOURCE, SINK])?;
+        let files = files_of(alloc, &[system(), source(), sink_component()])?;
         let mut shelf = MemShelf::new(files, numbers_of(alloc, &[call])?);
         let mut sink = MemSink::new(alloc, 2000, List::new(alloc))?;
         let exit = run(alloc, words.as_slice(), &mut shelf, &mut sink);
@@ -272,14 +296,14 @@ fn leaves_a_prefix_where_the_sink_fails(rt: HostRuntime) -> Result<(), Fail> {
     let alloc = rt.alloc();
     let words = words_of(alloc, &THREE)?;
     for (failing, room, held) in [(0, 2000, 0), (9, 100, 100), (9, 0, 0)] {
-        let files = files_of(alloc, &[SYSTEM, SOURCE, SINK])?;
+        let files = files_of(alloc, &[system(), source(), sink_component()])?;
         let mut shelf = MemShelf::new(files, List::new(alloc));
         let mut sink = MemSink::new(alloc, room, numbers_of(alloc, &[failing])?)?;
         let exit = run(alloc, words.as_slice(), &mut shelf, &mut sink);
         assert_eq!(rt; exit, Exit::WriteFault, "room {room}");
         assert_eq!(rt; exit.status(), 4);
         assert_eq!(rt; sink.bytes().len(), held);
-        assert!(rt; TEXT.starts_with(sink.bytes()));
+        assert!(rt; wire_text().starts_with(sink.bytes()));
     }
     let mut shelf = MemShelf::new(List::new(alloc), List::new(alloc));
     let mut sink = MemSink::new(alloc, 10, List::new(alloc))?;
