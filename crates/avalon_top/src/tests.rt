@@ -167,7 +167,7 @@ fn changed(alloc: Global, text: &[u8], old: &str, new: &str) -> Result<Bytes, Fa
 }
 
 /// Which file a change makes one that isn't built: its place among the files, what it has, and what it is to have.
-fn changes() -> [(usize, &str, &str, u32); 14] {
+fn changes() -> [(usize, &'static str, &'static str, u32); 14] {
     [
         (0, "create_system one", "create_system 1one", 1),
         (0, "add_instance chk chk", "add_instance gen chk", 1),
