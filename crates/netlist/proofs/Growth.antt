@@ -1,5 +1,5 @@
 -- What a builder's steps keep: that the netlist is well made, and all that stood there.
-use Rattle.std.proofs.Common.{◌≡◌, ℕ, zero, suc, ◌+◌, ◌^◌, ◌<◌, ◌≤◌, List, [], ◌∷◌, ◌++◌, length, slice_get, get_or, false, not, Option, Some, None, refl, sym, subst, ap, ◌∙◌, arith, append_assoc, append-nil, length-append, ◌⊎◌, inl, inr}
+use Rattle.std.proofs.Common.{◌≡◌, ℕ, zero, suc, ◌+◌, ◌^◌, ◌<◌, ◌≤◌, List, [], ◌∷◌, ◌++◌, length, slice_get, get_or, false, Option, Some, None, refl, sym, subst, ap, ◌∙◌, arith, length-append, ◌⊎◌, inl, inr}
 use Rattle.std.specs.Prelude.{IfSome}
 use Rattle.std.proofs.Math.ListN.{length-set}
 use Rattle.std.proofs.lemmas.Option.{get_or_from_slice_get}
@@ -10,7 +10,7 @@ use Rattle.netlist.specs.declared.line.Equation.TheVariants.{Input, Constant}
 use Rattle.netlist.specs.Netlists.{Netlist, line_of, width_at, HasWidth, driver_of, IsInputPort, IsOutputPort, input_count, input_net, input_lines, is_input, IsSound, IsSoundLine, IsHeader, BeginsWithInputs, IsDriver, IsWellMade, started, appended, with_driver}
 use Rattle.netlist.specs.Runs.{Run, Cycle, cycle_of, value_of, NetHolds, IsValuation, IsRun, reset_of, next_of, Always}
 use Rattle.netlist.specs.Longer.{IsKept, Keeps, Extends}
-use Rattle.netlist.proofs.Lists.{slice_get-front, slice_get-last, slice_get-newly, slice_get-within, slice_get-some, width_at-line, width_at-is, list_all-push, driver-newly, driver-kept}
+use Rattle.netlist.proofs.Lists.{slice_get-front, slice_get-last, slice_get-newly, slice_get-within, slice_get-some, width_at-line, width_at-is, driver-newly, driver-kept}
 use Rattle.netlist.proofs.Inputs.{length-input_lines, input_lines-at, IsOfInput, input_lines-from, All-slice_get, undriven-at, length-undriven}
 
 pub width-front : (lines more : List Line) (n w : ℕ) → width_at lines n ≡ Some w → width_at (lines ++ more) n ≡ Some w
@@ -20,33 +20,35 @@ width-front lines more n w e =
     let at : slice_get (lines ++ more) n ≡ Some line = slice_get-front lines more n line l.1 in
     width_at-is (lines ++ more) n line at ∙ ap Some l.2
 
-pub width-last : (lines : List Line) (w : ℕ) (e : Equation) → width_at (lines ++ line_of w e ∷ []) (length lines) ≡ Some w
-width-last lines w e = width_at-is (lines ++ line_of w e ∷ []) (length lines) (line_of w e) (slice_get-last lines (line_of w e))
+pub width-last : (lines : List Line) (line : Line) → width_at (lines ++ line ∷ []) (length lines) ≡ Some line.width
+width-last lines line = width_at-is (lines ++ line ∷ []) (length lines) line (slice_get-last lines line)
 
 -- an equation asks no more of a longer list
-IsSound-appended : (b : Netlist) (l : Line) (n w : ℕ) (e : Equation) → IsSound b n w e → IsSound (appended b l.width l.equation) n w e
-IsSound-appended b l n w (Input port) h = h
-IsSound-appended b l n w (Constant value) h = h
+IsSound-front : (ports : List PortLine) (lines more : List Line) (n w : ℕ) (e : Equation) → IsSound ports lines n w e → IsSound ports (lines ++ more) n w e
+IsSound-front ports lines more n w (Input port) h = h
+IsSound-front ports lines more n w (Constant value) h = h
 
-IsSoundLine-appended : (b : Netlist) (l : Line) (n : ℕ) (line : Line) → IsSoundLine b n line → IsSoundLine (appended b l.width l.equation) n line
-IsSoundLine-appended b l n line h =
-    record { some_bit = h.some_bit; small = h.small; equation = IsSound-appended b l n line.width line.equation h.equation }
+IsSoundLine-front : (ports : List PortLine) (lines more : List Line) (n : ℕ) (line : Line) → IsSoundLine ports lines n line → IsSoundLine ports (lines ++ more) n line
+IsSoundLine-front ports lines more n line h =
+    record { some_bit = h.some_bit; small = h.small; equation = IsSound-front ports lines more n line.width line.equation h.equation }
 
 BeginsWithInputs-push : (ports : List PortLine) (lines : List Line) (l : Line) → is_input l.equation ≡ false → BeginsWithInputs ports lines → BeginsWithInputs ports (lines ++ l ∷ [])
 BeginsWithInputs-push ports lines l e h = record {
-  computed = h.computed ++ l ∷ [];
-  split = ap (λ t. t ++ l ∷ []) h.split ∙ append_assoc (input_lines 0 ports) h.computed (l ∷ []);
-  others = list_all-push (λ (line : Line). not (is_input line.equation)) h.computed l h.others (rw e refl);
+  first = λ n line at. slice_get-front lines (l ∷ []) n line (h.first n line at);
+  no_others = λ n line at i. elim (slice_get-newly lines l line n at) [
+    | inl o ↦ h.no_others n line o i
+    | inr o ↦ absurd (let same : is_input l.equation ≡ is_input line.equation = ap (λ (x : Line). is_input x.equation) o.1 in cc)
+  ];
 }
 
-pub IsWellMade-appended : (b : Netlist) (w : ℕ) (e : Equation) → IsWellMade b → length b.lines < 2 ^ 20 → IsSoundLine b (length b.lines) (line_of w e) → is_input e ≡ false → IsWellMade (appended b w e)
-IsWellMade-appended b w e h few sound computed = record {
+pub IsWellMade-appended : (b : Netlist) (l : Line) → IsWellMade b → length b.lines < 2 ^ 20 → IsSoundLine b.ports b.lines (length b.lines) l → is_input l.equation ≡ false → IsWellMade (appended b l)
+IsWellMade-appended b l h few sound computed = record {
   header = h.header;
-  few = (let k = length-append b.lines (line_of w e ∷ []) in omega arith);
-  inputs = BeginsWithInputs-push b.ports b.lines (line_of w e) computed h.inputs;
-  lines = λ n line at. elim (slice_get-newly b.lines (line_of w e) line n at) [
-    | inl o ↦ IsSoundLine-appended b (line_of w e) n line (h.lines n line o)
-    | inr o ↦ rw (o.0, ← o.1) (IsSoundLine-appended b (line_of w e) (length b.lines) (line_of w e) sound)
+  few = (let k = length-append b.lines (l ∷ []) in omega arith);
+  inputs = BeginsWithInputs-push b.ports b.lines l computed h.inputs;
+  lines = λ n line at. elim (slice_get-newly b.lines l line n at) [
+    | inl o ↦ IsSoundLine-front b.ports b.lines (l ∷ []) n line (h.lines n line o)
+    | inr o ↦ rw (o.0, ← o.1) (IsSoundLine-front b.ports b.lines (l ∷ []) (length b.lines) l sound)
   ];
   places = h.places;
   drivers = λ k n d. (let i = h.drivers k n d in record { width = i.width; port = i.port; net = width-front b.lines _ n i.width i.net });
@@ -56,12 +58,12 @@ IsWellMade-appended b w e h few sound computed = record {
 port_width : (name : List ℕ) (ports : List PortLine) (k : ℕ) (port : PortLine) → IsHeader name ports → slice_get ports k ≡ Some port → (1 ≤ port.width) × (port.width ≤ 128)
 port_width name ports k port h e = All-slice_get (λ (p : PortLine). (1 ≤ p.width) × (p.width ≤ 128)) ports k port h.widths e
 
-IsSoundLine-input : (name : List ℕ) (ports : List PortLine) (n : ℕ) (line : Line) → IsHeader name ports → IsOfInput ports 0 line → IsSoundLine (started name ports) n line
+IsSoundLine-input : (name : List ℕ) (ports : List PortLine) (n : ℕ) (line : Line) → IsHeader name ports → IsOfInput ports 0 line → IsSoundLine ports (input_lines 0 ports) n line
 IsSoundLine-input name ports n line h i =
     let z : 0 + i.port ≡ i.port = omega arith in
     let ws = port_width name ports i.port i.input.port h i.input.is in
     let v : i.input.port.width ≡ i.width = i.input.width in
-    let made : IsSoundLine (started name ports) n (line_of i.width (Input (0 + i.port))) = record {
+    let made : IsSoundLine ports (input_lines 0 ports) n (line_of i.width (Input (0 + i.port))) = record {
       some_bit = omega (arith, ws.0, v);
       small = omega (arith, ws.1, v);
       equation = rw z i.input;
@@ -72,7 +74,7 @@ pub IsWellMade-started : (name : List ℕ) (ports : List PortLine) → IsHeader 
 IsWellMade-started name ports h few = record {
   header = h;
   few = rw length-input_lines few;
-  inputs = record { computed = []; split = sym (append-nil (input_lines 0 ports)); others = refl };
+  inputs = record { first = λ n line at. at; no_others = λ n line at i. at };
   lines = λ n line at. IsSoundLine-input name ports n line h (input_lines-from ports 0 n line at);
   places = length-undriven ports;
   drivers = λ k n d. absurd (undriven-at ports k n d);
@@ -86,16 +88,13 @@ IsWellMade-with_driver b k n h d = record {
   header = h.header;
   few = h.few;
   inputs = h.inputs;
-  lines = λ m line at. (let i = h.lines m line at in record { some_bit = i.some_bit; small = i.small; equation = same_lines m line.width line.equation i.equation });
+  lines = h.lines;
   places = length-set b.drivers k (Some n) ∙ h.places;
   drivers = λ j m e. elim (driver-newly b.drivers k n j m e) [
     | inl o ↦ (let i = h.drivers j m o in record { width = i.width; port = i.port; net = i.net })
     | inr o ↦ rw (o.0, ← o.1) (record { width = d.width; port = d.port; net = d.net })
   ];
-} where
-  same_lines : (m w : ℕ) (e : Equation) → IsSound b m w e → IsSound (with_driver b k n) m w e
-  same_lines m w (Input port) s = s
-  same_lines m w (Constant value) s = s
+}
 
 -- what a longer list keeps of a line
 kept_width : (line later : Line) → IsKept line later → later.width ≡ line.width
@@ -167,16 +166,16 @@ Keeps-chain a b c p q = record {
   kept_twice : (x y z : Line) → IsKept x y → IsKept y z → IsKept x z
   kept_twice x y z e f = f ∙ e
 
-Keeps-appended : (b : Netlist) (w : ℕ) (e : Equation) → Keeps b (appended b w e)
-Keeps-appended b w e = record {
+Keeps-appended : (b : Netlist) (l : Line) → Keeps b (appended b l)
+Keeps-appended b l = record {
   name = refl;
   ports = refl;
   lines = λ n line at. record { later = line; is = slice_get-front b.lines _ n line at; kept = refl };
   drivers = λ k n d. d;
 }
 
-pub Extends-appended : (b : Netlist) (w : ℕ) (e : Equation) → Extends b (appended b w e)
-Extends-appended b w e = Extends-keeps b (appended b w e) (Keeps-appended b w e)
+pub Extends-appended : (b : Netlist) (l : Line) → Extends b (appended b l)
+Extends-appended b l = Extends-keeps b (appended b l) (Keeps-appended b l)
 
 Keeps-with_driver : (b : Netlist) (k n : ℕ) → driver_of b k ≡ None → Keeps b (with_driver b k n)
 Keeps-with_driver b k n u = record {
@@ -193,19 +192,19 @@ pub Extends-same : (b b' : Netlist) → b' ≡ b → Extends b b'
 Extends-same b b' e = rw e (Extends-keeps b b (record { name = refl; ports = refl; lines = λ n line at. record { later = line; is = at; kept = refl }; drivers = λ k n d. d }))
 
 -- what a new line says in each run
-pub Always-appended : (b : Netlist) (w : ℕ) (e : Equation) → Always (appended b w e) (λ run c. NetHolds (appended b w e).lines (cycle_of run c) (length b.lines) (line_of w e))
-Always-appended b w e run cycles r c h = (r.valuations c h).nets (length b.lines) (line_of w e) (slice_get-last b.lines (line_of w e))
+pub Always-appended : (b : Netlist) (l : Line) → Always (appended b l) (λ run c. NetHolds (appended b l).lines (cycle_of run c) (length b.lines) l)
+Always-appended b l run cycles r c h = (r.valuations c h).nets (length b.lines) l (slice_get-last b.lines l)
 
 -- an input port's net
 pub input_line : (b : Netlist) (k w : ℕ) → IsWellMade b → IsInputPort b.ports k w → slice_get b.lines (input_net b.ports k) ≡ Some (line_of w (Input k))
 input_line b k w h i =
     let z : 0 + k ≡ k = omega arith in
     let at = rw z at (input_lines-at b.ports 0 k w i) in
-    rw h.inputs.split (slice_get-front (input_lines 0 b.ports) h.inputs.computed (input_net b.ports k) (line_of w (Input k)) at)
+    h.inputs.first (input_net b.ports k) (line_of w (Input k)) at
 
 -- the fields of a builder with one more line, and with one more driver
-pub pushed : (b now : Netlist) (lines : List Line) (w : ℕ) (e : Equation) → b ≡ now → lines ≡ b.lines ++ line_of w e ∷ [] → record b { lines = lines } ≡ appended now w e
-pushed b now lines w e v p = rw (p, ← v) refl
+pub pushed : (b now : Netlist) (lines : List Line) (l : Line) → b ≡ now → lines ≡ b.lines ++ l ∷ [] → record b { lines = lines } ≡ appended now l
+pushed b now lines l v p = rw (p, ← v) refl
 
 pub input_width : (b : Netlist) (k w n : ℕ) → IsWellMade b → n ≡ input_net b.ports k → IsInputPort b.ports k w → HasWidth b n w
 input_width b k w n h e i = rw e (width_at-is b.lines (input_net b.ports k) (line_of w (Input k)) (input_line b k w h i))

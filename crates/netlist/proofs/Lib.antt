@@ -3,3 +3,4 @@ pub mod Inputs
 pub mod Growth
 pub mod Valuations
 pub mod Existence
+pub mod Ports

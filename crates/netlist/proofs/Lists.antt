@@ -1,6 +1,5 @@
 -- Places in lists of lines and of drivers.
-use Rattle.std.proofs.Common.{◌≡◌, ℕ, zero, suc, ◌<◌, List, [], ◌∷◌, ◌++◌, length, slice_get, get_or, set, Bool, true, false, ◌&&◌, IsTrue, Option, Some, None, refl, ap, arith, ◌⊎◌, inl, inr}
-use Rattle.std.specs.List.{list_all}
+use Rattle.std.proofs.Common.{◌≡◌, ℕ, zero, suc, ◌<◌, List, [], ◌∷◌, ◌++◌, length, slice_get, get_or, set, Option, Some, None, refl, ap, arith, ◌⊎◌, inl, inr}
 use Rattle.netlist.specs.declared.line.Line.{Line}
 use Rattle.netlist.specs.Netlists.{width_at}
 
@@ -37,13 +36,6 @@ width_at-line (x ∷ xs) (suc n) w e = width_at-line xs n w e
 
 pub width_at-is : (xs : List Line) (n : ℕ) (line : Line) → slice_get xs n ≡ Some line → width_at xs n ≡ Some line.width
 width_at-is xs n line e = rw e refl
-
-pub list_all-push : {X : Type 0} (test : X → Bool) (xs : List X) (y : X) → IsTrue (list_all test xs) → test y ≡ true → IsTrue (list_all test (xs ++ y ∷ []))
-list_all-push test [] y h e = rw e refl
-list_all-push test (x ∷ xs) y h e = at_head (test x) (list_all test xs) (list_all test (xs ++ y ∷ [])) h (λ t. list_all-push test xs y t e) where
-  at_head : (a b b' : Bool) → IsTrue (a && b) → (IsTrue b → IsTrue b') → IsTrue (a && b')
-  at_head true b b' h f = f h
-  at_head false b b' h f = h
 
 -- a driver after one was set: the one, or an earlier one
 pub driver-newly : (ds : List (Option ℕ)) (k n j m : ℕ) → get_or (set ds k (Some n)) j None ≡ Some m → (get_or ds j None ≡ Some m) ⊎ (j ≡ k) × (n ≡ m)

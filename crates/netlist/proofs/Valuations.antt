@@ -61,7 +61,7 @@ completed_at lines given n line at =
     ∙ ap (unwrap_or (value_of lines (with_nets given (nets_after lines given n)) line.width line.equation)) (early lines given n n (omega arith))
 
 -- the value of an equation hangs on its operands alone, which stand below it
-value_same : (b : Netlist) (x y : Cycle) (n w : ℕ) (e : Equation) → IsSound b n w e → ((k v : ℕ) → IsInputPort b.ports k v → x.input k ≡ y.input k) →
+value_same : (b : Netlist) (x y : Cycle) (n w : ℕ) (e : Equation) → IsSound b.ports b.lines n w e → ((k v : ℕ) → IsInputPort b.ports k v → x.input k ≡ y.input k) →
     ((m a : ℕ) → x.cell m a ≡ y.cell m a) → ((m : ℕ) → m < n → x.net m ≡ y.net m) → value_of b.lines x w e ≡ value_of b.lines y w e
 value_same b x y n w (Input port) s inputs cells nets = ap Some (inputs port w s)
 value_same b x y n w (Constant value) s inputs cells nets = refl
@@ -71,7 +71,7 @@ no_value : (lines : List Line) (cycle : Cycle) (w : ℕ) (e : Equation) → is_s
 no_value lines cycle w (Input port) h = cc
 no_value lines cycle w (Constant value) h = cc
 
-some_value : (b : Netlist) (cycle : Cycle) (n w : ℕ) (e : Equation) → IsSound b n w e → is_state e ≡ false → (x : ℕ) × (value_of b.lines cycle w e ≡ Some x)
+some_value : (b : Netlist) (cycle : Cycle) (n w : ℕ) (e : Equation) → IsSound b.ports b.lines n w e → is_state e ≡ false → (x : ℕ) × (value_of b.lines cycle w e ≡ Some x)
 some_value b cycle n w (Input port) s h = (cycle.input port, refl)
 some_value b cycle n w (Constant value) s h = (value.bits, refl)
 
@@ -84,7 +84,7 @@ no_next (Input port) h = refl
 no_next (Constant value) h = refl
 
 -- operands within their widths give a value within its width
-value_fits : (b : Netlist) (cycle : Cycle) (n w : ℕ) (e : Equation) → IsSound b n w e → InputsFit b.ports cycle.input →
+value_fits : (b : Netlist) (cycle : Cycle) (n w : ℕ) (e : Equation) → IsSound b.ports b.lines n w e → InputsFit b.ports cycle.input →
     ((m v : ℕ) → m < n → HasWidth b m v → cycle.net m < 2 ^ v) → (x : ℕ) → value_of b.lines cycle w e ≡ Some x → x < 2 ^ w
 value_fits b cycle n w (Input port) s inputs nets x e =
     let h = inputs port w s in
@@ -94,11 +94,11 @@ value_fits b cycle n w (Constant value) s inputs nets x e =
     let is : value.bits ≡ x = cc in
     subst (λ v. v < 2 ^ w) is (subst (λ v. value.bits < 2 ^ v) s.1 s.0.fits)
 
-pub reset_fits : (b : Netlist) (n w : ℕ) (e : Equation) → IsSound b n w e → is_state e ≡ true → unwrap_or (reset_of e) 0 < 2 ^ w
+pub reset_fits : (b : Netlist) (n w : ℕ) (e : Equation) → IsSound b.ports b.lines n w e → is_state e ≡ true → unwrap_or (reset_of e) 0 < 2 ^ w
 reset_fits b n w (Input port) s h = cc
 reset_fits b n w (Constant value) s h = cc
 
-pub next_fits : (b : Netlist) (net : ℕ → ℕ) (n w : ℕ) (e : Equation) → IsSound b n w e → is_state e ≡ true → ((m v : ℕ) → HasWidth b m v → net m < 2 ^ v) →
+pub next_fits : (b : Netlist) (net : ℕ → ℕ) (n w : ℕ) (e : Equation) → IsSound b.ports b.lines n w e → is_state e ≡ true → ((m v : ℕ) → HasWidth b m v → net m < 2 ^ v) →
     unwrap_or (option_map net (next_of e)) 0 < 2 ^ w
 next_fits b net n w (Input port) s h fits = cc
 next_fits b net n w (Constant value) s h fits = cc

@@ -1,6 +1,5 @@
 -- A netlist: what contracts see of a builder and of a module.
-use Rattle.std.specs.Prelude.{◌≡◌, ◌≢◌, ℕ, ◌+◌, ◌^◌, ◌<◌, ◌≤◌, Bool, true, false, not, List, [], ◌∷◌, ◌++◌, length, slice_get, slice_index_or, slice_set, take, map, All, AllPairs, count_by, Option, Some, None, option_map, unwrap_or, IsSome, IsTrue, if◌then◌else◌}
-use Rattle.std.specs.List.{list_all}
+use Rattle.std.specs.Prelude.{◌≡◌, ◌≢◌, ℕ, ◌+◌, ◌^◌, ◌<◌, ◌≤◌, Bool, true, false, not, List, [], ◌∷◌, ◌++◌, length, slice_get, slice_index_or, slice_set, take, map, All, AllPairs, count_by, Option, Some, None, option_map, unwrap_or, IsSome, if◌then◌else◌}
 use Rattle.av_base.specs.Word.{IsWord}
 use Rattle.netlist.specs.Names.{IsModuleName, IsPortName}
 use Rattle.netlist.specs.declared.line.Equation.{Equation}
@@ -65,15 +64,15 @@ abbrev pub is_input : Equation → Bool
 is_input (Input port) = true
 is_input (Constant value) = false
 
--- what the equation of net n, of this width, asks of the netlist that it stands in
-abbrev pub IsSound : Netlist → ℕ → ℕ → Equation → Type 0
-IsSound netlist n w (Input port) = IsInputPort netlist.ports port w
-IsSound netlist n w (Constant value) = IsWord value.width value.bits × (value.width ≡ w)
+-- what the equation of net n, of this width, asks of the ports and lines that it stands among
+abbrev pub IsSound : List PortLine → List Line → ℕ → ℕ → Equation → Type 0
+IsSound ports lines n w (Input port) = IsInputPort ports port w
+IsSound ports lines n w (Constant value) = IsWord value.width value.bits × (value.width ≡ w)
 
-pub record IsSoundLine (netlist : Netlist) (n : ℕ) (line : Line) : Type 0 where
+pub record IsSoundLine (ports : List PortLine) (lines : List Line) (n : ℕ) (line : Line) : Type 0 where
   pub some_bit : 1 ≤ line.width
   pub small : line.width ≤ 128
-  pub equation : IsSound netlist n line.width line.equation
+  pub equation : IsSound ports lines n line.width line.equation
 
 -- the name and the ports that a module may have
 pub record IsHeader (name : List ℕ) (ports : List PortLine) : Type 0 where
@@ -85,9 +84,8 @@ pub record IsHeader (name : List ℕ) (ports : List PortLine) : Type 0 where
 
 -- the first nets are the input ports in header order, and no other net is an input
 pub record BeginsWithInputs (ports : List PortLine) (lines : List Line) : Type 0 where
-  pub computed : List Line
-  pub split : lines ≡ input_lines 0 ports ++ computed
-  pub others : IsTrue (list_all (λ (line : Line). not (is_input line.equation)) computed)
+  pub first : (n : ℕ) (line : Line) → slice_get (input_lines 0 ports) n ≡ Some line → slice_get lines n ≡ Some line
+  pub no_others : (n : ℕ) (line : Line) → slice_get lines n ≡ Some line → is_input line.equation ≡ true → slice_get (input_lines 0 ports) n ≡ Some line
 
 -- net n may drive port k: an output of its width
 pub record IsDriver (netlist : Netlist) (k n : ℕ) : Type 0 where
@@ -100,7 +98,7 @@ pub record IsWellMade (netlist : Netlist) : Type 0 where
   pub header : IsHeader netlist.name netlist.ports
   pub few : length netlist.lines ≤ 2 ^ 20
   pub inputs : BeginsWithInputs netlist.ports netlist.lines
-  pub lines : (n : ℕ) (line : Line) → slice_get netlist.lines n ≡ Some line → IsSoundLine netlist n line
+  pub lines : (n : ℕ) (line : Line) → slice_get netlist.lines n ≡ Some line → IsSoundLine netlist.ports netlist.lines n line
   pub places : length netlist.drivers ≡ length netlist.ports
   pub drivers : (k n : ℕ) → driver_of netlist k ≡ Some n → IsDriver netlist k n
 
@@ -122,8 +120,8 @@ abbrev pub started : List ℕ → List PortLine → Netlist
 started name ports = record { name = name; ports = ports; lines = input_lines 0 ports; drivers = map undriven ports }
 
 -- the netlist with one more line
-abbrev pub appended : Netlist → ℕ → Equation → Netlist
-appended netlist w e = record netlist { lines = netlist.lines ++ line_of w e ∷ [] }
+abbrev pub appended : Netlist → Line → Netlist
+appended netlist line = record netlist { lines = netlist.lines ++ line ∷ [] }
 
 -- the netlist with port k driven by net n
 abbrev pub with_driver : Netlist → ℕ → ℕ → Netlist

@@ -110,10 +110,11 @@ impl Builder {
         self.lines[net.number() as usize].width
     }
 
+    /// One more line.
     fn append(&mut self, width: u8, equation: Equation) -> Result<Net, NetFault>
-        requires sound { IsSoundLine self.old (length self.old.lines) (line_of width equation) }
+        requires sound { IsSoundLine self.old.ports self.old.lines (length self.old.lines) (line_of width equation) }
         requires computed { is_input equation ≡ false }
-        ensures line { IfOk result (λ n. (self.new ≡ appended self.old width equation) × (n ≡ length self.old.lines)) }
+        ensures line { IfOk result (λ n. (self.new ≡ appended self.old (line_of width equation)) × (n ≡ length self.old.lines)) }
         ensures net { IfOk result (λ n. HasWidth self.new n width) }
         ensures value { IfOk result (λ n. Always self.new (λ run c. NetHolds self.new.lines (cycle_of run c) n (line_of width equation))) }
         ensures extends { Extends self.old self.new }
@@ -130,9 +131,9 @@ impl Builder {
 
     /// A net that always has this value.
     pub fn constant(&mut self, value: Val) -> Result<Net, NetFault>
-        ensures line { IfOk result (λ n. (self.new ≡ appended self.old value.width (Equation.Constant value)) × (n ≡ length self.old.lines)) }
+        ensures line { IfOk result (λ n. (self.new ≡ appended self.old (line_of value.width (Equation.Constant value))) × (n ≡ length self.old.lines)) }
         ensures net { IfOk result (λ n. HasWidth self.new n value.width) }
-        ensures value { IfOk result (λ n. Always self.new (λ run c. run.net c n ≡ value.bits)) }
+        ensures value { IfOk result (λ n. Always self.new (λ run c. (run.net c n < 2 ^ value.width) × (run.net c n ≡ value.bits))) }
         ensures extends { Extends self.old self.new }
         ensures err { OnErr result (self.new ≡ self.old) }
         ensures full { (result ≡ Err NetFault.TooManyNets) ↔ (length self.old.lines ≡ 2 ^ 20) }

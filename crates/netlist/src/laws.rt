@@ -1,9 +1,11 @@
 //! What holds of each run of each netlist. The functions do nothing; their contracts are the laws.
 
-ghost use Rattle.std.specs.Prelude.{◌≡◌, ℕ, ◌<◌, ◌≤◌};
-ghost use Rattle.netlist.specs.Netlists.{Netlist, IsWellMade};
-ghost use Rattle.netlist.specs.Runs.{Run, Cycle, IsRun, IsValuation, InputsFit, StateFits, SameInputs, SameState, SameNets, HasValuation, HasRun};
+ghost use Rattle.std.specs.Prelude.{◌≡◌, ℕ, ◌<◌, ◌≤◌, slice_get, Some};
+ghost use Rattle.netlist.specs.Netlists.{Netlist, IsWellMade, IsInputPort, driver_of, input_net};
+ghost use Rattle.netlist.specs.declared.line.PortLine.{PortLine};
+ghost use Rattle.netlist.specs.Runs.{Run, Cycle, IsRun, IsValuation, InputsFit, StateFits, SameInputs, SameState, SameNets, Always, HasValuation, HasRun};
 ghost use Rattle.netlist.specs.Longer.{Keeps, Extends};
+ghost use Rattle.netlist.specs.Signals.{port_value, signal};
 
 /// Any inputs and first contents, each within its width, have a run of every length.
 pub fn has_run()
@@ -29,4 +31,12 @@ pub fn prefix()
 pub fn keeps()
     ensures extends { (old new : Netlist) → Keeps old new → Extends old new }
     ensures chain { (old middle new : Netlist) → Keeps old middle → Keeps middle new → Keeps old new }
+{}
+
+/// What stands at a port, by its number and by its name.
+pub fn signals()
+    ensures output { (netlist : Netlist) (k n : ℕ) → driver_of netlist k ≡ Some n → (run : Run) (c : ℕ) → port_value netlist run c k ≡ run.net c n }
+    ensures input { (netlist : Netlist) → IsWellMade netlist → (k w : ℕ) → IsInputPort netlist.ports k w → (run : Run) (c : ℕ) → port_value netlist run c k ≡ run.input c k }
+    ensures input_net { (netlist : Netlist) → IsWellMade netlist → (k w : ℕ) → IsInputPort netlist.ports k w → Always netlist (λ run c. run.net c (input_net netlist.ports k) ≡ run.input c k) }
+    ensures named { (netlist : Netlist) → IsWellMade netlist → (k : ℕ) (port : PortLine) → slice_get netlist.ports k ≡ Some port → (run : Run) → signal netlist run port.name ≡ Some (λ c. port_value netlist run c k) }
 {}

@@ -9,6 +9,6 @@ mod module;
 
 pub use builder::Builder;
 pub use fault::NetFault;
-pub use laws::{agree, has_run, has_valuation, keeps, prefix};
+pub use laws::{agree, has_run, has_valuation, keeps, prefix, signals};
 pub use line::{Equation, Line, Net, PortLine};
 pub use module::Module;

@@ -10,28 +10,28 @@ invariant_of-self-2 c =
     let well : IsWellMade c.args.self.now = subst IsWellMade c.self.view_is c.self.invariant in
     let count : length c.self.inside.lines.items ≡ length c.args.self.now.lines = ap (λ (b : Netlist). length b.lines) c.self.view_is in
     let few : length c.args.self.now.lines < 2 ^ 20 = omega arith in
-    let new = pushed _ c.args.self.now c.push.new.self.items c.args.width c.args.equation c.self.view_is c.in_ok-push.ensures.items in
-    subst IsWellMade (sym new) (IsWellMade-appended c.args.self.now c.args.width c.args.equation well few c.requires.sound c.requires.computed)
+    let new = pushed _ c.args.self.now c.push.new.self.items (line_of c.args.width c.args.equation) c.self.view_is c.in_ok-push.ensures.items in
+    subst IsWellMade (sym new) (IsWellMade-appended c.args.self.now (line_of c.args.width c.args.equation) well few c.requires.sound c.requires.computed)
 
 pub returns-clause-net : goal.returns-clause-net
 returns-clause-net c =
     let count : length c.args.self.now.lines ≡ length c.self.inside.lines.items = ap (λ (b : Netlist). length b.lines) (sym c.self.view_is) in
     let number : length c.args.self.now.lines ≡ c.new.result = omega arith in
-    let new = pushed _ c.args.self.now c.push.new.self.items c.args.width c.args.equation c.self.view_is c.in_ok-push.ensures.items in
+    let new = pushed _ c.args.self.now c.push.new.self.items (line_of c.args.width c.args.equation) c.self.view_is c.in_ok-push.ensures.items in
     subst (λ (b : Netlist). HasWidth b c.new.result c.args.width) (sym new)
-    (subst (λ n. HasWidth (appended c.args.self.now c.args.width c.args.equation) n c.args.width) number
-    (width-last c.args.self.now.lines c.args.width c.args.equation))
+    (subst (λ n. HasWidth (appended c.args.self.now (line_of c.args.width c.args.equation)) n c.args.width) number
+    (width-last c.args.self.now.lines (line_of c.args.width c.args.equation)))
 
 pub returns-clause-value : goal.returns-clause-value
 returns-clause-value c =
     let count : length c.args.self.now.lines ≡ length c.self.inside.lines.items = ap (λ (b : Netlist). length b.lines) (sym c.self.view_is) in
     let number : length c.args.self.now.lines ≡ c.new.result = omega arith in
-    let new = pushed _ c.args.self.now c.push.new.self.items c.args.width c.args.equation c.self.view_is c.in_ok-push.ensures.items in
+    let new = pushed _ c.args.self.now c.push.new.self.items (line_of c.args.width c.args.equation) c.self.view_is c.in_ok-push.ensures.items in
     subst (λ (b : Netlist). Always b (λ run k. NetHolds b.lines (cycle_of run k) c.new.result (line_of c.args.width c.args.equation))) (sym new)
-    (subst (λ n. Always (appended c.args.self.now c.args.width c.args.equation) (λ run k. NetHolds (appended c.args.self.now c.args.width c.args.equation).lines (cycle_of run k) n (line_of c.args.width c.args.equation))) number
-    (Always-appended c.args.self.now c.args.width c.args.equation))
+    (subst (λ n. Always (appended c.args.self.now (line_of c.args.width c.args.equation)) (λ run k. NetHolds (appended c.args.self.now (line_of c.args.width c.args.equation)).lines (cycle_of run k) n (line_of c.args.width c.args.equation))) number
+    (Always-appended c.args.self.now (line_of c.args.width c.args.equation)))
 
 pub returns-clause-extends : goal.returns-clause-extends
 returns-clause-extends c =
-    let new = pushed _ c.args.self.now c.push.new.self.items c.args.width c.args.equation c.self.view_is c.in_ok-push.ensures.items in
-    subst (λ (b : Netlist). Extends c.args.self.now b) (sym new) (Extends-appended c.args.self.now c.args.width c.args.equation)
+    let new = pushed _ c.args.self.now c.push.new.self.items (line_of c.args.width c.args.equation) c.self.view_is c.in_ok-push.ensures.items in
+    subst (λ (b : Netlist). Extends c.args.self.now b) (sym new) (Extends-appended c.args.self.now (line_of c.args.width c.args.equation))
