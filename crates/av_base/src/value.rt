@@ -1,5 +1,5 @@
-ghost use Rattle.std.specs.Prelude.{◌≡◌, ◌+◌, ◌^◌, ◌<◌, ◌≤◌, ◌↔◌, IsSome, IfSome};
-ghost use Rattle.av_base.specs.Word.{IsWord, word};
+ghost use Rattle.std.specs.Prelude.{◌≡◌, ◌+◌, ◌-◌, ◌^◌, ◌<◌, ◌≤◌, ◌↔◌, ◌%◌, ◌*◌, ◌/◌, IsSome, IfSome, if◌then◌else◌};
+ghost use Rattle.av_base.specs.Word.{IsWord, word, and_of, or_of, xor_of, add_of, sub_of, eq_of, less_of, not_of, any_of, slice_of, concat_of, mux_of};
 
 use std::marker::Model;
 
@@ -31,6 +31,57 @@ fn greatest(width: u8) -> u128
     u128::MAX >> (128 - width)
 }
 
+/// 1 or 0.
+fn bit(b: bool) -> u128
+    ensures small { result < 2 }
+    ensures value { result ≡ (if b then 1 else 0) }
+{
+    if b { 1 } else { 0 }
+}
+
+/// The sum of two numbers of `width` bits, where a carry out of the top is dropped.
+fn wrapped_sum(width: u8, a: u128, b: u128) -> u128
+    requires first { IsWord width a }
+    requires second { IsWord width b }
+    ensures { result ≡ (a + b) % 2 ^ width }
+{
+    let room = greatest(width) - a;
+    if b <= room { a + b } else { b - room - 1 }
+}
+
+/// The difference of two numbers of `width` bits, with one more bit borrowed where it is needed.
+fn wrapped_difference(width: u8, a: u128, b: u128) -> u128
+    requires first { IsWord width a }
+    requires second { IsWord width b }
+    ensures { result ≡ (a + (2 ^ width - b)) % 2 ^ width }
+{
+    if b <= a {
+        a - b
+    } else {
+        greatest(width) - (b - a - 1)
+    }
+}
+
+/// The low `width` bits.
+fn low_bits(n: u128, width: u8) -> u128
+    requires some { 1 ≤ width }
+    requires small { width ≤ 128 }
+    ensures { result ≡ n % 2 ^ width }
+{
+    n & greatest(width)
+}
+
+/// The bits of `high` before the `width` bits of `low`.
+fn joined(high_width: u8, high: u128, width: u8, low: u128) -> u128
+    requires first { IsWord high_width high }
+    requires second { IsWord width low }
+    requires small { high_width + width ≤ 128 }
+    ensures value { result ≡ high * 2 ^ width + low }
+    ensures fits { IsWord (high_width + width) result }
+{
+    (high << width) | low
+}
+
 impl Val {
     pub fn new(width: u8, bits: u128) -> Option<Val>
         ensures some { IsSome result ↔ IsWord width bits }
@@ -57,5 +108,212 @@ impl Val {
         ensures word { IsWord self.width self.bits }
     {
         self.bits
+    }
+
+    /// Bitwise and.
+    pub fn and(self, b: Val) -> Val
+        requires { self.width ≡ b.width }
+        ensures { result ≡ and_of self b }
+    {
+        Val {
+            width: self.width,
+            bits: self.bits & b.bits,
+        }
+    }
+
+    /// Bitwise or.
+    pub fn or(self, b: Val) -> Val
+        requires { self.width ≡ b.width }
+        ensures { result ≡ or_of self b }
+    {
+        Val {
+            width: self.width,
+            bits: self.bits | b.bits,
+        }
+    }
+
+    /// Bitwise exclusive or.
+    pub fn xor(self, b: Val) -> Val
+        requires { self.width ≡ b.width }
+        ensures { result ≡ xor_of self b }
+    {
+        Val {
+            width: self.width,
+            bits: self.bits ^ b.bits,
+        }
+    }
+
+    /// The sum, without the carry out of the top.
+    pub fn add(self, b: Val) -> Val
+        requires { self.width ≡ b.width }
+        ensures { result ≡ add_of self b }
+    {
+        Val {
+            width: self.width,
+            bits: wrapped_sum(self.width, self.bits, b.bits),
+        }
+    }
+
+    /// The difference, modulo 2 to the width.
+    pub fn sub(self, b: Val) -> Val
+        requires { self.width ≡ b.width }
+        ensures { result ≡ sub_of self b }
+    {
+        Val {
+            width: self.width,
+            bits: wrapped_difference(self.width, self.bits, b.bits),
+        }
+    }
+
+    /// One bit: whether the two are equal.
+    pub fn eq(self, b: Val) -> Val
+        requires { self.width ≡ b.width }
+        ensures { result ≡ eq_of self b }
+    {
+        Val {
+            width: 1,
+            bits: bit(self.bits == b.bits),
+        }
+    }
+
+    /// One bit: whether this is the smaller, both read without a sign.
+    pub fn less(self, b: Val) -> Val
+        requires { self.width ≡ b.width }
+        ensures { result ≡ less_of self b }
+    {
+        Val {
+            width: 1,
+            bits: bit(self.bits < b.bits),
+        }
+    }
+
+    /// Each bit turned.
+    pub fn not(self) -> Val
+        ensures { result ≡ not_of self }
+    {
+        Val {
+            width: self.width,
+            bits: greatest(self.width) - self.bits,
+        }
+    }
+
+    /// One bit: whether some bit is set.
+    pub fn any(self) -> Val
+        ensures { result ≡ any_of self }
+    {
+        Val {
+            width: 1,
+            bits: bit(self.bits != 0),
+        }
+    }
+
+    /// The bits from `high` down to `low`.
+    pub fn slice(self, high: u8, low: u8) -> Val
+        requires order { low ≤ high }
+        requires inside { high < self.width }
+        ensures { result ≡ slice_of self high low }
+    {
+        let width = high - low + 1;
+        Val {
+            width,
+            bits: low_bits(self.bits >> low, width),
+        }
+    }
+
+    /// The bits of this above those of `low`.
+    pub fn concat(self, low: Val) -> Val
+        requires { self.width + low.width ≤ 128 }
+        ensures { result ≡ concat_of self low }
+    {
+        Val {
+            width: self.width + low.width,
+            bits: joined(self.width, self.bits, low.width, low.bits),
+        }
+    }
+
+    /// `a` where this bit is set, else `b`.
+    pub fn mux(self, a: Val, b: Val) -> Val
+        requires one { self.width ≡ 1 }
+        requires same { a.width ≡ b.width }
+        ensures { result ≡ mux_of self a b }
+    {
+        if self.bits == 0 { b } else { a }
+    }
+}
+
+#[cfg(test)]
+mod tests {
+    use super::*;
+    use std::test::Fail;
+
+    /// Widths at which a word of the machine ends, each with its greatest number.
+    const WIDTHS: [(u8, u128); 6] = [
+        (1, 0x1),
+        (63, 0x7fff_ffff_ffff_ffff),
+        (64, 0xffff_ffff_ffff_ffff),
+        (65, 0x1_ffff_ffff_ffff_ffff),
+        (127, 0x7fff_ffff_ffff_ffff_ffff_ffff_ffff_ffff),
+        (128, 0xffff_ffff_ffff_ffff_ffff_ffff_ffff_ffff),
+    ];
+
+    #[test]
+    fn carries_and_borrows_end_at_the_width(rt: HostRuntime) -> Result<(), Fail> {
+        for (width, most) in WIDTHS {
+            let top = Val::new(width, most).ok_or("the greatest")?;
+            let one = Val::new(width, 1).ok_or("one")?;
+            let zero = Val::new(width, 0).ok_or("zero")?;
+            assert_eq!(rt; top.add(one).bits(), 0, "at {width}");
+            assert_eq!(rt; top.add(zero).bits(), most, "at {width}");
+            assert_eq!(rt; zero.sub(one).bits(), most, "at {width}");
+            assert_eq!(rt; top.sub(top).bits(), 0, "at {width}");
+        }
+        Ok(())
+    }
+
+    #[test]
+    fn bits_and_tests(rt: HostRuntime) -> Result<(), Fail> {
+        for (width, most) in WIDTHS {
+            let top = Val::new(width, most).ok_or("the greatest")?;
+            let zero = Val::new(width, 0).ok_or("zero")?;
+            assert_eq!(rt; zero.not().bits(), most, "at {width}");
+            assert_eq!(rt; zero.or(top).bits(), most, "at {width}");
+            assert_eq!(rt; zero.and(top).bits(), 0, "at {width}");
+            assert_eq!(rt; top.xor(top).bits(), 0, "at {width}");
+            assert_eq!(rt; zero.eq(top).bits(), 0, "at {width}");
+            assert_eq!(rt; top.eq(top).bits(), 1, "at {width}");
+            assert_eq!(rt; zero.less(top).bits(), 1, "at {width}");
+            assert_eq!(rt; top.less(top).bits(), 0, "at {width}");
+            assert_eq!(rt; top.any().bits(), 1, "at {width}");
+            assert_eq!(rt; zero.any().bits(), 0, "at {width}");
+            assert_eq!(rt; zero.any().mux(top, zero), zero, "at {width}");
+            assert_eq!(rt; top.any().mux(top, zero), top, "at {width}");
+        }
+        Ok(())
+    }
+
+    #[test]
+    fn parts_across_a_machine_word(rt: HostRuntime) -> Result<(), Fail> {
+        let wide = Val::new(128, 0x0123_4567_89ab_cdef_fedc_ba98_7654_3210).ok_or("128 bits")?;
+        assert_eq!(rt; wide.slice(67, 60).bits(), 0xff);
+        assert_eq!(rt; wide.slice(127, 64).bits(), 0x0123_4567_89ab_cdef);
+        assert_eq!(rt; wide.slice(127, 0), wide);
+        assert_eq!(rt; wide.slice(4, 4).bits(), 1);
+        let low = wide.slice(64, 0);
+        let high = wide.slice(127, 65);
+        assert_eq!(rt; (low.width(), high.width()), (65, 63));
+        assert_eq!(rt; high.concat(low), wide);
+        Ok(())
+    }
+
+    #[test]
+    fn no_value_past_its_width(rt: HostRuntime) {
+        assert_eq!(rt; Val::new(0, 0), None);
+        assert_eq!(rt; Val::new(129, 0), None);
+        assert_eq!(rt; Val::new(1, 2), None);
+        assert_eq!(rt; Val::new(64, 0x1_0000_0000_0000_0000), None);
+        assert_eq!(rt;
+            Val::new(127, 0x8000_0000_0000_0000_0000_0000_0000_0000),
+            None
+        );
     }
 }
