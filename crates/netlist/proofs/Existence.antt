@@ -2,9 +2,10 @@
 use Rattle.std.proofs.Common.{◌≡◌, ℕ, zero, suc, ◌+◌, ◌^◌, ◌<◌, Bool, true, false, slice_get, Option, Some, None, refl, sym, subst, ap, ◌∙◌, arith}
 use Rattle.std.specs.Prelude.{IfSome, unwrap_or, option_map}
 use Rattle.netlist.specs.declared.line.Line.{Line}
-use Rattle.netlist.specs.Netlists.{Netlist, IsWellMade, HasWidth}
-use Rattle.netlist.specs.Runs.{Run, Cycle, cycle_of, IsValuation, Steps, reset_of, next_of, is_state, InputsFit, StateFits, HasRun}
+use Rattle.netlist.specs.Netlists.{Netlist, IsWellMade, HasWidth, width_at, is_register, next_of}
+use Rattle.netlist.specs.Runs.{Run, Cycle, cycle_of, IsValuation, Steps, reset_of, InputsFit, StateFits, HasRun}
 use Rattle.netlist.proofs.Lists.{width_at-line}
+use Rattle.netlist.proofs.Growth.{if_some}
 use Rattle.netlist.proofs.Valuations.{completed, completed_valuation, completed_state, no_reset, no_next, reset_fits, next_fits, given_value, stepped_value}
 
 -- the value of a register in the first cycle, and after a cycle with these values of the nets; 0 for the other nets
@@ -14,7 +15,7 @@ first_at (Some line) = unwrap_or (reset_of line.equation) 0
 
 abbrev next_at : (ℕ → ℕ) → Option Line → ℕ
 next_at net None = 0
-next_at net (Some line) = unwrap_or (option_map net (next_of line.equation)) 0
+next_at net (Some line) = unwrap_or (option_map net (next_of line)) 0
 
 -- the nets' values, cycle after cycle
 nets_of : Netlist → (ℕ → ℕ → ℕ) → (ℕ → ℕ → ℕ) → ℕ → ℕ → ℕ
@@ -34,7 +35,7 @@ run_of b inputs contents = record { input = inputs; net = nets_of b inputs conte
 first_fits : (b : Netlist) (inputs : ℕ → ℕ → ℕ) (contents : ℕ → ℕ → ℕ) → IsWellMade b → StateFits b (first_of_cycles b inputs contents)
 unfolding first_of_cycles
 first_fits b inputs contents h n line at e =
-    subst (λ o. first_at o < 2 ^ line.width) (sym at) (reset_fits b n line.width line.equation (h.lines n line at).equation e)
+    subst (λ o. first_at o < 2 ^ line.width) (sym at) (reset_fits b.ports b.lines n line.width line.equation (h.lines n line at).equation e)
 
 valued_fits : (b : Netlist) (cycle : Cycle) → IsValuation b cycle → (m v : ℕ) → HasWidth b m v → cycle.net m < 2 ^ v
 valued_fits b cycle valuation m v has =
@@ -45,7 +46,9 @@ later_fits : (b : Netlist) (inputs : ℕ → ℕ → ℕ) (contents : ℕ → �
 unfolding run_of next_of_cycles
 later_fits b inputs contents c h valuation n line at e =
     subst (λ o. next_at (nets_of b inputs contents c) o < 2 ^ line.width) (sym at)
-    (next_fits b (nets_of b inputs contents c) n line.width line.equation (h.lines n line at).equation e (valued_fits b (cycle_of (run_of b inputs contents) c) valuation))
+    (next_fits (nets_of b inputs contents c) line.width (next_of line)
+    (if_some (next_of line) (λ m. width_at b.lines m ≡ Some line.width) (λ m. nets_of b inputs contents c m < 2 ^ line.width)
+    (λ m has. valued_fits b (cycle_of (run_of b inputs contents) c) valuation m line.width has) (h.lines n line at).next))
 
 each_valuation : (b : Netlist) (inputs : ℕ → ℕ → ℕ) (contents : ℕ → ℕ → ℕ) (cycles : ℕ) → IsWellMade b → ((c : ℕ) → c < cycles → InputsFit b.ports (inputs c)) → (c : ℕ) → c < cycles → IsValuation b (cycle_of (run_of b inputs contents) c)
 unfolding run_of nets_of first_of_cycles next_of_cycles
@@ -53,7 +56,7 @@ each_valuation b inputs contents cycles h fit zero lt = completed_valuation b (f
 each_valuation b inputs contents cycles h fit (suc c) lt =
     completed_valuation b (next_of_cycles b inputs contents c) h (fit (suc c) lt) (later_fits b inputs contents c h (each_valuation b inputs contents cycles h fit c (omega arith)))
 
-starts_one : (b : Netlist) (inputs : ℕ → ℕ → ℕ) (contents : ℕ → ℕ → ℕ) → IsWellMade b → (n : ℕ) (line : Line) → slice_get b.lines n ≡ Some line → (s : Bool) → is_state line.equation ≡ s →
+starts_one : (b : Netlist) (inputs : ℕ → ℕ → ℕ) (contents : ℕ → ℕ → ℕ) → IsWellMade b → (n : ℕ) (line : Line) → slice_get b.lines n ≡ Some line → (s : Bool) → is_register line.equation ≡ s →
     IfSome (reset_of line.equation) (λ x. nets_of b inputs contents 0 n ≡ x)
 unfolding nets_of first_of_cycles
 starts_one b inputs contents h n line at true e =
@@ -61,18 +64,18 @@ starts_one b inputs contents h n line at true e =
 starts_one b inputs contents h n line at false e =
     subst (λ o. IfSome o (λ x. nets_of b inputs contents 0 n ≡ x)) (sym (no_reset line.equation e)) tt
 
-steps_one : (b : Netlist) (inputs : ℕ → ℕ → ℕ) (contents : ℕ → ℕ → ℕ) → IsWellMade b → (c n : ℕ) (line : Line) → slice_get b.lines n ≡ Some line → (s : Bool) → is_state line.equation ≡ s →
-    IfSome (next_of line.equation) (λ m. nets_of b inputs contents (suc c) n ≡ nets_of b inputs contents c m)
+steps_one : (b : Netlist) (inputs : ℕ → ℕ → ℕ) (contents : ℕ → ℕ → ℕ) → IsWellMade b → (c n : ℕ) (line : Line) → slice_get b.lines n ≡ Some line → (s : Bool) → is_register line.equation ≡ s →
+    IfSome (next_of line) (λ m. nets_of b inputs contents (suc c) n ≡ nets_of b inputs contents c m)
 unfolding nets_of next_of_cycles
 steps_one b inputs contents h c n line at true e =
-    stepped_value (next_of line.equation) (nets_of b inputs contents c) _
+    stepped_value (next_of line) (nets_of b inputs contents c) _
     (completed_state b (next_of_cycles b inputs contents c) n line h at e ∙ ap (next_at (nets_of b inputs contents c)) at)
 steps_one b inputs contents h c n line at false e =
-    subst (λ o. IfSome o (λ m. nets_of b inputs contents (suc c) n ≡ nets_of b inputs contents c m)) (sym (no_next line.equation e)) tt
+    subst (λ o. IfSome o (λ m. nets_of b inputs contents (suc c) n ≡ nets_of b inputs contents c m)) (sym (no_next line e)) tt
 
 steps_all : (b : Netlist) (inputs : ℕ → ℕ → ℕ) (contents : ℕ → ℕ → ℕ) → IsWellMade b → (c : ℕ) → Steps b (cycle_of (run_of b inputs contents) c) (cycle_of (run_of b inputs contents) (suc c))
 unfolding run_of
-steps_all b inputs contents h c = record { registers = λ n line at. steps_one b inputs contents h c n line at (is_state line.equation) refl }
+steps_all b inputs contents h c = record { registers = λ n line at. steps_one b inputs contents h c n line at (is_register line.equation) refl }
 
 -- any inputs and first contents have a run of every length
 pub has_run_law : (b : Netlist) → IsWellMade b → (inputs : ℕ → ℕ → ℕ) (contents : ℕ → ℕ → ℕ) (cycles : ℕ) → ((c : ℕ) → c < cycles → InputsFit b.ports (inputs c)) → HasRun b inputs contents cycles
@@ -81,7 +84,7 @@ has_run_law b h inputs contents cycles fit = record {
   run = run_of b inputs contents;
   is_run = record {
     valuations = λ c lt. each_valuation b inputs contents cycles h fit c lt;
-    starts = λ lt. record { registers = λ n line at. starts_one b inputs contents h n line at (is_state line.equation) refl };
+    starts = λ lt. record { registers = λ n line at. starts_one b inputs contents h n line at (is_register line.equation) refl };
     steps = λ c lt. (let e : suc c ≡ c + 1 = omega arith in
         subst (λ k. Steps b (cycle_of (run_of b inputs contents) c) (cycle_of (run_of b inputs contents) k)) e (steps_all b inputs contents h c));
   };

@@ -1,16 +1,18 @@
 -- What a builder's steps keep: that the netlist is well made, and all that stood there.
-use Rattle.std.proofs.Common.{◌≡◌, ℕ, zero, suc, ◌+◌, ◌^◌, ◌<◌, ◌≤◌, List, [], ◌∷◌, ◌++◌, length, slice_get, get_or, false, Option, Some, None, refl, sym, subst, ap, ◌∙◌, arith, length-append, ◌⊎◌, inl, inr}
-use Rattle.std.specs.Prelude.{IfSome}
+use Rattle.std.proofs.Common.{◌≡◌, ℕ, zero, suc, ◌+◌, ◌-◌, ◌^◌, ◌<◌, ◌≤◌, List, [], ◌∷◌, ◌++◌, length, slice_get, get_or, set, Bool, true, false, Option, Some, None, refl, sym, subst, ap, ◌∙◌, arith, length-append, ◌⊎◌, inl, inr}
+use Rattle.std.specs.Prelude.{IfSome, IfOk, Result, Ok, Err, option_map, unwrap_or}
 use Rattle.std.proofs.Math.ListN.{length-set}
-use Rattle.std.proofs.lemmas.Option.{get_or_from_slice_get}
+use Rattle.std.proofs.lemmas.Option.{get_or_from_slice_get, slice_get_read}
+use Rattle.av_base.specs.Word.{word, concat_of}
+use Rattle.av_base.specs.declared.value.Val.{Val}
 use Rattle.netlist.specs.declared.line.Line.{Line}
 use Rattle.netlist.specs.declared.line.PortLine.{PortLine}
 use Rattle.netlist.specs.declared.line.Equation.{Equation}
-use Rattle.netlist.specs.declared.line.Equation.TheVariants.{Input, Constant}
-use Rattle.netlist.specs.Netlists.{Netlist, line_of, width_at, HasWidth, driver_of, IsInputPort, IsOutputPort, input_count, input_net, input_lines, is_input, IsSound, IsSoundLine, IsHeader, BeginsWithInputs, IsDriver, IsWellMade, started, appended, with_driver}
-use Rattle.netlist.specs.Runs.{Run, Cycle, cycle_of, value_of, NetHolds, IsValuation, IsRun, reset_of, next_of, Always}
-use Rattle.netlist.specs.Longer.{IsKept, Keeps, Extends}
-use Rattle.netlist.proofs.Lists.{slice_get-front, slice_get-last, slice_get-newly, slice_get-within, slice_get-some, width_at-line, width_at-is, driver-newly, driver-kept}
+use Rattle.netlist.specs.declared.line.Equation.TheVariants.{Input, Constant, And, Or, Xor, Add, Sub, Eq, Less, Concat, Not, Any, Mux, Slice, Reg}
+use Rattle.netlist.specs.Netlists.{Netlist, line_of, line_with, width_at, width_of, HasWidth, driver_of, IsInputPort, IsOutputPort, input_count, input_net, input_lines, is_input, is_register, next_in, next_of, IsOperand, AreOperands, IsComparison, IsAnyOf, IsSound, IsSoundLine, IsHeader, BeginsWithInputs, IsDriver, IsWellMade, IsWaiting, started, appended, next_set, with_next, with_line, with_driver}
+use Rattle.netlist.specs.Runs.{Run, Cycle, cycle_of, value_of, NetHolds, IsValuation, IsRun, reset_of, Always}
+use Rattle.netlist.specs.Longer.{IsSetFrom, IsKept, Keeps, Extends}
+use Rattle.netlist.proofs.Lists.{slice_get-front, slice_get-last, slice_get-newly, slice_get-within, slice_get-some, slice_get-set_kept, slice_get-set_newly, slice_get-set_same, slice_get-set_other, width_at-line, width_at-is, driver-newly, driver-kept}
 use Rattle.netlist.proofs.Inputs.{length-input_lines, input_lines-at, IsOfInput, input_lines-from, All-slice_get, undriven-at, length-undriven}
 
 pub width-front : (lines more : List Line) (n w : ℕ) → width_at lines n ≡ Some w → width_at (lines ++ more) n ≡ Some w
@@ -23,14 +25,61 @@ width-front lines more n w e =
 pub width-last : (lines : List Line) (line : Line) → width_at (lines ++ line ∷ []) (length lines) ≡ Some line.width
 width-last lines line = width_at-is (lines ++ line ∷ []) (length lines) line (slice_get-last lines line)
 
--- an equation asks no more of a longer list
-IsSound-front : (ports : List PortLine) (lines more : List Line) (n w : ℕ) (e : Equation) → IsSound ports lines n w e → IsSound ports (lines ++ more) n w e
-IsSound-front ports lines more n w (Input port) h = h
-IsSound-front ports lines more n w (Constant value) h = h
+-- each net of the first list is one of the second, of the same width
+abbrev pub IsWider : List Line → List Line → Type 0
+IsWider lines more = (n w : ℕ) → width_at lines n ≡ Some w → width_at more n ≡ Some w
 
-IsSoundLine-front : (ports : List PortLine) (lines more : List Line) (n : ℕ) (line : Line) → IsSoundLine ports lines n line → IsSoundLine ports (lines ++ more) n line
-IsSoundLine-front ports lines more n line h =
-    record { some_bit = h.some_bit; small = h.small; equation = IsSound-front ports lines more n line.width line.equation h.equation }
+operand_wider : (lines more : List Line) (n a w : ℕ) → IsWider lines more → IsOperand lines n a w → IsOperand more n a w
+operand_wider lines more n a w wider h = record { below = h.below; width = wider a w h.width }
+
+operands_wider : (lines more : List Line) (n a b w : ℕ) → IsWider lines more → AreOperands lines n a b w → AreOperands more n a b w
+operands_wider lines more n a b w wider h = record { left = operand_wider lines more n a w wider h.left; right = operand_wider lines more n b w wider h.right }
+
+comparison_wider : (lines more : List Line) (n w a b : ℕ) → IsWider lines more → IsComparison lines n w a b → IsComparison more n w a b
+comparison_wider lines more n w a b wider h = record { width = h.width; operands = operands_wider lines more n a b h.width wider h.operands; one_bit = h.one_bit }
+
+-- an equation asks no more among more lines
+IsSound-wider : (ports : List PortLine) (lines more : List Line) (n w : ℕ) (e : Equation) → IsWider lines more → IsSound ports lines n w e → IsSound ports more n w e
+IsSound-wider ports lines more n w (Input port) wider h = h
+IsSound-wider ports lines more n w (Constant value) wider h = h
+IsSound-wider ports lines more n w (And a b) wider h = operands_wider lines more n a b w wider h
+IsSound-wider ports lines more n w (Or a b) wider h = operands_wider lines more n a b w wider h
+IsSound-wider ports lines more n w (Xor a b) wider h = operands_wider lines more n a b w wider h
+IsSound-wider ports lines more n w (Add a b) wider h = operands_wider lines more n a b w wider h
+IsSound-wider ports lines more n w (Sub a b) wider h = operands_wider lines more n a b w wider h
+IsSound-wider ports lines more n w (Eq a b) wider h = comparison_wider lines more n w a b wider h
+IsSound-wider ports lines more n w (Less a b) wider h = comparison_wider lines more n w a b wider h
+IsSound-wider ports lines more n w (Concat a b) wider h = record {
+  high_width = h.high_width;
+  low_width = h.low_width;
+  high = operand_wider lines more n a h.high_width wider h.high;
+  low = operand_wider lines more n b h.low_width wider h.low;
+  sum = h.sum;
+}
+IsSound-wider ports lines more n w (Not a) wider h = operand_wider lines more n a w wider h
+IsSound-wider ports lines more n w (Any a) wider h = record { width = h.width; operand = operand_wider lines more n a h.width wider h.operand; one_bit = h.one_bit }
+IsSound-wider ports lines more n w (Mux s a b) wider h = record { test = operand_wider lines more n s 1 wider h.test; branches = operands_wider lines more n a b w wider h.branches }
+IsSound-wider ports lines more n w (Slice a high low) wider h = record {
+  width = h.width;
+  operand = operand_wider lines more n a h.width wider h.operand;
+  order = h.order;
+  inside = h.inside;
+  bits = h.bits;
+}
+IsSound-wider ports lines more n w (Reg reset next) wider h = h
+
+pub if_some : (o : Option ℕ) (P Q : ℕ → Type 0) → ((m : ℕ) → P m → Q m) → IfSome o P → IfSome o Q
+if_some None P Q f h = tt
+if_some (Some m) P Q f h = f m h
+
+IsSoundLine-wider : (ports : List PortLine) (lines more : List Line) (n : ℕ) (line : Line) → IsWider lines more → IsSoundLine ports lines n line → IsSoundLine ports more n line
+IsSoundLine-wider ports lines more n line wider h = record {
+  some_bit = h.some_bit;
+  small = h.small;
+  equation = IsSound-wider ports lines more n line.width line.equation wider h.equation;
+  next = if_some (next_of line) (λ m. width_at lines m ≡ Some line.width) (λ m. width_at more m ≡ Some line.width) (λ m e. wider m line.width e) h.next;
+  waits = h.waits;
+}
 
 BeginsWithInputs-push : (ports : List PortLine) (lines : List Line) (l : Line) → is_input l.equation ≡ false → BeginsWithInputs ports lines → BeginsWithInputs ports (lines ++ l ∷ [])
 BeginsWithInputs-push ports lines l e h = record {
@@ -47,8 +96,8 @@ IsWellMade-appended b l h few sound computed = record {
   few = (let k = length-append b.lines (l ∷ []) in omega arith);
   inputs = BeginsWithInputs-push b.ports b.lines l computed h.inputs;
   lines = λ n line at. elim (slice_get-newly b.lines l line n at) [
-    | inl o ↦ IsSoundLine-front b.ports b.lines (l ∷ []) n line (h.lines n line o)
-    | inr o ↦ rw (o.0, ← o.1) (IsSoundLine-front b.ports b.lines (l ∷ []) (length b.lines) l sound)
+    | inl o ↦ IsSoundLine-wider b.ports b.lines (b.lines ++ l ∷ []) n line (λ m v. width-front b.lines (l ∷ []) m v) (h.lines n line o)
+    | inr o ↦ rw (o.0, ← o.1) (IsSoundLine-wider b.ports b.lines (b.lines ++ l ∷ []) (length b.lines) l (λ m v. width-front b.lines (l ∷ []) m v) sound)
   ];
   places = h.places;
   drivers = λ k n d. (let i = h.drivers k n d in record { width = i.width; port = i.port; net = width-front b.lines _ n i.width i.net });
@@ -67,6 +116,8 @@ IsSoundLine-input name ports n line h i =
       some_bit = omega (arith, ws.0, v);
       small = omega (arith, ws.1, v);
       equation = rw z i.input;
+      next = tt;
+      waits = λ e. cc;
     } in
     rw i.is made
 
@@ -96,22 +147,51 @@ IsWellMade-with_driver b k n h d = record {
   ];
 }
 
+-- a next net changes nothing else of a line
+next_reset : (e : Equation) (m : ℕ) → reset_of (next_set e m) ≡ reset_of e
+next_reset (Reg reset next) m = refl
+next_reset _ m = refl
+
+next_value : (lines : List Line) (cycle : Cycle) (w : ℕ) (e : Equation) (m : ℕ) → value_of lines cycle w (next_set e m) ≡ value_of lines cycle w e
+next_value lines cycle w (Reg reset next) m = refl
+next_value lines cycle w _ m = refl
+
 -- what a longer list keeps of a line
 kept_width : (line later : Line) → IsKept line later → later.width ≡ line.width
-kept_width line later k = cc
+kept_width line later (inl e) = ap (λ (l : Line). l.width) e
+kept_width line later (inr s) = ap (λ (l : Line). l.width) s.is
 
-kept_value : (b b' : Netlist) → Keeps b b' → (cycle : Cycle) (line later : Line) (P : ℕ → Type 0) → IsKept line later →
-    IfSome (value_of b'.lines cycle later.width later.equation) P → IfSome (value_of b.lines cycle line.width line.equation) P
-kept_value b b' keeps cycle line later P k h = same_value line.width line.equation (subst (λ (l : Line). IfSome (value_of b'.lines cycle l.width l.equation) P) k h) where
-  same_value : (w : ℕ) (e : Equation) → IfSome (value_of b'.lines cycle w e) P → IfSome (value_of b.lines cycle w e) P
-  same_value w (Input port) v = v
-  same_value w (Constant value) v = v
+-- an equation's value among more lines is its value
+wider_width : (o o' : Option ℕ) (f : ℕ → ℕ) (P : ℕ → Type 0) → ((k : ℕ) → o ≡ Some k → o' ≡ Some k) → IfSome (option_map f o') P → IfSome (option_map f o) P
+wider_width None o' f P wider h = tt
+wider_width (Some k) o' f P wider h = subst (λ p. IfSome (option_map f p) P) (wider k refl) h
+
+wider_value : (lines more : List Line) → IsWider lines more → (cycle : Cycle) (w : ℕ) (e : Equation) (P : ℕ → Type 0) → IfSome (value_of more cycle w e) P → IfSome (value_of lines cycle w e) P
+wider_value lines more wider cycle w (Concat a b) P h =
+    wider_width (width_at lines b) (width_at more b) (λ k. (concat_of (word (w - k) (cycle.net a)) (word k (cycle.net b))).bits) P (λ k. wider b k) h
+wider_value lines more wider cycle w _ P h = h
+
+kept_value : (lines more : List Line) → IsWider lines more → (cycle : Cycle) (line later : Line) (P : ℕ → Type 0) → IsKept line later →
+    IfSome (value_of more cycle later.width later.equation) P → IfSome (value_of lines cycle line.width line.equation) P
+kept_value lines more wider cycle line later P (inl e) h =
+    wider_value lines more wider cycle line.width line.equation P (subst (λ (l : Line). IfSome (value_of more cycle l.width l.equation) P) e h)
+kept_value lines more wider cycle line later P (inr s) h =
+    wider_value lines more wider cycle line.width line.equation P
+    (subst (λ o. IfSome o P) (next_value more cycle line.width line.equation s.next) (subst (λ (l : Line). IfSome (value_of more cycle l.width l.equation) P) s.is h))
 
 kept_reset : (line later : Line) (P : ℕ → Type 0) → IsKept line later → IfSome (reset_of later.equation) P → IfSome (reset_of line.equation) P
-kept_reset line later P k h = subst (λ (l : Line). IfSome (reset_of l.equation) P) k h
+kept_reset line later P (inl e) h = subst (λ (l : Line). IfSome (reset_of l.equation) P) e h
+kept_reset line later P (inr s) h = subst (λ o. IfSome o P) (next_reset line.equation s.next) (subst (λ (l : Line). IfSome (reset_of l.equation) P) s.is h)
 
-kept_next : (line later : Line) (P : ℕ → Type 0) → IsKept line later → IfSome (next_of later.equation) P → IfSome (next_of line.equation) P
-kept_next line later P k h = subst (λ (l : Line). IfSome (next_of l.equation) P) k h
+kept_next : (line later : Line) (P : ℕ → Type 0) → IsKept line later → IfSome (next_of later) P → IfSome (next_of line) P
+kept_next line later P (inl e) h = subst (λ (l : Line). IfSome (next_of l) P) e h
+kept_next line later P (inr s) h = rw s.waits tt
+
+kept_widths : (b b' : Netlist) → Keeps b b' → IsWider b.lines b'.lines
+kept_widths b b' keeps n w h =
+    let o = width_at-line b.lines n w h in
+    let l = keeps.lines n o.0 o.1 in
+    width_at-is b'.lines n l.later l.is ∙ ap Some (kept_width o.0 l.later l.kept ∙ o.2)
 
 kept_valuation : (b b' : Netlist) → Keeps b b' → (cycle : Cycle) → IsValuation b' cycle → IsValuation b cycle
 kept_valuation b b' keeps cycle v = record {
@@ -121,7 +201,7 @@ kept_valuation b b' keeps cycle v = record {
       let same : l.later.width ≡ line.width = kept_width line l.later l.kept in
       record {
         fits = subst (λ w. cycle.net n < 2 ^ w) same holds.fits;
-        value = kept_value b b' keeps cycle line l.later (λ x. cycle.net n ≡ x) l.kept holds.value;
+        value = kept_value b.lines b'.lines (kept_widths b b' keeps) cycle line l.later (λ x. cycle.net n ≡ x) l.kept holds.value;
       });
 }
 
@@ -156,21 +236,24 @@ Extends-keeps b b' keeps = record {
   count = kept_count b b' keeps (compared (length b.lines) (length b'.lines));
 }
 
+kept_twice : (x y z : Line) → IsKept x y → IsKept y z → IsKept x z
+kept_twice x y z (inl e) k = subst (λ (l : Line). IsKept l z) e k
+kept_twice x y z (inr s) (inl f) = inr (record { waits = s.waits; next = s.next; is = f ∙ s.is })
+kept_twice x y z (inr s) (inr t) = absurd (let set : y.waits ≡ false = ap (λ (l : Line). l.waits) s.is in let waits = t.waits in cc)
+
 pub Keeps-chain : (a b c : Netlist) → Keeps a b → Keeps b c → Keeps a c
 Keeps-chain a b c p q = record {
   name = q.name ∙ p.name;
   ports = q.ports ∙ p.ports;
   lines = λ n line at. (let l = p.lines n line at in let m = q.lines n l.later l.is in record { later = m.later; is = m.is; kept = kept_twice line l.later m.later l.kept m.kept });
   drivers = λ k n d. q.drivers k n (p.drivers k n d);
-} where
-  kept_twice : (x y z : Line) → IsKept x y → IsKept y z → IsKept x z
-  kept_twice x y z e f = f ∙ e
+}
 
 Keeps-appended : (b : Netlist) (l : Line) → Keeps b (appended b l)
 Keeps-appended b l = record {
   name = refl;
   ports = refl;
-  lines = λ n line at. record { later = line; is = slice_get-front b.lines _ n line at; kept = refl };
+  lines = λ n line at. record { later = line; is = slice_get-front b.lines _ n line at; kept = inl refl };
   drivers = λ k n d. d;
 }
 
@@ -181,7 +264,7 @@ Keeps-with_driver : (b : Netlist) (k n : ℕ) → driver_of b k ≡ None → Kee
 Keeps-with_driver b k n u = record {
   name = refl;
   ports = refl;
-  lines = λ m line at. record { later = line; is = at; kept = refl };
+  lines = λ m line at. record { later = line; is = at; kept = inl refl };
   drivers = λ j m d. driver-kept b.drivers k n j m u d;
 }
 
@@ -189,7 +272,7 @@ pub Extends-with_driver : (b : Netlist) (k n : ℕ) → driver_of b k ≡ None �
 Extends-with_driver b k n u = Extends-keeps b (with_driver b k n) (Keeps-with_driver b k n u)
 
 pub Extends-same : (b b' : Netlist) → b' ≡ b → Extends b b'
-Extends-same b b' e = rw e (Extends-keeps b b (record { name = refl; ports = refl; lines = λ n line at. record { later = line; is = at; kept = refl }; drivers = λ k n d. d }))
+Extends-same b b' e = rw e (Extends-keeps b b (record { name = refl; ports = refl; lines = λ n line at. record { later = line; is = at; kept = inl refl }; drivers = λ k n d. d }))
 
 -- what a new line says in each run
 pub Always-appended : (b : Netlist) (l : Line) → Always (appended b l) (λ run c. NetHolds (appended b l).lines (cycle_of run c) (length b.lines) l)
@@ -233,3 +316,226 @@ driver_read b k w d h i e =
 
 pub driven_view : (b now : Netlist) (k m n : ℕ) → b ≡ now → m ≡ n → with_driver b k m ≡ with_driver now k n
 driven_view b now k m n v e = rw (v, e) refl
+
+-- setting a register's next net
+
+register_next : (e : Equation) (m : ℕ) → is_register e ≡ true → next_in (next_set e m) ≡ Some m
+register_next (Reg reset next) m h = refl
+register_next (Input port) m h = cc
+register_next (Constant value) m h = cc
+register_next (And a b) m h = cc
+register_next (Or a b) m h = cc
+register_next (Xor a b) m h = cc
+register_next (Add a b) m h = cc
+register_next (Sub a b) m h = cc
+register_next (Eq a b) m h = cc
+register_next (Less a b) m h = cc
+register_next (Concat a b) m h = cc
+register_next (Not a) m h = cc
+register_next (Any a) m h = cc
+register_next (Mux s a b) m h = cc
+register_next (Slice a high low) m h = cc
+
+next_input : (e : Equation) (m : ℕ) → is_input (next_set e m) ≡ is_input e
+next_input (Reg reset next) m = refl
+next_input _ m = refl
+
+register_input : (e : Equation) → is_register e ≡ true → is_input e ≡ false
+register_input (Input port) h = cc
+register_input _ h = refl
+
+next_sound : (ports : List PortLine) (lines : List Line) (n w : ℕ) (e : Equation) (m : ℕ) → IsSound ports lines n w e → IsSound ports lines n w (next_set e m)
+next_sound ports lines n w (Reg reset next) m h = h
+next_sound ports lines n w _ m h = h
+
+-- line k of the netlist waits, and net m may be its next net
+pub record MaySet (b : Netlist) (k m : ℕ) (line : Line) : Type 0 where
+  pub is : slice_get b.lines k ≡ Some line
+  pub waits : line.waits ≡ true
+  pub next : HasWidth b m line.width
+
+set_wider : (b : Netlist) (k m : ℕ) (line : Line) → slice_get b.lines k ≡ Some line → IsWider b.lines (set b.lines k (with_next line m))
+set_wider b k m line is n w h =
+    let o = width_at-line b.lines n w h in
+    elim (slice_get-set_kept b.lines k n (with_next line m) o.0 o.1) [
+      | inl e ↦ width_at-is (set b.lines k (with_next line m)) n o.0 e ∙ ap Some o.2
+      | inr e ↦ width_at-is (set b.lines k (with_next line m)) n (with_next line m) e.1 ∙ ap Some (same_line o.0 (subst (λ j. slice_get b.lines j ≡ Some o.0) e.0 o.1) ∙ o.2)
+    ]
+  where
+    same_line : (x : Line) → slice_get b.lines k ≡ Some x → line.width ≡ x.width
+    same_line x e = (let same : line ≡ x = cc in ap (λ (l : Line). l.width) same)
+
+set_inputs : (b : Netlist) (k m : ℕ) (line : Line) → slice_get b.lines k ≡ Some line → is_register line.equation ≡ true → BeginsWithInputs b.ports b.lines → BeginsWithInputs b.ports (set b.lines k (with_next line m))
+set_inputs b k m line is register h = record {
+  first = λ n x at. elim (slice_get-set_kept b.lines k n (with_next line m) x (h.first n x at)) [
+    | inl o ↦ o
+    | inr o ↦ absurd (not_there n x at o.0)
+  ];
+  no_others = λ n x at i. elim (slice_get-set_newly b.lines k n (with_next line m) x at) [
+    | inl o ↦ h.no_others n x o.1 i
+    | inr o ↦ absurd (not_input x o.1 i)
+  ];
+} where
+  not_there : (n : ℕ) (x : Line) → slice_get (input_lines 0 b.ports) n ≡ Some x → n ≡ k → ⊥
+  not_there n x at e =
+      (let here : slice_get b.lines k ≡ Some x = subst (λ j. slice_get b.lines j ≡ Some x) e (h.first n x at) in
+      let same : x ≡ line = cc in
+      let i = input_lines-from b.ports 0 n x at in
+      let input : is_input x.equation ≡ true = ap (λ (l : Line). is_input l.equation) i.is in
+      let other : is_input line.equation ≡ false = register_input line.equation register in
+      let both : is_input x.equation ≡ is_input line.equation = ap (λ (l : Line). is_input l.equation) same in
+      cc)
+
+  not_input : (x : Line) → with_next line m ≡ x → is_input x.equation ≡ true → ⊥
+  not_input x e i =
+      (let same : is_input (next_set line.equation m) ≡ is_input x.equation = ap (λ (l : Line). is_input l.equation) e in
+      let old : is_input (next_set line.equation m) ≡ is_input line.equation = next_input line.equation m in
+      let other : is_input line.equation ≡ false = register_input line.equation register in
+      cc)
+
+set_line : (b : Netlist) (k m : ℕ) (line : Line) → IsWellMade b → MaySet b k m line → IsSoundLine b.ports (set b.lines k (with_next line m)) k (with_next line m)
+set_line b k m line h s =
+    let old = h.lines k line s.is in
+    let wider = set_wider b k m line s.is in
+    record {
+      some_bit = old.some_bit;
+      small = old.small;
+      equation = next_sound b.ports (set b.lines k (with_next line m)) k line.width line.equation m (IsSound-wider b.ports b.lines (set b.lines k (with_next line m)) k line.width line.equation wider old.equation);
+      next = subst (λ o. IfSome o (λ j. width_at (set b.lines k (with_next line m)) j ≡ Some line.width)) (sym (register_next line.equation m (old.waits s.waits))) (wider m line.width s.next);
+      waits = λ e. cc;
+    }
+
+pub IsWellMade-with_next : (b : Netlist) (k m : ℕ) (line : Line) → IsWellMade b → MaySet b k m line → IsWellMade (with_line b k (with_next line m))
+IsWellMade-with_next b k m line h s =
+    let wider = set_wider b k m line s.is in
+    record {
+      header = h.header;
+      few = rw length-set h.few;
+      inputs = set_inputs b k m line s.is ((h.lines k line s.is).waits s.waits) h.inputs;
+      lines = λ n x at. elim (slice_get-set_newly b.lines k n (with_next line m) x at) [
+        | inl o ↦ IsSoundLine-wider b.ports b.lines (set b.lines k (with_next line m)) n x wider (h.lines n x o.1)
+        | inr o ↦ rw (o.0, ← o.1) (set_line b k m line h s)
+      ];
+      places = h.places;
+      drivers = λ j n d. (let i = h.drivers j n d in record { width = i.width; port = i.port; net = wider n i.width i.net });
+    }
+
+Keeps-with_next : (b : Netlist) (k m : ℕ) (line : Line) → MaySet b k m line → Keeps b (with_line b k (with_next line m))
+Keeps-with_next b k m line s = record {
+  name = refl;
+  ports = refl;
+  lines = λ n x at. elim (slice_get-set_kept b.lines k n (with_next line m) x at) [
+    | inl o ↦ record { later = x; is = o; kept = inl refl }
+    | inr o ↦ record { later = with_next line m; is = o.1; kept = inr (was_set x (subst (λ j. slice_get b.lines j ≡ Some x) o.0 at)) }
+  ];
+  drivers = λ j n d. d;
+} where
+  was_set : (x : Line) → slice_get b.lines k ≡ Some x → IsSetFrom x (with_next line m)
+  was_set x e = (let is = s.is in let same : line ≡ x = cc in
+      record { waits = subst (λ (l : Line). l.waits ≡ true) same s.waits; next = m; is = ap (λ (l : Line). with_next l m) same })
+
+pub Extends-with_next : (b : Netlist) (k m : ℕ) (line : Line) → MaySet b k m line → Extends b (with_line b k (with_next line m))
+Extends-with_next b k m line s = Extends-keeps b (with_line b k (with_next line m)) (Keeps-with_next b k m line s)
+
+-- the register takes what its next net was
+pub with_next-steps : (b : Netlist) (k m : ℕ) (line : Line) → IsWellMade b → MaySet b k m line → (run : Run) (cycles : ℕ) → IsRun (with_line b k (with_next line m)) run cycles → (c : ℕ) → c + 1 < cycles → run.net (c + 1) k ≡ run.net c m
+with_next-steps b k m line h s run cycles r c lt =
+    let is = slice_get-set_same b.lines k (with_next line m) (slice_get-within b.lines k line s.is) in
+    subst (λ o. IfSome o (λ j. run.net (c + 1) k ≡ run.net c j)) (register_next line.equation m ((h.lines k line s.is).waits s.waits)) ((r.steps c lt).registers k (with_next line m) is)
+
+-- which registers wait
+
+pub waiting-appended : (b : Netlist) (l : Line) (n : ℕ) → IsWaiting b n → IsWaiting (appended b l) n
+waiting-appended b l n h = record { line = h.line; is = slice_get-front b.lines (l ∷ []) n h.line h.is; waits = h.waits }
+
+pub waiting-newly : (b : Netlist) (l : Line) (n : ℕ) → IsWaiting (appended b l) n → IsWaiting b n ⊎ (l.waits ≡ true) × (n ≡ length b.lines)
+waiting-newly b l n h = elim (slice_get-newly b.lines l h.line n h.is) [
+  | inl o ↦ inl (record { line = h.line; is = o; waits = h.waits })
+  | inr o ↦ inr (ap (λ (x : Line). x.waits) o.1 ∙ h.waits, o.0)
+]
+
+pub waiting-last : (b : Netlist) (l : Line) → l.waits ≡ true → IsWaiting (appended b l) (length b.lines)
+waiting-last b l h = record { line = l; is = slice_get-last b.lines l; waits = h }
+
+pub waiting-set : (b : Netlist) (k m n : ℕ) (line : Line) → (n ≡ k → ⊥) → IsWaiting b n → IsWaiting (with_line b k (with_next line m)) n
+waiting-set b k m n line d h = record { line = h.line; is = slice_get-set_other b.lines k n (with_next line m) h.line d h.is; waits = h.waits }
+
+pub waiting-unset : (b : Netlist) (k m n : ℕ) (line : Line) → IsWaiting (with_line b k (with_next line m)) n → IsWaiting b n × (n ≡ k → ⊥)
+waiting-unset b k m n line h = elim (slice_get-set_newly b.lines k n (with_next line m) h.line h.is) [
+  | inl o ↦ (record { line = h.line; is = o.1; waits = h.waits }, o.0)
+  | inr o ↦ absurd (let set : h.line.waits ≡ false = ap (λ (x : Line). x.waits) (sym o.1) in let waits = h.waits in cc)
+]
+
+-- what the makers' conditions say of the lines
+
+pub width_known : (b : Netlist) (n : ℕ) → n < length b.lines → HasWidth b n (width_of b n)
+width_known b n h =
+    let o = slice_get-some b.lines n h in
+    let is : width_at b.lines n ≡ Some o.0.width = width_at-is b.lines n o.0 o.1 in
+    is ∙ ap Some (sym (ap (λ (w : Option ℕ). unwrap_or w 0) is))
+
+operand_known : (b : Netlist) (x a : ℕ) → x ≡ a → a < length b.lines → IsOperand b.lines (length b.lines) x (width_of b a)
+operand_known b x a e h = rw e (record { below = h; width = width_known b a h })
+
+pub comparison_known : (b : Netlist) (x y a c : ℕ) → x ≡ a → y ≡ c → a < length b.lines → c < length b.lines → width_of b a ≡ width_of b c → IsComparison b.lines (length b.lines) 1 x y
+comparison_known b x y a c e f h k same = record {
+  width = width_of b a;
+  operands = record { left = operand_known b x a e h; right = subst (λ w. IsOperand b.lines (length b.lines) y w) (sym same) (operand_known b y c f k) };
+  one_bit = refl;
+}
+
+pub any_known : (b : Netlist) (x a : ℕ) → x ≡ a → a < length b.lines → IsAnyOf b.lines (length b.lines) 1 x
+any_known b x a e h = record { width = width_of b a; operand = operand_known b x a e h; one_bit = refl }
+
+-- a line that was read at its place
+pub line_read : (lines : List Line) (k n : ℕ) (line : Line) → k ≡ n → n < length lines → line ≡ get_or lines k line → slice_get lines n ≡ Some line
+line_read lines k n line e h is = slice_get_read lines (length lines) n line refl h (subst (λ j. line ≡ get_or lines j line) e is)
+
+pub line_bounds : (b now : Netlist) (k n : ℕ) (line : Line) → b ≡ now → IsWellMade b → k ≡ n → n < length now.lines → line ≡ get_or b.lines k line → (1 ≤ line.width) × (line.width ≤ 128)
+line_bounds b now k n line v h e lt is =
+    let few : n < length b.lines = subst (λ (x : Netlist). n < length x.lines) (sym v) lt in
+    let sound = h.lines n line (line_read b.lines k n line e few is) in
+    (sound.some_bit, sound.small)
+
+-- a line that lacks nothing is its width and its equation
+pub whole_line : (b : Netlist) (n w : ℕ) (line : Line) → (IsWaiting b n → ⊥) → slice_get b.lines n ≡ Some line → HasWidth b n w → slice_get b.lines n ≡ Some (line_of w line.equation)
+whole_line b n w line clocked is has =
+    let width : line.width ≡ w = (let at = width_at-is b.lines n line is in cc) in
+    let set : line.waits ≡ false = not_waiting line.waits refl in
+    is ∙ ap Some (subst (λ v. line ≡ line_with v line.equation false) width (subst (λ t. line ≡ line_with line.width line.equation t) set refl))
+  where
+    not_waiting : (t : Bool) → line.waits ≡ t → line.waits ≡ false
+    not_waiting true e = absurd (clocked (record { line = line; is = is; waits = e }))
+    not_waiting false e = e
+
+-- a register's first value
+pub register_starts : (old new : Netlist) (n m w : ℕ) (reset : Val) → (new ≡ appended old (line_with w (Reg reset m) true)) × (n ≡ length old.lines) →
+    (run : Run) (cycles : ℕ) → IsRun new run cycles → 0 < cycles → run.net 0 n ≡ reset.bits
+register_starts old new n m w reset made run cycles r lt =
+    let r' : IsRun (appended old (line_with w (Reg reset m) true)) run cycles = subst (λ (b : Netlist). IsRun b run cycles) made.0 r in
+    rw made.1 ((r'.starts lt).registers (length old.lines) (line_with w (Reg reset m) true) (slice_get-last old.lines (line_with w (Reg reset m) true)))
+
+pub register_waits : (old new : Netlist) (n : ℕ) (l : Line) → l.waits ≡ true → (new ≡ appended old l) × (n ≡ length old.lines) → IsWaiting new n
+register_waits old new n l h made = rw (made.0, made.1) (waiting-last old l h)
+
+pub if_ok : {E : Type 0} (r : Result ℕ E) (P Q : ℕ → Type 0) → ((n : ℕ) → P n → Q n) → IfOk r P → IfOk r Q
+if_ok (Ok n) P Q f h = f n h
+if_ok (Err e) P Q f h = tt
+
+pub may_set : (b : Netlist) (k m : ℕ) (w : IsWaiting b k) → m < length b.lines → width_of b k ≡ width_of b m → MaySet b k m w.line
+may_set b k m w h same = record {
+  is = w.is;
+  waits = w.waits;
+  next =
+      (let at : width_of b k ≡ w.line.width = ap (λ (o : Option ℕ). unwrap_or o 0) (width_at-is b.lines k w.line w.is) in
+      subst (λ v. HasWidth b m v) (sym same ∙ at) (width_known b m h));
+}
+
+-- the fields of a builder in which a line was set
+pub set_view : (b now : Netlist) (k n : ℕ) (read line : Line) (next m : ℕ) (x : Line) → b ≡ now → k ≡ n → next ≡ m → n < length now.lines → read ≡ get_or b.lines k read →
+    slice_get now.lines n ≡ Some line → x ≡ with_next read next → with_line b k x ≡ with_line now n (with_next line m)
+set_view b now k n read line next m x v e f lt is at p =
+    let few : n < length b.lines = subst (λ (y : Netlist). n < length y.lines) (sym v) lt in
+    let here : slice_get now.lines n ≡ Some read = subst (λ (y : Netlist). slice_get y.lines n ≡ Some read) v (line_read b.lines k n read e few is) in
+    let same : read ≡ line = cc in
+    rw (p, same, v, e, f) refl

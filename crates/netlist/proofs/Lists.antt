@@ -56,3 +56,31 @@ driver-kept (d ∷ ds) zero n zero m u e = cc
 driver-kept (d ∷ ds) zero n (suc j) m u e = e
 driver-kept (d ∷ ds) (suc k) n zero m u e = e
 driver-kept (d ∷ ds) (suc k) n (suc j) m u e = driver-kept ds k n j m u e
+
+-- what stands in a list in which one item was set
+pub slice_get-set_kept : {X : Type 0} (xs : List X) (k n : ℕ) (y x : X) → slice_get xs n ≡ Some x → (slice_get (set xs k y) n ≡ Some x) ⊎ (n ≡ k) × (slice_get (set xs k y) n ≡ Some y)
+slice_get-set_kept [] k n y x e = cc
+slice_get-set_kept (a ∷ xs) zero zero y x e = inr (refl, refl)
+slice_get-set_kept (a ∷ xs) zero (suc n) y x e = inl e
+slice_get-set_kept (a ∷ xs) (suc k) zero y x e = inl e
+slice_get-set_kept (a ∷ xs) (suc k) (suc n) y x e = elim (slice_get-set_kept xs k n y x e) [ inl o ↦ inl o | inr o ↦ inr (ap suc o.0, o.1) ]
+
+pub slice_get-set_newly : {X : Type 0} (xs : List X) (k n : ℕ) (y z : X) → slice_get (set xs k y) n ≡ Some z → ((n ≡ k → ⊥) × (slice_get xs n ≡ Some z)) ⊎ (n ≡ k) × (y ≡ z)
+slice_get-set_newly [] k n y z e = cc
+slice_get-set_newly (a ∷ xs) zero zero y z e = inr (refl, (cc))
+slice_get-set_newly (a ∷ xs) zero (suc n) y z e = inl ((λ p. absurd (omega (arith, p))), e)
+slice_get-set_newly (a ∷ xs) (suc k) zero y z e = inl ((λ p. absurd (omega (arith, p))), e)
+slice_get-set_newly (a ∷ xs) (suc k) (suc n) y z e = elim (slice_get-set_newly xs k n y z e)
+    [ inl o ↦ inl ((λ p. o.0 (let q : n ≡ k = omega (arith, p) in q)), o.1) | inr o ↦ inr (ap suc o.0, o.1) ]
+
+pub slice_get-set_same : {X : Type 0} (xs : List X) (k : ℕ) (y : X) → k < length xs → slice_get (set xs k y) k ≡ Some y
+slice_get-set_same [] k y h = absurd (omega arith)
+slice_get-set_same (a ∷ xs) zero y h = refl
+slice_get-set_same (a ∷ xs) (suc k) y h = slice_get-set_same xs k y (omega arith)
+
+pub slice_get-set_other : {X : Type 0} (xs : List X) (k n : ℕ) (y x : X) → (n ≡ k → ⊥) → slice_get xs n ≡ Some x → slice_get (set xs k y) n ≡ Some x
+slice_get-set_other [] k n y x d e = cc
+slice_get-set_other (a ∷ xs) zero zero y x d e = absurd (d refl)
+slice_get-set_other (a ∷ xs) zero (suc n) y x d e = e
+slice_get-set_other (a ∷ xs) (suc k) zero y x d e = e
+slice_get-set_other (a ∷ xs) (suc k) (suc n) y x d e = slice_get-set_other xs k n y x (λ p. d (ap suc p)) e

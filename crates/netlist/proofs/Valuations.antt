@@ -1,12 +1,16 @@
 -- Each net's value from those before it, in one pass: the valuation that there is.
-use Rattle.std.proofs.Common.{◌≡◌, ℕ, zero, suc, ◌+◌, ◌^◌, ◌<◌, ◌≤◌, Bool, true, false, List, length, slice_get, Option, Some, None, refl, sym, subst, ap, ◌∙◌, arith, ◌-◌, eq-eqb, cond, eqb}
-use Rattle.std.specs.Prelude.{IfSome, unwrap_or, option_map}
+use Rattle.std.proofs.Common.{◌≡◌, ℕ, zero, suc, ◌+◌, ◌-◌, ◌*◌, ◌/◌, ◌%◌, ◌^◌, ◌<◌, ◌≤◌, Bool, true, false, List, length, slice_get, Option, Some, None, refl, sym, subst, ap, ◌∙◌, arith, bit_and, bit_or, eq-eqb, cond, eqb}
+use Rattle.std.specs.Prelude.{◌==◌, nat_lt, bit_xor, IfSome, unwrap_or, option_map, if◌then◌else◌}
+use Rattle.std.specs.Int.Bits.{and_lt}
 use Rattle.std.proofs.lemmas.Bool.{ne_eqb}
+use Rattle.std.proofs.lemmas.Nat.{or_lt, xor_lt, pow_pos, pow-add, mul-add-lt}
+use Rattle.av_base.specs.Word.{word, concat_of}
 use Rattle.netlist.specs.declared.line.Line.{Line}
+use Rattle.netlist.specs.declared.line.PortLine.{PortLine}
 use Rattle.netlist.specs.declared.line.Equation.{Equation}
-use Rattle.netlist.specs.declared.line.Equation.TheVariants.{Input, Constant}
-use Rattle.netlist.specs.Netlists.{Netlist, IsInputPort, IsSound, IsWellMade, HasWidth}
-use Rattle.netlist.specs.Runs.{Cycle, value_of, IsValuation, reset_of, next_of, is_state, InputsFit, StateFits, SameInputs, SameState, SameNets, HasValuation}
+use Rattle.netlist.specs.declared.line.Equation.TheVariants.{Input, Constant, And, Or, Xor, Add, Sub, Eq, Less, Concat, Not, Any, Mux, Slice, Reg}
+use Rattle.netlist.specs.Netlists.{Netlist, IsInputPort, IsSound, IsWellMade, HasWidth, width_at, is_register, next_in, next_of}
+use Rattle.netlist.specs.Runs.{Cycle, value_of, IsValuation, reset_of, InputsFit, StateFits, SameInputs, SameState, SameNets, HasValuation}
 use Rattle.netlist.proofs.Lists.{slice_get-some, slice_get-within, width_at-line, width_at-is}
 
 -- the cycle with these values of the nets
@@ -65,43 +69,136 @@ value_same : (b : Netlist) (x y : Cycle) (n w : ℕ) (e : Equation) → IsSound 
     ((m a : ℕ) → x.cell m a ≡ y.cell m a) → ((m : ℕ) → m < n → x.net m ≡ y.net m) → value_of b.lines x w e ≡ value_of b.lines y w e
 value_same b x y n w (Input port) s inputs cells nets = ap Some (inputs port w s)
 value_same b x y n w (Constant value) s inputs cells nets = refl
+value_same b x y n w (And a c) s inputs cells nets = rw (nets a s.left.below, nets c s.right.below) refl
+value_same b x y n w (Or a c) s inputs cells nets = rw (nets a s.left.below, nets c s.right.below) refl
+value_same b x y n w (Xor a c) s inputs cells nets = rw (nets a s.left.below, nets c s.right.below) refl
+value_same b x y n w (Add a c) s inputs cells nets = rw (nets a s.left.below, nets c s.right.below) refl
+value_same b x y n w (Sub a c) s inputs cells nets = rw (nets a s.left.below, nets c s.right.below) refl
+value_same b x y n w (Eq a c) s inputs cells nets = rw (nets a s.operands.left.below, nets c s.operands.right.below) refl
+value_same b x y n w (Less a c) s inputs cells nets = rw (nets a s.operands.left.below, nets c s.operands.right.below) refl
+value_same b x y n w (Concat a c) s inputs cells nets = rw (nets a s.high.below, nets c s.low.below) refl
+value_same b x y n w (Not a) s inputs cells nets = rw (nets a s.below) refl
+value_same b x y n w (Any a) s inputs cells nets = rw (nets a s.operand.below) refl
+value_same b x y n w (Mux t a c) s inputs cells nets = rw (nets t s.test.below, nets a s.branches.left.below, nets c s.branches.right.below) refl
+value_same b x y n w (Slice a high low) s inputs cells nets = rw (nets a s.operand.below) refl
+value_same b x y n w (Reg reset next) s inputs cells nets = refl
 
--- the equations whose value is state give none; the others give one
-no_value : (lines : List Line) (cycle : Cycle) (w : ℕ) (e : Equation) → is_state e ≡ true → value_of lines cycle w e ≡ None
+-- a register gives no value; the others give one
+no_value : (lines : List Line) (cycle : Cycle) (w : ℕ) (e : Equation) → is_register e ≡ true → value_of lines cycle w e ≡ None
+no_value lines cycle w (Reg reset next) h = refl
 no_value lines cycle w (Input port) h = cc
 no_value lines cycle w (Constant value) h = cc
+no_value lines cycle w (And a b) h = cc
+no_value lines cycle w (Or a b) h = cc
+no_value lines cycle w (Xor a b) h = cc
+no_value lines cycle w (Add a b) h = cc
+no_value lines cycle w (Sub a b) h = cc
+no_value lines cycle w (Eq a b) h = cc
+no_value lines cycle w (Less a b) h = cc
+no_value lines cycle w (Concat a b) h = cc
+no_value lines cycle w (Not a) h = cc
+no_value lines cycle w (Any a) h = cc
+no_value lines cycle w (Mux s a b) h = cc
+no_value lines cycle w (Slice a high low) h = cc
 
-some_value : (b : Netlist) (cycle : Cycle) (n w : ℕ) (e : Equation) → IsSound b.ports b.lines n w e → is_state e ≡ false → (x : ℕ) × (value_of b.lines cycle w e ≡ Some x)
-some_value b cycle n w (Input port) s h = (cycle.input port, refl)
-some_value b cycle n w (Constant value) s h = (value.bits, refl)
+some_value : (b : Netlist) (cycle : Cycle) (n w : ℕ) (e : Equation) → IsSound b.ports b.lines n w e → is_register e ≡ false → (x : ℕ) × (value_of b.lines cycle w e ≡ Some x)
+some_value b cycle n w (Reg reset next) s h = cc
+some_value b cycle n w (Concat a c) s h = (_, ap (option_map (λ k. (concat_of (word (w - k) (cycle.net a)) (word k (cycle.net c))).bits)) s.low.width)
+some_value b cycle n w _ s h = (_, refl)
 
-pub no_reset : (e : Equation) → is_state e ≡ false → reset_of e ≡ None
-no_reset (Input port) h = refl
-no_reset (Constant value) h = refl
+pub no_reset : (e : Equation) → is_register e ≡ false → reset_of e ≡ None
+no_reset (Reg reset next) h = cc
+no_reset _ h = refl
 
-pub no_next : (e : Equation) → is_state e ≡ false → next_of e ≡ None
-no_next (Input port) h = refl
-no_next (Constant value) h = refl
+no_next_in : (e : Equation) → is_register e ≡ false → next_in e ≡ None
+no_next_in (Reg reset next) h = cc
+no_next_in _ h = refl
+
+pub no_next : (line : Line) → is_register line.equation ≡ false → next_of line ≡ None
+no_next line h = by_waits line.waits where
+  by_waits : (b : Bool) → (if b then None else next_in line.equation) ≡ None
+  by_waits true = refl
+  by_waits false = no_next_in line.equation h
 
 -- operands within their widths give a value within its width
+bit_fits : (t : Bool) (x y w v : ℕ) → w ≡ 1 → x ≤ 1 → y ≤ 1 → (if t then x else y) ≡ v → v < 2 ^ w
+bit_fits true x y w v e h k is = let small : v < 2 ^ 1 = omega arith in rw e small
+bit_fits false x y w v e h k is = let small : v < 2 ^ 1 = omega arith in rw e small
+
+mod_fits : (x w v : ℕ) → x % 2 ^ w ≡ v → v < 2 ^ w
+mod_fits x w v is = let p : 0 < 2 ^ w = pow_pos w in omega arith
+
+choice_fits : (t : Bool) (x y w v : ℕ) → x < 2 ^ w → y < 2 ^ w → (if t then x else y) ≡ v → v < 2 ^ w
+choice_fits true x y w v h k is = subst (λ u. u < 2 ^ w) is h
+choice_fits false x y w v h k is = subst (λ u. u < 2 ^ w) is k
+
+joined_lt : (w v a b : ℕ) → a < 2 ^ w → b < 2 ^ v → a * 2 ^ v + b < 2 ^ (w + v)
+joined_lt w v a b p q =
+    let e : 2 ^ v * 2 ^ w ≡ 2 ^ (w + v) = grind (arith, pow-add) in
+    rw (← e) (mul-add-lt a (2 ^ v) b (2 ^ w) p q)
+
 value_fits : (b : Netlist) (cycle : Cycle) (n w : ℕ) (e : Equation) → IsSound b.ports b.lines n w e → InputsFit b.ports cycle.input →
     ((m v : ℕ) → m < n → HasWidth b m v → cycle.net m < 2 ^ v) → (x : ℕ) → value_of b.lines cycle w e ≡ Some x → x < 2 ^ w
 value_fits b cycle n w (Input port) s inputs nets x e =
-    let h = inputs port w s in
     let is : cycle.input port ≡ x = cc in
-    subst (λ v. v < 2 ^ w) is h
+    subst (λ v. v < 2 ^ w) is (inputs port w s)
 value_fits b cycle n w (Constant value) s inputs nets x e =
     let is : value.bits ≡ x = cc in
-    subst (λ v. v < 2 ^ w) is (subst (λ v. value.bits < 2 ^ v) s.1 s.0.fits)
+    subst (λ v. v < 2 ^ w) is (subst (λ v. value.bits < 2 ^ v) s.width s.word.fits)
+value_fits b cycle n w (And a c) s inputs nets x e =
+    let is : bit_and (cycle.net a) (cycle.net c) ≡ x = cc in
+    subst (λ v. v < 2 ^ w) is (and_lt w (cycle.net a) (cycle.net c) (nets a w s.left.below s.left.width) (nets c w s.right.below s.right.width))
+value_fits b cycle n w (Or a c) s inputs nets x e =
+    let is : bit_or (cycle.net a) (cycle.net c) ≡ x = cc in
+    subst (λ v. v < 2 ^ w) is (or_lt w (cycle.net a) (cycle.net c) (nets a w s.left.below s.left.width) (nets c w s.right.below s.right.width))
+value_fits b cycle n w (Xor a c) s inputs nets x e =
+    let is : bit_xor (cycle.net a) (cycle.net c) ≡ x = cc in
+    subst (λ v. v < 2 ^ w) is (xor_lt w (cycle.net a) (cycle.net c) (nets a w s.left.below s.left.width) (nets c w s.right.below s.right.width))
+value_fits b cycle n w (Add a c) s inputs nets x e =
+    let is : (cycle.net a + cycle.net c) % 2 ^ w ≡ x = cc in mod_fits (cycle.net a + cycle.net c) w x is
+value_fits b cycle n w (Sub a c) s inputs nets x e =
+    let is : (cycle.net a + (2 ^ w - cycle.net c)) % 2 ^ w ≡ x = cc in mod_fits (cycle.net a + (2 ^ w - cycle.net c)) w x is
+value_fits b cycle n w (Eq a c) s inputs nets x e =
+    let is : (if cycle.net a == cycle.net c then 1 else 0) ≡ x = cc in bit_fits (cycle.net a == cycle.net c) 1 0 w x s.one_bit (omega arith) (omega arith) is
+value_fits b cycle n w (Less a c) s inputs nets x e =
+    let is : (if nat_lt (cycle.net a) (cycle.net c) then 1 else 0) ≡ x = cc in bit_fits (nat_lt (cycle.net a) (cycle.net c)) 1 0 w x s.one_bit (omega arith) (omega arith) is
+value_fits b cycle n w (Concat a c) s inputs nets x e =
+    let known : option_map (λ k. cycle.net a * 2 ^ k + cycle.net c) (width_at b.lines c) ≡ Some (cycle.net a * 2 ^ s.low_width + cycle.net c) = ap (option_map (λ k. cycle.net a * 2 ^ k + cycle.net c)) s.low.width in
+    let is : cycle.net a * 2 ^ s.low_width + cycle.net c ≡ x = cc in
+    subst (λ v. v < 2 ^ w) is (rw s.sum (joined_lt s.high_width s.low_width (cycle.net a) (cycle.net c) (nets a s.high_width s.high.below s.high.width) (nets c s.low_width s.low.below s.low.width)))
+value_fits b cycle n w (Not a) s inputs nets x e =
+    let is : 2 ^ w - 1 - cycle.net a ≡ x = cc in
+    let p : 0 < 2 ^ w = pow_pos w in omega arith
+value_fits b cycle n w (Any a) s inputs nets x e =
+    let is : (if cycle.net a == 0 then 0 else 1) ≡ x = cc in bit_fits (cycle.net a == 0) 0 1 w x s.one_bit (omega arith) (omega arith) is
+value_fits b cycle n w (Mux t a c) s inputs nets x e =
+    let is : (if cycle.net t == 0 then cycle.net c else cycle.net a) ≡ x = cc in
+    choice_fits (cycle.net t == 0) (cycle.net c) (cycle.net a) w x (nets c w s.branches.right.below s.branches.right.width) (nets a w s.branches.left.below s.branches.left.width) is
+value_fits b cycle n w (Slice a high low) s inputs nets x e =
+    let is : cycle.net a / 2 ^ low % 2 ^ (high - low + 1) ≡ x = cc in
+    rw s.bits (mod_fits (cycle.net a / 2 ^ low) (high - low + 1) x is)
+value_fits b cycle n w (Reg reset next) s inputs nets x e = cc
 
-pub reset_fits : (b : Netlist) (n w : ℕ) (e : Equation) → IsSound b.ports b.lines n w e → is_state e ≡ true → unwrap_or (reset_of e) 0 < 2 ^ w
-reset_fits b n w (Input port) s h = cc
-reset_fits b n w (Constant value) s h = cc
+pub reset_fits : (ports : List PortLine) (lines : List Line) (n w : ℕ) (e : Equation) → IsSound ports lines n w e → is_register e ≡ true → unwrap_or (reset_of e) 0 < 2 ^ w
+reset_fits ports lines n w (Reg reset next) s h = subst (λ v. reset.bits < 2 ^ v) s.width s.word.fits
+reset_fits ports lines n w (Input port) sound h = cc
+reset_fits ports lines n w (Constant value) sound h = cc
+reset_fits ports lines n w (And a b) sound h = cc
+reset_fits ports lines n w (Or a b) sound h = cc
+reset_fits ports lines n w (Xor a b) sound h = cc
+reset_fits ports lines n w (Add a b) sound h = cc
+reset_fits ports lines n w (Sub a b) sound h = cc
+reset_fits ports lines n w (Eq a b) sound h = cc
+reset_fits ports lines n w (Less a b) sound h = cc
+reset_fits ports lines n w (Concat a b) sound h = cc
+reset_fits ports lines n w (Not a) sound h = cc
+reset_fits ports lines n w (Any a) sound h = cc
+reset_fits ports lines n w (Mux s a b) sound h = cc
+reset_fits ports lines n w (Slice a high low) sound h = cc
 
-pub next_fits : (b : Netlist) (net : ℕ → ℕ) (n w : ℕ) (e : Equation) → IsSound b.ports b.lines n w e → is_state e ≡ true → ((m v : ℕ) → HasWidth b m v → net m < 2 ^ v) →
-    unwrap_or (option_map net (next_of e)) 0 < 2 ^ w
-next_fits b net n w (Input port) s h fits = cc
-next_fits b net n w (Constant value) s h fits = cc
+pub next_fits : (net : ℕ → ℕ) (w : ℕ) (o : Option ℕ) → IfSome o (λ m. net m < 2 ^ w) → unwrap_or (option_map net o) 0 < 2 ^ w
+next_fits net w None h = pow_pos w
+next_fits net w (Some m) h = h
 
 -- from here on nothing goes by the kinds of equations
 
@@ -125,14 +222,14 @@ completed_value b given n line h at =
     ∙ ap (λ o. unwrap_or o (given.net n)) (value_same b (with_nets given (nets_after b.lines given n)) (completed b.lines given) n line.width line.equation (h.lines n line at).equation
     (λ k v i. refl) (λ m a. refl) (λ m k. below_same b.lines given n m (omega arith) k))
 
-pub completed_state : (b : Netlist) (given : Cycle) (n : ℕ) (line : Line) → IsWellMade b → slice_get b.lines n ≡ Some line → is_state line.equation ≡ true →
+pub completed_state : (b : Netlist) (given : Cycle) (n : ℕ) (line : Line) → IsWellMade b → slice_get b.lines n ≡ Some line → is_register line.equation ≡ true →
     (completed b.lines given).net n ≡ given.net n
 completed_state b given n line h at state =
     completed_value b given n line h at ∙ ap (λ o. unwrap_or o (given.net n)) (no_value b.lines (completed b.lines given) line.width line.equation state)
 
 -- a net's value fits, where those of its operands do
 fits_one : (b : Netlist) (given : Cycle) (n : ℕ) (line : Line) → IsWellMade b → InputsFit b.ports given.input → StateFits b given → slice_get b.lines n ≡ Some line →
-    ((m v : ℕ) → m < n → HasWidth b m v → (completed b.lines given).net m < 2 ^ v) → (s : Bool) → is_state line.equation ≡ s → (completed b.lines given).net n < 2 ^ line.width
+    ((m v : ℕ) → m < n → HasWidth b m v → (completed b.lines given).net m < 2 ^ v) → (s : Bool) → is_register line.equation ≡ s → (completed b.lines given).net n < 2 ^ line.width
 fits_one b given n line h inputs state at below true e =
     subst (λ v. v < 2 ^ line.width) (sym (completed_state b given n line h at e)) (state n line at e)
 fits_one b given n line h inputs state at below false e =
@@ -147,7 +244,7 @@ fits_below b given h inputs state zero n v lt has = absurd (omega arith)
 fits_below b given h inputs state (suc k) n v lt has =
     let at = width_at-line b.lines n v has in
     subst (λ w. (completed b.lines given).net n < 2 ^ w) at.2
-    (fits_one b given n at.0 h inputs state at.1 (λ m w below has'. fits_below b given h inputs state k m w (omega arith) has') (is_state at.0.equation) refl)
+    (fits_one b given n at.0 h inputs state at.1 (λ m w below has'. fits_below b given h inputs state k m w (omega arith) has') (is_register at.0.equation) refl)
 
 pub completed_fits : (b : Netlist) (given : Cycle) → IsWellMade b → InputsFit b.ports given.input → StateFits b given → (n v : ℕ) → HasWidth b n v → (completed b.lines given).net n < 2 ^ v
 completed_fits b given h inputs state n v has = fits_below b given h inputs state (suc n) n v (omega arith) has
@@ -171,7 +268,7 @@ has_valuation_law b h given inputs state = record {
 
 -- and no second one
 same_one : (b : Netlist) (x y : Cycle) (n : ℕ) (line : Line) → IsWellMade b → IsValuation b x → IsValuation b y → SameInputs b x y → SameState b x y → slice_get b.lines n ≡ Some line →
-    ((m : ℕ) → m < n → x.net m ≡ y.net m) → (s : Bool) → is_state line.equation ≡ s → x.net n ≡ y.net n
+    ((m : ℕ) → m < n → x.net m ≡ y.net m) → (s : Bool) → is_register line.equation ≡ s → x.net n ≡ y.net n
 same_one b x y n line h vx vy inputs state at below true e = state.registers n line at e
 same_one b x y n line h vx vy inputs state at below false e =
     let sound = (h.lines n line at).equation in
@@ -185,7 +282,7 @@ same_below : (b : Netlist) (x y : Cycle) → IsWellMade b → IsValuation b x �
 same_below b x y h vx vy inputs state zero n lt within = absurd (omega arith)
 same_below b x y h vx vy inputs state (suc k) n lt within =
     let some = slice_get-some b.lines n within in
-    same_one b x y n some.0 h vx vy inputs state some.1 (λ m below. same_below b x y h vx vy inputs state k m (omega arith) (omega arith)) (is_state some.0.equation) refl
+    same_one b x y n some.0 h vx vy inputs state some.1 (λ m below. same_below b x y h vx vy inputs state k m (omega arith) (omega arith)) (is_register some.0.equation) refl
 
 pub agree_law : (b : Netlist) → IsWellMade b → (x y : Cycle) → IsValuation b x → IsValuation b y → SameInputs b x y → SameState b x y → SameNets b x y
 agree_law b h x y vx vy inputs state n within = same_below b x y h vx vy inputs state (suc n) n (omega arith) within

@@ -1,12 +1,18 @@
 -- Netlists that grow: what a longer one keeps.
-use Rattle.std.specs.Prelude.{◌≡◌, ℕ, ◌≤◌, length, slice_get, Some}
+use Rattle.std.specs.Prelude.{◌≡◌, ◌⊎◌, ℕ, ◌+◌, ◌≤◌, true, length, slice_get, Some}
 use Rattle.netlist.specs.declared.line.Line.{Line}
-use Rattle.netlist.specs.Netlists.{Netlist, HasWidth, driver_of}
+use Rattle.netlist.specs.Netlists.{Netlist, HasWidth, driver_of, IsWaiting, with_next}
 use Rattle.netlist.specs.Runs.{Run, IsRun}
 
--- a line as the longer list may have it: unchanged
+-- a register that waited, with a next net
+pub record IsSetFrom (line later : Line) : Type 0 where
+  pub waits : line.waits ≡ true
+  pub next : ℕ
+  pub is : later ≡ with_next line next
+
+-- a line as a longer list may have it: unchanged, but that a register that waited may have got its next net
 abbrev pub IsKept : Line → Line → Type 0
-IsKept line later = later ≡ line
+IsKept line later = (later ≡ line) ⊎ IsSetFrom line later
 
 -- line n stands in the list, kept
 pub record KeepsLine (netlist : Netlist) (n : ℕ) (line : Line) : Type 0 where
@@ -27,3 +33,10 @@ pub record Extends (old new : Netlist) : Type 0 where
   pub nets : (n w : ℕ) → HasWidth old n w → HasWidth new n w
   pub runs : (run : Run) (cycles : ℕ) → IsRun new run cycles → IsRun old run cycles
   pub count : length old.lines ≤ length new.lines
+
+-- the netlist grew by one net at most; no driver was set, and the same registers wait
+pub record GrowsByOne (old new : Netlist) : Type 0 where
+  pub most : length new.lines ≤ length old.lines + 1
+  pub drivers : new.drivers ≡ old.drivers
+  pub waits : (n : ℕ) → IsWaiting old n → IsWaiting new n
+  pub no_more_wait : (n : ℕ) → IsWaiting new n → IsWaiting old n

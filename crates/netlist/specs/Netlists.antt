@@ -1,9 +1,10 @@
 -- A netlist: what contracts see of a builder and of a module.
-use Rattle.std.specs.Prelude.{◌≡◌, ◌≢◌, ℕ, ◌+◌, ◌^◌, ◌<◌, ◌≤◌, Bool, true, false, not, List, [], ◌∷◌, ◌++◌, length, slice_get, slice_index_or, slice_set, take, map, All, AllPairs, count_by, Option, Some, None, option_map, unwrap_or, IsSome, if◌then◌else◌}
+use Rattle.std.specs.Prelude.{◌≡◌, ◌≢◌, ℕ, ◌+◌, ◌-◌, ◌^◌, ◌<◌, ◌≤◌, Bool, true, false, not, List, [], ◌∷◌, ◌++◌, length, slice_get, slice_index_or, slice_set, take, map, All, AllPairs, count_by, Option, Some, None, option_map, unwrap_or, IsSome, IfSome, if◌then◌else◌}
 use Rattle.av_base.specs.Word.{IsWord}
+use Rattle.av_base.specs.declared.value.Val.{Val}
 use Rattle.netlist.specs.Names.{IsModuleName, IsPortName}
 use Rattle.netlist.specs.declared.line.Equation.{Equation}
-use Rattle.netlist.specs.declared.line.Equation.TheVariants.{Input, Constant}
+use Rattle.netlist.specs.declared.line.Equation.TheVariants.{Input, Constant, And, Or, Xor, Add, Sub, Eq, Less, Concat, Not, Any, Mux, Slice, Reg}
 use Rattle.netlist.specs.declared.line.Line.{Line}
 use Rattle.netlist.specs.declared.line.PortLine.{PortLine}
 
@@ -14,8 +15,12 @@ pub record Netlist : Type 0 where
   pub lines : List Line
   pub drivers : List (Option ℕ)
 
+abbrev pub line_with : ℕ → Equation → Bool → Line
+line_with w e waits = record { width = w; equation = e; waits = waits }
+
+-- a line that lacks nothing
 abbrev pub line_of : ℕ → Equation → Line
-line_of w e = record { width = w; equation = e }
+line_of w e = line_with w e false
 
 -- the width of net n, where there is one
 abbrev pub width_at : List Line → ℕ → Option ℕ
@@ -62,17 +67,87 @@ input_lines k (port ∷ ports) = if port.output then input_lines (k + 1) ports e
 
 abbrev pub is_input : Equation → Bool
 is_input (Input port) = true
-is_input (Constant value) = false
+is_input _ = false
+
+abbrev pub is_register : Equation → Bool
+is_register (Reg reset next) = true
+is_register _ = false
+
+-- the net whose value a register takes with the clock; None where it waits for one, and for other equations
+abbrev pub next_in : Equation → Option ℕ
+next_in (Reg reset next) = Some next
+next_in _ = None
+
+abbrev pub next_of : Line → Option ℕ
+next_of line = if line.waits then None else next_in line.equation
+
+-- net a stands before net n and has this width
+pub record IsOperand (lines : List Line) (n a w : ℕ) : Type 0 where
+  pub below : a < n
+  pub width : width_at lines a ≡ Some w
+
+-- the same for two nets
+pub record AreOperands (lines : List Line) (n a b w : ℕ) : Type 0 where
+  pub left : IsOperand lines n a w
+  pub right : IsOperand lines n b w
+
+pub record IsComparison (lines : List Line) (n w a b : ℕ) : Type 0 where
+  pub width : ℕ
+  pub operands : AreOperands lines n a b width
+  pub one_bit : w ≡ 1
+
+pub record IsConcatenation (lines : List Line) (n w a b : ℕ) : Type 0 where
+  pub high_width : ℕ
+  pub low_width : ℕ
+  pub high : IsOperand lines n a high_width
+  pub low : IsOperand lines n b low_width
+  pub sum : w ≡ high_width + low_width
+
+pub record IsAnyOf (lines : List Line) (n w a : ℕ) : Type 0 where
+  pub width : ℕ
+  pub operand : IsOperand lines n a width
+  pub one_bit : w ≡ 1
+
+pub record IsSliceOf (lines : List Line) (n w a high low : ℕ) : Type 0 where
+  pub width : ℕ
+  pub operand : IsOperand lines n a width
+  pub order : low ≤ high
+  pub inside : high < width
+  pub bits : w ≡ high - low + 1
+
+pub record IsChoice (lines : List Line) (n w s a b : ℕ) : Type 0 where
+  pub test : IsOperand lines n s 1
+  pub branches : AreOperands lines n a b w
+
+-- a value of this width
+pub record IsValue (value : Val) (w : ℕ) : Type 0 where
+  pub word : IsWord value.width value.bits
+  pub width : value.width ≡ w
 
 -- what the equation of net n, of this width, asks of the ports and lines that it stands among
 abbrev pub IsSound : List PortLine → List Line → ℕ → ℕ → Equation → Type 0
 IsSound ports lines n w (Input port) = IsInputPort ports port w
-IsSound ports lines n w (Constant value) = IsWord value.width value.bits × (value.width ≡ w)
+IsSound ports lines n w (Constant value) = IsValue value w
+IsSound ports lines n w (And a b) = AreOperands lines n a b w
+IsSound ports lines n w (Or a b) = AreOperands lines n a b w
+IsSound ports lines n w (Xor a b) = AreOperands lines n a b w
+IsSound ports lines n w (Add a b) = AreOperands lines n a b w
+IsSound ports lines n w (Sub a b) = AreOperands lines n a b w
+IsSound ports lines n w (Eq a b) = IsComparison lines n w a b
+IsSound ports lines n w (Less a b) = IsComparison lines n w a b
+IsSound ports lines n w (Concat a b) = IsConcatenation lines n w a b
+IsSound ports lines n w (Not a) = IsOperand lines n a w
+IsSound ports lines n w (Any a) = IsAnyOf lines n w a
+IsSound ports lines n w (Mux s a b) = IsChoice lines n w s a b
+IsSound ports lines n w (Slice a high low) = IsSliceOf lines n w a high low
+IsSound ports lines n w (Reg reset next) = IsValue reset w
 
 pub record IsSoundLine (ports : List PortLine) (lines : List Line) (n : ℕ) (line : Line) : Type 0 where
   pub some_bit : 1 ≤ line.width
   pub small : line.width ≤ 128
   pub equation : IsSound ports lines n line.width line.equation
+  pub next : IfSome (next_of line) (λ m. width_at lines m ≡ Some line.width)
+  pub waits : line.waits ≡ true → is_register line.equation ≡ true
 
 -- the name and the ports that a module may have
 pub record IsHeader (name : List ℕ) (ports : List PortLine) : Type 0 where
@@ -106,10 +181,21 @@ pub record IsWellMade (netlist : Netlist) : Type 0 where
 abbrev pub IsDriven : Netlist → Type 0
 IsDriven netlist = (k w : ℕ) → IsOutputPort netlist.ports k w → IsSome (driver_of netlist k)
 
+-- net n is a register that waits for its next net
+pub record IsWaiting (netlist : Netlist) (n : ℕ) : Type 0 where
+  pub line : Line
+  pub is : slice_get netlist.lines n ≡ Some line
+  pub waits : line.waits ≡ true
+
+-- each register has its next net
+abbrev pub IsClocked : Netlist → Type 0
+IsClocked netlist = (n : ℕ) → ¬ IsWaiting netlist n
+
 -- what each module keeps
 pub record IsModule (netlist : Netlist) : Type 0 where
   pub well_made : IsWellMade netlist
   pub driven : IsDriven netlist
+  pub clocked : IsClocked netlist
 
 -- no net drives the port yet
 abbrev pub undriven : PortLine → Option ℕ
@@ -122,6 +208,22 @@ started name ports = record { name = name; ports = ports; lines = input_lines 0 
 -- the netlist with one more line
 abbrev pub appended : Netlist → Line → Netlist
 appended netlist line = record netlist { lines = netlist.lines ++ line ∷ [] }
+
+-- a register that waits; net n is its own
+abbrev pub register_of : ℕ → Val → Line
+register_of n reset = line_with reset.width (Reg reset n) true
+
+abbrev pub next_set : Equation → ℕ → Equation
+next_set (Reg reset next) m = Reg reset m
+next_set e m = e
+
+-- the line with its next net
+abbrev pub with_next : Line → ℕ → Line
+with_next line m = line_of line.width (next_set line.equation m)
+
+-- the netlist in which line n is this one
+abbrev pub with_line : Netlist → ℕ → Line → Netlist
+with_line netlist n line = record netlist { lines = slice_set netlist.lines n line }
 
 -- the netlist with port k driven by net n
 abbrev pub with_driver : Netlist → ℕ → ℕ → Netlist

@@ -1,10 +1,11 @@
 -- Valuations and runs of a netlist.
-use Rattle.std.specs.Prelude.{◌≡◌, ℕ, ◌+◌, ◌^◌, ◌<◌, Bool, true, false, List, length, slice_get, Option, Some, None, IfSome}
+use Rattle.std.specs.Prelude.{◌≡◌, ℕ, ◌+◌, ◌-◌, ◌^◌, ◌==◌, if◌then◌else◌, ◌<◌, true, List, length, slice_get, Option, Some, None, option_map, IfSome}
+use Rattle.av_base.specs.Word.{word, and_of, or_of, xor_of, add_of, sub_of, eq_of, less_of, concat_of, not_of, any_of, slice_of}
 use Rattle.netlist.specs.declared.line.Equation.{Equation}
-use Rattle.netlist.specs.declared.line.Equation.TheVariants.{Input, Constant}
+use Rattle.netlist.specs.declared.line.Equation.TheVariants.{Input, Constant, And, Or, Xor, Add, Sub, Eq, Less, Concat, Not, Any, Mux, Slice, Reg}
 use Rattle.netlist.specs.declared.line.Line.{Line}
 use Rattle.netlist.specs.declared.line.PortLine.{PortLine}
-use Rattle.netlist.specs.Netlists.{Netlist, IsInputPort}
+use Rattle.netlist.specs.Netlists.{Netlist, IsInputPort, width_at, is_register, next_of}
 
 -- one cycle: the value at each input port, of each net, and of each word of each memory as the cycle begins
 pub record Cycle : Type 0 where
@@ -21,10 +22,23 @@ pub record Run : Type 0 where
 abbrev pub cycle_of : Run → ℕ → Cycle
 cycle_of run c = record { input = run.input c; net = run.net c; cell = run.cell c }
 
--- the value that an equation gives its net of this width in a cycle; None where the value is state
+-- the value that an equation gives its net of this width in a cycle, by the operators of `Val`; None where the value is state
 abbrev pub value_of : List Line → Cycle → ℕ → Equation → Option ℕ
 value_of lines cycle w (Input port) = Some (cycle.input port)
 value_of lines cycle w (Constant value) = Some value.bits
+value_of lines cycle w (And a b) = Some (and_of (word w (cycle.net a)) (word w (cycle.net b))).bits
+value_of lines cycle w (Or a b) = Some (or_of (word w (cycle.net a)) (word w (cycle.net b))).bits
+value_of lines cycle w (Xor a b) = Some (xor_of (word w (cycle.net a)) (word w (cycle.net b))).bits
+value_of lines cycle w (Add a b) = Some (add_of (word w (cycle.net a)) (word w (cycle.net b))).bits
+value_of lines cycle w (Sub a b) = Some (sub_of (word w (cycle.net a)) (word w (cycle.net b))).bits
+value_of lines cycle w (Eq a b) = Some (eq_of (word w (cycle.net a)) (word w (cycle.net b))).bits
+value_of lines cycle w (Less a b) = Some (less_of (word w (cycle.net a)) (word w (cycle.net b))).bits
+value_of lines cycle w (Concat a b) = option_map (λ k. (concat_of (word (w - k) (cycle.net a)) (word k (cycle.net b))).bits) (width_at lines b)
+value_of lines cycle w (Not a) = Some (not_of (word w (cycle.net a))).bits
+value_of lines cycle w (Any a) = Some (any_of (word w (cycle.net a))).bits
+value_of lines cycle w (Mux s a b) = Some (if cycle.net s == 0 then cycle.net b else cycle.net a)
+value_of lines cycle w (Slice a high low) = Some (slice_of (word w (cycle.net a)) high low).bits
+value_of lines cycle w (Reg reset next) = None
 
 -- net n has a value of its width, the one that its equation gives
 pub record NetHolds (lines : List Line) (cycle : Cycle) (n : ℕ) (line : Line) : Type 0 where
@@ -35,23 +49,18 @@ pub record NetHolds (lines : List Line) (cycle : Cycle) (n : ℕ) (line : Line) 
 pub record IsValuation (netlist : Netlist) (cycle : Cycle) : Type 0 where
   pub nets : (n : ℕ) (line : Line) → slice_get netlist.lines n ≡ Some line → NetHolds netlist.lines cycle n line
 
--- the value that an equation's net has in the first cycle; None where it isn't a register
+-- the value that a register has in the first cycle; None for the other equations
 abbrev pub reset_of : Equation → Option ℕ
-reset_of (Input port) = None
-reset_of (Constant value) = None
-
--- the net whose value a register takes with the clock; None where it isn't a register, or has none yet
-abbrev pub next_of : Equation → Option ℕ
-next_of (Input port) = None
-next_of (Constant value) = None
+reset_of (Reg reset next) = Some reset.bits
+reset_of _ = None
 
 -- each register begins at its reset value; what memories hold at first is free
 pub record StartsAt (netlist : Netlist) (first : Cycle) : Type 0 where
   pub registers : (n : ℕ) (line : Line) → slice_get netlist.lines n ≡ Some line → IfSome (reset_of line.equation) (λ x. first.net n ≡ x)
 
--- the clock's edge between two cycles: each register takes what its next net was
+-- the clock's edge between two cycles: each register takes what its next net was; one that waits for it takes anything
 pub record Steps (netlist : Netlist) (before after : Cycle) : Type 0 where
-  pub registers : (n : ℕ) (line : Line) → slice_get netlist.lines n ≡ Some line → IfSome (next_of line.equation) (λ m. after.net n ≡ before.net m)
+  pub registers : (n : ℕ) (line : Line) → slice_get netlist.lines n ≡ Some line → IfSome (next_of line) (λ m. after.net n ≡ before.net m)
 
 -- The run obeys the netlist for so many cycles. `reset` is no net and no port: it is 0 in each cycle, so
 -- the emitted text's reset branches are never taken, and the first cycle has the reset values.
@@ -68,14 +77,9 @@ Always netlist P = (run : Run) (cycles : ℕ) → IsRun netlist run cycles → (
 abbrev pub InputsFit : List PortLine → (ℕ → ℕ) → Type 0
 InputsFit ports input = (k w : ℕ) → IsInputPort ports k w → input k < 2 ^ w
 
--- the net's value is state
-abbrev pub is_state : Equation → Bool
-is_state (Input port) = false
-is_state (Constant value) = false
-
 -- each register's value fits its width
 abbrev pub StateFits : Netlist → Cycle → Type 0
-StateFits netlist cycle = (n : ℕ) (line : Line) → slice_get netlist.lines n ≡ Some line → is_state line.equation ≡ true → cycle.net n < 2 ^ line.width
+StateFits netlist cycle = (n : ℕ) (line : Line) → slice_get netlist.lines n ≡ Some line → is_register line.equation ≡ true → cycle.net n < 2 ^ line.width
 
 -- two cycles with equal values at the input ports
 abbrev pub SameInputs : Netlist → Cycle → Cycle → Type 0
@@ -83,7 +87,7 @@ SameInputs netlist x y = (k w : ℕ) → IsInputPort netlist.ports k w → x.inp
 
 -- two cycles in which each register, and each word of each memory, is the same
 pub record SameState (netlist : Netlist) (x y : Cycle) : Type 0 where
-  pub registers : (n : ℕ) (line : Line) → slice_get netlist.lines n ≡ Some line → is_state line.equation ≡ true → x.net n ≡ y.net n
+  pub registers : (n : ℕ) (line : Line) → slice_get netlist.lines n ≡ Some line → is_register line.equation ≡ true → x.net n ≡ y.net n
   pub words : (m address : ℕ) → x.cell m address ≡ y.cell m address
 
 -- two cycles in which each net has the same value

@@ -1,7 +1,8 @@
-ghost use Rattle.std.specs.Prelude.{◌≡◌, ℕ, ◌+◌, ◌^◌, ◌<◌, ◌≤◌, ◌↔◌, false, [], ◌∷◌, ◌++◌, length, map, IfOk, OnErr, IfSome, Some, None, Option};
-ghost use Rattle.netlist.specs.Netlists.{Netlist, HasWidth, width_of, driver_of, IsInputPort, IsOutputPort, IsDriver, IsHeader, IsWellMade, IsDriven, IsModule, input_count, input_net, input_lines, is_input, IsSoundLine, undriven, started, appended, with_driver, line_of};
-ghost use Rattle.netlist.specs.Runs.{Run, NetHolds, cycle_of, value_of, Always};
-ghost use Rattle.netlist.specs.Longer.{Extends};
+ghost use Rattle.std.specs.Prelude.{◌≡◌, ℕ, ◌+◌, ◌-◌, ◌*◌, ◌/◌, ◌%◌, ◌^◌, ◌<◌, ◌≤◌, ◌↔◌, ◌⊎◌, ◌==◌, nat_lt, bit_and, bit_or, bit_xor, true, false, if◌then◌else◌, [], ◌∷◌, ◌++◌, length, map, slice_get, IfOk, OnErr, IfSome, Some, None};
+ghost use Rattle.netlist.specs.Netlists.{HasWidth, width_of, driver_of, IsInputPort, IsOutputPort, IsDriver, IsHeader, IsWellMade, IsDriven, IsClocked, IsWaiting, IsModule, input_count, input_net, input_lines, is_input, is_register, IsSound, IsSoundLine, undriven, started, appended, with_driver, with_line, with_next, line_with, line_of, register_of};
+ghost use Rattle.netlist.specs.Runs.{Run, IsRun, NetHolds, cycle_of, Always};
+ghost use Rattle.netlist.specs.Longer.{Extends, GrowsByOne};
+ghost use Rattle.netlist.specs.declared.line.Line.{Line};
 
 use crate::fault::NetFault;
 use crate::line::{Equation, Line, Net, PortLine};
@@ -53,10 +54,29 @@ fn lines_of_inputs(alloc: Global, ports: &[PortLine]) -> Result<Vec<Line>, NetFa
             lines.push(Line {
                 width: port.width,
                 equation: Equation::Input { port: k as u32 },
+                waits: false,
             })?;
         }
     }
     Ok(lines)
+}
+
+/// The line with its next net, where it is a register's.
+fn clocked(line: &Line, next: u32) -> Line
+    ensures { result ≡ with_next line.now next }
+{
+    let mut equation = line.equation;
+    if let Equation::Reg { reset, .. } = &line.equation {
+        equation = Equation::Reg {
+            reset: *reset,
+            next,
+        };
+    }
+    Line {
+        width: line.width,
+        equation,
+        waits: false,
+    }
 }
 
 /// No driver yet for any port.
@@ -105,19 +125,25 @@ impl Builder {
     /// The net's width in bits.
     pub fn width(&self, net: Net) -> u8
         requires { net < length self.now.lines }
-        ensures { HasWidth self.now net result }
+        ensures width { HasWidth self.now net result }
+        ensures value { result ≡ width_of self.now net }
+        ensures bounds { (1 ≤ result) × (result ≤ 128) }
     {
         self.lines[net.number() as usize].width
     }
 
     /// One more line.
-    fn append(&mut self, width: u8, equation: Equation) -> Result<Net, NetFault>
-        requires sound { IsSoundLine self.old.ports self.old.lines (length self.old.lines) (line_of width equation) }
+    fn append(&mut self, width: u8, equation: Equation, waits: bool) -> Result<Net, NetFault>
+        requires sound { IsSoundLine self.old.ports self.old.lines (length self.old.lines) (line_with width equation waits) }
         requires computed { is_input equation ≡ false }
-        ensures line { IfOk result (λ n. (self.new ≡ appended self.old (line_of width equation)) × (n ≡ length self.old.lines)) }
+        ensures line { IfOk result (λ n. (self.new ≡ appended self.old (line_with width equation waits)) × (n ≡ length self.old.lines)) }
         ensures net { IfOk result (λ n. HasWidth self.new n width) }
-        ensures value { IfOk result (λ n. Always self.new (λ run c. NetHolds self.new.lines (cycle_of run c) n (line_of width equation))) }
+        ensures value { IfOk result (λ n. Always self.new (λ run c. NetHolds self.new.lines (cycle_of run c) n (line_with width equation waits))) }
         ensures extends { Extends self.old self.new }
+        ensures most { length self.new.lines ≤ length self.old.lines + 1 }
+        ensures drivers { self.new.drivers ≡ self.old.drivers }
+        ensures waits { (n : ℕ) → IsWaiting self.old n → IsWaiting self.new n }
+        ensures newly { (n : ℕ) → IsWaiting self.new n → IsWaiting self.old n ⊎ (waits ≡ true) × (n ≡ length self.old.lines) }
         ensures err { OnErr result (self.new ≡ self.old) }
         ensures full { (result ≡ Err NetFault.TooManyNets) ↔ (length self.old.lines ≡ 2 ^ 20) }
     {
@@ -125,8 +151,48 @@ impl Builder {
         if number >= NET_LIMIT {
             return Err(NetFault::TooManyNets);
         }
-        self.lines.push(Line { width, equation })?;
+        self.lines.push(Line {
+            width,
+            equation,
+            waits,
+        })?;
         Ok(Net::new(number as u32))
+    }
+
+    /// One more line, of no input and no register.
+    fn append_computed(&mut self, width: u8, equation: Equation) -> Result<Net, NetFault>
+        requires some_bit { 1 ≤ width }
+        requires small { width ≤ 128 }
+        requires sound { IsSound self.old.ports self.old.lines (length self.old.lines) width equation }
+        requires computed { is_input equation ≡ false }
+        requires unclocked { is_register equation ≡ false }
+        ensures line { IfOk result (λ n. (self.new ≡ appended self.old (line_of width equation)) × (n ≡ length self.old.lines)) }
+        ensures net { IfOk result (λ n. HasWidth self.new n width) }
+        ensures value { IfOk result (λ n. Always self.new (λ run c. NetHolds self.new.lines (cycle_of run c) n (line_of width equation))) }
+        ensures extends { Extends self.old self.new }
+        ensures grows { GrowsByOne self.old self.new }
+        ensures err { OnErr result (self.new ≡ self.old) }
+        ensures full { (result ≡ Err NetFault.TooManyNets) ↔ (length self.old.lines ≡ 2 ^ 20) }
+    {
+        self.append(width, equation, false)
+    }
+
+    /// One more line, of the width of a net.
+    fn append_like(&mut self, net: Net, equation: Equation) -> Result<Net, NetFault>
+        requires net_is { net < length self.old.lines }
+        requires sound { IsSound self.old.ports self.old.lines (length self.old.lines) (width_of self.old net) equation }
+        requires computed { is_input equation ≡ false }
+        requires unclocked { is_register equation ≡ false }
+        ensures line { IfOk result (λ n. (self.new ≡ appended self.old (line_of (width_of self.old net) equation)) × (n ≡ length self.old.lines)) }
+        ensures net { IfOk result (λ n. HasWidth self.new n (width_of self.old net)) }
+        ensures value { IfOk result (λ n. Always self.new (λ run c. NetHolds self.new.lines (cycle_of run c) n (line_of (width_of self.old net) equation))) }
+        ensures extends { Extends self.old self.new }
+        ensures grows { GrowsByOne self.old self.new }
+        ensures err { OnErr result (self.new ≡ self.old) }
+        ensures full { (result ≡ Err NetFault.TooManyNets) ↔ (length self.old.lines ≡ 2 ^ 20) }
+    {
+        let width = self.width(net);
+        self.append_computed(width, equation)
     }
 
     /// A net that always has this value.
@@ -135,10 +201,310 @@ impl Builder {
         ensures net { IfOk result (λ n. HasWidth self.new n value.width) }
         ensures value { IfOk result (λ n. Always self.new (λ run c. (run.net c n < 2 ^ value.width) × (run.net c n ≡ value.bits))) }
         ensures extends { Extends self.old self.new }
+        ensures grows { GrowsByOne self.old self.new }
         ensures err { OnErr result (self.new ≡ self.old) }
         ensures full { (result ≡ Err NetFault.TooManyNets) ↔ (length self.old.lines ≡ 2 ^ 20) }
     {
-        self.append(value.width(), Equation::Constant { value })
+        self.append_computed(value.width(), Equation::Constant { value })
+    }
+
+    /// Bitwise and of two nets of one width.
+    pub fn and(&mut self, a: Net, b: Net) -> Result<Net, NetFault>
+        requires a_is { a < length self.old.lines }
+        requires b_is { b < length self.old.lines }
+        requires widths { width_of self.old a ≡ width_of self.old b }
+        ensures line { IfOk result (λ n. (self.new ≡ appended self.old (line_of (width_of self.old a) (Equation.And a b))) × (n ≡ length self.old.lines)) }
+        ensures net { IfOk result (λ n. HasWidth self.new n (width_of self.old a)) }
+        ensures value { IfOk result (λ n. Always self.new (λ run c. (run.net c n < 2 ^ width_of self.old a) × (run.net c n ≡ bit_and (run.net c a) (run.net c b)))) }
+        ensures extends { Extends self.old self.new }
+        ensures grows { GrowsByOne self.old self.new }
+        ensures err { OnErr result (self.new ≡ self.old) }
+        ensures full { (result ≡ Err NetFault.TooManyNets) ↔ (length self.old.lines ≡ 2 ^ 20) }
+    {
+        self.append_like(
+            a,
+            Equation::And {
+                a: a.number(),
+                b: b.number(),
+            },
+        )
+    }
+
+    /// Bitwise or of two nets of one width.
+    pub fn or(&mut self, a: Net, b: Net) -> Result<Net, NetFault>
+        requires a_is { a < length self.old.lines }
+        requires b_is { b < length self.old.lines }
+        requires widths { width_of self.old a ≡ width_of self.old b }
+        ensures line { IfOk result (λ n. (self.new ≡ appended self.old (line_of (width_of self.old a) (Equation.Or a b))) × (n ≡ length self.old.lines)) }
+        ensures net { IfOk result (λ n. HasWidth self.new n (width_of self.old a)) }
+        ensures value { IfOk result (λ n. Always self.new (λ run c. (run.net c n < 2 ^ width_of self.old a) × (run.net c n ≡ bit_or (run.net c a) (run.net c b)))) }
+        ensures extends { Extends self.old self.new }
+        ensures grows { GrowsByOne self.old self.new }
+        ensures err { OnErr result (self.new ≡ self.old) }
+        ensures full { (result ≡ Err NetFault.TooManyNets) ↔ (length self.old.lines ≡ 2 ^ 20) }
+    {
+        self.append_like(
+            a,
+            Equation::Or {
+                a: a.number(),
+                b: b.number(),
+            },
+        )
+    }
+
+    /// Bitwise exclusive or of two nets of one width.
+    pub fn xor(&mut self, a: Net, b: Net) -> Result<Net, NetFault>
+        requires a_is { a < length self.old.lines }
+        requires b_is { b < length self.old.lines }
+        requires widths { width_of self.old a ≡ width_of self.old b }
+        ensures line { IfOk result (λ n. (self.new ≡ appended self.old (line_of (width_of self.old a) (Equation.Xor a b))) × (n ≡ length self.old.lines)) }
+        ensures net { IfOk result (λ n. HasWidth self.new n (width_of self.old a)) }
+        ensures value { IfOk result (λ n. Always self.new (λ run c. (run.net c n < 2 ^ width_of self.old a) × (run.net c n ≡ bit_xor (run.net c a) (run.net c b)))) }
+        ensures extends { Extends self.old self.new }
+        ensures grows { GrowsByOne self.old self.new }
+        ensures err { OnErr result (self.new ≡ self.old) }
+        ensures full { (result ≡ Err NetFault.TooManyNets) ↔ (length self.old.lines ≡ 2 ^ 20) }
+    {
+        self.append_like(
+            a,
+            Equation::Xor {
+                a: a.number(),
+                b: b.number(),
+            },
+        )
+    }
+
+    /// The sum of two nets of one width, without the carry out of the top.
+    pub fn add(&mut self, a: Net, b: Net) -> Result<Net, NetFault>
+        requires a_is { a < length self.old.lines }
+        requires b_is { b < length self.old.lines }
+        requires widths { width_of self.old a ≡ width_of self.old b }
+        ensures line { IfOk result (λ n. (self.new ≡ appended self.old (line_of (width_of self.old a) (Equation.Add a b))) × (n ≡ length self.old.lines)) }
+        ensures net { IfOk result (λ n. HasWidth self.new n (width_of self.old a)) }
+        ensures value { IfOk result (λ n. Always self.new (λ run c. (run.net c n < 2 ^ width_of self.old a) × (run.net c n ≡ (run.net c a + run.net c b) % 2 ^ width_of self.old a))) }
+        ensures extends { Extends self.old self.new }
+        ensures grows { GrowsByOne self.old self.new }
+        ensures err { OnErr result (self.new ≡ self.old) }
+        ensures full { (result ≡ Err NetFault.TooManyNets) ↔ (length self.old.lines ≡ 2 ^ 20) }
+    {
+        self.append_like(
+            a,
+            Equation::Add {
+                a: a.number(),
+                b: b.number(),
+            },
+        )
+    }
+
+    /// The difference of two nets of one width, modulo 2 to the width.
+    pub fn sub(&mut self, a: Net, b: Net) -> Result<Net, NetFault>
+        requires a_is { a < length self.old.lines }
+        requires b_is { b < length self.old.lines }
+        requires widths { width_of self.old a ≡ width_of self.old b }
+        ensures line { IfOk result (λ n. (self.new ≡ appended self.old (line_of (width_of self.old a) (Equation.Sub a b))) × (n ≡ length self.old.lines)) }
+        ensures net { IfOk result (λ n. HasWidth self.new n (width_of self.old a)) }
+        ensures value { IfOk result (λ n. Always self.new (λ run c. (run.net c n < 2 ^ width_of self.old a) × (run.net c n ≡ (run.net c a + (2 ^ width_of self.old a - run.net c b)) % 2 ^ width_of self.old a))) }
+        ensures extends { Extends self.old self.new }
+        ensures grows { GrowsByOne self.old self.new }
+        ensures err { OnErr result (self.new ≡ self.old) }
+        ensures full { (result ≡ Err NetFault.TooManyNets) ↔ (length self.old.lines ≡ 2 ^ 20) }
+    {
+        self.append_like(
+            a,
+            Equation::Sub {
+                a: a.number(),
+                b: b.number(),
+            },
+        )
+    }
+
+    /// One bit: whether two nets of one width are equal.
+    pub fn eq(&mut self, a: Net, b: Net) -> Result<Net, NetFault>
+        requires a_is { a < length self.old.lines }
+        requires b_is { b < length self.old.lines }
+        requires widths { width_of self.old a ≡ width_of self.old b }
+        ensures line { IfOk result (λ n. (self.new ≡ appended self.old (line_of 1 (Equation.Eq a b))) × (n ≡ length self.old.lines)) }
+        ensures net { IfOk result (λ n. HasWidth self.new n 1) }
+        ensures value { IfOk result (λ n. Always self.new (λ run c. (run.net c n < 2 ^ 1) × (run.net c n ≡ (if run.net c a == run.net c b then 1 else 0)))) }
+        ensures extends { Extends self.old self.new }
+        ensures grows { GrowsByOne self.old self.new }
+        ensures err { OnErr result (self.new ≡ self.old) }
+        ensures full { (result ≡ Err NetFault.TooManyNets) ↔ (length self.old.lines ≡ 2 ^ 20) }
+    {
+        self.append_computed(
+            1,
+            Equation::Eq {
+                a: a.number(),
+                b: b.number(),
+            },
+        )
+    }
+
+    /// One bit: whether the first of two nets of one width is the smaller, both read without a sign.
+    pub fn less(&mut self, a: Net, b: Net) -> Result<Net, NetFault>
+        requires a_is { a < length self.old.lines }
+        requires b_is { b < length self.old.lines }
+        requires widths { width_of self.old a ≡ width_of self.old b }
+        ensures line { IfOk result (λ n. (self.new ≡ appended self.old (line_of 1 (Equation.Less a b))) × (n ≡ length self.old.lines)) }
+        ensures net { IfOk result (λ n. HasWidth self.new n 1) }
+        ensures value { IfOk result (λ n. Always self.new (λ run c. (run.net c n < 2 ^ 1) × (run.net c n ≡ (if nat_lt (run.net c a) (run.net c b) then 1 else 0)))) }
+        ensures extends { Extends self.old self.new }
+        ensures grows { GrowsByOne self.old self.new }
+        ensures err { OnErr result (self.new ≡ self.old) }
+        ensures full { (result ≡ Err NetFault.TooManyNets) ↔ (length self.old.lines ≡ 2 ^ 20) }
+    {
+        self.append_computed(
+            1,
+            Equation::Less {
+                a: a.number(),
+                b: b.number(),
+            },
+        )
+    }
+
+    /// The bits of `a` above those of `b`.
+    pub fn concat(&mut self, a: Net, b: Net) -> Result<Net, NetFault>
+        requires a_is { a < length self.old.lines }
+        requires b_is { b < length self.old.lines }
+        requires widths { width_of self.old a + width_of self.old b ≤ 128 }
+        ensures line { IfOk result (λ n. (self.new ≡ appended self.old (line_of (width_of self.old a + width_of self.old b) (Equation.Concat a b))) × (n ≡ length self.old.lines)) }
+        ensures net { IfOk result (λ n. HasWidth self.new n (width_of self.old a + width_of self.old b)) }
+        ensures value { IfOk result (λ n. Always self.new (λ run c. (run.net c n < 2 ^ (width_of self.old a + width_of self.old b)) × (run.net c n ≡ run.net c a * 2 ^ width_of self.old b + run.net c b))) }
+        ensures extends { Extends self.old self.new }
+        ensures grows { GrowsByOne self.old self.new }
+        ensures err { OnErr result (self.new ≡ self.old) }
+        ensures full { (result ≡ Err NetFault.TooManyNets) ↔ (length self.old.lines ≡ 2 ^ 20) }
+    {
+        let width = self.width(a) + self.width(b);
+        self.append_computed(
+            width,
+            Equation::Concat {
+                a: a.number(),
+                b: b.number(),
+            },
+        )
+    }
+
+    /// Each bit turned.
+    pub fn not(&mut self, a: Net) -> Result<Net, NetFault>
+        requires a_is { a < length self.old.lines }
+        ensures line { IfOk result (λ n. (self.new ≡ appended self.old (line_of (width_of self.old a) (Equation.Not a))) × (n ≡ length self.old.lines)) }
+        ensures net { IfOk result (λ n. HasWidth self.new n (width_of self.old a)) }
+        ensures value { IfOk result (λ n. Always self.new (λ run c. (run.net c n < 2 ^ width_of self.old a) × (run.net c n ≡ 2 ^ width_of self.old a - 1 - run.net c a))) }
+        ensures extends { Extends self.old self.new }
+        ensures grows { GrowsByOne self.old self.new }
+        ensures err { OnErr result (self.new ≡ self.old) }
+        ensures full { (result ≡ Err NetFault.TooManyNets) ↔ (length self.old.lines ≡ 2 ^ 20) }
+    {
+        self.append_like(a, Equation::Not { a: a.number() })
+    }
+
+    /// One bit: whether some bit is set.
+    pub fn any(&mut self, a: Net) -> Result<Net, NetFault>
+        requires a_is { a < length self.old.lines }
+        ensures line { IfOk result (λ n. (self.new ≡ appended self.old (line_of 1 (Equation.Any a))) × (n ≡ length self.old.lines)) }
+        ensures net { IfOk result (λ n. HasWidth self.new n 1) }
+        ensures value { IfOk result (λ n. Always self.new (λ run c. (run.net c n < 2 ^ 1) × (run.net c n ≡ (if run.net c a == 0 then 0 else 1)))) }
+        ensures extends { Extends self.old self.new }
+        ensures grows { GrowsByOne self.old self.new }
+        ensures err { OnErr result (self.new ≡ self.old) }
+        ensures full { (result ≡ Err NetFault.TooManyNets) ↔ (length self.old.lines ≡ 2 ^ 20) }
+    {
+        self.append_computed(1, Equation::Any { a: a.number() })
+    }
+
+    /// `a` where the bit `s` is set, else `b`; these two have one width.
+    pub fn mux(&mut self, s: Net, a: Net, b: Net) -> Result<Net, NetFault>
+        requires s_is { HasWidth self.old s 1 }
+        requires a_is { a < length self.old.lines }
+        requires b_is { b < length self.old.lines }
+        requires widths { width_of self.old a ≡ width_of self.old b }
+        ensures line { IfOk result (λ n. (self.new ≡ appended self.old (line_of (width_of self.old a) (Equation.Mux s a b))) × (n ≡ length self.old.lines)) }
+        ensures net { IfOk result (λ n. HasWidth self.new n (width_of self.old a)) }
+        ensures value { IfOk result (λ n. Always self.new (λ run c. (run.net c n < 2 ^ width_of self.old a) × (run.net c n ≡ (if run.net c s == 0 then run.net c b else run.net c a)))) }
+        ensures extends { Extends self.old self.new }
+        ensures grows { GrowsByOne self.old self.new }
+        ensures err { OnErr result (self.new ≡ self.old) }
+        ensures full { (result ≡ Err NetFault.TooManyNets) ↔ (length self.old.lines ≡ 2 ^ 20) }
+    {
+        self.append_like(
+            a,
+            Equation::Mux {
+                s: s.number(),
+                a: a.number(),
+                b: b.number(),
+            },
+        )
+    }
+
+    /// The bits from `high` down to `low`.
+    pub fn slice(&mut self, a: Net, high: u8, low: u8) -> Result<Net, NetFault>
+        requires a_is { a < length self.old.lines }
+        requires order { low ≤ high }
+        requires inside { high < width_of self.old a }
+        ensures line { IfOk result (λ n. (self.new ≡ appended self.old (line_of (high - low + 1) (Equation.Slice a high low))) × (n ≡ length self.old.lines)) }
+        ensures net { IfOk result (λ n. HasWidth self.new n (high - low + 1)) }
+        ensures value { IfOk result (λ n. Always self.new (λ run c. (run.net c n < 2 ^ (high - low + 1)) × (run.net c n ≡ run.net c a / 2 ^ low % 2 ^ (high - low + 1)))) }
+        ensures extends { Extends self.old self.new }
+        ensures grows { GrowsByOne self.old self.new }
+        ensures err { OnErr result (self.new ≡ self.old) }
+        ensures full { (result ≡ Err NetFault.TooManyNets) ↔ (length self.old.lines ≡ 2 ^ 20) }
+    {
+        let _inside = self.width(a);
+        self.append_computed(
+            high - low + 1,
+            Equation::Slice {
+                a: a.number(),
+                high,
+                low,
+            },
+        )
+    }
+
+    /// A register that begins at `reset`; its next net is to be set.
+    pub fn reg(&mut self, reset: Val) -> Result<Net, NetFault>
+        ensures line { IfOk result (λ n. (self.new ≡ appended self.old (register_of (length self.old.lines) reset)) × (n ≡ length self.old.lines)) }
+        ensures net { IfOk result (λ n. HasWidth self.new n reset.width) }
+        ensures fits { IfOk result (λ n. Always self.new (λ run c. run.net c n < 2 ^ reset.width)) }
+        ensures value { IfOk result (λ n. (run : Run) (cycles : ℕ) → IsRun self.new run cycles → 0 < cycles → run.net 0 n ≡ reset.bits) }
+        ensures waits { IfOk result (λ n. IsWaiting self.new n) }
+        ensures extends { Extends self.old self.new }
+        ensures most { length self.new.lines ≤ length self.old.lines + 1 }
+        ensures drivers { self.new.drivers ≡ self.old.drivers }
+        ensures still_wait { (n : ℕ) → IsWaiting self.old n → IsWaiting self.new n }
+        ensures newly { (n : ℕ) → IsWaiting self.new n → IsWaiting self.old n ⊎ (n ≡ length self.old.lines) }
+        ensures err { OnErr result (self.new ≡ self.old) }
+        ensures full { (result ≡ Err NetFault.TooManyNets) ↔ (length self.old.lines ≡ 2 ^ 20) }
+    {
+        let next = self.lines.len();
+        if next >= NET_LIMIT {
+            return Err(NetFault::TooManyNets);
+        }
+        self.append(
+            reset.width(),
+            Equation::Reg {
+                reset,
+                next: next as u32,
+            },
+            true,
+        )
+    }
+
+    /// Gives a register its next net, of its width.
+    pub fn set_next(&mut self, register: Net, next: Net)
+        requires waits { IsWaiting self.old register }
+        requires next_is { next < length self.old.lines }
+        requires widths { width_of self.old register ≡ width_of self.old next }
+        ensures line { (line : Line) → slice_get self.old.lines register ≡ Some line → self.new ≡ with_line self.old register (with_next line next) }
+        ensures value { (run : Run) (cycles : ℕ) → IsRun self.new run cycles → (c : ℕ) → c + 1 < cycles → run.net (c + 1) register ≡ run.net c next }
+        ensures extends { Extends self.old self.new }
+        ensures same_count { length self.new.lines ≡ length self.old.lines }
+        ensures drivers { self.new.drivers ≡ self.old.drivers }
+        ensures still_wait { (n : ℕ) → (n ≡ register → ⊥) → IsWaiting self.old n → IsWaiting self.new n }
+        ensures no_more_wait { (n : ℕ) → IsWaiting self.new n → IsWaiting self.old n × (n ≡ register → ⊥) }
+    {
+        let number = register.number() as usize;
+        self.lines[number] = clocked(&self.lines[number], next.number());
     }
 
     /// Lets a net drive an output port.
@@ -148,13 +514,16 @@ impl Builder {
         ensures driven { self.new ≡ with_driver self.old port net }
         ensures driver { driver_of self.new port ≡ Some net }
         ensures extends { Extends self.old self.new }
+        ensures waits { (n : ℕ) → IsWaiting self.old n → IsWaiting self.new n }
+        ensures no_more_wait { (n : ℕ) → IsWaiting self.new n → IsWaiting self.old n }
     {
         self.drivers[port as usize] = Some(net.number());
     }
 
-    /// The module, which is whole: each output is driven.
+    /// The module, which is whole: each output is driven and each register has its next net.
     pub fn finish(self) -> Module
-        requires { IsDriven self }
+        requires driven { IsDriven self }
+        requires clocked { IsClocked self }
         ensures same { result ≡ self }
         ensures module { IsModule result }
     {

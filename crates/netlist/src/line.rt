@@ -42,16 +42,32 @@ pub struct PortLine {
     pub output: bool,
 }
 
-/// What gives a net its value. Nets and ports are named by number.
+/// What gives a net its value. Nets and ports are named by number; the operators are those of `Val`.
 #[derive(Clone, Copy, Debug, PartialEq, Eq)]
 pub enum Equation {
     Input { port: u32 },
     Constant { value: Val },
+    And { a: u32, b: u32 },
+    Or { a: u32, b: u32 },
+    Xor { a: u32, b: u32 },
+    Add { a: u32, b: u32 },
+    Sub { a: u32, b: u32 },
+    Eq { a: u32, b: u32 },
+    Less { a: u32, b: u32 },
+    Concat { a: u32, b: u32 },
+    Not { a: u32 },
+    Any { a: u32 },
+    Mux { s: u32, a: u32, b: u32 },
+    Slice { a: u32, high: u8, low: u8 },
+    Reg { reset: Val, next: u32 },
 }
 
 /// A net's width in bits and its equation.
+///
+/// A register `waits` until its next net is set; what stands as `next` before then means nothing.
 #[derive(Clone, Copy, Debug, PartialEq, Eq)]
 pub struct Line {
     pub width: u8,
     pub equation: Equation,
+    pub waits: bool,
 }
