@@ -1,6 +1,6 @@
 -- What a builder's steps keep: that the netlist is well made, and all that stood there.
-use Rattle.std.proofs.Common.{◌≡◌, ℕ, zero, suc, ◌+◌, ◌-◌, ◌^◌, ◌<◌, ◌≤◌, List, [], ◌∷◌, ◌++◌, length, slice_get, get_or, set, Bool, true, false, Option, Some, None, refl, sym, subst, ap, ◌∙◌, arith, length-append, ◌⊎◌, inl, inr}
-use Rattle.std.specs.Prelude.{IfSome, IfOk, Result, Ok, Err, option_map, unwrap_or}
+use Rattle.std.proofs.Common.{◌≡◌, ℕ, zero, suc, ◌+◌, ◌-◌, ◌^◌, ◌<◌, ◌≤◌, List, [], ◌∷◌, ◌++◌, length, take, slice_get, get_or, set, Bool, true, false, Option, Some, None, refl, sym, subst, ap, ◌∙◌, arith, length-append, ◌⊎◌, inl, inr}
+use Rattle.std.specs.Prelude.{IfSome, IfOk, Result, Ok, Err, option_map}
 use Rattle.std.proofs.Math.ListN.{length-set}
 use Rattle.std.proofs.lemmas.Option.{get_or_from_slice_get, slice_get_read}
 use Rattle.av_base.specs.Word.{word, concat_of}
@@ -9,7 +9,8 @@ use Rattle.netlist.specs.declared.line.Line.{Line}
 use Rattle.netlist.specs.declared.line.PortLine.{PortLine}
 use Rattle.netlist.specs.declared.line.Equation.{Equation}
 use Rattle.netlist.specs.declared.line.Equation.TheVariants.{Input, Constant, And, Or, Xor, Add, Sub, Eq, Less, Concat, Not, Any, Mux, Slice, Reg}
-use Rattle.netlist.specs.Netlists.{Netlist, line_of, line_with, width_at, width_of, HasWidth, driver_of, IsInputPort, IsOutputPort, input_count, input_net, input_lines, is_input, is_register, next_in, next_of, IsOperand, AreOperands, IsComparison, IsAnyOf, IsSound, IsSoundLine, IsHeader, BeginsWithInputs, IsDriver, IsWellMade, IsWaiting, started, appended, next_set, with_next, with_line, with_driver}
+use Rattle.netlist.specs.Nets.{NetValue, net_of}
+use Rattle.netlist.specs.Netlists.{Netlist, line_of, line_with, width_at, HasWidth, IsNet, driver_of, IsInputPort, IsOutputPort, input_count, input_net, input_lines, is_input, is_register, next_in, next_of, IsOperand, AreOperands, IsComparison, IsAnyOf, IsSound, IsSoundLine, IsHeader, BeginsWithInputs, IsDriver, IsWellMade, IsWaiting, started, appended, next_set, with_next, with_line, with_driver}
 use Rattle.netlist.specs.Runs.{Run, Cycle, cycle_of, value_of, NetHolds, IsValuation, IsRun, reset_of, Always}
 use Rattle.netlist.specs.Longer.{IsSetFrom, IsKept, Keeps, Extends}
 use Rattle.netlist.proofs.Lists.{slice_get-front, slice_get-last, slice_get-newly, slice_get-within, slice_get-some, slice_get-set_kept, slice_get-set_newly, slice_get-set_same, slice_get-set_other, width_at-line, width_at-is, driver-newly, driver-kept}
@@ -468,34 +469,36 @@ waiting-unset b k m n line h = elim (slice_get-set_newly b.lines k n (with_next 
 
 -- what the makers' conditions say of the lines
 
-pub width_known : (b : Netlist) (n : ℕ) → n < length b.lines → HasWidth b n (width_of b n)
-width_known b n h =
-    let o = slice_get-some b.lines n h in
-    let is : width_at b.lines n ≡ Some o.0.width = width_at-is b.lines n o.0 o.1 in
-    is ∙ ap Some (sym (ap (λ (w : Option ℕ). unwrap_or w 0) is))
+net_within : (b : Netlist) (n w : ℕ) → HasWidth b n w → n < length b.lines
+net_within b n w h = let o = width_at-line b.lines n w h in slice_get-within b.lines n o.0 o.1
 
-operand_known : (b : Netlist) (x a : ℕ) → x ≡ a → a < length b.lines → IsOperand b.lines (length b.lines) x (width_of b a)
-operand_known b x a e h = rw e (record { below = h; width = width_known b a h })
+operand_known : (b : Netlist) (x a w : ℕ) → x ≡ a → HasWidth b a w → IsOperand b.lines (length b.lines) x w
+operand_known b x a w e h = rw e (record { below = net_within b a w h; width = h })
 
-pub comparison_known : (b : Netlist) (x y a c : ℕ) → x ≡ a → y ≡ c → a < length b.lines → c < length b.lines → width_of b a ≡ width_of b c → IsComparison b.lines (length b.lines) 1 x y
-comparison_known b x y a c e f h k same = record {
-  width = width_of b a;
-  operands = record { left = operand_known b x a e h; right = subst (λ w. IsOperand b.lines (length b.lines) y w) (sym same) (operand_known b y c f k) };
-  one_bit = refl;
-}
+pub operands_known : (b : Netlist) (x y a c w v : ℕ) → x ≡ a → y ≡ c → HasWidth b a w → HasWidth b c v → w ≡ v → AreOperands b.lines (length b.lines) x y w
+operands_known b x y a c w v e f h k same = record { left = operand_known b x a w e h; right = operand_known b y c w f (subst (λ u. HasWidth b c u) (sym same) k) }
 
-pub any_known : (b : Netlist) (x a : ℕ) → x ≡ a → a < length b.lines → IsAnyOf b.lines (length b.lines) 1 x
-any_known b x a e h = record { width = width_of b a; operand = operand_known b x a e h; one_bit = refl }
+pub comparison_known : (b : Netlist) (x y a c w v : ℕ) → x ≡ a → y ≡ c → HasWidth b a w → HasWidth b c v → w ≡ v → IsComparison b.lines (length b.lines) 1 x y
+comparison_known b x y a c w v e f h k same = record { width = w; operands = operands_known b x y a c w v e f h k same; one_bit = refl }
+
+pub any_known : (b : Netlist) (x a w : ℕ) → x ≡ a → HasWidth b a w → IsAnyOf b.lines (length b.lines) 1 x
+any_known b x a w e h = record { width = w; operand = operand_known b x a w e h; one_bit = refl }
 
 -- a line that was read at its place
 pub line_read : (lines : List Line) (k n : ℕ) (line : Line) → k ≡ n → n < length lines → line ≡ get_or lines k line → slice_get lines n ≡ Some line
 line_read lines k n line e h is = slice_get_read lines (length lines) n line refl h (subst (λ j. line ≡ get_or lines j line) e is)
 
-pub line_bounds : (b now : Netlist) (k n : ℕ) (line : Line) → b ≡ now → IsWellMade b → k ≡ n → n < length now.lines → line ≡ get_or b.lines k line → (1 ≤ line.width) × (line.width ≤ 128)
-line_bounds b now k n line v h e lt is =
-    let few : n < length b.lines = subst (λ (x : Netlist). n < length x.lines) (sym v) lt in
-    let sound = h.lines n line (line_read b.lines k n line e few is) in
-    (sound.some_bit, sound.small)
+-- a line that was read at a net has its width, which is within the bounds
+pub record IsReadAt (w : ℕ) (line : Line) : Type 0 where
+  pub width : line.width ≡ w
+  pub bounds : (1 ≤ line.width) × (line.width ≤ 128)
+
+pub net_read : (b now : Netlist) (k n w : ℕ) (line : Line) → b ≡ now → IsWellMade b → k ≡ n → HasWidth now n w → line ≡ get_or b.lines k line → IsReadAt w line
+net_read b now k n w line v h e has is =
+    let has' : HasWidth b n w = subst (λ (x : Netlist). HasWidth x n w) (sym v) has in
+    let at = line_read b.lines k n line e (net_within b n w has') is in
+    let sound = h.lines n line at in
+    record { width = (let known = width_at-is b.lines n line at in cc); bounds = (sound.some_bit, sound.small) }
 
 -- a line that lacks nothing is its width and its equation
 pub whole_line : (b : Netlist) (n w : ℕ) (line : Line) → (IsWaiting b n → ⊥) → slice_get b.lines n ≡ Some line → HasWidth b n w → slice_get b.lines n ≡ Some (line_of w line.equation)
@@ -509,26 +512,27 @@ whole_line b n w line clocked is has =
     not_waiting false e = e
 
 -- a register's first value
-pub register_starts : (old new : Netlist) (n m w : ℕ) (reset : Val) → (new ≡ appended old (line_with w (Reg reset m) true)) × (n ≡ length old.lines) →
-    (run : Run) (cycles : ℕ) → IsRun new run cycles → 0 < cycles → run.net 0 n ≡ reset.bits
+pub register_starts : (old new : Netlist) (n : NetValue) (m w : ℕ) (reset : Val) → (new ≡ appended old (line_with w (Reg reset m) true)) × (n ≡ net_of (length old.lines) w) →
+    (run : Run) (cycles : ℕ) → IsRun new run cycles → 0 < cycles → run.net 0 n.number ≡ reset.bits
 register_starts old new n m w reset made run cycles r lt =
     let r' : IsRun (appended old (line_with w (Reg reset m) true)) run cycles = subst (λ (b : Netlist). IsRun b run cycles) made.0 r in
     rw made.1 ((r'.starts lt).registers (length old.lines) (line_with w (Reg reset m) true) (slice_get-last old.lines (line_with w (Reg reset m) true)))
 
-pub register_waits : (old new : Netlist) (n : ℕ) (l : Line) → l.waits ≡ true → (new ≡ appended old l) × (n ≡ length old.lines) → IsWaiting new n
+pub register_waits : (old new : Netlist) (n : NetValue) (l : Line) → l.waits ≡ true → (new ≡ appended old l) × (n ≡ net_of (length old.lines) l.width) → IsWaiting new n.number
 register_waits old new n l h made = rw (made.0, made.1) (waiting-last old l h)
 
-pub if_ok : {E : Type 0} (r : Result ℕ E) (P Q : ℕ → Type 0) → ((n : ℕ) → P n → Q n) → IfOk r P → IfOk r Q
+pub if_ok : {X E : Type 0} (r : Result X E) (P Q : X → Type 0) → ((n : X) → P n → Q n) → IfOk r P → IfOk r Q
 if_ok (Ok n) P Q f h = f n h
 if_ok (Err e) P Q f h = tt
 
-pub may_set : (b : Netlist) (k m : ℕ) (w : IsWaiting b k) → m < length b.lines → width_of b k ≡ width_of b m → MaySet b k m w.line
-may_set b k m w h same = record {
-  is = w.is;
-  waits = w.waits;
+pub may_set : (b : Netlist) (k m v w : ℕ) (waiting : IsWaiting b k) → HasWidth b k v → HasWidth b m w → v ≡ w → MaySet b k m waiting.line
+may_set b k m v w waiting has h same = record {
+  is = waiting.is;
+  waits = waiting.waits;
   next =
-      (let at : width_of b k ≡ w.line.width = ap (λ (o : Option ℕ). unwrap_or o 0) (width_at-is b.lines k w.line w.is) in
-      subst (λ v. HasWidth b m v) (sym same ∙ at) (width_known b m h));
+      (let at = width_at-is b.lines k waiting.line waiting.is in
+      let known : w ≡ waiting.line.width = cc in
+      subst (λ u. HasWidth b m u) known h);
 }
 
 -- the fields of a builder in which a line was set
@@ -539,3 +543,26 @@ set_view b now k n read line next m x v e f lt is at p =
     let here : slice_get now.lines n ≡ Some read = subst (λ (y : Netlist). slice_get y.lines n ≡ Some read) v (line_read b.lines k n read e few is) in
     let same : read ≡ line = cc in
     rw (p, same, v, e, f) refl
+
+-- the net that `input` answers
+pub record IsInputNet (b : Netlist) (k : ℕ) (n : NetValue) : Type 0 where
+  pub number : n.number ≡ input_net b.ports k
+  pub width : (w : ℕ) → IsInputPort b.ports k w → n.width ≡ w
+
+pub input_made : (b now : Netlist) (ports : List PortLine) (k count : ℕ) (port : PortLine) (n : NetValue) → b ≡ now → ports ≡ b.ports → count ≡ input_count (take k ports) →
+    n ≡ net_of count (get_or ports k port).width → IsInputNet now k n
+input_made b now ports k count port n v p e made =
+    let same : ports ≡ now.ports = p ∙ ap (λ (x : Netlist). x.ports) v in
+    record {
+      number = ap (λ (m : NetValue). m.number) made ∙ e ∙ ap (λ (ps : List PortLine). input_count (take k ps)) same;
+      width = λ w i. ap (λ (m : NetValue). m.width) made ∙ ap (λ (ps : List PortLine). (get_or ps k port).width) same
+          ∙ ap (λ (q : PortLine). q.width) (get_or_from_slice_get now.ports k i.port port i.is) ∙ i.width;
+    }
+
+pub input_is_net : (b : Netlist) (k w : ℕ) (n : NetValue) → IsWellMade b → IsInputNet b k n → IsInputPort b.ports k w → IsNet b n
+input_is_net b k w n h made i = subst (λ v. HasWidth b n.number v) (sym (made.width w i)) (input_width b k w n.number h made.number i)
+
+pub input_holds : (b : Netlist) (k w : ℕ) (n : NetValue) → IsWellMade b → IsInputNet b k n → IsInputPort b.ports k w → Always b (λ run c. (run.net c n.number < 2 ^ n.width) × (run.net c n.number ≡ run.input c k))
+input_holds b k w n h made i run cycles r c lt =
+    let holds = (r.valuations c lt).nets (input_net b.ports k) (line_of w (Input k)) (input_line b k w h i) in
+    rw (made.number, made.width w i) (holds.fits, holds.value)

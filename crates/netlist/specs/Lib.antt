@@ -1,4 +1,5 @@
 pub mod Names
+pub mod Nets
 pub mod Netlists
 pub mod Runs
 pub mod Longer

@@ -1,8 +1,9 @@
 -- A netlist: what contracts see of a builder and of a module.
-use Rattle.std.specs.Prelude.{◌≡◌, ◌≢◌, ℕ, ◌+◌, ◌-◌, ◌^◌, ◌<◌, ◌≤◌, Bool, true, false, not, List, [], ◌∷◌, ◌++◌, length, slice_get, slice_index_or, slice_set, take, map, All, AllPairs, count_by, Option, Some, None, option_map, unwrap_or, IsSome, IfSome, if◌then◌else◌}
+use Rattle.std.specs.Prelude.{◌≡◌, ◌≢◌, ℕ, ◌+◌, ◌-◌, ◌^◌, ◌<◌, ◌≤◌, Bool, true, false, not, List, [], ◌∷◌, ◌++◌, length, slice_get, slice_index_or, slice_set, take, map, All, AllPairs, count_by, Option, Some, None, option_map, IsSome, IfSome, if◌then◌else◌}
 use Rattle.av_base.specs.Word.{IsWord}
 use Rattle.av_base.specs.declared.value.Val.{Val}
 use Rattle.netlist.specs.Names.{IsModuleName, IsPortName}
+use Rattle.netlist.specs.Nets.{NetValue}
 use Rattle.netlist.specs.declared.line.Equation.{Equation}
 use Rattle.netlist.specs.declared.line.Equation.TheVariants.{Input, Constant, And, Or, Xor, Add, Sub, Eq, Less, Concat, Not, Any, Mux, Slice, Reg}
 use Rattle.netlist.specs.declared.line.Line.{Line}
@@ -30,9 +31,9 @@ width_at lines n = option_map (λ (line : Line). line.width) (slice_get lines n)
 abbrev pub HasWidth : Netlist → ℕ → ℕ → Type 0
 HasWidth netlist n w = width_at netlist.lines n ≡ Some w
 
--- the width of net n, or 0 where there is none
-abbrev pub width_of : Netlist → ℕ → ℕ
-width_of netlist n = unwrap_or (width_at netlist.lines n) 0
+-- the net is one of this netlist
+abbrev pub IsNet : Netlist → NetValue → Type 0
+IsNet netlist net = HasWidth netlist net.number net.width
 
 -- the net that drives port k, where one does
 abbrev pub driver_of : Netlist → ℕ → Option ℕ

@@ -1,5 +1,6 @@
 ghost use Rattle.std.specs.Prelude.{◌≡◌, ℕ, ◌+◌, ◌-◌, ◌*◌, ◌/◌, ◌%◌, ◌^◌, ◌<◌, ◌≤◌, ◌↔◌, ◌⊎◌, ◌==◌, nat_lt, bit_and, bit_or, bit_xor, true, false, if◌then◌else◌, [], ◌∷◌, ◌++◌, length, map, slice_get, IfOk, OnErr, IfSome, Some, None};
-ghost use Rattle.netlist.specs.Netlists.{HasWidth, width_of, driver_of, IsInputPort, IsOutputPort, IsDriver, IsHeader, IsWellMade, IsDriven, IsClocked, IsWaiting, IsModule, input_count, input_net, input_lines, is_input, is_register, IsSound, IsSoundLine, undriven, started, appended, with_driver, with_line, with_next, line_with, line_of, register_of};
+ghost use Rattle.netlist.specs.Netlists.{IsNet, driver_of, IsInputPort, IsOutputPort, IsHeader, IsWellMade, IsDriven, IsClocked, IsWaiting, IsModule, input_count, input_net, input_lines, is_input, is_register, IsSound, IsSoundLine, undriven, started, appended, with_driver, with_line, with_next, line_with, line_of, register_of};
+ghost use Rattle.netlist.specs.Nets.{net_of};
 ghost use Rattle.netlist.specs.Runs.{Run, IsRun, NetHolds, cycle_of, Always};
 ghost use Rattle.netlist.specs.Longer.{Extends, GrowsByOne};
 ghost use Rattle.netlist.specs.declared.line.Line.{Line};
@@ -115,18 +116,20 @@ impl Builder {
     /// The net of an input port.
     pub fn input(&self, port: u32) -> Net
         requires { (w : ℕ) × IsInputPort self.now.ports port w }
-        ensures net { result ≡ input_net self.now.ports port }
-        ensures width { (w : ℕ) → IsInputPort self.now.ports port w → HasWidth self.now result w }
-        ensures value { Always self.now (λ run c. run.net c result ≡ run.input c port) }
+        ensures net { IsNet self.now result }
+        ensures number { result.number ≡ input_net self.now.ports port }
+        ensures width { (w : ℕ) → IsInputPort self.now.ports port w → result.width ≡ w }
+        ensures value { Always self.now (λ run c. (run.net c result.number < 2 ^ result.width) × (run.net c result.number ≡ run.input c port)) }
     {
-        Net::new(count_inputs(&self.ports.as_slice()[..port as usize]) as u32)
+        let ports = self.ports.as_slice();
+        let number = count_inputs(&ports[..port as usize]);
+        Net::new(number as u32, ports[port as usize].width)
     }
 
     /// The net's width in bits.
     pub fn width(&self, net: Net) -> u8
-        requires { net < length self.now.lines }
-        ensures width { HasWidth self.now net result }
-        ensures value { result ≡ width_of self.now net }
+        requires { IsNet self.now net }
+        ensures value { result ≡ net.width }
         ensures bounds { (1 ≤ result) × (result ≤ 128) }
     {
         self.lines[net.number() as usize].width
@@ -136,9 +139,9 @@ impl Builder {
     fn append(&mut self, width: u8, equation: Equation, waits: bool) -> Result<Net, NetFault>
         requires sound { IsSoundLine self.old.ports self.old.lines (length self.old.lines) (line_with width equation waits) }
         requires computed { is_input equation ≡ false }
-        ensures line { IfOk result (λ n. (self.new ≡ appended self.old (line_with width equation waits)) × (n ≡ length self.old.lines)) }
-        ensures net { IfOk result (λ n. HasWidth self.new n width) }
-        ensures value { IfOk result (λ n. Always self.new (λ run c. NetHolds self.new.lines (cycle_of run c) n (line_with width equation waits))) }
+        ensures line { IfOk result (λ n. (self.new ≡ appended self.old (line_with width equation waits)) × (n ≡ net_of (length self.old.lines) width)) }
+        ensures net { IfOk result (λ n. IsNet self.new n × (n.width ≡ width)) }
+        ensures value { IfOk result (λ n. Always self.new (λ run c. NetHolds self.new.lines (cycle_of run c) n.number (line_with width equation waits))) }
         ensures extends { Extends self.old self.new }
         ensures most { length self.new.lines ≤ length self.old.lines + 1 }
         ensures drivers { self.new.drivers ≡ self.old.drivers }
@@ -156,7 +159,7 @@ impl Builder {
             equation,
             waits,
         })?;
-        Ok(Net::new(number as u32))
+        Ok(Net::new(number as u32, width))
     }
 
     /// One more line, of no input and no register.
@@ -166,9 +169,9 @@ impl Builder {
         requires sound { IsSound self.old.ports self.old.lines (length self.old.lines) width equation }
         requires computed { is_input equation ≡ false }
         requires unclocked { is_register equation ≡ false }
-        ensures line { IfOk result (λ n. (self.new ≡ appended self.old (line_of width equation)) × (n ≡ length self.old.lines)) }
-        ensures net { IfOk result (λ n. HasWidth self.new n width) }
-        ensures value { IfOk result (λ n. Always self.new (λ run c. NetHolds self.new.lines (cycle_of run c) n (line_of width equation))) }
+        ensures line { IfOk result (λ n. (self.new ≡ appended self.old (line_of width equation)) × (n ≡ net_of (length self.old.lines) width)) }
+        ensures net { IfOk result (λ n. IsNet self.new n × (n.width ≡ width)) }
+        ensures value { IfOk result (λ n. Always self.new (λ run c. NetHolds self.new.lines (cycle_of run c) n.number (line_of width equation))) }
         ensures extends { Extends self.old self.new }
         ensures grows { GrowsByOne self.old self.new }
         ensures err { OnErr result (self.new ≡ self.old) }
@@ -179,13 +182,13 @@ impl Builder {
 
     /// One more line, of the width of a net.
     fn append_like(&mut self, net: Net, equation: Equation) -> Result<Net, NetFault>
-        requires net_is { net < length self.old.lines }
-        requires sound { IsSound self.old.ports self.old.lines (length self.old.lines) (width_of self.old net) equation }
+        requires net_is { IsNet self.old net }
+        requires sound { IsSound self.old.ports self.old.lines (length self.old.lines) net.width equation }
         requires computed { is_input equation ≡ false }
         requires unclocked { is_register equation ≡ false }
-        ensures line { IfOk result (λ n. (self.new ≡ appended self.old (line_of (width_of self.old net) equation)) × (n ≡ length self.old.lines)) }
-        ensures net { IfOk result (λ n. HasWidth self.new n (width_of self.old net)) }
-        ensures value { IfOk result (λ n. Always self.new (λ run c. NetHolds self.new.lines (cycle_of run c) n (line_of (width_of self.old net) equation))) }
+        ensures line { IfOk result (λ n. (self.new ≡ appended self.old (line_of net.width equation)) × (n ≡ net_of (length self.old.lines) net.width)) }
+        ensures net { IfOk result (λ n. IsNet self.new n × (n.width ≡ net.width)) }
+        ensures value { IfOk result (λ n. Always self.new (λ run c. NetHolds self.new.lines (cycle_of run c) n.number (line_of net.width equation))) }
         ensures extends { Extends self.old self.new }
         ensures grows { GrowsByOne self.old self.new }
         ensures err { OnErr result (self.new ≡ self.old) }
@@ -197,9 +200,9 @@ impl Builder {
 
     /// A net that always has this value.
     pub fn constant(&mut self, value: Val) -> Result<Net, NetFault>
-        ensures line { IfOk result (λ n. (self.new ≡ appended self.old (line_of value.width (Equation.Constant value))) × (n ≡ length self.old.lines)) }
-        ensures net { IfOk result (λ n. HasWidth self.new n value.width) }
-        ensures value { IfOk result (λ n. Always self.new (λ run c. (run.net c n < 2 ^ value.width) × (run.net c n ≡ value.bits))) }
+        ensures line { IfOk result (λ n. (self.new ≡ appended self.old (line_of value.width (Equation.Constant value))) × (n ≡ net_of (length self.old.lines) value.width)) }
+        ensures net { IfOk result (λ n. IsNet self.new n × (n.width ≡ value.width)) }
+        ensures value { IfOk result (λ n. Always self.new (λ run c. (run.net c n.number < 2 ^ value.width) × (run.net c n.number ≡ value.bits))) }
         ensures extends { Extends self.old self.new }
         ensures grows { GrowsByOne self.old self.new }
         ensures err { OnErr result (self.new ≡ self.old) }
@@ -210,12 +213,12 @@ impl Builder {
 
     /// Bitwise and of two nets of one width.
     pub fn and(&mut self, a: Net, b: Net) -> Result<Net, NetFault>
-        requires a_is { a < length self.old.lines }
-        requires b_is { b < length self.old.lines }
-        requires widths { width_of self.old a ≡ width_of self.old b }
-        ensures line { IfOk result (λ n. (self.new ≡ appended self.old (line_of (width_of self.old a) (Equation.And a b))) × (n ≡ length self.old.lines)) }
-        ensures net { IfOk result (λ n. HasWidth self.new n (width_of self.old a)) }
-        ensures value { IfOk result (λ n. Always self.new (λ run c. (run.net c n < 2 ^ width_of self.old a) × (run.net c n ≡ bit_and (run.net c a) (run.net c b)))) }
+        requires a_is { IsNet self.old a }
+        requires b_is { IsNet self.old b }
+        requires widths { a.width ≡ b.width }
+        ensures line { IfOk result (λ n. (self.new ≡ appended self.old (line_of a.width (Equation.And a.number b.number))) × (n ≡ net_of (length self.old.lines) a.width)) }
+        ensures net { IfOk result (λ n. IsNet self.new n × (n.width ≡ a.width)) }
+        ensures value { IfOk result (λ n. Always self.new (λ run c. (run.net c n.number < 2 ^ a.width) × (run.net c n.number ≡ bit_and (run.net c a.number) (run.net c b.number)))) }
         ensures extends { Extends self.old self.new }
         ensures grows { GrowsByOne self.old self.new }
         ensures err { OnErr result (self.new ≡ self.old) }
@@ -232,12 +235,12 @@ impl Builder {
 
     /// Bitwise or of two nets of one width.
     pub fn or(&mut self, a: Net, b: Net) -> Result<Net, NetFault>
-        requires a_is { a < length self.old.lines }
-        requires b_is { b < length self.old.lines }
-        requires widths { width_of self.old a ≡ width_of self.old b }
-        ensures line { IfOk result (λ n. (self.new ≡ appended self.old (line_of (width_of self.old a) (Equation.Or a b))) × (n ≡ length self.old.lines)) }
-        ensures net { IfOk result (λ n. HasWidth self.new n (width_of self.old a)) }
-        ensures value { IfOk result (λ n. Always self.new (λ run c. (run.net c n < 2 ^ width_of self.old a) × (run.net c n ≡ bit_or (run.net c a) (run.net c b)))) }
+        requires a_is { IsNet self.old a }
+        requires b_is { IsNet self.old b }
+        requires widths { a.width ≡ b.width }
+        ensures line { IfOk result (λ n. (self.new ≡ appended self.old (line_of a.width (Equation.Or a.number b.number))) × (n ≡ net_of (length self.old.lines) a.width)) }
+        ensures net { IfOk result (λ n. IsNet self.new n × (n.width ≡ a.width)) }
+        ensures value { IfOk result (λ n. Always self.new (λ run c. (run.net c n.number < 2 ^ a.width) × (run.net c n.number ≡ bit_or (run.net c a.number) (run.net c b.number)))) }
         ensures extends { Extends self.old self.new }
         ensures grows { GrowsByOne self.old self.new }
         ensures err { OnErr result (self.new ≡ self.old) }
@@ -254,12 +257,12 @@ impl Builder {
 
     /// Bitwise exclusive or of two nets of one width.
     pub fn xor(&mut self, a: Net, b: Net) -> Result<Net, NetFault>
-        requires a_is { a < length self.old.lines }
-        requires b_is { b < length self.old.lines }
-        requires widths { width_of self.old a ≡ width_of self.old b }
-        ensures line { IfOk result (λ n. (self.new ≡ appended self.old (line_of (width_of self.old a) (Equation.Xor a b))) × (n ≡ length self.old.lines)) }
-        ensures net { IfOk result (λ n. HasWidth self.new n (width_of self.old a)) }
-        ensures value { IfOk result (λ n. Always self.new (λ run c. (run.net c n < 2 ^ width_of self.old a) × (run.net c n ≡ bit_xor (run.net c a) (run.net c b)))) }
+        requires a_is { IsNet self.old a }
+        requires b_is { IsNet self.old b }
+        requires widths { a.width ≡ b.width }
+        ensures line { IfOk result (λ n. (self.new ≡ appended self.old (line_of a.width (Equation.Xor a.number b.number))) × (n ≡ net_of (length self.old.lines) a.width)) }
+        ensures net { IfOk result (λ n. IsNet self.new n × (n.width ≡ a.width)) }
+        ensures value { IfOk result (λ n. Always self.new (λ run c. (run.net c n.number < 2 ^ a.width) × (run.net c n.number ≡ bit_xor (run.net c a.number) (run.net c b.number)))) }
         ensures extends { Extends self.old self.new }
         ensures grows { GrowsByOne self.old self.new }
         ensures err { OnErr result (self.new ≡ self.old) }
@@ -276,12 +279,12 @@ impl Builder {
 
     /// The sum of two nets of one width, without the carry out of the top.
     pub fn add(&mut self, a: Net, b: Net) -> Result<Net, NetFault>
-        requires a_is { a < length self.old.lines }
-        requires b_is { b < length self.old.lines }
-        requires widths { width_of self.old a ≡ width_of self.old b }
-        ensures line { IfOk result (λ n. (self.new ≡ appended self.old (line_of (width_of self.old a) (Equation.Add a b))) × (n ≡ length self.old.lines)) }
-        ensures net { IfOk result (λ n. HasWidth self.new n (width_of self.old a)) }
-        ensures value { IfOk result (λ n. Always self.new (λ run c. (run.net c n < 2 ^ width_of self.old a) × (run.net c n ≡ (run.net c a + run.net c b) % 2 ^ width_of self.old a))) }
+        requires a_is { IsNet self.old a }
+        requires b_is { IsNet self.old b }
+        requires widths { a.width ≡ b.width }
+        ensures line { IfOk result (λ n. (self.new ≡ appended self.old (line_of a.width (Equation.Add a.number b.number))) × (n ≡ net_of (length self.old.lines) a.width)) }
+        ensures net { IfOk result (λ n. IsNet self.new n × (n.width ≡ a.width)) }
+        ensures value { IfOk result (λ n. Always self.new (λ run c. (run.net c n.number < 2 ^ a.width) × (run.net c n.number ≡ (run.net c a.number + run.net c b.number) % 2 ^ a.width))) }
         ensures extends { Extends self.old self.new }
         ensures grows { GrowsByOne self.old self.new }
         ensures err { OnErr result (self.new ≡ self.old) }
@@ -298,12 +301,12 @@ impl Builder {
 
     /// The difference of two nets of one width, modulo 2 to the width.
     pub fn sub(&mut self, a: Net, b: Net) -> Result<Net, NetFault>
-        requires a_is { a < length self.old.lines }
-        requires b_is { b < length self.old.lines }
-        requires widths { width_of self.old a ≡ width_of self.old b }
-        ensures line { IfOk result (λ n. (self.new ≡ appended self.old (line_of (width_of self.old a) (Equation.Sub a b))) × (n ≡ length self.old.lines)) }
-        ensures net { IfOk result (λ n. HasWidth self.new n (width_of self.old a)) }
-        ensures value { IfOk result (λ n. Always self.new (λ run c. (run.net c n < 2 ^ width_of self.old a) × (run.net c n ≡ (run.net c a + (2 ^ width_of self.old a - run.net c b)) % 2 ^ width_of self.old a))) }
+        requires a_is { IsNet self.old a }
+        requires b_is { IsNet self.old b }
+        requires widths { a.width ≡ b.width }
+        ensures line { IfOk result (λ n. (self.new ≡ appended self.old (line_of a.width (Equation.Sub a.number b.number))) × (n ≡ net_of (length self.old.lines) a.width)) }
+        ensures net { IfOk result (λ n. IsNet self.new n × (n.width ≡ a.width)) }
+        ensures value { IfOk result (λ n. Always self.new (λ run c. (run.net c n.number < 2 ^ a.width) × (run.net c n.number ≡ (run.net c a.number + (2 ^ a.width - run.net c b.number)) % 2 ^ a.width))) }
         ensures extends { Extends self.old self.new }
         ensures grows { GrowsByOne self.old self.new }
         ensures err { OnErr result (self.new ≡ self.old) }
@@ -320,12 +323,12 @@ impl Builder {
 
     /// One bit: whether two nets of one width are equal.
     pub fn eq(&mut self, a: Net, b: Net) -> Result<Net, NetFault>
-        requires a_is { a < length self.old.lines }
-        requires b_is { b < length self.old.lines }
-        requires widths { width_of self.old a ≡ width_of self.old b }
-        ensures line { IfOk result (λ n. (self.new ≡ appended self.old (line_of 1 (Equation.Eq a b))) × (n ≡ length self.old.lines)) }
-        ensures net { IfOk result (λ n. HasWidth self.new n 1) }
-        ensures value { IfOk result (λ n. Always self.new (λ run c. (run.net c n < 2 ^ 1) × (run.net c n ≡ (if run.net c a == run.net c b then 1 else 0)))) }
+        requires a_is { IsNet self.old a }
+        requires b_is { IsNet self.old b }
+        requires widths { a.width ≡ b.width }
+        ensures line { IfOk result (λ n. (self.new ≡ appended self.old (line_of 1 (Equation.Eq a.number b.number))) × (n ≡ net_of (length self.old.lines) 1)) }
+        ensures net { IfOk result (λ n. IsNet self.new n × (n.width ≡ 1)) }
+        ensures value { IfOk result (λ n. Always self.new (λ run c. (run.net c n.number < 2 ^ 1) × (run.net c n.number ≡ (if run.net c a.number == run.net c b.number then 1 else 0)))) }
         ensures extends { Extends self.old self.new }
         ensures grows { GrowsByOne self.old self.new }
         ensures err { OnErr result (self.new ≡ self.old) }
@@ -342,12 +345,12 @@ impl Builder {
 
     /// One bit: whether the first of two nets of one width is the smaller, both read without a sign.
     pub fn less(&mut self, a: Net, b: Net) -> Result<Net, NetFault>
-        requires a_is { a < length self.old.lines }
-        requires b_is { b < length self.old.lines }
-        requires widths { width_of self.old a ≡ width_of self.old b }
-        ensures line { IfOk result (λ n. (self.new ≡ appended self.old (line_of 1 (Equation.Less a b))) × (n ≡ length self.old.lines)) }
-        ensures net { IfOk result (λ n. HasWidth self.new n 1) }
-        ensures value { IfOk result (λ n. Always self.new (λ run c. (run.net c n < 2 ^ 1) × (run.net c n ≡ (if nat_lt (run.net c a) (run.net c b) then 1 else 0)))) }
+        requires a_is { IsNet self.old a }
+        requires b_is { IsNet self.old b }
+        requires widths { a.width ≡ b.width }
+        ensures line { IfOk result (λ n. (self.new ≡ appended self.old (line_of 1 (Equation.Less a.number b.number))) × (n ≡ net_of (length self.old.lines) 1)) }
+        ensures net { IfOk result (λ n. IsNet self.new n × (n.width ≡ 1)) }
+        ensures value { IfOk result (λ n. Always self.new (λ run c. (run.net c n.number < 2 ^ 1) × (run.net c n.number ≡ (if nat_lt (run.net c a.number) (run.net c b.number) then 1 else 0)))) }
         ensures extends { Extends self.old self.new }
         ensures grows { GrowsByOne self.old self.new }
         ensures err { OnErr result (self.new ≡ self.old) }
@@ -364,12 +367,12 @@ impl Builder {
 
     /// The bits of `a` above those of `b`.
     pub fn concat(&mut self, a: Net, b: Net) -> Result<Net, NetFault>
-        requires a_is { a < length self.old.lines }
-        requires b_is { b < length self.old.lines }
-        requires widths { width_of self.old a + width_of self.old b ≤ 128 }
-        ensures line { IfOk result (λ n. (self.new ≡ appended self.old (line_of (width_of self.old a + width_of self.old b) (Equation.Concat a b))) × (n ≡ length self.old.lines)) }
-        ensures net { IfOk result (λ n. HasWidth self.new n (width_of self.old a + width_of self.old b)) }
-        ensures value { IfOk result (λ n. Always self.new (λ run c. (run.net c n < 2 ^ (width_of self.old a + width_of self.old b)) × (run.net c n ≡ run.net c a * 2 ^ width_of self.old b + run.net c b))) }
+        requires a_is { IsNet self.old a }
+        requires b_is { IsNet self.old b }
+        requires widths { a.width + b.width ≤ 128 }
+        ensures line { IfOk result (λ n. (self.new ≡ appended self.old (line_of (a.width + b.width) (Equation.Concat a.number b.number))) × (n ≡ net_of (length self.old.lines) (a.width + b.width))) }
+        ensures net { IfOk result (λ n. IsNet self.new n × (n.width ≡ (a.width + b.width))) }
+        ensures value { IfOk result (λ n. Always self.new (λ run c. (run.net c n.number < 2 ^ (a.width + b.width)) × (run.net c n.number ≡ run.net c a.number * 2 ^ b.width + run.net c b.number))) }
         ensures extends { Extends self.old self.new }
         ensures grows { GrowsByOne self.old self.new }
         ensures err { OnErr result (self.new ≡ self.old) }
@@ -387,10 +390,10 @@ impl Builder {
 
     /// Each bit turned.
     pub fn not(&mut self, a: Net) -> Result<Net, NetFault>
-        requires a_is { a < length self.old.lines }
-        ensures line { IfOk result (λ n. (self.new ≡ appended self.old (line_of (width_of self.old a) (Equation.Not a))) × (n ≡ length self.old.lines)) }
-        ensures net { IfOk result (λ n. HasWidth self.new n (width_of self.old a)) }
-        ensures value { IfOk result (λ n. Always self.new (λ run c. (run.net c n < 2 ^ width_of self.old a) × (run.net c n ≡ 2 ^ width_of self.old a - 1 - run.net c a))) }
+        requires a_is { IsNet self.old a }
+        ensures line { IfOk result (λ n. (self.new ≡ appended self.old (line_of a.width (Equation.Not a.number))) × (n ≡ net_of (length self.old.lines) a.width)) }
+        ensures net { IfOk result (λ n. IsNet self.new n × (n.width ≡ a.width)) }
+        ensures value { IfOk result (λ n. Always self.new (λ run c. (run.net c n.number < 2 ^ a.width) × (run.net c n.number ≡ 2 ^ a.width - 1 - run.net c a.number))) }
         ensures extends { Extends self.old self.new }
         ensures grows { GrowsByOne self.old self.new }
         ensures err { OnErr result (self.new ≡ self.old) }
@@ -401,10 +404,10 @@ impl Builder {
 
     /// One bit: whether some bit is set.
     pub fn any(&mut self, a: Net) -> Result<Net, NetFault>
-        requires a_is { a < length self.old.lines }
-        ensures line { IfOk result (λ n. (self.new ≡ appended self.old (line_of 1 (Equation.Any a))) × (n ≡ length self.old.lines)) }
-        ensures net { IfOk result (λ n. HasWidth self.new n 1) }
-        ensures value { IfOk result (λ n. Always self.new (λ run c. (run.net c n < 2 ^ 1) × (run.net c n ≡ (if run.net c a == 0 then 0 else 1)))) }
+        requires a_is { IsNet self.old a }
+        ensures line { IfOk result (λ n. (self.new ≡ appended self.old (line_of 1 (Equation.Any a.number))) × (n ≡ net_of (length self.old.lines) 1)) }
+        ensures net { IfOk result (λ n. IsNet self.new n × (n.width ≡ 1)) }
+        ensures value { IfOk result (λ n. Always self.new (λ run c. (run.net c n.number < 2 ^ 1) × (run.net c n.number ≡ (if run.net c a.number == 0 then 0 else 1)))) }
         ensures extends { Extends self.old self.new }
         ensures grows { GrowsByOne self.old self.new }
         ensures err { OnErr result (self.new ≡ self.old) }
@@ -415,13 +418,14 @@ impl Builder {
 
     /// `a` where the bit `s` is set, else `b`; these two have one width.
     pub fn mux(&mut self, s: Net, a: Net, b: Net) -> Result<Net, NetFault>
-        requires s_is { HasWidth self.old s 1 }
-        requires a_is { a < length self.old.lines }
-        requires b_is { b < length self.old.lines }
-        requires widths { width_of self.old a ≡ width_of self.old b }
-        ensures line { IfOk result (λ n. (self.new ≡ appended self.old (line_of (width_of self.old a) (Equation.Mux s a b))) × (n ≡ length self.old.lines)) }
-        ensures net { IfOk result (λ n. HasWidth self.new n (width_of self.old a)) }
-        ensures value { IfOk result (λ n. Always self.new (λ run c. (run.net c n < 2 ^ width_of self.old a) × (run.net c n ≡ (if run.net c s == 0 then run.net c b else run.net c a)))) }
+        requires s_is { IsNet self.old s }
+        requires one_bit { s.width ≡ 1 }
+        requires a_is { IsNet self.old a }
+        requires b_is { IsNet self.old b }
+        requires widths { a.width ≡ b.width }
+        ensures line { IfOk result (λ n. (self.new ≡ appended self.old (line_of a.width (Equation.Mux s.number a.number b.number))) × (n ≡ net_of (length self.old.lines) a.width)) }
+        ensures net { IfOk result (λ n. IsNet self.new n × (n.width ≡ a.width)) }
+        ensures value { IfOk result (λ n. Always self.new (λ run c. (run.net c n.number < 2 ^ a.width) × (run.net c n.number ≡ (if run.net c s.number == 0 then run.net c b.number else run.net c a.number)))) }
         ensures extends { Extends self.old self.new }
         ensures grows { GrowsByOne self.old self.new }
         ensures err { OnErr result (self.new ≡ self.old) }
@@ -439,12 +443,12 @@ impl Builder {
 
     /// The bits from `high` down to `low`.
     pub fn slice(&mut self, a: Net, high: u8, low: u8) -> Result<Net, NetFault>
-        requires a_is { a < length self.old.lines }
+        requires a_is { IsNet self.old a }
         requires order { low ≤ high }
-        requires inside { high < width_of self.old a }
-        ensures line { IfOk result (λ n. (self.new ≡ appended self.old (line_of (high - low + 1) (Equation.Slice a high low))) × (n ≡ length self.old.lines)) }
-        ensures net { IfOk result (λ n. HasWidth self.new n (high - low + 1)) }
-        ensures value { IfOk result (λ n. Always self.new (λ run c. (run.net c n < 2 ^ (high - low + 1)) × (run.net c n ≡ run.net c a / 2 ^ low % 2 ^ (high - low + 1)))) }
+        requires inside { high < a.width }
+        ensures line { IfOk result (λ n. (self.new ≡ appended self.old (line_of (high - low + 1) (Equation.Slice a.number high low))) × (n ≡ net_of (length self.old.lines) (high - low + 1))) }
+        ensures net { IfOk result (λ n. IsNet self.new n × (n.width ≡ (high - low + 1))) }
+        ensures value { IfOk result (λ n. Always self.new (λ run c. (run.net c n.number < 2 ^ (high - low + 1)) × (run.net c n.number ≡ run.net c a.number / 2 ^ low % 2 ^ (high - low + 1)))) }
         ensures extends { Extends self.old self.new }
         ensures grows { GrowsByOne self.old self.new }
         ensures err { OnErr result (self.new ≡ self.old) }
@@ -463,11 +467,11 @@ impl Builder {
 
     /// A register that begins at `reset`; its next net is to be set.
     pub fn reg(&mut self, reset: Val) -> Result<Net, NetFault>
-        ensures line { IfOk result (λ n. (self.new ≡ appended self.old (register_of (length self.old.lines) reset)) × (n ≡ length self.old.lines)) }
-        ensures net { IfOk result (λ n. HasWidth self.new n reset.width) }
-        ensures fits { IfOk result (λ n. Always self.new (λ run c. run.net c n < 2 ^ reset.width)) }
-        ensures value { IfOk result (λ n. (run : Run) (cycles : ℕ) → IsRun self.new run cycles → 0 < cycles → run.net 0 n ≡ reset.bits) }
-        ensures waits { IfOk result (λ n. IsWaiting self.new n) }
+        ensures line { IfOk result (λ n. (self.new ≡ appended self.old (register_of (length self.old.lines) reset)) × (n ≡ net_of (length self.old.lines) reset.width)) }
+        ensures net { IfOk result (λ n. IsNet self.new n × (n.width ≡ reset.width)) }
+        ensures fits { IfOk result (λ n. Always self.new (λ run c. run.net c n.number < 2 ^ reset.width)) }
+        ensures value { IfOk result (λ n. (run : Run) (cycles : ℕ) → IsRun self.new run cycles → 0 < cycles → run.net 0 n.number ≡ reset.bits) }
+        ensures waits { IfOk result (λ n. IsWaiting self.new n.number) }
         ensures extends { Extends self.old self.new }
         ensures most { length self.new.lines ≤ length self.old.lines + 1 }
         ensures drivers { self.new.drivers ≡ self.old.drivers }
@@ -492,16 +496,17 @@ impl Builder {
 
     /// Gives a register its next net, of its width.
     pub fn set_next(&mut self, register: Net, next: Net)
-        requires waits { IsWaiting self.old register }
-        requires next_is { next < length self.old.lines }
-        requires widths { width_of self.old register ≡ width_of self.old next }
-        ensures line { (line : Line) → slice_get self.old.lines register ≡ Some line → self.new ≡ with_line self.old register (with_next line next) }
-        ensures value { (run : Run) (cycles : ℕ) → IsRun self.new run cycles → (c : ℕ) → c + 1 < cycles → run.net (c + 1) register ≡ run.net c next }
+        requires register_is { IsNet self.old register }
+        requires waits { IsWaiting self.old register.number }
+        requires next_is { IsNet self.old next }
+        requires widths { register.width ≡ next.width }
+        ensures line { (line : Line) → slice_get self.old.lines register.number ≡ Some line → self.new ≡ with_line self.old register.number (with_next line next.number) }
+        ensures value { (run : Run) (cycles : ℕ) → IsRun self.new run cycles → (c : ℕ) → c + 1 < cycles → run.net (c + 1) register.number ≡ run.net c next.number }
         ensures extends { Extends self.old self.new }
         ensures same_count { length self.new.lines ≡ length self.old.lines }
         ensures drivers { self.new.drivers ≡ self.old.drivers }
-        ensures still_wait { (n : ℕ) → (n ≡ register → ⊥) → IsWaiting self.old n → IsWaiting self.new n }
-        ensures no_more_wait { (n : ℕ) → IsWaiting self.new n → IsWaiting self.old n × (n ≡ register → ⊥) }
+        ensures still_wait { (n : ℕ) → (n ≡ register.number → ⊥) → IsWaiting self.old n → IsWaiting self.new n }
+        ensures no_more_wait { (n : ℕ) → IsWaiting self.new n → IsWaiting self.old n × (n ≡ register.number → ⊥) }
     {
         let number = register.number() as usize;
         self.lines[number] = clocked(&self.lines[number], next.number());
@@ -509,10 +514,11 @@ impl Builder {
 
     /// Lets a net drive an output port.
     pub fn drive(&mut self, port: u32, net: Net)
-        requires fits { IsDriver self.old port net }
+        requires output { IsOutputPort self.old.ports port net.width }
+        requires net_is { IsNet self.old net }
         requires undriven { driver_of self.old port ≡ None }
-        ensures driven { self.new ≡ with_driver self.old port net }
-        ensures driver { driver_of self.new port ≡ Some net }
+        ensures driven { self.new ≡ with_driver self.old port net.number }
+        ensures driver { driver_of self.new port ≡ Some net.number }
         ensures extends { Extends self.old self.new }
         ensures waits { (n : ℕ) → IsWaiting self.old n → IsWaiting self.new n }
         ensures no_more_wait { (n : ℕ) → IsWaiting self.new n → IsWaiting self.old n }

@@ -1,4 +1,5 @@
 ghost use Rattle.std.specs.Prelude.{◌≡◌};
+ghost use Rattle.netlist.specs.Nets.{net_of};
 
 use av_base::{Text, Val};
 use std::marker::Model;
@@ -7,28 +8,36 @@ use std::marker::Model;
 #[derive(Clone, Copy, Debug, PartialEq, Eq)]
 pub struct Net {
     number: u32,
+    width: u8,
 }
 
 impl Model for Net {
-    ghost use Rattle.std.specs.Prelude.{ℕ};
+    ghost use Rattle.netlist.specs.Nets.{NetValue, net_of};
 
-    ghost Value = { ℕ };
+    ghost Value = { NetValue };
 
-    ghost view = { λ n. n.number };
+    ghost view = { λ n. net_of n.number n.width };
 
-    ghost inverse = { λ n. record { number = n } };
+    ghost inverse = { λ n. record { number = n.number; width = n.width } };
 }
 
 impl Net {
-    pub(crate) fn new(number: u32) -> Net
-        ensures { result ≡ number }
+    pub(crate) fn new(number: u32, width: u8) -> Net
+        ensures { result ≡ net_of number width }
     {
-        Net { number }
+        Net { number, width }
+    }
+
+    /// The net's width in bits.
+    pub(crate) fn width(self) -> u8
+        ensures { result ≡ self.width }
+    {
+        self.width
     }
 
     /// The net's place in its module's list, from 0.
     pub fn number(self) -> u32
-        ensures { result ≡ self }
+        ensures { result ≡ self.number }
     {
         self.number
     }

@@ -1,5 +1,6 @@
-use Rattle.std.proofs.Common.{◌≡◌, ℕ, ◌<◌, ◌^◌, length, arith, ap, sym, subst, ◌⊎◌, true}
-use Rattle.netlist.specs.Netlists.{Netlist, IsWellMade, HasWidth, IsWaiting, appended, line_with}
+use Rattle.std.proofs.Common.{◌≡◌, ℕ, ◌<◌, ◌^◌, ◌∙◌, length, arith, ap, sym, subst, refl, ◌⊎◌, true}
+use Rattle.netlist.specs.Netlists.{Netlist, IsWellMade, IsNet, IsWaiting, appended, line_with}
+use Rattle.netlist.specs.Nets.{NetValue, net_of}
 use Rattle.netlist.specs.Runs.{NetHolds, Always, cycle_of}
 use Rattle.netlist.specs.Longer.{Extends}
 use Rattle.netlist.proofs.Growth.{IsWellMade-appended, width-last, Always-appended, Extends-appended, pushed, waiting-appended, waiting-newly}
@@ -16,19 +17,21 @@ invariant_of-self-2 c =
 pub returns-clause-net : goal.returns-clause-net
 returns-clause-net c =
     let count : length c.args.self.now.lines ≡ length c.self.inside.lines.items = ap (λ (b : Netlist). length b.lines) (sym c.self.view_is) in
-    let number : length c.args.self.now.lines ≡ c.new.result = omega arith in
+    let number : length c.args.self.now.lines ≡ c.len-number.result = omega arith in
+    let is : net_of (length c.args.self.now.lines) c.args.width ≡ c.new.result = ap (λ n. net_of n c.args.width) number ∙ sym c.new.ensures in
     let new = pushed _ c.args.self.now c.push.new.self.items (line_with c.args.width c.args.equation c.args.waits) c.self.view_is c.in_ok-push.ensures.items in
-    subst (λ (b : Netlist). HasWidth b c.new.result c.args.width) (sym new)
-    (subst (λ n. HasWidth (appended c.args.self.now (line_with c.args.width c.args.equation c.args.waits)) n c.args.width) number
-    (width-last c.args.self.now.lines (line_with c.args.width c.args.equation c.args.waits)))
+    subst (λ (b : Netlist). IsNet b c.new.result × (c.new.result.width ≡ c.args.width)) (sym new)
+    (subst (λ (n : NetValue). IsNet (appended c.args.self.now (line_with c.args.width c.args.equation c.args.waits)) n × (n.width ≡ c.args.width)) is
+    (width-last c.args.self.now.lines (line_with c.args.width c.args.equation c.args.waits), refl))
 
 pub returns-clause-value : goal.returns-clause-value
 returns-clause-value c =
     let count : length c.args.self.now.lines ≡ length c.self.inside.lines.items = ap (λ (b : Netlist). length b.lines) (sym c.self.view_is) in
-    let number : length c.args.self.now.lines ≡ c.new.result = omega arith in
+    let number : length c.args.self.now.lines ≡ c.len-number.result = omega arith in
+    let is : length c.args.self.now.lines ≡ c.new.result.number = number ∙ sym (ap (λ (n : NetValue). n.number) c.new.ensures) in
     let new = pushed _ c.args.self.now c.push.new.self.items (line_with c.args.width c.args.equation c.args.waits) c.self.view_is c.in_ok-push.ensures.items in
-    subst (λ (b : Netlist). Always b (λ run k. NetHolds b.lines (cycle_of run k) c.new.result (line_with c.args.width c.args.equation c.args.waits))) (sym new)
-    (subst (λ n. Always (appended c.args.self.now (line_with c.args.width c.args.equation c.args.waits)) (λ run k. NetHolds (appended c.args.self.now (line_with c.args.width c.args.equation c.args.waits)).lines (cycle_of run k) n (line_with c.args.width c.args.equation c.args.waits))) number
+    subst (λ (b : Netlist). Always b (λ run k. NetHolds b.lines (cycle_of run k) c.new.result.number (line_with c.args.width c.args.equation c.args.waits))) (sym new)
+    (subst (λ n. Always (appended c.args.self.now (line_with c.args.width c.args.equation c.args.waits)) (λ run k. NetHolds (appended c.args.self.now (line_with c.args.width c.args.equation c.args.waits)).lines (cycle_of run k) n (line_with c.args.width c.args.equation c.args.waits))) is
     (Always-appended c.args.self.now (line_with c.args.width c.args.equation c.args.waits)))
 
 pub returns-clause-extends : goal.returns-clause-extends
