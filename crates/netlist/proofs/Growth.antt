@@ -10,7 +10,7 @@ use Rattle.netlist.specs.declared.line.PortLine.{PortLine}
 use Rattle.netlist.specs.declared.line.Equation.{Equation}
 use Rattle.netlist.specs.declared.line.Equation.TheVariants.{Input, Constant, And, Or, Xor, Add, Sub, Eq, Less, Concat, Not, Any, Mux, Slice, Reg}
 use Rattle.netlist.specs.Nets.{NetValue, net_of}
-use Rattle.netlist.specs.Netlists.{Netlist, line_of, line_with, width_at, HasWidth, IsNet, driver_of, IsInputPort, IsOutputPort, input_count, input_net, input_lines, is_input, is_register, next_in, next_of, IsOperand, AreOperands, IsComparison, IsAnyOf, IsSound, IsSoundLine, IsHeader, BeginsWithInputs, IsDriver, IsWellMade, IsWaiting, started, appended, next_set, with_next, with_line, with_driver}
+use Rattle.netlist.specs.Netlists.{Netlist, line_of, line_with, width_at, HasWidth, IsNet, driver_of, IsInputPort, IsOutputPort, input_count, input_net, input_lines, is_input, is_register, next_in, next_of, IsOperand, AreOperands, IsComparison, IsAnyOf, IsSound, IsSoundLine, IsHeader, BeginsWithInputs, IsDriver, IsWellMade, IsWaiting, IsClocked, started, appended, next_set, with_next, with_line, with_driver}
 use Rattle.netlist.specs.Runs.{Run, Cycle, cycle_of, value_of, NetHolds, IsValuation, IsRun, reset_of, Always}
 use Rattle.netlist.specs.Longer.{IsSetFrom, IsKept, Keeps, Extends}
 use Rattle.netlist.proofs.Lists.{slice_get-front, slice_get-last, slice_get-newly, slice_get-within, slice_get-some, slice_get-set_kept, slice_get-set_newly, slice_get-set_same, slice_get-set_other, width_at-line, width_at-is, driver-newly, driver-kept}
@@ -131,6 +131,13 @@ IsWellMade-started name ports h few = record {
   places = length-undriven ports;
   drivers = λ k n d. absurd (undriven-at ports k n d);
 }
+
+pub IsClocked-started : (name : List ℕ) (ports : List PortLine) → IsClocked (started name ports)
+IsClocked-started name ports n h =
+    let i = input_lines-from ports 0 n h.line h.is in
+    let set : h.line.waits ≡ false = ap (λ (l : Line). l.waits) i.is in
+    let waits = h.waits in
+    cc
 
 pub place_within : (b : Netlist) (k w : ℕ) → IsWellMade b → IsOutputPort b.ports k w → k < length b.drivers
 place_within b k w h i = let lt = slice_get-within b.ports k i.port i.is in let e = h.places in omega arith

@@ -109,3 +109,8 @@ undriven-at (p ∷ ports) (suc k) n e = undriven-at ports k n e
 pub length-undriven : (ports : List PortLine) → length (map undriven ports) ≡ length ports
 length-undriven [] = refl
 length-undriven (p ∷ ports) = ap suc (length-undriven ports)
+
+pub undriven-none : (ports : List PortLine) (k : ℕ) → get_or (map undriven ports) k None ≡ None
+undriven-none [] k = refl
+undriven-none (p ∷ ports) zero = refl
+undriven-none (p ∷ ports) (suc k) = undriven-none ports k

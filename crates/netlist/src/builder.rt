@@ -98,6 +98,8 @@ impl Builder {
         requires { IsHeader name ports }
         ensures started { IfOk result (λ b. b ≡ started name ports) }
         ensures well_made { IfOk result (λ b. IsWellMade b) }
+        ensures clocked { IfOk result (λ b. IsClocked b) }
+        ensures undriven { IfOk result (λ b. (k : ℕ) → driver_of b k ≡ None) }
         ensures full { (result ≡ Err NetFault.TooManyNets) ↔ (2 ^ 20 < input_count ports) }
     {
         if count_inputs(ports.as_slice()) > NET_LIMIT {

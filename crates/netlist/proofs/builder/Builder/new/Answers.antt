@@ -1,6 +1,7 @@
 use Rattle.std.proofs.Common.{◌≡◌, ◌≤◌, ◌^◌, arith, map}
 use Rattle.netlist.specs.Netlists.{input_count, input_lines, undriven}
-use Rattle.netlist.proofs.Growth.{IsWellMade-started}
+use Rattle.netlist.proofs.Growth.{IsWellMade-started, IsClocked-started}
+use Rattle.netlist.proofs.Inputs.{undriven-none}
 use Rattle.netlist.proofs.builder.Builder.new.Goals as goal
 
 pub invariant_of-result : goal.invariant_of-result
@@ -13,3 +14,14 @@ invariant_of-result c =
 
 pub returns-clause-well_made : goal.returns-clause-well_made
 returns-clause-well_made c = invariant_of-result c
+
+pub returns-clause-clocked : goal.returns-clause-clocked
+returns-clause-clocked c =
+    let lines : c.in_ok-lines.lines.items ≡ input_lines 0 c.args.ports = cc (c.in_ok-lines.ensures.lines) in
+    let drivers : c.in_ok-drivers.drivers.items ≡ map undriven c.args.ports = cc (c.in_ok-drivers.ensures.drivers) in
+    rw (lines, drivers) (IsClocked-started c.args.name c.args.ports)
+
+pub returns-clause-undriven : goal.returns-clause-undriven
+returns-clause-undriven c k =
+    let drivers : c.in_ok-drivers.drivers.items ≡ map undriven c.args.ports = cc (c.in_ok-drivers.ensures.drivers) in
+    rw drivers (undriven-none c.args.ports k)
