@@ -4,3 +4,4 @@ pub mod Growth
 pub mod Valuations
 pub mod Existence
 pub mod Ports
+mod TestPorts

@@ -30,7 +30,7 @@ no_driver b k w h i (Some n) e =
 pub input_port_value : (b : Netlist) (run : Run) (c k w : ℕ) → IsWellMade b → IsInputPort b.ports k w → port_value b run c k ≡ run.input c k
 input_port_value b run c k w h i = ap (λ (o : Option ℕ). unwrap_or (option_map (run.net c) o) (run.input c k)) (no_driver b k w h i (driver_of b k) refl)
 
-names_equal : (xs ys : List ℕ) → Decides (bytes_eq xs ys) (xs ≡ ys)
+pub names_equal : (xs ys : List ℕ) → Decides (bytes_eq xs ys) (xs ≡ ys)
 names_equal xs ys = slice_eq-Decides Decides-eqb xs ys (bytes_eq xs ys) refl
 
 not_true : (b : Bool) → (b ≡ true → ⊥) → b ≡ false
