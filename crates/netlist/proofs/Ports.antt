@@ -8,13 +8,13 @@ use Rattle.std.proofs.lemmas.Bool.Decides.{Decides-eqb}
 use Rattle.std.proofs.lemmas.Slice.Eq.{slice_eq-Decides}
 use Rattle.std.proofs.lemmas.Option.{get_or_from_slice_get}
 use Rattle.netlist.specs.declared.line.PortLine.{PortLine}
-use Rattle.netlist.specs.Netlists.{Netlist, IsInputPort, IsWellMade, driver_of}
+use Rattle.netlist.specs.Netlists.{Netlist, IsInputPort, IsWellMade, driver_of, input_net}
 use Rattle.netlist.specs.Runs.{Run}
-use Rattle.netlist.specs.Signals.{port_value, signal}
+use Rattle.netlist.specs.Signals.{port_net, port_value, signal}
 use Rattle.netlist.proofs.Lists.{slice_get-within}
 
 pub driven_value : (b : Netlist) (run : Run) (c k n : ℕ) → driver_of b k ≡ Some n → port_value b run c k ≡ run.net c n
-driven_value b run c k n e = ap (λ (o : Option ℕ). unwrap_or (option_map (run.net c) o) (run.input c k)) e
+driven_value b run c k n e = ap (λ (o : Option ℕ). run.net c (unwrap_or o (input_net b.ports k))) e
 
 no_driver : (b : Netlist) (k w : ℕ) → IsWellMade b → IsInputPort b.ports k w → (o : Option ℕ) → driver_of b k ≡ o → o ≡ None
 no_driver b k w h i None e = refl
@@ -27,8 +27,8 @@ no_driver b k w h i (Some n) e =
     let output = d.output in
     cc
 
-pub input_port_value : (b : Netlist) (run : Run) (c k w : ℕ) → IsWellMade b → IsInputPort b.ports k w → port_value b run c k ≡ run.input c k
-input_port_value b run c k w h i = ap (λ (o : Option ℕ). unwrap_or (option_map (run.net c) o) (run.input c k)) (no_driver b k w h i (driver_of b k) refl)
+pub input_port_net : (b : Netlist) (k w : ℕ) → IsWellMade b → IsInputPort b.ports k w → port_net b k ≡ input_net b.ports k
+input_port_net b k w h i = ap (λ (o : Option ℕ). unwrap_or o (input_net b.ports k)) (no_driver b k w h i (driver_of b k) refl)
 
 pub names_equal : (xs ys : List ℕ) → Decides (bytes_eq xs ys) (xs ≡ ys)
 names_equal xs ys = slice_eq-Decides Decides-eqb xs ys (bytes_eq xs ys) refl

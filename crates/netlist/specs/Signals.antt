@@ -3,12 +3,16 @@ use Rattle.std.specs.Prelude.{ℕ, List, Option, option_map, unwrap_or}
 use Rattle.std.specs.List.{position_from}
 use Rattle.std.specs.Str.{bytes_eq}
 use Rattle.netlist.specs.declared.line.PortLine.{PortLine}
-use Rattle.netlist.specs.Netlists.{Netlist, driver_of}
+use Rattle.netlist.specs.Netlists.{Netlist, driver_of, input_net}
 use Rattle.netlist.specs.Runs.{Run}
 
--- the value at port k in a cycle: at an output that of the net that drives it, at an input the input's
+-- the net at port k: the one that drives an output, and an input's own
+abbrev pub port_net : Netlist → ℕ → ℕ
+port_net netlist k = unwrap_or (driver_of netlist k) (input_net netlist.ports k)
+
+-- the value at port k in a cycle of a run
 abbrev pub port_value : Netlist → Run → ℕ → ℕ → ℕ
-port_value netlist run c k = unwrap_or (option_map (run.net c) (driver_of netlist k)) (run.input c k)
+port_value netlist run c k = run.net c (port_net netlist k)
 
 -- the number of the port with this name
 abbrev pub port_named : List PortLine → List ℕ → Option ℕ

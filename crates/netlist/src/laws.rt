@@ -36,7 +36,7 @@ pub fn keeps()
 /// What stands at a port, by its number and by its name.
 pub fn signals()
     ensures output { (netlist : Netlist) (k n : ℕ) → driver_of netlist k ≡ Some n → (run : Run) (c : ℕ) → port_value netlist run c k ≡ run.net c n }
-    ensures input { (netlist : Netlist) → IsWellMade netlist → (k w : ℕ) → IsInputPort netlist.ports k w → (run : Run) (c : ℕ) → port_value netlist run c k ≡ run.input c k }
+    ensures input { (netlist : Netlist) → IsWellMade netlist → (k w : ℕ) → IsInputPort netlist.ports k w → Always netlist (λ run c. port_value netlist run c k ≡ run.input c k) }
     ensures input_net { (netlist : Netlist) → IsWellMade netlist → (k w : ℕ) → IsInputPort netlist.ports k w → Always netlist (λ run c. run.net c (input_net netlist.ports k) ≡ run.input c k) }
     ensures named { (netlist : Netlist) → IsWellMade netlist → (k : ℕ) (port : PortLine) → slice_get netlist.ports k ≡ Some port → (run : Run) → signal netlist run port.name ≡ Some (λ c. port_value netlist run c k) }
 {}
