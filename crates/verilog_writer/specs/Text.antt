@@ -1,10 +1,10 @@
--- The Verilog text of a module: its header, a line for each net, a line for each output, in this order.
+-- The Verilog text of a module, in this order: its header, a line for each net, a clocked line for each register, a line for each output.
 use Rattle.std.specs.Prelude.{ℕ, zero, suc, ◌+◌, ◌-◌, ◌/◌, ◌%◌, List, [], ◌∷◌, ◌++◌, codes, decimal, nat_lt, slice_get, Option, Some, None, if◌then◌else◌}
 use Rattle.netlist.specs.declared.line.Equation.{Equation}
-use Rattle.netlist.specs.declared.line.Equation.TheVariants.{Input, Constant}
+use Rattle.netlist.specs.declared.line.Equation.TheVariants.{Input, Constant, And, Or, Xor, Add, Sub, Eq, Less, Concat, Not, Any, Mux, Slice, Reg}
 use Rattle.netlist.specs.declared.line.Line.{Line}
 use Rattle.netlist.specs.declared.line.PortLine.{PortLine}
-use Rattle.netlist.specs.Netlists.{Netlist}
+use Rattle.netlist.specs.Netlists.{Netlist, is_register}
 
 -- a number below 16 as a hexadecimal digit in lower case
 abbrev pub hex_digit : ℕ → ℕ
@@ -45,19 +45,57 @@ abbrev pub name_of : Option PortLine → List ℕ
 name_of None = []
 name_of (Some port) = port.name
 
--- what stands on the right of a net's line
+-- two nets with an operator between them
+abbrev pub infix_text : ℕ → List ℕ → ℕ → List ℕ
+infix_text a operator b = net_name a ++ codes " " ++ operator ++ codes " " ++ net_name b
+
+-- what stands on the right of a net's line; a register's has nothing there
 abbrev pub right_text : List PortLine → Equation → List ℕ
 right_text ports (Input port) = name_of (slice_get ports port)
 right_text ports (Constant value) = constant_text value.width value.bits
+right_text ports (And a b) = infix_text a (codes "&") b
+right_text ports (Or a b) = infix_text a (codes "|") b
+right_text ports (Xor a b) = infix_text a (codes "^") b
+right_text ports (Add a b) = infix_text a (codes "+") b
+right_text ports (Sub a b) = infix_text a (codes "-") b
+right_text ports (Eq a b) = infix_text a (codes "==") b
+right_text ports (Less a b) = infix_text a (codes "<") b
+right_text ports (Concat a b) = codes "{" ++ net_name a ++ codes ", " ++ net_name b ++ codes "}"
+right_text ports (Not a) = codes "~" ++ net_name a
+right_text ports (Any a) = codes "|" ++ net_name a
+right_text ports (Mux s a b) = net_name s ++ codes " ? " ++ net_name a ++ codes " : " ++ net_name b
+right_text ports (Slice a high low) = net_name a ++ codes "[" ++ decimal high ++ codes ":" ++ decimal low ++ codes "]"
+right_text ports (Reg reset next) = []
+
+abbrev pub wire_line : List PortLine → ℕ → ℕ → Equation → List ℕ
+wire_line ports n width equation = codes "  wire " ++ range_text width ++ codes " " ++ net_name n ++ codes " = " ++ right_text ports equation ++ codes ";\n"
+
+abbrev pub register_line : ℕ → ℕ → List ℕ
+register_line n width = codes "  reg " ++ range_text width ++ codes " " ++ net_name n ++ codes ";\n"
 
 -- the line of net n
 abbrev pub net_line : List PortLine → ℕ → Line → List ℕ
-net_line ports n line = codes "  wire " ++ range_text line.width ++ codes " " ++ net_name n ++ codes " = " ++ right_text ports line.equation ++ codes ";\n"
+net_line ports n line = if is_register line.equation then register_line n line.width else wire_line ports n line.width line.equation
 
 -- the lines of the nets from net n on
 abbrev pub nets_text : List PortLine → ℕ → List Line → List ℕ
 nets_text ports n [] = []
 nets_text ports n (line ∷ lines) = net_line ports n line ++ nets_text ports (n + 1) lines
+
+-- what the clock does to register n: it takes its reset value, or what its next net has
+abbrev pub clock_line : ℕ → ℕ → ℕ → ℕ → List ℕ
+clock_line n width reset next =
+    codes "  always @(posedge clk) if (reset) " ++ net_name n ++ codes " <= " ++ constant_text width reset ++ codes "; else " ++ net_name n ++ codes " <= " ++ net_name next ++ codes ";\n"
+
+-- the clocked line of net n; only a register has one
+abbrev pub clocked_line : ℕ → Equation → List ℕ
+clocked_line n (Reg reset next) = clock_line n reset.width reset.bits next
+clocked_line n _ = []
+
+-- the clocked lines of the nets from net n on
+abbrev pub clocked_text : ℕ → List Line → List ℕ
+clocked_text n [] = []
+clocked_text n (line ∷ lines) = clocked_line n line.equation ++ clocked_text (n + 1) lines
 
 -- the line of an output, by the net that drives it; an input has none
 abbrev pub assign_line : PortLine → Option ℕ → List ℕ
@@ -72,4 +110,4 @@ assigns_text (port ∷ ports) (driver ∷ drivers) = assign_line port driver ++ 
 
 -- the one text of a module
 abbrev pub text_of : Netlist → List ℕ
-text_of netlist = header_text netlist ++ nets_text netlist.ports 0 netlist.lines ++ assigns_text netlist.ports netlist.drivers ++ codes "endmodule\n"
+text_of netlist = header_text netlist ++ nets_text netlist.ports 0 netlist.lines ++ clocked_text 0 netlist.lines ++ assigns_text netlist.ports netlist.drivers ++ codes "endmodule\n"

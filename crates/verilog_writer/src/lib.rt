@@ -1,12 +1,14 @@
 //! The Verilog text of a module.
 //!
-//! Each line of the text states one thing: a port, a net with its equation, or an output with the net that drives it.
+//! Each line of the text states one thing: a port, a net with its equation, what a register takes with the clock,
+//! or an output with the net that drives it.
 #![tactic(auto)]
 
-ghost use Rattle.std.specs.Prelude.{◌≡◌, ℕ, ◌+◌, ◌^◌, ◌≤◌, ◌<◌, ◌++◌, string_bytes, length, slice_get, OnOk, IfOk, Some, codes};
+ghost use Rattle.std.specs.Prelude.{◌≡◌, ℕ, ◌+◌, ◌^◌, ◌≤◌, ◌<◌, ◌++◌, string_bytes, length, slice_get, OnOk, IfOk, Some, None, [], ◌∷◌, false, true, codes, decimal};
 ghost use Rattle.netlist.specs.declared.line.Line.{Line};
-ghost use Rattle.netlist.specs.Netlists.{IsModule, IsSound};
-ghost use Rattle.verilog_writer.specs.Text.{hex_digit, hex_digits, constant_text, port_text, ports_text, header_text, right_text, net_name, net_line, nets_text, assigns_text, text_of};
+ghost use Rattle.netlist.specs.Netlists.{IsModule, IsSound, IsInputPort, is_register, line_of};
+ghost use Rattle.av_base.specs.Word.{word};
+ghost use Rattle.verilog_writer.specs.Text.{hex_digit, hex_digits, constant_text, port_text, ports_text, header_text, name_of, infix_text, right_text, net_name, wire_line, register_line, net_line, nets_text, clock_line, clocked_line, clocked_text, assign_line, assigns_text, text_of};
 
 use av_base::{Bytes, NoMemory, Val};
 use netlist::{Equation, Module, PortLine};
@@ -79,18 +81,104 @@ fn put_ports(text: &mut String, module: &Module) -> Result<(), NoMemory>
     Ok(())
 }
 
-fn put_right(text: &mut String, module: &Module, equation: Equation) -> Result<(), NoMemory>
-    requires { (net width : ℕ) × IsSound «module».now net width equation }
-    ensures { OnOk result (string_bytes text.new ≡ string_bytes text.old ++ right_text «module».now.ports equation) }
+/// Two nets with an operator between them.
+fn put_infix(text: &mut String, a: u32, operator: &str, b: u32) -> Result<(), NoMemory>
+    ensures { OnOk result (string_bytes text.new ≡ string_bytes text.old ++ infix_text a operator.now b) }
+{
+    write!(text, "n{a} {operator} n{b}")?;
+    Ok(())
+}
+
+fn put_concatenation(text: &mut String, a: u32, b: u32) -> Result<(), NoMemory>
+    ensures { OnOk result (string_bytes text.new ≡ string_bytes text.old ++ (codes "{" ++ net_name a ++ codes ", " ++ net_name b ++ codes "}")) }
+{
+    write!(text, "{{n{a}, n{b}}}")?;
+    Ok(())
+}
+
+fn put_prefix(text: &mut String, operator: &str, a: u32) -> Result<(), NoMemory>
+    ensures { OnOk result (string_bytes text.new ≡ string_bytes text.old ++ (operator.now ++ net_name a)) }
+{
+    write!(text, "{operator}n{a}")?;
+    Ok(())
+}
+
+fn put_choice(text: &mut String, s: u32, a: u32, b: u32) -> Result<(), NoMemory>
+    ensures { OnOk result (string_bytes text.new ≡ string_bytes text.old ++ (net_name s ++ codes " ? " ++ net_name a ++ codes " : " ++ net_name b)) }
+{
+    write!(text, "n{s} ? n{a} : n{b}")?;
+    Ok(())
+}
+
+fn put_slice(text: &mut String, a: u32, high: u8, low: u8) -> Result<(), NoMemory>
+    ensures { OnOk result (string_bytes text.new ≡ string_bytes text.old ++ (net_name a ++ codes "[" ++ decimal high ++ codes ":" ++ decimal low ++ codes "]")) }
+{
+    write!(text, "n{a}[{high}:{low}]")?;
+    Ok(())
+}
+
+fn put_input(text: &mut String, module: &Module, port: u32) -> Result<(), NoMemory>
+    requires { (w : ℕ) × IsInputPort «module».now.ports port w }
+    ensures { OnOk result (string_bytes text.new ≡ string_bytes text.old ++ name_of (slice_get «module».now.ports port)) }
+{
+    let name = module.ports()[port as usize].name.as_str();
+    text.push_str(name)?;
+    Ok(())
+}
+
+/// What stands on the right of a net's line.
+fn put_right(text: &mut String, module: &Module, equation: &Equation) -> Result<(), NoMemory>
+    requires { (net width : ℕ) × IsSound «module».now.ports «module».now.lines net width equation.now }
+    ensures { OnOk result (string_bytes text.new ≡ string_bytes text.old ++ right_text «module».now.ports equation.now) }
 {
     match equation {
-        Equation::Input { port } => {
-            let name = module.ports()[port as usize].name.as_str();
-            text.push_str(name)?;
-            Ok(())
-        }
-        Equation::Constant { value } => put_constant(text, value),
+        Equation::Input { port } => put_input(text, module, *port),
+        Equation::Constant { value } => put_constant(text, *value),
+        Equation::And { a, b } => put_infix(text, *a, "&", *b),
+        Equation::Or { a, b } => put_infix(text, *a, "|", *b),
+        Equation::Xor { a, b } => put_infix(text, *a, "^", *b),
+        Equation::Add { a, b } => put_infix(text, *a, "+", *b),
+        Equation::Sub { a, b } => put_infix(text, *a, "-", *b),
+        Equation::Eq { a, b } => put_infix(text, *a, "==", *b),
+        Equation::Less { a, b } => put_infix(text, *a, "<", *b),
+        Equation::Concat { a, b } => put_concatenation(text, *a, *b),
+        Equation::Not { a } => put_prefix(text, "~", *a),
+        Equation::Any { a } => put_prefix(text, "|", *a),
+        Equation::Mux { s, a, b } => put_choice(text, *s, *a, *b),
+        Equation::Slice { a, high, low } => put_slice(text, *a, *high, *low),
+        Equation::Reg { .. } => Ok(()),
     }
+}
+
+fn put_wire(
+    text: &mut String,
+    module: &Module,
+    net: u32,
+    width: u8,
+    equation: &Equation,
+) -> Result<(), NoMemory>
+    requires some_bit { 1 ≤ width }
+    requires sound { (n w : ℕ) × IsSound «module».now.ports «module».now.lines n w equation.now }
+    ensures { OnOk result (string_bytes text.new ≡ string_bytes text.old ++ wire_line «module».now.ports net width equation.now) }
+{
+    write!(text, "  wire [{}:0] n{net} = ", width - 1)?;
+    put_right(text, module, equation)?;
+    text.push_str(";\n")?;
+    Ok(())
+}
+
+fn put_register(text: &mut String, net: u32, width: u8) -> Result<(), NoMemory>
+    requires { 1 ≤ width }
+    ensures { OnOk result (string_bytes text.new ≡ string_bytes text.old ++ register_line net width) }
+{
+    write!(text, "  reg [{}:0] n{net};\n", width - 1)?;
+    Ok(())
+}
+
+fn is_register(equation: &Equation) -> bool
+    ensures { result ≡ is_register equation.now }
+{
+    matches!(equation, Equation::Reg { .. })
 }
 
 fn put_net(text: &mut String, module: &Module, net: u32) -> Result<(), NoMemory>
@@ -99,11 +187,13 @@ fn put_net(text: &mut String, module: &Module, net: u32) -> Result<(), NoMemory>
     ensures { (line : Line) → slice_get «module».now.lines net ≡ Some line
         → OnOk result (string_bytes text.new ≡ string_bytes text.old ++ net_line «module».now.ports net line) }
 {
-    let high = module.width(net) - 1;
-    write!(text, "  wire [{high}:0] n{net} = ")?;
-    put_right(text, module, module.equation(net))?;
-    text.push_str(";\n")?;
-    Ok(())
+    let width = module.width(net);
+    let equation = module.equation(net);
+    if is_register(&equation) {
+        put_register(text, net, width)
+    } else {
+        put_wire(text, module, net, width, &equation)
+    }
 }
 
 fn put_nets(text: &mut String, module: &Module) -> Result<(), NoMemory>
@@ -112,6 +202,37 @@ fn put_nets(text: &mut String, module: &Module) -> Result<(), NoMemory>
 {
     for net in 0..module.net_count() {
         put_net(text, module, net)?;
+    }
+    Ok(())
+}
+
+fn put_clock(text: &mut String, net: u32, reset: Val, next: u32) -> Result<(), NoMemory>
+    ensures { OnOk result (string_bytes text.new ≡ string_bytes text.old ++ clock_line net reset.width reset.bits next) }
+{
+    write!(text, "  always @(posedge clk) if (reset) n{net} <= ")?;
+    put_constant(text, reset)?;
+    write!(text, "; else n{net} <= n{next};\n")?;
+    Ok(())
+}
+
+/// The clocked line of a net, where it is a register.
+fn put_clocked(text: &mut String, module: &Module, net: u32) -> Result<(), NoMemory>
+    requires { net < length «module».now.lines }
+    ensures { (line : Line) → slice_get «module».now.lines net ≡ Some line
+        → OnOk result (string_bytes text.new ≡ string_bytes text.old ++ clocked_line net line.equation) }
+{
+    let equation = module.equation(net);
+    if let Equation::Reg { reset, next } = &equation {
+        put_clock(text, net, *reset, *next)?;
+    }
+    Ok(())
+}
+
+fn put_clocked_lines(text: &mut String, module: &Module) -> Result<(), NoMemory>
+    ensures { OnOk result (string_bytes text.new ≡ string_bytes text.old ++ clocked_text 0 «module».now.lines) }
+{
+    for net in 0..module.net_count() {
+        put_clocked(text, module, net)?;
     }
     Ok(())
 }
@@ -143,10 +264,38 @@ pub fn write_module(alloc: Global, module: &Module) -> Result<Bytes, NoMemory>
     let mut text = String::new(alloc);
     put_header(&mut text, module)?;
     put_nets(&mut text, module)?;
+    put_clocked_lines(&mut text, module)?;
     put_assigns(&mut text, module)?;
     text.push_str("endmodule\n")?;
     Ok(Bytes::from(text))
 }
+
+/// A module of one register between an input and an output.
+pub fn module_is_spelled()
+    ensures { text_of (record { name = codes "t_interconnect"; ports = record { name = codes "a$i$d"; width = 8; output = false } ∷ record { name = codes "b$i$q"; width = 8; output = true } ∷ []; lines = line_of 8 (Equation.Input 0) ∷ line_of 8 (Equation.Reg (word 8 165) 0) ∷ []; drivers = None ∷ Some 1 ∷ [] })
+        ≡ codes "module t_interconnect (\n  input wire clk,\n  input wire reset,\n  input wire [7:0] a$i$d,\n  output wire [7:0] b$i$q\n);\n  wire [7:0] n0 = a$i$d;\n  reg [7:0] n1;\n  always @(posedge clk) if (reset) n1 <= 8'ha5; else n1 <= n0;\n  assign b$i$q = n1;\nendmodule\n" }
+{}
+
+/// A line of each kind.
+pub fn lines_are_spelled()
+    ensures input { net_line (record { name = codes "a$i$d"; width = 8; output = false } ∷ []) 0 (line_of 8 (Equation.Input 0)) ≡ codes "  wire [7:0] n0 = a$i$d;\n" }
+    ensures constant { net_line [] 1 (line_of 8 (Equation.Constant (word 8 165))) ≡ codes "  wire [7:0] n1 = 8'ha5;\n" }
+    ensures and { net_line [] 12 (line_of 8 (Equation.And 2 11)) ≡ codes "  wire [7:0] n12 = n2 & n11;\n" }
+    ensures or { net_line [] 3 (line_of 8 (Equation.Or 1 2)) ≡ codes "  wire [7:0] n3 = n1 | n2;\n" }
+    ensures xor { net_line [] 3 (line_of 8 (Equation.Xor 1 2)) ≡ codes "  wire [7:0] n3 = n1 ^ n2;\n" }
+    ensures sum { net_line [] 3 (line_of 8 (Equation.Add 1 2)) ≡ codes "  wire [7:0] n3 = n1 + n2;\n" }
+    ensures difference { net_line [] 3 (line_of 8 (Equation.Sub 1 2)) ≡ codes "  wire [7:0] n3 = n1 - n2;\n" }
+    ensures equal { net_line [] 3 (line_of 1 (Equation.Eq 1 2)) ≡ codes "  wire [0:0] n3 = n1 == n2;\n" }
+    ensures less { net_line [] 3 (line_of 1 (Equation.Less 1 2)) ≡ codes "  wire [0:0] n3 = n1 < n2;\n" }
+    ensures concatenation { net_line [] 3 (line_of 16 (Equation.Concat 1 2)) ≡ codes "  wire [15:0] n3 = {n1, n2};\n" }
+    ensures complement { net_line [] 3 (line_of 8 (Equation.Not 1)) ≡ codes "  wire [7:0] n3 = ~n1;\n" }
+    ensures any { net_line [] 3 (line_of 1 (Equation.Any 1)) ≡ codes "  wire [0:0] n3 = |n1;\n" }
+    ensures choice { net_line [] 3 (line_of 8 (Equation.Mux 0 1 2)) ≡ codes "  wire [7:0] n3 = n0 ? n1 : n2;\n" }
+    ensures slice { net_line [] 3 (line_of 4 (Equation.Slice 1 6 3)) ≡ codes "  wire [3:0] n3 = n1[6:3];\n" }
+    ensures register { net_line [] 3 (line_of 8 (Equation.Reg (word 8 165) 4)) ≡ codes "  reg [7:0] n3;\n" }
+    ensures clocked { clocked_line 3 (Equation.Reg (word 8 165) 4) ≡ codes "  always @(posedge clk) if (reset) n3 <= 8'ha5; else n3 <= n4;\n" }
+    ensures output { assign_line (record { name = codes "a$i$q"; width = 8; output = true }) (Some 3) ≡ codes "  assign a$i$q = n3;\n" }
+{}
 
 /// A constant has a digit for each four bits of its width or part of four.
 pub fn constants_are_spelled()
