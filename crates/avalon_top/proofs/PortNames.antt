@@ -1,10 +1,10 @@
 -- The names of ports: no two of a wire are the same, and each is found at its place.
-use Rattle.std.proofs.Common.{◌≡◌, ◌≢◌, ℕ, Bool, true, false, ◌&&◌, List, [], ◌∷◌, ◌++◌, length, map, Option, Some, None, nat_eq, nat_lt, cond, codes, refl, sym, ap, ◌∙◌, IsTrue, append_assoc}
-use Rattle.std.specs.List.{list_all, position, position_or_len}
+use Rattle.std.proofs.Common.{◌≡◌, ◌≢◌, ℕ, ◌+◌, Bool, true, false, ◌&&◌, List, [], ◌∷◌, ◌++◌, map, Option, codes, refl, sym, ap, ◌∙◌, IsTrue, append_assoc}
+use Rattle.std.specs.List.{list_all, position_from}
+use Rattle.std.specs.Str.{bytes_eq}
 use Rattle.std.proofs.lemmas.Bool.{and_parts, eq-eqb, false≢true}
-use Rattle.std.proofs.lemmas.List.{length-map, map-append}
+use Rattle.std.proofs.lemmas.List.{map-append}
 use Rattle.std.proofs.lemmas.Slice.Eq.{bytes_eq-Decides}
-use lib.Pointwise.{pointwise}
 use Rattle.netlist.specs.declared.line.PortLine.{PortLine}
 use Rattle.netlist.specs.Names.{is_name_byte}
 use Rattle.netlist.specs.Signals.{port_named}
@@ -18,7 +18,7 @@ false_unless true h = absurd (h refl)
 false_unless false h = refl
 
 abbrev pub same : List ℕ → List ℕ → Bool
-same = pointwise nat_eq
+same = bytes_eq
 
 -- a common beginning counts for nothing
 same-front : (front a b : List ℕ) → same (front ++ a) (front ++ b) ≡ same a b
@@ -96,18 +96,14 @@ three_parts test xs ys z es fs c e f g =
 
 -- the first place at which a test holds, from the answers of the test
 abbrev pub first_true : List Bool → Option ℕ
-first_true = position (λ (b : Bool). b)
+first_true = position_from (λ (b : Bool). b) 0
 
-position_or_len-map : (test : PortLine → Bool) (xs : List PortLine) → position_or_len test xs ≡ position_or_len (λ (b : Bool). b) (map test xs)
-position_or_len-map test [] = refl
-position_or_len-map test (x ∷ xs) = rw (position_or_len-map test xs) refl
+position_from-map : (test : PortLine → Bool) (n : ℕ) (xs : List PortLine) → position_from test n xs ≡ position_from (λ (b : Bool). b) n (map test xs)
+position_from-map test n [] = refl
+position_from-map test n (x ∷ xs) = rw (position_from-map test (n + 1) xs) refl
 
 named_at : (ports : List PortLine) (name : List ℕ) → port_named ports name ≡ first_true (at_names name ports)
-named_at ports name =
-    let test = λ (port : PortLine). same port.name name in
-    let firsts = position_or_len-map test ports in
-    ap (λ (n : ℕ). cond (nat_lt n (length ports)) (Some n) None) firsts
-    ∙ ap (λ (n : ℕ). cond (nat_lt (position_or_len (λ (b : Bool). b) (map test ports)) n) (Some (position_or_len (λ (b : Bool). b) (map test ports))) None) (sym (length-map ports test))
+named_at ports name = position_from-map (λ (port : PortLine). same port.name name) 0 ports
 
 abbrev pub IsName : List ℕ → Type 0
 IsName name = IsTrue (is_name name)

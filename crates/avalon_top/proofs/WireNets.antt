@@ -7,10 +7,12 @@ use Rattle.std.proofs.lemmas.List.Folds.{list_all-append}
 use Rattle.std.proofs.lemmas.Bool.Decides.{Decides-eqb}
 use Rattle.std.proofs.lemmas.Slice.Eq.{ends_is}
 use Rattle.av_base.specs.Word.{word}
+use Rattle.netlist.specs.declared.line.Line.{Line}
 use Rattle.netlist.specs.declared.line.PortLine.{PortLine}
 use Rattle.netlist.specs.declared.line.Equation.TheVariants.{Constant}
 use Rattle.netlist.specs.Names.{IsModuleName, IsPortName, is_name_byte, is_dollar}
-use Rattle.netlist.specs.Netlists.{Netlist, IsHeader, IsInputPort, IsOutputPort, IsDriver, input_lines, line_of, started, appended, with_driver}
+use Rattle.netlist.specs.Netlists.{Netlist, IsHeader, IsInputPort, IsOutputPort, IsNet, IsClocked, input_lines, line_of, started, appended, with_driver}
+use Rattle.netlist.specs.Nets.{NetValue, net_of}
 use Rattle.netlist.specs.Runs.{Run}
 use Rattle.netlist.specs.Signals.{signal, port_named, port_value}
 use Rattle.stream_runs.specs.Source.{IsLegalSource}
@@ -25,13 +27,17 @@ use Rattle.avalon_top.proofs.PortNames.{Names, names_of, name_first, name_text, 
 abbrev pub wire_name : Wire → List ℕ
 wire_name wire = wire.system ++ codes "_interconnect"
 
+-- the line of the net that is always low
+abbrev low_line : Line
+low_line = line_of 1 (Constant (word 1 0))
+
 -- the netlist that is built
 abbrev pub wire_netlist : Wire → Netlist
 wire_netlist wire =
     record {
       name = wire_name wire;
       ports = ports_of wire;
-      lines = input_lines 0 (ports_of wire) ++ line_of 1 (Constant (word 1 0)) ∷ [];
+      lines = input_lines 0 (ports_of wire) ++ low_line ∷ [];
       drivers = Some 4 ∷ None ∷ None ∷ None ∷ None ∷ None ∷ Some 0 ∷ Some 1 ∷ Some 2 ∷ Some 3 ∷ Some 5 ∷ [];
     }
 
@@ -80,7 +86,7 @@ serves wire h law run cycles is_run legal =
     let sink_is = sink_signals wire run h in
     let dropped_is = dropped_signal wire run h in
     let Legal : Signals → Type 0 = λ s. IsLegalSource (side_of byte_packets) (view_of s) cycles in
-    let low : (c : ℕ) → c < cycles → run.net c 5 ≡ 0 = λ c below. ((is_run.valuations c below).nets 5 (line_of 1 (Constant (word 1 0))) refl).value in
+    let low : (c : ℕ) → c < cycles → run.net c 5 ≡ 0 = λ c below. ((is_run.valuations c below).nets 5 low_line refl).value in
     let served = law (λ c. run.net c 4) (λ c. run.net c 0) (λ c. run.net c 1) (λ c. run.net c 2) (λ c. run.net c 3) (λ c. run.net c 5) cycles low (subst Legal source_is legal) in
     let AtSource : Signals → Type 0 = λ s. IsServed (stream_of byte_packets byte_packets 0) (run_of s (wire_signals run) (λ c. run.net c 5)) cycles in
     let AtSink : Signals → Type 0 = λ s. IsServed (stream_of byte_packets byte_packets 0) (run_of (end_signals (wire_netlist wire) run wire.source) s (λ c. run.net c 5)) cycles in
@@ -228,26 +234,39 @@ joined_drivers = Some 4 ∷ None ∷ None ∷ None ∷ None ∷ None ∷ Some 0 
 
 -- the netlist before `dropped` is driven
 abbrev pub joined : Wire → Netlist
-joined wire = record (appended (started (wire_name wire) (ports_of wire)) 1 (Constant (word 1 0))) { drivers = joined_drivers }
+joined wire = record (appended (started (wire_name wire) (ports_of wire)) low_line) { drivers = joined_drivers }
 
-pub joined_is : (wire : Wire) (first second third : Netlist) → first ≡ started (wire_name wire) (ports_of wire) → second ≡ appended first 1 (Constant (word 1 0))
+pub joined_is : (wire : Wire) (first second third : Netlist) → first ≡ started (wire_name wire) (ports_of wire) → second ≡ appended first low_line
     → third ≡ record second { drivers = joined_drivers } → third ≡ joined wire
 joined_is wire first second third e f g =
-    let now = f ∙ ap (λ (n : Netlist). appended n 1 (Constant (word 1 0))) e in
+    let now = f ∙ ap (λ (n : Netlist). appended n low_line) e in
     g ∙ ap (λ (n : Netlist). record n { drivers = joined_drivers }) now
 
-pub low_is : (wire : Wire) (first : Netlist) (net : ℕ) → first ≡ started (wire_name wire) (ports_of wire) → net ≡ length first.lines → net ≡ 5
-low_is wire first net e f = f ∙ ap (λ (n : Netlist). length n.lines) e
+pub low_is : (wire : Wire) (first : Netlist) (net : NetValue) → first ≡ started (wire_name wire) (ports_of wire) → net ≡ net_of (length first.lines) 1 → net ≡ net_of 5 1
+low_is wire first net e f = f ∙ ap (λ (n : Netlist). net_of (length n.lines) 1) e
 
-pub dropped_fits : (wire : Wire) (netlist : Netlist) (net : ℕ) → netlist ≡ joined wire → net ≡ 5 → IsDriver netlist 10 net
-dropped_fits wire netlist net e f =
-    let known : IsDriver (joined wire) 10 5 =
-    record {
-      width = 1;
-      port = record { port = port wire.sink (codes "dropped") 1 true; is = refl; output = refl; width = refl };
-      net = refl;
-    } in
-    subst (λ (n : Netlist). IsDriver n 10 net) (sym e) (subst (IsDriver (joined wire) 10) (sym f) known)
+pub dropped_output : (wire : Wire) (netlist : Netlist) (net : NetValue) → netlist ≡ joined wire → net ≡ net_of 5 1 → IsOutputPort netlist.ports 10 net.width
+dropped_output wire netlist net e f =
+    let known : IsOutputPort (ports_of wire) 10 1 = record { port = port wire.sink (codes "dropped") 1 true; is = refl; output = refl; width = refl } in
+    subst (λ (n : Netlist). IsOutputPort n.ports 10 net.width) (sym e) (subst (λ (n : NetValue). IsOutputPort (ports_of wire) 10 n.width) (sym f) known)
 
-pub finished_is : (wire : Wire) (before after : Netlist) (net : ℕ) → before ≡ joined wire → net ≡ 5 → after ≡ with_driver before 10 net → after ≡ wire_netlist wire
-finished_is wire before after net e f g = g ∙ ap (λ (n : Netlist). with_driver n 10 net) e ∙ ap (λ (n : ℕ). with_driver (joined wire) 10 n) f
+pub dropped_net : (wire : Wire) (netlist : Netlist) (net : NetValue) → netlist ≡ joined wire → net ≡ net_of 5 1 → IsNet netlist net
+dropped_net wire netlist net e f =
+    let known : IsNet (joined wire) (net_of 5 1) = refl in
+    subst (λ (n : Netlist). IsNet n net) (sym e) (subst (IsNet (joined wire)) (sym f) known)
+
+pub finished_is : (wire : Wire) (before after : Netlist) (net : NetValue) → before ≡ joined wire → net ≡ net_of 5 1 → after ≡ with_driver before 10 net.number → after ≡ wire_netlist wire
+finished_is wire before after net e f g = g ∙ ap (λ (n : Netlist). with_driver n 10 net.number) e ∙ ap (λ (n : NetValue). with_driver (joined wire) 10 n.number) f
+
+-- no line of it waits
+none_waits : (wire : Wire) → IsClocked (wire_netlist wire)
+none_waits wire zero i = let e = i.is in let w = i.waits in cc
+none_waits wire (suc zero) i = let e = i.is in let w = i.waits in cc
+none_waits wire (suc (suc zero)) i = let e = i.is in let w = i.waits in cc
+none_waits wire (suc (suc (suc zero))) i = let e = i.is in let w = i.waits in cc
+none_waits wire (suc (suc (suc (suc zero)))) i = let e = i.is in let w = i.waits in cc
+none_waits wire (suc (suc (suc (suc (suc zero))))) i = let e = i.is in let w = i.waits in cc
+none_waits wire (suc (suc (suc (suc (suc (suc n)))))) i = let e = i.is in cc
+
+pub is_clocked : (wire : Wire) (netlist : Netlist) → netlist ≡ wire_netlist wire → IsClocked netlist
+is_clocked wire netlist e = subst IsClocked (sym e) (none_waits wire)

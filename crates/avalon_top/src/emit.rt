@@ -1,7 +1,8 @@
 ghost use Rattle.std.specs.Prelude.{◌≡◌, ℕ, ◌^◌, ◌<◌, [], ◌∷◌, ◌++◌, length, map, codes, IfOk, OnOk, Some, None};
 ghost use Rattle.av_base.specs.Word.{word};
 ghost use Rattle.netlist.specs.declared.line.Equation.TheVariants.{Constant};
-ghost use Rattle.netlist.specs.Netlists.{IsInputPort, IsOutputPort, driver_of, input_net, undriven, started, appended, with_driver};
+ghost use Rattle.netlist.specs.Netlists.{IsInputPort, IsOutputPort, driver_of, input_net, line_of, undriven, started, appended, with_driver};
+ghost use Rattle.netlist.specs.Nets.{net_of};
 ghost use Rattle.avalon_top.specs.Interconnect.{IsNamed, IsInterconnect, port_name, port, end_ports, ports_of};
 
 use crate::form::{End, Wire};
@@ -114,7 +115,7 @@ fn start(alloc: Global, wire: &Wire) -> Result<Builder, NoMemory>
 /// A net that is always low.
 fn low(builder: &mut Builder) -> Result<Net, NoMemory>
     requires { length builder.old.lines < 2 ^ 20 }
-    ensures { IfOk result (λ net. (builder.new ≡ appended builder.old 1 (Constant (word 1 0))) × (net ≡ length builder.old.lines)) }
+    ensures { IfOk result (λ net. (builder.new ≡ appended builder.old (line_of 1 (Constant (word 1 0)))) × (net ≡ net_of (length builder.old.lines) 1)) }
 {
     match builder.constant(Val::new(1, 0).unwrap()) {
         Ok(net) => Ok(net),
