@@ -1,5 +1,8 @@
+ghost use Rattle.std.specs.Prelude.{None};
+ghost use Rattle.av_base.specs.Memory.{failed_below};
+
 use crate::{Exit, ScriptRule, read_words, run};
-use av_base::{Bytes, List, MemShelf, MemSink, Place};
+use av_base::{Bytes, List, MemShelf, MemSink, Place, ReadStep, Shelf, Sink, WriteStep};
 use std::alloc::{AllocError, Global};
 use std::test::Fail;
 
@@ -309,5 +312,106 @@ fn leaves_a_prefix_where_the_sink_fails(rt: HostRuntime) -> Result<(), Fail> {
     let mut sink = MemSink::new(alloc, 10, List::new(alloc))?;
     assert_eq!(rt; run(alloc, &[], &mut shelf, &mut sink), Exit::Usage);
     assert_eq!(rt; sink.bytes(), b"usage: gen".as_slice());
+    Ok(())
+}
+
+/// A shelf that gives one byte a call, and tells nothing.
+#[derive(Drop)]
+struct NarrowShelf {
+    shelf: MemShelf,
+}
+
+impl Shelf for NarrowShelf {
+    ghost told = { λ _ _. None };
+
+    ghost faults = { λ s. failed_below s.shelf.failing s.shelf.calls };
+
+    ghost failed = { λ s. s.shelf.failed };
+
+    ghost calls = { λ s. s.shelf.calls };
+
+    fn read_at(&mut self, file: u32, at: u64, into: &mut [u8]) -> ReadStep {
+        self.shelf.read_at(file, at, &mut into[..1])
+    }
+}
+
+/// A sink that takes one byte a call, and tells nothing.
+#[derive(Drop)]
+struct SlowSink {
+    sink: MemSink,
+}
+
+impl Sink for SlowSink {
+    ghost held = { λ _. None };
+
+    ghost faults = { λ s. s.sink.faults };
+
+    fn write(&mut self, bytes: &[u8]) -> WriteStep {
+        self.sink.write(&bytes[..1])
+    }
+}
+
+/// The answer over a shelf and a sink that go byte by byte and fail at these calls, and what the sink holds after it.
+fn byte_by_byte(alloc: Global, read: u64, write: u64) -> Result<(Exit, MemSink), Fail> {
+    let words = words_of(alloc, &THREE)?;
+    let files = files_of(alloc, &[system(), source(), sink_component()])?;
+    let mut shelf = NarrowShelf {
+        shelf: MemShelf::new(files, numbers_of(alloc, &[read])?),
+    };
+    let mut sink = SlowSink {
+        sink: MemSink::new(alloc, 2000, numbers_of(alloc, &[write])?)?,
+    };
+    let exit = run(alloc, words.as_slice(), &mut shelf, &mut sink);
+    Ok((exit, sink.sink))
+}
+
+/// A number of a call that never comes.
+const NEVER: u64 = 1_000_000;
+
+#[test]
+fn reads_and_writes_byte_by_byte(rt: HostRuntime) -> Result<(), Fail> {
+    let alloc = rt.alloc();
+    let (exit, sink) = byte_by_byte(alloc, NEVER, NEVER)?;
+    assert_eq!(rt; exit, Exit::Done);
+    assert_eq!(rt; sink.bytes(), wire_text());
+    // Each file takes a call for each byte, and one that finds its end.
+    let first = system().len() as u64 + 1;
+    let second = first.saturating_add(source().len() as u64 + 1);
+    let all = second.saturating_add(sink_component().len() as u64 + 1);
+    for call in 0..all {
+        let file = if call < first {
+            1
+        } else if call < second {
+            2
+        } else {
+            3
+        };
+        let (exit, _) = byte_by_byte(alloc, call, NEVER)?;
+        assert_eq!(rt; exit, Exit::ReadFault { file }, "call {call}");
+    }
+    for call in 0..wire_text().len() {
+        let (exit, sink) = byte_by_byte(alloc, NEVER, call as u64)?;
+        assert_eq!(rt; exit, Exit::WriteFault, "call {call}");
+        assert_eq!(rt; sink.bytes().len(), call);
+        assert!(rt; wire_text().starts_with(sink.bytes()));
+    }
+    Ok(())
+}
+
+#[test]
+fn takes_any_byte_at_all(rt: HostRuntime) -> Result<(), Fail> {
+    let alloc = rt.alloc();
+    for byte in 0..=255 {
+        let mut text = bytes_of(alloc, &[byte])?;
+        text.append(system())?;
+        let (exit, _) = answer(
+            alloc,
+            &THREE,
+            &[text.as_slice(), source(), sink_component()],
+        )?;
+        // A blank or an empty line in front changes nothing.
+        let status = if byte == b' ' || byte == b'\n' { 0 } else { 5 };
+        assert_eq!(rt; exit.status(), status, "byte {byte}");
+    }
     Ok(())
 }
