@@ -10,3 +10,5 @@ pub mod Refused
 pub mod Ranks
 pub mod FaultRuns
 pub mod SplitterRun
+pub mod DefaultTraces
+pub mod WidthTraces

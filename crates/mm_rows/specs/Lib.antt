@@ -6,3 +6,5 @@ pub mod Hung
 pub mod MachineExamples
 pub mod Laxer
 pub mod TurnRows
+pub mod DefaultRows
+pub mod WidthRows

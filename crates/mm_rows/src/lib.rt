@@ -3,9 +3,11 @@
 
 ghost use Rattle.std.specs.Prelude.{◌≡◌, ◌-◌, ◌∷◌, [], true, false, ℕ, None, map, length, replicate};
 ghost use Rattle.histories.specs.History.{before, numbers};
-ghost use Rattle.mm_runs.specs.Commands.{agent_accepts};
+ghost use Rattle.mm_runs.specs.Commands.{agent_accepts, longest_burst};
 ghost use Rattle.mm_runs.specs.Awake.{turns_of, begun_within, HasFullTurns, TakesTurns, ServesWithin, ServesDefaultWithin, ReadsAheadWithin, IsPassedByFew, serves};
 ghost use Rattle.mm_runs.specs.Turns.{TakesTurnsByRule};
+ghost use Rattle.mm_rows.specs.DefaultRows.{odd_word_run, strayed_read_run, behind_default_run, past_default_run, default_first_run, around_default_run};
+ghost use Rattle.mm_rows.specs.WidthRows.{short_agent, short_system, bursts_read, parts_run};
 ghost use Rattle.mm_rows.specs.TurnRows.{seats, askers, granted, by_shares, one_share_each, first_host_first};
 ghost use Rattle.mm_runs.specs.Packed.{operations_touched, beats_between, ReadsEachTouchedWordOnce};
 ghost use Rattle.mm_runs.specs.Link.Item.{Acts, Ends};
@@ -15,13 +17,14 @@ ghost use Rattle.mm_rows.specs.Laxer.{FallsLax, FallsHalf, FallsByWords};
 ghost use Rattle.mm_runs.specs.Rank.{AnswersPromptly};
 ghost use Rattle.mm_runs.specs.Machines.{idle, IsExpanderRun, split_parts, parts_sent};
 ghost use Rattle.mm_rows.specs.MachineExamples.{second_piece};
-ghost use Rattle.mm_runs.specs.Operations.{pieces, bytes_read};
+ghost use Rattle.mm_runs.specs.Operations.{pieces, bytes_read, filled_lanes};
 ghost use Rattle.mm_runs.specs.Operations.Operation.{Write, Read};
-ghost use Rattle.mm_runs.specs.Legal.{IsLegalHost, IsProperAtAgent, IsProperAtHost, IsLegalAgent, unanswered};
-ghost use Rattle.mm_runs.specs.Order.{issued, taken, of_host, owners_taken, are_together, answers, ServesInGrantedOrder, ReturnsInCommandOrder, KeepsReadOrder, words_given_in, beats_taken, ActsAsMemory, untaken, HasResponses};
+ghost use Rattle.mm_runs.specs.Legal.{given, IsLegalHost, IsProperAtAgent, IsProperAtHost, IsLegalAgent, unanswered};
+ghost use Rattle.mm_runs.specs.Order.{asked, issued, taken, of_host, owners_taken, are_together, answers, ServesInGrantedOrder, ReturnsInCommandOrder, KeepsReadOrder, words_given_in, beats_taken, ActsAsMemory, untaken, HasResponses};
 ghost use Rattle.mm_runs.specs.Link.{items, CarriesCommands, shown_at, taken_at};
 ghost use Rattle.mm_rows.specs.Faults.{laneless_system, laneless_run, laneless_port, split_system, split_run, split_port};
 ghost use Rattle.mm_rows.specs.Joint.{joint_system, joint_run, joint_inside, joint_holds};
+ghost use Rattle.mm_runs.specs.Views.Kind.{Reads, Writes};
 ghost use Rattle.mm_runs.specs.Views.Responses.{AreZero};
 ghost use Rattle.mm_runs.specs.Lines.{target_of, Wired};
 ghost use Rattle.mm_runs.specs.Whole.{IsLegalRun};
@@ -31,6 +34,7 @@ ghost use Rattle.mm_rows.specs.Examples.{host_of, shape_of, system_of, run_of, n
 pub fn narrow_write()
     ensures issued { issued narrow_system narrow_run 0 0 2 ≡ Write 5 0xcc ∷ Write 6 0xbb ∷ [] }
     ensures taken { of_host 0 (taken narrow_system narrow_run 0 2) ≡ Write 5 0xcc ∷ Write 6 0xbb ∷ [] }
+    ensures beats { beats_taken narrow_system narrow_run 0 2 ≡ record { tag = 0; beat = record { kind = Writes; address = 5; word = 0xcc; enables = 1 } } ∷ record { tag = 0; beat = record { kind = Writes; address = 6; word = 0xbb; enables = 1 } } ∷ [] }
     ensures together { are_together (owners_taken narrow_system narrow_run 0 2) ≡ true }
 {}
 
@@ -38,6 +42,7 @@ pub fn narrow_write()
 pub fn wrapped_burst()
     ensures issued { issued wide_system wrap_run 0 0 4 ≡ Write 0xf8 1 ∷ Write 0xfc 2 ∷ Write 0 3 ∷ Write 4 4 ∷ [] }
     ensures taken { of_host 0 (taken wide_system wrap_run 0 4) ≡ Write 0xf8 1 ∷ Write 0xfc 2 ∷ Write 0 3 ∷ Write 4 4 ∷ [] }
+    ensures ordered { ServesInGrantedOrder wide_system wrap_run 0 4 }
 {}
 
 /// Two bursts one after the other are together; one within the other is not.
@@ -50,6 +55,8 @@ pub fn bursts_together()
 pub fn packed_read()
     ensures issued { issued packed_system read_run 0 0 1 ≡ Read 5 ∷ [] }
     ensures taken { of_host 0 (taken packed_system read_run 0 1) ≡ Read 5 ∷ [] }
+    ensures beats { beats_taken packed_system read_run 0 2 ≡ record { tag = 0; beat = record { kind = Reads; address = 0; word = 0; enables = 0x20 } } ∷ [] }
+    ensures given { given (packed_system.host 0) (read_run.at_host 0) 2 ≡ record { word = 0x15; code = 0 } ∷ [] }
     ensures answers { answers packed_system read_run 0 2 ≡ record { tag = 0; byte = 0x15; code = 0 } ∷ [] }
 {}
 
@@ -85,7 +92,49 @@ pub fn limiter()
     ensures right { ReturnsInCommandOrder two_agents limited_run 0 4 }
     ensures wrong { ReturnsInCommandOrder two_agents unlimited_run 0 4 → ⊥ }
     ensures passed { KeepsReadOrder two_agents unlimited_run 0 1 4 → ⊥ }
-    ensures default { ReturnsInCommandOrder two_agents default_run 0 2 }
+    ensures kept { KeepsReadOrder two_agents limited_run 0 1 4 }
+{}
+
+/// A read of an address in no footprint brings 0 back, and no agent takes anything.
+pub fn read_in_no_footprint()
+    ensures asked { asked two_agents default_run 0 2 ≡ record { place = None; beat = record { kind = Reads; address = 1024; word = 0; enables = 15 } } ∷ [] }
+    ensures given { given (two_agents.host 0) (default_run.at_host 0) 2 ≡ record { word = 0; code = 0 } ∷ [] }
+    ensures returned { ReturnsInCommandOrder two_agents default_run 0 2 }
+    ensures first { taken two_agents default_run 0 2 ≡ [] }
+    ensures second { taken two_agents default_run 1 2 ≡ [] }
+    ensures no_beats { map (λ agent. length (beats_taken two_agents default_run agent 2)) (numbers 0 2) ≡ 0 ∷ 0 ∷ [] }
+    ensures odd_word { ReturnsInCommandOrder two_agents odd_word_run 0 2 → ⊥ }
+    ensures strayed { ServesInGrantedOrder two_agents strayed_read_run 0 1 → ⊥ }
+{}
+
+/// Neither does a read of an agent overtake one of the default agent, nor the other way round.
+pub fn reads_beside_default()
+    ensures right { KeepsReadOrder two_agents behind_default_run 0 0 4 }
+    ensures right_words { ReturnsInCommandOrder two_agents behind_default_run 0 4 }
+    ensures overtakes { KeepsReadOrder two_agents (past_default_run (0 ∷ 0 ∷ 0 ∷ 0x11 ∷ [])) 0 0 2 → ⊥ }
+    ensures by_limiter_alone { ReturnsInCommandOrder two_agents (past_default_run (0 ∷ 0 ∷ 0 ∷ 0x11 ∷ [])) 0 4 }
+    ensures swapped { ReturnsInCommandOrder two_agents (past_default_run (0 ∷ 0 ∷ 0x11 ∷ 0 ∷ [])) 0 3 → ⊥ }
+    ensures default_overtakes { ReturnsInCommandOrder two_agents default_first_run 0 3 → ⊥ }
+    ensures around { KeepsReadOrder two_agents around_default_run 0 0 3 → ⊥ }
+{}
+
+/// The lanes that operations fill, from a 32-bit and from an 8-bit host.
+pub fn widths_and_lanes()
+    ensures narrow { filled_lanes (shape_of 4 1 true) (shape_of 1 1 false) 6 ≡ 1 ∷ 2 ∷ [] }
+    ensures whole { filled_lanes (shape_of 4 1 true) (shape_of 2 2 false) 4 ≡ 2 ∷ 3 ∷ [] }
+    ensures enabled { filled_lanes (shape_of 4 1 true) (shape_of 2 2 true) 4 ≡ 2 ∷ [] }
+    ensures none { filled_lanes (shape_of 4 1 true) (shape_of 2 2 false) 0 ≡ [] }
+    ensures wide { filled_lanes (shape_of 1 1 false) (shape_of 8 8 true) 1 ≡ 0 ∷ [] }
+{}
+
+/// A burst of eight words is read in order by two bursts of four from an agent with three bits of `burstcount`. A burst of five is too long for it.
+pub fn burst_in_parts()
+    ensures longest { longest_burst 3 ≡ 4 }
+    ensures issued { issued short_system (parts_run (0 ∷ 4 ∷ []) (4 ∷ 4 ∷ [])) 0 0 2 ≡ map Read (numbers 0 32) }
+    ensures taken { of_host 0 (taken short_system (parts_run (0 ∷ 4 ∷ []) (4 ∷ 4 ∷ [])) 0 2) ≡ map Read (numbers 0 32) }
+    ensures ordered { ServesInGrantedOrder short_system (parts_run (0 ∷ 4 ∷ []) (4 ∷ 4 ∷ [])) 0 2 }
+    ensures too_long { IsProperAtAgent short_agent (bursts_read (0 ∷ 5 ∷ []) (5 ∷ 3 ∷ [])) 1 → ⊥ }
+    ensures turned { ServesInGrantedOrder short_system (parts_run (4 ∷ 0 ∷ []) (4 ∷ 4 ∷ [])) 0 2 → ⊥ }
 {}
 
 /// Eight bytes of a 64-bit agent make one touch, or two.
