@@ -5,7 +5,8 @@ ghost use Rattle.std.specs.Prelude.{◌≡◌, ◌-◌, ◌∷◌, [], true, fal
 ghost use Rattle.histories.specs.History.{before, numbers};
 ghost use Rattle.mm_runs.specs.Commands.{agent_accepts, longest_burst};
 ghost use Rattle.mm_runs.specs.Awake.{turns_of, begun_within, HasFullTurns, TakesTurns, ServesWithin, ServesDefaultWithin, ReadsAheadWithin, IsPassedByFew, serves};
-ghost use Rattle.mm_runs.specs.Turns.{TakesTurnsByRule};
+ghost use Rattle.mm_runs.specs.Turns.{TakesTurnsByRule, others_begun};
+ghost use Rattle.ranks.specs.Turns.{shares_of_others};
 ghost use Rattle.mm_rows.specs.DefaultRows.{odd_word_run, strayed_read_run, behind_default_run, past_default_run, default_first_run, around_default_run};
 ghost use Rattle.mm_rows.specs.WidthRows.{short_agent, short_system, bursts_read, parts_run};
 ghost use Rattle.mm_rows.specs.TurnRows.{seats, askers, granted, by_shares, one_share_each, first_host_first};
@@ -305,4 +306,6 @@ pub fn turns_at_ports()
     ensures right { TakesTurnsByRule seats askers (granted by_shares) 12 }
     ensures one_each { TakesTurnsByRule seats askers (granted one_share_each) 12 → ⊥ }
     ensures first { TakesTurnsByRule seats askers (granted first_host_first) 12 → ⊥ }
+    ensures passed { others_begun seats askers (granted by_shares) 1 0 3 ≡ shares_of_others 1 seats }
+    ensures starved { others_begun seats askers (granted first_host_first) 1 0 4 ≡ 4 }
 {}

@@ -1,5 +1,6 @@
 -- The turn rule at the ports of an arbiter: whose beat is shown in each cycle, by what is asked, taken and left open.
-use Rattle.std.specs.Prelude.{◌≡◌, ℕ, zero, suc, ◌<◌, Bool, ◌&&◌, List, if◌then◌else◌, IsTrue, IsFalse, Option, Some, None, MatchOption, map}
+use Rattle.std.specs.Prelude.{◌≡◌, ℕ, zero, suc, ◌+◌, ◌<◌, ◌≤◌, nat_eq, not, Bool, ◌&&◌, List, if◌then◌else◌, IsTrue, IsFalse, Option, Some, None, is_none, MatchOption, map}
+use Rattle.histories.specs.History.{one_if}
 use Rattle.mm_runs.specs.Views.{System}
 use Rattle.mm_runs.specs.Commands.{shows}
 use Rattle.mm_runs.specs.Link.{Port, takes, marked_at, closes}
@@ -60,3 +61,19 @@ TakesTurnsByRule seats up down end =
 -- the seats of an agent: its hosts in the order of the connections, with their shares
 abbrev pub seats_of : System → ℕ → List Seat
 seats_of system agent = map (λ host. record { host = host; shares = system.shares host agent }) (system.joined agent)
+
+-- a command begins under a tag that passes the test: none is open as the cycle begins, and a beat with that tag is shown
+abbrev pub begins_at : List Seat → (ℕ → Port) → Port → (ℕ → Bool) → ℕ → Bool
+begins_at seats up down test cycle =
+    is_none (grant_before seats up down cycle).open_host && shows down.commands.signals cycle && test (down.commands.tag cycle)
+
+-- how many commands of other hosts begin in so many cycles
+abbrev pub others_begun : List Seat → (ℕ → Port) → Port → ℕ → ℕ → ℕ → ℕ
+others_begun seats up down host from zero = 0
+others_begun seats up down host from (suc size) =
+    one_if (begins_at seats up down (λ tag. not (nat_eq tag host)) from) + others_begun seats up down host (suc from) size
+
+-- in a window a host asks in each cycle, and none of its commands begins
+abbrev pub IsKeptAsking : List Seat → (ℕ → Port) → Port → ℕ → ℕ → ℕ → Type 0
+IsKeptAsking seats up down host from size =
+    (c : ℕ) → from ≤ c → c < from + size → IsTrue (asks_at up c host) × IsFalse (begins_at seats up down (nat_eq host) c)

@@ -7,7 +7,10 @@ ghost use Rattle.std.specs.Prelude.{suc, ◌||◌, nat_lt, ◌≡◌, ◌<◌, �
 ghost use Rattle.histories.specs.History.{before, IsPrefix, numbers, is_high, unreached, AreWithin};
 ghost use Rattle.mm_runs.specs.Commands.{shows, accepted, presented, Burst, byte_address};
 ghost use Rattle.mm_runs.specs.Rank.{HoldsOneBeat, LinkRankFalls, link_part, link_budget, is_owed, IsUnhindered, KeepLinkRanks};
+ghost use Rattle.mm_runs.specs.PartRanks.{KeepsMoving};
+ghost use Rattle.mm_runs.specs.Turns.{TakesTurnsByRule, asks_at, IsKeptAsking, others_begun};
 ghost use Rattle.ranks.specs.Junction.{budgets};
+ghost use Rattle.ranks.specs.Turns.{Seat, AllShare, is_seated, shares_of_others};
 ghost use Rattle.ranks.specs.Window.{KeepsRank, allowances};
 ghost use Rattle.mm_runs.specs.Views.{Responses, System, Run, Shape, Signals, CommandView, AnswerView};
 ghost use Rattle.mm_runs.specs.Machines.{Raw, raws, marked, idle, IsStageRun, port_of, IsFitBeat, burst_past, Expands, IsExpanderRun, split_parts, piece_of, owing_rank, select_of, select_parts};
@@ -137,6 +140,20 @@ pub fn owed_words_flow()
 pub fn wire_falls()
     ensures { (target : Target) (port : Port) (end : ℕ) → AreLegalAt port end → LinkRankFalls target port port (λ c. 0) 0 end }
 {}
+
+/// A wire keeps moving: its rank is always 0, its words are answered at once, and nothing waits in it.
+pub fn wire_keeps_moving()
+    ensures { (target : Target) (port : Port) (end : ℕ) → AreLegalAt port end → KeepsMoving 0 target port port (λ c. 0) 0 end }
+{}
+
+/// Where an arbiter keeps the turn rule, a host that asks, and none of whose commands begins, is passed by at most as many commands of others as they have shares together.
+pub fn turn_rule_is_fair()
+    ensures { (seats : List Seat) (up : ℕ → Port) (down : Port) (end : ℕ) → TakesTurnsByRule seats up down end → ((h c : ℕ) → IsTrue (asks_at up c h) → (up h).commands.tag c ≡ h) → AllShare seats → (host from size : ℕ) → IsTrue (is_seated host seats) → from + size ≤ end → IsKeptAsking seats up down host from size → others_begun seats up down host from size ≤ shares_of_others host seats }
+{
+    ranks::asking_is_passed_by_few();
+    ranks::passes_within_shares();
+    ranks::turns_keep_seats()
+}
 
 /// A chain of links whose ranks fall isn't stuck for longer than the ranks allow, before an agent that neither waits nor owes a word.
 pub fn chain_is_short()
