@@ -17,6 +17,7 @@ pub mod Plan
 pub mod Moment
 pub mod Register
 pub mod Gate
+pub mod BoundedWire
 pub mod Shorter
 pub mod ShorterRuns
 pub mod Machines
