@@ -1,6 +1,6 @@
 -- One host wired to one agent, both of 32 bits: each signal goes straight through, and a read is held back while as many reads are unanswered
 -- as the agent bears.
-use Rattle.std.specs.Prelude.{◌≡◌, ℕ, suc, ◌+◌, ◌*◌, ◌/◌, ◌^◌, ◌<◌, ◌≤◌, Bool, true, false, not, ◌&&◌, ◌||◌, [], ◌∷◌, if◌then◌else◌, nat_eq, nat_lt, Option, Some, None, IsFalse}
+use Rattle.std.specs.Prelude.{◌≡◌, ℕ, suc, ◌+◌, ◌*◌, ◌/◌, ◌^◌, ◌<◌, ◌≤◌, Bool, true, false, ◌&&◌, ◌||◌, [], ◌∷◌, if◌then◌else◌, nat_eq, nat_lt, Option, Some, None, IsFalse}
 use Rattle.histories.specs.History.{is_high, one_if}
 use Rattle.mm_runs.specs.Views.{Shape, HostSide, AgentSide, HostView, AgentView, System, Run, Kind}
 use Rattle.mm_runs.specs.Legal.{host_accepts}
