@@ -75,7 +75,7 @@ module _ (form : WireForm) (host : HostView) (agent : AgentView) (count : ℕ �
   abbrev words : ℕ → ℕ
   words c = words_before agent.answer_valid c
 
-  read_more : (c : ℕ) → c < end → reads_taken (suc c) ≡ reads_taken c + one_if (takes_read host c)
+  pub read_more : (c : ℕ) → c < end → reads_taken (suc c) ≡ reads_taken c + one_if (takes_read host c)
   read_more c low =
       ap length (filter-append (λ (b : Beat). is_of_reads b.kind) (taken_beats host c) (only_if (host_accepts host c) (beat_at host c)))
       ∙ length-append (reads (taken_beats host c)) _
