@@ -116,7 +116,7 @@ module _ (form : WireForm) (host : HostView) (agent : AgentView) (count : ℕ �
       one_beat 1 form.has_enables (levels_at host.signals c) (burst_before (host_side form).shape host.signals (host_accepts host) c) (host.address c - host.address c % 4)
       (host_single c low) (host_idle c (omega arith)) (let same : host.address c * 1 ≡ host.address c = omega arith in ap (λ n. n - n % 4) same)
 
-  agent_transfer : (c : ℕ) → c < end → transfer_at (agent_side form).shape agent.signals (agent_accepts (agent_side form) agent) c ≡ one_of (beat_at host c)
+  pub agent_transfer : (c : ℕ) → c < end → transfer_at (agent_side form).shape agent.signals (agent_accepts (agent_side form) agent) c ≡ one_of (beat_at host c)
   agent_transfer c low =
       one_beat 4 form.has_enables (levels_at agent.signals c) (burst_before (agent_side form).shape agent.signals (agent_accepts (agent_side form) agent) c) (host.address c - host.address c % 4)
       (wire.one_beat c low) (agent_idle c (omega arith)) (ap (λ n. n * 4 - (n * 4) % 4) (wire.address c low) ∙ (let none = mul-mod_left (host.address c / 4) 4 in ap (λ n. (host.address c / 4) * 4 - n) none ∙ omega arith))
