@@ -101,7 +101,7 @@ module _ (form : WireForm) (host : HostView) (agent : AgentView) (count : ℕ �
   proper_at_agent = record {
     legal = record {
       one_kind = λ c low. ap₂ (λ r w. not (r && is_high w)) (agent_read form host agent count end wire legal c low) (wire.write c low)
-      ∙ still_one (is_full form count c) (is_high (host.read c)) (is_high (host.write c)) (legal.one_kind c low);
+          ∙ still_one (is_full form count c) (is_high (host.read c)) (is_high (host.write c)) (legal.one_kind c low);
       held = held_levels;
       least = λ c low shown idle. let one = wire.one_beat c low in omega arith;
       most = λ c low shown idle. let one = wire.one_beat c low in omega arith;

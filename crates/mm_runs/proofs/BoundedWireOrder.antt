@@ -24,7 +24,7 @@ pub lanes_are : (has : Bool) (enables : ℕ) → (has ≡ false → enables ≡ 
 lanes_are true enables whole = append-nil _
 lanes_are false enables whole = rw (whole refl) refl
 
-beat_ops : (form : WireForm) (b : Beat) → Fit form b → beat_operations (wire_system form) 0 0 b ≡ ops form b
+pub beat_ops : (form : WireForm) (b : Beat) → Fit form b → beat_operations (wire_system form) 0 0 b ≡ ops form b
 beat_ops form b fit =
     let same : b.address - 0 ≡ b.address = omega arith in
     ap (λ n. operations_of (host_side form).shape (agent_side form).shape (span_of form) (record { kind = b.kind; address = n; word = b.word; enables = b.enables })) same

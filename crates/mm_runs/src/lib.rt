@@ -12,7 +12,8 @@ ghost use Rattle.mm_runs.specs.Turns.{TakesTurnsByRule, asks_at, IsKeptAsking, o
 ghost use Rattle.ranks.specs.Junction.{budgets};
 ghost use Rattle.ranks.specs.Turns.{Seat, AllShare, is_seated, shares_of_others};
 ghost use Rattle.ranks.specs.Window.{KeepsRank, allowances};
-ghost use Rattle.mm_runs.specs.Views.{Responses, System, Run, Shape, Signals, CommandView, AnswerView};
+ghost use Rattle.mm_runs.specs.Views.{Responses, System, Run, Shape, Signals, HostView, AgentView, CommandView, AnswerView};
+ghost use Rattle.mm_runs.specs.Views.Responses.{AreZero};
 ghost use Rattle.mm_runs.specs.Machines.{Raw, raws, marked, idle, IsStageRun, port_of, IsFitBeat, burst_past, Expands, IsExpanderRun, split_parts, piece_of, owing_rank, select_of, select_parts};
 ghost use Rattle.mm_runs.specs.Operations.{Beat, pieces, own_operations, operations_of};
 ghost use Rattle.mm_runs.specs.Legal.{AreLegal, IsLegalHost};
@@ -21,6 +22,8 @@ ghost use Rattle.mm_runs.specs.Order.{ActsAsMemory, ReadsFromMemory, ReturnsInCo
 ghost use Rattle.mm_runs.specs.Link.{Target, Port, KeepsLinkLaw, AreLegalAt, AnswersAreOwed, items, CarriesCommands, HasRightBytes, HasRightCode, BeatsAreWithin, BeatsCover, words_at, shown_at, taken_at, sizes, operations_among, has_word_ready};
 ghost use Rattle.mm_runs.specs.Straight.{GoesStraightThrough, IsShownPromptly};
 ghost use Rattle.mm_runs.specs.Gate.{IsGate};
+ghost use Rattle.mm_runs.specs.Plan.{IsPlan};
+ghost use Rattle.mm_runs.specs.BoundedWire.{WireForm, IsWireForm, IsBoundedWire, wire_system, wire_run};
 ghost use Rattle.mm_runs.specs.Register.{AreRegisters};
 ghost use Rattle.mm_runs.specs.Lines.{HostCarriesCommands, AreTaggedInOrder, AreOwedByTag, Inside, Holds, Wired, TaggedPort, IsPipeLine};
 ghost use Rattle.mm_runs.specs.Whole.{IsLegalRun, IsSafe};
@@ -215,4 +218,10 @@ pub fn beat_is_selected()
 /// What a lane selector sends for a command of one beat keeps what an expander needs, where the lanes lie in one wide word and the byte enables fit their port.
 pub fn select_expands()
     ensures { (target : Target) (narrow wide : Shape) → wide.unit_bytes ≡ 1 → 0 < narrow.word_bytes → wide.word_bytes ≡ target.shape.word_bytes → target.shape.has_enables ≡ true → narrow.word_bytes ≤ target.shape.word_bytes → (burst : Burst) (raw : Raw) (below : Burst) → raw.levels.count ≡ 1 → burst.left ≡ 0 → below.left ≡ 0 → byte_address narrow raw.levels.address % target.shape.word_bytes + narrow.word_bytes ≤ target.shape.word_bytes → raw.levels.enables < 2 ^ narrow.word_bytes → Expands target narrow wide (select_parts narrow wide) burst raw below }
+{}
+
+/// A wire that holds reads back at the agent's bound keeps all that is promised, and its plan is one.
+pub fn bounded_wire_is_safe()
+    ensures safe { (form : WireForm) (host : HostView) (agent : AgentView) (count : ℕ → ℕ) (end : ℕ) → IsWireForm form → IsBoundedWire form host agent count end → IsLegalRun (wire_system form) (wire_run host agent) end → IsSafe AreZero (wire_system form) (wire_run host agent) end }
+    ensures plan { (form : WireForm) → IsWireForm form → IsPlan (wire_system form) }
 {}
