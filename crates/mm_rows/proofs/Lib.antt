@@ -12,3 +12,4 @@ pub mod FaultRuns
 pub mod SplitterRun
 pub mod DefaultTraces
 pub mod WidthTraces
+pub mod WireTraces

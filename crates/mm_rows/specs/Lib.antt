@@ -8,3 +8,4 @@ pub mod Laxer
 pub mod TurnRows
 pub mod DefaultRows
 pub mod WidthRows
+pub mod WireRows

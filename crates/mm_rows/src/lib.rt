@@ -1,7 +1,7 @@
 //! Small runs, right and wrong: each definition of memory-mapped runs computed on worked rows.
 #![tactic(auto)]
 
-ghost use Rattle.std.specs.Prelude.{◌≡◌, ◌-◌, ◌∷◌, [], true, false, ℕ, None, map, length, replicate};
+ghost use Rattle.std.specs.Prelude.{◌≡◌, ◌-◌, ◌∷◌, ◌++◌, [], true, false, ℕ, None, map, length, replicate};
 ghost use Rattle.histories.specs.History.{before, numbers};
 ghost use Rattle.mm_runs.specs.Commands.{agent_accepts, longest_burst};
 ghost use Rattle.mm_runs.specs.Awake.{turns_of, begun_within, HasFullTurns, TakesTurns, ServesWithin, ServesDefaultWithin, ReadsAheadWithin, IsPassedByFew, serves};
@@ -9,6 +9,7 @@ ghost use Rattle.mm_runs.specs.Turns.{TakesTurnsByRule, others_begun};
 ghost use Rattle.ranks.specs.Turns.{shares_of_others};
 ghost use Rattle.mm_rows.specs.DefaultRows.{odd_word_run, strayed_read_run, behind_default_run, past_default_run, default_first_run, around_default_run};
 ghost use Rattle.mm_rows.specs.WidthRows.{short_agent, short_system, bursts_read, parts_run};
+ghost use Rattle.mm_rows.specs.WireRows.{one_read, one_read_system, held_back_host, held_back_agent, held_back_count, held_back_run, let_through_host, let_through_agent};
 ghost use Rattle.mm_rows.specs.TurnRows.{seats, askers, granted, by_shares, one_share_each, first_host_first};
 ghost use Rattle.mm_runs.specs.Packed.{operations_touched, beats_between, ReadsEachTouchedWordOnce};
 ghost use Rattle.mm_runs.specs.Link.Item.{Acts, Ends};
@@ -20,7 +21,7 @@ ghost use Rattle.mm_runs.specs.Machines.{idle, IsExpanderRun, split_parts, parts
 ghost use Rattle.mm_rows.specs.MachineExamples.{second_piece};
 ghost use Rattle.mm_runs.specs.Operations.{pieces, bytes_read, filled_lanes};
 ghost use Rattle.mm_runs.specs.Operations.Operation.{Write, Read};
-ghost use Rattle.mm_runs.specs.Legal.{given, IsLegalHost, IsProperAtAgent, IsProperAtHost, IsLegalAgent, unanswered};
+ghost use Rattle.mm_runs.specs.Legal.{given, IsLegalHost, IsProperAtAgent, IsProperAtHost, IsLegalAgent, IsWithinPendingBound, unanswered};
 ghost use Rattle.mm_runs.specs.Order.{asked, issued, taken, of_host, owners_taken, are_together, answers, ServesInGrantedOrder, ReturnsInCommandOrder, KeepsReadOrder, words_given_in, beats_taken, ActsAsMemory, untaken, HasResponses};
 ghost use Rattle.mm_runs.specs.Link.{items, CarriesCommands, shown_at, taken_at};
 ghost use Rattle.mm_rows.specs.Faults.{laneless_system, laneless_run, laneless_port, split_system, split_run, split_port};
@@ -28,7 +29,8 @@ ghost use Rattle.mm_rows.specs.Joint.{joint_system, joint_run, joint_inside, joi
 ghost use Rattle.mm_runs.specs.Views.Kind.{Reads, Writes};
 ghost use Rattle.mm_runs.specs.Views.Responses.{AreZero};
 ghost use Rattle.mm_runs.specs.Lines.{target_of, Wired};
-ghost use Rattle.mm_runs.specs.Whole.{IsLegalRun};
+ghost use Rattle.mm_runs.specs.BoundedWire.{IsBoundedWire, IsWireForm, agent_side};
+ghost use Rattle.mm_runs.specs.Whole.{IsLegalRun, IsSafe};
 ghost use Rattle.mm_rows.specs.Examples.{host_of, shape_of, system_of, run_of, no_host, narrow_system, narrow_run, narrow_host, all_lanes_run, stray_run, busy_run, wide_system, wrap_run, whole_bursts_run, mixed_bursts_run, packed_system, read_run};
 
 /// A 32-bit host writes aabbccdd at 4 with the lanes 6 to an 8-bit agent: two operations.
@@ -309,3 +311,17 @@ pub fn turns_at_ports()
     ensures passed { others_begun seats askers (granted by_shares) 1 0 3 ≡ shares_of_others 1 seats }
     ensures starved { others_begun seats askers (granted first_host_first) 1 0 4 ≡ 4 }
 {}
+
+/// A wire to an agent that bears one unanswered read holds the second read back until the first is answered. One that lets it through is past the bound.
+pub fn wire_holds_read_back()
+    ensures form { IsWireForm one_read }
+    ensures wire { IsBoundedWire one_read held_back_host held_back_agent held_back_count 4 }
+    ensures legal { IsLegalRun one_read_system held_back_run 4 }
+    ensures safe { IsSafe AreZero one_read_system held_back_run 4 }
+    ensures taken { of_host 0 (taken one_read_system held_back_run 0 4) ≡ map Read (numbers 8 8) ++ Write 5 0xcc ∷ Write 6 0xbb ∷ [] }
+    ensures given { map (λ w. w.word) (given (one_read_system.host 0) held_back_host 4) ≡ 0x11 ∷ 0x22 ∷ [] }
+    ensures past_bound { IsWithinPendingBound (agent_side one_read) let_through_agent 2 → ⊥ }
+    ensures no_wire { (count : ℕ → ℕ) → IsBoundedWire one_read let_through_host let_through_agent count 2 → ⊥ }
+{
+    mm_runs::bounded_wire_is_safe()
+}
