@@ -1,0 +1,35 @@
+#!/usr/bin/env bash
+# Gives the emitted text of each example to Icarus Verilog and Verilator, as far as they are installed, and says whether they
+# take it without a word. Not part of the gate.
+set -eu
+top=$(cd -- "$(dirname -- "$0")/.." && pwd)
+folder=$(mktemp -d)
+trap 'rm -rf "$folder"' EXIT
+
+# A text, then the words of a tool that is to take it.
+take() {
+  local text=$1 tool=$2
+  shift
+  if ! command -v "$tool" >/dev/null; then
+    echo "$tool isn't installed, so $(basename "$text") wasn't shown to it"
+    return
+  fi
+  if ! "$@" "$text" >"$folder/said" 2>&1 || [ -s "$folder/said" ]; then
+    cat "$folder/said"
+    echo "$* doesn't take $(basename "$text")"
+    exit 1
+  fi
+  echo "$* takes $(basename "$text")"
+}
+
+# The name of an example, then its files, the system first.
+show() {
+  local name=$1
+  shift
+  (cd "$top/examples/$name" && "$top/avalon" generate "$@") >"$folder/$name.v"
+  take "$folder/$name.v" iverilog -Wall -t null
+  take "$folder/$name.v" verilator --lint-only
+}
+
+show one one.tcl gen.tcl chk.tcl
+show bus bus.tcl master.tcl memory.tcl
