@@ -240,6 +240,7 @@ Extends-keeps b b' keeps = record {
   nets = λ n w h. (let o = width_at-line b.lines n w h in
       let l = keeps.lines n o.0 o.1 in
       width_at-is b'.lines n l.later l.is ∙ ap Some (kept_width o.0 l.later l.kept ∙ o.2));
+  valuations = kept_valuation b b' keeps;
   runs = kept_run b b' keeps;
   count = kept_count b b' keeps (compared (length b.lines) (length b'.lines));
 }
@@ -282,9 +283,9 @@ Extends-with_driver b k n u = Extends-keeps b (with_driver b k n) (Keeps-with_dr
 pub Extends-same : (b b' : Netlist) → b' ≡ b → Extends b b'
 Extends-same b b' e = rw e (Extends-keeps b b (record { name = refl; ports = refl; lines = λ n line at. record { later = line; is = at; kept = inl refl }; drivers = λ k n d. d }))
 
--- what a new line says in each run
-pub Always-appended : (b : Netlist) (l : Line) → Always (appended b l) (λ run c. NetHolds (appended b l).lines (cycle_of run c) (length b.lines) l)
-Always-appended b l run cycles r c h = (r.valuations c h).nets (length b.lines) l (slice_get-last b.lines l)
+-- what a new line says in each valuation
+pub Always-appended : (b : Netlist) (l : Line) → Always (appended b l) (λ cycle. NetHolds (appended b l).lines cycle (length b.lines) l)
+Always-appended b l cycle v = v.nets (length b.lines) l (slice_get-last b.lines l)
 
 -- an input port's net
 pub input_line : (b : Netlist) (k w : ℕ) → IsWellMade b → IsInputPort b.ports k w → slice_get b.lines (input_net b.ports k) ≡ Some (line_of w (Input k))
@@ -300,8 +301,8 @@ pushed b now lines l v p = rw (p, ← v) refl
 pub input_width : (b : Netlist) (k w n : ℕ) → IsWellMade b → n ≡ input_net b.ports k → IsInputPort b.ports k w → HasWidth b n w
 input_width b k w n h e i = rw e (width_at-is b.lines (input_net b.ports k) (line_of w (Input k)) (input_line b k w h i))
 
-pub input_value : (b : Netlist) (k w n : ℕ) → IsWellMade b → n ≡ input_net b.ports k → IsInputPort b.ports k w → Always b (λ run c. run.net c n ≡ run.input c k)
-input_value b k w n h e i run cycles r c lt = rw e (((r.valuations c lt).nets (input_net b.ports k) (line_of w (Input k)) (input_line b k w h i)).value)
+pub input_value : (b : Netlist) (k w n : ℕ) → IsWellMade b → n ≡ input_net b.ports k → IsInputPort b.ports k w → Always b (λ cycle. cycle.net n ≡ cycle.input k)
+input_value b k w n h e i cycle v = rw e ((v.nets (input_net b.ports k) (line_of w (Input k)) (input_line b k w h i)).value)
 
 -- one port has one width
 output_width : (ports : List PortLine) (k v w : ℕ) → IsOutputPort ports k v → IsOutputPort ports k w → v ≡ w
@@ -569,7 +570,7 @@ input_made b now ports k count port n v p e made =
 pub input_is_net : (b : Netlist) (k w : ℕ) (n : NetValue) → IsWellMade b → IsInputNet b k n → IsInputPort b.ports k w → IsNet b n
 input_is_net b k w n h made i = subst (λ v. HasWidth b n.number v) (sym (made.width w i)) (input_width b k w n.number h made.number i)
 
-pub input_holds : (b : Netlist) (k w : ℕ) (n : NetValue) → IsWellMade b → IsInputNet b k n → IsInputPort b.ports k w → Always b (λ run c. (run.net c n.number < 2 ^ n.width) × (run.net c n.number ≡ run.input c k))
-input_holds b k w n h made i run cycles r c lt =
-    let holds = (r.valuations c lt).nets (input_net b.ports k) (line_of w (Input k)) (input_line b k w h i) in
+pub input_holds : (b : Netlist) (k w : ℕ) (n : NetValue) → IsWellMade b → IsInputNet b k n → IsInputPort b.ports k w → Always b (λ cycle. (cycle.net n.number < 2 ^ n.width) × (cycle.net n.number ≡ cycle.input k))
+input_holds b k w n h made i cycle v =
+    let holds = v.nets (input_net b.ports k) (line_of w (Input k)) (input_line b k w h i) in
     rw (made.number, made.width w i) (holds.fits, holds.value)

@@ -2,7 +2,7 @@
 use Rattle.std.specs.Prelude.{◌≡◌, ◌⊎◌, ℕ, ◌+◌, ◌≤◌, true, length, slice_get, Some}
 use Rattle.netlist.specs.declared.line.Line.{Line}
 use Rattle.netlist.specs.Netlists.{Netlist, HasWidth, driver_of, IsWaiting, with_next}
-use Rattle.netlist.specs.Runs.{Run, IsRun}
+use Rattle.netlist.specs.Runs.{Run, Cycle, IsValuation, IsRun}
 
 -- a register that waited, with a next net
 pub record IsSetFrom (line later : Line) : Type 0 where
@@ -27,10 +27,11 @@ pub record Keeps (old new : Netlist) : Type 0 where
   pub lines : (n : ℕ) (line : Line) → slice_get old.lines n ≡ Some line → KeepsLine new n line
   pub drivers : (k n : ℕ) → driver_of old k ≡ Some n → driver_of new k ≡ Some n
 
--- the new netlist keeps the old one, so its nets are nets and its runs are runs of the old one
+-- the new netlist keeps the old one, whose nets are nets of the new one; the new one's valuations and runs are valuations and runs of the old one
 pub record Extends (old new : Netlist) : Type 0 where
   pub keeps : Keeps old new
   pub nets : (n w : ℕ) → HasWidth old n w → HasWidth new n w
+  pub valuations : (cycle : Cycle) → IsValuation new cycle → IsValuation old cycle
   pub runs : (run : Run) (cycles : ℕ) → IsRun new run cycles → IsRun old run cycles
   pub count : length old.lines ≤ length new.lines
 

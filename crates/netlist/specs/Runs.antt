@@ -69,9 +69,9 @@ pub record IsRun (netlist : Netlist) (run : Run) (cycles : ℕ) : Type 0 where
   pub starts : 0 < cycles → StartsAt netlist (cycle_of run 0)
   pub steps : (c : ℕ) → c + 1 < cycles → Steps netlist (cycle_of run c) (cycle_of run (c + 1))
 
--- P holds in each cycle of each run
-abbrev pub Always : Netlist → (Run → ℕ → Type 0) → Type 0
-Always netlist P = (run : Run) (cycles : ℕ) → IsRun netlist run cycles → (c : ℕ) → c < cycles → P run c
+-- P holds in each valuation, and so in each cycle of each run
+abbrev pub Always : Netlist → (Cycle → Type 0) → Type 0
+Always netlist P = (cycle : Cycle) → IsValuation netlist cycle → P cycle
 
 -- the value at each input port fits its width
 abbrev pub InputsFit : List PortLine → (ℕ → ℕ) → Type 0

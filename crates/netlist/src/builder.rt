@@ -1,7 +1,7 @@
 ghost use Rattle.std.specs.Prelude.{◌≡◌, ℕ, ◌+◌, ◌-◌, ◌*◌, ◌/◌, ◌%◌, ◌^◌, ◌<◌, ◌≤◌, ◌↔◌, ◌⊎◌, ◌==◌, nat_lt, bit_and, bit_or, bit_xor, true, false, if◌then◌else◌, [], ◌∷◌, ◌++◌, length, map, slice_get, IfOk, OnErr, IfSome, Some, None};
 ghost use Rattle.netlist.specs.Netlists.{IsNet, driver_of, IsInputPort, IsOutputPort, IsHeader, IsWellMade, IsDriven, IsClocked, IsWaiting, IsModule, input_count, input_net, input_lines, is_input, is_register, IsSound, IsSoundLine, undriven, started, appended, with_driver, with_line, with_next, line_with, line_of, register_of};
 ghost use Rattle.netlist.specs.Nets.{net_of};
-ghost use Rattle.netlist.specs.Runs.{Run, IsRun, NetHolds, cycle_of, Always};
+ghost use Rattle.netlist.specs.Runs.{Run, IsRun, NetHolds, Always};
 ghost use Rattle.netlist.specs.Longer.{Extends, GrowsByOne};
 ghost use Rattle.netlist.specs.declared.line.Line.{Line};
 
@@ -121,7 +121,7 @@ impl Builder {
         ensures net { IsNet self.now result }
         ensures number { result.number ≡ input_net self.now.ports port }
         ensures width { (w : ℕ) → IsInputPort self.now.ports port w → result.width ≡ w }
-        ensures value { Always self.now (λ run c. (run.net c result.number < 2 ^ result.width) × (run.net c result.number ≡ run.input c port)) }
+        ensures value { Always self.now (λ cycle. (cycle.net result.number < 2 ^ result.width) × (cycle.net result.number ≡ cycle.input port)) }
     {
         let ports = self.ports.as_slice();
         let number = count_inputs(&ports[..port as usize]);
@@ -143,7 +143,7 @@ impl Builder {
         requires computed { is_input equation ≡ false }
         ensures line { IfOk result (λ n. (self.new ≡ appended self.old (line_with width equation waits)) × (n ≡ net_of (length self.old.lines) width)) }
         ensures net { IfOk result (λ n. IsNet self.new n × (n.width ≡ width)) }
-        ensures value { IfOk result (λ n. Always self.new (λ run c. NetHolds self.new.lines (cycle_of run c) n.number (line_with width equation waits))) }
+        ensures value { IfOk result (λ n. Always self.new (λ cycle. NetHolds self.new.lines cycle n.number (line_with width equation waits))) }
         ensures extends { Extends self.old self.new }
         ensures most { length self.new.lines ≤ length self.old.lines + 1 }
         ensures drivers { self.new.drivers ≡ self.old.drivers }
@@ -173,7 +173,7 @@ impl Builder {
         requires unclocked { is_register equation ≡ false }
         ensures line { IfOk result (λ n. (self.new ≡ appended self.old (line_of width equation)) × (n ≡ net_of (length self.old.lines) width)) }
         ensures net { IfOk result (λ n. IsNet self.new n × (n.width ≡ width)) }
-        ensures value { IfOk result (λ n. Always self.new (λ run c. NetHolds self.new.lines (cycle_of run c) n.number (line_of width equation))) }
+        ensures value { IfOk result (λ n. Always self.new (λ cycle. NetHolds self.new.lines cycle n.number (line_of width equation))) }
         ensures extends { Extends self.old self.new }
         ensures grows { GrowsByOne self.old self.new }
         ensures err { OnErr result (self.new ≡ self.old) }
@@ -190,7 +190,7 @@ impl Builder {
         requires unclocked { is_register equation ≡ false }
         ensures line { IfOk result (λ n. (self.new ≡ appended self.old (line_of net.width equation)) × (n ≡ net_of (length self.old.lines) net.width)) }
         ensures net { IfOk result (λ n. IsNet self.new n × (n.width ≡ net.width)) }
-        ensures value { IfOk result (λ n. Always self.new (λ run c. NetHolds self.new.lines (cycle_of run c) n.number (line_of net.width equation))) }
+        ensures value { IfOk result (λ n. Always self.new (λ cycle. NetHolds self.new.lines cycle n.number (line_of net.width equation))) }
         ensures extends { Extends self.old self.new }
         ensures grows { GrowsByOne self.old self.new }
         ensures err { OnErr result (self.new ≡ self.old) }
@@ -204,7 +204,7 @@ impl Builder {
     pub fn constant(&mut self, value: Val) -> Result<Net, NetFault>
         ensures line { IfOk result (λ n. (self.new ≡ appended self.old (line_of value.width (Equation.Constant value))) × (n ≡ net_of (length self.old.lines) value.width)) }
         ensures net { IfOk result (λ n. IsNet self.new n × (n.width ≡ value.width)) }
-        ensures value { IfOk result (λ n. Always self.new (λ run c. (run.net c n.number < 2 ^ value.width) × (run.net c n.number ≡ value.bits))) }
+        ensures value { IfOk result (λ n. Always self.new (λ cycle. (cycle.net n.number < 2 ^ value.width) × (cycle.net n.number ≡ value.bits))) }
         ensures extends { Extends self.old self.new }
         ensures grows { GrowsByOne self.old self.new }
         ensures err { OnErr result (self.new ≡ self.old) }
@@ -220,7 +220,7 @@ impl Builder {
         requires widths { a.width ≡ b.width }
         ensures line { IfOk result (λ n. (self.new ≡ appended self.old (line_of a.width (Equation.And a.number b.number))) × (n ≡ net_of (length self.old.lines) a.width)) }
         ensures net { IfOk result (λ n. IsNet self.new n × (n.width ≡ a.width)) }
-        ensures value { IfOk result (λ n. Always self.new (λ run c. (run.net c n.number < 2 ^ a.width) × (run.net c n.number ≡ bit_and (run.net c a.number) (run.net c b.number)))) }
+        ensures value { IfOk result (λ n. Always self.new (λ cycle. (cycle.net n.number < 2 ^ a.width) × (cycle.net n.number ≡ bit_and (cycle.net a.number) (cycle.net b.number)))) }
         ensures extends { Extends self.old self.new }
         ensures grows { GrowsByOne self.old self.new }
         ensures err { OnErr result (self.new ≡ self.old) }
@@ -242,7 +242,7 @@ impl Builder {
         requires widths { a.width ≡ b.width }
         ensures line { IfOk result (λ n. (self.new ≡ appended self.old (line_of a.width (Equation.Or a.number b.number))) × (n ≡ net_of (length self.old.lines) a.width)) }
         ensures net { IfOk result (λ n. IsNet self.new n × (n.width ≡ a.width)) }
-        ensures value { IfOk result (λ n. Always self.new (λ run c. (run.net c n.number < 2 ^ a.width) × (run.net c n.number ≡ bit_or (run.net c a.number) (run.net c b.number)))) }
+        ensures value { IfOk result (λ n. Always self.new (λ cycle. (cycle.net n.number < 2 ^ a.width) × (cycle.net n.number ≡ bit_or (cycle.net a.number) (cycle.net b.number)))) }
         ensures extends { Extends self.old self.new }
         ensures grows { GrowsByOne self.old self.new }
         ensures err { OnErr result (self.new ≡ self.old) }
@@ -264,7 +264,7 @@ impl Builder {
         requires widths { a.width ≡ b.width }
         ensures line { IfOk result (λ n. (self.new ≡ appended self.old (line_of a.width (Equation.Xor a.number b.number))) × (n ≡ net_of (length self.old.lines) a.width)) }
         ensures net { IfOk result (λ n. IsNet self.new n × (n.width ≡ a.width)) }
-        ensures value { IfOk result (λ n. Always self.new (λ run c. (run.net c n.number < 2 ^ a.width) × (run.net c n.number ≡ bit_xor (run.net c a.number) (run.net c b.number)))) }
+        ensures value { IfOk result (λ n. Always self.new (λ cycle. (cycle.net n.number < 2 ^ a.width) × (cycle.net n.number ≡ bit_xor (cycle.net a.number) (cycle.net b.number)))) }
         ensures extends { Extends self.old self.new }
         ensures grows { GrowsByOne self.old self.new }
         ensures err { OnErr result (self.new ≡ self.old) }
@@ -286,7 +286,7 @@ impl Builder {
         requires widths { a.width ≡ b.width }
         ensures line { IfOk result (λ n. (self.new ≡ appended self.old (line_of a.width (Equation.Add a.number b.number))) × (n ≡ net_of (length self.old.lines) a.width)) }
         ensures net { IfOk result (λ n. IsNet self.new n × (n.width ≡ a.width)) }
-        ensures value { IfOk result (λ n. Always self.new (λ run c. (run.net c n.number < 2 ^ a.width) × (run.net c n.number ≡ (run.net c a.number + run.net c b.number) % 2 ^ a.width))) }
+        ensures value { IfOk result (λ n. Always self.new (λ cycle. (cycle.net n.number < 2 ^ a.width) × (cycle.net n.number ≡ (cycle.net a.number + cycle.net b.number) % 2 ^ a.width))) }
         ensures extends { Extends self.old self.new }
         ensures grows { GrowsByOne self.old self.new }
         ensures err { OnErr result (self.new ≡ self.old) }
@@ -308,7 +308,7 @@ impl Builder {
         requires widths { a.width ≡ b.width }
         ensures line { IfOk result (λ n. (self.new ≡ appended self.old (line_of a.width (Equation.Sub a.number b.number))) × (n ≡ net_of (length self.old.lines) a.width)) }
         ensures net { IfOk result (λ n. IsNet self.new n × (n.width ≡ a.width)) }
-        ensures value { IfOk result (λ n. Always self.new (λ run c. (run.net c n.number < 2 ^ a.width) × (run.net c n.number ≡ (run.net c a.number + (2 ^ a.width - run.net c b.number)) % 2 ^ a.width))) }
+        ensures value { IfOk result (λ n. Always self.new (λ cycle. (cycle.net n.number < 2 ^ a.width) × (cycle.net n.number ≡ (cycle.net a.number + (2 ^ a.width - cycle.net b.number)) % 2 ^ a.width))) }
         ensures extends { Extends self.old self.new }
         ensures grows { GrowsByOne self.old self.new }
         ensures err { OnErr result (self.new ≡ self.old) }
@@ -330,7 +330,7 @@ impl Builder {
         requires widths { a.width ≡ b.width }
         ensures line { IfOk result (λ n. (self.new ≡ appended self.old (line_of 1 (Equation.Eq a.number b.number))) × (n ≡ net_of (length self.old.lines) 1)) }
         ensures net { IfOk result (λ n. IsNet self.new n × (n.width ≡ 1)) }
-        ensures value { IfOk result (λ n. Always self.new (λ run c. (run.net c n.number < 2 ^ 1) × (run.net c n.number ≡ (if run.net c a.number == run.net c b.number then 1 else 0)))) }
+        ensures value { IfOk result (λ n. Always self.new (λ cycle. (cycle.net n.number < 2 ^ 1) × (cycle.net n.number ≡ (if cycle.net a.number == cycle.net b.number then 1 else 0)))) }
         ensures extends { Extends self.old self.new }
         ensures grows { GrowsByOne self.old self.new }
         ensures err { OnErr result (self.new ≡ self.old) }
@@ -352,7 +352,7 @@ impl Builder {
         requires widths { a.width ≡ b.width }
         ensures line { IfOk result (λ n. (self.new ≡ appended self.old (line_of 1 (Equation.Less a.number b.number))) × (n ≡ net_of (length self.old.lines) 1)) }
         ensures net { IfOk result (λ n. IsNet self.new n × (n.width ≡ 1)) }
-        ensures value { IfOk result (λ n. Always self.new (λ run c. (run.net c n.number < 2 ^ 1) × (run.net c n.number ≡ (if nat_lt (run.net c a.number) (run.net c b.number) then 1 else 0)))) }
+        ensures value { IfOk result (λ n. Always self.new (λ cycle. (cycle.net n.number < 2 ^ 1) × (cycle.net n.number ≡ (if nat_lt (cycle.net a.number) (cycle.net b.number) then 1 else 0)))) }
         ensures extends { Extends self.old self.new }
         ensures grows { GrowsByOne self.old self.new }
         ensures err { OnErr result (self.new ≡ self.old) }
@@ -374,7 +374,7 @@ impl Builder {
         requires widths { a.width + b.width ≤ 128 }
         ensures line { IfOk result (λ n. (self.new ≡ appended self.old (line_of (a.width + b.width) (Equation.Concat a.number b.number))) × (n ≡ net_of (length self.old.lines) (a.width + b.width))) }
         ensures net { IfOk result (λ n. IsNet self.new n × (n.width ≡ (a.width + b.width))) }
-        ensures value { IfOk result (λ n. Always self.new (λ run c. (run.net c n.number < 2 ^ (a.width + b.width)) × (run.net c n.number ≡ run.net c a.number * 2 ^ b.width + run.net c b.number))) }
+        ensures value { IfOk result (λ n. Always self.new (λ cycle. (cycle.net n.number < 2 ^ (a.width + b.width)) × (cycle.net n.number ≡ cycle.net a.number * 2 ^ b.width + cycle.net b.number))) }
         ensures extends { Extends self.old self.new }
         ensures grows { GrowsByOne self.old self.new }
         ensures err { OnErr result (self.new ≡ self.old) }
@@ -395,7 +395,7 @@ impl Builder {
         requires a_is { IsNet self.old a }
         ensures line { IfOk result (λ n. (self.new ≡ appended self.old (line_of a.width (Equation.Not a.number))) × (n ≡ net_of (length self.old.lines) a.width)) }
         ensures net { IfOk result (λ n. IsNet self.new n × (n.width ≡ a.width)) }
-        ensures value { IfOk result (λ n. Always self.new (λ run c. (run.net c n.number < 2 ^ a.width) × (run.net c n.number ≡ 2 ^ a.width - 1 - run.net c a.number))) }
+        ensures value { IfOk result (λ n. Always self.new (λ cycle. (cycle.net n.number < 2 ^ a.width) × (cycle.net n.number ≡ 2 ^ a.width - 1 - cycle.net a.number))) }
         ensures extends { Extends self.old self.new }
         ensures grows { GrowsByOne self.old self.new }
         ensures err { OnErr result (self.new ≡ self.old) }
@@ -409,7 +409,7 @@ impl Builder {
         requires a_is { IsNet self.old a }
         ensures line { IfOk result (λ n. (self.new ≡ appended self.old (line_of 1 (Equation.Any a.number))) × (n ≡ net_of (length self.old.lines) 1)) }
         ensures net { IfOk result (λ n. IsNet self.new n × (n.width ≡ 1)) }
-        ensures value { IfOk result (λ n. Always self.new (λ run c. (run.net c n.number < 2 ^ 1) × (run.net c n.number ≡ (if run.net c a.number == 0 then 0 else 1)))) }
+        ensures value { IfOk result (λ n. Always self.new (λ cycle. (cycle.net n.number < 2 ^ 1) × (cycle.net n.number ≡ (if cycle.net a.number == 0 then 0 else 1)))) }
         ensures extends { Extends self.old self.new }
         ensures grows { GrowsByOne self.old self.new }
         ensures err { OnErr result (self.new ≡ self.old) }
@@ -427,7 +427,7 @@ impl Builder {
         requires widths { a.width ≡ b.width }
         ensures line { IfOk result (λ n. (self.new ≡ appended self.old (line_of a.width (Equation.Mux s.number a.number b.number))) × (n ≡ net_of (length self.old.lines) a.width)) }
         ensures net { IfOk result (λ n. IsNet self.new n × (n.width ≡ a.width)) }
-        ensures value { IfOk result (λ n. Always self.new (λ run c. (run.net c n.number < 2 ^ a.width) × (run.net c n.number ≡ (if run.net c s.number == 0 then run.net c b.number else run.net c a.number)))) }
+        ensures value { IfOk result (λ n. Always self.new (λ cycle. (cycle.net n.number < 2 ^ a.width) × (cycle.net n.number ≡ (if cycle.net s.number == 0 then cycle.net b.number else cycle.net a.number)))) }
         ensures extends { Extends self.old self.new }
         ensures grows { GrowsByOne self.old self.new }
         ensures err { OnErr result (self.new ≡ self.old) }
@@ -450,7 +450,7 @@ impl Builder {
         requires inside { high < a.width }
         ensures line { IfOk result (λ n. (self.new ≡ appended self.old (line_of (high - low + 1) (Equation.Slice a.number high low))) × (n ≡ net_of (length self.old.lines) (high - low + 1))) }
         ensures net { IfOk result (λ n. IsNet self.new n × (n.width ≡ (high - low + 1))) }
-        ensures value { IfOk result (λ n. Always self.new (λ run c. (run.net c n.number < 2 ^ (high - low + 1)) × (run.net c n.number ≡ run.net c a.number / 2 ^ low % 2 ^ (high - low + 1)))) }
+        ensures value { IfOk result (λ n. Always self.new (λ cycle. (cycle.net n.number < 2 ^ (high - low + 1)) × (cycle.net n.number ≡ cycle.net a.number / 2 ^ low % 2 ^ (high - low + 1)))) }
         ensures extends { Extends self.old self.new }
         ensures grows { GrowsByOne self.old self.new }
         ensures err { OnErr result (self.new ≡ self.old) }
@@ -471,7 +471,7 @@ impl Builder {
     pub fn reg(&mut self, reset: Val) -> Result<Net, NetFault>
         ensures line { IfOk result (λ n. (self.new ≡ appended self.old (register_of (length self.old.lines) reset)) × (n ≡ net_of (length self.old.lines) reset.width)) }
         ensures net { IfOk result (λ n. IsNet self.new n × (n.width ≡ reset.width)) }
-        ensures fits { IfOk result (λ n. Always self.new (λ run c. run.net c n.number < 2 ^ reset.width)) }
+        ensures fits { IfOk result (λ n. Always self.new (λ cycle. cycle.net n.number < 2 ^ reset.width)) }
         ensures value { IfOk result (λ n. (run : Run) (cycles : ℕ) → IsRun self.new run cycles → 0 < cycles → run.net 0 n.number ≡ reset.bits) }
         ensures waits { IfOk result (λ n. IsWaiting self.new n.number) }
         ensures extends { Extends self.old self.new }

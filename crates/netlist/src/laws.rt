@@ -5,7 +5,7 @@ ghost use Rattle.netlist.specs.Netlists.{Netlist, IsWellMade, IsInputPort, drive
 ghost use Rattle.netlist.specs.declared.line.PortLine.{PortLine};
 ghost use Rattle.netlist.specs.Runs.{Run, Cycle, IsRun, IsValuation, InputsFit, StateFits, SameInputs, SameState, SameNets, Always, HasValuation, HasRun};
 ghost use Rattle.netlist.specs.Longer.{Keeps, Extends};
-ghost use Rattle.netlist.specs.Signals.{port_value, signal};
+ghost use Rattle.netlist.specs.Signals.{port_net, port_value, signal};
 
 /// Any inputs and first contents, each within its width, have a run of every length.
 pub fn has_run()
@@ -27,7 +27,7 @@ pub fn prefix()
     ensures { (netlist : Netlist) (run : Run) (cycles fewer : ℕ) → IsRun netlist run cycles → fewer ≤ cycles → IsRun netlist run fewer }
 {}
 
-/// A run of a netlist that keeps another is a run of the other.
+/// A run of a netlist that keeps another is a run of the other, and a valuation one of the other.
 pub fn keeps()
     ensures extends { (old new : Netlist) → Keeps old new → Extends old new }
     ensures chain { (old middle new : Netlist) → Keeps old middle → Keeps middle new → Keeps old new }
@@ -36,7 +36,7 @@ pub fn keeps()
 /// What stands at a port, by its number and by its name.
 pub fn signals()
     ensures output { (netlist : Netlist) (k n : ℕ) → driver_of netlist k ≡ Some n → (run : Run) (c : ℕ) → port_value netlist run c k ≡ run.net c n }
-    ensures input { (netlist : Netlist) → IsWellMade netlist → (k w : ℕ) → IsInputPort netlist.ports k w → Always netlist (λ run c. port_value netlist run c k ≡ run.input c k) }
-    ensures input_net { (netlist : Netlist) → IsWellMade netlist → (k w : ℕ) → IsInputPort netlist.ports k w → Always netlist (λ run c. run.net c (input_net netlist.ports k) ≡ run.input c k) }
+    ensures input { (netlist : Netlist) → IsWellMade netlist → (k w : ℕ) → IsInputPort netlist.ports k w → Always netlist (λ cycle. cycle.net (port_net netlist k) ≡ cycle.input k) }
+    ensures input_net { (netlist : Netlist) → IsWellMade netlist → (k w : ℕ) → IsInputPort netlist.ports k w → Always netlist (λ cycle. cycle.net (input_net netlist.ports k) ≡ cycle.input k) }
     ensures named { (netlist : Netlist) → IsWellMade netlist → (k : ℕ) (port : PortLine) → slice_get netlist.ports k ≡ Some port → (run : Run) → signal netlist run port.name ≡ Some (λ c. port_value netlist run c k) }
 {}

@@ -8,8 +8,8 @@ pub returns-clause-output : goal.returns-clause-output
 returns-clause-output c netlist k n e run at = driven_value netlist run at k n e
 
 pub returns-clause-input : goal.returns-clause-input
-returns-clause-input c netlist h k w i run cycles r at below =
-    ap (run.net at) (input_port_net netlist k w h i) ∙ input_value netlist k w (input_net netlist.ports k) h refl i run cycles r at below
+returns-clause-input c netlist h k w i cycle v =
+    ap cycle.net (input_port_net netlist k w h i) ∙ input_value netlist k w (input_net netlist.ports k) h refl i cycle v
 
 pub returns-clause-input_net : goal.returns-clause-input_net
 returns-clause-input_net c netlist h k w i = input_value netlist k w (input_net netlist.ports k) h refl i

@@ -1,7 +1,7 @@
 use Rattle.std.proofs.Common.{◌≡◌, ℕ, ◌<◌, ◌^◌, ◌∙◌, length, arith, ap, sym, subst, refl, ◌⊎◌, true}
 use Rattle.netlist.specs.Netlists.{Netlist, IsWellMade, IsNet, IsWaiting, appended, line_with}
 use Rattle.netlist.specs.Nets.{NetValue, net_of}
-use Rattle.netlist.specs.Runs.{NetHolds, Always, cycle_of}
+use Rattle.netlist.specs.Runs.{NetHolds, Always}
 use Rattle.netlist.specs.Longer.{Extends}
 use Rattle.netlist.proofs.Growth.{IsWellMade-appended, width-last, Always-appended, Extends-appended, pushed, waiting-appended, waiting-newly}
 use Rattle.netlist.proofs.builder.Builder.append.Goals as goal
@@ -30,8 +30,8 @@ returns-clause-value c =
     let number : length c.args.self.now.lines ≡ c.len-number.result = omega arith in
     let is : length c.args.self.now.lines ≡ c.new.result.number = number ∙ sym (ap (λ (n : NetValue). n.number) c.new.ensures) in
     let new = pushed _ c.args.self.now c.push.new.self.items (line_with c.args.width c.args.equation c.args.waits) c.self.view_is c.in_ok-push.ensures.items in
-    subst (λ (b : Netlist). Always b (λ run k. NetHolds b.lines (cycle_of run k) c.new.result.number (line_with c.args.width c.args.equation c.args.waits))) (sym new)
-    (subst (λ n. Always (appended c.args.self.now (line_with c.args.width c.args.equation c.args.waits)) (λ run k. NetHolds (appended c.args.self.now (line_with c.args.width c.args.equation c.args.waits)).lines (cycle_of run k) n (line_with c.args.width c.args.equation c.args.waits))) is
+    subst (λ (b : Netlist). Always b (λ cycle. NetHolds b.lines cycle c.new.result.number (line_with c.args.width c.args.equation c.args.waits))) (sym new)
+    (subst (λ n. Always (appended c.args.self.now (line_with c.args.width c.args.equation c.args.waits)) (λ cycle. NetHolds (appended c.args.self.now (line_with c.args.width c.args.equation c.args.waits)).lines cycle n (line_with c.args.width c.args.equation c.args.waits))) is
     (Always-appended c.args.self.now (line_with c.args.width c.args.equation c.args.waits)))
 
 pub returns-clause-extends : goal.returns-clause-extends
