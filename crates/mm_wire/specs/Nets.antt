@@ -1,0 +1,16 @@
+-- Nets of a known width, and how far a netlist grew.
+use Rattle.std.specs.Prelude.{◌≡◌, ℕ, ◌+◌, ◌≤◌, length}
+use Rattle.netlist.specs.Netlists.{Netlist, IsNet, IsWaiting}
+use Rattle.netlist.specs.Nets.{NetValue}
+
+-- the net is one of this netlist, of this width
+pub record IsNetOfWidth (netlist : Netlist) (net : NetValue) (width : ℕ) : Type 0 where
+  pub is_net : IsNet netlist net
+  pub has_width : net.width ≡ width
+
+-- the netlist grew by so many nets at most; no driver was set, and the same registers wait
+pub record GrowsBy (count : ℕ) (old new : Netlist) : Type 0 where
+  pub most : length new.lines ≤ length old.lines + count
+  pub drivers : new.drivers ≡ old.drivers
+  pub waits : (n : ℕ) → IsWaiting old n → IsWaiting new n
+  pub no_more_wait : (n : ℕ) → IsWaiting new n → IsWaiting old n

@@ -1,0 +1,19 @@
+-- What the parts of a wire do in a cycle: the gate on reads, and the count of unanswered reads.
+use Rattle.std.specs.Prelude.{◌≡◌, ℕ, ◌+◌, ◌<◌, ◌≤◌, not, ◌&&◌, ◌||◌, if◌then◌else◌, nat_eq}
+use Rattle.histories.specs.History.{is_high, one_if}
+
+-- `shown` is the host's `read`, but low while as many reads are unanswered as the agent bears. The host is told to wait for as long, and while
+-- the agent waits
+pub record IsGated (pending unanswered read waits shown told : ℕ) : Type 0 where
+  pub is_shown : shown ≡ (if nat_eq unanswered pending then 0 else read)
+  pub is_told : is_high told ≡ (nat_eq unanswered pending && is_high read) || is_high waits
+
+-- 1 where a read is accepted
+abbrev pub taken_in : ℕ → ℕ → ℕ
+taken_in shown waits = one_if (is_high shown && not (is_high waits))
+
+-- `next` is the count after this cycle: one more where a read is accepted, and one less where one is answered, if that fits in five bits
+abbrev pub IsNextCount : ℕ → ℕ → ℕ → ℕ → ℕ → Type 0
+IsNextCount unanswered shown waits answers next =
+    unanswered + taken_in shown waits < 32 → one_if (is_high answers) ≤ unanswered + taken_in shown waits →
+    next + one_if (is_high answers) ≡ unanswered + taken_in shown waits
