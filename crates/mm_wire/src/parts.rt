@@ -1,4 +1,4 @@
-ghost use Rattle.std.specs.Prelude.{◌≡◌, ℕ, ◌+◌, ◌^◌, ◌<◌, ◌≤◌, length, IfOk, OnErr};
+ghost use Rattle.std.specs.Prelude.{◌≡◌, ℕ, ◌+◌, ◌^◌, ◌<◌, ◌≤◌, length, IfOk, OnOk};
 ghost use Rattle.av_base.specs.Word.{word};
 ghost use Rattle.netlist.specs.Runs.{Always};
 ghost use Rattle.netlist.specs.Longer.{Extends};
@@ -41,13 +41,14 @@ pub(crate) fn gate_reads(
     ensures waitrequest { IfOk result (λ gate. IsNetOfWidth builder.new gate.waitrequest 1) }
     ensures value { IfOk result (λ gate. Always builder.new (λ cycle. IsGated pending (cycle.net unanswered.number) (cycle.net read.number) (cycle.net waitrequest.number) (cycle.net gate.read.number) (cycle.net gate.waitrequest.number))) }
     ensures extends { Extends builder.old builder.new }
+    ensures count { OnOk result (length builder.new.lines ≡ length builder.old.lines + 6) }
     ensures grows { GrowsBy 6 builder.old builder.new }
     ensures full { result ≡ Err NetFault.TooManyNets → 2 ^ 20 < length builder.old.lines + 6 }
 {
     let bound = builder.constant(count_of(pending))?;
     let full = builder.eq(unanswered, bound)?;
-    let open = builder.not(full)?;
-    let shown = builder.and(read, open)?;
+    let room = builder.not(full)?;
+    let shown = builder.and(read, room)?;
     let held = builder.and(read, full)?;
     let told = builder.or(held, waitrequest)?;
     Ok(GateNets {
@@ -75,6 +76,7 @@ pub(crate) fn next_count(
     ensures net { IfOk result (λ next. IsNetOfWidth builder.new next 5) }
     ensures value { IfOk result (λ next. Always builder.new (λ cycle. IsNextCount (cycle.net unanswered.number) (cycle.net read.number) (cycle.net waitrequest.number) (cycle.net readdatavalid.number) (cycle.net next.number))) }
     ensures extends { Extends builder.old builder.new }
+    ensures count { OnOk result (length builder.new.lines ≡ length builder.old.lines + 6) }
     ensures grows { GrowsBy 6 builder.old builder.new }
     ensures full { result ≡ Err NetFault.TooManyNets → 2 ^ 20 < length builder.old.lines + 6 }
 {

@@ -28,7 +28,8 @@ pub fn emit(
     ensures value { IfOk result (λ made. RunsAsWire builder.new host.now agent.now made address_bits pending) }
     ensures ignores { IfOk result (λ made. IgnoresWord builder.new host.now agent.now made) }
     ensures extends { Extends builder.old builder.new }
-    ensures count { length builder.new.lines ≤ length builder.old.lines + 15 }
+    ensures count { OnOk result (length builder.new.lines ≡ length builder.old.lines + 15) }
+    ensures most { length builder.new.lines ≤ length builder.old.lines + 15 }
     ensures drivers { builder.new.drivers ≡ builder.old.drivers }
     ensures waits { (n : ℕ) → IsWaiting builder.old n → IsWaiting builder.new n }
     ensures no_more_wait { OnOk result ((n : ℕ) → IsWaiting builder.new n → IsWaiting builder.old n) }
