@@ -1,8 +1,8 @@
 ghost use Rattle.std.specs.Prelude.{◌≡◌, ℕ, ◌<◌, IfOk, None, [], ◌∷◌, true, false, codes};
 ghost use Rattle.av_base.specs.Word.{word};
-ghost use Rattle.netlist.specs.Netlists.{IsInputPort, IsOutputPort, IsClocked, driver_of};
+ghost use Rattle.netlist.specs.Netlists.{IsNet, IsInputPort, IsOutputPort, IsClocked, driver_of};
 
-use crate::{Builder, Equation, PortLine};
+use crate::{Builder, Equation, Module, Net, PortLine};
 use av_base::{List, Text, Val};
 use std::alloc::Global;
 use std::test::Fail;
@@ -64,5 +64,102 @@ fn a_constant_behind_an_input(rt: HostRuntime) -> Result<(), Fail> {
     assert_eq!(rt; module.equation(1), Equation::Constant { value: ten });
     assert_eq!(rt; module.width(1), 4);
     assert_eq!(rt; module.driver(0), 1);
+    Ok(())
+}
+
+/// The module whose output this net drives.
+fn driven_by(mut builder: Builder, net: Net) -> Module
+    requires output { IsOutputPort builder.ports 0 4 }
+    requires no_more { (k w : ℕ) → IsOutputPort builder.ports k w → k ≡ 0 }
+    requires undriven { driver_of builder 0 ≡ None }
+    requires clocked { IsClocked builder }
+    requires net_is { IsNet builder net }
+    requires width { net.width ≡ 4 }
+{
+    builder.drive(0, net);
+    builder.finish()
+}
+
+#[test]
+fn bitwise_operators(rt: HostRuntime) -> Result<(), Fail> {
+    let mut builder = two_port_builder(rt.alloc())?;
+    let input = builder.input(1);
+    let and = builder.and(input, input)?;
+    let or = builder.or(and, input)?;
+    let xor = builder.xor(input, or)?;
+    let module = driven_by(builder, xor);
+    assert_eq!(rt; module.net_count(), 4);
+    assert_eq!(rt; module.equation(1), Equation::And { a: 0, b: 0 });
+    assert_eq!(rt; module.equation(2), Equation::Or { a: 1, b: 0 });
+    assert_eq!(rt; module.equation(3), Equation::Xor { a: 0, b: 2 });
+    assert_eq!(rt; module.width(3), 4);
+    Ok(())
+}
+
+#[test]
+fn arithmetic_and_comparisons(rt: HostRuntime) -> Result<(), Fail> {
+    let mut builder = two_port_builder(rt.alloc())?;
+    let input = builder.input(1);
+    let sum = builder.add(input, input)?;
+    let difference = builder.sub(sum, input)?;
+    let equal = builder.eq(input, sum)?;
+    let less = builder.less(sum, input)?;
+    assert_eq!(rt; builder.width(equal), 1);
+    assert_eq!(rt; builder.width(less), 1);
+    let module = driven_by(builder, difference);
+    assert_eq!(rt; module.net_count(), 5);
+    assert_eq!(rt; module.equation(1), Equation::Add { a: 0, b: 0 });
+    assert_eq!(rt; module.equation(2), Equation::Sub { a: 1, b: 0 });
+    assert_eq!(rt; module.equation(3), Equation::Eq { a: 0, b: 1 });
+    assert_eq!(rt; module.equation(4), Equation::Less { a: 1, b: 0 });
+    Ok(())
+}
+
+#[test]
+fn bits_taken_and_joined(rt: HostRuntime) -> Result<(), Fail> {
+    let mut builder = two_port_builder(rt.alloc())?;
+    let input = builder.input(1);
+    let any = builder.any(input)?;
+    let turned = builder.not(input)?;
+    let joined = builder.concat(turned, any)?;
+    let upper = builder.slice(joined, 4, 1)?;
+    let chosen = builder.mux(any, upper, input)?;
+    let module = driven_by(builder, chosen);
+    assert_eq!(rt; module.net_count(), 6);
+    assert_eq!(rt; module.equation(1), Equation::Any { a: 0 });
+    assert_eq!(rt; module.equation(2), Equation::Not { a: 0 });
+    assert_eq!(rt; module.equation(3), Equation::Concat { a: 2, b: 1 });
+    assert_eq!(rt;
+        module.equation(4),
+        Equation::Slice {
+            a: 3,
+            high: 4,
+            low: 1
+        }
+    );
+    assert_eq!(rt; module.equation(5), Equation::Mux { s: 1, a: 4, b: 0 });
+    assert_eq!(rt; module.width(3), 5);
+    Ok(())
+}
+
+#[test]
+fn a_register_takes_its_next_net(rt: HostRuntime) -> Result<(), Fail> {
+    let mut builder = two_port_builder(rt.alloc())?;
+    let input = builder.input(1);
+    let ten = four_bits(10)?;
+    let register = builder.reg(ten)?;
+    let sum = builder.add(register, input)?;
+    builder.set_next(register, sum);
+    let module = driven_by(builder, register);
+    assert_eq!(rt; module.net_count(), 3);
+    assert_eq!(rt;
+        module.equation(1),
+        Equation::Reg {
+            reset: ten,
+            next: 2
+        }
+    );
+    assert_eq!(rt; module.equation(2), Equation::Add { a: 1, b: 0 });
+    assert_eq!(rt; module.width(1), 4);
     Ok(())
 }
