@@ -1,3 +1,4 @@
 pub mod Growth
 pub mod Bits
 pub mod Made
+mod TestPorts

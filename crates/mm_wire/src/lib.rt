@@ -3,6 +3,8 @@
 
 mod nets;
 mod parts;
+#[cfg(test)]
+mod tests;
 mod wire;
 
 pub use nets::{AgentNets, HostNets, WireNets};

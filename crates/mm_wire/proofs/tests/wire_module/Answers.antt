@@ -1,0 +1,11 @@
+use Rattle.std.proofs.Common.{subst, List}
+use Rattle.netlist.specs.declared.line.PortLine.{PortLine}
+use Rattle.netlist.specs.Netlists.{IsOutputPort}
+use Rattle.mm_wire.proofs.tests.wire_module.Goals as goal
+
+pub finish-requires-clause-driven : goal.finish-requires-clause-driven
+finish-requires-clause-driven c k w i =
+    absurd (c.in_ok-builder.ensures.no_output k w (subst (λ (ps : List PortLine). IsOutputPort ps k w) c.emit.ensures.extends.keeps.ports i))
+
+pub finish-requires-clause-clocked : goal.finish-requires-clause-clocked
+finish-requires-clause-clocked c n h = c.in_ok-builder.ensures.clocked n (c.in_ok-made.ensures.no_more_wait n h)
