@@ -9,15 +9,18 @@ use Rattle.netlist.specs.Netlists.{Netlist}
 use Rattle.av_base.specs.Outside.{WhereTold}
 use Rattle.avalon_top.specs.declared.exit.Exit.{Exit}
 use Rattle.avalon_top.specs.declared.exit.Exit.TheVariants as exit
-use Rattle.avalon_top.specs.declared.form.Direction.{Direction}
+use Rattle.avalon_top.specs.declared.kinds.Kind.{Kind}
+use Rattle.avalon_top.specs.declared.kinds.Kind.TheVariants as kind
+use Rattle.avalon_top.specs.declared.kinds.WireForm.{WireForm}
 use Rattle.avalon_top.specs.declared.form.Component.{Component}
 use Rattle.avalon_top.specs.declared.form.Wire.{Wire}
 use Rattle.avalon_top.specs.Words.{HasReading}
-use Rattle.avalon_top.specs.Form.{PortNames, component_lines, package_line, is_name, IsComponent, IsComponentFile, IsSystem, IsSystemFile, IsOneWire, StatesNoComponent, IsFaultyComponent, IsFaultySystem, IsFormFault}
-use Rattle.avalon_top.specs.Interconnect.{IsNamed, IsInterconnect}
+use Rattle.avalon_top.specs.Form.{type_line, interface_line, package_line, is_name, candidate, IsStated, IsComponent, IsComponentFile, IsSystem, IsSystemFile, IsOneWire, StatesNoComponent, IsFaultyComponent, IsFaultySystem, IsFormFault}
+use Rattle.avalon_top.specs.Kinds.{JoinAs, IsWithinLimits}
+use Rattle.avalon_top.specs.Interconnect.{IsFormWithinLimits, IsStatable, IsInterconnect}
 use Rattle.avalon_top.specs.Run.{Reads, Writes, Tells, AreLoaded, AreFiles, loaded_bytes, IsGenerated, NothingRefuses, IsDoneOrNoMemory}
 use Rattle.avalon_top.specs.Loading.{AreComponents, StopsAtForm, Stops}
-use Rattle.avalon_top.proofs.FormLemmas.{stated_words, same_direction}
+use Rattle.avalon_top.proofs.FormLemmas.{candidate_is, stated_parts, stated_words, of_kind, same_kind}
 
 -- as many words as their bytes
 pub files_of_words : {X : Type 0} (f : X → List ℕ) (words : List X) (files : List (List ℕ)) (told : ℕ → Option (List ℕ)) → AreFiles files told (length words) → AreFiles files told (length (map f words))
@@ -80,27 +83,23 @@ faulty_component files components file are count inside none =
 
 -- ---- a file states one component at most
 
-component_lines_once : (lines : List (List (List ℕ))) (a b : Component) (p q : PortNames) → lines ≡ component_lines a p → lines ≡ component_lines b q → a ≡ b
-component_lines_once lines a b p q e f =
-    let u = stated_words lines 0 a p e in
-    let v = stated_words lines 0 b q f in
-    let types : a.type_name ≡ b.type_name = sym u.type_name ∙ v.type_name in
-    let interfaces : a.interface ≡ b.interface = sym u.interface ∙ v.interface in
-    let flows : a.direction ≡ b.direction = same_direction a.direction b.direction (sym u.flow ∙ v.flow) in
-    ap (λ (x : List ℕ). record { type_name = x; interface = a.interface; direction = a.direction }) types
-    ∙ ap (λ (x : List ℕ). record { type_name = b.type_name; interface = x; direction = a.direction }) interfaces
-    ∙ ap (λ (x : Direction). record { type_name = b.type_name; interface = b.interface; direction = x }) flows
+stated_once : (lines : List (List (List ℕ))) (a b : Component) → IsStated lines a → IsStated lines b → a ≡ b
+stated_once lines a b x y =
+    let u = stated_words lines 0 a (stated_parts lines 0 a x) in
+    let v = stated_words lines 0 b (stated_parts lines 0 b y) in
+    let kinds = same_kind lines 0 a.kind b.kind (of_kind lines 0 a x) (of_kind lines 0 b y) in
+    sym (candidate_is lines 0 a u) ∙ ap (candidate lines 0) kinds ∙ candidate_is lines 0 b v
 
 component_once : (commands : List (List (List ℕ))) (a b : Component) → IsComponent commands a → IsComponent commands b → a ≡ b
 component_once commands a b u v =
     ⊎_elim
     (λ e. ⊎_elim
-    (λ f. component_lines_once commands a b u.ports v.ports (e ∙ u.stated.spelled) (f ∙ v.stated.spelled))
-    (λ f. let clash : component_lines a u.ports ≡ package_line f.0 ∷ v.lines = sym u.stated.spelled ∙ sym e ∙ f.1 in cc)
+    (λ f. stated_once commands a b (subst (λ (ls : List (List (List ℕ))). IsStated ls a) (sym e) u.stated) (subst (λ (ls : List (List (List ℕ))). IsStated ls b) (sym f) v.stated))
+    (λ f. let clash : type_line a ∷ interface_line a ∷ (u.stated.ports ++ u.stated.properties) ≡ package_line f.0 ∷ v.lines = sym u.stated.spelled ∙ sym e ∙ f.1 in cc)
     v.behind)
     (λ e. ⊎_elim
-    (λ f. let clash : package_line e.0 ∷ u.lines ≡ component_lines b v.ports = sym e.1 ∙ f ∙ v.stated.spelled in cc)
-    (λ f. component_lines_once u.lines a b u.ports v.ports u.stated.spelled (ap (drop 1) (sym e.1 ∙ f.1) ∙ v.stated.spelled))
+    (λ f. let clash : package_line e.0 ∷ u.lines ≡ type_line b ∷ interface_line b ∷ (v.stated.ports ++ v.stated.properties) = sym e.1 ∙ f ∙ v.stated.spelled in cc)
+    (λ f. stated_once u.lines a b u.stated (subst (λ (ls : List (List (List ℕ))). IsStated ls b) (sym (ap (drop 1) (sym e.1 ∙ f.1))) v.stated))
     v.behind)
     u.behind
 
@@ -213,8 +212,8 @@ is_generated words told files wire netlist few are is built =
 
 -- ---- the names of a wire
 
-second_of : (a b c : Bool) → (a && (b && c)) ≡ true → b ≡ true
-second_of a b c h = (and_parts b c (and_parts a (b && c) h).1).0
+last_of : (a b : Bool) → (a && (b && true)) ≡ true → b ≡ true
+last_of a b h = (and_parts b true (and_parts a (b && true) h).1).0
 
 all_three : (a b c : Bool) → (a && (b && (c && true))) ≡ true → (a ≡ true) × (b ≡ true) × (c ≡ true)
 all_three a b c h =
@@ -223,26 +222,38 @@ all_three a b c h =
     (first.0, second.0, (and_parts c true second.1).0)
 
 component_named : (file : ℕ) (bytes : List ℕ) (component : Component) → IsComponentFile file bytes component → is_name component.interface ≡ true
-component_named file bytes component is = second_of (is_name component.type_name) (is_name component.interface) _ is.states.stated.names
+component_named file bytes component is = last_of (is_name component.type_name) (is_name component.interface) is.states.stated.names
 
 all_five : (a b c d e : Bool) → a ≡ true → b ≡ true → c ≡ true → d ≡ true → e ≡ true → (a && (b && (c && (d && (e && true))))) ≡ true
 all_five a b c d e p q r s t = rw (p, q, r, s, t) refl
 
-system_named : (commands : List (List (List ℕ))) (source sink : Component) (wire : Wire) → is_name source.interface ≡ true → is_name sink.interface ≡ true → IsSystem commands source sink wire → IsNamed wire
-system_named commands source sink wire from to is =
-    let parts = all_three (is_name wire.system) (is_name wire.source.instance) (is_name wire.sink.instance) is.names in
-    let a : is_name wire.source.interface ≡ true = ap is_name is.from ∙ from in
-    let b : is_name wire.sink.interface ≡ true = ap is_name is.to ∙ to in
+-- an agent within its limits makes a wire within its limits
+form_limits : (from to : Kind) (wire : WireForm) → JoinAs from to wire → IsWithinLimits to → IsFormWithinLimits wire
+form_limits kind.Source kind.Sink wire joins limits = subst IsFormWithinLimits (sym joins) tt
+form_limits (kind.Host b e) (kind.Agent c f p) wire joins limits =
+    subst IsFormWithinLimits (sym joins.2) (record { some_bit = limits.0; few_bits = limits.1; some_read = limits.2; few_reads = limits.3 })
+form_limits from to wire joins limits = absurd joins
+
+system_statable : (commands : List (List (List ℕ))) (from to : Component) (wire : Wire) → is_name from.interface ≡ true → is_name to.interface ≡ true → IsWithinLimits to.kind →
+    IsSystem commands from to wire → IsStatable wire
+system_statable commands from to wire from_named to_named limits is =
+    let parts = all_three (is_name wire.system) (is_name wire.from.instance) (is_name wire.to.instance) is.names in
+    let a : is_name wire.from.interface ≡ true = ap is_name is.begins ∙ from_named in
+    let b : is_name wire.to.interface ≡ true = ap is_name is.ends ∙ to_named in
     record {
-      names = all_five (is_name wire.system) (is_name wire.source.instance) (is_name wire.source.interface) (is_name wire.sink.instance) (is_name wire.sink.interface) parts.0 parts.1 a parts.2 b;
+      names = all_five (is_name wire.system) (is_name wire.from.instance) (is_name wire.from.interface) (is_name wire.to.instance) (is_name wire.to.interface) parts.0 parts.1 a parts.2 b;
       differ = is.differ;
+      limits = form_limits from.kind to.kind wire.form is.form limits;
     }
 
-pub wire_named : (contents : ℕ → List ℕ) (count : ℕ) (wire : Wire) → IsOneWire contents count wire → IsNamed wire
-wire_named contents count wire is =
+pub wire_statable : (contents : ℕ → List ℕ) (count : ℕ) (wire : Wire) → IsOneWire contents count wire → IsStatable wire
+wire_statable contents count wire is =
     let one = component_named 2 (contents 2) is.one is.one_is in
     let other = component_named 3 (contents 3) is.other is.other_is in
-    ⊎_elim (system_named _ is.one is.other wire one other) (system_named _ is.other is.one wire other one) is.system_is.joins
+    ⊎_elim
+    (system_statable _ is.one is.other wire one other is.other_is.states.stated.limits)
+    (system_statable _ is.other is.one wire other one is.one_is.states.stated.limits)
+    is.system_is.joins
 
 -- ---- where nothing refuses, nothing but want of memory stops the run
 

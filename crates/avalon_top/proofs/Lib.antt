@@ -2,5 +2,6 @@ pub mod Decimals
 pub mod WordsLemmas
 pub mod FormLemmas
 pub mod PortNames
-pub mod WireNets
+pub mod Headers
+pub mod StreamNets
 pub mod AnswerLemmas

@@ -9,7 +9,9 @@ use Rattle.netlist.specs.declared.line.PortLine.{PortLine}
 use Rattle.netlist.specs.Names.{is_name_byte}
 use Rattle.netlist.specs.Signals.{port_named}
 use Rattle.avalon_top.specs.Form.{is_name, begins_with_letter}
-use Rattle.avalon_top.specs.Interconnect.{port_name, port, end_ports, ports_of, IsNamed}
+use Rattle.avalon_top.specs.Kinds.{role_word}
+use Rattle.avalon_top.specs.Interconnect.{port_name, port, end_ports, IsStatable}
+use Rattle.avalon_top.specs.declared.kinds.RolePort.{RolePort}
 use Rattle.avalon_top.specs.declared.form.End.{End}
 use Rattle.avalon_top.specs.declared.form.Wire.{Wire}
 
@@ -72,21 +74,20 @@ at_names name = map (λ (port : PortLine). same port.name name)
 cons_eq : {X : Type 0} {x y : X} {xs ys : List X} → x ≡ y → xs ≡ ys → x ∷ xs ≡ y ∷ ys
 cons_eq e f = cc
 
-abbrev pub role_tests : List ℕ → List Bool
-role_tests role = same (codes "ready") role ∷ same (codes "valid") role ∷ same (codes "data") role ∷ same (codes "startofpacket") role ∷ same (codes "endofpacket") role ∷ []
+-- the ports of an end at which a role's name stands
+abbrev pub role_tests : List ℕ → List RolePort → List Bool
+role_tests role ports = map (λ (p : RolePort). same (role_word p.role) role) ports
 
-abbrev pub no_test : List Bool
-no_test = false ∷ false ∷ false ∷ false ∷ false ∷ []
+abbrev pub no_tests : List RolePort → List Bool
+no_tests ports = map (λ (p : RolePort). false) ports
 
-tests-one_end : (end : End) (is_sink : Bool) (role : List ℕ) → at_names (port_name end role) (end_ports end is_sink) ≡ role_tests role
-tests-one_end end is_sink role =
-    let at = λ (a : List ℕ). same-one_end end a role in
-    cons_eq (at (codes "ready")) (cons_eq (at (codes "valid")) (cons_eq (at (codes "data")) (cons_eq (at (codes "startofpacket")) (cons_eq (at (codes "endofpacket")) refl))))
+tests-one_end : (end : End) (begins : Bool) (ports : List RolePort) (role : List ℕ) → at_names (port_name end role) (end_ports end begins ports) ≡ role_tests role ports
+tests-one_end end begins [] role = refl
+tests-one_end end begins (p ∷ ports) role = cons_eq (same-one_end end (role_word p.role) role) (tests-one_end end begins ports role)
 
-tests-two_ends : (x y : End) (is_sink : Bool) (role : List ℕ) → AreApart x y → at_names (port_name y role) (end_ports x is_sink) ≡ no_test
-tests-two_ends x y is_sink role h =
-    let at = λ (a : List ℕ). same-two_ends x y a role h in
-    cons_eq (at (codes "ready")) (cons_eq (at (codes "valid")) (cons_eq (at (codes "data")) (cons_eq (at (codes "startofpacket")) (cons_eq (at (codes "endofpacket")) refl))))
+tests-two_ends : (x y : End) (begins : Bool) (ports : List RolePort) (role : List ℕ) → AreApart x y → at_names (port_name y role) (end_ports x begins ports) ≡ no_tests ports
+tests-two_ends x y begins [] role h = refl
+tests-two_ends x y begins (p ∷ ports) role h = cons_eq (same-two_ends x y (role_word p.role) role h) (tests-two_ends x y begins ports role h)
 
 three_parts : (test : PortLine → Bool) (xs ys : List PortLine) (z : PortLine) (es fs : List Bool) (c : Bool) → map test xs ≡ es → map test ys ≡ fs → test z ≡ c
     → map test (xs ++ ys ++ z ∷ []) ≡ es ++ fs ++ c ∷ []
@@ -111,24 +112,24 @@ IsName name = IsTrue (is_name name)
 -- each name of a wire
 pub record Names (wire : Wire) : Type 0 where
   pub system : IsName wire.system
-  pub source_instance : IsName wire.source.instance
-  pub source_interface : IsName wire.source.interface
-  pub sink_instance : IsName wire.sink.instance
-  pub sink_interface : IsName wire.sink.interface
+  pub from_instance : IsName wire.from.instance
+  pub from_interface : IsName wire.from.interface
+  pub to_instance : IsName wire.to.instance
+  pub to_interface : IsName wire.to.interface
 
-pub names_of : (wire : Wire) → IsNamed wire → Names wire
-names_of wire named =
-    let one = named.names in
+pub names_of : (wire : Wire) → IsStatable wire → Names wire
+names_of wire statable =
+    let one = statable.names in
     let two = (and_parts (is_name wire.system) _ one).1 in
-    let three = (and_parts (is_name wire.source.instance) _ two).1 in
-    let four = (and_parts (is_name wire.source.interface) _ three).1 in
-    let five = (and_parts (is_name wire.sink.instance) _ four).1 in
+    let three = (and_parts (is_name wire.from.instance) _ two).1 in
+    let four = (and_parts (is_name wire.from.interface) _ three).1 in
+    let five = (and_parts (is_name wire.to.instance) _ four).1 in
     record {
       system = (and_parts (is_name wire.system) _ one).0;
-      source_instance = (and_parts (is_name wire.source.instance) _ two).0;
-      source_interface = (and_parts (is_name wire.source.interface) _ three).0;
-      sink_instance = (and_parts (is_name wire.sink.instance) _ four).0;
-      sink_interface = (and_parts (is_name wire.sink.interface) _ five).0;
+      from_instance = (and_parts (is_name wire.from.instance) _ two).0;
+      from_interface = (and_parts (is_name wire.from.interface) _ three).0;
+      to_instance = (and_parts (is_name wire.to.instance) _ four).0;
+      to_interface = (and_parts (is_name wire.to.interface) _ five).0;
     }
 
 pub name_first : (name : List ℕ) → IsName name → IsTrue (begins_with_letter name)
@@ -137,32 +138,38 @@ name_first name h = (and_parts (begins_with_letter name) _ h).0
 pub name_text : (name : List ℕ) → IsName name → IsNameText name
 name_text name h = (and_parts (list_all is_name_byte name) _ (and_parts (begins_with_letter name) _ h).1).0
 
-pub source_apart : (wire : Wire) → IsNamed wire → AreApart wire.source wire.sink
-source_apart wire named =
-    let names = names_of wire named in
+pub ends_apart : (wire : Wire) → IsStatable wire → AreApart wire.from wire.to
+ends_apart wire statable =
+    let names = names_of wire statable in
     record {
-      one = name_text wire.source.instance names.source_instance;
-      other = name_text wire.sink.instance names.sink_instance;
-      differ = named.differ;
+      one = name_text wire.from.instance names.from_instance;
+      other = name_text wire.to.instance names.to_instance;
+      differ = statable.differ;
     }
 
-pub turned : (x y : End) → AreApart x y → AreApart y x
+turned : (x y : End) → AreApart x y → AreApart y x
 turned x y h = record { one = h.other; other = h.one; differ = λ e. h.differ (sym e) }
 
-pub named_at_source : (wire : Wire) (role : List ℕ) → AreApart wire.source wire.sink
-    → port_named (ports_of wire) (port_name wire.source role) ≡ first_true (role_tests role ++ no_test ++ false ∷ [])
-named_at_source wire role h =
-    let first = tests-one_end wire.source false role in
-    let second = tests-two_ends wire.sink wire.source true role (turned wire.source wire.sink h) in
-    let last = same-two_ends wire.sink wire.source (codes "dropped") role (turned wire.source wire.sink h) in
-    let parts = three_parts (λ (port : PortLine). same port.name (port_name wire.source role)) (end_ports wire.source false) (end_ports wire.sink true) (port wire.sink (codes "dropped") 1 true) _ _ _ first second last in
-    named_at (ports_of wire) (port_name wire.source role) ∙ ap first_true parts
+-- the ports of two ends, and one more at the second
+abbrev pub both_ends : End → End → List RolePort → List RolePort → PortLine → List PortLine
+both_ends from to ps qs last = end_ports from true ps ++ end_ports to false qs ++ last ∷ []
 
-pub named_at_sink : (wire : Wire) (role : List ℕ) → AreApart wire.source wire.sink
-    → port_named (ports_of wire) (port_name wire.sink role) ≡ first_true (no_test ++ role_tests role ++ same (codes "dropped") role ∷ [])
-named_at_sink wire role h =
-    let first = tests-two_ends wire.source wire.sink false role h in
-    let second = tests-one_end wire.sink true role in
-    let last = same-one_end wire.sink (codes "dropped") role in
-    let parts = three_parts (λ (port : PortLine). same port.name (port_name wire.sink role)) (end_ports wire.source false) (end_ports wire.sink true) (port wire.sink (codes "dropped") 1 true) _ _ _ first second last in
-    named_at (ports_of wire) (port_name wire.sink role) ∙ ap first_true parts
+-- where a port of the first end is found
+pub named_at_from : (from to : End) (ps qs : List RolePort) (last : List ℕ) (width : ℕ) (role : List ℕ) → AreApart from to
+    → port_named (both_ends from to ps qs (port to last width true)) (port_name from role) ≡ first_true (role_tests role ps ++ no_tests qs ++ false ∷ [])
+named_at_from from to ps qs last width role h =
+    let first = tests-one_end from true ps role in
+    let second = tests-two_ends to from false qs role (turned from to h) in
+    let third = same-two_ends to from last role (turned from to h) in
+    let parts = three_parts (λ (port : PortLine). same port.name (port_name from role)) (end_ports from true ps) (end_ports to false qs) (port to last width true) _ _ _ first second third in
+    named_at (both_ends from to ps qs (port to last width true)) (port_name from role) ∙ ap first_true parts
+
+-- and one of the second
+pub named_at_to : (from to : End) (ps qs : List RolePort) (last : List ℕ) (width : ℕ) (role : List ℕ) → AreApart from to
+    → port_named (both_ends from to ps qs (port to last width true)) (port_name to role) ≡ first_true (no_tests ps ++ role_tests role qs ++ same last role ∷ [])
+named_at_to from to ps qs last width role h =
+    let first = tests-two_ends from to true ps role h in
+    let second = tests-one_end to false qs role in
+    let third = same-one_end to last role in
+    let parts = three_parts (λ (port : PortLine). same port.name (port_name to role)) (end_ports from true ps) (end_ports to false qs) (port to last width true) _ _ _ first second third in
+    named_at (both_ends from to ps qs (port to last width true)) (port_name to role) ∙ ap first_true parts

@@ -1,5 +1,6 @@
 pub mod Lines
 pub mod Words
+pub mod Kinds
 pub mod Form
 pub mod Interconnect
 pub mod Run

@@ -8,7 +8,7 @@ ghost use Rattle.avalon_top.specs.Lines.{line_of};
 ghost use Rattle.avalon_top.specs.Form.{IsOneWire};
 ghost use Rattle.avalon_top.specs.Run.{Reads, Writes, Answers, IsRefusal, WritesLine, NothingRefuses, IsDoneOrNoMemory, IsGenerated, AreFiles, loaded_bytes};
 ghost use Rattle.avalon_top.specs.Loading.{StopsAtFile, StopsLoading, AreComponents, StopsAtComponents, StopsAtForm, Stops};
-ghost use Rattle.avalon_top.specs.Interconnect.{IsNamed, IsInterconnect};
+ghost use Rattle.avalon_top.specs.Interconnect.{IsStatable, IsInterconnect};
 
 use crate::emit::build;
 use crate::exit::{Exit, ScriptRule};
@@ -117,7 +117,7 @@ fn wire_of_files(alloc: Global, files: &[Bytes]) -> Result<Wire, Exit>
 
 /// The text of the interconnect of a wire.
 fn text_of_wire(alloc: Global, wire: &Wire) -> Result<Bytes, Exit>
-    requires { IsNamed wire.now }
+    requires { IsStatable wire.now }
     ensures text { IfOk result (λ text. (netlist : Netlist) × IsInterconnect wire.now netlist × (text ≡ text_of netlist)) }
     ensures memory { IfErr result (λ e. e ≡ Exit.NoMemory) }
 {

@@ -1,27 +1,25 @@
-ghost use Rattle.std.specs.Prelude.{◌≡◌, ◌≢◌, ℕ, ◌+◌, ◌^◌, ◌<◌, ◌≤◌, ◌↔◌, ◌∷◌, ◌++◌, codes, map, drop, length, List, IsTrue, IfOk, MatchOption};
+ghost use Rattle.std.specs.Prelude.{◌≡◌, ◌≢◌, ℕ, ◌+◌, ◌^◌, ◌<◌, ◌≤◌, ◌↔◌, ◌∷◌, ◌++◌, codes, decimal, [], map, drop, length, List, IsTrue, IfOk, MatchOption};
 ghost use Rattle.std.specs.List.{list_all};
-ghost use Rattle.avalon_top.specs.declared.form.Direction.{Direction};
+ghost use Rattle.avalon_top.specs.declared.kinds.Kind.{Kind};
 ghost use Rattle.avalon_top.specs.declared.form.Component.{Component};
 ghost use Rattle.avalon_top.specs.declared.form.Wire.{Wire};
-ghost use Rattle.avalon_top.specs.Form.{texts_of, word_text, begins_with_letter, is_name_byte, is_name, PortNames, direction_word, forward, backward, package_line, candidate, IsStated, IsComponent, IsComponentFile, StatesNoComponent, IsSystem, IsSystemFile};
+ghost use Rattle.avalon_top.specs.Kinds.{kind_word, direction_word, is_from, memory_ports, ports_of_kind, JoinAs};
+ghost use Rattle.avalon_top.specs.Form.{texts_of, word_text, begins_with_letter, is_name_byte, is_name, flow_word, pending_line, package_line, candidate, IsPortAt, BeginWithPorts, StatePending, StateProperties, IsStated, IsComponent, IsComponentFile, StatesNoComponent, IsSystem, IsSystemFile};
 
+use crate::kinds::{
+    Kind, RolePort, WireForm, address_port, lane_ports, memory_port_count, stream_ports, word_ports,
+};
+use crate::line::Line;
 use av_base::{NoMemory, Text};
 use std::alloc::Global;
 use tcl_words::{Commands, Word, WordsFault, is_plain};
 
-/// Which end of a stream an interface is.
-#[derive(Clone, Copy, Debug, PartialEq, Eq)]
-pub enum Direction {
-    Source,
-    Sink,
-}
-
-/// A component of one stream interface: its type, and the name and direction of the interface.
+/// A component of one interface: its type, and the interface's name and kind.
 #[derive(Debug, Drop)]
 pub struct Component {
     pub type_name: Text,
     pub interface: Text,
-    pub direction: Direction,
+    pub kind: Kind,
 }
 
 /// An interface of an instance.
@@ -31,55 +29,13 @@ pub struct End {
     pub interface: Text,
 }
 
-/// A system of one connection, from a source to a sink.
+/// A system of one connection.
 #[derive(Debug, Drop)]
 pub struct Wire {
     pub system: Text,
-    pub source: End,
-    pub sink: End,
-}
-
-impl Direction {
-    fn word<'a>(self) -> &'a str
-        ensures { result.now ≡ direction_word self }
-    {
-        match self {
-            Direction::Source => "start",
-            Direction::Sink => "end",
-        }
-    }
-
-    /// The direction of the ports by which such an end sends.
-    fn forward<'a>(self) -> &'a str
-        ensures { result.now ≡ forward self }
-    {
-        match self {
-            Direction::Source => "Output",
-            Direction::Sink => "Input",
-        }
-    }
-
-    /// The direction of its `ready`.
-    fn backward<'a>(self) -> &'a str
-        ensures { result.now ≡ backward self }
-    {
-        match self {
-            Direction::Source => "Input",
-            Direction::Sink => "Output",
-        }
-    }
-
-    fn of_word(word: &str) -> Option<Direction>
-        ensures { MatchOption result ((direction : Direction) → word.now ≢ direction_word direction) (λ direction. word.now ≡ direction_word direction) }
-    {
-        if word == "start" {
-            Some(Direction::Source)
-        } else if word == "end" {
-            Some(Direction::Sink)
-        } else {
-            None
-        }
-    }
+    pub from: End,
+    pub to: End,
+    pub form: WireForm,
 }
 
 /// The text of a word of a command, and nothing where there is no such word.
@@ -160,70 +116,251 @@ fn are_names(names: &[&str]) -> bool
     names.iter().all(|name| is_name(name))
 }
 
-/// Whether the commands from `first` on state a component of this direction.
-fn is_stated(commands: &Commands, first: usize, direction: Direction) -> bool
+/// Whether the word is this number in decimal.
+fn spells_number(word: &str, number: u8) -> bool
+    ensures { IsTrue result ↔ (word.now ≡ decimal number) }
+{
+    let mut digits = Line::new();
+    digits.put_number(u64::from(number));
+    word.as_bytes() == digits.as_slice()
+}
+
+/// The number that a word is in decimal, without leading zeros.
+fn number_of(word: &str) -> Option<u8>
+    ensures { MatchOption result ((number : ℕ) → number < 256 → word.now ≢ decimal number) (λ number. (number < 256) × (word.now ≡ decimal number)) }
+{
+    let Ok(number) = word.parse::<u8>() else {
+        return None;
+    };
+    if !spells_number(word, number) {
+        return None;
+    }
+    Some(number)
+}
+
+fn flow_word<'a>(output: bool) -> &'a str
+    ensures { result.now ≡ flow_word output }
+{
+    if output { "Output" } else { "Input" }
+}
+
+/// Whether command `at` states the port, at an interface where a connection begins, or ends.
+fn is_port(commands: &Commands, at: usize, interface: &str, begins: bool, port: RolePort) -> bool
+    ensures line { IsTrue result ↔ IsPortAt interface.now begins port (texts_of commands.now.commands) at }
+    ensures inside { IsTrue result → at < usize.MAX }
+{
+    let name = word_at(commands, at, 2);
+    let width = word_at(commands, at, 5);
+    let line = [
+        "add_interface_port",
+        interface,
+        name,
+        port.role.word(),
+        flow_word(port.role.is_driven(begins)),
+        width,
+    ];
+    if !is_name(name) {
+        return false;
+    }
+    if !spells_number(width, port.width) {
+        return false;
+    }
+    is_line_at(commands, at, &line)
+}
+
+/// Whether the commands from `first` on begin with those of these ports.
+fn are_ports(
+    commands: &Commands,
+    first: usize,
+    interface: &str,
+    begins: bool,
+    ports: &[RolePort],
+) -> bool
+    ensures { IsTrue result ↔ BeginWithPorts interface.now begins ports.now (texts_of commands.now.commands) first }
+{
+    let Some((port, ports_left)) = ports.split_first() else {
+        return true;
+    };
+    if !is_port(commands, first, interface, begins, *port) {
+        return false;
+    }
+    are_ports(commands, first + 1, interface, begins, ports_left)
+}
+
+/// Whether the commands from `first` on begin with those of the ports of a memory-mapped interface.
+fn are_memory_ports(
+    commands: &Commands,
+    first: usize,
+    interface: &str,
+    begins: bool,
+    address_bits: u8,
+    has_enables: bool,
+) -> bool
+    requires { first ≤ 3 }
+    ensures { IsTrue result ↔ BeginWithPorts interface.now begins (memory_ports address_bits has_enables) (texts_of commands.now.commands) first }
+{
+    if !is_port(
+        commands,
+        first,
+        interface,
+        begins,
+        address_port(address_bits),
+    ) {
+        return false;
+    }
+    if has_enables {
+        are_ports(commands, first + 1, interface, begins, &lane_ports())
+    } else {
+        are_ports(commands, first + 1, interface, begins, &word_ports())
+    }
+}
+
+/// Whether the commands from `first` on begin with those of the ports of an interface of this kind.
+fn are_ports_of(commands: &Commands, first: usize, interface: &str, kind: Kind) -> bool
+    requires { first ≤ 3 }
+    ensures { IsTrue result ↔ BeginWithPorts interface.now (is_from kind) (ports_of_kind kind) (texts_of commands.now.commands) first }
+{
+    match kind {
+        Kind::Source => are_ports(commands, first, interface, true, &stream_ports()),
+        Kind::Sink => are_ports(commands, first, interface, false, &stream_ports()),
+        Kind::Host {
+            address_bits,
+            has_enables,
+        } => are_memory_ports(commands, first, interface, true, address_bits, has_enables),
+        Kind::Agent {
+            address_bits,
+            has_enables,
+            ..
+        } => are_memory_ports(commands, first, interface, false, address_bits, has_enables),
+    }
+}
+
+/// Whether the only command from `first` on sets the bound of an interface on unanswered reads to this number.
+fn is_pending_line(commands: &Commands, first: usize, interface: &str, pending: u8) -> bool
+    ensures { IsTrue result ↔ (drop first (texts_of commands.now.commands) ≡ pending_line interface.now pending ∷ []) }
+{
+    let number = word_at(commands, first, 3);
+    let line = [
+        "set_interface_property",
+        interface,
+        "maximumPendingReadTransactions",
+        number,
+    ];
+    spells_number(number, pending) && are_lines(commands, first, &[&line])
+}
+
+/// Whether the commands from `first` on are those behind the ports of an interface of this kind.
+fn are_properties(commands: &Commands, first: usize, interface: &str, kind: Kind) -> bool
+    ensures { IsTrue result ↔ StateProperties interface.now kind (drop first (texts_of commands.now.commands)) }
+{
+    let ends = are_lines(commands, first, &[]);
+    match kind {
+        Kind::Agent { pending, .. } => {
+            (pending == 1 && ends) || is_pending_line(commands, first, interface, pending)
+        }
+        _ => ends,
+    }
+}
+
+/// Whether the commands from `first` on state a component of this kind.
+fn is_stated(commands: &Commands, first: usize, kind: Kind) -> bool
     requires { first ≤ 1 }
-    ensures { IsTrue result ↔ ((ports : PortNames)
-        × IsStated (drop first (texts_of commands.now.commands)) (candidate (texts_of commands.now.commands) first direction) ports) }
+    ensures { IsTrue result ↔ IsStated (drop first (texts_of commands.now.commands)) (candidate (texts_of commands.now.commands) first kind) }
 {
     let type_name = word_at(commands, first, 2);
     let interface = word_at(commands, first + 1, 1);
-    let ready = word_at(commands, first + 2, 2);
-    let valid = word_at(commands, first + 3, 2);
-    let data = word_at(commands, first + 4, 2);
-    let start = word_at(commands, first + 5, 2);
-    let end = word_at(commands, first + 6, 2);
-    let lines: [&[&str]; 7] = [
-        &["set_module_property", "NAME", type_name],
-        &[
-            "add_interface",
-            interface,
-            "avalon_streaming",
-            direction.word(),
-        ],
-        &[
-            "add_interface_port",
-            interface,
-            ready,
-            "ready",
-            direction.backward(),
-            "1",
-        ],
-        &[
-            "add_interface_port",
-            interface,
-            valid,
-            "valid",
-            direction.forward(),
-            "1",
-        ],
-        &[
-            "add_interface_port",
-            interface,
-            data,
-            "data",
-            direction.forward(),
-            "8",
-        ],
-        &[
-            "add_interface_port",
-            interface,
-            start,
-            "startofpacket",
-            direction.forward(),
-            "1",
-        ],
-        &[
-            "add_interface_port",
-            interface,
-            end,
-            "endofpacket",
-            direction.forward(),
-            "1",
-        ],
-    ];
-    are_names(&[type_name, interface, ready, valid, data, start, end])
-        && are_lines(commands, first, &lines)
+    let type_line = ["set_module_property", "NAME", type_name];
+    let interface_line = ["add_interface", interface, kind.word(), kind.direction()];
+    if !kind.is_within_limits() {
+        return false;
+    }
+    if !are_names(&[type_name, interface]) {
+        return false;
+    }
+    if !is_line_at(commands, first, &type_line) {
+        return false;
+    }
+    if !is_line_at(commands, first + 1, &interface_line) {
+        return false;
+    }
+    if !are_ports_of(commands, first + 2, interface, kind) {
+        return false;
+    }
+    are_properties(commands, first + 2 + kind.port_count(), interface, kind)
+}
+
+/// The bound on unanswered reads that command `at` sets: 1 where there is no command.
+fn pending_at(commands: &Commands, at: usize) -> Option<u8>
+    ensures { MatchOption result
+        ((interface : List ℕ) (pending : ℕ) → pending < 256 → ¬ StatePending interface pending (drop at (texts_of commands.now.commands)))
+        (λ found. (interface : List ℕ) (pending : ℕ) → pending < 256 → StatePending interface pending (drop at (texts_of commands.now.commands)) → pending ≡ found) }
+{
+    if commands.count() <= at {
+        return Some(1);
+    }
+    let Some(pending) = number_of(word_at(commands, at, 3)) else {
+        return None;
+    };
+    Some(pending)
+}
+
+fn stream_kind(direction: &str) -> Option<Kind>
+    ensures { MatchOption result
+        ((kind : Kind) → kind_word kind ≡ codes "avalon_streaming" → direction_word kind ≢ direction.now)
+        (λ found. (kind : Kind) → kind_word kind ≡ codes "avalon_streaming" → direction_word kind ≡ direction.now → kind ≡ found) }
+{
+    if direction == "start" {
+        Some(Kind::Source)
+    } else if direction == "end" {
+        Some(Kind::Sink)
+    } else {
+        None
+    }
+}
+
+/// The kind of a host or an agent that the commands from `first` on may state.
+fn memory_kind(commands: &Commands, first: usize, direction: &str) -> Option<Kind>
+    requires { first ≤ 1 }
+    ensures { MatchOption result
+        ((component : Component) → IsStated (drop first (texts_of commands.now.commands)) component
+        → kind_word component.kind ≡ codes "avalon" → direction_word component.kind ≢ direction.now)
+        (λ found. (component : Component) → IsStated (drop first (texts_of commands.now.commands)) component
+        → kind_word component.kind ≡ codes "avalon" → direction_word component.kind ≡ direction.now → component.kind ≡ found) }
+{
+    let Some(address_bits) = number_of(word_at(commands, first + 2, 5)) else {
+        return None;
+    };
+    let has_enables = word_at(commands, first + 6, 3) == "byteenable";
+    if direction == "host" {
+        return Some(Kind::Host {
+            address_bits,
+            has_enables,
+        });
+    }
+    let properties = first + 2 + memory_port_count(has_enables);
+    let Some(pending) = pending_at(commands, properties) else {
+        return None;
+    };
+    Some(Kind::Agent {
+        address_bits,
+        has_enables,
+        pending,
+    })
+}
+
+/// The kind of a component that the commands from `first` on may state.
+fn kind_of(commands: &Commands, first: usize) -> Option<Kind>
+    requires { first ≤ 1 }
+    ensures { MatchOption result
+        ((component : Component) → ¬ IsStated (drop first (texts_of commands.now.commands)) component)
+        (λ found. (component : Component) → IsStated (drop first (texts_of commands.now.commands)) component → component.kind ≡ found) }
+{
+    let direction = word_at(commands, first + 1, 3);
+    if word_at(commands, first + 1, 2) == "avalon" {
+        memory_kind(commands, first, direction)
+    } else {
+        stream_kind(direction)
+    }
 }
 
 /// The component that the commands from `first` on state, if they are of the form.
@@ -234,21 +371,21 @@ fn component_from(
 ) -> Result<Option<Component>, NoMemory>
     requires { first ≤ 1 }
     ensures { IfOk result (λ found. MatchOption found
-        ((component : Component) (ports : PortNames) → ¬ IsStated (drop first (texts_of commands.now.commands)) component ports)
-        (λ component. (ports : PortNames) × IsStated (drop first (texts_of commands.now.commands)) component ports)) }
+        ((component : Component) → ¬ IsStated (drop first (texts_of commands.now.commands)) component)
+        (IsStated (drop first (texts_of commands.now.commands)))) }
 {
     let type_name = word_at(commands, first, 2);
     let interface = word_at(commands, first + 1, 1);
-    let Some(direction) = Direction::of_word(word_at(commands, first + 1, 3)) else {
+    let Some(kind) = kind_of(commands, first) else {
         return Ok(None);
     };
-    if !is_stated(commands, first, direction) {
+    if !is_stated(commands, first, kind) {
         return Ok(None);
     }
     Ok(Some(Component {
         type_name: Text::copy(alloc, type_name)?,
         interface: Text::copy(alloc, interface)?,
-        direction,
+        kind,
     }))
 }
 
@@ -305,42 +442,43 @@ fn is_end(alloc: Global, word: &str, instance: &str, interface: &str) -> Result<
     Ok(word == end.as_str())
 }
 
-/// The wire that the commands of a system file make of a source and a sink, if they are of the form.
+/// The wire that the commands of a system file make of two components, if they are of the form.
 fn wire_of<'a>(
     alloc: Global,
     commands: &'a Commands,
-    source: &'a Component,
-    sink: &'a Component,
+    from: &'a Component,
+    to: &'a Component,
+    form: WireForm,
 ) -> Result<Option<Wire>, NoMemory>
-    requires source { source.now.direction ≡ Direction.Source }
-    requires sink { sink.now.direction ≡ Direction.Sink }
+    requires { JoinAs from.now.kind to.now.kind form }
     ensures { IfOk result (λ found. MatchOption found
-        ((wire : Wire) → ¬ IsSystem (texts_of commands.now.commands) source.now sink.now wire)
-        (IsSystem (texts_of commands.now.commands) source.now sink.now)) }
+        ((wire : Wire) → ¬ IsSystem (texts_of commands.now.commands) from.now to.now wire)
+        (IsSystem (texts_of commands.now.commands) from.now to.now)) }
 {
     let system = word_at(commands, 0, 1);
-    let from = word_at(commands, 1, 1);
-    let to = word_at(commands, 2, 1);
-    let start = word_at(commands, 3, 1);
+    let one = word_at(commands, 1, 1);
+    let other = word_at(commands, 2, 1);
+    let begin = word_at(commands, 3, 1);
     let end = word_at(commands, 3, 2);
     let lines: [&[&str]; 4] = [
         &["create_system", system],
-        &["add_instance", from, source.type_name.as_str()],
-        &["add_instance", to, sink.type_name.as_str()],
-        &["add_connection", start, end],
+        &["add_instance", one, from.type_name.as_str()],
+        &["add_instance", other, to.type_name.as_str()],
+        &["add_connection", begin, end],
     ];
-    if from == to || !are_names(&[system, from, to]) || !are_lines(commands, 0, &lines) {
+    if one == other || !are_names(&[system, one, other]) || !are_lines(commands, 0, &lines) {
         return Ok(None);
     }
-    if !is_end(alloc, start, from, source.interface.as_str())?
-        || !is_end(alloc, end, to, sink.interface.as_str())?
+    if !is_end(alloc, begin, one, from.interface.as_str())?
+        || !is_end(alloc, end, other, to.interface.as_str())?
     {
         return Ok(None);
     }
     Ok(Some(Wire {
         system: Text::copy(alloc, system)?,
-        source: end_of(alloc, from, source)?,
-        sink: end_of(alloc, to, sink)?,
+        from: end_of(alloc, one, from)?,
+        to: end_of(alloc, other, to)?,
+        form,
     }))
 }
 
@@ -373,9 +511,11 @@ pub(crate) fn read_wire(
         Ok(commands) => commands,
         Err(WordsFault::NoMemory) => return Err(NoMemory),
     };
-    match (one.direction, other.direction) {
-        (Direction::Source, Direction::Sink) => wire_of(alloc, &commands, one, other),
-        (Direction::Sink, Direction::Source) => wire_of(alloc, &commands, other, one),
-        _ => Ok(None),
+    if let Some(form) = one.kind.join(other.kind) {
+        return wire_of(alloc, &commands, one, other, form);
+    }
+    match other.kind.join(one.kind) {
+        Some(form) => wire_of(alloc, &commands, other, one, form),
+        None => Ok(None),
     }
 }

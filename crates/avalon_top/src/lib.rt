@@ -5,13 +5,16 @@ mod answer;
 mod emit;
 mod exit;
 mod form;
+mod kinds;
 mod line;
+mod stream;
 mod words;
 
 pub use answer::run;
 pub use emit::build;
 pub use exit::{Exit, ScriptRule};
-pub use form::{Component, Direction, End, Wire};
+pub use form::{Component, End, Wire};
+pub use kinds::{Kind, MemoryForm, WireForm};
 pub use line::Line;
 pub use words::{Task, read_words};
 

@@ -9,11 +9,11 @@ use Rattle.avalon_top.specs.declared.form.Wire.{Wire}
 use Rattle.avalon_top.specs.Interconnect.{IsInterconnect}
 use Rattle.avalon_top.specs.Run.{Reads, IsGenerated}
 use Rattle.avalon_top.specs.Loading.{Stops}
-use Rattle.avalon_top.proofs.AnswerLemmas.{wire_named, form_stops, is_generated, if_ok_map, if_err_map, files_of_words}
+use Rattle.avalon_top.proofs.AnswerLemmas.{wire_statable, form_stops, is_generated, if_ok_map, if_err_map, files_of_words}
 use Rattle.avalon_top.proofs.answer.decide.Goals as goal
 
 pub text_of_wire-requires : goal.text_of_wire-requires
-text_of_wire-requires g c = wire_named _ _ _ c.in-Ok.ensures.stated
+text_of_wire-requires g c = wire_statable _ _ _ c.in-Ok.ensures.stated
 
 pub returns-in-Ok-clause-stops : goal.returns-in-Ok-clause-stops
 returns-in-Ok-clause-stops g c =

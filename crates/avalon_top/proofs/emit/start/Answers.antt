@@ -1,7 +1,7 @@
 use Rattle.std.proofs.Common.{ℕ, List, sym, subst}
 use Rattle.netlist.specs.declared.line.PortLine.{PortLine}
 use Rattle.netlist.specs.Netlists.{IsHeader}
-use Rattle.avalon_top.proofs.WireNets.{is_header, wire_name}
+use Rattle.avalon_top.proofs.Headers.{is_header, wire_name}
 use Rattle.avalon_top.proofs.emit.start.Goals as goal
 
 pub new-requires : goal.new-requires

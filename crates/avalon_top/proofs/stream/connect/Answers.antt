@@ -1,6 +1,6 @@
 use Rattle.std.proofs.Common.{ℕ, sym, subst}
 use Rattle.netlist.specs.Netlists.{IsOutputPort}
-use Rattle.avalon_top.proofs.emit.connect.Goals as goal
+use Rattle.avalon_top.proofs.stream.connect.Goals as goal
 
 pub drive-requires-clause-output : goal.drive-requires-clause-output
 drive-requires-clause-output c =
