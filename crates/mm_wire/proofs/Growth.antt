@@ -1,12 +1,14 @@
 -- Netlists that grow in several steps, and what their nets are.
-use Rattle.std.proofs.Common.{◌≡◌, ℕ, zero, suc, ◌+◌, ◌^◌, ◌<◌, ◌≤◌, List, [], ◌∷◌, length, length-append, slice_get, Some, false, refl, subst, ap, ◌∙◌, arith, inl, inr}
+use Rattle.std.proofs.Common.{◌≡◌, ℕ, zero, suc, ◌+◌, ◌^◌, ◌<◌, ◌≤◌, List, [], ◌∷◌, ◌++◌, length, length-append, slice_get, Some, true, false, refl, sym, subst, ap, ◌∙◌, arith, inl, inr}
 use Rattle.std.specs.Prelude.{Result, Ok, Err, IfOk}
 use Rattle.netlist.specs.declared.line.Line.{Line}
+use Rattle.netlist.specs.declared.line.Equation.{Equation}
+use Rattle.netlist.specs.declared.line.Equation.TheVariants.{Reg}
 use Rattle.netlist.specs.Nets.{NetValue}
-use Rattle.netlist.specs.Netlists.{Netlist, width_at, IsWaiting, appended}
+use Rattle.netlist.specs.Netlists.{Netlist, width_at, IsWaiting, appended, is_register, next_set}
 use Rattle.netlist.specs.Runs.{Cycle, IsValuation}
 use Rattle.netlist.specs.Longer.{IsKept, Keeps, Extends, GrowsByOne}
-use Rattle.mm_wire.specs.Nets.{IsNetOfWidth, GrowsBy}
+use Rattle.mm_wire.specs.Nets.{IsNetOfWidth, IsRegister, GrowsBy}
 
 kept_twice : (x y z : Line) → IsKept x y → IsKept y z → IsKept x z
 kept_twice x y z (inl e) k = subst (λ (l : Line). IsKept l z) e k
@@ -71,6 +73,31 @@ line_within (a ∷ xs) (suc n) x e = let i = line_within xs n x e in omega arith
 -- a register that waits is one of the nets
 pub waiting_within : (a : Netlist) (n : ℕ) → IsWaiting a n → n < length a.lines
 waiting_within a n w = line_within a.lines n w.line w.is
+
+-- a line stands behind the ones before it
+behind : {X : Type 0} (xs : List X) (x : X) → slice_get (xs ++ x ∷ []) (length xs) ≡ Some x
+behind [] x = refl
+behind (y ∷ xs) x = behind xs x
+
+-- a line of a register that was appended
+pub new_register : (old new : Netlist) (n : ℕ) (line : Line) → new ≡ appended old line → n ≡ length old.lines → is_register line.equation ≡ true → IsRegister new n
+new_register old new n line e f register =
+    let whole : IsRegister (appended old line) (length old.lines) = record { line = line; is = behind old.lines line; register = register } in
+    subst (λ (netlist : Netlist). IsRegister netlist n) (sym e) (subst (IsRegister (appended old line)) (sym f) whole)
+
+still_register : (e : Equation) (m : ℕ) → is_register e ≡ true → is_register (next_set e m) ≡ true
+still_register (Reg r n) m h = refl
+still_register e m h = h
+
+-- and of each longer netlist
+pub register_lasts : (old new : Netlist) (n : ℕ) → Extends old new → IsRegister old n → IsRegister new n
+register_lasts old new n extends is =
+    let kept = extends.keeps.lines n is.line is.is in
+    record { line = kept.later; is = kept.is; register = later is.line kept.later kept.kept is.register }
+  where
+    later : (x y : Line) → IsKept x y → is_register x.equation ≡ true → is_register y.equation ≡ true
+    later x y (inl e) h = ap (λ (l : Line). is_register l.equation) e ∙ h
+    later x y (inr s) h = ap (λ (l : Line). is_register l.equation) s.is ∙ still_register x.equation s.next h
 
 pub if_ok : {X E : Type 0} (r : Result X E) (P Q : X → Type 0) → ((x : X) → P x → Q x) → IfOk r P → IfOk r Q
 if_ok (Ok x) P Q f h = f x h

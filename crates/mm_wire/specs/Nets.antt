@@ -1,12 +1,19 @@
 -- Nets of a known width, and how far a netlist grew.
-use Rattle.std.specs.Prelude.{◌≡◌, ℕ, ◌+◌, ◌≤◌, length}
-use Rattle.netlist.specs.Netlists.{Netlist, IsNet, IsWaiting}
+use Rattle.std.specs.Prelude.{◌≡◌, ℕ, ◌+◌, ◌≤◌, true, length, slice_get, Some}
+use Rattle.netlist.specs.declared.line.Line.{Line}
+use Rattle.netlist.specs.Netlists.{Netlist, IsNet, IsWaiting, is_register}
 use Rattle.netlist.specs.Nets.{NetValue}
 
 -- the net is one of this netlist, of this width
 pub record IsNetOfWidth (netlist : Netlist) (net : NetValue) (width : ℕ) : Type 0 where
   pub is_net : IsNet netlist net
   pub has_width : net.width ≡ width
+
+-- net n is a register
+pub record IsRegister (netlist : Netlist) (n : ℕ) : Type 0 where
+  pub line : Line
+  pub is : slice_get netlist.lines n ≡ Some line
+  pub register : is_register line.equation ≡ true
 
 -- the netlist grew by so many nets at most; no driver was set, and the same registers wait
 pub record GrowsBy (count : ℕ) (old new : Netlist) : Type 0 where

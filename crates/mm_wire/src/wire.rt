@@ -1,6 +1,7 @@
 ghost use Rattle.std.specs.Prelude.{◌≡◌, ℕ, ◌+◌, ◌^◌, ◌<◌, ◌≤◌, length, IfOk, OnOk};
 ghost use Rattle.netlist.specs.Netlists.{IsWaiting};
 ghost use Rattle.netlist.specs.Longer.{Extends};
+ghost use Rattle.mm_wire.specs.Nets.{IsRegister};
 ghost use Rattle.mm_wire.specs.Wires.{AreHostNets, AreAgentNets, AreWireNets, RunsAsWire, IgnoresWord};
 
 use crate::nets::{AgentNets, HostNets, WireNets};
@@ -26,6 +27,7 @@ pub fn emit(
     requires few_reads { pending ≤ 16 }
     ensures nets { IfOk result (λ made. AreWireNets builder.new made address_bits) }
     ensures value { IfOk result (λ made. RunsAsWire builder.new host.now agent.now made address_bits pending) }
+    ensures register { IfOk result (λ made. IsRegister builder.new made.unanswered.number) }
     ensures ignores { IfOk result (λ made. IgnoresWord builder.new host.now agent.now made) }
     ensures extends { Extends builder.old builder.new }
     ensures count { OnOk result (length builder.new.lines ≡ length builder.old.lines + 15) }

@@ -1,4 +1,4 @@
-use Rattle.std.proofs.Common.{◌≡◌, ◌+◌, ◌-◌, length, sym, subst, ap, ◌∙◌, arith, inl, inr, Option}
+use Rattle.std.proofs.Common.{◌≡◌, ◌+◌, ◌-◌, length, refl, sym, subst, ap, ◌∙◌, arith, inl, inr, Option}
 use Rattle.std.specs.Prelude.{IfSome}
 use Rattle.av_base.specs.Word.{Word, word}
 use Rattle.netlist.specs.Nets.{NetValue}
@@ -7,7 +7,7 @@ use Rattle.netlist.specs.Longer.{Extends}
 use Rattle.mm_wire.specs.Parts.{IsNextCount}
 use Rattle.mm_wire.specs.Wires.{AreHostNets}
 use Rattle.mm_wire.specs.declared.nets.WireNets.{WireNets}
-use Rattle.mm_wire.proofs.Growth.{extends_twice, net_fits, net_lasts, waiting_within, one_more}
+use Rattle.mm_wire.proofs.Growth.{extends_twice, net_fits, net_lasts, waiting_within, one_more, new_register, register_lasts}
 use Rattle.mm_wire.proofs.Bits.{word_address}
 use Rattle.mm_wire.proofs.Made.{IsMade, host_lasts, runs_as_wire, ignores_word}
 use Rattle.mm_wire.proofs.wire.emit.Goals as goal
@@ -93,6 +93,11 @@ is_made c = record {
 pub returns-clause-value : goal.returns-clause-value
 unfolding nets_of
 returns-clause-value c = runs_as_wire c.slice.new.self c.args.host.now c.args.agent.now (nets_of c) c.args.address_bits c.args.pending (is_made c)
+
+pub returns-clause-register : goal.returns-clause-register
+returns-clause-register c =
+    let rest = extends_twice _ _ _ c.gate_reads.ensures.extends (extends_twice _ _ _ c.constant.ensures.extends (extends_twice _ _ _ c.next_count.ensures.extends (extends_twice _ _ _ c.set_next.ensures.extends c.slice.ensures.extends))) in
+    register_lasts _ _ _ rest (new_register _ _ _ _ c.in_ok-unanswered.ensures.line.0 (ap (λ (net : NetValue). net.number) c.in_ok-unanswered.ensures.line.1) refl)
 
 pub returns-clause-ignores : goal.returns-clause-ignores
 unfolding nets_of
