@@ -4,4 +4,5 @@ pub mod FormLemmas
 pub mod PortNames
 pub mod Headers
 pub mod StreamNets
+pub mod MemoryWires
 pub mod AnswerLemmas

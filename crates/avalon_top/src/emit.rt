@@ -1,10 +1,11 @@
 ghost use Rattle.std.specs.Prelude.{◌≡◌, ◌++◌, codes, IfOk, OnOk};
-ghost use Rattle.netlist.specs.Netlists.{started};
+ghost use Rattle.netlist.specs.Netlists.{IsClocked, started};
 ghost use Rattle.avalon_top.specs.Kinds.{memory_ports};
 ghost use Rattle.avalon_top.specs.Interconnect.{IsStatable, IsFormWithinLimits, IsInterconnect, port_name, port, end_ports, ports_of};
 
 use crate::form::{End, Wire};
 use crate::kinds::{RolePort, WireForm, address_port, lane_ports, stream_ports, word_ports};
+use crate::memory::finish_memory;
 use crate::stream::finish_stream;
 use av_base::{List, NoMemory, Text};
 use netlist::{Builder, Module, NetFault, PortLine};
@@ -104,7 +105,8 @@ fn module_name(alloc: Global, wire: &Wire) -> Result<Text, NoMemory>
 /// The header of the interconnect, with no output driven.
 fn start(alloc: Global, wire: &Wire) -> Result<Builder, NoMemory>
     requires { IsStatable wire.now }
-    ensures { IfOk result (λ builder. builder ≡ started (wire.now.system ++ codes "_interconnect") (ports_of wire.now)) }
+    ensures started { IfOk result (λ builder. builder ≡ started (wire.now.system ++ codes "_interconnect") (ports_of wire.now)) }
+    ensures clocked { IfOk result IsClocked }
 {
     let name = module_name(alloc, wire)?;
     let ports = header_ports(alloc, wire)?;
@@ -123,6 +125,6 @@ pub fn build(alloc: Global, wire: &Wire) -> Result<Module, NoMemory>
     let builder = start(alloc, wire)?;
     match wire.form {
         WireForm::Stream => finish_stream(builder, wire),
-        WireForm::Memory(_form) => Err(NoMemory),
+        WireForm::Memory(form) => finish_memory(builder, wire, form),
     }
 }

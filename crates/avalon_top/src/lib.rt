@@ -7,6 +7,7 @@ mod exit;
 mod form;
 mod kinds;
 mod line;
+mod memory;
 mod stream;
 mod words;
 
