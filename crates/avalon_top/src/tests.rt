@@ -6,6 +6,8 @@ use av_base::{Bytes, List, MemShelf, MemSink, Place, ReadStep, Shelf, Sink, Writ
 use std::alloc::{AllocError, Global};
 use std::test::Fail;
 
+mod bus;
+
 // No clause says what these texts are: proofs of the tests read none of their bytes.
 
 fn system() -> &'static [u8] {

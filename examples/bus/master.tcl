@@ -1,0 +1,11 @@
+package require -exact qsys 16.0
+set_module_property NAME master
+add_interface h avalon host
+add_interface_port h h_address address Output 8
+add_interface_port h h_read read Output 1
+add_interface_port h h_write write Output 1
+add_interface_port h h_writedata writedata Output 32
+add_interface_port h h_byteenable byteenable Output 4
+add_interface_port h h_waitrequest waitrequest Input 1
+add_interface_port h h_readdata readdata Input 32
+add_interface_port h h_readdatavalid readdatavalid Input 1
