@@ -9,11 +9,11 @@ use Rattle.netlist.proofs.Growth.{if_some}
 use Rattle.netlist.proofs.Valuations.{completed, completed_valuation, completed_state, no_reset, no_next, reset_fits, next_fits, given_value, stepped_value}
 
 -- the value of a register in the first cycle, and after a cycle with these values of the nets; 0 for the other nets
-abbrev first_at : Option Line → ℕ
+abbrev pub first_at : Option Line → ℕ
 first_at None = 0
 first_at (Some line) = unwrap_or (reset_of line.equation) 0
 
-abbrev next_at : (ℕ → ℕ) → Option Line → ℕ
+abbrev pub next_at : (ℕ → ℕ) → Option Line → ℕ
 next_at net None = 0
 next_at net (Some line) = unwrap_or (option_map net (next_of line)) 0
 
@@ -37,7 +37,7 @@ unfolding first_of_cycles
 first_fits b inputs contents h n line at e =
     subst (λ o. first_at o < 2 ^ line.width) (sym at) (reset_fits b.ports b.lines n line.width line.equation (h.lines n line at).equation e)
 
-valued_fits : (b : Netlist) (cycle : Cycle) → IsValuation b cycle → (m v : ℕ) → HasWidth b m v → cycle.net m < 2 ^ v
+pub valued_fits : (b : Netlist) (cycle : Cycle) → IsValuation b cycle → (m v : ℕ) → HasWidth b m v → cycle.net m < 2 ^ v
 valued_fits b cycle valuation m v has =
     let at = width_at-line b.lines m v has in
     subst (λ w. cycle.net m < 2 ^ w) at.2 ((valuation.nets m at.0 at.1).fits)

@@ -5,3 +5,4 @@ pub mod Valuations
 pub mod Existence
 pub mod Ports
 mod TestPorts
+pub mod EndlessRuns

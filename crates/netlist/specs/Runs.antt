@@ -1,5 +1,5 @@
 -- Valuations and runs of a netlist.
-use Rattle.std.specs.Prelude.{◌≡◌, ℕ, ◌+◌, ◌-◌, ◌^◌, ◌==◌, if◌then◌else◌, ◌<◌, true, List, length, slice_get, Option, Some, None, option_map, IfSome}
+use Rattle.std.specs.Prelude.{◌≡◌, ℕ, ◌+◌, ◌-◌, ◌^◌, ◌==◌, if◌then◌else◌, ◌<◌, ◌≤◌, true, List, length, slice_get, Option, Some, None, option_map, IfSome}
 use Rattle.av_base.specs.Word.{word, and_of, or_of, xor_of, add_of, sub_of, eq_of, less_of, concat_of, not_of, any_of, slice_of}
 use Rattle.netlist.specs.declared.line.Equation.{Equation}
 use Rattle.netlist.specs.declared.line.Equation.TheVariants.{Input, Constant, And, Or, Xor, Add, Sub, Eq, Less, Concat, Not, Any, Mux, Slice, Reg}
@@ -69,6 +69,10 @@ pub record IsRun (netlist : Netlist) (run : Run) (cycles : ℕ) : Type 0 where
   pub starts : 0 < cycles → StartsAt netlist (cycle_of run 0)
   pub steps : (c : ℕ) → c + 1 < cycles → Steps netlist (cycle_of run c) (cycle_of run (c + 1))
 
+-- the run obeys the netlist in every cycle
+abbrev pub IsEndlessRun : Netlist → Run → Type 0
+IsEndlessRun netlist run = (cycles : ℕ) → IsRun netlist run cycles
+
 -- P holds in each valuation, and so in each cycle of each run
 abbrev pub Always : Netlist → (Cycle → Type 0) → Type 0
 Always netlist P = (cycle : Cycle) → IsValuation netlist cycle → P cycle
@@ -107,3 +111,10 @@ pub record HasRun (netlist : Netlist) (inputs : ℕ → ℕ → ℕ) (contents :
   pub is_run : IsRun netlist run cycles
   pub inputs_are : run.input ≡ inputs
   pub contents_are : run.cell 0 ≡ contents
+
+-- an endless run that begins with the first cycles of this one; from then on its inputs are 0
+pub record GoesOn (netlist : Netlist) (run : Run) (cycles : ℕ) : Type 0 where
+  pub endless : Run
+  pub is_run : IsEndlessRun netlist endless
+  pub begins : (c : ℕ) → c < cycles → cycle_of endless c ≡ cycle_of run c
+  pub idles : (c : ℕ) → cycles ≤ c → (port : ℕ) → endless.input c port ≡ 0

@@ -3,7 +3,7 @@
 ghost use Rattle.std.specs.Prelude.{◌≡◌, ℕ, ◌<◌, ◌≤◌, slice_get, Some};
 ghost use Rattle.netlist.specs.Netlists.{Netlist, IsWellMade, IsInputPort, driver_of, input_net};
 ghost use Rattle.netlist.specs.declared.line.PortLine.{PortLine};
-ghost use Rattle.netlist.specs.Runs.{Run, Cycle, IsRun, IsValuation, InputsFit, StateFits, SameInputs, SameState, SameNets, Always, HasValuation, HasRun};
+ghost use Rattle.netlist.specs.Runs.{Run, Cycle, IsRun, IsValuation, InputsFit, StateFits, SameInputs, SameState, SameNets, Always, HasValuation, HasRun, GoesOn};
 ghost use Rattle.netlist.specs.Longer.{Keeps, Extends};
 ghost use Rattle.netlist.specs.Signals.{port_net, port_value, signal};
 
@@ -25,6 +25,11 @@ pub fn agree()
 /// The first cycles of a run are a run.
 pub fn prefix()
     ensures { (netlist : Netlist) (run : Run) (cycles fewer : ℕ) → IsRun netlist run cycles → fewer ≤ cycles → IsRun netlist run fewer }
+{}
+
+/// Each run of so many cycles is the beginning of an endless one, in inputs, nets and words.
+pub fn goes_on()
+    ensures { (netlist : Netlist) → IsWellMade netlist → (run : Run) (cycles : ℕ) → IsRun netlist run cycles → GoesOn netlist run cycles }
 {}
 
 /// A run of a netlist that keeps another is a run of the other, and a valuation one of the other.
