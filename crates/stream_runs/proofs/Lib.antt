@@ -3,3 +3,4 @@ pub mod WireLaw
 pub mod Computed
 pub mod StandingStill
 pub mod ErrorLemmas
+pub mod SameBeginnings

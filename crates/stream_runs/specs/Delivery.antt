@@ -1,7 +1,7 @@
 -- What a sink is given of what its source sent.
 use Rattle.std.specs.Prelude.{ℕ, suc, ◌+◌, ◌*◌, ◌<◌, ◌≤◌, ◌≡◌, Bool, ◌&&◌, nat_le, nat_lt, max, IsTrue, List, map, length, take, drop}
 use Rattle.histories.specs.History.{IsPrefix}
-use Rattle.stream_runs.specs.View.{EndView, Side, is_high, is_transfer}
+use Rattle.stream_runs.specs.View.{EndView, Side, is_high, is_transfer, AgreeBefore}
 use Rattle.stream_runs.specs.Symbols.{Symbol, without_error, shown_count, delivered_symbols, kept_symbols, joined_error}
 use Rattle.stream_runs.specs.Source.{IsProperAtSink}
 
@@ -46,6 +46,12 @@ pub record StreamRun : Type 0 where
   pub source : EndView
   pub sink : EndView
   pub dropped : ℕ → ℕ
+
+-- two runs of a stream show the same in each cycle before this one
+pub record RunsAgreeBefore (one two : StreamRun) (count : ℕ) : Type 0 where
+  pub source : AgreeBefore one.source two.source count
+  pub sink : AgreeBefore one.sink two.sink count
+  pub dropped : (c : ℕ) → c < count → one.dropped c ≡ two.dropped c
 
 -- the larger allowance of the two ends
 abbrev pub larger_allowance : Stream → ℕ

@@ -1,5 +1,5 @@
 -- What an end of a stream shows, cycle by cycle, and when a beat of it transfers.
-use Rattle.std.specs.Prelude.{ℕ, ◌-◌, Bool, ◌&&◌, ◌||◌, ◌==◌, nat_le, nat_lt, ◌<◌, IsTrue}
+use Rattle.std.specs.Prelude.{ℕ, ◌-◌, Bool, ◌&&◌, ◌||◌, ◌==◌, nat_le, nat_lt, ◌<◌, ◌≡◌, IsTrue}
 
 -- the number on each port of an end in each cycle: `word` is data, `first` is startofpacket, `last` is endofpacket
 pub record EndView : Type 0 where
@@ -58,3 +58,9 @@ is_transfer pace view c = is_high view.valid c && (nat_lt 0 pace.latency || is_h
 -- ready is high in each cycle before this one
 abbrev pub IsReadyBefore : EndView → ℕ → Type 0
 IsReadyBefore view count = (c : ℕ) → c < count → IsTrue (is_high view.ready c)
+
+-- two ends show the same in each cycle before this one
+pub record AgreeBefore (one two : EndView) (count : ℕ) : Type 0 where
+  pub valid : (c : ℕ) → c < count → one.valid c ≡ two.valid c
+  pub beat : (c : ℕ) → c < count → beat_at one c ≡ beat_at two c
+  pub ready : (c : ℕ) → c < count → one.ready c ≡ two.ready c

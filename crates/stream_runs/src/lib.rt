@@ -6,10 +6,10 @@ pub mod rows;
 
 ghost use Rattle.std.specs.Prelude.{ℕ, ◌≤◌, ◌<◌, ◌≡◌, Bool};
 ghost use Rattle.histories.specs.History.{IsPrefix};
-ghost use Rattle.stream_runs.specs.View.{EndView, Side};
+ghost use Rattle.stream_runs.specs.View.{EndView, Side, AgreeBefore};
 ghost use Rattle.stream_runs.specs.Source.{IsLegalSource, IsProperAtSink};
 ghost use Rattle.stream_runs.specs.Symbols.{accepted_symbols, kept_symbols};
-ghost use Rattle.stream_runs.specs.Delivery.{DeliversPrefix, Stream, StreamRun, IsServed};
+ghost use Rattle.stream_runs.specs.Delivery.{DeliversPrefix, Stream, StreamRun, IsServed, RunsAgreeBefore};
 ghost use Rattle.stream_runs.specs.Awake.{NeverIdles, stream_window};
 ghost use Rattle.stream_runs.specs.Ends.{Declared, Signals, side_of, view_of, stream_of, run_of, AreAlike, IsWire, byte_packets, packet_signals};
 
@@ -32,6 +32,22 @@ pub fn shorter_runs()
         → IsPrefix (accepted_symbols side view b) (accepted_symbols side view c) }
     ensures kept { (passes : ℕ → Bool) (side : Side) (view : EndView) (b c : ℕ) → b ≤ c
         → IsPrefix (kept_symbols passes side view b) (kept_symbols passes side view c) }
+{}
+
+/// What is asked of an end and what a stream is given in the cycles before `count` depends on what is
+/// shown in those cycles alone: it holds of a run where it holds of one that agrees with it before `count`.
+pub fn same_beginnings()
+    ensures legal { (side : Side) (one two : EndView) (count : ℕ) → AgreeBefore one two count
+        → IsLegalSource side one count → IsLegalSource side two count }
+    ensures proper { (side : Side) (one two : EndView) (count : ℕ) → AgreeBefore one two count
+        → IsProperAtSink side one count → IsProperAtSink side two count }
+    ensures turned { (one two : EndView) (count : ℕ) → AgreeBefore one two count
+        → AgreeBefore two one count }
+    ensures served { (stream : Stream) (one two : StreamRun) (count : ℕ)
+        → RunsAgreeBefore one two count → IsServed stream one count → IsServed stream two count }
+    ensures awake { (window : ℕ) (stream : Stream) (one two : StreamRun) (count : ℕ)
+        → RunsAgreeBefore one two count → NeverIdles window stream one count
+        → NeverIdles window stream two count }
 {}
 
 /// A wire between two ends that agree serves its stream, and never idles, as long as its source is
