@@ -1,0 +1,30 @@
+use Rattle.std.proofs.Common.{inl, inr, arith}
+use Rattle.stage_core.proofs.Growing.{grows_twice}
+use Rattle.stage_core.proofs.chain.ChainStage.emit_forward.Goals as goal
+
+pub returns-in_err-to-clause-grows : goal.returns-in_err-to-clause-grows
+returns-in_err-to-clause-grows g c = grows_twice _ _ _ _ _ c.emit_forward.ensures.grows c.emit_forward-2.ensures.grows
+
+pub returns-clause-grows : goal.returns-clause-grows
+returns-clause-grows g c = grows_twice _ _ _ _ _ c.emit_forward.ensures.grows c.emit_forward-2.ensures.grows
+
+pub returns-clause-kept : goal.returns-clause-kept
+returns-clause-kept g c = record {
+  first = g.met.A.Stage.kept_lasts _ _ _ _ c.in_ok-middle.ensures.kept c.emit_forward-2.ensures.grows.extends (λ n o. c.emit_forward-2.ensures.waits n);
+  second = c.in_ok-to.ensures.kept;
+  apart = λ n o p. (let before = c.in_ok-middle.ensures.owned n o in let behind = c.in_ok-to.ensures.owned n p in omega arith);
+}
+
+pub returns-clause-owned : goal.returns-clause-owned
+returns-clause-owned g c n o =
+    elim o [
+      | inl p ↦ (let at = c.in_ok-middle.ensures.owned n p in let more = c.emit_forward-2.ensures.grows.extends.count in (at.0, omega arith))
+      | inr p ↦ (let at = c.in_ok-to.ensures.owned n p in let more = c.emit_forward.ensures.grows.extends.count in (omega arith, at.1))
+    ]
+
+pub returns-clause-made : goal.returns-clause-made
+returns-clause-made g c = record {
+  middle = c.in_ok-middle.middle;
+  first = g.met.A.Stage.forward_lasts _ _ _ _ _ _ c.in_ok-middle.ensures.made c.emit_forward-2.ensures.grows.extends;
+  second = c.in_ok-to.ensures.made;
+}

@@ -1,0 +1,18 @@
+//! The nets of a beat.
+
+use netlist::Net;
+
+/// The nets of an end of a stream, beside `ready`. One that the end has no port for is a net that is always 0.
+#[derive(Clone, Copy, Debug)]
+pub struct BeatNets {
+    /// One bit.
+    pub valid: Net,
+    pub word: Net,
+    pub channel: Net,
+    pub error: Net,
+    /// `startofpacket`, one bit.
+    pub first: Net,
+    /// `endofpacket`, one bit.
+    pub last: Net,
+    pub empty: Net,
+}

@@ -1,0 +1,12 @@
+//! Stages of a stream as equations: what each one appends, and the law that it keeps.
+#![tactic(auto)]
+
+pub mod beat;
+pub mod chain;
+pub mod pass;
+pub mod stage;
+
+pub use beat::BeatNets;
+pub use chain::Chain;
+pub use pass::Pass;
+pub use stage::Stage;
