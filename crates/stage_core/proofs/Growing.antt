@@ -1,13 +1,14 @@
 -- Netlists that grow in several steps.
-use Rattle.std.proofs.Common.{◌≡◌, ℕ, ◌+◌, ◌≤◌, false, subst, ap, ◌∙◌, arith, inl, inr}
+use Rattle.std.proofs.Common.{◌≡◌, ℕ, zero, suc, ◌+◌, ◌-◌, ◌<◌, ◌≤◌, length, Bool, true, false, if◌then◌else◌, refl, subst, ap, ◌∙◌, arith, inl, inr}
 use Rattle.std.specs.Prelude.{Result, Ok, Err, IfOk, OnOk}
 use Rattle.netlist.specs.declared.line.Line.{Line}
 use Rattle.netlist.specs.Nets.{NetValue}
 use Rattle.netlist.specs.Netlists.{Netlist}
-use Rattle.netlist.specs.Longer.{IsKept, Keeps, Extends}
+use Rattle.netlist.specs.Longer.{IsKept, Keeps, Extends, GrowsByOne}
 use Rattle.stage_core.specs.declared.beat.BeatNets.{BeatNets}
 use Rattle.stage_core.specs.Beats.{IsNetOfWidth, AreBeatNets}
-use Rattle.stage_core.specs.Growth.{GrowsBy}
+use Rattle.stage_core.specs.Groups.{Shown, AreNumbered, IsOfBeat}
+use Rattle.stage_core.specs.Growth.{GrowsBy, AddsNets, WaitsBeside}
 
 kept_twice : (x y z : Line) → IsKept x y → IsKept y z → IsKept x z
 kept_twice x y z (inl e) k = subst (λ (l : Line). IsKept l z) e k
@@ -63,3 +64,60 @@ on_ok (Err e) P Q f h = tt
 pub if_ok : {X E : Type 0} (r : Result X E) (P Q : X → Type 0) → ((x : X) → P x → Q x) → IfOk r P → IfOk r Q
 if_ok (Ok x) P Q f h = f x h
 if_ok (Err e) P Q f h = tt
+
+pub grows_once : (a b : Netlist) → Extends a b → GrowsByOne a b → AddsNets 1 a b
+grows_once a b e g = record { grows = record { extends = e; most = g.most; drivers = g.drivers }; waits = g.waits; no_more_wait = g.no_more_wait }
+
+pub adds_twice : (k m : ℕ) (a b c : Netlist) → AddsNets k a b → AddsNets m b c → AddsNets (k + m) a c
+adds_twice k m a b c p q = record {
+  grows = grows_twice k m a b c p.grows q.grows;
+  waits = λ n w. q.waits n (p.waits n w);
+  no_more_wait = λ n w. p.no_more_wait n (q.no_more_wait n w);
+}
+
+pub adds_fewer : (k m : ℕ) (a b : Netlist) → k ≤ m → AddsNets k a b → AddsNets m a b
+adds_fewer k m a b h p = record { grows = grows_fewer k m a b h p.grows; waits = p.waits; no_more_wait = p.no_more_wait }
+
+-- registers that were made one by one
+pub made_more : (a b c : Netlist) (k : ℕ) → length b.lines ≡ length a.lines + k →
+    WaitsBeside (λ n. (length a.lines ≤ n) × (n < length a.lines + k)) a b → WaitsBeside (λ n. n ≡ length b.lines) b c →
+    WaitsBeside (λ n. (length a.lines ≤ n) × (n < length a.lines + (k + 1))) a c
+made_more a b c k count first next n w =
+    elim (next n w) [
+      | inl old ↦ elim (first n old) [ inl older ↦ inl older | inr made ↦ inr (made.0, (let below = made.1 in omega arith)) ]
+      | inr same ↦ inr (omega (arith, same), omega (arith, same))
+    ]
+
+pub made_none : (a : Netlist) → WaitsBeside (λ n. (length a.lines ≤ n) × (n < length a.lines + 0)) a a
+made_none a n w = inl w
+
+by_place : (P : ℕ → Type 0) (v d : ℕ) → d < 7 → P (v + 0) → P (v + 1) → P (v + 2) → P (v + 3) → P (v + 4) → P (v + 5) → P (v + 6) → P (v + d)
+by_place P v zero h p0 p1 p2 p3 p4 p5 p6 = p0
+by_place P v (suc zero) h p0 p1 p2 p3 p4 p5 p6 = p1
+by_place P v (suc (suc zero)) h p0 p1 p2 p3 p4 p5 p6 = p2
+by_place P v (suc (suc (suc zero))) h p0 p1 p2 p3 p4 p5 p6 = p3
+by_place P v (suc (suc (suc (suc zero)))) h p0 p1 p2 p3 p4 p5 p6 = p4
+by_place P v (suc (suc (suc (suc (suc zero))))) h p0 p1 p2 p3 p4 p5 p6 = p5
+by_place P v (suc (suc (suc (suc (suc (suc zero)))))) h p0 p1 p2 p3 p4 p5 p6 = p6
+by_place P v (suc (suc (suc (suc (suc (suc (suc d))))))) h p0 p1 p2 p3 p4 p5 p6 = absurd (omega arith)
+
+-- what holds of each net of a beat holds of each number of it
+pub of_each : (P : ℕ → Type 0) (nets : BeatNets) (from : ℕ) → AreNumbered nets from → P nets.valid.number → P nets.word.number → P nets.channel.number → P nets.error.number → P nets.first.number → P nets.last.number → P nets.empty.number →
+    (n : ℕ) → IsOfBeat nets n → P n
+of_each P nets from at p0 p1 p2 p3 p4 p5 p6 n i =
+    let v = nets.valid.number in
+    let place : v + (n - v) ≡ n = (let le = i.from in omega arith) in
+    subst P place (by_place P v (n - v) (let lt = i.below in omega arith)
+    (subst P (let e = at.valid in omega arith) p0) (subst P (let e = at.valid in let f = at.word in omega arith) p1) (subst P (let e = at.valid in let f = at.channel in omega arith) p2)
+    (subst P (let e = at.valid in let f = at.error in omega arith) p3) (subst P (let e = at.valid in let f = at.first in omega arith) p4) (subst P (let e = at.valid in let f = at.last in omega arith) p5)
+    (subst P (let e = at.valid in let f = at.empty in omega arith) p6))
+
+-- beats by their fields
+pub shown_same : (x y : Shown) → x.valid ≡ y.valid → x.beat.word ≡ y.beat.word → x.beat.channel ≡ y.beat.channel → x.beat.error ≡ y.beat.error → x.beat.first ≡ y.beat.first → x.beat.last ≡ y.beat.last → x.beat.empty ≡ y.beat.empty → x ≡ y
+shown_same x y e0 e1 e2 e3 e4 e5 e6 = rw (e0, e1, e2, e3, e4, e5, e6) refl
+
+pub shown_chosen : (t : Bool) (x one other : Shown) → x.valid ≡ (if t then other.valid else one.valid) → x.beat.word ≡ (if t then other.beat.word else one.beat.word) → x.beat.channel ≡ (if t then other.beat.channel else one.beat.channel) →
+    x.beat.error ≡ (if t then other.beat.error else one.beat.error) → x.beat.first ≡ (if t then other.beat.first else one.beat.first) → x.beat.last ≡ (if t then other.beat.last else one.beat.last) → x.beat.empty ≡ (if t then other.beat.empty else one.beat.empty) →
+    x ≡ (if t then other else one)
+shown_chosen true x one other e0 e1 e2 e3 e4 e5 e6 = shown_same x other e0 e1 e2 e3 e4 e5 e6
+shown_chosen false x one other e0 e1 e2 e3 e4 e5 e6 = shown_same x one e0 e1 e2 e3 e4 e5 e6

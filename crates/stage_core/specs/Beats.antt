@@ -35,6 +35,16 @@ pub record AreBeatNets (netlist : Netlist) (beat : BeatNets) : Type 0 where
   pub last : IsBit netlist beat.last
   pub empty : IsNet netlist beat.empty
 
+-- the nets of two beats have the same widths
+pub record HaveSameWidths (one other : BeatNets) : Type 0 where
+  pub valid : one.valid.width ≡ other.valid.width
+  pub word : one.word.width ≡ other.word.width
+  pub channel : one.channel.width ≡ other.channel.width
+  pub error : one.error.width ≡ other.error.width
+  pub first : one.first.width ≡ other.first.width
+  pub last : one.last.width ≡ other.last.width
+  pub empty : one.empty.width ≡ other.empty.width
+
 -- the beat on these nets in a cycle
 abbrev pub beat_in : Cycle → BeatNets → Beat
 beat_in cycle beat = record {

@@ -24,3 +24,9 @@ WaitsWithout set old new = (n : ℕ) → IsWaiting new n → IsWaiting old n × 
 -- the numbers of these nets are those of nets that were made between the two
 abbrev pub AreMadeBetween : (ℕ → Type 0) → Netlist → Netlist → Type 0
 AreMadeBetween made old new = (n : ℕ) → made n → (length old.lines ≤ n) × (n < length new.lines)
+
+-- the netlist grew by so many nets at most, none of them a register, and the same registers wait
+pub record AddsNets (count : ℕ) (old new : Netlist) : Type 0 where
+  pub grows : GrowsBy count old new
+  pub waits : StillWait old new
+  pub no_more_wait : StillWait new old

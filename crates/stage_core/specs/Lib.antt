@@ -1,4 +1,5 @@
 pub mod Beats
+pub mod Groups
 pub mod Growth
 pub mod Law
 pub mod PassNets

@@ -3,6 +3,7 @@
 
 pub mod beat;
 pub mod chain;
+pub mod makers;
 pub mod pass;
 pub mod stage;
 

@@ -1,0 +1,129 @@
+//! Makers of all nets of a beat at once.
+
+ghost use Rattle.std.specs.Prelude.{◌≡◌, ℕ, ◌+◌, ◌^◌, ◌<◌, ◌≤◌, ◌==◌, if◌then◌else◌, length, IfOk, OnOk};
+ghost use Rattle.netlist.specs.Netlists.{IsNet, IsWaiting};
+ghost use Rattle.netlist.specs.Runs.{Always};
+ghost use Rattle.stage_core.specs.Beats.{IsBit, IsNetOfWidth, AreBeatNets, HaveSameWidths};
+ghost use Rattle.stage_core.specs.Groups.{StartsLow, AreRegisters, IsOfBeat, StartsEmpty, TakeNextBeat, Chooses};
+ghost use Rattle.stage_core.specs.Growth.{GrowsBy, AddsNets, StillWait, WaitsBeside, WaitsWithout};
+
+use crate::beat::BeatNets;
+use av_base::Val;
+use netlist::{Builder, Net, NetFault};
+
+/// A register of the width of a net, that begins at 0.
+fn low_register(builder: &mut Builder, like: Net) -> Result<Net, NetFault>
+    requires { IsNet builder.old like }
+    ensures net { IfOk result (λ n. IsNetOfWidth builder.new n like.width) }
+    ensures number { IfOk result (λ n. n.number ≡ length builder.old.lines) }
+    ensures count { OnOk result (length builder.new.lines ≡ length builder.old.lines + 1) }
+    ensures starts { IfOk result (λ n. StartsLow builder.new n) }
+    ensures waits { IfOk result (λ n. IsWaiting builder.new n.number) }
+    ensures grows { GrowsBy 1 builder.old builder.new }
+    ensures still_wait { StillWait builder.old builder.new }
+    ensures newly { WaitsBeside (λ n. n ≡ length builder.old.lines) builder.old builder.new }
+    ensures full { result ≡ Err NetFault.TooManyNets → 2 ^ 20 < length builder.old.lines + 1 }
+{
+    let width = builder.width(like);
+    builder.reg(Val::new(width, 0).unwrap())
+}
+
+/// One of two nets of one width: the first where the bit is set.
+fn choose(builder: &mut Builder, bit: Net, one: Net, other: Net) -> Result<Net, NetFault>
+    requires bit { IsBit builder.old bit }
+    requires one { IsNet builder.old one }
+    requires other { IsNet builder.old other }
+    requires widths { one.width ≡ other.width }
+    ensures net { IfOk result (λ n. IsNetOfWidth builder.new n one.width) }
+    ensures value { IfOk result (λ n. Always builder.new (λ cycle. cycle.net n.number ≡ (if cycle.net bit.number == 0 then cycle.net other.number else cycle.net one.number))) }
+    ensures adds { AddsNets 1 builder.old builder.new }
+    ensures full { result ≡ Err NetFault.TooManyNets → 2 ^ 20 < length builder.old.lines + 1 }
+{
+    builder.mux(bit, one, other)
+}
+
+/// Registers of the widths of a beat's nets, that begin at 0.
+pub fn reg_beat(builder: &mut Builder, like: BeatNets) -> Result<BeatNets, NetFault>
+    requires { AreBeatNets builder.old like }
+    ensures beat { IfOk result (λ made. AreBeatNets builder.new made) }
+    ensures widths { IfOk result (λ made. HaveSameWidths made like) }
+    ensures registers { IfOk result (λ made. AreRegisters builder.new made (length builder.old.lines)) }
+    ensures count { OnOk result (length builder.new.lines ≡ length builder.old.lines + 7) }
+    ensures starts { IfOk result (λ made. StartsEmpty builder.new made) }
+    ensures grows { GrowsBy 7 builder.old builder.new }
+    ensures still_wait { StillWait builder.old builder.new }
+    ensures newly { IfOk result (λ made. WaitsBeside (IsOfBeat made) builder.old builder.new) }
+    ensures full { result ≡ Err NetFault.TooManyNets → 2 ^ 20 < length builder.old.lines + 7 }
+{
+    let valid = low_register(builder, like.valid)?;
+    let word = low_register(builder, like.word)?;
+    let channel = low_register(builder, like.channel)?;
+    let error = low_register(builder, like.error)?;
+    let first = low_register(builder, like.first)?;
+    let last = low_register(builder, like.last)?;
+    let empty = low_register(builder, like.empty)?;
+    Ok(BeatNets {
+        valid,
+        word,
+        channel,
+        error,
+        first,
+        last,
+        empty,
+    })
+}
+
+/// One of two beats of the same widths: the first where the bit is set.
+pub fn mux_beat(
+    builder: &mut Builder,
+    bit: Net,
+    one: BeatNets,
+    other: BeatNets,
+) -> Result<BeatNets, NetFault>
+    requires bit { IsBit builder.old bit }
+    requires one { AreBeatNets builder.old one }
+    requires other { AreBeatNets builder.old other }
+    requires widths { HaveSameWidths one other }
+    ensures beat { IfOk result (λ made. AreBeatNets builder.new made) }
+    ensures widths { IfOk result (λ made. HaveSameWidths made one) }
+    ensures value { IfOk result (λ made. Always builder.new (λ cycle. Chooses cycle (cycle.net bit.number) one other made)) }
+    ensures adds { AddsNets 7 builder.old builder.new }
+    ensures full { result ≡ Err NetFault.TooManyNets → 2 ^ 20 < length builder.old.lines + 7 }
+{
+    let valid = choose(builder, bit, one.valid, other.valid)?;
+    let word = choose(builder, bit, one.word, other.word)?;
+    let channel = choose(builder, bit, one.channel, other.channel)?;
+    let error = choose(builder, bit, one.error, other.error)?;
+    let first = choose(builder, bit, one.first, other.first)?;
+    let last = choose(builder, bit, one.last, other.last)?;
+    let empty = choose(builder, bit, one.empty, other.empty)?;
+    Ok(BeatNets {
+        valid,
+        word,
+        channel,
+        error,
+        first,
+        last,
+        empty,
+    })
+}
+
+/// Gives the registers of a beat their next nets.
+pub fn set_next_beat(builder: &mut Builder, registers: BeatNets, next: BeatNets)
+    requires registers { AreBeatNets builder.old registers }
+    requires wait { AreRegisters builder.old registers registers.valid.number }
+    requires next { AreBeatNets builder.old next }
+    requires widths { HaveSameWidths registers next }
+    ensures value { TakeNextBeat builder.new registers next }
+    ensures grows { GrowsBy 0 builder.old builder.new }
+    ensures still_wait { (n : ℕ) → ¬ IsOfBeat registers n → IsWaiting builder.old n → IsWaiting builder.new n }
+    ensures no_more_wait { WaitsWithout (IsOfBeat registers) builder.old builder.new }
+{
+    builder.set_next(registers.valid, next.valid);
+    builder.set_next(registers.word, next.word);
+    builder.set_next(registers.channel, next.channel);
+    builder.set_next(registers.error, next.error);
+    builder.set_next(registers.first, next.first);
+    builder.set_next(registers.last, next.last);
+    builder.set_next(registers.empty, next.empty);
+}
