@@ -3,7 +3,7 @@ use Rattle.std.proofs.Common.{◌≡◌, ◌^◌, codes, decimal, Bool, true, fa
 use Rattle.std.specs.Prelude.{Result, IsTrue, IfOk, MatchOption, ◌↔◌}
 use Rattle.std.proofs.lemmas.List.{drop_all, length-map}
 use Rattle.std.proofs.lemmas.Fmt.{decimal_injective}
-use Rattle.tcl_words.specs.declared.words.Word.{Word}
+use Rattle.plain_words.specs.declared.words.Word.{Word}
 use Rattle.avalon_top.specs.declared.kinds.Kind.{Kind}
 use Rattle.avalon_top.specs.declared.kinds.Kind.TheVariants as kind
 use Rattle.avalon_top.specs.declared.kinds.Role.{Role}

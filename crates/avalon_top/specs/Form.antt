@@ -2,9 +2,9 @@
 use Rattle.std.specs.Prelude.{◌≡◌, ◌≢◌, ℕ, ◌+◌, ◌<◌, ◌≤◌, Bool, true, false, ◌&&◌, ◌||◌, ◌==◌, nat_le, List, [], ◌∷◌, ◌++◌, length, drop, map, codes, decimal, IsTrue, slice_index_or, ◌⊎◌}
 use Rattle.std.specs.List.{list_all}
 use Rattle.std.specs.Char.{is_ascii_alphabetic, is_ascii_alphanumeric}
-use Rattle.tcl_words.specs.Bytes.{is_plain_byte}
-use Rattle.tcl_words.specs.Script.{script_of}
-use Rattle.tcl_words.specs.declared.words.Word.{Word}
+use Rattle.plain_words.specs.Bytes.{is_plain_byte}
+use Rattle.plain_words.specs.Script.{script_of}
+use Rattle.plain_words.specs.declared.words.Word.{Word}
 use Rattle.avalon_top.specs.declared.kinds.Kind.{Kind}
 use Rattle.avalon_top.specs.declared.kinds.Kind.TheVariants as kind
 use Rattle.avalon_top.specs.declared.kinds.RolePort.{RolePort}

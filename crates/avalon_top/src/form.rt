@@ -11,8 +11,8 @@ use crate::kinds::{
 };
 use crate::line::Line;
 use av_base::{NoMemory, Text};
+use plain_words::{Commands, Word, WordsFault, is_plain};
 use std::alloc::Global;
-use tcl_words::{Commands, Word, WordsFault, is_plain};
 
 /// A component of one interface: its type, and the interface's name and kind.
 #[derive(Debug, Drop)]

@@ -2,8 +2,8 @@
 -- a command is what stands on a line, and a line without a word counts for nothing.
 use Rattle.std.specs.Prelude.{ℕ, ◌+◌, Bool, true, false, ◌==◌, List, [], ◌∷◌, length, filter, count_by, if◌then◌else◌}
 use Rattle.av_base.specs.declared.faults.Place.{Place}
-use Rattle.tcl_words.specs.declared.words.Word.{Word}
-use Rattle.tcl_words.specs.Bytes.{is_word_byte}
+use Rattle.plain_words.specs.declared.words.Word.{Word}
+use Rattle.plain_words.specs.Bytes.{is_word_byte}
 
 -- what a script says: its commands in order, and the place behind its last byte
 pub record Script : Type 0 where

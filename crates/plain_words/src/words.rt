@@ -1,7 +1,7 @@
 ghost use Rattle.std.specs.Prelude.{◌≡◌, ◌^◌, ◌<◌, ◌≤◌, ◌∷◌, [], ◌++◌, codes, length, filter, IfOk, OnOk, IsTrue, slice_get, Some};
 ghost use Rattle.std.specs.List.{list_all, prefix_len};
-ghost use Rattle.tcl_words.specs.Bytes.{is_plain_byte, is_word_byte};
-ghost use Rattle.tcl_words.specs.Script.{placed, script_of, has_word};
+ghost use Rattle.plain_words.specs.Bytes.{is_plain_byte, is_word_byte};
+ghost use Rattle.plain_words.specs.Script.{placed, script_of, has_word};
 
 use av_base::{List, NoMemory, Place, Text};
 use std::alloc::Global;
@@ -99,7 +99,7 @@ pub struct Commands {
 }
 
 impl Model for Commands {
-    ghost use Rattle.tcl_words.specs.Script.{Script};
+    ghost use Rattle.plain_words.specs.Script.{Script};
 
     ghost Value = { Script };
 

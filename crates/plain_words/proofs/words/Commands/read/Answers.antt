@@ -1,9 +1,9 @@
 use Rattle.std.proofs.Common.{◌≡◌, ◌<◌, ◌≤◌, ◌+◌, ◌-◌, length, get_or, take, drop, true, refl, arith, ap, ◌∙◌, length-drop}
 use Rattle.std.specs.List.{prefix_len}
 use Rattle.std.proofs.lemmas.List.{take_all}
-use Rattle.tcl_words.specs.Bytes.{is_plain_byte, is_word_byte}
-use Rattle.tcl_words.proofs.ScriptLemmas.{list_all-take, list_all-drop, word_byte, commands_after_word, feeds_after_word}
-use Rattle.tcl_words.proofs.words.Commands.read.Goals as goal
+use Rattle.plain_words.specs.Bytes.{is_plain_byte, is_word_byte}
+use Rattle.plain_words.proofs.ScriptLemmas.{list_all-take, list_all-drop, word_byte, commands_after_word, feeds_after_word}
+use Rattle.plain_words.proofs.words.Commands.read.Goals as goal
 
 pub word_of-requires : goal.word_of-requires
 word_of-requires c =

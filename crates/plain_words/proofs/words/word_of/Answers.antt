@@ -1,6 +1,6 @@
 use Rattle.std.proofs.lemmas.Str.{IsUtf8-from_ascii}
-use Rattle.tcl_words.proofs.ScriptLemmas.{plain_text_is_ascii}
-use Rattle.tcl_words.proofs.words.word_of.Goals as goal
+use Rattle.plain_words.proofs.ScriptLemmas.{plain_text_is_ascii}
+use Rattle.plain_words.proofs.words.word_of.Goals as goal
 
 pub unreachable-requires : goal.unreachable-requires
 unreachable-requires c =

@@ -8,9 +8,9 @@ use Rattle.std.proofs.lemmas.List.Folds.{list_all-append}
 use Rattle.std.proofs.lemmas.List.Sums.{sum_by-cons}
 use Rattle.std.proofs.lemmas.Bool.Decides.{nat_tests}
 use Rattle.av_base.specs.declared.faults.Place.{Place}
-use Rattle.tcl_words.specs.declared.words.Word.{Word}
-use Rattle.tcl_words.specs.Bytes.{is_plain_byte, is_word_byte}
-use Rattle.tcl_words.specs.Script.{Lines, placed, further, begins_word, with_byte, lines_from, commands_in}
+use Rattle.plain_words.specs.declared.words.Word.{Word}
+use Rattle.plain_words.specs.Bytes.{is_plain_byte, is_word_byte}
+use Rattle.plain_words.specs.Script.{Lines, placed, further, begins_word, with_byte, lines_from, commands_in}
 
 -- these words before the first line of some lines
 abbrev pub with_words : List Word → Lines → Lines

@@ -1,8 +1,8 @@
 use Rattle.std.proofs.Common.{◌≡◌, ◌+◌, ◌-◌, ◌≤◌, ◌==◌, ◌++◌, length, drop}
 use Rattle.std.specs.Prelude.{count_by}
-use Rattle.tcl_words.specs.Script.{script_of, lines_from, commands_in}
-use Rattle.tcl_words.proofs.ScriptLemmas.{with_words}
-use Rattle.tcl_words.proofs.words.Commands.read.Given as goal
+use Rattle.plain_words.specs.Script.{script_of, lines_from, commands_in}
+use Rattle.plain_words.proofs.ScriptLemmas.{with_words}
+use Rattle.plain_words.proofs.words.Commands.read.Given as goal
 
 abbrev pub invariant-bytes : goal.invariant-bytes
 invariant-bytes l = record {
