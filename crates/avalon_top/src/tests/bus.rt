@@ -114,38 +114,40 @@ fn generates_a_bus_of_either_order(rt: HostRuntime) -> Result<(), Fail> {
     Ok(())
 }
 
+fn host_enables() -> &'static str {
+    "add_interface_port h h_byteenable byteenable Output 4\n"
+}
+
+fn agent_enables() -> &'static str {
+    "add_interface_port a a_byteenable byteenable Input 4\n"
+}
+
+fn host_enables_port() -> &'static str {
+    "  input wire [3:0] m$h$byteenable,\n"
+}
+
+fn agent_enables_port() -> &'static str {
+    "  output wire [3:0] s$a$byteenable,\n"
+}
+
 #[test]
 fn leaves_byte_enables_out(rt: HostRuntime) -> Result<(), Fail> {
     let alloc = rt.alloc();
-    let host = changed(
-        alloc,
-        master(),
-        "add_interface_port h h_byteenable byteenable Output 4\n",
-        "",
-    )?;
-    let agent = changed(
-        alloc,
-        memory(),
-        "add_interface_port a a_byteenable byteenable Input 4\n",
-        "",
-    )?;
+    let host = changed(alloc, master(), host_enables(), "")?;
+    let agent = changed(alloc, memory(), agent_enables(), "")?;
     let (exit, sink) = answer(alloc, &WORDS, &[bus(), host.as_slice(), agent.as_slice()])?;
     assert_eq!(rt; exit, Exit::Done);
-    let fewer = changed(
-        alloc,
-        bus_text(),
-        "  input wire [3:0] m$h$byteenable,\n",
-        "",
-    )?;
-    let none = changed(
-        alloc,
-        fewer.as_slice(),
-        "  output wire [3:0] s$a$byteenable,\n",
-        "",
-    )?;
+    let fewer = changed(alloc, bus_text(), host_enables_port(), "")?;
+    let none = changed(alloc, fewer.as_slice(), agent_enables_port(), "")?;
     assert_eq!(rt; header_of(sink.bytes())?, header_of(none.as_slice())?);
+    Ok(())
+}
 
-    // At one end alone they don't fit.
+#[test]
+fn joins_no_ends_of_which_one_has_byte_enables(rt: HostRuntime) -> Result<(), Fail> {
+    let alloc = rt.alloc();
+    let host = changed(alloc, master(), host_enables(), "")?;
+    let agent = changed(alloc, memory(), agent_enables(), "")?;
     let (exit, _) = answer(alloc, &WORDS, &[bus(), host.as_slice(), memory()])?;
     assert_eq!(rt; exit, refused(1));
     let (exit, _) = answer(alloc, &WORDS, &[bus(), master(), agent.as_slice()])?;
@@ -208,80 +210,79 @@ fn names_the_first_file_of_a_bus_that_is_not_built(rt: HostRuntime) -> Result<()
     Ok(())
 }
 
-/// The commands behind an agent's ports, and whether they are built.
-fn properties() -> [(&'static str, bool); 9] {
+fn last_port() -> &'static str {
+    "readdatavalid Output 1\n"
+}
+
+/// The bound that a command behind an agent's ports sets, and whether it is built.
+fn bounds() -> [(&'static str, bool); 7] {
     [
-        (
-            "set_interface_property a maximumPendingReadTransactions 1",
-            true,
-        ),
-        (
-            "set_interface_property a maximumPendingReadTransactions 16",
-            true,
-        ),
-        (
-            "set_interface_property a maximumPendingReadTransactions 17",
-            false,
-        ),
-        (
-            "set_interface_property a maximumPendingReadTransactions 0",
-            false,
-        ),
-        (
-            "set_interface_property a maximumPendingReadTransactions 016",
-            false,
-        ),
-        (
-            "set_interface_property a maximumPendingReadTransactions +4",
-            false,
-        ),
-        (
-            "set_interface_property h maximumPendingReadTransactions 4",
-            false,
-        ),
-        (
-            "set_interface_property a maximumpendingreadtransactions 4",
-            false,
-        ),
-        (
-            "set_interface_property a maximumPendingReadTransactions 4\nset_interface_property a maximumPendingReadTransactions 4",
-            false,
-        ),
+        ("1", true),
+        ("16", true),
+        ("17", false),
+        ("0", false),
+        ("016", false),
+        ("+4", false),
+        ("4 4", false),
     ]
+}
+
+/// The agent with a command behind its ports that sets a property of an interface.
+fn with_property(alloc: Global, interface: &str, name: &str, bound: &str) -> Result<Bytes, Fail> {
+    let last = last_port();
+    let new = format!(in alloc; "{last}set_interface_property {interface} {name} {bound}\n")?;
+    changed(alloc, memory(), last, new.as_str())
+}
+
+fn pending_property() -> &'static str {
+    "maximumPendingReadTransactions"
 }
 
 #[test]
 fn takes_a_bound_from_1_to_16(rt: HostRuntime) -> Result<(), Fail> {
     let alloc = rt.alloc();
-    let last = "readdatavalid Output 1\n";
-    for (property, built) in properties() {
-        let new = format!(in alloc; "{last}{property}\n")?;
-        let agent = changed(alloc, memory(), last, new.as_str())?;
-        let (exit, sink) = answer(alloc, &WORDS, &[bus(), master(), agent.as_slice()])?;
-        if built {
-            assert_eq!(rt; exit, Exit::Done, "{property}");
-        } else {
-            assert_eq!(rt; exit, refused(3), "{property}");
-            assert_eq!(rt; exit.status(), 5);
-            assert_eq!(rt;
-                sink.bytes(),
-                b"script refused: file 3 line 1 byte 0 rule C21\n".as_slice()
-            );
-        }
+    for (bound, built) in bounds() {
+        let agent = with_property(alloc, "a", pending_property(), bound)?;
+        let (exit, _) = answer(alloc, &WORDS, &[bus(), master(), agent.as_slice()])?;
+        let expected = if built { Exit::Done } else { refused(3) };
+        assert_eq!(rt; exit, expected, "{bound}");
     }
     Ok(())
 }
 
 #[test]
+fn takes_no_other_property(rt: HostRuntime) -> Result<(), Fail> {
+    let alloc = rt.alloc();
+    for (interface, name) in [("h", pending_property()), ("a", "readLatency")] {
+        let agent = with_property(alloc, interface, name, "4")?;
+        let (exit, sink) = answer(alloc, &WORDS, &[bus(), master(), agent.as_slice()])?;
+        assert_eq!(rt; exit, refused(3), "{name}");
+        assert_eq!(rt; exit.status(), 5);
+        assert_eq!(rt; sink.bytes(), refusal_of_the_agent());
+    }
+    Ok(())
+}
+
+fn refusal_of_the_agent() -> &'static [u8] {
+    b"script refused: file 3 line 1 byte 0 rule C21\n"
+}
+
+fn host_to_sink() -> &'static [u8] {
+    b"create_system bus\nadd_instance m master\nadd_instance s chk\nadd_connection m.h s.st\n"
+}
+
+fn source_to_agent() -> &'static [u8] {
+    b"create_system bus\nadd_instance m gen\nadd_instance s memory\nadd_connection m.out s.a\n"
+}
+
+#[test]
 fn mixes_no_host_with_a_stream(rt: HostRuntime) -> Result<(), Fail> {
     let alloc = rt.alloc();
-    let mixed =
-        b"create_system bus\nadd_instance m master\nadd_instance s chk\nadd_connection m.h s.st\n";
-    let (exit, _) = answer(alloc, &WORDS, &[mixed, master(), sink_component()])?;
+    let files = [host_to_sink(), master(), sink_component()];
+    let (exit, _) = answer(alloc, &WORDS, &files)?;
     assert_eq!(rt; exit, refused(1));
-    let mixed =
-        b"create_system bus\nadd_instance m gen\nadd_instance s memory\nadd_connection m.out s.a\n";
-    let (exit, _) = answer(alloc, &WORDS, &[mixed, memory(), source()])?;
+    let files = [source_to_agent(), memory(), source()];
+    let (exit, _) = answer(alloc, &WORDS, &files)?;
     assert_eq!(rt; exit, refused(1));
     Ok(())
 }
