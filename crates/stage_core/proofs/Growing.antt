@@ -1,13 +1,16 @@
 -- Netlists that grow in several steps.
-use Rattle.std.proofs.Common.{◌≡◌, ℕ, zero, suc, ◌+◌, ◌-◌, ◌<◌, ◌≤◌, length, Bool, true, false, if◌then◌else◌, refl, subst, ap, ◌∙◌, arith, inl, inr}
+use Rattle.std.proofs.Common.{◌≡◌, ℕ, zero, suc, ◌+◌, ◌-◌, ◌^◌, ◌<◌, ◌≤◌, List, [], ◌∷◌, length, slice_get, Some, Bool, true, false, if◌then◌else◌, refl, sym, subst, ap, ◌∙◌, arith, inl, inr}
 use Rattle.std.specs.Prelude.{Result, Ok, Err, IfOk, OnOk}
 use Rattle.netlist.specs.declared.line.Line.{Line}
 use Rattle.netlist.specs.Nets.{NetValue}
-use Rattle.netlist.specs.Netlists.{Netlist}
+use Rattle.netlist.specs.Netlists.{Netlist, width_at, IsWaiting, IsWellMade, is_register, next_set}
+use Rattle.netlist.specs.Runs.{Cycle, IsValuation, SameState}
+use Rattle.netlist.specs.declared.line.Equation.{Equation}
+use Rattle.netlist.specs.declared.line.Equation.TheVariants.{Input, Constant, And, Or, Xor, Add, Sub, Eq, Less, Concat, Not, Any, Mux, Slice, Reg}
 use Rattle.netlist.specs.Longer.{IsKept, Keeps, Extends, GrowsByOne}
 use Rattle.stage_core.specs.declared.beat.BeatNets.{BeatNets}
-use Rattle.stage_core.specs.Beats.{IsNetOfWidth, AreBeatNets}
-use Rattle.stage_core.specs.Groups.{Shown, AreNumbered, IsOfBeat}
+use Rattle.stage_core.specs.Beats.{IsBit, HaveSameWidths, widths_of, ShowSame}
+use Rattle.stage_core.specs.Groups.{Shown, shown_in, AreNumbered, IsOfBeat}
 use Rattle.stage_core.specs.Growth.{GrowsBy, AddsNets, WaitsBeside}
 
 kept_twice : (x y z : Line) → IsKept x y → IsKept y z → IsKept x z
@@ -41,21 +44,6 @@ grows_twice k m a b c p q = record {
 
 pub grows_fewer : (k m : ℕ) (a b : Netlist) → k ≤ m → GrowsBy k a b → GrowsBy m a b
 grows_fewer k m a b h p = record { extends = p.extends; most = (let few = p.most in omega arith); drivers = p.drivers }
-
--- the nets of a beat are nets of each longer netlist
-pub bit_lasts : (a b : Netlist) (net : NetValue) (w : ℕ) → Extends a b → IsNetOfWidth a net w → IsNetOfWidth b net w
-bit_lasts a b net w e h = record { is_net = e.nets net.number net.width h.is_net; has_width = h.has_width }
-
-pub beat_lasts : (a b : Netlist) (beat : BeatNets) → Extends a b → AreBeatNets a beat → AreBeatNets b beat
-beat_lasts a b beat e h = record {
-  valid = bit_lasts a b beat.valid 1 e h.valid;
-  word = e.nets beat.word.number beat.word.width h.word;
-  channel = e.nets beat.channel.number beat.channel.width h.channel;
-  error = e.nets beat.error.number beat.error.width h.error;
-  first = bit_lasts a b beat.first 1 e h.first;
-  last = bit_lasts a b beat.last 1 e h.last;
-  empty = e.nets beat.empty.number beat.empty.width h.empty;
-}
 
 pub on_ok : {X E : Type 0} (r : Result X E) (P Q : Type 0) → (P → Q) → OnOk r P → OnOk r Q
 on_ok (Ok x) P Q f h = f h
@@ -121,3 +109,99 @@ pub shown_chosen : (t : Bool) (x one other : Shown) → x.valid ≡ (if t then o
     x ≡ (if t then other else one)
 shown_chosen true x one other e0 e1 e2 e3 e4 e5 e6 = shown_same x other e0 e1 e2 e3 e4 e5 e6
 shown_chosen false x one other e0 e1 e2 e3 e4 e5 e6 = shown_same x one e0 e1 e2 e3 e4 e5 e6
+
+register_kept : (line later : Line) → IsKept line later → is_register line.equation ≡ true → is_register later.equation ≡ true
+register_kept line later (inl e) h = subst (λ (l : Line). is_register l.equation ≡ true) (sym e) h
+register_kept line later (inr s) h = subst (λ (l : Line). is_register l.equation ≡ true) (sym s.is) (of_next line.equation h)
+  where
+    of_next : (e : Equation) → is_register e ≡ true → is_register (next_set e s.next) ≡ true
+    of_next (Reg reset next) i = refl
+    of_next (Input port) i = i
+    of_next (Constant value) i = i
+    of_next (And a b) i = i
+    of_next (Or a b) i = i
+    of_next (Xor a b) i = i
+    of_next (Add a b) i = i
+    of_next (Sub a b) i = i
+    of_next (Eq a b) i = i
+    of_next (Less a b) i = i
+    of_next (Concat a b) i = i
+    of_next (Not a) i = i
+    of_next (Any a) i = i
+    of_next (Mux t a b) i = i
+    of_next (Slice a high low) i = i
+
+-- a register that waited is the same in two cycles with one state
+pub owned_same : (netlist longer : Netlist) (n : ℕ) (one other : Cycle) → IsWellMade netlist → Extends netlist longer → IsWaiting netlist n → SameState longer one other → one.net n ≡ other.net n
+owned_same netlist longer n one other made e waits state =
+    let later = e.keeps.lines n waits.line waits.is in
+    state.registers n later.later later.is (register_kept waits.line later.later later.kept ((made.lines n waits.line waits.is).waits waits.waits))
+
+line_within : {X : Type 0} (xs : List X) (n : ℕ) (x : X) → slice_get xs n ≡ Some x → n < length xs
+line_within [] n x e = cc
+line_within (a ∷ xs) zero x e = omega arith
+line_within (a ∷ xs) (suc n) x e = let i = line_within xs n x e in omega arith
+
+-- a register that waits is one of the nets
+pub waiting_within : (a : Netlist) (n : ℕ) → IsWaiting a n → n < length a.lines
+waiting_within a n w = line_within a.lines n w.line w.is
+
+line_of_width : (lines : List Line) (n w : ℕ) → width_at lines n ≡ Some w → (line : Line) × (slice_get lines n ≡ Some line) × (line.width ≡ w)
+line_of_width [] n w e = cc
+line_of_width (x ∷ xs) zero w e = (x, refl, (cc))
+line_of_width (x ∷ xs) (suc n) w e = line_of_width xs n w e
+
+-- a net of one bit is 0 or 1
+pub bit_fits : (a : Netlist) (net : NetValue) → IsBit a net → (cycle : Cycle) → IsValuation a cycle → cycle.net net.number < 2
+bit_fits a net h cycle v =
+    let line = line_of_width a.lines net.number net.width h.is_net in
+    subst (λ k. cycle.net net.number < 2 ^ k) (line.2 ∙ h.has_width) ((v.nets net.number line.0 line.1).fits)
+
+pub widths_turned : (one other : BeatNets) → HaveSameWidths one other → HaveSameWidths other one
+widths_turned one other h = record { valid = sym h.valid; word = sym h.word; channel = sym h.channel; error = sym h.error; first = sym h.first; last = sym h.last; empty = sym h.empty }
+
+pub widths_twice : (one middle other : BeatNets) → HaveSameWidths one middle → HaveSameWidths middle other → HaveSameWidths one other
+widths_twice one middle other p q = record {
+  valid = p.valid ∙ q.valid;
+  word = p.word ∙ q.word;
+  channel = p.channel ∙ q.channel;
+  error = p.error ∙ q.error;
+  first = p.first ∙ q.first;
+  last = p.last ∙ q.last;
+  empty = p.empty ∙ q.empty;
+}
+
+pub widths_alike : (one other : BeatNets) → HaveSameWidths one other → widths_of one ≡ widths_of other
+widths_alike one other h = rw (h.word, h.channel, h.error, h.empty) refl
+
+-- numbered from elsewhere, they are numbered from valid on
+pub numbered_here : (nets : BeatNets) (from : ℕ) → AreNumbered nets from → AreNumbered nets nets.valid.number
+numbered_here nets from h =
+    let e = h.valid in
+    record {
+      valid = refl;
+      word = (let f = h.word in omega arith);
+      channel = (let f = h.channel in omega arith);
+      error = (let f = h.error in omega arith);
+      first = (let f = h.first in omega arith);
+      last = (let f = h.last in omega arith);
+      empty = (let f = h.empty in omega arith);
+    }
+
+-- nets that are the same number by number show the same
+pub same_state : (nets : BeatNets) (one other : Cycle) → AreNumbered nets nets.valid.number → ((n : ℕ) → IsOfBeat nets n → one.net n ≡ other.net n) → shown_in one nets ≡ shown_in other nets
+same_state nets one other at h =
+    shown_same (shown_in one nets) (shown_in other nets)
+    (h _ (let e = at.valid in record { from = omega arith; below = omega arith }))
+    (h _ (let e = at.word in record { from = omega arith; below = omega arith }))
+    (h _ (let e = at.channel in record { from = omega arith; below = omega arith }))
+    (h _ (let e = at.error in record { from = omega arith; below = omega arith }))
+    (h _ (let e = at.first in record { from = omega arith; below = omega arith }))
+    (h _ (let e = at.last in record { from = omega arith; below = omega arith }))
+    (h _ (let e = at.empty in record { from = omega arith; below = omega arith }))
+
+pub show_same : (nets : BeatNets) (one other : Cycle) → shown_in one nets ≡ shown_in other nets → ShowSame nets one other
+show_same nets one other e = record { valid = ap (λ (s : Shown). s.valid) e; beat = ap (λ (s : Shown). s.beat) e }
+
+pub all_same : (nets : BeatNets) (one other : Cycle) → ShowSame nets one other → shown_in one nets ≡ shown_in other nets
+all_same nets one other h = rw (h.valid, h.beat) refl

@@ -1,2 +1,4 @@
 pub mod Growing
 pub mod Between
+pub mod Bits
+pub mod RegisterLaw

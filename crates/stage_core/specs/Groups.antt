@@ -55,6 +55,6 @@ StartsEmpty netlist nets = (run : Run) (cycles : ℕ) → IsRun netlist run cycl
 abbrev pub TakeNextBeat : Netlist → BeatNets → BeatNets → Type 0
 TakeNextBeat netlist nets next = (run : Run) (cycles : ℕ) → IsRun netlist run cycles → (c : ℕ) → c + 1 < cycles → shown_in (cycle_of run (c + 1)) nets ≡ shown_in (cycle_of run c) next
 
--- the nets show in the cycle what one beat's nets show where the bit isn't 0, and else what the other's show
+-- the nets show in the cycle what one beat's nets show where the bit is high, and else what the other's show
 abbrev pub Chooses : Cycle → ℕ → BeatNets → BeatNets → BeatNets → Type 0
-Chooses cycle bit one other nets = shown_in cycle nets ≡ (if bit == 0 then shown_in cycle other else shown_in cycle one)
+Chooses cycle bit one other nets = shown_in cycle nets ≡ (if bit == 1 then shown_in cycle one else shown_in cycle other)

@@ -5,9 +5,13 @@ pub mod beat;
 pub mod chain;
 pub mod makers;
 pub mod pass;
+pub mod register;
 pub mod stage;
+pub mod stream;
 
 pub use beat::BeatNets;
 pub use chain::Chain;
 pub use pass::Pass;
+pub use register::PipeReg;
 pub use stage::Stage;
+pub use stream::{StreamNets, emit_stream};

@@ -43,10 +43,10 @@ fn choose(builder: &mut Builder, bit: Net, one: Net, other: Net) -> Result<Net, 
 }
 
 /// Registers of the widths of a beat's nets, that begin at 0.
-pub fn reg_beat(builder: &mut Builder, like: BeatNets) -> Result<BeatNets, NetFault>
-    requires { AreBeatNets builder.old like }
+pub fn reg_beat(builder: &mut Builder, like: &BeatNets) -> Result<BeatNets, NetFault>
+    requires { AreBeatNets builder.old like.now }
     ensures beat { IfOk result (λ made. AreBeatNets builder.new made) }
-    ensures widths { IfOk result (λ made. HaveSameWidths made like) }
+    ensures widths { IfOk result (λ made. HaveSameWidths made like.now) }
     ensures registers { IfOk result (λ made. AreRegisters builder.new made (length builder.old.lines)) }
     ensures count { OnOk result (length builder.new.lines ≡ length builder.old.lines + 7) }
     ensures starts { IfOk result (λ made. StartsEmpty builder.new made) }
@@ -77,16 +77,16 @@ pub fn reg_beat(builder: &mut Builder, like: BeatNets) -> Result<BeatNets, NetFa
 pub fn mux_beat(
     builder: &mut Builder,
     bit: Net,
-    one: BeatNets,
-    other: BeatNets,
+    one: &BeatNets,
+    other: &BeatNets,
 ) -> Result<BeatNets, NetFault>
     requires bit { IsBit builder.old bit }
-    requires one { AreBeatNets builder.old one }
-    requires other { AreBeatNets builder.old other }
-    requires widths { HaveSameWidths one other }
+    requires one { AreBeatNets builder.old one.now }
+    requires other { AreBeatNets builder.old other.now }
+    requires widths { HaveSameWidths one.now other.now }
     ensures beat { IfOk result (λ made. AreBeatNets builder.new made) }
-    ensures widths { IfOk result (λ made. HaveSameWidths made one) }
-    ensures value { IfOk result (λ made. Always builder.new (λ cycle. Chooses cycle (cycle.net bit.number) one other made)) }
+    ensures widths { IfOk result (λ made. HaveSameWidths made one.now) }
+    ensures value { IfOk result (λ made. Always builder.new (λ cycle. Chooses cycle (cycle.net bit.number) one.now other.now made)) }
     ensures adds { AddsNets 7 builder.old builder.new }
     ensures full { result ≡ Err NetFault.TooManyNets → 2 ^ 20 < length builder.old.lines + 7 }
 {
@@ -109,15 +109,15 @@ pub fn mux_beat(
 }
 
 /// Gives the registers of a beat their next nets.
-pub fn set_next_beat(builder: &mut Builder, registers: BeatNets, next: BeatNets)
-    requires registers { AreBeatNets builder.old registers }
-    requires wait { AreRegisters builder.old registers registers.valid.number }
-    requires next { AreBeatNets builder.old next }
-    requires widths { HaveSameWidths registers next }
-    ensures value { TakeNextBeat builder.new registers next }
+pub fn set_next_beat(builder: &mut Builder, registers: &BeatNets, next: &BeatNets)
+    requires registers { AreBeatNets builder.old registers.now }
+    requires wait { AreRegisters builder.old registers.now registers.now.valid.number }
+    requires next { AreBeatNets builder.old next.now }
+    requires widths { HaveSameWidths registers.now next.now }
+    ensures value { TakeNextBeat builder.new registers.now next.now }
     ensures grows { GrowsBy 0 builder.old builder.new }
-    ensures still_wait { (n : ℕ) → ¬ IsOfBeat registers n → IsWaiting builder.old n → IsWaiting builder.new n }
-    ensures no_more_wait { WaitsWithout (IsOfBeat registers) builder.old builder.new }
+    ensures still_wait { (n : ℕ) → ¬ IsOfBeat registers.now n → IsWaiting builder.old n → IsWaiting builder.new n }
+    ensures no_more_wait { WaitsWithout (IsOfBeat registers.now) builder.old builder.new }
 {
     builder.set_next(registers.valid, next.valid);
     builder.set_next(registers.word, next.word);

@@ -69,6 +69,7 @@ pub trait Stage {
         ensures made { IfOk result (λ p. forward_in self.now from p.0 p.1 builder.new) }
         ensures grows { GrowsBy (forward_nets self.now) builder.old builder.new }
         ensures waits { StillWait builder.old builder.new }
+        ensures own_wait { IfOk result (λ p. (n : ℕ) → owns p.1 n → IsWaiting builder.new n) }
         ensures newly { IfOk result (λ p. WaitsBeside (owns p.1) builder.old builder.new) }
 
         // Memory may run out at any net.

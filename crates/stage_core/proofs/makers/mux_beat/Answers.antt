@@ -1,6 +1,8 @@
 use Rattle.std.proofs.Common.{◌==◌, ◌∙◌, arith}
 use Rattle.stage_core.specs.Groups.{shown_in}
-use Rattle.stage_core.proofs.Growing.{extends_twice, bit_lasts, adds_twice, adds_fewer, shown_chosen}
+use Rattle.stage_core.specs.Lasting.{bit_lasts}
+use Rattle.stage_core.proofs.Growing.{extends_twice, adds_twice, adds_fewer, shown_chosen, bit_fits}
+use Rattle.stage_core.proofs.Bits.{chosen_high}
 use Rattle.stage_core.proofs.makers.mux_beat.Goals as goal
 
 pub returns-in_err-word-clause-adds : goal.returns-in_err-word-clause-adds
@@ -50,7 +52,8 @@ returns-clause-value c cycle v7 =
     let v3 = c.choose-4.ensures.adds.grows.extends.valuations cycle v4 in
     let v2 = c.choose-3.ensures.adds.grows.extends.valuations cycle v3 in
     let v1 = c.choose-2.ensures.adds.grows.extends.valuations cycle v2 in
-    shown_chosen (cycle.net c.args.bit.number == 0) _ (shown_in cycle c.args.one) (shown_in cycle c.args.other) (c.in_ok-valid.ensures.value cycle v1) (c.in_ok-word.ensures.value cycle v2) (c.in_ok-channel.ensures.value cycle v3) (c.in_ok-error.ensures.value cycle v4) (c.in_ok-first.ensures.value cycle v5) (c.in_ok-last.ensures.value cycle v6) (c.in_ok-empty.ensures.value cycle v7)
+    let chosen = shown_chosen (cycle.net c.args.bit.number == 0) _ (shown_in cycle c.args.one.now) (shown_in cycle c.args.other.now) (c.in_ok-valid.ensures.value cycle v1) (c.in_ok-word.ensures.value cycle v2) (c.in_ok-channel.ensures.value cycle v3) (c.in_ok-error.ensures.value cycle v4) (c.in_ok-first.ensures.value cycle v5) (c.in_ok-last.ensures.value cycle v6) (c.in_ok-empty.ensures.value cycle v7) in
+    chosen ∙ chosen_high (cycle.net c.args.bit.number) _ _ (bit_fits _ _ c.requires.bit cycle (c.choose.ensures.adds.grows.extends.valuations cycle v1))
 
 pub choose-requires-4-clause-bit : goal.choose-requires-4-clause-bit
 choose-requires-4-clause-bit c = bit_lasts _ _ _ _ (extends_twice _ _ _ c.choose.ensures.adds.grows.extends (extends_twice _ _ _ c.choose-2.ensures.adds.grows.extends (c.choose-3.ensures.adds.grows.extends))) c.requires.bit

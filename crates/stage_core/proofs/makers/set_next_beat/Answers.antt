@@ -13,14 +13,14 @@ set_next-requires-2-clause-next_is c = (c.set_next.ensures.extends).nets _ _ c.r
 pub set_next-requires-2-clause-waits : goal.set_next-requires-2-clause-waits
 set_next-requires-2-clause-waits c =
     let at = c.requires.wait.numbers in
-    let n1 : c.args.registers.valid.number ≡ c.args.registers.valid.number = at.valid in
-    let n2 : c.args.registers.word.number ≡ c.args.registers.valid.number + 1 = at.word in
-    let n3 : c.args.registers.channel.number ≡ c.args.registers.valid.number + 2 = at.channel in
-    let n4 : c.args.registers.error.number ≡ c.args.registers.valid.number + 3 = at.error in
-    let n5 : c.args.registers.first.number ≡ c.args.registers.valid.number + 4 = at.first in
-    let n6 : c.args.registers.last.number ≡ c.args.registers.valid.number + 5 = at.last in
-    let n7 : c.args.registers.empty.number ≡ c.args.registers.valid.number + 6 = at.empty in
-    (c.set_next.ensures.still_wait c.args.registers.word.number (λ same. absurd (omega (arith, same))) (c.requires.wait.wait _ (record { from = omega arith; below = omega arith })))
+    let n1 : c.args.registers.now.valid.number ≡ c.args.registers.now.valid.number = at.valid in
+    let n2 : c.args.registers.now.word.number ≡ c.args.registers.now.valid.number + 1 = at.word in
+    let n3 : c.args.registers.now.channel.number ≡ c.args.registers.now.valid.number + 2 = at.channel in
+    let n4 : c.args.registers.now.error.number ≡ c.args.registers.now.valid.number + 3 = at.error in
+    let n5 : c.args.registers.now.first.number ≡ c.args.registers.now.valid.number + 4 = at.first in
+    let n6 : c.args.registers.now.last.number ≡ c.args.registers.now.valid.number + 5 = at.last in
+    let n7 : c.args.registers.now.empty.number ≡ c.args.registers.now.valid.number + 6 = at.empty in
+    (c.set_next.ensures.still_wait c.args.registers.now.word.number (λ same. absurd (omega (arith, same))) (c.requires.wait.wait _ (record { from = omega arith; below = omega arith })))
 
 pub set_next-requires-3-clause-register_is : goal.set_next-requires-3-clause-register_is
 set_next-requires-3-clause-register_is c = (extends_twice _ _ _ c.set_next.ensures.extends (c.set_next-2.ensures.extends)).nets _ _ c.requires.registers.channel
@@ -31,14 +31,14 @@ set_next-requires-3-clause-next_is c = (extends_twice _ _ _ c.set_next.ensures.e
 pub set_next-requires-3-clause-waits : goal.set_next-requires-3-clause-waits
 set_next-requires-3-clause-waits c =
     let at = c.requires.wait.numbers in
-    let n1 : c.args.registers.valid.number ≡ c.args.registers.valid.number = at.valid in
-    let n2 : c.args.registers.word.number ≡ c.args.registers.valid.number + 1 = at.word in
-    let n3 : c.args.registers.channel.number ≡ c.args.registers.valid.number + 2 = at.channel in
-    let n4 : c.args.registers.error.number ≡ c.args.registers.valid.number + 3 = at.error in
-    let n5 : c.args.registers.first.number ≡ c.args.registers.valid.number + 4 = at.first in
-    let n6 : c.args.registers.last.number ≡ c.args.registers.valid.number + 5 = at.last in
-    let n7 : c.args.registers.empty.number ≡ c.args.registers.valid.number + 6 = at.empty in
-    (c.set_next-2.ensures.still_wait c.args.registers.channel.number (λ same. absurd (omega (arith, same))) (c.set_next.ensures.still_wait c.args.registers.channel.number (λ same. absurd (omega (arith, same))) (c.requires.wait.wait _ (record { from = omega arith; below = omega arith }))))
+    let n1 : c.args.registers.now.valid.number ≡ c.args.registers.now.valid.number = at.valid in
+    let n2 : c.args.registers.now.word.number ≡ c.args.registers.now.valid.number + 1 = at.word in
+    let n3 : c.args.registers.now.channel.number ≡ c.args.registers.now.valid.number + 2 = at.channel in
+    let n4 : c.args.registers.now.error.number ≡ c.args.registers.now.valid.number + 3 = at.error in
+    let n5 : c.args.registers.now.first.number ≡ c.args.registers.now.valid.number + 4 = at.first in
+    let n6 : c.args.registers.now.last.number ≡ c.args.registers.now.valid.number + 5 = at.last in
+    let n7 : c.args.registers.now.empty.number ≡ c.args.registers.now.valid.number + 6 = at.empty in
+    (c.set_next-2.ensures.still_wait c.args.registers.now.channel.number (λ same. absurd (omega (arith, same))) (c.set_next.ensures.still_wait c.args.registers.now.channel.number (λ same. absurd (omega (arith, same))) (c.requires.wait.wait _ (record { from = omega arith; below = omega arith }))))
 
 pub set_next-requires-4-clause-register_is : goal.set_next-requires-4-clause-register_is
 set_next-requires-4-clause-register_is c = (extends_twice _ _ _ c.set_next.ensures.extends (extends_twice _ _ _ c.set_next-2.ensures.extends (c.set_next-3.ensures.extends))).nets _ _ c.requires.registers.error
@@ -49,14 +49,14 @@ set_next-requires-4-clause-next_is c = (extends_twice _ _ _ c.set_next.ensures.e
 pub set_next-requires-4-clause-waits : goal.set_next-requires-4-clause-waits
 set_next-requires-4-clause-waits c =
     let at = c.requires.wait.numbers in
-    let n1 : c.args.registers.valid.number ≡ c.args.registers.valid.number = at.valid in
-    let n2 : c.args.registers.word.number ≡ c.args.registers.valid.number + 1 = at.word in
-    let n3 : c.args.registers.channel.number ≡ c.args.registers.valid.number + 2 = at.channel in
-    let n4 : c.args.registers.error.number ≡ c.args.registers.valid.number + 3 = at.error in
-    let n5 : c.args.registers.first.number ≡ c.args.registers.valid.number + 4 = at.first in
-    let n6 : c.args.registers.last.number ≡ c.args.registers.valid.number + 5 = at.last in
-    let n7 : c.args.registers.empty.number ≡ c.args.registers.valid.number + 6 = at.empty in
-    (c.set_next-3.ensures.still_wait c.args.registers.error.number (λ same. absurd (omega (arith, same))) (c.set_next-2.ensures.still_wait c.args.registers.error.number (λ same. absurd (omega (arith, same))) (c.set_next.ensures.still_wait c.args.registers.error.number (λ same. absurd (omega (arith, same))) (c.requires.wait.wait _ (record { from = omega arith; below = omega arith })))))
+    let n1 : c.args.registers.now.valid.number ≡ c.args.registers.now.valid.number = at.valid in
+    let n2 : c.args.registers.now.word.number ≡ c.args.registers.now.valid.number + 1 = at.word in
+    let n3 : c.args.registers.now.channel.number ≡ c.args.registers.now.valid.number + 2 = at.channel in
+    let n4 : c.args.registers.now.error.number ≡ c.args.registers.now.valid.number + 3 = at.error in
+    let n5 : c.args.registers.now.first.number ≡ c.args.registers.now.valid.number + 4 = at.first in
+    let n6 : c.args.registers.now.last.number ≡ c.args.registers.now.valid.number + 5 = at.last in
+    let n7 : c.args.registers.now.empty.number ≡ c.args.registers.now.valid.number + 6 = at.empty in
+    (c.set_next-3.ensures.still_wait c.args.registers.now.error.number (λ same. absurd (omega (arith, same))) (c.set_next-2.ensures.still_wait c.args.registers.now.error.number (λ same. absurd (omega (arith, same))) (c.set_next.ensures.still_wait c.args.registers.now.error.number (λ same. absurd (omega (arith, same))) (c.requires.wait.wait _ (record { from = omega arith; below = omega arith })))))
 
 pub set_next-requires-5-clause-register_is : goal.set_next-requires-5-clause-register_is
 set_next-requires-5-clause-register_is c = (extends_twice _ _ _ c.set_next.ensures.extends (extends_twice _ _ _ c.set_next-2.ensures.extends (extends_twice _ _ _ c.set_next-3.ensures.extends (c.set_next-4.ensures.extends)))).nets _ _ c.requires.registers.first.is_net
@@ -67,14 +67,14 @@ set_next-requires-5-clause-next_is c = (extends_twice _ _ _ c.set_next.ensures.e
 pub set_next-requires-5-clause-waits : goal.set_next-requires-5-clause-waits
 set_next-requires-5-clause-waits c =
     let at = c.requires.wait.numbers in
-    let n1 : c.args.registers.valid.number ≡ c.args.registers.valid.number = at.valid in
-    let n2 : c.args.registers.word.number ≡ c.args.registers.valid.number + 1 = at.word in
-    let n3 : c.args.registers.channel.number ≡ c.args.registers.valid.number + 2 = at.channel in
-    let n4 : c.args.registers.error.number ≡ c.args.registers.valid.number + 3 = at.error in
-    let n5 : c.args.registers.first.number ≡ c.args.registers.valid.number + 4 = at.first in
-    let n6 : c.args.registers.last.number ≡ c.args.registers.valid.number + 5 = at.last in
-    let n7 : c.args.registers.empty.number ≡ c.args.registers.valid.number + 6 = at.empty in
-    (c.set_next-4.ensures.still_wait c.args.registers.first.number (λ same. absurd (omega (arith, same))) (c.set_next-3.ensures.still_wait c.args.registers.first.number (λ same. absurd (omega (arith, same))) (c.set_next-2.ensures.still_wait c.args.registers.first.number (λ same. absurd (omega (arith, same))) (c.set_next.ensures.still_wait c.args.registers.first.number (λ same. absurd (omega (arith, same))) (c.requires.wait.wait _ (record { from = omega arith; below = omega arith }))))))
+    let n1 : c.args.registers.now.valid.number ≡ c.args.registers.now.valid.number = at.valid in
+    let n2 : c.args.registers.now.word.number ≡ c.args.registers.now.valid.number + 1 = at.word in
+    let n3 : c.args.registers.now.channel.number ≡ c.args.registers.now.valid.number + 2 = at.channel in
+    let n4 : c.args.registers.now.error.number ≡ c.args.registers.now.valid.number + 3 = at.error in
+    let n5 : c.args.registers.now.first.number ≡ c.args.registers.now.valid.number + 4 = at.first in
+    let n6 : c.args.registers.now.last.number ≡ c.args.registers.now.valid.number + 5 = at.last in
+    let n7 : c.args.registers.now.empty.number ≡ c.args.registers.now.valid.number + 6 = at.empty in
+    (c.set_next-4.ensures.still_wait c.args.registers.now.first.number (λ same. absurd (omega (arith, same))) (c.set_next-3.ensures.still_wait c.args.registers.now.first.number (λ same. absurd (omega (arith, same))) (c.set_next-2.ensures.still_wait c.args.registers.now.first.number (λ same. absurd (omega (arith, same))) (c.set_next.ensures.still_wait c.args.registers.now.first.number (λ same. absurd (omega (arith, same))) (c.requires.wait.wait _ (record { from = omega arith; below = omega arith }))))))
 
 pub set_next-requires-6-clause-register_is : goal.set_next-requires-6-clause-register_is
 set_next-requires-6-clause-register_is c = (extends_twice _ _ _ c.set_next.ensures.extends (extends_twice _ _ _ c.set_next-2.ensures.extends (extends_twice _ _ _ c.set_next-3.ensures.extends (extends_twice _ _ _ c.set_next-4.ensures.extends (c.set_next-5.ensures.extends))))).nets _ _ c.requires.registers.last.is_net
@@ -85,14 +85,14 @@ set_next-requires-6-clause-next_is c = (extends_twice _ _ _ c.set_next.ensures.e
 pub set_next-requires-6-clause-waits : goal.set_next-requires-6-clause-waits
 set_next-requires-6-clause-waits c =
     let at = c.requires.wait.numbers in
-    let n1 : c.args.registers.valid.number ≡ c.args.registers.valid.number = at.valid in
-    let n2 : c.args.registers.word.number ≡ c.args.registers.valid.number + 1 = at.word in
-    let n3 : c.args.registers.channel.number ≡ c.args.registers.valid.number + 2 = at.channel in
-    let n4 : c.args.registers.error.number ≡ c.args.registers.valid.number + 3 = at.error in
-    let n5 : c.args.registers.first.number ≡ c.args.registers.valid.number + 4 = at.first in
-    let n6 : c.args.registers.last.number ≡ c.args.registers.valid.number + 5 = at.last in
-    let n7 : c.args.registers.empty.number ≡ c.args.registers.valid.number + 6 = at.empty in
-    (c.set_next-5.ensures.still_wait c.args.registers.last.number (λ same. absurd (omega (arith, same))) (c.set_next-4.ensures.still_wait c.args.registers.last.number (λ same. absurd (omega (arith, same))) (c.set_next-3.ensures.still_wait c.args.registers.last.number (λ same. absurd (omega (arith, same))) (c.set_next-2.ensures.still_wait c.args.registers.last.number (λ same. absurd (omega (arith, same))) (c.set_next.ensures.still_wait c.args.registers.last.number (λ same. absurd (omega (arith, same))) (c.requires.wait.wait _ (record { from = omega arith; below = omega arith })))))))
+    let n1 : c.args.registers.now.valid.number ≡ c.args.registers.now.valid.number = at.valid in
+    let n2 : c.args.registers.now.word.number ≡ c.args.registers.now.valid.number + 1 = at.word in
+    let n3 : c.args.registers.now.channel.number ≡ c.args.registers.now.valid.number + 2 = at.channel in
+    let n4 : c.args.registers.now.error.number ≡ c.args.registers.now.valid.number + 3 = at.error in
+    let n5 : c.args.registers.now.first.number ≡ c.args.registers.now.valid.number + 4 = at.first in
+    let n6 : c.args.registers.now.last.number ≡ c.args.registers.now.valid.number + 5 = at.last in
+    let n7 : c.args.registers.now.empty.number ≡ c.args.registers.now.valid.number + 6 = at.empty in
+    (c.set_next-5.ensures.still_wait c.args.registers.now.last.number (λ same. absurd (omega (arith, same))) (c.set_next-4.ensures.still_wait c.args.registers.now.last.number (λ same. absurd (omega (arith, same))) (c.set_next-3.ensures.still_wait c.args.registers.now.last.number (λ same. absurd (omega (arith, same))) (c.set_next-2.ensures.still_wait c.args.registers.now.last.number (λ same. absurd (omega (arith, same))) (c.set_next.ensures.still_wait c.args.registers.now.last.number (λ same. absurd (omega (arith, same))) (c.requires.wait.wait _ (record { from = omega arith; below = omega arith })))))))
 
 pub set_next-requires-7-clause-register_is : goal.set_next-requires-7-clause-register_is
 set_next-requires-7-clause-register_is c = (extends_twice _ _ _ c.set_next.ensures.extends (extends_twice _ _ _ c.set_next-2.ensures.extends (extends_twice _ _ _ c.set_next-3.ensures.extends (extends_twice _ _ _ c.set_next-4.ensures.extends (extends_twice _ _ _ c.set_next-5.ensures.extends (c.set_next-6.ensures.extends)))))).nets _ _ c.requires.registers.empty
@@ -103,14 +103,14 @@ set_next-requires-7-clause-next_is c = (extends_twice _ _ _ c.set_next.ensures.e
 pub set_next-requires-7-clause-waits : goal.set_next-requires-7-clause-waits
 set_next-requires-7-clause-waits c =
     let at = c.requires.wait.numbers in
-    let n1 : c.args.registers.valid.number ≡ c.args.registers.valid.number = at.valid in
-    let n2 : c.args.registers.word.number ≡ c.args.registers.valid.number + 1 = at.word in
-    let n3 : c.args.registers.channel.number ≡ c.args.registers.valid.number + 2 = at.channel in
-    let n4 : c.args.registers.error.number ≡ c.args.registers.valid.number + 3 = at.error in
-    let n5 : c.args.registers.first.number ≡ c.args.registers.valid.number + 4 = at.first in
-    let n6 : c.args.registers.last.number ≡ c.args.registers.valid.number + 5 = at.last in
-    let n7 : c.args.registers.empty.number ≡ c.args.registers.valid.number + 6 = at.empty in
-    (c.set_next-6.ensures.still_wait c.args.registers.empty.number (λ same. absurd (omega (arith, same))) (c.set_next-5.ensures.still_wait c.args.registers.empty.number (λ same. absurd (omega (arith, same))) (c.set_next-4.ensures.still_wait c.args.registers.empty.number (λ same. absurd (omega (arith, same))) (c.set_next-3.ensures.still_wait c.args.registers.empty.number (λ same. absurd (omega (arith, same))) (c.set_next-2.ensures.still_wait c.args.registers.empty.number (λ same. absurd (omega (arith, same))) (c.set_next.ensures.still_wait c.args.registers.empty.number (λ same. absurd (omega (arith, same))) (c.requires.wait.wait _ (record { from = omega arith; below = omega arith }))))))))
+    let n1 : c.args.registers.now.valid.number ≡ c.args.registers.now.valid.number = at.valid in
+    let n2 : c.args.registers.now.word.number ≡ c.args.registers.now.valid.number + 1 = at.word in
+    let n3 : c.args.registers.now.channel.number ≡ c.args.registers.now.valid.number + 2 = at.channel in
+    let n4 : c.args.registers.now.error.number ≡ c.args.registers.now.valid.number + 3 = at.error in
+    let n5 : c.args.registers.now.first.number ≡ c.args.registers.now.valid.number + 4 = at.first in
+    let n6 : c.args.registers.now.last.number ≡ c.args.registers.now.valid.number + 5 = at.last in
+    let n7 : c.args.registers.now.empty.number ≡ c.args.registers.now.valid.number + 6 = at.empty in
+    (c.set_next-6.ensures.still_wait c.args.registers.now.empty.number (λ same. absurd (omega (arith, same))) (c.set_next-5.ensures.still_wait c.args.registers.now.empty.number (λ same. absurd (omega (arith, same))) (c.set_next-4.ensures.still_wait c.args.registers.now.empty.number (λ same. absurd (omega (arith, same))) (c.set_next-3.ensures.still_wait c.args.registers.now.empty.number (λ same. absurd (omega (arith, same))) (c.set_next-2.ensures.still_wait c.args.registers.now.empty.number (λ same. absurd (omega (arith, same))) (c.set_next.ensures.still_wait c.args.registers.now.empty.number (λ same. absurd (omega (arith, same))) (c.requires.wait.wait _ (record { from = omega arith; below = omega arith }))))))))
 
 pub returns-clause-grows : goal.returns-clause-grows
 returns-clause-grows c = record {
@@ -135,18 +135,18 @@ returns-clause-value c run cycles r7 n lt =
     let r3 = c.set_next-4.ensures.extends.runs run cycles r4 in
     let r2 = c.set_next-3.ensures.extends.runs run cycles r3 in
     let r1 = c.set_next-2.ensures.extends.runs run cycles r2 in
-    shown_same (shown_in (cycle_of run (n + 1)) c.args.registers) (shown_in (cycle_of run n) c.args.next) (c.set_next.ensures.value run cycles r1 n lt) (c.set_next-2.ensures.value run cycles r2 n lt) (c.set_next-3.ensures.value run cycles r3 n lt) (c.set_next-4.ensures.value run cycles r4 n lt) (c.set_next-5.ensures.value run cycles r5 n lt) (c.set_next-6.ensures.value run cycles r6 n lt) (c.set_next-7.ensures.value run cycles r7 n lt)
+    shown_same (shown_in (cycle_of run (n + 1)) c.args.registers.now) (shown_in (cycle_of run n) c.args.next.now) (c.set_next.ensures.value run cycles r1 n lt) (c.set_next-2.ensures.value run cycles r2 n lt) (c.set_next-3.ensures.value run cycles r3 n lt) (c.set_next-4.ensures.value run cycles r4 n lt) (c.set_next-5.ensures.value run cycles r5 n lt) (c.set_next-6.ensures.value run cycles r6 n lt) (c.set_next-7.ensures.value run cycles r7 n lt)
 
 pub returns-clause-still_wait : goal.returns-clause-still_wait
 returns-clause-still_wait c n apart w =
     let at = c.requires.wait.numbers in
-    let n1 : c.args.registers.valid.number ≡ c.args.registers.valid.number = at.valid in
-    let n2 : c.args.registers.word.number ≡ c.args.registers.valid.number + 1 = at.word in
-    let n3 : c.args.registers.channel.number ≡ c.args.registers.valid.number + 2 = at.channel in
-    let n4 : c.args.registers.error.number ≡ c.args.registers.valid.number + 3 = at.error in
-    let n5 : c.args.registers.first.number ≡ c.args.registers.valid.number + 4 = at.first in
-    let n6 : c.args.registers.last.number ≡ c.args.registers.valid.number + 5 = at.last in
-    let n7 : c.args.registers.empty.number ≡ c.args.registers.valid.number + 6 = at.empty in
+    let n1 : c.args.registers.now.valid.number ≡ c.args.registers.now.valid.number = at.valid in
+    let n2 : c.args.registers.now.word.number ≡ c.args.registers.now.valid.number + 1 = at.word in
+    let n3 : c.args.registers.now.channel.number ≡ c.args.registers.now.valid.number + 2 = at.channel in
+    let n4 : c.args.registers.now.error.number ≡ c.args.registers.now.valid.number + 3 = at.error in
+    let n5 : c.args.registers.now.first.number ≡ c.args.registers.now.valid.number + 4 = at.first in
+    let n6 : c.args.registers.now.last.number ≡ c.args.registers.now.valid.number + 5 = at.last in
+    let n7 : c.args.registers.now.empty.number ≡ c.args.registers.now.valid.number + 6 = at.empty in
     (c.set_next-7.ensures.still_wait n (λ same. apart (record { from = omega (arith, same); below = omega (arith, same) })) (c.set_next-6.ensures.still_wait n (λ same. apart (record { from = omega (arith, same); below = omega (arith, same) })) (c.set_next-5.ensures.still_wait n (λ same. apart (record { from = omega (arith, same); below = omega (arith, same) })) (c.set_next-4.ensures.still_wait n (λ same. apart (record { from = omega (arith, same); below = omega (arith, same) })) (c.set_next-3.ensures.still_wait n (λ same. apart (record { from = omega (arith, same); below = omega (arith, same) })) (c.set_next-2.ensures.still_wait n (λ same. apart (record { from = omega (arith, same); below = omega (arith, same) })) (c.set_next.ensures.still_wait n (λ same. apart (record { from = omega (arith, same); below = omega (arith, same) })) w)))))))
 
 pub returns-clause-no_more_wait : goal.returns-clause-no_more_wait
@@ -158,4 +158,4 @@ returns-clause-no_more_wait c n w7 =
     let w2 = c.set_next-3.ensures.no_more_wait n w3.0 in
     let w1 = c.set_next-2.ensures.no_more_wait n w2.0 in
     let w0 = c.set_next.ensures.no_more_wait n w1.0 in
-    (w0.0, λ own. of_each (λ m. ¬ (n ≡ m)) c.args.registers c.args.registers.valid.number c.requires.wait.numbers w0.1 w1.1 w2.1 w3.1 w4.1 w5.1 w6.1 n own refl)
+    (w0.0, λ own. of_each (λ m. ¬ (n ≡ m)) c.args.registers.now c.args.registers.now.valid.number c.requires.wait.numbers w0.1 w1.1 w2.1 w3.1 w4.1 w5.1 w6.1 n own refl)

@@ -28,3 +28,10 @@ returns-clause-made g c = record {
   first = g.met.A.Stage.forward_lasts _ _ _ _ _ _ c.in_ok-middle.ensures.made c.emit_forward-2.ensures.grows.extends;
   second = c.in_ok-to.ensures.made;
 }
+
+pub returns-clause-own_wait : goal.returns-clause-own_wait
+returns-clause-own_wait g c n o =
+    elim o [
+      | inl p ↦ c.emit_forward-2.ensures.waits n (c.in_ok-middle.ensures.own_wait n p)
+      | inr p ↦ c.in_ok-to.ensures.own_wait n p
+    ]

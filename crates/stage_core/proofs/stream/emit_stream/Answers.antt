@@ -1,0 +1,40 @@
+use Rattle.std.proofs.Common.{arith}
+use Rattle.stage_core.specs.Lasting.{beat_lasts}
+use Rattle.stage_core.proofs.Growing.{extends_twice, grows_twice, owned_same, waiting_within}
+use Rattle.stage_core.proofs.stream.emit_stream.Goals as goal
+
+pub returns-in_err-ready-clause-grows : goal.returns-in_err-ready-clause-grows
+returns-in_err-ready-clause-grows g c = grows_twice _ _ _ _ _ c.emit_forward.ensures.grows c.emit_backward.ensures.grows
+
+pub returns-clause-grows : goal.returns-clause-grows
+returns-clause-grows g c = grows_twice _ _ _ _ _ c.emit_forward.ensures.grows c.emit_backward.ensures.grows
+
+pub returns-clause-keeps : goal.returns-clause-keeps
+returns-clause-keeps g c shape has longer e run endless =
+    c.law.ensures.keeps shape c.args.from c.in_ok-beat.beat c.in_ok-beat.kept c.args.ready c.in_ok-ready.ready longer has
+    (g.met.S.Stage.forward_lasts _ _ _ _ _ _ c.in_ok-beat.ensures.made (extends_twice _ _ _ c.emit_backward.ensures.grows.extends e))
+    (g.met.S.Stage.backward_lasts _ _ _ _ _ _ c.in_ok-ready.ensures.made e) run endless
+
+pub returns-clause-passes : goal.returns-clause-passes
+returns-clause-passes g c shape has longer e run endless =
+    c.law.ensures.ready shape c.args.from c.in_ok-beat.beat c.in_ok-beat.kept c.args.ready c.in_ok-ready.ready longer has
+    (g.met.S.Stage.forward_lasts _ _ _ _ _ _ c.in_ok-beat.ensures.made (extends_twice _ _ _ c.emit_backward.ensures.grows.extends e))
+    (g.met.S.Stage.backward_lasts _ _ _ _ _ _ c.in_ok-ready.ensures.made e) run endless
+
+pub returns-clause-ignores_ready : goal.returns-clause-ignores_ready
+returns-clause-ignores_ready g c longer e one other v w state same =
+    let more = extends_twice _ _ _ c.emit_backward.ensures.grows.extends e in
+    c.law.ensures.ignores_ready c.args.from c.in_ok-beat.beat c.in_ok-beat.kept longer
+    (g.met.S.Stage.forward_lasts _ _ _ _ _ _ c.in_ok-beat.ensures.made more) one other v w
+    (λ n o. owned_same c.emit_forward.new.builder longer n one other c.well_made.ensures more (c.in_ok-beat.ensures.own_wait n o) state) same
+
+pub returns-clause-beat : goal.returns-clause-beat
+returns-clause-beat g c = beat_lasts _ _ _ c.emit_backward.ensures.grows.extends c.in_ok-beat.ensures.beat
+
+pub returns-in_err-ready-clause-waits : goal.returns-in_err-ready-clause-waits
+returns-in_err-ready-clause-waits g c n w =
+    c.emit_backward.ensures.waits n (λ o. (let at = c.in_ok-beat.ensures.owned n o in let below = waiting_within c.args.builder.now n w in absurd (omega arith))) (c.emit_forward.ensures.waits n w)
+
+pub returns-clause-waits : goal.returns-clause-waits
+returns-clause-waits g c n w =
+    c.emit_backward.ensures.waits n (λ o. (let at = c.in_ok-beat.ensures.owned n o in let below = waiting_within c.args.builder.now n w in absurd (omega arith))) (c.emit_forward.ensures.waits n w)

@@ -1,0 +1,57 @@
+//! A whole stage between the nets of a source and those of a sink.
+
+ghost use Rattle.std.specs.Prelude.{◌≡◌, ◌+◌, ◌^◌, ◌<◌, ◌≤◌, length, IfOk, OnOk};
+ghost use Rattle.stream_machines.specs.Stage.{Shape};
+ghost use Rattle.stage_core.specs.Beats.{widths_of, IsBit, AreBeatNets};
+ghost use Rattle.stage_core.specs.Growth.{GrowsBy, StillWait};
+ghost use Rattle.stage_core.specs.Law.{KeepsInLonger, PassesInLonger, IgnoresInLonger};
+
+use crate::beat::BeatNets;
+use crate::stage::Stage;
+use netlist::{Builder, Net, NetFault};
+
+/// The nets that a stage gives.
+#[derive(Clone, Copy, Debug)]
+pub struct StreamNets {
+    /// To the sink.
+    pub beat: BeatNets,
+    /// To the source, one bit.
+    pub ready: Net,
+}
+
+/// Makes a stage from the beat of a source and the ready of a sink. After an error the builder is to be dropped.
+pub fn emit_stream<S: Stage>(
+    stage: &S,
+    builder: &mut Builder,
+    from: BeatNets,
+    ready: Net,
+) -> Result<StreamNets, NetFault>
+    requires from { AreBeatNets builder.old from }
+    requires widths { S.takes stage.now (widths_of from) }
+    requires ready { IsBit builder.old ready }
+    ensures beat { IfOk result (λ made. AreBeatNets builder.new made.beat) }
+    ensures widths { IfOk result (λ made. widths_of made.beat ≡ S.gives stage.now (widths_of from)) }
+    ensures ready { IfOk result (λ made. IsBit builder.new made.ready) }
+
+    // In each endless run of each longer netlist the stage keeps its law,
+    ensures keeps { IfOk result (λ made. (shape : Shape) → S.has_shape stage.now shape
+        → KeepsInLonger shape builder.new from made.ready made.beat ready) }
+    ensures passes { IfOk result (λ made. (shape : Shape) → S.passes_ready stage.now shape
+        → PassesInLonger shape builder.new from made.ready made.beat ready) }
+
+    // and its beat doesn't depend on the ready of the same cycle.
+    ensures ignores_ready { IfOk result (λ made. IgnoresInLonger builder.new from made.beat) }
+    ensures grows { GrowsBy (S.forward_nets stage.now + S.backward_nets stage.now) builder.old builder.new }
+    ensures waits { StillWait builder.old builder.new }
+    ensures no_more_wait { OnOk result (StillWait builder.new builder.old) }
+
+    // Memory may run out at any net.
+    ensures full { result ≡ Err NetFault.TooManyNets
+        → 2 ^ 20 < length builder.old.lines + (S.forward_nets stage.now + S.backward_nets stage.now) }
+{
+    stage.law();
+    let (beat, kept) = stage.emit_forward(builder, from)?;
+    builder.well_made();
+    let ready = stage.emit_backward(builder, kept, ready)?;
+    Ok(StreamNets { beat, ready })
+}
