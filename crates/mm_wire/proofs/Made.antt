@@ -1,5 +1,5 @@
 -- What the nets of a wire do in each cycle, and that it is the machine.
-use Rattle.std.proofs.Common.{◌≡◌, ℕ, suc, ◌+◌, ◌/◌, ◌<◌, ◌^◌, if◌then◌else◌, nat_eq, Option, Some, None, refl, sym, ap, ◌∙◌, arith}
+use Rattle.std.proofs.Common.{◌≡◌, ℕ, suc, ◌+◌, ◌-◌, ◌/◌, ◌%◌, ◌<◌, ◌≤◌, ◌^◌, if◌then◌else◌, nat_eq, Option, Some, None, refl, sym, subst, ap, ◌∙◌, arith}
 use Rattle.std.specs.Prelude.{IfSome, IsFalse, is_some}
 use Rattle.netlist.specs.Nets.{NetValue}
 use Rattle.netlist.specs.Netlists.{Netlist}
@@ -12,8 +12,8 @@ use Rattle.mm_wire.specs.declared.nets.WireNets.{WireNets}
 use Rattle.mm_wire.specs.Nets.{IsNetOfWidth}
 use Rattle.mm_wire.specs.Parts.{IsGated, IsNextCount}
 use Rattle.mm_wire.specs.Wires.{AreHostNets, enables_of, host_view, form_of, RunsAsWire, IgnoresWord}
-use Rattle.mm_wire.proofs.Growth.{net_fits, net_lasts}
-use Rattle.mm_wire.proofs.Bits.{taken_alike, address_below}
+use Rattle.mm_wire.proofs.Growth.{extends_twice, net_fits, net_lasts}
+use Rattle.mm_wire.proofs.Bits.{taken_alike, word_address, address_below}
 
 -- the count goes on from each cycle to the next
 abbrev pub Counts : Netlist → AgentNets → WireNets → Type 0
@@ -42,6 +42,47 @@ host_lasts a b host address_bits e h = record {
   writedata = net_lasts a b host.writedata 32 e h.writedata;
   byteenable = maybe_lasts a b host.byteenable e h.byteenable;
 }
+
+-- the netlists that the wire's parts leave, one after the other, and what each part says of its own
+pub record IsBuilt (b1 b2 b3 b4 b5 b6 : Netlist) (host : HostNets) (agent : AgentNets) (made : WireNets) (next address_bits pending : ℕ) : Type 0 where
+  pub nets : AreHostNets b1 host address_bits
+  pub gated : Extends b1 b2
+  pub granted : Extends b2 b3
+  pub counted : Extends b3 b4
+  pub set : Extends b4 b5
+  pub sliced : Extends b5 b6
+  pub starts : (run : Run) (cycles : ℕ) → IsRun b1 run cycles → 0 < cycles → run.net 0 made.unanswered.number ≡ 0
+  pub gate : Always b2 (λ cycle. IsGated pending (cycle.net made.unanswered.number) (cycle.net host.read.number) (cycle.net agent.waitrequest.number) (cycle.net made.read.number) (cycle.net made.waitrequest.number))
+  pub grant : Always b3 (λ cycle. cycle.net made.grant.number ≡ 0)
+  pub count : Always b4 (λ cycle. IsNextCount (cycle.net made.unanswered.number) (cycle.net made.read.number) (cycle.net agent.waitrequest.number) (cycle.net agent.readdatavalid.number) (cycle.net next))
+  pub steps : (run : Run) (cycles : ℕ) → IsRun b5 run cycles → (c : ℕ) → c + 1 < cycles → run.net (c + 1) made.unanswered.number ≡ run.net c next
+  pub slice : Always b6 (λ cycle. cycle.net made.address.number ≡ cycle.net host.address.number / 2 ^ 2 % 2 ^ ((address_bits + 1) - 2 + 1))
+
+pub made_of : (b1 b2 b3 b4 b5 b6 : Netlist) (host : HostNets) (agent : AgentNets) (made : WireNets) (next address_bits pending : ℕ) → 1 ≤ address_bits →
+    IsBuilt b1 b2 b3 b4 b5 b6 host agent made next address_bits pending → IsMade b6 host agent made address_bits pending
+made_of b1 b2 b3 b4 b5 b6 host agent made next address_bits pending some b = record {
+  nets = nets;
+  gate = λ cycle v. b.gate cycle (last2.valuations cycle v);
+  grant = λ cycle v. b.grant cycle (last3.valuations cycle v);
+  address = λ cycle v. b.slice cycle v ∙ word_address (cycle.net host.address.number) address_bits (net_fits b6 host.address (address_bits + 2) nets.address cycle v) some;
+  starts = λ run cycles r. b.starts run cycles (last1.runs run cycles r);
+  counts = λ run cycles r n lt.
+      (let r5 = b.sliced.runs run cycles r in
+      let r4 = b.set.runs run cycles r5 in
+      subst (λ k. IsNextCount (run.net n made.unanswered.number) (run.net n made.read.number) (run.net n agent.waitrequest.number) (run.net n agent.readdatavalid.number) k)
+      (sym (b.steps run cycles r5 n lt)) (b.count (cycle_of run n) (r4.valuations n (omega arith))));
+} where
+  last3 : Extends b3 b6
+  last3 = extends_twice b3 b4 b6 b.counted (extends_twice b4 b5 b6 b.set b.sliced)
+
+  last2 : Extends b2 b6
+  last2 = extends_twice b2 b3 b6 b.granted last3
+
+  last1 : Extends b1 b6
+  last1 = extends_twice b1 b2 b6 b.gated last2
+
+  nets : AreHostNets b6 host address_bits
+  nets = host_lasts b1 b6 host address_bits last1 b.nets
 
 enables_fit : (netlist : Netlist) (o : Option NetValue) → IfSome o (λ net. IsNetOfWidth netlist net 4) → (run : Run) (c : ℕ) → IsValuation netlist (cycle_of run c) → enables_of run o c < 2 ^ 4
 enables_fit netlist None h run c v = omega arith
