@@ -1,0 +1,13 @@
+pub mod Runs
+pub mod Braces
+pub mod Levels
+pub mod Quotes
+pub mod BareWords
+pub mod Comments
+pub mod PieceLemmas
+pub mod PieceAgain
+pub mod Scripts
+pub mod ScriptLaws
+pub mod Encoding
+pub mod Steps
+pub mod Reader

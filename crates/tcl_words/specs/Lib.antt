@@ -1,0 +1,5 @@
+pub mod Bytes
+pub mod Reading
+pub mod Rules
+pub mod Script
+pub mod Spelling

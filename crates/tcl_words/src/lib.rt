@@ -1,0 +1,16 @@
+//! The words of a script, as the Tcl command language splits them.
+#![tactic(auto)]
+
+mod laws;
+mod pieces;
+mod rule;
+mod scan;
+mod words;
+
+pub use laws::{no_two_readings, spelled_or_faulty};
+pub use rule::{Rule, WordsFault};
+pub use scan::is_plain;
+pub use words::{Commands, Word};
+
+#[cfg(test)]
+mod tests;
