@@ -17,18 +17,18 @@ use Rattle.iface_roles.specs.Roles.{all_roles}
 use Rattle.iface_roles.specs.Rules.{tests, KeepsRules, is_odd, is_word, is_beat, has_odd_width, has_odd_data, has_odd_empty, can_count, symbols_of, lacks_ports_as}
 
 -- the test of each rule is false
-and-right : (a b : Bool) → a ≡ true → (a && b) ≡ false → b ≡ false
+pub and-right : (a b : Bool) → a ≡ true → (a && b) ≡ false → b ≡ false
 and-right true b h e = e
 and-right false b h e = cc
 
-kept : (i : Held) → is_avalon i.kind ≡ true → KeepsRules i → (k : ℕ) → slice_index_or (tests i) k false ≡ false
+pub kept : (i : Held) → is_avalon i.kind ≡ true → KeepsRules i → (k : ℕ) → slice_index_or (tests i) k false ≡ false
 kept i avalon keeps k = and-right (is_avalon i.kind) (slice_index_or (tests i) k false) avalon (keeps (suc k))
 
-or-left : (a b : Bool) → (a || b) ≡ false → a ≡ false
+pub or-left : (a b : Bool) → (a || b) ≡ false → a ≡ false
 or-left true b h = cc
 or-left false b h = refl
 
-or-right : (a b : Bool) → (a || b) ≡ false → b ≡ false
+pub or-right : (a b : Bool) → (a || b) ≡ false → b ≡ false
 or-right true b h = cc
 or-right false b h = h
 
@@ -39,10 +39,10 @@ none_passes p (y ∷ ys) zero x h e = let same : y ≡ x = cc in subst (λ z. p 
 none_passes p (y ∷ ys) (suc k) x h e = none_passes p ys k x (or-right (p y) (list_any p ys) h) e
 
 -- the width of a port, 0 where there is none
-abbrev bits_of : Option Port → ℕ
+abbrev pub bits_of : Option Port → ℕ
 bits_of o = option_map_or (λ port. port.width) o 0
 
-within : (o : Option Port) (low high : ℕ) → (is_some o && not (nat_le low (bits_of o) && nat_le (bits_of o) high)) ≡ false → bits_of o ≤ high
+pub within : (o : Option Port) (low high : ℕ) → (is_some o && not (nat_le low (bits_of o) && nat_le (bits_of o) high)) ≡ false → bits_of o ≤ high
 within None low high h = omega arith
 within (Some port) low high h = grind (arith, nat_tests)
 
@@ -50,7 +50,7 @@ word-within : (o : Option Port) → (is_some o && not (is_word (bits_of o))) ≡
 word-within None h = omega arith
 word-within (Some port) h = grind (arith, nat_tests)
 
-empty-within : (symbols : ℕ) (o : Option Port) → (is_some o && not (can_count symbols (bits_of o))) ≡ false → bits_of o ≤ 8
+pub empty-within : (symbols : ℕ) (o : Option Port) → (is_some o && not (can_count symbols (bits_of o))) ≡ false → bits_of o ≤ 8
 empty-within symbols None h = omega arith
 empty-within symbols (Some port) h = grind (arith, nat_tests)
 
@@ -58,7 +58,7 @@ either-within : (b : Bool) (m n : ℕ) → m ≤ 128 → n ≤ 128 → cond b m 
 either-within true m n hm hn = omega arith
 either-within false m n hm hn = omega arith
 
-narrow : (i : Held) (role : Role) → slice_get all_roles (role_place role) ≡ Some role → has_odd_width i ≡ false → is_odd i role ≡ false
+pub narrow : (i : Held) (role : Role) → slice_get all_roles (role_place role) ≡ Some role → has_odd_width i ≡ false → is_odd i role ≡ false
 narrow i role at h = none_passes (is_odd i) all_roles (role_place role) role h at
 
 pub FitsMm-from_rules : (i : Held) → i.kind ≡ Mm → KeepsRules i → FitsMm i
@@ -79,7 +79,7 @@ FitsMm-from_rules i mm keeps =
     }
 
 -- a beat has at most 32 symbols where the data is there
-beat-within : (there : Bool) (symbols width bits : ℕ) → not there ≡ false → (there && not (nat_le 1 symbols && nat_le symbols 32 && nat_eq width (bits))) ≡ false → symbols ≤ 32
+pub beat-within : (there : Bool) (symbols width bits : ℕ) → not there ≡ false → (there && not (nat_le 1 symbols && nat_le symbols 32 && nat_eq width (bits))) ≡ false → symbols ≤ 32
 beat-within true symbols width bits h e = grind (arith, nat_tests)
 beat-within false symbols width bits h e = cc
 

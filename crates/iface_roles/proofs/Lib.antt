@@ -2,6 +2,7 @@ pub mod FitLemmas
 pub mod HeldLemmas
 pub mod KindLemmas
 pub mod NameLemmas
+pub mod ProperLemmas
 pub mod PropertyLemmas
 pub mod RoleLemmas
 pub mod RuleLemmas

@@ -49,6 +49,7 @@ impl Interface {
       has,
       width_of,
       setting_of,
+      AreInRange,
     };
 
     /// An interface with no ports, of which nothing is set.
@@ -95,13 +96,20 @@ impl Interface {
         true
     }
 
-    pub(crate) fn kind(&self) -> Kind
+    /// No setting leaves its property's range.
+    pub(crate) fn settings_are_in_range(&self)
+        ensures { AreInRange self.now.settings }
+    {
+        let _settings = &self.settings;
+    }
+
+    pub fn kind(&self) -> Kind
         ensures { result ≡ self.now.kind }
     {
         self.kind
     }
 
-    pub(crate) fn side(&self) -> Side
+    pub fn side(&self) -> Side
         ensures { result ≡ self.now.side }
     {
         self.side
@@ -113,7 +121,7 @@ impl Interface {
         self.ports[role.place()]
     }
 
-    pub(crate) fn has(&self, role: Role) -> bool
+    pub fn has(&self, role: Role) -> bool
         ensures { result ≡ has self.now role }
     {
         self.port(role).is_some()

@@ -14,5 +14,7 @@ mod tests;
 pub use interface::Interface;
 pub use kinds::{Kind, PortDirection, Side};
 pub use properties::{Property, PropertyId, Values, property_of};
-pub use records::{AgentPort, Finished, HostPort, SinkPort, SourcePort};
+pub use records::{
+    AgentPort, Finished, HostPort, SinkPort, SourcePort, proper_records_are_bounded,
+};
 pub use roles::{Role, role_of};

@@ -1,6 +1,13 @@
 ghost use Rattle.std.specs.Prelude.{◌≡◌, ◌<◌, ◌≤◌, IfOk, IfErr};
 ghost use Rattle.iface_roles.specs.Held.{has, width_of, setting_of};
 ghost use Rattle.iface_roles.specs.Properties.{property_row, greatest_of};
+ghost use Rattle.iface_roles.specs.Proper.{
+  IsProper,
+  IsBoundedHost,
+  IsBoundedAgent,
+  IsBoundedSource,
+  IsBoundedSink,
+};
 ghost use Rattle.iface_roles.specs.Records.{
   is_true,
   host_of,
@@ -271,7 +278,7 @@ impl Interface {
         }
     }
 
-    fn record(&self) -> Finished
+    fn record_by_kind(&self) -> Finished
         requires { KeepsRules self.now }
         ensures { result ≡ finished self.now }
     {
@@ -284,10 +291,20 @@ impl Interface {
         }
     }
 
+    fn record(&self) -> Finished
+        requires { KeepsRules self.now }
+        ensures value { result ≡ finished self.now }
+        ensures proper { IsProper result }
+    {
+        self.settings_are_in_range();
+        self.record_by_kind()
+    }
+
     /// The record of the interface, or the number of the least of the rules I1 to I14 that fails. Whether the
     /// interface's clock is there, a part of I14, is judged elsewhere.
     pub fn finish(&self) -> Result<Finished, u8>
         ensures accepted { IfOk result (λ known. KeepsRules self.now × (known ≡ finished self.now)) }
+        ensures proper { IfOk result IsProper }
         ensures refused { IfErr result (IsLeastBroken self.now) }
     {
         match self.first_broken() {
@@ -296,3 +313,11 @@ impl Interface {
         }
     }
 }
+
+/// What each proper record keeps.
+pub fn proper_records_are_bounded()
+    ensures host { (host : HostPort) → IsProper (Finished.Host host) → IsBoundedHost host }
+    ensures agent { (agent : AgentPort) → IsProper (Finished.Agent agent) → IsBoundedAgent agent }
+    ensures source { (source : SourcePort) → IsProper (Finished.Source source) → IsBoundedSource source }
+    ensures sink { (sink : SinkPort) → IsProper (Finished.Sink sink) → IsBoundedSink sink }
+{}

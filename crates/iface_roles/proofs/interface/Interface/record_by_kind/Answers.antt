@@ -1,0 +1,15 @@
+use Rattle.std.proofs.Common.{sym, ◌∙◌}
+use Rattle.iface_roles.proofs.FitLemmas.{FitsMm-from_rules, FitsStream-from_rules}
+use Rattle.iface_roles.proofs.interface.Interface.record_by_kind.Goals as goal
+
+pub host-requires : goal.host-requires
+host-requires c = FitsMm-from_rules c.args.self.now (sym c.kind.ensures ∙ c.in-Mm-Start.is-0) c.requires
+
+pub agent-requires : goal.agent-requires
+agent-requires c = FitsMm-from_rules c.args.self.now (sym c.kind.ensures ∙ c.in-Mm-End.is-0) c.requires
+
+pub source-requires : goal.source-requires
+source-requires c = FitsStream-from_rules c.args.self.now (sym c.kind.ensures ∙ c.in-Stream-Start.is-0) c.requires
+
+pub sink-requires : goal.sink-requires
+sink-requires c = FitsStream-from_rules c.args.self.now (sym c.kind.ensures ∙ c.in-Stream-End.is-0) c.requires

@@ -1,0 +1,80 @@
+-- Proper records, and the bounds that each of them keeps.
+use Rattle.std.specs.Prelude.{◌≡◌, ◌*◌, ◌^◌, ◌<◌, ◌≤◌, ℕ, Bool, ◌||◌, max, IsTrue, if◌then◌else◌}
+use Rattle.iface_roles.specs.declared.records.HostPort.{HostPort}
+use Rattle.iface_roles.specs.declared.records.AgentPort.{AgentPort}
+use Rattle.iface_roles.specs.declared.records.SourcePort.{SourcePort}
+use Rattle.iface_roles.specs.declared.records.SinkPort.{SinkPort}
+use Rattle.iface_roles.specs.declared.records.Finished.{Finished}
+use Rattle.iface_roles.specs.Held.{Held, AreInRange}
+use Rattle.iface_roles.specs.Records.{finished}
+use Rattle.iface_roles.specs.Rules.{KeepsRules}
+
+-- a proper record is that of some interface whose settings are in range and that keeps the rules
+pub record IsProper (known : Finished) : Type 0 where
+  pub held : Held
+  pub in_range : AreInRange held.settings
+  pub keeps : KeepsRules held
+  pub is : known ≡ finished held
+
+-- 1, 2, 4, 8 or 16 bytes
+pub record IsWordSize (bytes : ℕ) : Type 0 where
+  pub exponent : ℕ
+  pub small : exponent ≤ 4
+  pub power : bytes ≡ 2 ^ exponent
+
+-- the bytes from one address of a host to the next
+abbrev pub unit_of : HostPort → ℕ
+unit_of host = if host.byte_units then 1 else host.word_bytes
+
+-- the bytes that a host's addresses reach
+abbrev pub range_of : HostPort → ℕ
+range_of host = 2 ^ host.address_bits * unit_of host
+
+-- the bytes that an agent's addresses reach: at least one word
+abbrev pub span_of : AgentPort → ℕ
+span_of agent =
+    if agent.byte_units then max (2 ^ agent.address_bits) agent.word_bytes else 2 ^ agent.address_bits * agent.word_bytes
+
+-- the ports of a host or an agent fit the tables and one another
+pub record AreMmPorts (address_bits word_bytes burst_bits : ℕ) (reads writes valid waits : Bool) : Type 0 where
+  pub address : address_bits ≤ 32
+  pub word : IsWordSize word_bytes
+  pub burst : burst_bits ≤ 11
+  pub transfers : IsTrue (reads || writes)
+  pub valid_reads : IsTrue valid → IsTrue reads
+  pub burst_waits : 0 < burst_bits → IsTrue waits
+  pub burst_valid : 0 < burst_bits → IsTrue reads → IsTrue valid
+
+pub record IsBoundedHost (host : HostPort) : Type 0 where
+  pub ports : AreMmPorts host.address_bits host.word_bytes host.burst_bits host.reads host.writes host.valid host.waits
+  pub addressed : 1 ≤ host.address_bits
+  pub range : range_of host ≤ 2 ^ 32
+
+pub record IsBoundedAgent (agent : AgentPort) : Type 0 where
+  pub ports : AreMmPorts agent.address_bits agent.word_bytes agent.burst_bits agent.reads agent.writes agent.valid agent.waits
+  pub span : span_of agent ≤ 2 ^ 32
+  pub read_latency : agent.read_latency ≤ 63
+  pub pending : agent.pending ≤ 64
+
+-- the ports and settings of a source or a sink fit the tables and one another; without `channel` the largest channel is 0
+pub record AreStreamPorts (symbols symbol_bits latency allowance channel_bits max_channel error_bits empty_bits : ℕ) (packets : Bool) : Type 0 where
+  pub some : 1 ≤ symbols
+  pub few : symbols ≤ 32
+  pub bit : 1 ≤ symbol_bits
+  pub bits : symbol_bits ≤ 512
+  pub ready_latency : latency ≤ 63
+  pub ready_allowance : allowance ≤ 63
+  pub channel : channel_bits ≤ 16
+  pub channels : max_channel < 2 ^ channel_bits
+  pub error : error_bits ≤ 32
+  pub empty : empty_bits ≤ 8
+  pub empty_packets : 0 < empty_bits → IsTrue packets
+  pub empty_counts : IsTrue packets → symbols ≤ 2 ^ empty_bits
+
+abbrev pub IsBoundedSource : SourcePort → Type 0
+IsBoundedSource source =
+    AreStreamPorts source.symbols source.symbol_bits source.latency source.allowance source.channel_bits source.max_channel source.error_bits source.empty_bits source.packets
+
+abbrev pub IsBoundedSink : SinkPort → Type 0
+IsBoundedSink sink =
+    AreStreamPorts sink.symbols sink.symbol_bits sink.latency sink.allowance sink.channel_bits sink.max_channel sink.error_bits sink.empty_bits sink.packets
