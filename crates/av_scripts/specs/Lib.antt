@@ -1,0 +1,11 @@
+pub mod Catalog
+pub mod Component
+pub mod Kept
+pub mod Kinds
+pub mod Library
+pub mod Names
+pub mod Numbers
+pub mod Package
+pub mod System
+pub mod Tables
+pub mod Words

@@ -1,0 +1,50 @@
+use iface_roles::Kind;
+
+/// An end of a connection while its file is read: the places of an instance, and of an interface of its component.
+#[derive(Clone, Copy, Debug, PartialEq, Eq, Hash)]
+pub(crate) struct Terminal {
+    pub instance: usize,
+    pub interface: usize,
+}
+
+/// The two ends of a connection.
+#[derive(Clone, Copy, Debug, PartialEq, Eq, Hash)]
+pub(crate) struct Link {
+    pub start: Terminal,
+    pub end: Terminal,
+}
+
+/// A connection of any kind, and its parameters.
+#[derive(Clone, Copy, Debug)]
+pub(crate) struct Joint {
+    pub start: Terminal,
+    pub end: Terminal,
+    pub kind: Kind,
+    pub base: u32,
+    pub shares: u8,
+    pub fifo: u8,
+}
+
+/// The parameters of connections that mean something here.
+#[derive(Clone, Copy, Debug)]
+pub(crate) enum Parameter {
+    BaseAddress,
+    ArbitrationPriority,
+    FifoDepth,
+    DefaultConnection,
+}
+
+/// The commands of a system file.
+#[derive(Clone, Copy, Debug)]
+pub(crate) enum SystemCommand {
+    Package,
+    CreateSystem,
+    AddInstance,
+    AddConnection,
+    SetParameter,
+    AddInterface,
+    SetInterfaceProperty,
+    SetRequirement,
+    SaveSystem,
+    PassedOver,
+}

@@ -1,0 +1,95 @@
+ghost use Rattle.std.specs.Prelude.{◌≡◌, IfOk};
+
+use super::{Instance, System};
+use crate::tables::{Connection, InterfaceTable};
+use av_base::{List, NoMemory, Text};
+use std::alloc::Global;
+
+fn copy_interface(alloc: Global, from: &InterfaceTable) -> Result<InterfaceTable, NoMemory>
+    ensures { IfOk result (λ copy. copy ≡ from.now) }
+{
+    let name = Text::copy(alloc, from.name.as_str())?;
+    let clock = Text::copy(alloc, from.clock.as_str())?;
+    Ok(InterfaceTable {
+        name,
+        kind: from.kind,
+        side: from.side,
+        clock,
+        finished: from.finished,
+    })
+}
+
+fn copy_component(
+    alloc: Global,
+    from: &List<InterfaceTable>,
+) -> Result<List<InterfaceTable>, NoMemory>
+    ensures { IfOk result (λ copy. copy ≡ from.now) }
+{
+    let mut copy = List::new(alloc);
+    for interface in from.as_slice() {
+        copy.push(copy_interface(alloc, interface)?)?;
+    }
+    Ok(copy)
+}
+
+fn copy_components(
+    alloc: Global,
+    from: &List<List<InterfaceTable>>,
+) -> Result<List<List<InterfaceTable>>, NoMemory>
+    ensures { IfOk result (λ copy. copy ≡ from.now) }
+{
+    let mut copy = List::new(alloc);
+    for component in from.as_slice() {
+        copy.push(copy_component(alloc, component)?)?;
+    }
+    Ok(copy)
+}
+
+fn copy_instance(alloc: Global, from: &Instance) -> Result<Instance, NoMemory>
+    ensures { IfOk result (λ copy. copy ≡ from.now) }
+{
+    let name = Text::copy(alloc, from.name.as_str())?;
+    Ok(Instance {
+        name,
+        component: from.component,
+    })
+}
+
+fn copy_instances(alloc: Global, from: &List<Instance>) -> Result<List<Instance>, NoMemory>
+    ensures { IfOk result (λ copy. copy ≡ from.now) }
+{
+    let mut copy = List::new(alloc);
+    for instance in from.as_slice() {
+        copy.push(copy_instance(alloc, instance)?)?;
+    }
+    Ok(copy)
+}
+
+fn copy_connections(alloc: Global, from: &List<Connection>) -> Result<List<Connection>, NoMemory>
+    ensures { IfOk result (λ copy. copy ≡ from.now) }
+{
+    let mut copy = List::new(alloc);
+    for connection in from.as_slice() {
+        copy.push(*connection)?;
+    }
+    Ok(copy)
+}
+
+impl System {
+    /// A system with the same tables.
+    pub fn copy(&self, alloc: Global) -> Result<System, NoMemory>
+        ensures { IfOk result (λ copy. copy ≡ self.now) }
+    {
+        let name = Text::copy(alloc, self.name.as_str())?;
+        let components = copy_components(alloc, &self.components)?;
+        let instances = copy_instances(alloc, &self.instances)?;
+        let connections = copy_connections(alloc, &self.connections)?;
+        Ok(System {
+            name,
+            stages: self.stages,
+            components,
+            instances,
+            connections,
+        })
+    }
+}
