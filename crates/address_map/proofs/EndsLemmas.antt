@@ -1,0 +1,222 @@
+-- Ends of connections, each once.
+use Rattle.std.proofs.Common.{◌≡◌, ℕ, ◌+◌, ◌<◌, ◌≤◌, ◌⊎◌, inl, inr, zero, suc, Bool, true, false, ◌&&◌, ◌||◌, not, cond, nat_lt, nat_eq, List, [], ◌∷◌, ◌++◌, Option, Some, None, length, get_or, refl, sym, ap, subst, ◌∙◌, arith}
+use Rattle.std.specs.Prelude.{filter, position, All, AllPairs, is_some, slice_get}
+use Rattle.std.specs.List.{list_any, position_or_len}
+use Rattle.std.proofs.lemmas.Bool.Decides.{nat_tests, Decides-eqb}
+use Rattle.std.proofs.lemmas.List.Elements.{filter-append, filter_passes}
+use Rattle.std.proofs.lemmas.List.Folds.{position_or_len_push}
+use Rattle.std.proofs.lemmas.List.Kept.{AllPairs-filter}
+use Rattle.std.proofs.lemmas.List.{length_push, append-nil}
+use Rattle.std.proofs.lemmas.Bool.{cases_lt}
+use Rattle.std.proofs.lemmas.List.Quantifiers.{position-Some}
+use Rattle.std.proofs.lemmas.Option.{slice_get_within, slice_get-get_or, get_or_from_slice_get}
+use Rattle.std.proofs.lemmas.Map.Views.{any-filter_same}
+use Rattle.av_scripts.specs.declared.tables.EndId.{EndId}
+use Rattle.address_map.specs.Ends.{is_same_end, each_once, with_end, place_in}
+
+and-left : (a b : Bool) → (a && b) ≡ true → a ≡ true
+and-left true b h = refl
+and-left false b h = cc
+
+and-right : (a b : Bool) → (a && b) ≡ true → b ≡ true
+and-right true b h = h
+and-right false b h = cc
+
+pub same_end : (a b : EndId) → is_same_end a b ≡ true → a ≡ b
+same_end a b h =
+    let i : a.instance ≡ b.instance = (Decides-eqb a.instance b.instance).0 (and-left (nat_eq a.instance b.instance) (nat_eq a.interface b.interface) h) in
+    let f : a.interface ≡ b.interface = (Decides-eqb a.interface b.interface).0 (and-right (nat_eq a.instance b.instance) (nat_eq a.interface b.interface) h) in
+    let with_instance : ℕ → EndId = λ n. record { instance = n; interface = a.interface } in
+    let with_interface : ℕ → EndId = λ n. record { instance = b.instance; interface = n } in
+    ap with_instance i ∙ ap with_interface f
+
+pub is_same_end-refl : (a : EndId) → is_same_end a a ≡ true
+is_same_end-refl a =
+    let i : nat_eq a.instance a.instance ≡ true = (Decides-eqb a.instance a.instance).1 refl in
+    let f : nat_eq a.interface a.interface ≡ true = (Decides-eqb a.interface a.interface).1 refl in
+    rw (i, f) refl
+
+pub is_same_end-sym : (a b : EndId) → is_same_end a b ≡ is_same_end b a
+is_same_end-sym a b = by (is_same_end a b) (is_same_end b a) refl refl
+  where
+    by : (s t : Bool) → is_same_end a b ≡ s → is_same_end b a ≡ t → is_same_end a b ≡ is_same_end b a
+    by true true h k = h ∙ sym k
+    by false false h k = h ∙ sym k
+    by true false h k =
+        let same = same_end a b h in
+        absurd (let no : true ≡ false = sym (is_same_end-refl b) ∙ subst (λ (x : EndId). is_same_end b x ≡ false) same k in cc)
+    by false true h k =
+        let same = same_end b a k in
+        absurd (let no : true ≡ false = sym (is_same_end-refl a) ∙ subst (λ (x : EndId). is_same_end a x ≡ false) same h in cc)
+
+-- a first place is within the list where some element passes
+first-step : (b r : Bool) (n len : ℕ) → nat_lt n len ≡ r → nat_lt (cond (not b) (1 + n) 0) (suc len) ≡ (b || r)
+first-step true r n len h = grind (arith, nat_tests)
+first-step false r n len h = let less : nat_lt (1 + n) (suc len) ≡ nat_lt n len = grind (arith, nat_tests) in less ∙ h
+
+lt-position : {X : Type 0} (p : X → Bool) (xs : List X) → nat_lt (position_or_len p xs) (length xs) ≡ list_any p xs
+lt-position p [] = refl
+lt-position p (x ∷ xs) = first-step (p x) (list_any p xs) (position_or_len p xs) (length xs) (lt-position p xs)
+
+within-step : (b : Bool) (n len : ℕ) → n ≤ len → cond (not b) (1 + n) 0 ≤ suc len
+within-step true n len h = omega arith
+within-step false n len h = omega arith
+
+position-within : {X : Type 0} (p : X → Bool) (xs : List X) → position_or_len p xs ≤ length xs
+position-within p [] = omega arith
+position-within p (x ∷ xs) = within-step (p x) (position_or_len p xs) (length xs) (position-within p xs)
+
+is_some-cond : (b : Bool) (n : ℕ) → is_some (cond b (Some n) None) ≡ b
+is_some-cond true n = refl
+is_some-cond false n = refl
+
+pub is_some-position : {X : Type 0} (p : X → Bool) (xs : List X) → is_some (position p xs) ≡ list_any p xs
+is_some-position p xs = is_some-cond (nat_lt (position_or_len p xs) (length xs)) (position_or_len p xs) ∙ lt-position p xs
+
+abbrev place_below : ℕ → ℕ → Option ℕ
+place_below n len = cond (nat_lt n len) (Some n) None
+
+push_cases : (n len : ℕ) (r b : Bool) → n ≤ len → nat_lt n len ≡ r → place_below (cond (nat_eq n len) (len + cond b 0 1) n) (len + 1) ≡ cond r (place_below n len) (cond b (Some len) None)
+push_cases n len true b le h =
+    let apart : nat_eq n len ≡ false = grind (arith, nat_tests) in
+    let more : nat_lt n (len + 1) ≡ true = grind (arith, nat_tests) in
+    rw (apart, more, h) refl
+push_cases n len false true le h =
+    let same : nat_eq n len ≡ true = grind (arith, nat_tests) in
+    let more : nat_lt (len + 0) (len + 1) ≡ true = grind (arith, nat_tests) in
+    let zero : len + 0 ≡ len = omega arith in
+    rw (same, more, zero) refl
+push_cases n len false false le h =
+    let same : nat_eq n len ≡ true = grind (arith, nat_tests) in
+    let more : nat_lt (len + 1) (len + 1) ≡ false = grind (arith, nat_tests) in
+    rw (same, more) refl
+
+pub position_push : {X : Type 0} (p : X → Bool) (xs : List X) (y : X) → position p (xs ++ y ∷ []) ≡ cond (list_any p xs) (position p xs) (cond (p y) (Some (length xs)) None)
+position_push p xs y =
+    let places = position_or_len_push p xs y in
+    ap (λ n. place_below n (length (xs ++ y ∷ []))) places
+    ∙ ap (place_below (cond (nat_eq (position_or_len p xs) (length xs)) (length xs + cond (p y) 0 1) (position_or_len p xs))) (length_push xs y)
+    ∙ push_cases (position_or_len p xs) (length xs) (list_any p xs) (p y) (position-within p xs) (lt-position p xs)
+
+none-position : {X : Type 0} (p : X → Bool) (xs : List X) → list_any p xs ≡ false → position p xs ≡ None
+none-position p xs h = ap (λ b. cond b (Some (position_or_len p xs)) None) (lt-position p xs ∙ h)
+
+-- the places after one more end, which isn't among the others
+pub place_in-push : (ends : List EndId) (end q : EndId) → list_any (is_same_end end) ends ≡ false → place_in (ends ++ end ∷ []) q ≡ cond (is_same_end end q) (Some (length ends)) (place_in ends q)
+place_in-push ends end q fresh = position_push (is_same_end q) ends end ∙ by (is_same_end end q) refl
+  where
+    by : (b : Bool) → is_same_end end q ≡ b → cond (list_any (is_same_end q) ends) (place_in ends q) (cond (is_same_end q end) (Some (length ends)) None) ≡ cond (is_same_end end q) (Some (length ends)) (place_in ends q)
+    by true h =
+        let same = same_end end q h in
+        let none : list_any (is_same_end q) ends ≡ false = subst (λ (x : EndId). list_any (is_same_end x) ends ≡ false) same fresh in
+        let here : is_same_end q end ≡ true = is_same_end-sym q end ∙ h in
+        rw (none, here, h) refl
+    by false h =
+        let other : is_same_end q end ≡ false = is_same_end-sym q end ∙ h in
+        rw (other, h) (found (list_any (is_same_end q) ends) refl)
+      where
+        found : (b : Bool) → list_any (is_same_end q) ends ≡ b → cond (list_any (is_same_end q) ends) (place_in ends q) None ≡ place_in ends q
+        found true h = rw h refl
+        found false h = rw h (sym (none-position (is_same_end q) ends h))
+
+-- leaving another end out leaves an end where it was
+any-filter_other : (x end : EndId) (ends : List EndId) → is_same_end end x ≡ false → list_any (is_same_end end) (filter (λ other. not (is_same_end x other)) ends) ≡ list_any (is_same_end end) ends
+any-filter_other x end ends h =
+    let apart : is_same_end x end ≡ false = is_same_end-sym x end ∙ h in
+    any-filter_same (is_same_end end) (λ other. not (is_same_end x other)) true (λ k is. ap (λ (e : EndId). not (is_same_end x e)) (sym (same_end end k is)) ∙ ap not apart) ends
+
+-- an end is among those that come once where it is among them all
+pub any-each_once : (end : EndId) (ends : List EndId) → list_any (is_same_end end) (each_once ends) ≡ list_any (is_same_end end) ends
+any-each_once end [] = refl
+any-each_once end (x ∷ ends) = by (is_same_end end x) refl (any-each_once end ends)
+  where
+    by : (b : Bool) → is_same_end end x ≡ b → list_any (is_same_end end) (each_once ends) ≡ list_any (is_same_end end) ends
+        → (is_same_end end x || list_any (is_same_end end) (filter (λ other. not (is_same_end x other)) (each_once ends))) ≡ (is_same_end end x || list_any (is_same_end end) ends)
+    by true h rest = rw h refl
+    by false h rest = rw h (any-filter_other x end (each_once ends) h ∙ rest)
+
+-- one more end
+filter-push : (x end : EndId) (ends : List EndId) → filter (λ other. not (is_same_end x other)) (ends ++ end ∷ []) ≡ filter (λ other. not (is_same_end x other)) ends ++ cond (not (is_same_end x end)) (end ∷ []) []
+filter-push x end ends = filter-append (λ other. not (is_same_end x other)) ends (end ∷ [])
+
+pub with_end-there : (ends : List EndId) (end : EndId) → list_any (is_same_end end) ends ≡ true → with_end ends end ≡ ends
+with_end-there ends end h = ap (λ b. cond b ends (ends ++ end ∷ [])) h
+
+pub with_end-fresh : (ends : List EndId) (end : EndId) → list_any (is_same_end end) ends ≡ false → with_end ends end ≡ ends ++ end ∷ []
+with_end-fresh ends end h = ap (λ b. cond b ends (ends ++ end ∷ [])) h
+
+first-with_end : (x end : EndId) (ends : List EndId) (b c : Bool) → is_same_end end x ≡ b → list_any (is_same_end end) ends ≡ c
+    → x ∷ filter (λ other. not (is_same_end x other)) (with_end ends end) ≡ with_end (x ∷ filter (λ other. not (is_same_end x other)) ends) end
+first-with_end x end ends true true h k =
+    ap (λ (l : List EndId). x ∷ filter (λ other. not (is_same_end x other)) l) (with_end-there ends end k)
+    ∙ sym (with_end-there (x ∷ filter (λ other. not (is_same_end x other)) ends) end (rw h refl))
+first-with_end x end ends true false h k =
+    let here : is_same_end x end ≡ true = is_same_end-sym x end ∙ h in
+    let none : cond (not (is_same_end x end)) (end ∷ []) [] ≡ [] = rw here refl in
+    ap (λ (l : List EndId). x ∷ filter (λ other. not (is_same_end x other)) l) (with_end-fresh ends end k)
+    ∙ ap (λ (l : List EndId). x ∷ l) (filter-push x end ends ∙ ap (λ (l : List EndId). filter (λ other. not (is_same_end x other)) ends ++ l) none ∙ append-nil (filter (λ other. not (is_same_end x other)) ends))
+    ∙ sym (with_end-there (x ∷ filter (λ other. not (is_same_end x other)) ends) end (rw h refl))
+first-with_end x end ends false true h k =
+    let there : (is_same_end end x || list_any (is_same_end end) (filter (λ other. not (is_same_end x other)) ends)) ≡ true = rw h (any-filter_other x end ends h ∙ k) in
+    ap (λ (l : List EndId). x ∷ filter (λ other. not (is_same_end x other)) l) (with_end-there ends end k)
+    ∙ sym (with_end-there (x ∷ filter (λ other. not (is_same_end x other)) ends) end there)
+first-with_end x end ends false false h k =
+    let apart : is_same_end x end ≡ false = is_same_end-sym x end ∙ h in
+    let one : cond (not (is_same_end x end)) (end ∷ []) [] ≡ end ∷ [] = rw apart refl in
+    let fresh : (is_same_end end x || list_any (is_same_end end) (filter (λ other. not (is_same_end x other)) ends)) ≡ false = rw h (any-filter_other x end ends h ∙ k) in
+    ap (λ (l : List EndId). x ∷ filter (λ other. not (is_same_end x other)) l) (with_end-fresh ends end k)
+    ∙ ap (λ (l : List EndId). x ∷ l) (filter-push x end ends ∙ ap (λ (l : List EndId). filter (λ other. not (is_same_end x other)) ends ++ l) one)
+    ∙ sym (with_end-fresh (x ∷ filter (λ other. not (is_same_end x other)) ends) end fresh)
+
+pub each_once-push : (ends : List EndId) (end : EndId) → each_once (ends ++ end ∷ []) ≡ with_end (each_once ends) end
+each_once-push [] end = refl
+each_once-push (x ∷ ends) end =
+    ap (λ (rest : List EndId). x ∷ filter (λ other. not (is_same_end x other)) rest) (each_once-push ends end)
+    ∙ first-with_end x end (each_once ends) (is_same_end end x) (list_any (is_same_end end) (each_once ends)) refl refl
+
+-- no end comes twice
+AllPairs-cons : {X : Type 0} (R : X → X → Type 0) (x : X) (xs : List X) → All (R x) xs → AllPairs R xs → AllPairs R (x ∷ xs)
+AllPairs-cons R x xs first rest zero zero d less within = absurd (omega arith)
+AllPairs-cons R x xs first rest zero (suc j) d less within = first j d (omega arith)
+AllPairs-cons R x xs first rest (suc i) zero d less within = absurd (omega arith)
+AllPairs-cons R x xs first rest (suc i) (suc j) d less within = rest i j d (omega arith) (omega arith)
+
+not-true : (b : Bool) → not b ≡ true → b ≡ false
+not-true true h = cc
+not-true false h = refl
+
+apart-each_once : (ends : List EndId) → AllPairs (λ a b. is_same_end a b ≡ false) (each_once ends)
+apart-each_once [] = λ i j d less within. absurd (omega arith)
+apart-each_once (x ∷ ends) =
+    AllPairs-cons (λ a b. is_same_end a b ≡ false) x (filter (λ other. not (is_same_end x other)) (each_once ends))
+    (λ k d within. not-true (is_same_end x (get_or (filter (λ other. not (is_same_end x other)) (each_once ends)) k d)) (filter_passes (λ other. not (is_same_end x other)) (each_once ends) k d within))
+    (AllPairs-filter (λ a b. is_same_end a b ≡ false) (λ other. not (is_same_end x other)) (each_once ends) (apart-each_once ends))
+
+-- an end has one place in such a list
+pub one_place : (ends : List EndId) (j k : ℕ) (end : EndId) → slice_get (each_once ends) j ≡ Some end → slice_get (each_once ends) k ≡ Some end → j ≡ k
+one_place ends j k end at_j at_k = by (cases_lt j k) (cases_lt k j)
+  where
+    differ : (a b : ℕ) → slice_get (each_once ends) a ≡ Some end → slice_get (each_once ends) b ≡ Some end → a < b → ⊥
+    differ a b at_a at_b less =
+        let apart = apart-each_once ends a b end less (slice_get_within (each_once ends) b end at_b) in
+        let same : is_same_end end end ≡ false = rw (get_or_from_slice_get (each_once ends) a end end at_a, get_or_from_slice_get (each_once ends) b end end at_b) at apart in
+        let no : true ≡ false = sym (is_same_end-refl end) ∙ same in cc
+
+    by : (j < k) ⊎ (k ≤ j) → (k < j) ⊎ (j ≤ k) → j ≡ k
+    by (inl h) other = absurd (differ j k at_j at_k h)
+    by (inr h) (inl g) = absurd (differ k j at_k at_j g)
+    by (inr h) (inr g) = omega arith
+
+-- what stands at an end's place is the end
+pub at_place : (ends : List EndId) (end : EndId) (k : ℕ) → place_in ends end ≡ Some k → slice_get ends k ≡ Some end
+at_place ends end k is =
+    let found = position-Some (is_same_end end) ends k end is in
+    slice_get-get_or ends k end found.0 ∙ ap Some (sym (same_end end (get_or ends k end) found.1))
+
+-- an end that is among others has a place there
+pub there_at : (ends : List EndId) (end : EndId) → list_any (is_same_end end) ends ≡ true → (k : ℕ) × (slice_get ends k ≡ Some end)
+there_at ends end there = by (place_in ends end) refl
+  where
+    by : (o : Option ℕ) → place_in ends end ≡ o → (k : ℕ) × (slice_get ends k ≡ Some end)
+    by (Some k) is = (k, at_place ends end k is)
+    by None is = absurd (let no : true ≡ false = sym there ∙ sym (is_some-position (is_same_end end) ends) ∙ ap is_some is in cc)

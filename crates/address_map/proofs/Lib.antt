@@ -1,0 +1,9 @@
+pub mod EndLemmas
+pub mod EndsLemmas
+pub mod EntryLemmas
+pub mod HostLemmas
+pub mod JudgeLemmas
+pub mod LowBitLemmas
+pub mod PlaceLemmas
+pub mod PlacedLemmas
+pub mod Worked

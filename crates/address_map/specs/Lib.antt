@@ -1,0 +1,4 @@
+pub mod Ends
+pub mod Footprints
+pub mod MapRules
+pub mod Maps
