@@ -47,3 +47,6 @@ pub chosen_high : {X : Type 0} (bit : ℕ) (x y : X) → bit < 2 → (if bit == 
 chosen_high zero x y h = refl
 chosen_high (suc zero) x y h = refl
 chosen_high (suc (suc bit)) x y h = absurd (omega arith)
+
+pub high_turned : (w x y : ℕ) → w ≡ 1 → x < 2 → y ≡ 2 ^ w - 1 - x → (y == 1) ≡ not (x == 1)
+high_turned w x y one h e = high_not x y h (subst (λ n. y ≡ 2 ^ n - 1 - x) one e)

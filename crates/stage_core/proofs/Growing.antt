@@ -205,3 +205,12 @@ show_same nets one other e = record { valid = ap (λ (s : Shown). s.valid) e; be
 
 pub all_same : (nets : BeatNets) (one other : Cycle) → ShowSame nets one other → shown_in one nets ≡ shown_in other nets
 all_same nets one other h = rw (h.valid, h.beat) refl
+
+pub extends_none : (a : Netlist) → Extends a a
+extends_none a = record {
+  keeps = record { name = refl; ports = refl; lines = λ n line at. record { later = line; is = at; kept = inl refl }; drivers = λ k n d. d };
+  nets = λ n w h. h;
+  valuations = λ cycle v. v;
+  runs = λ run cycles r. r;
+  count = omega arith;
+}

@@ -6,3 +6,6 @@ pub mod Law
 pub mod PassNets
 pub mod ChainNets
 pub mod RegisterNets
+pub mod Rows
+pub mod QueueBits
+pub mod QueueNets

@@ -5,13 +5,16 @@ pub mod beat;
 pub mod chain;
 pub mod makers;
 pub mod pass;
+pub mod queue;
 pub mod register;
+mod rows;
 pub mod stage;
 pub mod stream;
 
 pub use beat::BeatNets;
 pub use chain::Chain;
 pub use pass::Pass;
+pub use queue::Fifo;
 pub use register::PipeReg;
 pub use stage::Stage;
 pub use stream::{StreamNets, emit_stream};

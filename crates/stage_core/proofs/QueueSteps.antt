@@ -1,0 +1,28 @@
+-- The step of a row from its bits.
+use Rattle.std.proofs.Common.{◌≡◌, Bool, false, ◌&&◌, ◌||◌, ◌==◌, List, ◌∷◌, ap, ◌∙◌}
+use Rattle.netlist.specs.Nets.{NetValue}
+use Rattle.netlist.specs.Runs.{Cycle}
+use Rattle.stage_core.specs.declared.beat.BeatNets.{BeatNets}
+use Rattle.stage_core.specs.Beats.{beat_in}
+use Rattle.stage_core.specs.Rows.{Place, place_in, row_in, filled, fill_row, shift_row, refilled}
+use Rattle.stage_core.specs.QueueBits.{AreQueueBits, RowSteps}
+
+pub row_steps : (before after : Cycle) (from first come end : BeatNets) (rest : List BeatNets) (ready up comes shift : NetValue) (last : Bool) →
+    AreQueueBits (before.net first.valid.number == 1) last (before.net from.valid.number == 1) (before.net ready.number == 1) (before.net up.number == 1) (before.net comes.number == 1) (before.net shift.number == 1) →
+    (place_in before end).full ≡ false → place_in before come ≡ filled (before.net comes.number == 1) (beat_in before from) (place_in before first) →
+    row_in after (first ∷ rest) ≡ shift_row (before.net shift.number == 1) (place_in before end) (refilled (place_in before come) (before.net comes.number == 1) (beat_in before from) (row_in before (first ∷ rest))) →
+    RowSteps before after from first rest ready up
+row_steps before after from first come end rest ready up comes shift last bits empty is moves =
+    let sh = before.net shift.number == 1 in
+    let c = before.net comes.number == 1 in
+    let beat = beat_in before from in
+    let row = row_in before (first ∷ rest) in
+    let gives = ((before.net first.valid.number == 1) || (before.net from.valid.number == 1)) && (before.net ready.number == 1) in
+    record {
+      end = place_in before end;
+      empty = empty;
+      is = moves
+          ∙ ap (λ (x : Place). shift_row sh (place_in before end) (refilled x c beat row)) is
+          ∙ ap (λ t. shift_row t (place_in before end) (fill_row c c beat row)) bits.shift_is
+          ∙ ap (λ t. shift_row gives (place_in before end) (fill_row t t beat row)) bits.comes_is;
+    }

@@ -1,0 +1,62 @@
+-- A queue in a row of places: what its two calls leave in a netlist.
+use Rattle.std.specs.Prelude.{◌≡◌, ℕ, List, [], ◌∷◌, length}
+use Rattle.netlist.specs.Nets.{NetValue}
+use Rattle.netlist.specs.Netlists.{Netlist, IsWaiting}
+use Rattle.netlist.specs.Runs.{Always}
+use Rattle.netlist.specs.Longer.{Extends}
+use Rattle.stage_core.specs.declared.beat.BeatNets.{BeatNets}
+use Rattle.stage_core.specs.declared.queue.FifoKept.{FifoKept}
+use Rattle.stage_core.specs.Beats.{AreBeatNets}
+use Rattle.stage_core.specs.Groups.{shown_in, AreNumbered}
+use Rattle.stage_core.specs.Lasting.{beat_lasts}
+use Rattle.stage_core.specs.Rows.{AreInRow, InRow, StartsAllEmpty, shown_first, row_lasts}
+use Rattle.stage_core.specs.QueueBits.{SetsRow}
+
+-- between the calls
+pub record QueueKeeps (kept : FifoKept) (depth : ℕ) (netlist : Netlist) : Type 0 where
+  pub from : AreBeatNets netlist kept.from
+  pub row : AreInRow netlist kept.from kept.places.items
+  pub count : length kept.places.items ≡ depth
+
+-- the nets of the first place have seven numbers in a row
+abbrev pub FirstNumbered : List BeatNets → Type 0
+FirstNumbered [] = Unit {0}
+FirstNumbered (first ∷ row) = AreNumbered first first.valid.number
+
+-- after the first call: the places begin empty, and the first one is shown where it is full, and else what comes
+pub record QueueForward (from to : BeatNets) (kept : FifoKept) (depth : ℕ) (netlist : Netlist) : Type 0 where
+  pub from_is : from ≡ kept.from
+  pub count : length kept.places.items ≡ depth
+  pub numbers : FirstNumbered kept.places.items
+  pub starts : StartsAllEmpty netlist kept.places.items
+  pub shows : Always netlist (λ cycle. shown_in cycle to ≡ shown_first cycle kept.places.items kept.from)
+
+-- after the second call: the row is set; without places ready goes through
+abbrev pub QueueBackward : Netlist → BeatNets → NetValue → NetValue → List BeatNets → Type 0
+QueueBackward netlist from ready up [] = up ≡ ready
+QueueBackward netlist from ready up (first ∷ rest) = SetsRow netlist from first rest ready up
+
+-- ---- what stands lasts. No contract reads these proofs; the law of the queue cites them
+
+pub queue_keeps_lasts : (kept : FifoKept) (depth : ℕ) (old new : Netlist) → QueueKeeps kept depth old → Extends old new → ((n : ℕ) → InRow kept.places.items n → IsWaiting old n → IsWaiting new n) → QueueKeeps kept depth new
+queue_keeps_lasts kept depth old new h e w = record {
+  from = beat_lasts old new kept.from e h.from;
+  row = record { start = h.row.start; is_row = row_lasts old new kept.from h.row.start kept.places.items e w h.row.is_row };
+  count = h.count;
+}
+
+pub queue_forward_lasts : (from to : BeatNets) (kept : FifoKept) (depth : ℕ) (old new : Netlist) → QueueForward from to kept depth old → Extends old new → QueueForward from to kept depth new
+queue_forward_lasts from to kept depth old new h e = record {
+  from_is = h.from_is;
+  count = h.count;
+  numbers = h.numbers;
+  starts = λ run cycles r. h.starts run cycles (e.runs run cycles r);
+  shows = λ cycle v. h.shows cycle (e.valuations cycle v);
+}
+
+pub queue_backward_lasts : (old new : Netlist) (from : BeatNets) (ready up : NetValue) (row : List BeatNets) → QueueBackward old from ready up row → Extends old new → QueueBackward new from ready up row
+queue_backward_lasts old new from ready up [] h e = h
+queue_backward_lasts old new from ready up (first ∷ rest) h e = record {
+  asks = λ cycle v. h.asks cycle (e.valuations cycle v);
+  steps = λ run cycles r. h.steps run cycles (e.runs run cycles r);
+}
