@@ -1,0 +1,53 @@
+-- How many connections a plan has.
+use Rattle.std.proofs.Common.{◌≡◌, ◌⊎◌, inl, inr, ℕ, zero, suc, ◌+◌, ◌<◌, ◌≤◌, Bool, true, false, cond, List, [], ◌∷◌, length, slice_get, Option, Some, None, refl, sym, ap, ◌∙◌, arith}
+use Rattle.std.specs.List.{filter, filter_map, cons_option, enumerate_from}
+use Rattle.iface_roles.specs.declared.kinds.Kind.{Kind}
+use Rattle.iface_roles.specs.declared.kinds.Kind.TheVariants.{Clock, Reset, Mm, Stream, Conduit, Interrupt}
+use Rattle.iface_roles.specs.declared.records.Finished.{Finished}
+use Rattle.av_scripts.specs.declared.tables.Connection.{Connection}
+use Rattle.av_scripts.specs.Tables.{SystemTable, Joins}
+use Rattle.address_map.specs.Maps.{is_mm, mm_connections}
+use Rattle.link_rules.specs.Links.{is_stream, streams_of}
+use Rattle.interconnect.proofs.EndFacts.{IsPlanned}
+use Rattle.interconnect.proofs.Numbering.{number_of}
+
+-- a connection is of one kind or the other
+abbrev IsOfKind : Connection → Type 0
+IsOfKind connection = (is_mm connection.kind ≡ true) ⊎ (is_stream connection.kind ≡ true)
+
+pub of_kind : (kind : Kind) (a b : Finished) → Joins kind a b → (is_mm kind ≡ true) ⊎ (is_stream kind ≡ true)
+of_kind Clock a b j = absurd j
+of_kind Reset a b j = absurd j
+of_kind Mm a b j = inl refl
+of_kind Stream a b j = inr refl
+of_kind Conduit a b j = absurd j
+of_kind Interrupt a b j = absurd j
+
+length-cond : {X : Type 0} (b : Bool) (x : X) (xs : List X) → length xs ≤ length (cond b (x ∷ xs) xs)
+length-cond true x xs = omega arith
+length-cond false x xs = omega arith
+
+length-option : {X : Type 0} (o : Option X) (xs : List X) → length xs ≤ length (cons_option o xs)
+length-option None xs = omega arith
+length-option (Some x) xs = omega arith
+
+-- those of hosts and agents, and those of streams, are all of them
+all_counted : (n : ℕ) (xs : List Connection) → ((k : ℕ) (a : Connection) → slice_get xs k ≡ Some a → IsOfKind a)
+    → length xs ≤ length (filter (λ (c : Connection). is_mm c.kind) xs) + length (filter_map number_of (enumerate_from n xs))
+all_counted n [] h = omega arith
+all_counted n (x ∷ xs) h =
+    let rest = all_counted (n + 1) xs (λ k a e. h (suc k) a e) in
+    let mm = length-cond (is_mm x.kind) x (filter (λ (c : Connection). is_mm c.kind) xs) in
+    let stream = length-option (number_of (n, x)) (filter_map number_of (enumerate_from (n + 1) xs)) in
+    elim (h 0 x refl) [
+      | inl e ↦ (let more = ap (λ (b : Bool). length (cond b (x ∷ filter (λ (c : Connection). is_mm c.kind) xs) (filter (λ (c : Connection). is_mm c.kind) xs))) e in omega (arith, more, rest, stream))
+      | inr e ↦ (let is : number_of (n, x) ≡ Some n = rw e refl in
+          let more = ap (λ (o : Option ℕ). length (cons_option o (filter_map number_of (enumerate_from (n + 1) xs)))) is in
+          omega (arith, more, rest, mm))
+    ]
+
+pub connections-few : (system : SystemTable) → IsPlanned system → length (mm_connections system) ≤ 512 → length system.connections ≤ 528
+connections-few system h few =
+    let all = all_counted 0 system.connections (λ k a e. (let l = h.kept.connections k a e in of_kind a.kind l.start_known l.end_known l.joins)) in
+    let streams = h.few_streams in
+    omega (arith, all, streams, few)

@@ -1,0 +1,16 @@
+pub mod Lists
+pub mod Names
+pub mod EndFacts
+pub mod Numbering
+pub mod Words
+pub mod PortForms
+pub mod Headers
+pub mod Counts
+pub mod Blocks
+pub mod Joining
+pub mod Signals
+pub mod Served
+pub mod StreamModules
+pub mod MemoryNames
+pub mod MemoryWires
+pub mod MemoryModules

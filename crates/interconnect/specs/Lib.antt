@@ -1,0 +1,8 @@
+pub mod Ports
+pub mod Ends
+pub mod Wires
+pub mod Streams
+pub mod Joins
+pub mod Memory
+pub mod MemoryNets
+pub mod Interconnect

@@ -1,0 +1,80 @@
+-- Which connections are built so far: streams that are wires, and one host joined to one agent that fills its range.
+use Rattle.std.specs.Prelude.{◌≡◌, ℕ, ◌+◌, Bool, true, false, not, ◌&&◌, ◌==◌, nat_le, length, Option, Some, None, option_map, position, slice_get}
+use Rattle.std.specs.List.{position_from}
+use Rattle.std.specs.Option.{option_map_or}
+use Rattle.iface_roles.specs.declared.kinds.Kind.{Kind}
+use Rattle.iface_roles.specs.declared.kinds.Kind.TheVariants as kind
+use Rattle.iface_roles.specs.declared.records.HostPort.{HostPort}
+use Rattle.iface_roles.specs.declared.records.AgentPort.{AgentPort}
+use Rattle.iface_roles.specs.declared.records.Finished.{Finished}
+use Rattle.iface_roles.specs.declared.records.Finished.TheVariants.{Host, Agent, Source, Sink, Other}
+use Rattle.av_scripts.specs.declared.tables.Connection.{Connection}
+use Rattle.av_scripts.specs.Tables.{SystemTable}
+use Rattle.address_map.specs.Footprints.{known_at}
+use Rattle.link_rules.specs.declared.faults.LinkRule.{LinkRule}
+use Rattle.link_rules.specs.declared.faults.LinkRule.TheVariants as rule
+use Rattle.stream_runs.specs.Ends.{Declared}
+use Rattle.interconnect.specs.Ports.{declared_source, declared_sink}
+
+abbrev pub both_or_neither : Bool → Bool → Bool
+both_or_neither true b = b
+both_or_neither false b = not b
+
+-- beats of the same form
+abbrev pub has_same_beats : Declared → Declared → Bool
+has_same_beats source sink =
+    (source.symbols == sink.symbols) && (source.symbol_bits == sink.symbol_bits) && both_or_neither source.first_high sink.first_high
+    && (source.channel_bits == sink.channel_bits) && (source.error_bits == sink.error_bits)
+    && both_or_neither source.packets sink.packets && (source.empty_bits == sink.empty_bits)
+
+-- `ready` at both ends, with ready latency 0
+abbrev pub has_plain_ready : Declared → Declared → Bool
+has_plain_ready source sink = source.ready && sink.ready && (source.latency == 0) && (sink.latency == 0)
+
+-- a stream that is a wire: nothing has to be cut, changed, delayed or kept between its ends
+abbrev pub is_wire_stream : Declared → Declared → ℕ → Bool
+is_wire_stream source sink fifo =
+    has_same_beats source sink && has_plain_ready source sink && nat_le source.max_channel sink.max_channel && (fifo == 0)
+
+-- a host of 32-bit words that counts bytes and answers by `readdatavalid`, without bursts
+abbrev pub is_wire_host : HostPort → Bool
+is_wire_host host =
+    (host.word_bytes == 4) && host.byte_units && host.reads && host.writes && host.waits && host.valid && (host.burst_bits == 0) && not host.response
+
+-- an agent of 32-bit words that counts words and answers by `readdatavalid`, without bursts; it bears at most 16 unanswered reads
+abbrev pub is_wire_agent : AgentPort → Bool
+is_wire_agent agent =
+    (agent.word_bytes == 4) && not agent.byte_units && agent.reads && agent.writes && agent.waits && agent.valid && (agent.burst_bits == 0)
+    && not agent.response && nat_le 1 agent.address_bits && nat_le agent.address_bits 30 && nat_le agent.pending 16
+
+-- the agent fills the host's whole range, and both have byte enables or neither has
+abbrev pub fills_range : HostPort → AgentPort → Bool
+fills_range host agent = (host.address_bits == agent.address_bits + 2) && both_or_neither host.enables agent.enables
+
+abbrev pub is_wire_memory : HostPort → AgentPort → Bool
+is_wire_memory host agent = is_wire_host host && is_wire_agent agent && fills_range host agent
+
+-- it is the only connection, its base is 0, and there are no pipeline stages
+abbrev pub is_alone : SystemTable → Connection → Bool
+is_alone system connection = (length system.connections == 1) && (connection.base == 0) && (system.stages == 0)
+
+abbrev pub is_built_as : SystemTable → Connection → Finished → Finished → Bool
+is_built_as system connection (Source source) (Sink sink) = is_wire_stream (declared_source source) (declared_sink sink) connection.fifo
+is_built_as system connection (Host host) (Agent agent) = is_alone system connection && is_wire_memory host agent
+is_built_as system connection _ _ = false
+
+-- the connection is one of those that are built
+abbrev pub is_built : SystemTable → Connection → Bool
+is_built system connection = is_built_as system connection (known_at system connection.start) (known_at system connection.end)
+
+-- the rule that refuses a connection that isn't built
+abbrev pub unbuilt_rule : Kind → LinkRule
+unbuilt_rule kind.Stream = rule.Stream 10
+unbuilt_rule _ = rule.Mm 10
+
+abbrev pub rule_at : SystemTable → ℕ → LinkRule
+rule_at system number = option_map_or (λ connection. unbuilt_rule connection.kind) (slice_get system.connections number) (rule.Mm 10)
+
+-- the least connection that isn't built, and the rule that refuses it
+abbrev pub pending_of : SystemTable → Option (ℕ × LinkRule)
+pending_of system = option_map (λ number. (number, rule_at system number)) (position_from (λ connection. not (is_built system connection)) 0 system.connections)

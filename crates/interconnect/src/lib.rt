@@ -1,0 +1,12 @@
+//! From an accepted plan to its module, for the plans that are built so far.
+#![tactic(auto)]
+
+mod built;
+mod header;
+mod memory;
+mod roles;
+mod streams;
+mod whole;
+
+pub use built::pending;
+pub use whole::build;
