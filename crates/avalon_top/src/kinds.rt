@@ -1,6 +1,6 @@
 ghost use Rattle.std.specs.Prelude.{◌≡◌, ℕ, ◌≤◌, ◌↔◌, true, false, length, IsTrue, MatchOption};
 ghost use Rattle.avalon_top.specs.declared.kinds.WireForm.{WireForm};
-ghost use Rattle.avalon_top.specs.Kinds.{kind_word, direction_word, is_from, role_word, is_forward, drives, port_of, stream_ports, word_ports, memory_ports, ports_of_kind, IsWithinLimits, JoinAs};
+ghost use Rattle.avalon_top.specs.Kinds.{kind_word, direction_word, role_word, is_forward, drives, port_of, stream_ports, word_ports, memory_ports, ports_of_kind, IsWithinLimits, JoinAs};
 
 /// What an interface is.
 #[derive(Clone, Copy, Debug, PartialEq, Eq)]
@@ -192,13 +192,6 @@ impl Kind {
             Kind::Host { .. } => "host",
             Kind::Agent { .. } => "agent",
         }
-    }
-
-    /// Whether a connection begins there.
-    pub(crate) fn begins(self) -> bool
-        ensures { result ≡ is_from self }
-    {
-        matches!(self, Kind::Source | Kind::Host { .. })
     }
 
     /// How many ports it has.
