@@ -37,7 +37,9 @@ kept_of components instances n i kept table interface at there has = by (cases_l
     by (inr h) = absurd (none table.interfaces (made ∙ get_or-eq_default components [] h) has)
 
 -- the same of an end of the system that the kept tables stand for
-pub kept_end : (kept : Inside) (system : SystemTable) (end : EndId) (known : Finished) (instance : Instance) → table_of kept ≡ system
-    → (e : IsEnd system end known) → slice_get kept.instances end.instance ≡ Some instance → IsKept kept.components instance e.instance
-kept_end kept system end known instance is e there =
-    kept_of kept.components kept.instances end.instance end.interface instance e.instance e.interface there (ap (λ (t : SystemTable). slice_get t.instances end.instance) is ∙ e.instance_is) e.interface_is
+pub kept_end : (kept : Inside) (system : SystemTable) (end : EndId) (known : Finished) (instances : List Instance) (instance : Instance) → table_of kept ≡ system
+    → (e : IsEnd system end known) → instances ≡ kept.instances.items → slice_get instances end.instance ≡ Some instance → IsKept kept.components instance e.instance
+kept_end kept system end known instances instance is e same there =
+    kept_of kept.components kept.instances.items end.instance end.interface instance e.instance e.interface
+    (ap (λ (l : List Instance). slice_get l end.instance) (sym same) ∙ there)
+    (ap (λ (t : SystemTable). slice_get t.instances end.instance) is ∙ e.instance_is) e.interface_is

@@ -1,7 +1,15 @@
+pub mod BuiltInLemmas
+pub mod ClockLemmas
 pub mod DraftLemmas
+pub mod EndingLemmas
+pub mod JointLemmas
 pub mod KeptLemmas
 pub mod LibraryLemmas
+pub mod LinkLemmas
 pub mod NamesLemmas
+pub mod RootLemmas
 pub mod RuleLemmas
 pub mod SketchLemmas
+pub mod SoundLemmas
+pub mod StatedLemmas
 pub mod ValueLemmas

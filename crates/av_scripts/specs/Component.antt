@@ -337,7 +337,7 @@ ended_as end (Some name) interfaces = unless (first_some (interface_refusal inte
 unfoldable pub ended : Place → DraftTable → Result ComponentTable Refusal
 ended end draft = ended_as end draft.type_name draft.interfaces
 
-abbrev pub judged : Option Refusal → Result ComponentTable Refusal → Result ComponentTable Refusal
+abbrev pub judged : {A : Type 0} → Option Refusal → Result A Refusal → Result A Refusal
 judged None answer = answer
 judged (Some refusal) answer = Err refusal
 

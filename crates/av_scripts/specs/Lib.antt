@@ -1,4 +1,5 @@
 pub mod Catalog
+pub mod Clocks
 pub mod Component
 pub mod Kept
 pub mod Kinds
@@ -6,6 +7,7 @@ pub mod Library
 pub mod Names
 pub mod Numbers
 pub mod Package
+pub mod Sound
 pub mod System
 pub mod Tables
 pub mod Words

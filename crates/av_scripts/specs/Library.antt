@@ -1,5 +1,5 @@
 -- The component that each system file may name without a file of its own.
-use Rattle.std.specs.Prelude.{ℕ, List, [], ◌∷◌, codes}
+use Rattle.std.specs.Prelude.{ℕ, List, [], ◌∷◌, map, codes}
 use Rattle.iface_roles.specs.declared.kinds.Kind.{Kind}
 use Rattle.iface_roles.specs.declared.kinds.Kind.TheVariants.{Clock, Reset}
 use Rattle.iface_roles.specs.declared.kinds.Side.{Side}
@@ -19,3 +19,7 @@ clock_source_table =
       interfaces = built_in (codes "clk_in") Clock End ∷ built_in (codes "clk_in_reset") Reset End
           ∷ built_in (codes "clk") Clock Start ∷ built_in (codes "clk_reset") Reset Start ∷ [];
     }
+
+-- the interfaces of each component
+abbrev pub interfaces_of : List ComponentTable → List (List InterfaceTable)
+interfaces_of components = map (λ (component : ComponentTable). component.interfaces) components

@@ -1,5 +1,6 @@
 ghost use Rattle.std.specs.Prelude.{◌≡◌, ◌&&◌, option_map, is_some, is_none};
 ghost use Rattle.av_scripts.specs.Kinds.{kind_named};
+ghost use Rattle.av_scripts.specs.Names.{end_named};
 ghost use Rattle.av_scripts.specs.Words.{text_at};
 ghost use Rattle.std.specs.List.{list_any};
 ghost use Rattle.std.specs.Str.{bytes_eq};
@@ -262,6 +263,12 @@ pub(crate) fn names_second(words: &[Word]) -> bool
     ensures { result ≡ is_some (second_named words.now) }
 {
     second_named(words).is_some()
+}
+
+pub(crate) fn names_an_end(word: &str) -> bool
+    ensures { result ≡ is_some (end_named word.now) }
+{
+    end_named(word).is_some()
 }
 
 /// Whether the kind word names another kind.

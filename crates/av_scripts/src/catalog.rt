@@ -62,6 +62,13 @@ impl Catalog {
         Ok(())
     }
 
+    /// The components, in the order in which they were added.
+    pub(crate) fn components(&self) -> &[Component]
+        ensures { result.now ≡ self.now }
+    {
+        self.components.as_slice()
+    }
+
     pub(crate) fn len(&self) -> usize
         ensures { result ≡ length self.now }
     {

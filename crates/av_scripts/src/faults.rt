@@ -9,7 +9,7 @@ use thiserror::Error;
 pub enum ScriptRule {
     /// T1 to T7, on words.
     Words(u8),
-    /// C1 to C21, on commands.
+    /// C1 to C20, on commands.
     Command(u8),
     /// I1 to I14, on the interfaces of a component.
     Interface(u8),

@@ -12,6 +12,7 @@ mod library;
 mod links;
 mod names;
 mod package;
+mod roots;
 mod settings;
 mod sketch;
 mod stated;

@@ -1,14 +1,21 @@
-ghost use Rattle.std.specs.Prelude.{◌≡◌, ◌∷◌, ◌++◌, [], Some, slice_get, IfOk};
+ghost use Rattle.std.specs.Prelude.{◌≡◌, ◌∷◌, ◌++◌, [], Some, IsNone, slice_get, All, OnOk, IfOk};
 ghost use Rattle.std.specs.Option.{option_copied};
 ghost use Rattle.av_scripts.specs.Catalog.{type_place};
-ghost use Rattle.av_scripts.specs.Library.{clock_source_table};
+ghost use Rattle.av_scripts.specs.Library.{built_in, clock_source_table, interfaces_of};
+ghost use Rattle.av_scripts.specs.Names.{place_of};
+ghost use Rattle.av_scripts.specs.Tables.{IsComponent};
 
 use crate::catalog::Catalog;
 use crate::component::Component;
+use crate::names::Names;
+use crate::tables::{InterfaceTable, copy_interfaces};
+use av_base::{List, NoMemory, Place, Text};
+use iface_roles::{Finished, Kind, Side};
 use std::alloc::Global;
 use std::marker::Model;
 
 /// The components that a system file may name: those of a catalog, and the clock source behind them.
+#[derive(Drop)]
 pub(crate) struct Library<'a> {
     catalog: &'a Catalog,
     clock_source: Component,
@@ -27,6 +34,15 @@ impl<'a> Model for Library<'a> {
 }
 
 impl<'a> Library<'a> {
+    pub fn new(alloc: Global, catalog: &'a Catalog) -> Result<Library<'a>, NoMemory>
+        ensures { IfOk result (λ library. library ≡ catalog.now ++ clock_source_table ∷ []) }
+    {
+        Ok(Library {
+            catalog,
+            clock_source: clock_source(alloc)?,
+        })
+    }
+
     /// The place of a type.
     pub fn find(&self, name: &str) -> Option<usize>
         ensures { result ≡ type_place self.now name.now }
@@ -49,4 +65,90 @@ impl<'a> Library<'a> {
         }
         self.catalog.component(k)
     }
+
+    /// The interfaces of each component.
+    pub fn interfaces(&self, alloc: Global) -> Result<List<List<InterfaceTable>>, NoMemory>
+        ensures interfaces { IfOk result (λ copy. copy ≡ interfaces_of self.now) }
+        ensures made { OnOk result (All IsComponent self.now) }
+    {
+        let mut copy = List::new(alloc);
+        for component in self.catalog.components() {
+            component.well_made();
+            copy.push(copy_interfaces(alloc, component.interfaces())?)?;
+        }
+        self.clock_source.well_made();
+        copy.push(copy_interfaces(alloc, self.clock_source.interfaces())?)?;
+        Ok(copy)
+    }
+}
+
+/// Adds an interface with no clock of its own and no roles.
+fn add_built_in(
+    alloc: Global,
+    names: &mut Names,
+    interfaces: &mut Vec<InterfaceTable>,
+    name: &str,
+    kind: Kind,
+    side: Side,
+) -> Result<(), NoMemory>
+    requires { IsNone (place_of names.old name.now) }
+    ensures names { OnOk result (names.new ≡ names.old ++ name.now ∷ []) }
+    ensures interfaces { OnOk result (interfaces.new.items ≡ interfaces.old.items ++ built_in name.now kind side ∷ []) }
+{
+    names.add(alloc, name)?;
+    interfaces.push(InterfaceTable {
+        name: Text::copy(alloc, name)?,
+        kind,
+        side,
+        clock: Text::copy(alloc, "")?,
+        finished: Finished::Other,
+    })?;
+    Ok(())
+}
+
+/// The built-in source of a clock and of its reset.
+fn clock_source(alloc: Global) -> Result<Component, NoMemory>
+    ensures { IfOk result (λ component. component ≡ clock_source_table) }
+{
+    let mut names = Names::new(alloc);
+    let mut interfaces = Vec::new(alloc);
+    add_built_in(
+        alloc,
+        &mut names,
+        &mut interfaces,
+        "clk_in",
+        Kind::Clock,
+        Side::End,
+    )?;
+    add_built_in(
+        alloc,
+        &mut names,
+        &mut interfaces,
+        "clk_in_reset",
+        Kind::Reset,
+        Side::End,
+    )?;
+    add_built_in(
+        alloc,
+        &mut names,
+        &mut interfaces,
+        "clk",
+        Kind::Clock,
+        Side::Start,
+    )?;
+    add_built_in(
+        alloc,
+        &mut names,
+        &mut interfaces,
+        "clk_reset",
+        Kind::Reset,
+        Side::Start,
+    )?;
+    let name = Text::copy(alloc, "clock_source")?;
+    let place = Place {
+        file: 0,
+        line: 0,
+        byte: 0,
+    };
+    Ok(Component::new(name, place, names, interfaces))
 }

@@ -1,5 +1,6 @@
-ghost use Rattle.std.specs.Prelude.{◌≡◌, ◌++◌, ◌∷◌, [], position, OnOk, OnErr, IsNone, if◌then◌else◌};
+ghost use Rattle.std.specs.Prelude.{◌≡◌, ◌&&◌, ◌||◌, ◌++◌, ◌∷◌, [], position, OnOk, OnErr, IsNone};
 ghost use Rattle.std.specs.List.{list_any};
+ghost use Rattle.av_scripts.specs.declared.joints.Terminal.{Terminal};
 ghost use Rattle.av_scripts.specs.System.{same_end, same_link};
 
 use crate::joints::{Link, Terminal};
@@ -38,16 +39,6 @@ impl Links {
     {
         self.links.get_index_of(&link)
     }
-
-    /// Adds a connection that isn't there yet.
-    pub fn add(&mut self, link: Link) -> Result<(), NoMemory>
-        requires { IsNone (position (same_link link) self.old) }
-        ensures ok { OnOk result (self.new ≡ self.old ++ link ∷ []) }
-        ensures err { OnErr result (self.new ≡ self.old) }
-    {
-        self.links.insert(link)?;
-        Ok(())
-    }
 }
 
 /// Ends, each once.
@@ -80,13 +71,37 @@ impl Ends {
         self.ends.contains(&end)
     }
 
-    /// Adds an end, where it isn't there yet.
-    pub fn add(&mut self, end: Terminal) -> Result<(), NoMemory>
-        ensures ok { OnOk result
-            (self.new ≡ (if list_any (same_end end) self.old then self.old else (self.old ++ end ∷ []))) }
+    /// Adds both ends of a connection, where they aren't there yet.
+    fn add_both(&mut self, link: Link) -> Result<(), NoMemory>
+        ensures ok { OnOk result ((end : Terminal) → list_any (same_end end) self.new
+            ≡ (list_any (same_end end) self.old || same_end end link.start || same_end end link.end)) }
         ensures err { OnErr result (self.new ≡ self.old) }
     {
-        self.ends.insert(end)?;
+        self.ends.reserve(2)?;
+        let _ = self.ends.insert(link.start).unwrap();
+        let _ = self.ends.insert(link.end).unwrap();
         Ok(())
     }
+}
+
+/// Adds a connection that isn't there yet, and its ends where it takes them: all of that, or nothing.
+pub(crate) fn add_link(
+    links: &mut Links,
+    taken: &mut Ends,
+    link: Link,
+    takes: bool,
+) -> Result<(), NoMemory>
+    requires { IsNone (position (same_link link) links.old) }
+    ensures links { OnOk result (links.new ≡ links.old ++ link ∷ []) }
+    ensures taken { OnOk result ((end : Terminal) → list_any (same_end end) taken.new
+        ≡ (list_any (same_end end) taken.old || (takes && (same_end end link.start || same_end end link.end)))) }
+    ensures no_link { OnErr result (links.new ≡ links.old) }
+    ensures not_taken { OnErr result (taken.new ≡ taken.old) }
+{
+    links.links.reserve(1)?;
+    if takes {
+        taken.add_both(link)?;
+    }
+    let _ = links.links.insert(link).unwrap();
+    Ok(())
 }

@@ -4,10 +4,16 @@ ghost use Rattle.av_scripts.specs.Tables.{InterfaceTable, InstanceTable, IsEnd, 
 
 mod copy;
 
+use crate::catalog::Catalog;
+use crate::faults::ScriptFault;
+use crate::library::Library;
+use crate::sketch::SystemDraft;
 use crate::tables::{Connection, EndId, InterfaceTable};
 use av_base::{List, Text};
 use iface_roles::Finished;
+use std::alloc::Global;
 use std::marker::Model;
+use tcl_words::Commands;
 
 /// An instance of a component.
 #[derive(Debug, Drop)]
@@ -23,7 +29,7 @@ pub struct System {
     name: Text,
     stages: u8,
     components: List<List<InterfaceTable>>,
-    instances: List<Instance>,
+    instances: Vec<Instance>,
     connections: List<Connection>,
 }
 
@@ -39,14 +45,52 @@ impl Model for System {
     ghost invariant = { λ s. IsSystem (table_of s) };
 }
 
-fn at<T>(items: &List<T>, k: usize) -> &T
+fn at<T>(items: &[T], k: usize) -> &T
     requires { k < length items.now }
     ensures { slice_get items.now k ≡ Some result.now }
 {
-    &items.as_slice()[k]
+    &items[k]
 }
 
 impl System {
+    ghost use Rattle.std.specs.Prelude.{Ok, IfOk, IfErr};
+    ghost use Rattle.av_scripts.specs.Clocks.{system_of};
+    ghost use Rattle.av_scripts.specs.Component.{IsFaultOf};
+    ghost use Rattle.av_scripts.specs.Kept.{kept_table};
+
+    /// The system that a file states over the components of a catalog, or the first rule that refuses it.
+    pub fn read(
+        alloc: Global,
+        commands: &Commands,
+        catalog: &Catalog,
+    ) -> Result<System, ScriptFault>
+        ensures accepted { IfOk result (λ system. system_of catalog.now commands.now ≡ Ok system) }
+        ensures refused { IfErr result (λ fault. IsFaultOf fault (system_of catalog.now commands.now)) }
+    {
+        let library = Library::new(alloc, catalog)?;
+        let draft = SystemDraft::read(alloc, commands, &library)?;
+        draft.finish(alloc, &library, commands.end())
+    }
+
+    pub(crate) fn new(
+        name: Text,
+        stages: u8,
+        components: List<List<InterfaceTable>>,
+        instances: Vec<Instance>,
+        connections: List<Connection>,
+    ) -> System
+        requires { IsSystem (kept_table name stages components instances.items connections) }
+        ensures { result ≡ kept_table name stages components instances.items connections }
+    {
+        System {
+            name,
+            stages,
+            components,
+            instances,
+            connections,
+        }
+    }
+
     /// The system's name.
     pub fn name(&self) -> &str
         ensures { result.now ≡ self.now.name }
@@ -72,9 +116,9 @@ impl System {
         requires { (known : Finished) × IsEnd self.now end known }
         ensures { IsInterface self.now end result.now }
     {
-        let instance = at(&self.instances, end.instance as usize);
-        let interfaces = at(&self.components, instance.component);
-        at(interfaces, end.interface as usize)
+        let instance = at(self.instances.as_slice(), end.instance as usize);
+        let interfaces = at(self.components.as_slice(), instance.component);
+        at(interfaces.as_slice(), end.interface as usize)
     }
 
     /// What is known of the interface at an end of this system.
@@ -90,7 +134,7 @@ impl System {
         requires { (known : Finished) × IsEnd self.now end known }
         ensures { (instance : InstanceTable) × (slice_get self.now.instances end.instance ≡ Some instance) × (result.now ≡ instance.name) }
     {
-        let instance = at(&self.instances, end.instance as usize);
+        let instance = at(self.instances.as_slice(), end.instance as usize);
         instance.name.as_str()
     }
 

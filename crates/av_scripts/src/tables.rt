@@ -1,5 +1,8 @@
-use av_base::Text;
+ghost use Rattle.std.specs.Prelude.{◌≡◌, IfOk};
+
+use av_base::{List, NoMemory, Text};
 use iface_roles::{Finished, Kind, Side};
+use std::alloc::Global;
 
 /// An end of a connection: the numbers of an instance, and of an interface of its component, from 0.
 #[derive(Clone, Copy, Debug, PartialEq, Eq, Hash)]
@@ -33,4 +36,32 @@ pub(crate) struct InterfaceTable {
     /// The name of its clock interface, empty where it has none.
     pub clock: Text,
     pub finished: Finished,
+}
+
+fn copy_interface(alloc: Global, from: &InterfaceTable) -> Result<InterfaceTable, NoMemory>
+    ensures { IfOk result (λ copy. copy ≡ from.now) }
+{
+    let name = Text::copy(alloc, from.name.as_str())?;
+    let clock = Text::copy(alloc, from.clock.as_str())?;
+    Ok(InterfaceTable {
+        name,
+        kind: from.kind,
+        side: from.side,
+        clock,
+        finished: from.finished,
+    })
+}
+
+/// The same interfaces.
+pub(crate) fn copy_interfaces(
+    alloc: Global,
+    from: &[InterfaceTable],
+) -> Result<List<InterfaceTable>, NoMemory>
+    ensures { IfOk result (λ copy. copy ≡ from.now) }
+{
+    let mut copy = List::new(alloc);
+    for interface in from {
+        copy.push(copy_interface(alloc, interface)?)?;
+    }
+    Ok(copy)
 }

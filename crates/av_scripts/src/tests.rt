@@ -1,29 +1,40 @@
-use crate::{Catalog, Component, ScriptFault, ScriptRule};
+mod systems;
+
+use crate::{Component, ScriptFault, ScriptRule};
 use std::alloc::Global;
 use std::test::Fail;
-use tcl_words::{Commands, is_plain};
+use tcl_words::Commands;
 
 /// What a component file answers: an empty text where it is accepted, else the line, the byte and the rule, as `2 30 C3`.
 fn answer(alloc: Global, text: &str) -> Result<String, Fail> {
-    let bytes = text.as_bytes();
-    if bytes.len() > 4000 || !is_plain(bytes) {
-        return Ok(String::from_str(alloc, "not plain")?);
-    }
-    let commands = Commands::read(alloc, 0, bytes)?;
-    match Component::read(alloc, &commands) {
+    match Component::read(alloc, &commands_of(alloc, text)?) {
         Ok(_) => Ok(String::new(alloc)),
-        Err(ScriptFault::Refused { place, rule }) => {
-            let (letter, number) = match rule {
-                ScriptRule::Words(number) => ('T', number),
-                ScriptRule::Command(number) => ('C', number),
-                ScriptRule::Interface(number) => ('I', number),
-            };
-            let line = place.line;
-            let byte = place.byte;
-            Ok(format!(in alloc; "{line} {byte} {letter}{number}")?)
-        }
-        Err(ScriptFault::NoMemory) => Ok(String::from_str(alloc, "no memory")?),
+        Err(fault) => refusal(alloc, fault),
     }
+}
+
+/// The commands of a short text.
+fn commands_of(alloc: Global, text: &str) -> Result<Commands, Fail> {
+    let bytes = text.as_bytes();
+    if bytes.len() > 4000 {
+        return Err("a long text".into());
+    }
+    Ok(Commands::read(alloc, 0, bytes)?)
+}
+
+/// A refusal as its line, its byte and its rule.
+fn refusal(alloc: Global, fault: ScriptFault) -> Result<String, Fail> {
+    let ScriptFault::Refused { place, rule } = fault else {
+        return Err("no memory".into());
+    };
+    let (letter, number) = match rule {
+        ScriptRule::Words(number) => ('T', number),
+        ScriptRule::Command(number) => ('C', number),
+        ScriptRule::Interface(number) => ('I', number),
+    };
+    let line = place.line;
+    let byte = place.byte;
+    Ok(format!(in alloc; "{line} {byte} {letter}{number}")?)
 }
 
 /// Each text is the smallest that breaks its rule, beside one that is accepted.

@@ -1,36 +1,9 @@
 ghost use Rattle.std.specs.Prelude.{◌≡◌, IfOk};
 
 use super::{Instance, System};
-use crate::tables::{Connection, InterfaceTable};
+use crate::tables::{Connection, InterfaceTable, copy_interfaces};
 use av_base::{List, NoMemory, Text};
 use std::alloc::Global;
-
-fn copy_interface(alloc: Global, from: &InterfaceTable) -> Result<InterfaceTable, NoMemory>
-    ensures { IfOk result (λ copy. copy ≡ from.now) }
-{
-    let name = Text::copy(alloc, from.name.as_str())?;
-    let clock = Text::copy(alloc, from.clock.as_str())?;
-    Ok(InterfaceTable {
-        name,
-        kind: from.kind,
-        side: from.side,
-        clock,
-        finished: from.finished,
-    })
-}
-
-fn copy_component(
-    alloc: Global,
-    from: &List<InterfaceTable>,
-) -> Result<List<InterfaceTable>, NoMemory>
-    ensures { IfOk result (λ copy. copy ≡ from.now) }
-{
-    let mut copy = List::new(alloc);
-    for interface in from.as_slice() {
-        copy.push(copy_interface(alloc, interface)?)?;
-    }
-    Ok(copy)
-}
 
 fn copy_components(
     alloc: Global,
@@ -40,7 +13,7 @@ fn copy_components(
 {
     let mut copy = List::new(alloc);
     for component in from.as_slice() {
-        copy.push(copy_component(alloc, component)?)?;
+        copy.push(copy_interfaces(alloc, component.as_slice())?)?;
     }
     Ok(copy)
 }
@@ -55,11 +28,11 @@ fn copy_instance(alloc: Global, from: &Instance) -> Result<Instance, NoMemory>
     })
 }
 
-fn copy_instances(alloc: Global, from: &List<Instance>) -> Result<List<Instance>, NoMemory>
-    ensures { IfOk result (λ copy. copy ≡ from.now) }
+fn copy_instances(alloc: Global, from: &[Instance]) -> Result<Vec<Instance>, NoMemory>
+    ensures { IfOk result (λ copy. copy.items ≡ from.now) }
 {
-    let mut copy = List::new(alloc);
-    for instance in from.as_slice() {
+    let mut copy = Vec::new(alloc);
+    for instance in from {
         copy.push(copy_instance(alloc, instance)?)?;
     }
     Ok(copy)
@@ -82,7 +55,7 @@ impl System {
     {
         let name = Text::copy(alloc, self.name.as_str())?;
         let components = copy_components(alloc, &self.components)?;
-        let instances = copy_instances(alloc, &self.instances)?;
+        let instances = copy_instances(alloc, self.instances.as_slice())?;
         let connections = copy_connections(alloc, &self.connections)?;
         Ok(System {
             name,
