@@ -2,6 +2,7 @@ pub mod EndLemmas
 pub mod EndsLemmas
 pub mod EntryLemmas
 pub mod HostLemmas
+pub mod JoinedLemmas
 pub mod JudgeLemmas
 pub mod LowBitLemmas
 pub mod PlaceLemmas

@@ -24,7 +24,7 @@ contains xs x at = (at.place, slice_get_within xs at.place x at.is, get_or_from_
 pub at_contained : {X : Type 0} (xs : List X) (x : X) → Contains xs x → At xs x
 at_contained xs x c = record { place = c.0; is = slice_get-get_or xs c.0 x c.1 ∙ ap Some c.2 }
 
-later : {X : Type 0} (y : X) (xs : List X) (x : X) → At xs x → At (y ∷ xs) x
+pub later : {X : Type 0} (y : X) (xs : List X) (x : X) → At xs x → At (y ∷ xs) x
 later y xs x at = record { place = suc at.place; is = at.is }
 
 -- what a search finds is there and passes, and where something passes it finds something
@@ -151,6 +151,12 @@ goes (Some e) access connection is = by (serves access e) refl is
 holds-entry : (n address : ℕ) (f : Footprint) → f.base ≤ address → address < f.base + f.bytes → holds address (entry_of n f) ≡ true
 holds-entry n address f low high = grind (arith, nat_tests)
 
+-- an entry of a map is that of a footprint of its host
+pub of_map : (host : EndId) (placed : List (Option Footprint)) (entries : List MapEntry) (e : MapEntry) → IsMapOf host placed entries → At entries e → IsEntry host 0 placed e
+of_map host placed entries e map_of at =
+    let before = at_contained (entries_of host placed) e (Contains-permutation entries (entries_of host placed) e (IsPermutation-sym (entries_of host placed) entries map_of.same) (contains entries e at)) in
+    entry_is host 0 placed e before.place before.is
+
 pub place_is : (system : SystemTable) (maps : List (List MapEntry)) → AreMapsOf system maps → (number : ℕ) (host : EndId) (entries : List MapEntry) → slice_get (hosts_of system) number ≡ Some host → slice_get maps number ≡ Some entries
     → (access : Access) (address connection : ℕ) → (place_of entries access address ≡ Some connection) ↔ IsPlace (footprints system) host access address connection
 place_is system maps are number host entries at_host at_map access address connection = (there, back)
@@ -163,8 +169,7 @@ place_is system maps are number host entries at_host at_map access address conne
         let went = goes (find (holds address) entries) access connection is in
         let e = went.0 in
         let at = found (holds address) entries e went.1 in
-        let before = at_contained (entries_of host (footprints system)) e (Contains-permutation entries (entries_of host (footprints system)) e (IsPermutation-sym (entries_of host (footprints system)) entries map_of.same) (contains entries e at.there)) in
-        let entry = entry_is host 0 (footprints system) e before.place before.is in
+        let entry = of_map host (footprints system) entries e map_of at.there in
         let is_entry : e ≡ entry_of entry.number entry.footprint = entry.is ∙ (let z : 0 + entry.number ≡ entry.number = omega arith in ap (λ m. entry_of m entry.footprint) z) in
         let numbered : entry.number ≡ connection = sym (ap (λ (x : MapEntry). x.connection) is_entry) ∙ went.3 in
         let fit = are.placed.fit entry.number entry.footprint entry.there in

@@ -11,7 +11,7 @@ use Rattle.av_scripts.specs.declared.tables.Connection.{Connection}
 use Rattle.av_scripts.specs.declared.tables.EndId.{EndId}
 use Rattle.av_scripts.specs.Tables.{SystemTable}
 use Rattle.address_map.specs.Ends.{is_same_end, each_once}
-use Rattle.address_map.specs.Footprints.{Footprint, IsFit, footprints}
+use Rattle.address_map.specs.Footprints.{Footprint, IsFit, footprint_of, footprints}
 use Rattle.address_map.specs.MapRules.{KeepsMapRules}
 
 abbrev pub is_mm : Kind → Bool
@@ -107,3 +107,20 @@ pub record IsPlace (footprints : List (Option Footprint)) (host : EndId) (access
   pub from_base : footprint.base ≤ address
   pub below_end : address < footprint.base + footprint.bytes
   pub serves_it : IsTrue (serves access (entry_of connection footprint))
+
+-- this is the end on its side of a connection of a host to an agent
+pub record IsJoined (system : SystemTable) (side : Side) (end : EndId) : Type 0 where
+  pub number : ℕ
+  pub connection : Connection
+  pub is : slice_get system.connections number ≡ Some connection
+  pub kind : is_mm connection.kind ≡ true
+  pub there : end_at side connection ≡ end
+
+-- the entry is that of a connection of the host
+pub record IsEntryOf (system : SystemTable) (host : EndId) (entry : MapEntry) : Type 0 where
+  pub connection : Connection
+  pub footprint : Footprint
+  pub is : slice_get system.connections entry.connection ≡ Some connection
+  pub of_host : connection.start ≡ host
+  pub takes : footprint_of system connection ≡ Some footprint
+  pub same : entry ≡ entry_of entry.connection footprint

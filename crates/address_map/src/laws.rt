@@ -6,7 +6,7 @@ ghost use Rattle.iface_roles.specs.declared.records.Finished.TheVariants.{Host};
 ghost use Rattle.iface_roles.specs.declared.records.HostPort.{HostPort};
 ghost use Rattle.av_scripts.specs.Tables.{SystemTable, IsSystem, IsEnd};
 ghost use Rattle.address_map.specs.Footprints.{footprints};
-ghost use Rattle.address_map.specs.Maps.{MapEntry, Access, AreMapsOf, IsPlace, hosts_of, place_of, is_mm, end_at, mm_ends, connection_at};
+ghost use Rattle.address_map.specs.Maps.{MapEntry, Access, AreMapsOf, IsPlace, IsJoined, IsEntryOf, hosts_of, place_of, is_mm, end_at, mm_ends, connection_at};
 
 use iface_roles::proper_records_are_bounded;
 
@@ -24,6 +24,18 @@ pub fn ends_have_one_number()
         → is_mm connection.kind ≡ true → (number : ℕ) × (slice_get (mm_ends side system) number ≡ Some (end_at side connection)) }
     ensures one { (system : SystemTable) (side : Side) (j k : ℕ) (end : EndId) → slice_get (mm_ends side system) j ≡ Some end
         → slice_get (mm_ends side system) k ≡ Some end → j ≡ k }
+{}
+
+/// Each host and each agent is an end of a connection.
+pub fn ends_are_joined()
+    ensures { (system : SystemTable) (side : Side) (number : ℕ) (end : EndId) → slice_get (mm_ends side system) number ≡ Some end → IsJoined system side end }
+{}
+
+/// Each entry in the map of a host is that of one of the host's connections.
+pub fn entries_are_of_connections()
+    ensures { (system : SystemTable) (maps : List (List MapEntry)) → AreMapsOf system maps → (number : ℕ) (host : EndId) (entries : List MapEntry)
+        → slice_get (hosts_of system) number ≡ Some host → slice_get maps number ≡ Some entries → (k : ℕ) (entry : MapEntry)
+        → slice_get entries k ≡ Some entry → IsEntryOf system host entry }
 {}
 
 /// The bits of an address below the word size of its host don't decide where it goes.

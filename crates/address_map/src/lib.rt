@@ -14,5 +14,8 @@ pub use faults::MapFault;
 pub use footprint::Footprint;
 pub use host_map::MapEntry;
 pub use hosts::mm_ends;
-pub use laws::{ends_have_one_number, low_bits_are_free, places_are_in_footprints};
+pub use laws::{
+    ends_are_joined, ends_have_one_number, entries_are_of_connections, low_bits_are_free,
+    places_are_in_footprints,
+};
 pub use maps::Maps;
