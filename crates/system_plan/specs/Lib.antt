@@ -1,0 +1,4 @@
+pub mod Faults
+pub mod Plans
+pub mod Scripts
+pub mod Systems

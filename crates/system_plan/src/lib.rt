@@ -1,0 +1,11 @@
+//! From the bytes of the files of a system to its plan, or to the first rule or limit that refuses them.
+#![tactic(auto)]
+
+mod faults;
+mod files;
+
+pub use faults::Refusal;
+pub use files::plan_of;
+
+#[cfg(test)]
+mod tests;
