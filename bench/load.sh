@@ -8,8 +8,9 @@ cp "$top"/examples/one/*.tcl "$folder"
 "$top/avalon" generate "$folder/one.tcl" "$folder/gen.tcl" "$folder/chk.tcl" >/dev/null
 files=()
 for k in $(seq 1 64); do
-  # A component of the form behind blanks, so that each file is read to its end and the last is judged too.
-  { head -c $((1048576 - $(stat -c %s "$folder/gen.tcl"))) /dev/zero | tr '\0' ' '; cat "$folder/gen.tcl"; } >"$folder/$k.tcl"
+  # A component of a type of its own behind blanks, so that each file is read to its end and the last is judged too.
+  sed "s/NAME gen/NAME gen$k/" "$folder/gen.tcl" >"$folder/component"
+  { head -c $((1048576 - $(stat -c %s "$folder/component"))) /dev/zero | tr '\0' ' '; cat "$folder/component"; } >"$folder/$k.tcl"
   files+=("$folder/$k.tcl")
 done
 began=$(date +%s.%N)

@@ -1,34 +1,74 @@
 //! The module of a host and an agent, stepped cycle by cycle.
 
-ghost use Rattle.std.specs.Prelude.{IfOk};
-ghost use Rattle.avalon_top.specs.Interconnect.{IsStatable};
+ghost use Rattle.std.specs.Prelude.{◌^◌, ◌<◌, length, IfOk};
 
-use av_base::Text;
-use avalon_top::{End, MemoryForm, Wire, WireForm, build};
+use av_base::Bytes;
+use interconnect::{build, pending};
 use netlist::{Equation, Module};
 use std::alloc::{AllocError, Global};
+use std::process::Abort;
 use std::test::Fail;
+use system_plan::plan_of;
+
+fn bus() -> &'static [u8] {
+    b"create_system bus\nadd_instance m master\nadd_instance s memory\nadd_connection m.h s.a\n"
+}
+
+fn master() -> &'static [u8] {
+    b"package require -exact qsys 16.0
+set_module_property NAME master
+add_interface h avalon host
+add_interface_port h h_address address Output 8
+add_interface_port h h_read read Output 1
+add_interface_port h h_write write Output 1
+add_interface_port h h_writedata writedata Output 32
+add_interface_port h h_byteenable byteenable Output 4
+add_interface_port h h_waitrequest waitrequest Input 1
+add_interface_port h h_readdata readdata Input 32
+add_interface_port h h_readdatavalid readdatavalid Input 1
+"
+}
 
 /// An agent that bears two unanswered reads.
-fn bus_wire(alloc: Global) -> Result<Wire, Fail>
-    ensures { IfOk result IsStatable }
+fn memory() -> &'static [u8] {
+    b"set_module_property NAME memory
+add_interface a avalon agent
+set_interface_property a maximumPendingReadTransactions 2
+add_interface_port a a_address address Input 6
+add_interface_port a a_read read Input 1
+add_interface_port a a_write write Input 1
+add_interface_port a a_writedata writedata Input 32
+add_interface_port a a_byteenable byteenable Input 4
+add_interface_port a a_waitrequest waitrequest Output 1
+add_interface_port a a_readdata readdata Output 32
+add_interface_port a a_readdatavalid readdatavalid Output 1
+"
+}
+
+/// A file of this text.
+fn file_of(alloc: Global, text: &[u8]) -> Result<Bytes, Fail>
+    ensures { IfOk result (λ bytes. length bytes < 2 ^ 31) }
 {
-    Ok(Wire {
-        system: Text::copy(alloc, "bus")?,
-        from: End {
-            instance: Text::copy(alloc, "m")?,
-            interface: Text::copy(alloc, "h")?,
-        },
-        to: End {
-            instance: Text::copy(alloc, "s")?,
-            interface: Text::copy(alloc, "a")?,
-        },
-        form: WireForm::Memory(MemoryForm {
-            address_bits: 6,
-            has_enables: true,
-            pending: 2,
-        }),
-    })
+    if text.len() > 4096 {
+        return Err(Fail::new("the text is too long"));
+    }
+    let mut bytes = Bytes::new(alloc);
+    bytes.append(text)?;
+    Ok(bytes)
+}
+
+/// The module of the host and the agent.
+fn bus_module(alloc: Global) -> Result<Module, Fail> {
+    let files = [
+        file_of(alloc, bus())?,
+        file_of(alloc, master())?,
+        file_of(alloc, memory())?,
+    ];
+    let plan = plan_of(alloc, &files)?;
+    match pending(&plan) {
+        None => Ok(build(alloc, &plan)?),
+        Some(_) => Err(Fail::new("the bus isn't built")),
+    }
 }
 
 fn at(values: &[u64], place: u32) -> u64 {
@@ -180,8 +220,7 @@ fn cycles() -> [([u64; 5], [u64; 3], [u64; 9]); 11] {
 #[test]
 fn holds_a_third_read_back(rt: HostRuntime) -> Result<(), Fail> {
     let alloc = rt.alloc();
-    let wire = bus_wire(alloc)?;
-    let module = build(alloc, &wire)?;
+    let module = bus_module(alloc)?;
     let mut before = Vec::new(alloc);
     for (from_host, from_agent, expected) in cycles() {
         let inputs = by_port(from_host, from_agent);

@@ -1,288 +1,190 @@
--- what the loaded files state, and what the shelf tells of them
-use Rattle.std.proofs.Common.{◌≡◌, ◌≢◌, ℕ, zero, suc, ◌+◌, ◌-◌, ◌<◌, ◌≤◌, List, [], ◌∷◌, ◌++◌, length, map, drop, get_or, slice_get, Option, Some, None, Ok, Err, ◌⊎◌, inl, inr, ⊎_elim, subst, refl, sym, ap, ◌∙◌, arith}
-use Rattle.std.specs.Prelude.{Result, IfOk, IfErr}
-use Rattle.std.specs.Prelude.{true, Bool, ◌&&◌}
-use Rattle.std.proofs.lemmas.List.{length-map}
-use Rattle.std.proofs.lemmas.Bool.{and_parts}
-use Rattle.std.proofs.lemmas.Option.{slice_get_read, get_or_from_slice_get}
-use Rattle.netlist.specs.Netlists.{Netlist}
-use Rattle.av_base.specs.Outside.{WhereTold}
+-- the one answer that files call for
+use Rattle.std.proofs.Common.{◌≡◌, ℕ, List, length, Option, Some, None, ◌⊎◌, inl, inr, ⊎_elim, subst, refl, sym, ap, ◌∙◌, arith}
+use Rattle.std.specs.Prelude.{Result, Ok, Err, OnOk, IfOk, IfErr}
+use Rattle.av_scripts.specs.Tables.{SystemTable}
+use Rattle.link_rules.specs.declared.faults.LinkRule.{LinkRule}
+use Rattle.link_rules.specs.Plans.{PlanTable}
+use Rattle.system_plan.specs.declared.faults.Refusal.{Refusal}
+use Rattle.system_plan.specs.declared.faults.Refusal.TheVariants as refusal
+use Rattle.system_plan.specs.Plans.{IsPlanned, IsAccepted, IsRefusedBy, IsCause}
 use Rattle.avalon_top.specs.declared.exit.Exit.{Exit}
 use Rattle.avalon_top.specs.declared.exit.Exit.TheVariants as exit
-use Rattle.avalon_top.specs.declared.kinds.Kind.{Kind}
-use Rattle.avalon_top.specs.declared.kinds.Kind.TheVariants as kind
-use Rattle.avalon_top.specs.declared.kinds.WireForm.{WireForm}
-use Rattle.avalon_top.specs.declared.form.Component.{Component}
-use Rattle.avalon_top.specs.declared.form.Wire.{Wire}
-use Rattle.avalon_top.specs.Words.{HasReading}
-use Rattle.avalon_top.specs.Form.{type_line, interface_line, package_line, is_name, candidate, IsStated, IsComponent, IsComponentFile, IsSystem, IsSystemFile, IsOneWire, StatesNoComponent, IsFaultyComponent, IsFaultySystem, IsFormFault}
-use Rattle.avalon_top.specs.Kinds.{JoinAs, IsWithinLimits}
-use Rattle.avalon_top.specs.Interconnect.{IsFormWithinLimits, IsStatable, IsInterconnect}
-use Rattle.avalon_top.specs.Run.{Reads, Writes, Tells, AreLoaded, AreFiles, loaded_bytes, IsGenerated, NothingRefuses, IsDoneOrNoMemory}
-use Rattle.avalon_top.specs.Loading.{AreComponents, StopsAtForm, Stops}
-use Rattle.avalon_top.proofs.FormLemmas.{candidate_is, stated_parts, stated_words, of_kind, same_kind}
-
--- as many words as their bytes
-pub files_of_words : {X : Type 0} (f : X → List ℕ) (words : List X) (files : List (List ℕ)) (told : ℕ → Option (List ℕ)) → AreFiles files told (length words) → AreFiles files told (length (map f words))
-files_of_words f words files told h = rw length-map h
-
-pub if_ok_map : {A E : Type 0} {P Q : A → Type 0} (r : Result A E) → ((a : A) → P a → Q a) → IfOk r P → IfOk r Q
-if_ok_map (Ok a) f h = f a h
-if_ok_map (Err e) f h = h
+use Rattle.avalon_top.specs.declared.words.Task.{Task}
+use Rattle.avalon_top.specs.Words.{AsksFor}
+use Rattle.avalon_top.specs.Run.{Reads, Writes, AreFiles, IsCalledFor, CallsFor, IsOnlyAnswer, NothingFails, unbuilt_of}
+use Rattle.avalon_top.specs.Loading.{StopsFiles, StopsWriting, Stops, IsResultOf, exit_of}
+use Rattle.avalon_top.proofs.WordsLemmas.{one_task}
+use Rattle.avalon_top.proofs.FileLemmas.{told_files, not_long}
 
 pub if_err_map : {A E : Type 0} {P Q : E → Type 0} (r : Result A E) → ((e : E) → P e → Q e) → IfErr r P → IfErr r Q
 if_err_map (Ok a) f h = h
 if_err_map (Err e) f h = f e h
 
-where_told_map : {P Q : List ℕ → Type 0} (told : Option (List ℕ)) → ((bytes : List ℕ) → P bytes → Q bytes) → WhereTold told P → WhereTold told Q
-where_told_map None f h = tt
-where_told_map (Some bytes) f h = f bytes h
+-- what holds of an `Ok`, and what holds of its value
+pub if_ok_on : {A E P : Type 0} {Q R : A → Type 0} (r : Result A E) → ((a : A) → P → Q a → R a) → OnOk r P → IfOk r Q → IfOk r R
+if_ok_on (Ok a) f p q = f a p q
+if_ok_on (Err e) f p q = q
 
-pub bytes_at : (files : List (List ℕ)) (k : ℕ) → loaded_bytes files (k + 1) ≡ get_or files k []
-bytes_at files k = let e : k + 1 - 1 ≡ k = omega arith in ap (λ (n : ℕ). get_or files n []) e
+-- ---- files that are refused
 
-pub file_at : (files : List (List ℕ)) (k : ℕ) (bytes : List ℕ) → k < length files → bytes ≡ get_or files k bytes → loaded_bytes files (k + 1) ≡ bytes
-file_at files k bytes inside e = bytes_at files k ∙ get_or_from_slice_get files k bytes [] (slice_get_read files (length files) k bytes refl inside e)
+-- where one refusal alone is the files', its answer is the only one
+no_other : (task : Task) (files : List (List ℕ)) (r : Refusal) → (IsAccepted files → ⊥) → ((s : Refusal) → IsRefusedBy files s → r ≡ s)
+    → (other : Exit) → CallsFor task files other → other ≡ exit_of r
+no_other task files r none only exit.Done h = absurd (none h.accepted)
+no_other task files r none only (exit.ScriptRefused place rule) h = ap exit_of (sym (only (refusal.Script place rule) h))
+no_other task files r none only (exit.LinkRefused connection rule other) h =
+    ⊎_elim (λ l. ap exit_of (sym (only (refusal.Link connection rule other) l))) (λ u. absurd (none u.accepted)) h
+no_other task files r none only (exit.Limit which count) h = ap exit_of (sym (only (refusal.Limit which count) h))
+no_other task files r none only exit.Usage h = absurd h
+no_other task files r none only (exit.ReadFault file) h = absurd h
+no_other task files r none only exit.WriteFault h = absurd h
+no_other task files r none only exit.NoMemory h = absurd h
 
-pub item_is : {X : Type 0} (xs ys : List X) (k : ℕ) (x : X) → ys ≡ xs → k < length ys → x ≡ get_or ys k x → slice_get xs k ≡ Some x
-item_is {X = X} xs ys k x e inside is = ap (λ (zs : List X). slice_get zs k) (sym e) ∙ slice_get_read ys (length ys) k x refl inside is
-
-some_at : {X : Type 0} (xs : List X) (n : ℕ) → n < length xs → (x : X) × (slice_get xs n ≡ Some x)
-some_at [] n h = absurd (omega arith)
-some_at (x ∷ xs) zero h = (x, refl)
-some_at (x ∷ xs) (suc n) h = some_at xs n (omega arith)
-
-newly : {X : Type 0} (xs : List X) (y z : X) (n : ℕ) → slice_get (xs ++ y ∷ []) n ≡ Some z → (slice_get xs n ≡ Some z) ⊎ ((n ≡ length xs) × (y ≡ z))
-newly [] y z zero e = inr (refl, (cc))
-newly [] y z (suc n) e = inl e
-newly (x ∷ xs) y z zero e = inl e
-newly (x ∷ xs) y z (suc n) e = elim (newly xs y z n e) [ inl o ↦ inl o | inr o ↦ inr (ap suc o.0, o.1) ]
-
--- one component more, of the next file
-pub more_components : (files : List (List ℕ)) (components : List Component) (component : Component) → AreComponents files components →
-    IsComponentFile (length components + 2) (loaded_bytes files (length components + 2)) component → AreComponents files (components ++ component ∷ [])
-more_components files components component are is k other e =
+-- the files are refused, or memory was wanted
+pub refused_files : (task : Task) (files : List (List ℕ)) (r : Refusal) → IsCause files r → (IsAccepted files → r ≡ refusal.NoMemory)
+    → ((s : Refusal) → IsRefusedBy files s → (r ≡ s) ⊎ (r ≡ refusal.NoMemory)) → StopsFiles task files (exit_of r)
+refused_files task files refusal.NoMemory cause accepted only = inl refl
+refused_files task files (refusal.Script place rule) cause accepted only =
     ⊎_elim
-    (λ old. are k other old)
-    (λ o. subst (λ (c : Component). IsComponentFile (k + 2) (loaded_bytes files (k + 2)) c) o.1 (subst (λ (n : ℕ). IsComponentFile (n + 2) (loaded_bytes files (n + 2)) component) (sym o.0) is))
-    (newly components component other k e)
-
--- each component file before the ones that are left states a component
-components_before : (files : List (List ℕ)) (components : List Component) (file : ℕ) → AreComponents files components → length components + 2 ≡ file →
-    (k : ℕ) → 2 ≤ k → k < file → (component : Component) × IsComponentFile k (loaded_bytes files k) component
-components_before files components file are count k from before =
-    let inside : k - 2 < length components = omega arith in
-    let item = some_at components (k - 2) inside in
-    let same : k - 2 + 2 ≡ k = omega arith in
-    (item.0, subst (λ (n : ℕ). IsComponentFile n (loaded_bytes files n) item.0) same (are (k - 2) item.0 item.1))
-
-pub faulty_component : (files : List (List ℕ)) (components : List Component) (file : ℕ) → AreComponents files components → length components + 2 ≡ file → file < length files + 1 →
-    StatesNoComponent file (loaded_bytes files file) → IsFaultyComponent (loaded_bytes files) (length files + 1) file
-faulty_component files components file are count inside none =
-    record { from = omega arith; inside = inside; faulty = none; earlier = components_before files components file are count }
-
--- ---- a file states one component at most
-
-stated_once : (lines : List (List (List ℕ))) (a b : Component) → IsStated lines a → IsStated lines b → a ≡ b
-stated_once lines a b x y =
-    let u = stated_words lines 0 a (stated_parts lines 0 a x) in
-    let v = stated_words lines 0 b (stated_parts lines 0 b y) in
-    let kinds = same_kind lines 0 a.kind b.kind (of_kind lines 0 a x) (of_kind lines 0 b y) in
-    sym (candidate_is lines 0 a u) ∙ ap (candidate lines 0) kinds ∙ candidate_is lines 0 b v
-
-component_once : (commands : List (List (List ℕ))) (a b : Component) → IsComponent commands a → IsComponent commands b → a ≡ b
-component_once commands a b u v =
+    (λ e. (cc))
+    (λ is. inr record { called = is; only = no_other task files (refusal.Script place rule) (λ a. let e = accepted a in cc) (λ s h. ⊎_elim (λ e. e) (λ e. (cc)) (only s h)) })
+    cause
+refused_files task files (refusal.Link connection rule other) cause accepted only =
     ⊎_elim
-    (λ e. ⊎_elim
-    (λ f. stated_once commands a b (subst (λ (ls : List (List (List ℕ))). IsStated ls a) (sym e) u.stated) (subst (λ (ls : List (List (List ℕ))). IsStated ls b) (sym f) v.stated))
-    (λ f. let clash : type_line a ∷ interface_line a ∷ (u.stated.ports ++ u.stated.properties) ≡ package_line f.0 ∷ v.lines = sym u.stated.spelled ∙ sym e ∙ f.1 in cc)
-    v.behind)
-    (λ e. ⊎_elim
-    (λ f. let clash : package_line e.0 ∷ u.lines ≡ type_line b ∷ interface_line b ∷ (v.stated.ports ++ v.stated.properties) = sym e.1 ∙ f ∙ v.stated.spelled in cc)
-    (λ f. stated_once u.lines a b u.stated (subst (λ (ls : List (List (List ℕ))). IsStated ls b) (sym (ap (drop 1) (sym e.1 ∙ f.1))) v.stated))
-    v.behind)
-    u.behind
+    (λ e. (cc))
+    (λ is. inr record { called = inl is; only = no_other task files (refusal.Link connection rule other) (λ a. let e = accepted a in cc) (λ s h. ⊎_elim (λ e. e) (λ e. (cc)) (only s h)) })
+    cause
+refused_files task files (refusal.Limit which count) cause accepted only =
+    ⊎_elim
+    (λ e. (cc))
+    (λ is. inr record { called = is; only = no_other task files (refusal.Limit which count) (λ a. let e = accepted a in cc) (λ s h. ⊎_elim (λ e. e) (λ e. (cc)) (only s h)) })
+    cause
 
--- ---- where the files are no wire
+-- ---- files that state a plan
 
-pub not_two : (files : List (List ℕ)) (components : List Component) → AreComponents files components → 1 ≤ length files → length components ≡ length files - 1 → length components ≢ 2 →
-    IsFaultySystem (loaded_bytes files) (length files + 1) 1
-not_two files components are some count differ =
-    let next : length components + 2 ≡ length files + 1 = omega arith in
+abbrev pub accepted_files : (files : List (List ℕ)) (plan : PlanTable) → IsPlanned files plan → IsAccepted files
+accepted_files files plan is = record { system = plan.system; stated = is.stated; maps = is.is_plan.maps.kept; links = is.is_plan.links; limits = is.is_plan.limits }
+
+-- what a task can't build yet of the one system of the files
+same_unbuilt : (task : Task) (a b : SystemTable) (found : Option (ℕ × LinkRule)) → a ≡ b → unbuilt_of task a ≡ found → unbuilt_of task b ≡ found
+same_unbuilt task a b found e h = ap (unbuilt_of task) (sym e) ∙ h
+
+not_both : (found : Option (ℕ × LinkRule)) (p : ℕ × LinkRule) → found ≡ Some p → found ≡ None → ⊥
+not_both found p some none = cc
+
+only_done : (task : Task) (files : List (List ℕ)) (system : SystemTable) → ((a : IsAccepted files) → system ≡ a.system) → ((s : Refusal) → IsRefusedBy files s → ⊥)
+    → unbuilt_of task system ≡ None → (other : Exit) → CallsFor task files other → other ≡ exit.Done
+only_done task files system same none built exit.Done h = refl
+only_done task files system same none built (exit.ScriptRefused place rule) h = absurd (none (refusal.Script place rule) h)
+only_done task files system same none built (exit.LinkRefused connection rule other) h =
+    ⊎_elim
+    (λ l. absurd (none (refusal.Link connection rule other) l))
+    (λ u. let is = same_unbuilt task system u.accepted.system None (same u.accepted) built in absurd (not_both (unbuilt_of task u.accepted.system) (connection, rule) u.pending is))
+    h
+only_done task files system same none built (exit.Limit which count) h = absurd (none (refusal.Limit which count) h)
+only_done task files system same none built exit.Usage h = absurd h
+only_done task files system same none built (exit.ReadFault file) h = absurd h
+only_done task files system same none built exit.WriteFault h = absurd h
+only_done task files system same none built exit.NoMemory h = absurd h
+
+-- nothing is in the task's way
+pub done_files : (task : Task) (files : List (List ℕ)) (plan : PlanTable) → IsPlanned files plan → ((a : IsAccepted files) → plan.system ≡ a.system)
+    → ((s : Refusal) → IsRefusedBy files s → ⊥) → unbuilt_of task plan.system ≡ None → IsOnlyAnswer task files exit.Done
+done_files task files plan is same none built =
+    record { called = record { accepted = accepted_files files plan is; built = built }; only = only_done task files plan.system same none built }
+
+same_link : (p q : ℕ × LinkRule) (other : Option ℕ) → Some p ≡ Some q → other ≡ None → exit.LinkRefused p.0 p.1 other ≡ exit.LinkRefused q.0 q.1 None
+same_link p q other e alone =
+    let pairs : p ≡ q = cc in
+    let numbers : p.0 ≡ q.0 = ap (λ (x : ℕ × LinkRule). x.0) pairs in
+    let rules : p.1 ≡ q.1 = ap (λ (x : ℕ × LinkRule). x.1) pairs in cc
+
+only_unbuilt : (task : Task) (files : List (List ℕ)) (system : SystemTable) (k : ℕ) (r : LinkRule) → ((a : IsAccepted files) → system ≡ a.system) → ((s : Refusal) → IsRefusedBy files s → ⊥)
+    → unbuilt_of task system ≡ Some (k, r) → (other : Exit) → CallsFor task files other → other ≡ exit.LinkRefused k r None
+only_unbuilt task files system k r same none found exit.Done h =
+    absurd (not_both (unbuilt_of task h.accepted.system) (k, r) (same_unbuilt task system h.accepted.system (Some (k, r)) (same h.accepted) found) h.built)
+only_unbuilt task files system k r same none found (exit.ScriptRefused place rule) h = absurd (none (refusal.Script place rule) h)
+only_unbuilt task files system k r same none found (exit.LinkRefused connection rule other) h =
+    ⊎_elim
+    (λ l. absurd (none (refusal.Link connection rule other) l))
+    (λ u.
+    let is = same_unbuilt task system u.accepted.system (Some (k, r)) (same u.accepted) found in
+    same_link (connection, rule) (k, r) other (sym u.pending ∙ is) u.alone)
+    h
+only_unbuilt task files system k r same none found (exit.Limit which count) h = absurd (none (refusal.Limit which count) h)
+only_unbuilt task files system k r same none found exit.Usage h = absurd h
+only_unbuilt task files system k r same none found (exit.ReadFault file) h = absurd h
+only_unbuilt task files system k r same none found exit.WriteFault h = absurd h
+only_unbuilt task files system k r same none found exit.NoMemory h = absurd h
+
+unbuilt_files : (task : Task) (files : List (List ℕ)) (plan : PlanTable) (k : ℕ) (r : LinkRule) → IsPlanned files plan → ((a : IsAccepted files) → plan.system ≡ a.system)
+    → ((s : Refusal) → IsRefusedBy files s → ⊥) → unbuilt_of task plan.system ≡ Some (k, r) → IsOnlyAnswer task files (exit.LinkRefused k r None)
+unbuilt_files task files plan k r is same none found =
     record {
-      system = refl;
-      components = components_before files components (length files + 1) are next;
-      faulty = λ wire is. let three = is.three_files in differ (omega arith);
+      called = inr record { accepted = accepted_files files plan is; pending = found; alone = refl };
+      only = only_unbuilt task files plan.system k r same none found;
     }
 
-pub no_wire : (files : List (List ℕ)) (components : List Component) (one other : Component) → AreComponents files components → 1 ≤ length files → length components ≡ length files - 1 →
-    slice_get components 0 ≡ Some one → slice_get components 1 ≡ Some other → ((wire : Wire) → IsSystemFile (loaded_bytes files 1) one other wire → ⊥) →
-    IsFaultySystem (loaded_bytes files) (length files + 1) 1
-no_wire files components one other are some count first second none =
-    let next : length components + 2 ≡ length files + 1 = omega arith in
-    record {
-      system = refl;
-      components = components_before files components (length files + 1) are next;
-      faulty = λ wire is.
-          let a = component_once _ is.one one is.one_is.states (are 0 one first).states in
-          let b = component_once _ is.other other is.other_is.states (are 1 other second).states in
-          none wire (subst (λ (x : Component). IsSystemFile (loaded_bytes files 1) x other wire) a (subst (λ (x : Component). IsSystemFile (loaded_bytes files 1) is.one x wire) b is.system_is));
-    }
+-- a connection is in the task's way, or memory was wanted
+pub stopped_files : (task : Task) (files : List (List ℕ)) (plan : PlanTable) (e : Exit) → IsPlanned files plan → ((a : IsAccepted files) → plan.system ≡ a.system)
+    → ((s : Refusal) → IsRefusedBy files s → ⊥) → StopsWriting task plan.system e → StopsFiles task files e
+stopped_files task files plan (exit.LinkRefused k r other) is same none s =
+    inr (subst (λ (o : Option ℕ). IsOnlyAnswer task files (exit.LinkRefused k r o)) (sym s.1) (unbuilt_files task files plan k r is same none s.0))
+stopped_files task files plan exit.NoMemory is same none s = inl refl
+stopped_files task files plan exit.Done is same none s = absurd s
+stopped_files task files plan exit.Usage is same none s = absurd s
+stopped_files task files plan (exit.ReadFault file) is same none s = absurd s
+stopped_files task files plan exit.WriteFault is same none s = absurd s
+stopped_files task files plan (exit.ScriptRefused place rule) is same none s = absurd s
+stopped_files task files plan (exit.Limit which count) is same none s = absurd s
 
-pub is_wire : (files : List (List ℕ)) (components : List Component) (one other : Component) (wire : Wire) → AreComponents files components → 1 ≤ length files → length components ≡ length files - 1 → length components ≡ 2 →
-    slice_get components 0 ≡ Some one → slice_get components 1 ≡ Some other → IsSystemFile (loaded_bytes files 1) one other wire → IsOneWire (loaded_bytes files) (length files + 1) wire
-is_wire files components one other wire are some count two first second joined =
-    record { three_files = omega arith; one = one; other = other; one_is = are 0 one first; other_is = are 1 other second; system_is = joined }
+-- ---- from files to words
 
--- ---- from the loaded files to what the shelf tells
+-- what files call for stops the run of the words that name them
+pub files_stop : (words : List (List ℕ)) (reads : Reads) (task : Task) (files : List (List ℕ)) (e : Exit) → AsksFor words task → AreFiles reads.told (length words) files
+    → StopsFiles task files e → Stops words reads e
+files_stop words reads task files (exit.ScriptRefused place rule) asks are s = ⊎_elim (λ e. (cc)) (λ is. (task, asks, record { files = files; are_files = are; only = is })) s
+files_stop words reads task files (exit.LinkRefused connection rule other) asks are s = ⊎_elim (λ e. (cc)) (λ is. (task, asks, record { files = files; are_files = are; only = is })) s
+files_stop words reads task files (exit.Limit which count) asks are s = ⊎_elim (λ e. (cc)) (λ is. (task, asks, inr (inr record { files = files; are_files = are; only = is }))) s
+files_stop words reads task files exit.NoMemory asks are s = (task, asks, are.few)
+files_stop words reads task files exit.Done asks are s = absurd s
+files_stop words reads task files exit.Usage asks are s = ⊎_elim (λ e. (cc)) (λ is. absurd is.called) s
+files_stop words reads task files (exit.ReadFault file) asks are s = ⊎_elim (λ e. (cc)) (λ is. absurd is.called) s
+files_stop words reads task files exit.WriteFault asks are s = ⊎_elim (λ e. (cc)) (λ is. absurd is.called) s
 
-same_contents : (files : List (List ℕ)) (told : ℕ → Option (List ℕ)) (words : ℕ) (contents : ℕ → List ℕ) → AreFiles files told words → Tells told words contents →
-    (k : ℕ) → 1 ≤ k → k < words → loaded_bytes files k ≡ contents k
-same_contents files told words contents are tells k from inside = subst (λ (o : Option (List ℕ)). WhereTold o (λ bytes. loaded_bytes files k ≡ bytes)) (tells k from inside) (are.are_told k from inside)
+-- the answer of the files that were loaded is that of the files that are told
+same_answer : (words : List (List ℕ)) (reads : Reads) (writes : Writes) (e : Exit) (task asked : Task) (files loaded : List (List ℕ)) → AreFiles reads.told (length words) loaded
+    → AsksFor words asked → NothingFails task files words reads writes → IsOnlyAnswer asked loaded e → IsOnlyAnswer task files e
+same_answer words reads writes e task asked files loaded are asks well only =
+    let tasks : asked ≡ task = one_task words asked task asks well.asks in
+    let same : loaded ≡ files = told_files reads.told (length words) loaded files are well.count well.told in
+    subst (λ (t : Task). IsOnlyAnswer t files e) tasks (subst (λ (fs : List (List ℕ)). IsOnlyAnswer asked fs e) same only)
 
-loaded : (files : List (List ℕ)) (told : ℕ → Option (List ℕ)) (words : ℕ) → AreFiles files told words → AreLoaded told words
-loaded files told words are k from inside = where_told_map (told k) (λ bytes e. subst (λ (b : List ℕ). length b ≤ 1048576) e (are.short k from inside)) (are.are_told k from inside)
+called_for : (words : List (List ℕ)) (reads : Reads) (writes : Writes) (e : Exit) (task asked : Task) (files : List (List ℕ)) → IsCalledFor asked (length words) reads.told e
+    → AsksFor words asked → NothingFails task files words reads writes → IsOnlyAnswer task files e
+called_for words reads writes e task asked files is asks well = same_answer words reads writes e task asked files is.files is.are_files asks well is.only
 
-wire_carries : (b c : ℕ → List ℕ) (count : ℕ) (wire : Wire) → ((k : ℕ) → 1 ≤ k → k < count → b k ≡ c k) → IsOneWire b count wire → IsOneWire c count wire
-wire_carries b c count wire same is =
-    let four = is.three_files in
-    let e1 = same 1 (omega arith) (omega arith) in
-    let e2 = same 2 (omega arith) (omega arith) in
-    let e3 = same 3 (omega arith) (omega arith) in
-    record {
-      three_files = four;
-      one = is.one;
-      other = is.other;
-      one_is = subst (λ (x : List ℕ). IsComponentFile 2 x is.one) e2 is.one_is;
-      other_is = subst (λ (x : List ℕ). IsComponentFile 3 x is.other) e3 is.other_is;
-      system_is = subst (λ (x : List ℕ). IsSystemFile x is.one is.other wire) e1 is.system_is;
-    }
-
-components_carry : (b c : ℕ → List ℕ) (count : ℕ) → ((k : ℕ) → 1 ≤ k → k < count → b k ≡ c k) → (k : ℕ) → 2 ≤ k → k < count → (component : Component) × IsComponentFile k (b k) component → (component : Component) × IsComponentFile k (c k) component
-components_carry b c count same k from inside p = (p.0, subst (λ (x : List ℕ). IsComponentFile k x p.0) (same k (omega arith) inside) p.1)
-
-fault_carries : (b c : ℕ → List ℕ) (count file : ℕ) → ((k : ℕ) → 1 ≤ k → k < count → b k ≡ c k) → IsFormFault b count file → IsFormFault c count file
-fault_carries b c count file same fault =
+-- what stops a run where nothing fails is the answer that the files call for, or want of memory
+pub completes : (words : List (List ℕ)) (reads : Reads) (writes : Writes) (e : Exit) → Stops words reads e
+    → (task : Task) (files : List (List ℕ)) → NothingFails task files words reads writes → (e ≡ exit.NoMemory) ⊎ IsOnlyAnswer task files e
+completes words reads writes exit.NoMemory s task files well = inl refl
+completes words reads writes exit.Usage s task files well = absurd (s task well.asks)
+completes words reads writes exit.Done s task files well = absurd s.2
+completes words reads writes exit.WriteFault s task files well = absurd s.2
+completes words reads writes (exit.ReadFault file) s task files well = absurd (well.reads_well s.2.rose)
+completes words reads writes (exit.ScriptRefused place rule) s task files well = inr (called_for words reads writes (exit.ScriptRefused place rule) task s.0 files s.2 s.1 well)
+completes words reads writes (exit.LinkRefused connection rule other) s task files well = inr (called_for words reads writes (exit.LinkRefused connection rule other) task s.0 files s.2 s.1 well)
+completes words reads writes (exit.Limit which count) s task files well =
     ⊎_elim
-    (λ f.
-    let from = f.from in
-    let inside = f.inside in
-    inl record {
-      from = from;
-      inside = inside;
-      faulty = subst (λ (x : List ℕ). StatesNoComponent file x) (same file (omega arith) inside) f.faulty;
-      earlier = λ k h l. components_carry b c count same k h (omega arith) (f.earlier k h l);
-    })
-    (λ f. inr record {
-      system = f.system;
-      components = λ k h l. components_carry b c count same k h l (f.components k h l);
-      faulty = λ wire is. f.faulty wire (wire_carries c b count wire (λ k h l. sym (same k h l)) is);
-    })
-    fault
+    (λ many. let few = well.few in let passed = many.passed in let is = many.count_is in absurd (omega arith))
+    (λ rest. ⊎_elim
+    (λ long. absurd (not_long (length words) reads.told files long.earlier long.inside long.long well.count well.told well.short))
+    (λ is. inr (called_for words reads writes (exit.Limit which count) task s.0 files is s.1 well))
+    rest)
+    s.2
 
-pub form_stops : (words : List (List ℕ)) (reads : Reads) (files : List (List ℕ)) (e : Exit) → HasReading words → length words ≤ 65 → AreFiles files reads.told (length words) → StopsAtForm files e → Stops words reads e
-form_stops words reads files (exit.ScriptRefused place rule) reading few are s = (
-  reading,
-  record {
-    few = few;
-    loaded = loaded files reads.told (length words) are;
-    at_start = s.0;
-    rule_is = s.1;
-    fault = λ contents tells.
-        fault_carries (loaded_bytes files) contents (length words) place.file (same_contents files reads.told (length words) contents are tells)
-        (subst (λ (n : ℕ). IsFormFault (loaded_bytes files) n place.file) are.count s.2);
-  },
-)
-form_stops words reads files exit.NoMemory reading few are s = (reading, few)
-form_stops words reads files (exit.ReadFault f) reading few are s = absurd s
-form_stops words reads files (exit.Limit which count) reading few are s = absurd s
-form_stops words reads files exit.Usage reading few are s = absurd s
-form_stops words reads files exit.Done reading few are s = s
-form_stops words reads files exit.WriteFault reading few are s = s
-
-pub is_generated : (words : ℕ) (told : ℕ → Option (List ℕ)) (files : List (List ℕ)) (wire : Wire) (netlist : Netlist) → words ≤ 65 → AreFiles files told words → IsOneWire (loaded_bytes files) (length files + 1) wire →
-    IsInterconnect wire netlist → IsGenerated words told wire netlist
-is_generated words told files wire netlist few are is built =
-    record {
-      few = few;
-      loaded = loaded files told words are;
-      files = λ contents tells. wire_carries (loaded_bytes files) contents words wire (same_contents files told words contents are tells) (subst (λ (n : ℕ). IsOneWire (loaded_bytes files) n wire) are.count is);
-      interconnect = built;
-    }
-
--- ---- the names of a wire
-
-last_of : (a b : Bool) → (a && (b && true)) ≡ true → b ≡ true
-last_of a b h = (and_parts b true (and_parts a (b && true) h).1).0
-
-all_three : (a b c : Bool) → (a && (b && (c && true))) ≡ true → (a ≡ true) × (b ≡ true) × (c ≡ true)
-all_three a b c h =
-    let first = and_parts a (b && (c && true)) h in
-    let second = and_parts b (c && true) first.1 in
-    (first.0, second.0, (and_parts c true second.1).0)
-
-component_named : (file : ℕ) (bytes : List ℕ) (component : Component) → IsComponentFile file bytes component → is_name component.interface ≡ true
-component_named file bytes component is = last_of (is_name component.type_name) (is_name component.interface) is.states.stated.names
-
-all_five : (a b c d e : Bool) → a ≡ true → b ≡ true → c ≡ true → d ≡ true → e ≡ true → (a && (b && (c && (d && (e && true))))) ≡ true
-all_five a b c d e p q r s t = rw (p, q, r, s, t) refl
-
--- an agent within its limits makes a wire within its limits
-form_limits : (from to : Kind) (wire : WireForm) → JoinAs from to wire → IsWithinLimits to → IsFormWithinLimits wire
-form_limits kind.Source kind.Sink wire joins limits = subst IsFormWithinLimits (sym joins) tt
-form_limits (kind.Host b e) (kind.Agent c f p) wire joins limits =
-    subst IsFormWithinLimits (sym joins.2) (record { some_bit = limits.0; few_bits = limits.1; some_read = limits.2; few_reads = limits.3 })
-form_limits from to wire joins limits = absurd joins
-
-system_statable : (commands : List (List (List ℕ))) (from to : Component) (wire : Wire) → is_name from.interface ≡ true → is_name to.interface ≡ true → IsWithinLimits to.kind →
-    IsSystem commands from to wire → IsStatable wire
-system_statable commands from to wire from_named to_named limits is =
-    let parts = all_three (is_name wire.system) (is_name wire.from.instance) (is_name wire.to.instance) is.names in
-    let a : is_name wire.from.interface ≡ true = ap is_name is.begins ∙ from_named in
-    let b : is_name wire.to.interface ≡ true = ap is_name is.ends ∙ to_named in
-    record {
-      names = all_five (is_name wire.system) (is_name wire.from.instance) (is_name wire.from.interface) (is_name wire.to.instance) (is_name wire.to.interface) parts.0 parts.1 a parts.2 b;
-      differ = is.differ;
-      limits = form_limits from.kind to.kind wire.form is.form limits;
-    }
-
-pub wire_statable : (contents : ℕ → List ℕ) (count : ℕ) (wire : Wire) → IsOneWire contents count wire → IsStatable wire
-wire_statable contents count wire is =
-    let one = component_named 2 (contents 2) is.one is.one_is in
-    let other = component_named 3 (contents 3) is.other is.other_is in
-    ⊎_elim
-    (system_statable _ is.one is.other wire one other is.other_is.states.stated.limits)
-    (system_statable _ is.other is.one wire other one is.one_is.states.stated.limits)
-    is.system_is.joins
-
--- ---- where nothing refuses, nothing but want of memory stops the run
-
-no_fault : (contents : ℕ → List ℕ) (count file : ℕ) (wire : Wire) → IsOneWire contents count wire → IsFormFault contents count file → ⊥
-no_fault contents count file wire is fault =
-    ⊎_elim
-    (λ f. let four = is.three_files in let from = f.from in let inside = f.inside in faulty_is file from (omega arith) f.faulty)
-    (λ f. f.faulty wire is)
-    fault
-  where
-    faulty_is : (k : ℕ) → 2 ≤ k → k < 4 → StatesNoComponent k (contents k) → ⊥
-    faulty_is zero h l none = omega arith
-    faulty_is (suc zero) h l none = omega arith
-    faulty_is (suc (suc zero)) h l none = none is.one is.one_is
-    faulty_is (suc (suc (suc zero))) h l none = none is.other is.other_is
-    faulty_is (suc (suc (suc (suc k)))) h l none = omega arith
-
-told_short : (told : Option (List ℕ)) (bytes : List ℕ) → told ≡ Some bytes → length bytes ≤ 1048576 → WhereTold told (λ b. 1048576 < length b) → ⊥
-told_short told bytes e short long = let h : 1048576 < length bytes = subst (λ (o : Option (List ℕ)). WhereTold o (λ b. 1048576 < length b)) e long in omega arith
-
-pub completes : (words : List (List ℕ)) (reads : Reads) (writes : Writes) (e : Exit) → Stops words reads e → NothingRefuses words reads writes → IsDoneOrNoMemory e
-completes words reads writes exit.Done s n = tt
-completes words reads writes exit.NoMemory s n = tt
-completes words reads writes exit.Usage s n = s n.reading
-completes words reads writes (exit.ReadFault file) s n = n.reads_well s.1.rose
-completes words reads writes exit.WriteFault s n = s
-completes words reads writes (exit.ScriptRefused place rule) s n = no_fault n.contents (length words) place.file n.wire n.built (s.1.fault n.contents n.told)
-completes words reads writes (exit.Limit which count) s n =
-    ⊎_elim
-    (λ l. let four = n.built.three_files in let passed = l.passed in let is = l.count_is in omega arith)
-    (λ l. told_short (reads.told l.file) (n.contents l.file) (n.told l.file l.after_command l.inside) (n.short l.file l.after_command l.inside) l.long)
-    s.1
+-- a result that is written where nothing fails is what the files call for
+pub completes_done : (words : List (List ℕ)) (reads : Reads) (writes : Writes) (text : List ℕ) → IsResultOf words reads text
+    → (task : Task) (files : List (List ℕ)) → NothingFails task files words reads writes → IsOnlyAnswer task files exit.Done
+completes_done words reads writes text is task files well =
+    same_answer words reads writes exit.Done task is.task files is.files is.are_files is.asks well is.result.only

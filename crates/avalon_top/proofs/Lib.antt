@@ -1,8 +1,4 @@
 pub mod Decimals
 pub mod WordsLemmas
-pub mod FormLemmas
-pub mod PortNames
-pub mod Headers
-pub mod StreamNets
-pub mod MemoryWires
+pub mod FileLemmas
 pub mod AnswerLemmas

@@ -1,19 +1,35 @@
 -- The status of each answer, and the bytes of the line that it writes.
-use Rattle.std.specs.Prelude.{ℕ, List, [], ◌++◌, codes, decimal}
+use Rattle.std.specs.Prelude.{ℕ, List, [], ◌++◌, Option, Some, None, codes, decimal}
 use Rattle.av_base.specs.declared.faults.Place.{Place}
-use Rattle.avalon_top.specs.declared.exit.ScriptRule.{ScriptRule}
-use Rattle.avalon_top.specs.declared.exit.ScriptRule.TheVariants.{Words, Command, Interface}
+use Rattle.av_scripts.specs.declared.faults.ScriptRule.{ScriptRule}
+use Rattle.av_scripts.specs.declared.faults.ScriptRule.TheVariants as script
+use Rattle.link_rules.specs.declared.faults.LinkRule.{LinkRule}
+use Rattle.link_rules.specs.declared.faults.LinkRule.TheVariants as link
 use Rattle.avalon_top.specs.declared.exit.Exit.{Exit}
 use Rattle.avalon_top.specs.declared.exit.Exit.TheVariants as exit
 
 abbrev pub script_rule : ScriptRule → List ℕ
-script_rule (Words n) = codes "T" ++ decimal n
-script_rule (Command n) = codes "C" ++ decimal n
-script_rule (Interface n) = codes "I" ++ decimal n
+script_rule (script.Words n) = codes "T" ++ decimal n
+script_rule (script.Command n) = codes "C" ++ decimal n
+script_rule (script.Interface n) = codes "I" ++ decimal n
 
 abbrev pub script_line : Place → ScriptRule → List ℕ
 script_line place rule =
     codes "script refused: file " ++ decimal place.file ++ codes " line " ++ decimal place.line ++ codes " byte " ++ decimal place.byte ++ codes " rule " ++ script_rule rule ++ codes "\n"
+
+abbrev pub link_rule : LinkRule → List ℕ
+link_rule (link.Map n) = codes "A" ++ decimal n
+link_rule (link.Mm n) = codes "P" ++ decimal n
+link_rule (link.Stream n) = codes "S" ++ decimal n
+
+-- the connection that is in the way, where there is one
+abbrev pub other_text : Option ℕ → List ℕ
+other_text None = []
+other_text (Some other) = codes " with " ++ decimal other
+
+abbrev pub link_line : ℕ → LinkRule → Option ℕ → List ℕ
+link_line connection rule other =
+    codes "link refused: connection " ++ decimal connection ++ codes " rule " ++ link_rule rule ++ other_text other ++ codes "\n"
 
 abbrev pub limit_line : ℕ → ℕ → List ℕ
 limit_line which count = codes "limit: L" ++ decimal which ++ codes " count " ++ decimal count ++ codes "\n"
@@ -25,6 +41,7 @@ line_of exit.Usage = codes "usage: generate|check SYSTEM COMPONENT.. | simulate 
 line_of (exit.ReadFault file) = codes "read fault: file " ++ decimal file ++ codes "\n"
 line_of exit.WriteFault = []
 line_of (exit.ScriptRefused place rule) = script_line place rule
+line_of (exit.LinkRefused connection rule other) = link_line connection rule other
 line_of (exit.Limit which count) = limit_line which count
 line_of exit.NoMemory = codes "no memory\n"
 
@@ -34,5 +51,6 @@ status_of exit.Usage = 2
 status_of (exit.ReadFault file) = 3
 status_of exit.WriteFault = 4
 status_of (exit.ScriptRefused place rule) = 5
+status_of (exit.LinkRefused connection rule other) = 6
 status_of (exit.Limit which count) = 7
 status_of exit.NoMemory = 10

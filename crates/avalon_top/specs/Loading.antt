@@ -1,67 +1,56 @@
--- What stops a run before its result is written: each answer of a step, by its cause.
-use Rattle.std.specs.Prelude.{◌≡◌, ℕ, ◌+◌, ◌<◌, ◌≤◌, ◌⊎◌, List, length, slice_get, Some}
+-- What the steps of a run answer before its result is written.
+use Rattle.std.specs.Prelude.{◌≡◌, ℕ, ◌<◌, ◌⊎◌, List, length, Some, None}
 use Rattle.av_base.specs.Outside.{Rose, WhereTold}
+use Rattle.av_scripts.specs.Tables.{SystemTable}
+use Rattle.system_plan.specs.declared.faults.Refusal.{Refusal}
+use Rattle.system_plan.specs.declared.faults.Refusal.TheVariants as refusal
 use Rattle.avalon_top.specs.declared.exit.Exit.{Exit}
 use Rattle.avalon_top.specs.declared.exit.Exit.TheVariants as exit
-use Rattle.avalon_top.specs.declared.exit.ScriptRule.TheVariants.{Command}
-use Rattle.avalon_top.specs.declared.form.Component.{Component}
-use Rattle.avalon_top.specs.Words.{HasReading}
-use Rattle.avalon_top.specs.Form.{IsComponentFile, IsFormFault, IsFaultyComponent}
-use Rattle.avalon_top.specs.Run.{Reads, IsReadFault, IsFilesLimit, IsBytesLimit, IsNotBuilt, loaded_bytes}
+use Rattle.avalon_top.specs.declared.words.Task.{Task}
+use Rattle.avalon_top.specs.Words.{AsksFor, AsksForNothing}
+use Rattle.avalon_top.specs.Run.{Reads, AreFiles, IsReadFault, IsBytesLimit, IsOnlyAnswer, IsResult, StopsTask, unbuilt_of}
+
+-- the answer to files that are refused
+abbrev pub exit_of : Refusal → Exit
+exit_of (refusal.Script place rule) = exit.ScriptRefused place rule
+exit_of (refusal.Link connection rule other) = exit.LinkRefused connection rule other
+exit_of (refusal.Limit which count) = exit.Limit which count
+exit_of refusal.NoMemory = exit.NoMemory
 
 -- one file was not loaded
 abbrev pub StopsAtFile : ℕ → Reads → Exit → Type 0
 StopsAtFile file reads (exit.ReadFault f) = (f ≡ file) × Rose reads.before reads.after × (reads.failed ≡ file)
 StopsAtFile file reads (exit.Limit which count) = (which ≡ 5) × (count ≡ 1048577) × WhereTold (reads.told file) (λ bytes. 1048576 < length bytes)
 StopsAtFile file reads exit.NoMemory = Unit {0}
-StopsAtFile file reads exit.Usage = ⊥
-StopsAtFile file reads exit.Done = ⊥
-StopsAtFile file reads exit.WriteFault = ⊥
-StopsAtFile file reads (exit.ScriptRefused place rule) = ⊥
+StopsAtFile file reads _ = ⊥
 
--- one of the files was not loaded
+-- the loading of the files of so many words stops
 abbrev pub StopsLoading : ℕ → Reads → Exit → Type 0
-StopsLoading words reads (exit.ReadFault f) = IsReadFault f words reads
+StopsLoading words reads (exit.ReadFault file) = IsReadFault file words reads
 StopsLoading words reads (exit.Limit which count) = IsBytesLimit which count words reads.told
 StopsLoading words reads exit.NoMemory = Unit {0}
-StopsLoading words reads exit.Usage = ⊥
-StopsLoading words reads exit.Done = ⊥
-StopsLoading words reads exit.WriteFault = ⊥
-StopsLoading words reads (exit.ScriptRefused place rule) = ⊥
+StopsLoading words reads _ = ⊥
 
--- these are the components that the component files state, in order: file 2 the first
-abbrev pub AreComponents : List (List ℕ) → List Component → Type 0
-AreComponents files components = (k : ℕ) (component : Component) → slice_get components k ≡ Some component → IsComponentFile (k + 2) (loaded_bytes files (k + 2)) component
+-- the task can't build this connection of the system yet, or memory was wanted
+abbrev pub StopsWriting : Task → SystemTable → Exit → Type 0
+StopsWriting task system (exit.LinkRefused connection rule other) = (unbuilt_of task system ≡ Some (connection, rule)) × (other ≡ None)
+StopsWriting task system exit.NoMemory = Unit {0}
+StopsWriting task system _ = ⊥
 
--- a component file isn't of the form
-abbrev pub StopsAtComponents : List (List ℕ) → Exit → Type 0
-StopsAtComponents files (exit.ScriptRefused place rule) =
-    (place ≡ record { file = place.file; line = 1; byte = 0 }) × (rule ≡ Command 21) × IsFaultyComponent (loaded_bytes files) (length files + 1) place.file
-StopsAtComponents files exit.NoMemory = Unit {0}
-StopsAtComponents files (exit.ReadFault f) = ⊥
-StopsAtComponents files (exit.Limit which count) = ⊥
-StopsAtComponents files exit.Usage = ⊥
-StopsAtComponents files exit.Done = ⊥
-StopsAtComponents files exit.WriteFault = ⊥
+-- the files call for this answer alone, or memory was wanted
+abbrev pub StopsFiles : Task → List (List ℕ) → Exit → Type 0
+StopsFiles task files exit.Done = ⊥
+StopsFiles task files e = (e ≡ exit.NoMemory) ⊎ IsOnlyAnswer task files e
 
--- some file isn't of the form
-abbrev pub StopsAtForm : List (List ℕ) → Exit → Type 0
-StopsAtForm files (exit.ScriptRefused place rule) =
-    (place ≡ record { file = place.file; line = 1; byte = 0 }) × (rule ≡ Command 21) × IsFormFault (loaded_bytes files) (length files + 1) place.file
-StopsAtForm files exit.NoMemory = Unit {0}
-StopsAtForm files (exit.ReadFault f) = ⊥
-StopsAtForm files (exit.Limit which count) = ⊥
-StopsAtForm files exit.Usage = ⊥
-StopsAtForm files exit.Done = ⊥
-StopsAtForm files exit.WriteFault = ⊥
-
--- what stops a run of these words before its result is written
+-- what stops a run of these words
 abbrev pub Stops : List (List ℕ) → Reads → Exit → Type 0
-Stops words reads exit.Usage = ¬ HasReading words
-Stops words reads (exit.ReadFault file) = HasReading words × IsReadFault file (length words) reads
-Stops words reads (exit.ScriptRefused place rule) = HasReading words × IsNotBuilt place rule (length words) reads.told
-Stops words reads (exit.Limit which count) =
-    HasReading words × (IsFilesLimit which count (length words) ⊎ IsBytesLimit which count (length words) reads.told)
-Stops words reads exit.NoMemory = HasReading words × (length words ≤ 65)
-Stops words reads exit.Done = ⊥
-Stops words reads exit.WriteFault = ⊥
+Stops words reads exit.Usage = AsksForNothing words
+Stops words reads e = (task : Task) × AsksFor words task × StopsTask task (length words) reads e
+
+-- the result of a run of these words
+pub record IsResultOf (words : List (List ℕ)) (reads : Reads) (text : List ℕ) : Type 0 where
+  pub task : Task
+  pub asks : AsksFor words task
+  pub files : List (List ℕ)
+  pub are_files : AreFiles reads.told (length words) files
+  pub result : IsResult task files text

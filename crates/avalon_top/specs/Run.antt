@@ -1,17 +1,67 @@
 -- What a run answers, and when.
-use Rattle.std.specs.Prelude.{◌≡◌, ℕ, ◌+◌, ◌-◌, ◌<◌, ◌≤◌, ◌⊎◌, List, [], length, take, slice_index_or, Option, Some}
-use Rattle.av_base.specs.declared.faults.Place.{Place}
+use Rattle.std.specs.Prelude.{◌≡◌, ℕ, ◌+◌, ◌<◌, ◌≤◌, ◌⊎◌, List, length, take, slice_get, All, Option, Some, None}
 use Rattle.av_base.specs.Outside.{Rose, with_more, WhereTold}
+use Rattle.link_rules.specs.declared.faults.LinkRule.{LinkRule}
+use Rattle.link_rules.specs.Plans.{PlanTable}
+use Rattle.av_scripts.specs.Tables.{SystemTable}
+use Rattle.system_plan.specs.declared.faults.Refusal.TheVariants as refusal
+use Rattle.system_plan.specs.Plans.{IsPlanned, IsAccepted, IsRefusedBy}
+use Rattle.map_text.specs.Text.{map_text}
+use Rattle.interconnect.specs.Wires.{pending_of}
+use Rattle.interconnect.specs.Interconnect.{IsInterconnect}
 use Rattle.netlist.specs.Netlists.{Netlist}
 use Rattle.verilog_writer.specs.Text.{text_of}
-use Rattle.avalon_top.specs.declared.exit.ScriptRule.{ScriptRule}
-use Rattle.avalon_top.specs.declared.exit.ScriptRule.TheVariants.{Command}
 use Rattle.avalon_top.specs.declared.exit.Exit.{Exit}
 use Rattle.avalon_top.specs.declared.exit.Exit.TheVariants as exit
-use Rattle.avalon_top.specs.declared.form.Wire.{Wire}
-use Rattle.avalon_top.specs.Words.{HasReading}
-use Rattle.avalon_top.specs.Form.{IsOneWire, IsFormFault}
-use Rattle.avalon_top.specs.Interconnect.{IsInterconnect}
+use Rattle.avalon_top.specs.declared.words.Task.{Task}
+use Rattle.avalon_top.specs.declared.words.Task.TheVariants.{Generate, Check}
+use Rattle.avalon_top.specs.Words.{AsksFor, AsksForNothing}
+
+-- ---- what files call for
+
+-- the least connection that a task would have to build and can't yet, and the rule that refuses it; checking builds nothing
+abbrev pub unbuilt_of : Task → SystemTable → Option (ℕ × LinkRule)
+unbuilt_of Generate system = pending_of system
+unbuilt_of Check system = None
+
+-- no rule and no limit refuses the files, and the task can be done
+pub record CanBeDone (task : Task) (files : List (List ℕ)) : Type 0 where
+  pub accepted : IsAccepted files
+  pub built : unbuilt_of task accepted.system ≡ None
+
+-- no rule and no limit refuses the files, but this is the least connection that can't be built yet
+pub record IsUnbuilt (task : Task) (files : List (List ℕ)) (connection : ℕ) (rule : LinkRule) (other : Option ℕ) : Type 0 where
+  pub accepted : IsAccepted files
+  pub pending : unbuilt_of task accepted.system ≡ Some (connection, rule)
+  pub alone : other ≡ None
+
+-- the answer that a task's files call for, where nothing fails
+abbrev pub CallsFor : Task → List (List ℕ) → Exit → Type 0
+CallsFor task files exit.Done = CanBeDone task files
+CallsFor task files (exit.ScriptRefused place rule) = IsRefusedBy files (refusal.Script place rule)
+CallsFor task files (exit.LinkRefused connection rule other) = IsRefusedBy files (refusal.Link connection rule other) ⊎ IsUnbuilt task files connection rule other
+CallsFor task files (exit.Limit which count) = IsRefusedBy files (refusal.Limit which count)
+CallsFor task files _ = ⊥
+
+-- they call for this answer and for no other
+pub record IsOnlyAnswer (task : Task) (files : List (List ℕ)) (answer : Exit) : Type 0 where
+  pub called : CallsFor task files answer
+  pub only : (other : Exit) → CallsFor task files other → other ≡ answer
+
+-- the text that a task writes of a plan
+abbrev pub IsTextOf : Task → PlanTable → List ℕ → Type 0
+IsTextOf Generate plan text = (netlist : Netlist) × IsInterconnect plan.system netlist × (text ≡ text_of netlist)
+IsTextOf Check plan text = text ≡ map_text plan
+
+-- the files state a plan, none of whose connections is in the task's way, and this is its text
+pub record IsResult (task : Task) (files : List (List ℕ)) (text : List ℕ) : Type 0 where
+  pub plan : PlanTable
+  pub planned : IsPlanned files plan
+  pub built : unbuilt_of task plan.system ≡ None
+  pub is_text : IsTextOf task plan text
+  pub only : IsOnlyAnswer task files exit.Done
+
+-- ---- what is seen of the outside
 
 -- what is seen of the shelf in a run: the bytes that it tells of each file, its count of faults before and after, and the file of its last fault
 pub record Reads : Type 0 where
@@ -27,13 +77,18 @@ pub record Writes : Type 0 where
   pub before : ℕ
   pub after : ℕ
 
--- the shelf tells these bytes of the files, which are numbered from 1 and named by all words but the first
-abbrev pub Tells : (ℕ → Option (List ℕ)) → ℕ → (ℕ → List ℕ) → Type 0
-Tells told words contents = (k : ℕ) → 1 ≤ k → k < words → told k ≡ Some (contents k)
+-- files that were loaded, numbered from 1: each is what the shelf tells of it, where it tells it, and no longer than is read
+pub record AreLoaded (told : ℕ → Option (List ℕ)) (files : List (List ℕ)) : Type 0 where
+  pub each : (k : ℕ) (bytes : List ℕ) → slice_get files k ≡ Some bytes → WhereTold (told (k + 1)) (λ is. bytes ≡ is)
+  pub short : All (λ bytes. length bytes ≤ 1048576) files
 
--- each file before this one is no longer than is read, where it is told
-abbrev pub AreLoaded : (ℕ → Option (List ℕ)) → ℕ → Type 0
-AreLoaded told file = (k : ℕ) → 1 ≤ k → k < file → WhereTold (told k) (λ bytes. length bytes ≤ 1048576)
+-- all files of the words were loaded, each named by a word but the first
+pub record AreFiles (told : ℕ → Option (List ℕ)) (words : ℕ) (files : List (List ℕ)) : Type 0 where
+  pub few : words ≤ 65
+  pub count : length files + 1 ≡ words
+  pub loaded : AreLoaded told files
+
+-- ---- when each answer comes
 
 -- more files than are read
 pub record IsFilesLimit (which count words : ℕ) : Type 0 where
@@ -46,63 +101,66 @@ pub record IsBytesLimit (which count words : ℕ) (told : ℕ → Option (List �
   pub limit : which ≡ 5
   pub count_is : count ≡ 1048577
   pub few : words ≤ 65
-  pub file : ℕ
-  pub after_command : 1 ≤ file
-  pub inside : file < words
-  pub earlier : AreLoaded told file
-  pub long : WhereTold (told file) (λ bytes. 1048576 < length bytes)
+  pub earlier : List (List ℕ)
+  pub loaded : AreLoaded told earlier
+  pub inside : length earlier + 1 < words
+  pub long : WhereTold (told (length earlier + 1)) (λ bytes. 1048576 < length bytes)
 
 -- a read that failed, of a file of the words; those before it were loaded
 pub record IsReadFault (file words : ℕ) (reads : Reads) : Type 0 where
   pub few : words ≤ 65
-  pub after_command : 1 ≤ file
+  pub earlier : List (List ℕ)
+  pub loaded : AreLoaded reads.told earlier
+  pub number : file ≡ length earlier + 1
   pub inside : file < words
-  pub earlier : AreLoaded reads.told file
   pub rose : Rose reads.before reads.after
   pub is_failed : reads.failed ≡ file
 
--- all files were loaded, and this is the first that isn't of the form that is built
-pub record IsNotBuilt (place : Place) (rule : ScriptRule) (words : ℕ) (told : ℕ → Option (List ℕ)) : Type 0 where
-  pub few : words ≤ 65
-  pub loaded : AreLoaded told words
-  pub at_start : place ≡ record { file = place.file; line = 1; byte = 0 }
-  pub rule_is : rule ≡ Command 21
-  pub fault : (contents : ℕ → List ℕ) → Tells told words contents → IsFormFault contents words place.file
+-- all files were loaded, and this is the one answer that they call for
+pub record IsCalledFor (task : Task) (words : ℕ) (told : ℕ → Option (List ℕ)) (answer : Exit) : Type 0 where
+  pub files : List (List ℕ)
+  pub are_files : AreFiles told words files
+  pub only : IsOnlyAnswer task files answer
 
--- all files were loaded and state the wire, and the module is its interconnect
-pub record IsGenerated (words : ℕ) (told : ℕ → Option (List ℕ)) (wire : Wire) (netlist : Netlist) : Type 0 where
-  pub few : words ≤ 65
-  pub loaded : AreLoaded told words
-  pub files : (contents : ℕ → List ℕ) → Tells told words contents → IsOneWire contents words wire
-  pub interconnect : IsInterconnect wire netlist
-
--- the text of such a module was written whole
-pub record IsWritten (words : ℕ) (told : ℕ → Option (List ℕ)) (writes : Writes) : Type 0 where
-  pub wire : Wire
-  pub netlist : Netlist
-  pub generated : IsGenerated words told wire netlist
-  pub whole : writes.holds ≡ with_more writes.held (text_of netlist)
+-- all files were loaded, and the text of their plan was written whole
+pub record IsWritten (task : Task) (words : ℕ) (told : ℕ → Option (List ℕ)) (writes : Writes) : Type 0 where
+  pub files : List (List ℕ)
+  pub are_files : AreFiles told words files
+  pub text : List ℕ
+  pub result : IsResult task files text
+  pub whole : writes.holds ≡ with_more writes.held text
 
 -- it was written in part, and the sink counts a fault
-pub record IsWriteFault (words : ℕ) (told : ℕ → Option (List ℕ)) (writes : Writes) : Type 0 where
-  pub wire : Wire
-  pub netlist : Netlist
-  pub generated : IsGenerated words told wire netlist
+pub record IsWriteFault (task : Task) (words : ℕ) (told : ℕ → Option (List ℕ)) (writes : Writes) : Type 0 where
+  pub files : List (List ℕ)
+  pub are_files : AreFiles told words files
+  pub text : List ℕ
+  pub result : IsResult task files text
   pub count : ℕ
-  pub part : count < length (text_of netlist)
-  pub written : writes.holds ≡ with_more writes.held (take count (text_of netlist))
+  pub part : count < length text
+  pub written : writes.holds ≡ with_more writes.held (take count text)
   pub rose : Rose writes.before writes.after
 
--- when each answer comes, and what stands after it
+-- what stops a task before its result is written
+abbrev pub StopsTask : Task → ℕ → Reads → Exit → Type 0
+StopsTask task words reads (exit.ReadFault file) = IsReadFault file words reads
+StopsTask task words reads (exit.ScriptRefused place rule) = IsCalledFor task words reads.told (exit.ScriptRefused place rule)
+StopsTask task words reads (exit.LinkRefused connection rule other) = IsCalledFor task words reads.told (exit.LinkRefused connection rule other)
+StopsTask task words reads (exit.Limit which count) =
+    IsFilesLimit which count words ⊎ (IsBytesLimit which count words reads.told ⊎ IsCalledFor task words reads.told (exit.Limit which count))
+StopsTask task words reads exit.NoMemory = words ≤ 65
+StopsTask task words reads _ = ⊥
+
+-- when each answer to a task comes, and what stands after it
+abbrev pub AnswersTask : Task → ℕ → Reads → Writes → Exit → Type 0
+AnswersTask task words reads writes exit.Done = IsWritten task words reads.told writes
+AnswersTask task words reads writes exit.WriteFault = IsWriteFault task words reads.told writes
+AnswersTask task words reads writes e = StopsTask task words reads e
+
+-- the same, for any words
 abbrev pub Answers : List (List ℕ) → Reads → Writes → Exit → Type 0
-Answers words reads writes exit.Done = HasReading words × IsWritten (length words) reads.told writes
-Answers words reads writes exit.Usage = ¬ HasReading words
-Answers words reads writes (exit.ReadFault file) = HasReading words × IsReadFault file (length words) reads
-Answers words reads writes exit.WriteFault = HasReading words × IsWriteFault (length words) reads.told writes
-Answers words reads writes (exit.ScriptRefused place rule) = HasReading words × IsNotBuilt place rule (length words) reads.told
-Answers words reads writes (exit.Limit which count) =
-    HasReading words × (IsFilesLimit which count (length words) ⊎ IsBytesLimit which count (length words) reads.told)
-Answers words reads writes exit.NoMemory = HasReading words × (length words ≤ 65)
+Answers words reads writes exit.Usage = AsksForNothing words
+Answers words reads writes e = (task : Task) × AsksFor words task × AnswersTask task (length words) reads writes e
 
 -- an answer that writes its line: each but `Done` and `WriteFault`
 abbrev pub IsRefusal : Exit → Type 0
@@ -116,28 +174,17 @@ WritesLine line writes =
     (writes.holds ≡ with_more writes.held line)
     ⊎ ((count : ℕ) × (count < length line) × (writes.holds ≡ with_more writes.held (take count line)) × Rose writes.before writes.after)
 
--- the words have a reading, the shelf tells files of the form within the limits, and no fault is counted
-pub record NothingRefuses (words : List (List ℕ)) (reads : Reads) (writes : Writes) : Type 0 where
-  pub reading : HasReading words
-  pub contents : ℕ → List ℕ
-  pub told : Tells reads.told (length words) contents
-  pub short : (k : ℕ) → 1 ≤ k → k < length words → length (contents k) ≤ 1048576
-  pub wire : Wire
-  pub built : IsOneWire contents (length words) wire
+-- the words ask for the task, the shelf tells all their files, which are few and short, and no fault is counted
+pub record NothingFails (task : Task) (files words : List (List ℕ)) (reads : Reads) (writes : Writes) : Type 0 where
+  pub asks : AsksFor words task
+  pub few : length words ≤ 65
+  pub count : length files + 1 ≡ length words
+  pub told : (k : ℕ) (bytes : List ℕ) → slice_get files k ≡ Some bytes → reads.told (k + 1) ≡ Some bytes
+  pub short : All (λ bytes. length bytes ≤ 1048576) files
   pub reads_well : ¬ Rose reads.before reads.after
   pub writes_well : ¬ Rose writes.before writes.after
 
-abbrev pub IsDoneOrNoMemory : Exit → Type 0
-IsDoneOrNoMemory exit.Done = Unit {0}
-IsDoneOrNoMemory exit.NoMemory = Unit {0}
-IsDoneOrNoMemory e = ⊥
-
--- the bytes of file k among those that were loaded, from file 1 on
-abbrev pub loaded_bytes : List (List ℕ) → ℕ → List ℕ
-loaded_bytes files k = slice_index_or files (k - 1) []
-
--- the files of the words, each as it is told and within the limit
-pub record AreFiles (files : List (List ℕ)) (told : ℕ → Option (List ℕ)) (words : ℕ) : Type 0 where
-  pub count : length files + 1 ≡ words
-  pub are_told : (k : ℕ) → 1 ≤ k → k < words → WhereTold (told k) (λ bytes. loaded_bytes files k ≡ bytes)
-  pub short : (k : ℕ) → 1 ≤ k → k < words → length (loaded_bytes files k) ≤ 1048576
+-- where nothing fails, the answer is the one that the files call for, or want of memory
+abbrev pub IsComplete : List (List ℕ) → Reads → Writes → Exit → Type 0
+IsComplete words reads writes answer =
+    (task : Task) (files : List (List ℕ)) → NothingFails task files words reads writes → (answer ≡ exit.NoMemory) ⊎ IsOnlyAnswer task files answer

@@ -1,21 +1,21 @@
-ghost use Rattle.std.specs.Prelude.{◌≡◌, ℕ, ◌+◌, ◌-◌, ◌<◌, ◌≤◌, length, map, string_bytes, IfOk, IfErr};
+ghost use Rattle.std.specs.Prelude.{◌≡◌, ℕ, ◌+◌, ◌<◌, ◌≤◌, ◌⊎◌, None, length, map, string_bytes, All, IfOk, IfErr, OnOk};
 ghost use Rattle.av_base.specs.Outside.{WhereTold};
 ghost use Rattle.netlist.specs.Netlists.{Netlist};
 ghost use Rattle.verilog_writer.specs.Text.{text_of};
-ghost use Rattle.avalon_top.specs.declared.form.Wire.{Wire};
-ghost use Rattle.avalon_top.specs.Words.{HasReading};
+ghost use Rattle.interconnect.specs.Wires.{pending_of};
+ghost use Rattle.interconnect.specs.Interconnect.{IsInterconnect};
 ghost use Rattle.avalon_top.specs.Lines.{line_of};
-ghost use Rattle.avalon_top.specs.Form.{IsOneWire};
-ghost use Rattle.avalon_top.specs.Run.{Reads, Writes, Answers, IsRefusal, WritesLine, NothingRefuses, IsDoneOrNoMemory, IsGenerated, AreFiles, loaded_bytes};
-ghost use Rattle.avalon_top.specs.Loading.{StopsAtFile, StopsLoading, AreComponents, StopsAtComponents, StopsAtForm, Stops};
-ghost use Rattle.avalon_top.specs.Interconnect.{IsStatable, IsInterconnect};
+ghost use Rattle.avalon_top.specs.Run.{Reads, Writes, AreFiles, Answers, IsComplete, IsRefusal, WritesLine, IsResult, IsTextOf, unbuilt_of};
+ghost use Rattle.avalon_top.specs.Loading.{StopsAtFile, StopsFiles, StopsWriting, StopsLoading, Stops, IsResultOf};
 
-use crate::emit::build;
-use crate::exit::{Exit, ScriptRule};
-use crate::form::{Component, Wire, read_component, read_wire};
+use crate::exit::Exit;
 use crate::words::{Task, read_words};
-use av_base::{Bytes, List, LoadFault, Place, Shelf, Sink, load_all, put_all};
+use av_base::{Bytes, List, LoadFault, NoMemory, Shelf, Sink, load_all, put_all};
+use interconnect::{build, pending};
+use link_rules::Plan;
+use map_text::map_text;
 use std::alloc::Global;
+use system_plan::plan_of;
 use verilog_writer::write_module;
 
 /// The most bytes of a script.
@@ -47,7 +47,7 @@ fn load_files<S: Shelf>(alloc: Global, shelf: &mut S, words: usize) -> Result<Li
     requires some { 1 ≤ words }
     requires few { words ≤ 65 }
     ensures stops { IfErr result (StopsLoading words (record { told = S.told shelf.old; before = S.faults shelf.old; after = S.faults shelf.new; failed = S.failed shelf.new })) }
-    ensures loaded { IfOk result (λ files. AreFiles files (S.told shelf.old) words) }
+    ensures loaded { IfOk result (AreFiles (S.told shelf.old) words) }
     ensures grows { S.faults shelf.old ≤ S.faults shelf.new }
 {
     let mut files = List::new(alloc);
@@ -58,80 +58,52 @@ fn load_files<S: Shelf>(alloc: Global, shelf: &mut S, words: usize) -> Result<Li
     Ok(files)
 }
 
-/// The refusal of input whose first file that isn't of the form is this one.
-fn not_built(file: u32) -> Exit
-    ensures { result ≡ Exit.ScriptRefused (record { file = file; line = 1; byte = 0 }) (ScriptRule.Command 21) }
+/// The Verilog text of the interconnect of a plan.
+fn interconnect_text(alloc: Global, plan: &Plan) -> Result<Bytes, NoMemory>
+    requires { pending_of plan.now.system ≡ None }
+    ensures { IfOk result (λ text. (netlist : Netlist) × IsInterconnect plan.now.system netlist × (text ≡ text_of netlist)) }
 {
-    Exit::ScriptRefused {
-        place: Place {
-            file,
-            line: 1,
-            byte: 0,
+    let module = build(alloc, plan)?;
+    write_module(alloc, &module)
+}
+
+/// What a task writes of a plan, or the least connection that it can't build yet.
+fn text_of_plan(alloc: Global, task: Task, plan: &Plan) -> Result<Bytes, Exit>
+    ensures stops { IfErr result (StopsWriting task plan.now.system) }
+    ensures built { OnOk result (unbuilt_of task plan.now.system ≡ None) }
+    ensures text { IfOk result (IsTextOf task plan.now) }
+{
+    match task {
+        Task::Check => Ok(map_text(alloc, plan)?),
+        Task::Generate => match pending(plan) {
+            Some((connection, rule)) => Err(Exit::LinkRefused {
+                connection,
+                rule,
+                other: None,
+            }),
+            None => Ok(interconnect_text(alloc, plan)?),
         },
-        rule: ScriptRule::Command(21),
     }
 }
 
-/// The components that the component files state.
-fn components_of(alloc: Global, files: &[Bytes]) -> Result<List<Component>, Exit>
+/// What a task writes of files, or the answer that they call for.
+fn text_of_files(alloc: Global, task: Task, files: &[Bytes]) -> Result<Bytes, Exit>
     requires some { 1 ≤ length files.now }
     requires few { length files.now ≤ 64 }
-    requires short { (k : ℕ) → 1 ≤ k → k < length files.now + 1 → length (loaded_bytes files.now k) ≤ 1048576 }
-    ensures stops { IfErr result (StopsAtComponents files.now) }
-    ensures stated { IfOk result (AreComponents files.now) }
-    ensures count { IfOk result (λ components. length components ≡ length files.now - 1) }
+    requires short { All (λ bytes. length bytes ≤ 1048576) files.now }
+    ensures stops { IfErr result (StopsFiles task files.now) }
+    ensures result { IfOk result (IsResult task files.now) }
 {
-    let mut components = List::new(alloc);
-    for k in 1..files.len() {
-        let file = k as u32 + 1;
-        let found = read_component(alloc, file, files[k].as_slice())?;
-        let Some(component) = found else {
-            return Err(not_built(file));
-        };
-        components.push(component)?;
-    }
-    Ok(components)
-}
-
-/// The wire that the files state: the system file first, then the component files.
-fn wire_of_files(alloc: Global, files: &[Bytes]) -> Result<Wire, Exit>
-    requires some { 1 ≤ length files.now }
-    requires few { length files.now ≤ 64 }
-    requires short { (k : ℕ) → 1 ≤ k → k < length files.now + 1 → length (loaded_bytes files.now k) ≤ 1048576 }
-    ensures stops { IfErr result (StopsAtForm files.now) }
-    ensures stated { IfOk result (IsOneWire (loaded_bytes files.now) (length files.now + 1)) }
-{
-    let all = components_of(alloc, files)?;
-    let components = all.as_slice();
-    if components.len() != 2 {
-        return Err(not_built(1));
-    }
-    let one = &components[0];
-    let other = &components[1];
-    let found = read_wire(alloc, files[0].as_slice(), one, other)?;
-    let Some(wire) = found else {
-        return Err(not_built(1));
-    };
-    Ok(wire)
-}
-
-/// The text of the interconnect of a wire.
-fn text_of_wire(alloc: Global, wire: &Wire) -> Result<Bytes, Exit>
-    requires { IsStatable wire.now }
-    ensures text { IfOk result (λ text. (netlist : Netlist) × IsInterconnect wire.now netlist × (text ≡ text_of netlist)) }
-    ensures memory { IfErr result (λ e. e ≡ Exit.NoMemory) }
-{
-    let module = build(alloc, wire)?;
-    Ok(write_module(alloc, &module)?)
+    let plan = plan_of(alloc, files)?;
+    text_of_plan(alloc, task, &plan)
 }
 
 /// All that comes before a result is written: the result, or the refusal.
 fn decide<S: Shelf>(alloc: Global, words: &[String], shelf: &mut S) -> Result<Bytes, Exit>
     ensures stops { IfErr result (Stops (map string_bytes words.now) (record { told = S.told shelf.old; before = S.faults shelf.old; after = S.faults shelf.new; failed = S.failed shelf.new })) }
-    ensures reading { IfOk result (λ _. HasReading (map string_bytes words.now)) }
-    ensures generated { IfOk result (λ text. (wire : Wire) × (netlist : Netlist) × IsGenerated (length words.now) (S.told shelf.old) wire netlist × (text ≡ text_of netlist)) }
+    ensures text { IfOk result (IsResultOf (map string_bytes words.now) (record { told = S.told shelf.old; before = S.faults shelf.old; after = S.faults shelf.new; failed = S.failed shelf.new })) }
 {
-    let Some(Task::Generate) = read_words(words) else {
+    let Some(task) = read_words(words) else {
         return Err(Exit::Usage);
     };
     let files = words.len() - 1;
@@ -142,10 +114,7 @@ fn decide<S: Shelf>(alloc: Global, words: &[String], shelf: &mut S) -> Result<By
         });
     }
     let files = load_files(alloc, shelf, words.len())?;
-    match wire_of_files(alloc, files.as_slice()) {
-        Ok(wire) => text_of_wire(alloc, &wire),
-        Err(exit) => Err(exit),
-    }
+    text_of_files(alloc, task, files.as_slice())
 }
 
 /// Writes the line of a refusal.
@@ -160,7 +129,8 @@ fn refuse<K: Sink>(sink: &mut K, exit: &Exit)
 ///
 /// The number of a file is the place of its word, counted from 0.
 pub fn run<S: Shelf, K: Sink>(alloc: Global, words: &[String], shelf: &mut S, sink: &mut K) -> Exit
-    // When each answer comes. At `Done` the text of a module is written whose every run serves the stream.
+    // When each answer comes. At `Done` of `generate` the text of a module is written that serves each stream of the plan, or its
+    // host and its agent, in every run.
     ensures answers { Answers (map string_bytes words.now)
         (record { told = S.told shelf.old; before = S.faults shelf.old; after = S.faults shelf.new; failed = S.failed shelf.new })
         (record { held = K.held sink.old; holds = K.held sink.new; before = K.faults sink.old; after = K.faults sink.new }) result }
@@ -169,11 +139,10 @@ pub fn run<S: Shelf, K: Sink>(alloc: Global, words: &[String], shelf: &mut S, si
     ensures line { IsRefusal result → WritesLine (line_of result)
         (record { held = K.held sink.old; holds = K.held sink.new; before = K.faults sink.old; after = K.faults sink.new }) }
 
-    // Where nothing refuses the input, the text is written, or memory was wanted.
-    ensures complete { NothingRefuses (map string_bytes words.now)
+    // Where nothing fails, the answer is the one that the files call for, or memory was wanted.
+    ensures complete { IsComplete (map string_bytes words.now)
         (record { told = S.told shelf.old; before = S.faults shelf.old; after = S.faults shelf.new; failed = S.failed shelf.new })
-        (record { held = K.held sink.old; holds = K.held sink.new; before = K.faults sink.old; after = K.faults sink.new })
-        → IsDoneOrNoMemory result }
+        (record { held = K.held sink.old; holds = K.held sink.new; before = K.faults sink.old; after = K.faults sink.new }) result }
 {
     match decide(alloc, words, shelf) {
         Ok(text) => {

@@ -1,16 +1,11 @@
 ghost use Rattle.std.specs.Prelude.{◌≡◌, codes, decimal, ◌++◌};
-ghost use Rattle.avalon_top.specs.Lines.{status_of, line_of, script_line, limit_line};
+ghost use Rattle.avalon_top.specs.Lines.{status_of, line_of, script_line, link_line, limit_line};
 
 use crate::line::Line;
 use av_base::{NoMemory, Place};
-
-/// A rule of the script formats, by its letter: `T` for words, `C` for commands, `I` for interfaces.
-#[derive(Clone, Copy, Debug, PartialEq, Eq)]
-pub enum ScriptRule {
-    Words(u8),
-    Command(u8),
-    Interface(u8),
-}
+use av_scripts::ScriptRule;
+use link_rules::LinkRule;
+use system_plan::Refusal;
 
 /// What a run answers.
 #[derive(Clone, Copy, Debug, PartialEq, Eq)]
@@ -20,13 +15,28 @@ pub enum Exit {
     /// The words have no reading.
     Usage,
     /// A file could not be read. `file` is the place of its word, from 0.
-    ReadFault { file: u32 },
+    ReadFault {
+        file: u32,
+    },
     /// The result could not be written whole.
     WriteFault,
     /// A script breaks a rule.
-    ScriptRefused { place: Place, rule: ScriptRule },
-    /// There is more of something than is handled: 5 for the bytes of a file, 7 for the number of files.
-    Limit { which: u8, count: u64 },
+    ScriptRefused {
+        place: Place,
+        rule: ScriptRule,
+    },
+    /// A rule refuses the connection of this number; `other` is the earlier one that is in its way.
+    LinkRefused {
+        connection: u32,
+        rule: LinkRule,
+        other: Option<u32>,
+    },
+    /// There is more of something than is handled: 1 for hosts, 2 for agents, 3 for streams, 5 for the bytes of a file, 7 for
+    /// the number of files.
+    Limit {
+        which: u8,
+        count: u64,
+    },
     /// Memory was wanted and not had.
     NoMemory,
 }
@@ -41,6 +51,29 @@ impl From<NoMemory> for Exit {
     }
 }
 
+impl From<Refusal> for Exit {
+    ghost use Rattle.avalon_top.specs.Loading.{exit_of};
+
+    ghost from_gives = { λ refusal exit. exit ≡ exit_of refusal };
+
+    fn from(refusal: Refusal) -> Exit {
+        match refusal {
+            Refusal::Script { place, rule } => Exit::ScriptRefused { place, rule },
+            Refusal::Link {
+                connection,
+                rule,
+                other,
+            } => Exit::LinkRefused {
+                connection,
+                rule,
+                other,
+            },
+            Refusal::Limit { which, count } => Exit::Limit { which, count },
+            Refusal::NoMemory => Exit::NoMemory,
+        }
+    }
+}
+
 impl Exit {
     /// The status that the program ends with.
     pub fn status(&self) -> u8
@@ -52,6 +85,7 @@ impl Exit {
             Exit::ReadFault { .. } => 3,
             Exit::WriteFault => 4,
             Exit::ScriptRefused { .. } => 5,
+            Exit::LinkRefused { .. } => 6,
             Exit::Limit { .. } => 7,
             Exit::NoMemory => 10,
         }
@@ -68,6 +102,11 @@ impl Exit {
             ),
             Exit::ReadFault { file } => read_line(file),
             Exit::ScriptRefused { place, rule } => script_refused(place, rule),
+            Exit::LinkRefused {
+                connection,
+                rule,
+                other,
+            } => link_refused(connection, rule, other),
             Exit::Limit { which, count } => limit(which, count),
             Exit::NoMemory => Line::of(b"no memory\n"),
         }
@@ -100,6 +139,27 @@ fn script_refused(place: Place, rule: ScriptRule) -> Line
     };
     line.put(letter);
     line.put_number(u64::from(number));
+    line.put(b"\n");
+    line
+}
+
+fn link_refused(connection: u32, rule: LinkRule, other: Option<u32>) -> Line
+    ensures { result ≡ link_line connection rule other }
+{
+    let mut line = Line::of(b"link refused: connection ");
+    line.put_number(u64::from(connection));
+    line.put(b" rule ");
+    let (letter, number) = match rule {
+        LinkRule::Map(n) => (b"A", n),
+        LinkRule::Mm(n) => (b"P", n),
+        LinkRule::Stream(n) => (b"S", n),
+    };
+    line.put(letter);
+    line.put_number(u64::from(number));
+    if let Some(other) = other {
+        line.put(b" with ");
+        line.put_number(u64::from(other));
+    }
     line.put(b"\n");
     line
 }

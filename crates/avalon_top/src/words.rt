@@ -1,31 +1,41 @@
-ghost use Rattle.std.specs.Prelude.{◌≡◌, ◌↔◌, map, string_bytes, IsTrue, IsSome, All, slice_get, Some, codes};
-ghost use Rattle.avalon_top.specs.Words.{IsPlainWord, HasReading};
+ghost use Rattle.std.specs.Prelude.{◌≡◌, ◌≢◌, ◌↔◌, map, string_bytes, MatchOption, IsTrue, All};
+ghost use Rattle.avalon_top.specs.Words.{IsPlainWord, AsksFor, AsksForNothing, word_of};
 
-/// What the words ask for. A file is named by the place of its word, from 0.
+/// What the words ask for. A file is named by the place of its word, from 0: word 1 is the system file, each further word a
+/// component file.
 #[derive(Clone, Copy, Debug, PartialEq, Eq)]
 pub enum Task {
-    /// Write the Verilog text of a system: word 1 is the system file, each further word a component file.
+    /// Write the Verilog text of the system's interconnect.
     Generate,
+    /// Write the maps of the system.
+    Check,
 }
 
 /// Reads the words after the program's name.
 pub fn read_words(words: &[String]) -> Option<Task>
-    ensures { IsSome result ↔ HasReading (map string_bytes words.now) }
+    ensures { MatchOption result (AsksForNothing (map string_bytes words.now)) (AsksFor (map string_bytes words.now)) }
 {
-    if has_reading(words) {
-        Some(Task::Generate)
+    let [first, _, ..] = words else {
+        return None;
+    };
+    if are_plain(words) {
+        task_of(first.as_str())
     } else {
         None
     }
 }
 
-fn has_reading(words: &[String]) -> bool
-    ensures { IsTrue result ↔ HasReading (map string_bytes words.now) }
+/// The task of a command's word.
+fn task_of(word: &str) -> Option<Task>
+    ensures { MatchOption result ((task : Task) → word_of task ≢ word.now) (λ task. word_of task ≡ word.now) }
 {
-    if words.len() < 2 || !begins_with_generate(words) {
-        return false;
+    if word == "generate" {
+        Some(Task::Generate)
+    } else if word == "check" {
+        Some(Task::Check)
+    } else {
+        None
     }
-    are_plain(words)
 }
 
 fn are_plain(words: &[String]) -> bool
@@ -41,19 +51,4 @@ fn is_plain_word(word: &str) -> bool
         [] => false,
         [first, ..] => *first != b'-',
     }
-}
-
-fn begins_with_generate(words: &[String]) -> bool
-    ensures { IsTrue result ↔ (slice_get (map string_bytes words.now) 0 ≡ Some (codes "generate")) }
-{
-    match words {
-        [] => false,
-        [first, ..] => is_generate(first.as_str()),
-    }
-}
-
-fn is_generate(word: &str) -> bool
-    ensures { IsTrue result ↔ (word.now ≡ codes "generate") }
-{
-    word == "generate"
 }

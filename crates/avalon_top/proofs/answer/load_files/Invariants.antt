@@ -1,10 +1,11 @@
-use Rattle.std.proofs.Common.{◌≡◌, ℕ, ◌≤◌}
-use Rattle.avalon_top.specs.Run.{AreFiles}
+use Rattle.std.proofs.Common.{◌≡◌, ℕ, ◌+◌, ◌≤◌, length}
+use Rattle.avalon_top.specs.Run.{AreLoaded}
 use Rattle.avalon_top.proofs.answer.load_files.Given as goal
 
 abbrev pub invariant-loop-file : goal.invariant-loop-file
 invariant-loop-file g l = record {
-  files : AreFiles l.files (g.S.Shelf.told l.fn.shelf) l.file;
+  loaded : AreLoaded (g.S.Shelf.told l.fn.shelf) l.files;
+  count : length l.files + 1 ≡ l.file;
   grows : g.S.Shelf.faults l.fn.shelf ≤ g.S.Shelf.faults l.shelf;
   told : (k : ℕ) → g.S.Shelf.told l.shelf k ≡ g.S.Shelf.told l.fn.shelf k;
 }
