@@ -1,6 +1,5 @@
 -- The bytes that a script gives a meaning, and how a text may begin.
-use Rattle.std.specs.Prelude.{ℕ, Bool, true, false, ◌&&◌, ◌||◌, ◌==◌, not, nat_le, List, [], ◌∷◌, codes, if◌then◌else◌}
-use Rattle.std.specs.List.{list_any}
+use Rattle.std.specs.Prelude.{ℕ, Bool, true, false, ◌&&◌, ◌||◌, ◌==◌, List, [], ◌∷◌, if◌then◌else◌}
 
 abbrev pub tab : ℕ
 tab = 9
@@ -31,10 +30,6 @@ open_brace = 123
 
 abbrev pub close_brace : ℕ
 close_brace = 125
-
--- a line feed, or printable ASCII other than the bytes that group, substitute, end a command or begin a comment
-abbrev pub is_plain_byte : ℕ → Bool
-is_plain_byte byte = byte == 10 || (nat_le 32 byte && (nat_le byte 126 && not (list_any (λ special. special == byte) (codes "{}\"\\$[;#"))))
 
 abbrev pub is_space_or_tab : ℕ → Bool
 is_space_or_tab byte = byte == space || byte == tab

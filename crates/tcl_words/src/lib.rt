@@ -9,7 +9,6 @@ mod words;
 
 pub use laws::{no_two_readings, spelled_or_faulty};
 pub use rule::{Rule, WordsFault};
-pub use scan::is_plain;
 pub use words::{Commands, Word};
 
 #[cfg(test)]

@@ -1,27 +1,9 @@
 //! What the bytes of a script are, and how far a run of them goes.
 
 ghost use Rattle.std.specs.Prelude.{◌≡◌, ◌≤◌, ◌<◌, ◌+◌, ◌^◌, ◌==◌, length, count_by, IsTrue, false};
-ghost use Rattle.std.specs.List.{list_all, prefix_len};
-ghost use Rattle.tcl_words.specs.Bytes.{line_feed, is_plain_byte, is_space_or_tab, is_blank, is_separator, substitutes, begins_with_line_feed, begins_with_line_end, ends_word};
+ghost use Rattle.std.specs.List.{prefix_len};
+ghost use Rattle.tcl_words.specs.Bytes.{line_feed, is_space_or_tab, is_blank, is_separator, substitutes, begins_with_line_feed, begins_with_line_end, ends_word};
 ghost use Rattle.tcl_words.specs.Reading.{join_tail, comment_len};
-
-fn is_plain_byte(byte: u8) -> bool
-    ensures { result ≡ is_plain_byte byte }
-{
-    match byte {
-        b'\n' => true,
-        b'{' | b'}' | b'"' | b'\\' | b'$' | b'[' | b';' | b'#' => false,
-        b' '..=b'~' => true,
-        _ => false,
-    }
-}
-
-/// Whether the bytes are printable ASCII and line feeds alone, with none that groups, substitutes or comments.
-pub fn is_plain(bytes: &[u8]) -> bool
-    ensures { result ≡ list_all is_plain_byte bytes.now }
-{
-    bytes.iter().all(|byte| is_plain_byte(*byte))
-}
 
 fn is_space_or_tab(byte: u8) -> bool
     ensures { result ≡ is_space_or_tab byte }

@@ -1,6 +1,6 @@
 ghost use Rattle.std.specs.Prelude.{◌<◌, ◌^◌, length};
 
-use crate::{Commands, Rule, WordsFault, is_plain};
+use crate::{Commands, Rule, WordsFault};
 use av_base::Place;
 use std::test::Fail;
 
@@ -115,10 +115,4 @@ fn refuses_faults(rt: HostRuntime) {
             "{script:?}"
         );
     }
-}
-
-#[test]
-fn tells_plain_bytes(rt: HostRuntime) {
-    assert!(rt; is_plain(b"a ~\n"));
-    assert!(rt; !is_plain(b"a\t"));
 }
