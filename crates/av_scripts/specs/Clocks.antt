@@ -1,5 +1,5 @@
 -- The clocks of a system, and the system that a script states.
-use Rattle.std.specs.Prelude.{ℕ, Bool, true, ◌&&◌, List, [], ◌∷◌, ◌++◌, map, filter, find, slice_get, Option, Some, None, option_and_then, Result, Ok, Err, if◌then◌else◌}
+use Rattle.std.specs.Prelude.{◌≡◌, ℕ, Bool, true, ◌&&◌, List, [], ◌∷◌, ◌++◌, map, filter, find, slice_get, Option, Some, None, option_and_then, Result, Ok, Err, if◌then◌else◌}
 use Rattle.std.specs.Map.{lookup}
 use Rattle.std.specs.Option.{option_map, option_map_or, option_or}
 use Rattle.av_base.specs.declared.faults.Place.{Place}
@@ -42,6 +42,10 @@ source_of joints end = option_map (λ (joint : Joint). joint.start) (find (clock
 -- the start that a table has for an end
 abbrev pub start_for : List (Terminal × Terminal) → Terminal → Option Terminal
 start_for starts end = lookup (same_end end) starts
+
+-- the table has where the first clock connection to each end starts
+abbrev pub AreRootsOf : List Joint → List (Terminal × Terminal) → Type 0
+AreRootsOf joints starts = (end : Terminal) → start_for starts end ≡ source_of joints end
 
 -- the root of the interface at an end: where its clock comes from
 unfoldable pub root_of : List ComponentTable → Sketch → Terminal → Option Terminal
@@ -95,8 +99,11 @@ stated_system components sketch name =
     }
 
 -- a file's last rule, behind its last byte: C13, a system was created
+abbrev pub no_system : Place → Result SystemTable Refusal
+no_system end = Err (record { place = end; rule = Command 13 })
+
 abbrev pub ended_system : Place → List ComponentTable → Sketch → Option (List ℕ) → Result SystemTable Refusal
-ended_system end components sketch None = Err (record { place = end; rule = Command 13 })
+ended_system end components sketch None = no_system end
 ended_system end components sketch (Some name) = Ok (stated_system components sketch name)
 
 -- the system that a script states over these components and the clock source, or what refuses it

@@ -82,73 +82,51 @@ impl<'a> Library<'a> {
     }
 }
 
-/// Adds an interface with no clock of its own and no roles.
-fn add_built_in(
-    alloc: Global,
-    names: &mut Names,
-    interfaces: &mut Vec<InterfaceTable>,
-    name: &str,
-    kind: Kind,
-    side: Side,
-) -> Result<(), NoMemory>
-    requires { IsNone (place_of names.old name.now) }
-    ensures names { OnOk result (names.new ≡ names.old ++ name.now ∷ []) }
-    ensures interfaces { OnOk result (interfaces.new.items ≡ interfaces.old.items ++ built_in name.now kind side ∷ []) }
-{
-    names.add(alloc, name)?;
-    interfaces.push(InterfaceTable {
-        name: Text::copy(alloc, name)?,
-        kind,
-        side,
-        clock: Text::copy(alloc, "")?,
-        finished: Finished::Other,
-    })?;
-    Ok(())
+/// Interfaces of a component that no file states.
+#[derive(Drop)]
+struct BuiltIn {
+    names: Names,
+    interfaces: Vec<InterfaceTable>,
+}
+
+impl BuiltIn {
+    /// Adds an interface with no clock of its own and no roles.
+    fn add(&mut self, alloc: Global, name: &str, kind: Kind, side: Side) -> Result<(), NoMemory>
+        requires { IsNone (place_of self.old.names name.now) }
+        ensures names { OnOk result (self.new.names ≡ self.old.names ++ name.now ∷ []) }
+        ensures interfaces { OnOk result
+            (self.new.interfaces.items ≡ self.old.interfaces.items ++ built_in name.now kind side ∷ []) }
+    {
+        self.names.add(alloc, name)?;
+        self.interfaces.push(InterfaceTable {
+            name: Text::copy(alloc, name)?,
+            kind,
+            side,
+            clock: Text::copy(alloc, "")?,
+            finished: Finished::Other,
+        })?;
+        Ok(())
+    }
 }
 
 /// The built-in source of a clock and of its reset.
 fn clock_source(alloc: Global) -> Result<Component, NoMemory>
     ensures { IfOk result (λ component. component ≡ clock_source_table) }
 {
-    let mut names = Names::new(alloc);
-    let mut interfaces = Vec::new(alloc);
-    add_built_in(
-        alloc,
-        &mut names,
-        &mut interfaces,
-        "clk_in",
-        Kind::Clock,
-        Side::End,
-    )?;
-    add_built_in(
-        alloc,
-        &mut names,
-        &mut interfaces,
-        "clk_in_reset",
-        Kind::Reset,
-        Side::End,
-    )?;
-    add_built_in(
-        alloc,
-        &mut names,
-        &mut interfaces,
-        "clk",
-        Kind::Clock,
-        Side::Start,
-    )?;
-    add_built_in(
-        alloc,
-        &mut names,
-        &mut interfaces,
-        "clk_reset",
-        Kind::Reset,
-        Side::Start,
-    )?;
+    let mut source = BuiltIn {
+        names: Names::new(alloc),
+        interfaces: Vec::new(alloc),
+    };
+    source.add(alloc, "clk_in", Kind::Clock, Side::End)?;
+    source.add(alloc, "clk_in_reset", Kind::Reset, Side::End)?;
+    source.add(alloc, "clk", Kind::Clock, Side::Start)?;
+    source.add(alloc, "clk_reset", Kind::Reset, Side::Start)?;
     let name = Text::copy(alloc, "clock_source")?;
     let place = Place {
         file: 0,
         line: 0,
         byte: 0,
     };
+    let BuiltIn { names, interfaces } = source;
     Ok(Component::new(name, place, names, interfaces))
 }

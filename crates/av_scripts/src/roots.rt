@@ -1,5 +1,5 @@
 ghost use Rattle.std.specs.Prelude.{◌≡◌, [], IfOk, OnOk};
-ghost use Rattle.av_scripts.specs.Clocks.{source_of, start_for};
+ghost use Rattle.av_scripts.specs.Clocks.{start_for, AreRootsOf};
 ghost use Rattle.av_scripts.specs.declared.joints.Terminal.{Terminal};
 
 use crate::joints::{Joint, Terminal};
@@ -40,7 +40,7 @@ impl Roots {
 
     /// The roots of a file's connections.
     pub fn of(alloc: Global, joints: &[Joint]) -> Result<Roots, NoMemory>
-        ensures { IfOk result (λ roots. (end : Terminal) → start_for roots end ≡ source_of joints.now end) }
+        ensures { IfOk result (AreRootsOf joints.now) }
     {
         let mut roots = Roots::new(alloc);
         for joint in joints {

@@ -38,21 +38,20 @@ fn fits_clock(clock: Option<Terminal>, root: Option<Terminal>) -> bool
 }
 
 impl SystemDraft {
-    ghost use Rattle.std.specs.Prelude.{map, IfErr, Ok};
+    ghost use Rattle.std.specs.Prelude.{map, IfErr, IsSome, OnErr, OnOk, None, Ok};
     ghost use Rattle.std.specs.Option.{option_or};
     ghost use Rattle.av_scripts.specs.Clocks.{
       clock_of,
-      source_of,
-      start_for,
+      AreRootsOf,
       root_of,
       system_clock,
       logic_joints,
       connection_of,
+      no_system,
       ended_system,
     };
     ghost use Rattle.av_scripts.specs.Component.{IsFaultOf};
     ghost use Rattle.av_scripts.specs.Sound.{IsSoundSketch};
-    ghost use Rattle.av_scripts.specs.declared.joints.Terminal.{Terminal};
 
     /// The end of the clock that the interface at an end names.
     #[tactic(auto, unfolding(crate::specs::Clocks::clock_of))]
@@ -75,7 +74,7 @@ impl SystemDraft {
     /// Where the clock of the interface at an end comes from.
     #[tactic(auto, unfolding(crate::specs::Clocks::root_of))]
     fn root_of(&self, library: &Library<'_>, roots: &Roots, end: Terminal) -> Option<Terminal>
-        requires { (other : Terminal) → start_for roots.now other ≡ source_of self.now.joints other }
+        requires { AreRootsOf self.now.joints roots.now }
         ensures { result ≡ root_of library.now self.now end }
     {
         roots.source(self.clock_of(library, end)?)
@@ -83,7 +82,7 @@ impl SystemDraft {
 
     /// The root of a connection: its start's, or else its end's.
     fn root_at(&self, library: &Library<'_>, roots: &Roots, joint: &Joint) -> Option<Terminal>
-        requires { (other : Terminal) → start_for roots.now other ≡ source_of self.now.joints other }
+        requires { AreRootsOf self.now.joints roots.now }
         ensures { result ≡ option_or (root_of library.now self.now joint.now.start) (root_of library.now self.now joint.now.end) }
     {
         match self.root_of(library, roots, joint.start) {
@@ -95,7 +94,7 @@ impl SystemDraft {
     /// The system's clock: the first root of a connection of hosts or streams.
     #[tactic(auto, unfolding(crate::specs::Clocks::system_clock))]
     fn clock(&self, library: &Library<'_>, roots: &Roots) -> Option<Terminal>
-        requires { (other : Terminal) → start_for roots.now other ≡ source_of self.now.joints other }
+        requires { AreRootsOf self.now.joints roots.now }
         ensures { result ≡ system_clock library.now self.now }
     {
         for joint in self.joints.as_slice() {
@@ -116,7 +115,7 @@ impl SystemDraft {
         clock: Option<Terminal>,
         joint: &Joint,
     ) -> Result<Connection, NoMemory>
-        requires { (other : Terminal) → start_for roots.now other ≡ source_of self.now.joints other }
+        requires { AreRootsOf self.now.joints roots.now }
         ensures { IfOk result (λ connection. connection ≡ connection_of library.now self.now clock joint.now) }
     {
         let start_fits = fits_clock(clock, self.root_of(library, roots, joint.start));
@@ -152,6 +151,21 @@ impl SystemDraft {
         Ok(connections)
     }
 
+    /// Whether a system was created, by the end of its file.
+    fn check_created(&self, end: Place) -> Result<(), ScriptFault>
+        ensures accepted { OnOk result (IsSome self.now.name) }
+        ensures refused { IfErr result (λ fault. IsFaultOf fault (no_system end)) }
+        ensures missing { OnErr result (self.now.name ≡ None) }
+    {
+        if self.name.is_none() {
+            return Err(ScriptFault::Refused {
+                place: end,
+                rule: ScriptRule::Command(13),
+            });
+        }
+        Ok(())
+    }
+
     /// The system that the commands state, once they end here.
     pub fn finish(
         self,
@@ -163,12 +177,7 @@ impl SystemDraft {
         ensures accepted { IfOk result (λ system. ended_system end library.now self self.name ≡ Ok system) }
         ensures refused { IfErr result (λ fault. IsFaultOf fault (ended_system end library.now self self.name)) }
     {
-        if self.name.is_none() {
-            return Err(ScriptFault::Refused {
-                place: end,
-                rule: ScriptRule::Command(13),
-            });
-        }
+        self.check_created(end)?;
         let components = library.interfaces(alloc)?;
         let connections = self.connections(alloc, library)?;
         let SystemDraft {
