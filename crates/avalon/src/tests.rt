@@ -125,6 +125,8 @@ fn value_of(
                 at(before, next)
             }
         }
+        // the bus has no memory of its own
+        Equation::Read { .. } => 0,
     }
 }
 

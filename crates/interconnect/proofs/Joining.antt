@@ -12,9 +12,10 @@ use Rattle.av_scripts.specs.Tables.{SystemTable}
 use Rattle.address_map.specs.Footprints.{known_at}
 use Rattle.link_rules.specs.Links.{streams_of}
 use Rattle.netlist.specs.declared.line.Line.{Line}
+use Rattle.netlist.specs.declared.line.Memory.{Memory}
 use Rattle.netlist.specs.declared.line.PortLine.{PortLine}
 use Rattle.netlist.specs.Nets.{NetValue, net_of}
-use Rattle.netlist.specs.Netlists.{Netlist, HasWidth, IsNet, IsInputPort, IsOutputPort, IsClocked, IsWaiting, driver_of, input_count, input_net, appended}
+use Rattle.netlist.specs.Netlists.{Netlist, HasWidth, IsNet, IsInputPort, IsOutputPort, IsClocked, IsWritten, IsWaiting, driver_of, input_count, input_net, appended}
 use Rattle.stream_runs.specs.Ends.{AreAlike}
 use Rattle.interconnect.specs.declared.roles.Role.TheVariants as role
 use Rattle.interconnect.specs.declared.roles.RolePort.{RolePort}
@@ -182,6 +183,9 @@ new_name place count old low joined new net s = s.new_same.name ∙ s.joined_sam
 new_lines : (place count : ℕ) (old low joined new : Netlist) (net : NetValue) → AreSteps place count old low joined new net → new.lines ≡ old.lines ++ low_line ∷ []
 new_lines place count old low joined new net s = s.new_same.lines ∙ s.joined_same.lines ∙ ap (λ (n : Netlist). n.lines) s.low_is
 
+new_memories : (place count : ℕ) (old low joined new : Netlist) (net : NetValue) → AreSteps place count old low joined new net → new.memories ≡ old.memories
+new_memories place count old low joined new net s = s.new_same.memories ∙ s.joined_same.memories ∙ ap (λ (n : Netlist). n.memories) s.low_is
+
 -- what drove a port drives it still
 still_driven : (place count k : ℕ) (old low joined new : Netlist) (net : NetValue) → AreSteps place count old low joined new net → k < place → driver_of new k ≡ driver_of old k
 still_driven place count k old low joined new net s below =
@@ -276,6 +280,10 @@ clocked_still place count old low joined new net s h n waiting =
       | inr last ↦ (let low : false ≡ true = ap (λ (l : Line). l.waits) last ∙ waiting.waits in false≢true low)
     ]
 
+written_still : (place count : ℕ) (old low joined new : Netlist) (net : NetValue) → AreSteps place count old low joined new net → IsWritten old → IsWritten new
+written_still place count old low joined new net s h m waiting =
+    h m (record { memory = waiting.memory; is = subst (λ (ms : List Memory). slice_get ms m ≡ Some waiting.memory) (new_memories place count old low joined new net s) waiting.is; waits = waiting.waits })
+
 -- the stream of a number is one
 one_stream_of : (system : SystemTable) (number : ℕ) (a b : Connection) (source : SourcePort) (sink : SinkPort) (at : IsStreamPlace system number b) → IsStream system number a source sink
     → Source source ≡ Source at.source_port
@@ -323,6 +331,7 @@ one_more_joined system number place count connection old low joined new net t s 
       ];
       rest = λ k above. s.new_others k (λ e. absurd (omega (arith, e))) ∙ s.joined_rest k (omega arith);
       clocked = clocked_still place count old low joined new net s t.upto.clocked;
+      written = written_still place count old low joined new net s t.upto.written;
     }
 
 pub turn_of : (system : SystemTable) (number place count : ℕ) (connection : Connection) (netlist : Netlist) → IsPlanned system → number < length (streams_of system) → pending_of system ≡ None

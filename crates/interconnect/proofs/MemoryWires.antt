@@ -4,10 +4,11 @@ use Rattle.std.specs.Prelude.{IsSome, IfSome, is_some, slice_get, slice_index_or
 use Rattle.std.proofs.Math.Path.{fun_ext}
 use Rattle.std.proofs.lemmas.Bool.{and_parts, false≢true}
 use Rattle.netlist.specs.declared.line.Line.{Line}
+use Rattle.netlist.specs.declared.line.Memory.{Memory}
 use Rattle.netlist.specs.declared.line.PortLine.{PortLine}
 use Rattle.netlist.specs.Nets.{NetValue, net_of}
-use Rattle.netlist.specs.Netlists.{Netlist, IsInputPort, IsOutputPort, IsDriven, IsClocked, IsWaiting, next_of, undriven, started, is_register}
-use Rattle.netlist.specs.Runs.{Cycle, Run, NetHolds, IsValuation, IsRun, SameState, reset_of, cycle_of}
+use Rattle.netlist.specs.Netlists.{Netlist, IsInputPort, IsOutputPort, IsDriven, IsClocked, IsWritten, IsWaiting, next_of, undriven, started, is_register}
+use Rattle.netlist.specs.Runs.{Cycle, Run, word_after, WordsFit, NetHolds, IsValuation, IsRun, SameState, reset_of, cycle_of}
 use Rattle.netlist.specs.Longer.{Extends}
 use Rattle.netlist.specs.Signals.{port_value}
 use Rattle.stream_runs.specs.Ends.{signal_or}
@@ -112,7 +113,7 @@ agent_inputs wire m places old begun =
 
 -- the netlist with the wire's lines, and no output driven
 abbrev pub undriven_with : List ℕ → MemoryForm → EndName → EndName → List Line → Netlist
-undriven_with name m from to lines = record { name = name; ports = header m from to; lines = lines; drivers = map undriven (header m from to) }
+undriven_with name m from to lines = record { name = name; ports = header m from to; lines = lines; drivers = map undriven (header m from to); memories = [] }
 
 abbrev pub host_of : MemoryForm → EndName → EndName → HostNets
 host_of m from to = host_nets_at (header m from to) (wire_places m.has_enables).host m.address_bits
@@ -262,21 +263,30 @@ ports-driven : (netlist : Netlist) (drivers : List Driver) → (driven_by netlis
 ports-driven netlist [] = refl
 ports-driven netlist (d ∷ drivers) = ports-driven _ drivers
 
+memories-driven : (netlist : Netlist) (drivers : List Driver) → (driven_by netlist drivers).memories ≡ netlist.memories
+memories-driven netlist [] = refl
+memories-driven netlist (d ∷ drivers) = memories-driven _ drivers
+
 -- ---- runs
 
-valuation_alike : (a b : Netlist) → a.lines ≡ b.lines → (cycle : Cycle) → IsValuation a cycle → IsValuation b cycle
-valuation_alike a b e cycle v =
-    record { nets = subst (λ (ls : List Line). (n : ℕ) (line : Line) → slice_get ls n ≡ Some line → NetHolds ls cycle n line) e v.nets }
-
-run_alike : (a b : Netlist) → a.lines ≡ b.lines → (run : Run) (cycles : ℕ) → IsRun a run cycles → IsRun b run cycles
-run_alike a b e run cycles r =
+valuation_alike : (a b : Netlist) → a.lines ≡ b.lines → a.memories ≡ b.memories → (cycle : Cycle) → IsValuation a cycle → IsValuation b cycle
+valuation_alike a b e f cycle v =
     record {
-      valuations = λ c h. valuation_alike a b e (cycle_of run c) (r.valuations c h);
+      nets = subst (λ (ls : List Line). (n : ℕ) (line : Line) → slice_get ls n ≡ Some line → NetHolds ls cycle n line) e v.nets;
+      words = subst (λ (ms : List Memory). WordsFit ms cycle.cell) f v.words;
+    }
+
+run_alike : (a b : Netlist) → a.lines ≡ b.lines → a.memories ≡ b.memories → (run : Run) (cycles : ℕ) → IsRun a run cycles → IsRun b run cycles
+run_alike a b e f run cycles r =
+    record {
+      valuations = λ c h. valuation_alike a b e f (cycle_of run c) (r.valuations c h);
       starts = λ h. record {
         registers = subst (λ (ls : List Line). (n : ℕ) (line : Line) → slice_get ls n ≡ Some line → IfSome (reset_of line.equation) (λ x. run.net 0 n ≡ x)) e (r.starts h).registers;
       };
       steps = λ c h. record {
         registers = subst (λ (ls : List Line). (n : ℕ) (line : Line) → slice_get ls n ≡ Some line → IfSome (next_of line) (λ m. run.net (c + 1) n ≡ run.net c m)) e (r.steps c h).registers;
+        words = subst (λ (ms : List Memory). (m : ℕ) (memory : Memory) → slice_get ms m ≡ Some memory → (address : ℕ) → address < 2 ^ memory.address_bits
+            → IfSome memory.write (λ write. run.cell (c + 1) m address ≡ word_after (cycle_of run c) write m address)) f (r.steps c h).words;
       };
     }
 
@@ -379,6 +389,7 @@ pub record Behaves (m : MemoryForm) (from to : EndName) (emitted : Netlist) (mad
   pub runs : RunsAsWire emitted (host_of m from to) (agent_of m from to) made m.address_bits m.pending
   pub register : IsRegister emitted made.unanswered.number
   pub ignores : IgnoresWord emitted (host_of m from to) (agent_of m from to) made
+  pub memories : emitted.memories ≡ []
 
 -- ---- one cycle
 
@@ -421,6 +432,7 @@ ignores_readdata : (name : List ℕ) (m : MemoryForm) (from to : EndName) (emitt
 ignores_readdata name m from to emitted made h behaves state one other can_one can_other alike a below =
     let F = finished name m from to emitted.lines made in
     let lines : F.lines ≡ emitted.lines = lines-driven (undriven_with name m from to emitted.lines) (drivers_of m from to made) in
+    let memories : F.memories ≡ emitted.memories = memories-driven (undriven_with name m from to emitted.lines) (drivers_of m from to made) ∙ sym behaves.memories in
     let x = can_one.0 in
     let y = can_other.0 in
     let moment_x : one ≡ moment_of m from to made x = can_one.3 ∙ ap (λ (r : MemoryRun). moment_in r 0) (shown name m from to emitted.lines made h (standing_still x)) in
@@ -429,7 +441,7 @@ ignores_readdata name m from to emitted made h behaves state one other can_one c
     let at = subst (λ (ls : List Line). slice_get ls made.unanswered.number ≡ Some behaves.register.line) (sym lines) behaves.register.is in
     let same_count : x.net made.unanswered.number ≡ y.net made.unanswered.number =
     sym (can_one.2.registers made.unanswered.number behaves.register.line at behaves.register.register) ∙ can_other.2.registers made.unanswered.number behaves.register.line at behaves.register.register in
-    let sight = same_moments m from to emitted made x y behaves (valuation_alike F emitted lines x can_one.1) (valuation_alike F emitted lines y can_other.1) same_count alike_nets in
+    let sight = same_moments m from to emitted made x y behaves (valuation_alike F emitted lines memories x can_one.1) (valuation_alike F emitted lines memories y can_other.1) same_count alike_nets in
     ap (λ (n : Moment). n.to_agent a) moment_x ∙ sight ∙ ap (λ (n : Moment). n.to_agent a) (sym moment_y)
 
 serves : (name : List ℕ) (m : MemoryForm) (from to : EndName) (emitted : Netlist) (made : WireNets) → AreApart from to → IsWireForm (bounded_form m) → SafeLaw → PlanLaw → ReadLaw →
@@ -447,9 +459,10 @@ serves name m from to emitted made h limits safe_law plan_law read_law behaves =
         IsSafe AreZero (plan_of (bounded_form m)) (shown_run (finished name m from to emitted.lines made) run from to) cycles
     safe run cycles r legal =
         let lines = lines-driven (undriven_with name m from to emitted.lines) (drivers_of m from to made) in
+        let memories = memories-driven (undriven_with name m from to emitted.lines) (drivers_of m from to made) ∙ sym behaves.memories in
         let here = shown name m from to emitted.lines made h run in
         let bounded = subst (λ (f : BoundedForm). IsBoundedWire f (wire_host run m from to made) (wire_agent run m from to made) (wires.signal_of run made.unanswered) cycles) (form_is m from to)
-        (behaves.runs run cycles (run_alike (finished name m from to emitted.lines made) emitted lines run cycles r)) in
+        (behaves.runs run cycles (run_alike (finished name m from to emitted.lines made) emitted lines memories run cycles r)) in
         subst (λ (v : MemoryRun). IsSafe AreZero (plan_of (bounded_form m)) v cycles) (sym here)
         (safe_law (bounded_form m) (wire_host run m from to made) (wire_agent run m from to made) (wires.signal_of run made.unanswered) cycles limits bounded
         (subst (λ (v : MemoryRun). IsLegalRun (plan_of (bounded_form m)) v cycles) here legal))
@@ -485,14 +498,16 @@ emitted_is wire m places old new host agent made added =
     let ports_is : new.ports ≡ header m wire.from wire.to = added.adds.extends.keeps.ports ∙ ports in
     let drivers_is : new.drivers ≡ map undriven (header m wire.from wire.to) =
     added.adds.drivers ∙ ap (λ (n : Netlist). n.drivers) added.begun.started_is in
-    whole new wire.name (header m wire.from wire.to) (map undriven (header m wire.from wire.to)) name_is ports_is drivers_is
+    let memories_is : new.memories ≡ [] = added.adds.memories ∙ ap (λ (n : Netlist). n.memories) added.begun.started_is in
+    whole new wire.name (header m wire.from wire.to) (map undriven (header m wire.from wire.to)) name_is ports_is drivers_is memories_is
   where
-    whole : (n : Netlist) (name : List ℕ) (ports : List PortLine) (drivers : List (Option ℕ)) → n.name ≡ name → n.ports ≡ ports → n.drivers ≡ drivers →
-        n ≡ record { name = name; ports = ports; lines = n.lines; drivers = drivers }
-    whole n name ports drivers e f g =
-        ap (λ (x : List ℕ). record { name = x; ports = n.ports; lines = n.lines; drivers = n.drivers }) e
-        ∙ ap (λ (x : List PortLine). record { name = name; ports = x; lines = n.lines; drivers = n.drivers }) f
-        ∙ ap (λ (x : List (Option ℕ)). record { name = name; ports = ports; lines = n.lines; drivers = x }) g
+    whole : (n : Netlist) (name : List ℕ) (ports : List PortLine) (drivers : List (Option ℕ)) → n.name ≡ name → n.ports ≡ ports → n.drivers ≡ drivers → n.memories ≡ [] →
+        n ≡ record { name = name; ports = ports; lines = n.lines; drivers = drivers; memories = [] }
+    whole n name ports drivers e f g h =
+        ap (λ (x : List ℕ). record { name = x; ports = n.ports; lines = n.lines; drivers = n.drivers; memories = n.memories }) e
+        ∙ ap (λ (x : List PortLine). record { name = name; ports = x; lines = n.lines; drivers = n.drivers; memories = n.memories }) f
+        ∙ ap (λ (x : List (Option ℕ)). record { name = name; ports = ports; lines = n.lines; drivers = x; memories = n.memories }) g
+        ∙ ap (λ (x : List Memory). record { name = name; ports = ports; lines = n.lines; drivers = drivers; memories = x }) h
 
 net_lasts : (old new : Netlist) (net : NetValue) (w : ℕ) → Extends old new → IsNetOfWidth old net w → IsNetOfWidth new net w
 net_lasts old new net w extends is = record { is_net = extends.nets net.number net.width is.is_net; has_width = is.has_width }
@@ -560,6 +575,13 @@ is_clocked wire m new final made clocked e n waiting =
     let lines = ap (λ (x : Netlist). x.lines) e ∙ lines-driven (undriven_with wire.name m wire.from wire.to new.lines) (drivers_of m wire.from wire.to made) in
     clocked n (record { line = waiting.line; is = subst (λ (ls : List Line). slice_get ls n ≡ Some waiting.line) lines waiting.is; waits = waiting.waits })
 
+-- and it has no memory
+pub is_written : (wire : Wire) (m : MemoryForm) (lines : List Line) (made : WireNets) (final : Netlist) → final ≡ finished wire.name m wire.from wire.to lines made → IsWritten final
+is_written wire m lines made final e k waiting =
+    let none = ap (λ (x : Netlist). x.memories) e ∙ memories-driven (undriven_with wire.name m wire.from wire.to lines) (drivers_of m wire.from wire.to made) in
+    let at = subst (λ (ms : List Memory). slice_get ms k ≡ Some waiting.memory) none waiting.is in
+    cc
+
 -- what the finished netlist is
 pub record IsMemoryModule (wire : Wire) (m : MemoryForm) (final : Netlist) : Type 0 where
   pub name : final.name ≡ wire.name
@@ -578,6 +600,7 @@ is_module wire m places old new final host agent made apart limits safe_law plan
       runs = subst (λ (x : AgentNets). RunsAsWire new (host_of m from to) x made m.address_bits m.pending) agents (subst (λ (x : HostNets). RunsAsWire new x agent made m.address_bits m.pending) hosts added.adds.runs);
       register = added.adds.register;
       ignores = subst (λ (x : AgentNets). IgnoresWord new (host_of m from to) x made) agents (subst (λ (x : HostNets). IgnoresWord new x agent made) hosts added.adds.ignores);
+      memories = added.adds.memories ∙ ap (λ (n : Netlist). n.memories) added.begun.started_is;
     } in
     let whole : IsMemoryModule wire m (finished wire.name m from to new.lines made) = record {
       name = name-driven (undriven_with wire.name m from to new.lines) (drivers_of m from to made);

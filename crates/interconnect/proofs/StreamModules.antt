@@ -21,7 +21,7 @@ use Rattle.link_rules.specs.Links.{is_stream, streams_of}
 use Rattle.netlist.specs.declared.line.Line.{Line}
 use Rattle.netlist.specs.declared.line.PortLine.{PortLine}
 use Rattle.netlist.specs.declared.line.Equation.TheVariants.{Input}
-use Rattle.netlist.specs.Netlists.{Netlist, IsOutputPort, IsDriven, IsClocked, IsModule, IsWellMade, driver_of, input_count, input_lines, line_of, started}
+use Rattle.netlist.specs.Netlists.{Netlist, IsOutputPort, IsDriven, IsClocked, IsWritten, IsModule, IsWellMade, driver_of, input_count, input_lines, line_of, started}
 use Rattle.interconnect.specs.Ports.{connection_ends, end_ports, ends_of, ports_of, module_name, role_ports, name_at, declared_source, declared_sink}
 use Rattle.interconnect.specs.Ends.{IsStreamPlace}
 use Rattle.interconnect.specs.Wires.{pending_of}
@@ -71,9 +71,9 @@ length-input_lines [] j = refl
 length-input_lines (p ∷ ports) j =
     rw input_count-cons (counted p.output (line_of p.width (Input j)) (input_lines (j + 1) ports) (input_count ports) (length-input_lines ports (j + 1)))
 
-pub begins : (system : SystemTable) (builder : Netlist) → hosts_of system ≡ [] → builder ≡ started (module_name system) (ports_of system) → IsClocked builder → ((k : ℕ) → driver_of builder k ≡ None)
+pub begins : (system : SystemTable) (builder : Netlist) → hosts_of system ≡ [] → builder ≡ started (module_name system) (ports_of system) → IsClocked builder → IsWritten builder → ((k : ℕ) → driver_of builder k ≡ None)
     → IsJoinedUpTo system 0 0 builder
-begins system builder none is clocked undriven =
+begins system builder none is clocked written undriven =
     let ports : builder.ports ≡ ports_of system = ap (λ (n : Netlist). n.ports) is in
     let lines : builder.lines ≡ input_lines 0 (ports_of system) = ap (λ (n : Netlist). n.lines) is in
     record {
@@ -85,6 +85,7 @@ begins system builder none is clocked undriven =
       driven = λ k w below o. absurd (omega (arith, below));
       rest = λ k above. undriven k;
       clocked = clocked;
+      written = written;
     }
 
 -- ---- the end

@@ -8,7 +8,7 @@ use Rattle.av_scripts.specs.Tables.{SystemTable}
 use Rattle.address_map.specs.Maps.{hosts_of, agents_of}
 use Rattle.link_rules.specs.Links.{streams_of}
 use Rattle.netlist.specs.declared.line.PortLine.{PortLine}
-use Rattle.netlist.specs.Netlists.{Netlist, IsInputPort, IsOutputPort, IsClocked, driver_of, input_count, input_net}
+use Rattle.netlist.specs.Netlists.{Netlist, IsInputPort, IsOutputPort, IsClocked, IsWritten, driver_of, input_count, input_net}
 use Rattle.interconnect.specs.Ports.{role_ports, connection_ends, end_ports, ports_of, module_name}
 use Rattle.interconnect.specs.Streams.{IsStream, low_line}
 
@@ -41,6 +41,7 @@ pub record HasSameNets (old new : Netlist) : Type 0 where
   pub name : new.name ≡ old.name
   pub ports : new.ports ≡ old.ports
   pub lines : new.lines ≡ old.lines
+  pub memories : new.memories ≡ old.memories
 
 -- nothing drives a port from this one on
 abbrev pub IsUndrivenFrom : Netlist → ℕ → Type 0
@@ -61,3 +62,4 @@ pub record IsJoinedUpTo (system : SystemTable) (number place : ℕ) (netlist : N
   pub driven : (k w : ℕ) → k < place → IsOutputPort netlist.ports k w → IsSome (driver_of netlist k)
   pub rest : IsUndrivenFrom netlist place
   pub clocked : IsClocked netlist
+  pub written : IsWritten netlist

@@ -123,6 +123,7 @@ pub record AddsWire (old new : Netlist) (host : HostNets) (agent : AgentNets) (m
   pub ignores : IgnoresWord new host agent made
   pub extends : Extends old new
   pub drivers : new.drivers ≡ old.drivers
+  pub memories : new.memories ≡ old.memories
   pub no_more_wait : (n : ℕ) → IsWaiting new n → IsWaiting old n
 
 abbrev pub driver : ℕ → NetValue → Driver

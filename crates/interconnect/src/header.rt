@@ -1,7 +1,7 @@
 ghost use Rattle.std.specs.Prelude.{◌≡◌, ℕ, ◌<◌, ◌++◌, length, None, flat_map, map, filter, IfOk, OnOk};
 ghost use Rattle.av_scripts.specs.Tables.{IsEnd};
 ghost use Rattle.iface_roles.specs.declared.records.Finished.{Finished};
-ghost use Rattle.netlist.specs.Netlists.{IsWellMade, IsClocked, driver_of, started};
+ghost use Rattle.netlist.specs.Netlists.{IsWellMade, IsClocked, IsWritten, driver_of, started};
 ghost use Rattle.link_rules.specs.Links.{streams_of};
 ghost use Rattle.interconnect.specs.Ends.{IsPlanEnd, ArePlanEnds, IsStreamPlace};
 ghost use Rattle.interconnect.specs.Ports.{name_at, port_name, port_line, has_bits, end_ports, connection_ends, ports_of, module_name};
@@ -147,6 +147,7 @@ pub(crate) fn start(alloc: Global, plan: &Plan) -> Result<Builder, NoMemory>
     ensures started { IfOk result (λ b. b ≡ started (module_name plan.now.system) (ports_of plan.now.system)) }
     ensures well_made { IfOk result (λ b. IsWellMade b) }
     ensures clocked { IfOk result (λ b. IsClocked b) }
+    ensures written { IfOk result (λ b. IsWritten b) }
     ensures undriven { IfOk result (λ b. (k : ℕ) → driver_of b k ≡ None) }
 {
     plan.well_made();

@@ -1,13 +1,15 @@
 -- Netlists that grow in several steps, and what their nets are.
-use Rattle.std.proofs.Common.{◌≡◌, ℕ, zero, suc, ◌+◌, ◌^◌, ◌<◌, ◌≤◌, List, [], ◌∷◌, ◌++◌, length, length-append, slice_get, Some, true, false, refl, sym, subst, ap, ◌∙◌, arith, inl, inr}
-use Rattle.std.specs.Prelude.{Result, Ok, Err, IfOk}
+use Rattle.std.proofs.Common.{◌≡◌, ℕ, zero, suc, ◌+◌, ◌^◌, ◌<◌, ◌≤◌, List, [], ◌∷◌, ◌++◌, length, length-append, slice_get, Option, Some, None, true, false, refl, sym, subst, ap, ◌∙◌, arith, inl, inr}
+use Rattle.std.specs.Prelude.{Result, Ok, Err, IfOk, IfSome}
 use Rattle.netlist.specs.declared.line.Line.{Line}
+use Rattle.netlist.specs.declared.line.Memory.{Memory}
+use Rattle.netlist.specs.declared.line.MemWrite.{MemWrite}
 use Rattle.netlist.specs.declared.line.Equation.{Equation}
 use Rattle.netlist.specs.declared.line.Equation.TheVariants.{Reg}
 use Rattle.netlist.specs.Nets.{NetValue}
 use Rattle.netlist.specs.Netlists.{Netlist, width_at, IsWaiting, appended, is_register, next_set}
 use Rattle.netlist.specs.Runs.{Cycle, IsValuation}
-use Rattle.netlist.specs.Longer.{IsKept, Keeps, Extends, GrowsByOne}
+use Rattle.netlist.specs.Longer.{IsKept, IsKeptMemory, Keeps, Extends, GrowsByOne}
 use Rattle.mm_wire.specs.Nets.{IsNetOfWidth, IsRegister, GrowsBy}
 
 kept_twice : (x y z : Line) → IsKept x y → IsKept y z → IsKept x z
@@ -15,25 +17,34 @@ kept_twice x y z (inl e) k = subst (λ (l : Line). IsKept l z) e k
 kept_twice x y z (inr s) (inl f) = inr (record { waits = s.waits; next = s.next; is = f ∙ s.is })
 kept_twice x y z (inr s) (inr t) = absurd (let set : y.waits ≡ false = ap (λ (l : Line). l.waits) s.is in let waits = t.waits in cc)
 
+write_twice : (x y z : Option MemWrite) → IfSome x (λ write. y ≡ Some write) → IfSome y (λ write. z ≡ Some write) → IfSome x (λ write. z ≡ Some write)
+write_twice None y z p q = tt
+write_twice (Some write) y z p q = subst (λ (o : Option MemWrite). IfSome o (λ w. z ≡ Some w)) p q
+
+memory_twice : (x y z : Memory) → IsKeptMemory x y → IsKeptMemory y z → IsKeptMemory x z
+memory_twice x y z p q = record { width = q.width ∙ p.width; address_bits = q.address_bits ∙ p.address_bits; write = write_twice x.write y.write z.write p.write q.write }
+
 keeps_twice : (a b c : Netlist) → Keeps a b → Keeps b c → Keeps a c
 keeps_twice a b c p q = record {
   name = q.name ∙ p.name;
   ports = q.ports ∙ p.ports;
   lines = λ n line at. (let l = p.lines n line at in let m = q.lines n l.later l.is in record { later = m.later; is = m.is; kept = kept_twice line l.later m.later l.kept m.kept });
   drivers = λ k n d. q.drivers k n (p.drivers k n d);
+  memories = λ m memory at. (let l = p.memories m memory at in let k = q.memories m l.later l.is in record { later = k.later; is = k.is; kept = memory_twice memory l.later k.later l.kept k.kept });
 }
 
 pub extends_twice : (a b c : Netlist) → Extends a b → Extends b c → Extends a c
 extends_twice a b c p q = record {
   keeps = keeps_twice a b c p.keeps q.keeps;
   nets = λ n w h. q.nets n w (p.nets n w h);
+  memories = λ mem h. q.memories mem (p.memories mem h);
   valuations = λ cycle v. p.valuations cycle (q.valuations cycle v);
   runs = λ run cycles r. p.runs run cycles (q.runs run cycles r);
   count = (let few = p.count in let more = q.count in omega arith);
 }
 
 pub grows_once : (a b : Netlist) → GrowsByOne a b → GrowsBy 1 a b
-grows_once a b g = record { most = g.most; drivers = g.drivers; waits = g.waits; no_more_wait = g.no_more_wait }
+grows_once a b g = record { most = g.most; drivers = g.drivers; waits = g.waits; no_more_wait = g.no_more_wait; memories = g.memories }
 
 pub grows_more : (k m : ℕ) (a b c : Netlist) → GrowsBy k a b → GrowsBy m b c → GrowsBy (k + m) a c
 grows_more k m a b c p q = record {
@@ -41,10 +52,11 @@ grows_more k m a b c p q = record {
   drivers = q.drivers ∙ p.drivers;
   waits = λ n w. q.waits n (p.waits n w);
   no_more_wait = λ n w. p.no_more_wait n (q.no_more_wait n w);
+  memories = q.memories ∙ p.memories;
 }
 
 pub grows_fewer : (k m : ℕ) (a b : Netlist) → k ≤ m → GrowsBy k a b → GrowsBy m a b
-grows_fewer k m a b h p = record { most = (let few = p.most in omega arith); drivers = p.drivers; waits = p.waits; no_more_wait = p.no_more_wait }
+grows_fewer k m a b h p = record { most = (let few = p.most in omega arith); drivers = p.drivers; waits = p.waits; no_more_wait = p.no_more_wait; memories = p.memories }
 
 -- a maker's line is one more
 pub one_more : (a b : Netlist) (l : Line) → b ≡ appended a l → length b.lines ≡ length a.lines + 1

@@ -1,9 +1,10 @@
 -- The header of the tests' module.
-use Rattle.std.proofs.Common.{◌≡◌, ◌≢◌, ℕ, zero, suc, ◌<◌, ◌≤◌, List, [], ◌∷◌, length, get_or, Some, false, refl, ap, arith}
+use Rattle.std.proofs.Common.{◌≡◌, ◌≢◌, ℕ, zero, suc, ◌<◌, ◌≤◌, List, [], ◌∷◌, length, slice_get, get_or, Some, false, refl, subst, ap, arith}
 use Rattle.std.specs.Prelude.{codes, All}
 use Rattle.netlist.specs.declared.line.PortLine.{PortLine}
+use Rattle.netlist.specs.declared.line.Memory.{Memory}
 use Rattle.netlist.specs.Names.{IsPortName}
-use Rattle.netlist.specs.Netlists.{IsHeader, IsOutputPort}
+use Rattle.netlist.specs.Netlists.{Netlist, IsHeader, IsOutputPort, IsWritten}
 use Rattle.netlist.specs.Signals.{port_named}
 
 abbrev pub five : List PortLine
@@ -63,3 +64,7 @@ no_output (suc (suc zero)) w i = let e = i.is in let o = i.output in cc
 no_output (suc (suc (suc zero))) w i = let e = i.is in let o = i.output in cc
 no_output (suc (suc (suc (suc zero)))) w i = let e = i.is in let o = i.output in cc
 no_output (suc (suc (suc (suc (suc k))))) w i = let e = i.is in cc
+
+-- the same memories have their writes
+pub still_written : (old new : Netlist) → new.memories ≡ old.memories → IsWritten old → IsWritten new
+still_written old new e h m waiting = h m (record { memory = waiting.memory; is = subst (λ (ms : List Memory). slice_get ms m ≡ Some waiting.memory) e waiting.is; waits = waiting.waits })

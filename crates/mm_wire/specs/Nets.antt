@@ -15,9 +15,10 @@ pub record IsRegister (netlist : Netlist) (n : ℕ) : Type 0 where
   pub is : slice_get netlist.lines n ≡ Some line
   pub register : is_register line.equation ≡ true
 
--- the netlist grew by so many nets at most; no driver was set, and the same registers wait
+-- the netlist grew by so many nets at most; no driver was set, the same registers wait, and the memories are the same
 pub record GrowsBy (count : ℕ) (old new : Netlist) : Type 0 where
   pub most : length new.lines ≤ length old.lines + count
   pub drivers : new.drivers ≡ old.drivers
   pub waits : (n : ℕ) → IsWaiting old n → IsWaiting new n
   pub no_more_wait : (n : ℕ) → IsWaiting new n → IsWaiting old n
+  pub memories : new.memories ≡ old.memories

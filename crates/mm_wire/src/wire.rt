@@ -33,6 +33,7 @@ pub fn emit(
     ensures count { OnOk result (length builder.new.lines ≡ length builder.old.lines + 15) }
     ensures most { length builder.new.lines ≤ length builder.old.lines + 15 }
     ensures drivers { builder.new.drivers ≡ builder.old.drivers }
+    ensures memories { builder.new.memories ≡ builder.old.memories }
     ensures waits { (n : ℕ) → IsWaiting builder.old n → IsWaiting builder.new n }
     ensures no_more_wait { OnOk result ((n : ℕ) → IsWaiting builder.new n → IsWaiting builder.old n) }
 

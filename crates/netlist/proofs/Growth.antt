@@ -7,12 +7,14 @@ use Rattle.av_base.specs.Word.{word, concat_of}
 use Rattle.av_base.specs.declared.value.Val.{Val}
 use Rattle.netlist.specs.declared.line.Line.{Line}
 use Rattle.netlist.specs.declared.line.PortLine.{PortLine}
+use Rattle.netlist.specs.declared.line.Memory.{Memory}
+use Rattle.netlist.specs.declared.line.MemWrite.{MemWrite}
 use Rattle.netlist.specs.declared.line.Equation.{Equation}
-use Rattle.netlist.specs.declared.line.Equation.TheVariants.{Input, Constant, And, Or, Xor, Add, Sub, Eq, Less, Concat, Not, Any, Mux, Slice, Reg}
+use Rattle.netlist.specs.declared.line.Equation.TheVariants.{Input, Constant, And, Or, Xor, Add, Sub, Eq, Less, Concat, Not, Any, Mux, Slice, Reg, Read}
 use Rattle.netlist.specs.Nets.{NetValue, net_of}
-use Rattle.netlist.specs.Netlists.{Netlist, line_of, line_with, width_at, HasWidth, IsNet, driver_of, IsInputPort, IsOutputPort, input_count, input_net, input_lines, is_input, is_register, next_in, next_of, IsOperand, AreOperands, IsComparison, IsAnyOf, IsSound, IsSoundLine, IsHeader, BeginsWithInputs, IsDriver, IsWellMade, IsWaiting, IsClocked, started, appended, next_set, with_next, with_line, with_driver}
-use Rattle.netlist.specs.Runs.{Run, Cycle, cycle_of, value_of, NetHolds, IsValuation, IsRun, reset_of, Always}
-use Rattle.netlist.specs.Longer.{IsSetFrom, IsKept, Keeps, Extends}
+use Rattle.netlist.specs.Netlists.{Netlist, line_of, line_with, width_at, HasWidth, IsNet, driver_of, IsInputPort, IsOutputPort, input_count, input_net, input_lines, is_input, is_register, next_in, next_of, IsOperand, AreOperands, IsComparison, IsAnyOf, IsSound, IsSoundLine, IsWriteOf, IsSoundMemory, IsWritten, IsHeader, BeginsWithInputs, IsDriver, IsWellMade, IsWaiting, IsClocked, started, appended, next_set, with_next, with_line, with_driver}
+use Rattle.netlist.specs.Runs.{Run, Cycle, cycle_of, value_of, word_after, NetHolds, IsValuation, IsRun, reset_of, Always}
+use Rattle.netlist.specs.Longer.{IsSetFrom, IsKept, IsKeptMemory, Keeps, Extends}
 use Rattle.netlist.proofs.Lists.{slice_get-front, slice_get-last, slice_get-newly, slice_get-within, slice_get-some, slice_get-set_kept, slice_get-set_newly, slice_get-set_same, slice_get-set_other, width_at-line, width_at-is, driver-newly, driver-kept}
 use Rattle.netlist.proofs.Inputs.{length-input_lines, input_lines-at, IsOfInput, input_lines-from, All-slice_get, undriven-at, length-undriven}
 
@@ -39,47 +41,81 @@ operands_wider lines more n a b w wider h = record { left = operand_wider lines 
 comparison_wider : (lines more : List Line) (n w a b : ℕ) → IsWider lines more → IsComparison lines n w a b → IsComparison more n w a b
 comparison_wider lines more n w a b wider h = record { width = h.width; operands = operands_wider lines more n a b h.width wider h.operands; one_bit = h.one_bit }
 
--- an equation asks no more among more lines
-IsSound-wider : (ports : List PortLine) (lines more : List Line) (n w : ℕ) (e : Equation) → IsWider lines more → IsSound ports lines n w e → IsSound ports more n w e
-IsSound-wider ports lines more n w (Input port) wider h = h
-IsSound-wider ports lines more n w (Constant value) wider h = h
-IsSound-wider ports lines more n w (And a b) wider h = operands_wider lines more n a b w wider h
-IsSound-wider ports lines more n w (Or a b) wider h = operands_wider lines more n a b w wider h
-IsSound-wider ports lines more n w (Xor a b) wider h = operands_wider lines more n a b w wider h
-IsSound-wider ports lines more n w (Add a b) wider h = operands_wider lines more n a b w wider h
-IsSound-wider ports lines more n w (Sub a b) wider h = operands_wider lines more n a b w wider h
-IsSound-wider ports lines more n w (Eq a b) wider h = comparison_wider lines more n w a b wider h
-IsSound-wider ports lines more n w (Less a b) wider h = comparison_wider lines more n w a b wider h
-IsSound-wider ports lines more n w (Concat a b) wider h = record {
+-- each memory of the first list is one of the second, kept
+abbrev pub IsRicher : List Memory → List Memory → Type 0
+IsRicher memories later = (m : ℕ) (memory : Memory) → slice_get memories m ≡ Some memory → (x : Memory) × (slice_get later m ≡ Some x) × IsKeptMemory memory x
+
+kept_write : (o : Option MemWrite) → IfSome o (λ write. o ≡ Some write)
+kept_write None = tt
+kept_write (Some write) = refl
+
+pub kept_same : (memory : Memory) → IsKeptMemory memory memory
+kept_same memory = record { width = refl; address_bits = refl; write = kept_write memory.write }
+
+same_memories : (memories : List Memory) → IsRicher memories memories
+same_memories memories m memory at = (memory, at, kept_same memory)
+
+-- an equation asks no more among more lines and memories
+IsSound-wider : (ports : List PortLine) (memories later : List Memory) (lines more : List Line) (n w : ℕ) (e : Equation) → IsRicher memories later → IsWider lines more →
+    IsSound ports memories lines n w e → IsSound ports later more n w e
+IsSound-wider ports memories later lines more n w (Input port) richer wider h = h
+IsSound-wider ports memories later lines more n w (Constant value) richer wider h = h
+IsSound-wider ports memories later lines more n w (And a b) richer wider h = operands_wider lines more n a b w wider h
+IsSound-wider ports memories later lines more n w (Or a b) richer wider h = operands_wider lines more n a b w wider h
+IsSound-wider ports memories later lines more n w (Xor a b) richer wider h = operands_wider lines more n a b w wider h
+IsSound-wider ports memories later lines more n w (Add a b) richer wider h = operands_wider lines more n a b w wider h
+IsSound-wider ports memories later lines more n w (Sub a b) richer wider h = operands_wider lines more n a b w wider h
+IsSound-wider ports memories later lines more n w (Eq a b) richer wider h = comparison_wider lines more n w a b wider h
+IsSound-wider ports memories later lines more n w (Less a b) richer wider h = comparison_wider lines more n w a b wider h
+IsSound-wider ports memories later lines more n w (Concat a b) richer wider h = record {
   high_width = h.high_width;
   low_width = h.low_width;
   high = operand_wider lines more n a h.high_width wider h.high;
   low = operand_wider lines more n b h.low_width wider h.low;
   sum = h.sum;
 }
-IsSound-wider ports lines more n w (Not a) wider h = operand_wider lines more n a w wider h
-IsSound-wider ports lines more n w (Any a) wider h = record { width = h.width; operand = operand_wider lines more n a h.width wider h.operand; one_bit = h.one_bit }
-IsSound-wider ports lines more n w (Mux s a b) wider h = record { test = operand_wider lines more n s 1 wider h.test; branches = operands_wider lines more n a b w wider h.branches }
-IsSound-wider ports lines more n w (Slice a high low) wider h = record {
+IsSound-wider ports memories later lines more n w (Not a) richer wider h = operand_wider lines more n a w wider h
+IsSound-wider ports memories later lines more n w (Any a) richer wider h = record { width = h.width; operand = operand_wider lines more n a h.width wider h.operand; one_bit = h.one_bit }
+IsSound-wider ports memories later lines more n w (Mux s a b) richer wider h = record { test = operand_wider lines more n s 1 wider h.test; branches = operands_wider lines more n a b w wider h.branches }
+IsSound-wider ports memories later lines more n w (Slice a high low) richer wider h = record {
   width = h.width;
   operand = operand_wider lines more n a h.width wider h.operand;
   order = h.order;
   inside = h.inside;
   bits = h.bits;
 }
-IsSound-wider ports lines more n w (Reg reset next) wider h = h
+IsSound-wider ports memories later lines more n w (Reg reset next) richer wider h = h
+IsSound-wider ports memories later lines more n w (Read m a) richer wider h =
+    let l = richer m h.memory h.is in
+    record {
+      memory = l.0;
+      is = l.1;
+      width = l.2.width ∙ h.width;
+      address = subst (λ k. IsOperand more n a k) (sym l.2.address_bits) (operand_wider lines more n a h.memory.address_bits wider h.address);
+    }
 
-pub if_some : (o : Option ℕ) (P Q : ℕ → Type 0) → ((m : ℕ) → P m → Q m) → IfSome o P → IfSome o Q
+pub if_some : {X : Type 0} (o : Option X) (P Q : X → Type 0) → ((m : X) → P m → Q m) → IfSome o P → IfSome o Q
 if_some None P Q f h = tt
 if_some (Some m) P Q f h = f m h
 
-IsSoundLine-wider : (ports : List PortLine) (lines more : List Line) (n : ℕ) (line : Line) → IsWider lines more → IsSoundLine ports lines n line → IsSoundLine ports more n line
-IsSoundLine-wider ports lines more n line wider h = record {
+pub IsSoundLine-wider : (ports : List PortLine) (memories later : List Memory) (lines more : List Line) (n : ℕ) (line : Line) → IsRicher memories later → IsWider lines more →
+    IsSoundLine ports memories lines n line → IsSoundLine ports later more n line
+IsSoundLine-wider ports memories later lines more n line richer wider h = record {
   some_bit = h.some_bit;
   small = h.small;
-  equation = IsSound-wider ports lines more n line.width line.equation wider h.equation;
+  equation = IsSound-wider ports memories later lines more n line.width line.equation richer wider h.equation;
   next = if_some (next_of line) (λ m. width_at lines m ≡ Some line.width) (λ m. width_at more m ≡ Some line.width) (λ m e. wider m line.width e) h.next;
   waits = h.waits;
+}
+
+IsSoundMemory-wider : (lines more : List Line) (memory : Memory) → IsWider lines more → IsSoundMemory lines memory → IsSoundMemory more memory
+IsSoundMemory-wider lines more memory wider h = record {
+  some_bit = h.some_bit;
+  small = h.small;
+  some_address = h.some_address;
+  few_addresses = h.few_addresses;
+  write = if_some memory.write (λ write. IsWriteOf lines memory write) (λ write. IsWriteOf more memory write)
+      (λ write w. record { enable = wider write.enable 1 w.enable; address = wider write.address memory.address_bits w.address; word = wider write.word memory.width w.word }) h.write;
 }
 
 BeginsWithInputs-push : (ports : List PortLine) (lines : List Line) (l : Line) → is_input l.equation ≡ false → BeginsWithInputs ports lines → BeginsWithInputs ports (lines ++ l ∷ [])
@@ -91,29 +127,31 @@ BeginsWithInputs-push ports lines l e h = record {
   ];
 }
 
-pub IsWellMade-appended : (b : Netlist) (l : Line) → IsWellMade b → length b.lines < 2 ^ 20 → IsSoundLine b.ports b.lines (length b.lines) l → is_input l.equation ≡ false → IsWellMade (appended b l)
+pub IsWellMade-appended : (b : Netlist) (l : Line) → IsWellMade b → length b.lines < 2 ^ 20 → IsSoundLine b.ports b.memories b.lines (length b.lines) l → is_input l.equation ≡ false → IsWellMade (appended b l)
 IsWellMade-appended b l h few sound computed = record {
   header = h.header;
   few = (let k = length-append b.lines (l ∷ []) in omega arith);
   inputs = BeginsWithInputs-push b.ports b.lines l computed h.inputs;
   lines = λ n line at. elim (slice_get-newly b.lines l line n at) [
-    | inl o ↦ IsSoundLine-wider b.ports b.lines (b.lines ++ l ∷ []) n line (λ m v. width-front b.lines (l ∷ []) m v) (h.lines n line o)
-    | inr o ↦ rw (o.0, ← o.1) (IsSoundLine-wider b.ports b.lines (b.lines ++ l ∷ []) (length b.lines) l (λ m v. width-front b.lines (l ∷ []) m v) sound)
+    | inl o ↦ IsSoundLine-wider b.ports b.memories b.memories b.lines (b.lines ++ l ∷ []) n line (same_memories b.memories) (λ m v. width-front b.lines (l ∷ []) m v) (h.lines n line o)
+    | inr o ↦ rw (o.0, ← o.1) (IsSoundLine-wider b.ports b.memories b.memories b.lines (b.lines ++ l ∷ []) (length b.lines) l (same_memories b.memories) (λ m v. width-front b.lines (l ∷ []) m v) sound)
   ];
   places = h.places;
   drivers = λ k n d. (let i = h.drivers k n d in record { width = i.width; port = i.port; net = width-front b.lines _ n i.width i.net });
+  few_memories = h.few_memories;
+  memories = λ m memory at. IsSoundMemory-wider b.lines (b.lines ++ l ∷ []) memory (λ j v. width-front b.lines (l ∷ []) j v) (h.memories m memory at);
 }
 
 -- the widths of the ports
 port_width : (name : List ℕ) (ports : List PortLine) (k : ℕ) (port : PortLine) → IsHeader name ports → slice_get ports k ≡ Some port → (1 ≤ port.width) × (port.width ≤ 128)
 port_width name ports k port h e = All-slice_get (λ (p : PortLine). (1 ≤ p.width) × (p.width ≤ 128)) ports k port h.widths e
 
-IsSoundLine-input : (name : List ℕ) (ports : List PortLine) (n : ℕ) (line : Line) → IsHeader name ports → IsOfInput ports 0 line → IsSoundLine ports (input_lines 0 ports) n line
+IsSoundLine-input : (name : List ℕ) (ports : List PortLine) (n : ℕ) (line : Line) → IsHeader name ports → IsOfInput ports 0 line → IsSoundLine ports [] (input_lines 0 ports) n line
 IsSoundLine-input name ports n line h i =
     let z : 0 + i.port ≡ i.port = omega arith in
     let ws = port_width name ports i.port i.input.port h i.input.is in
     let v : i.input.port.width ≡ i.width = i.input.width in
-    let made : IsSoundLine ports (input_lines 0 ports) n (line_of i.width (Input (0 + i.port))) = record {
+    let made : IsSoundLine ports [] (input_lines 0 ports) n (line_of i.width (Input (0 + i.port))) = record {
       some_bit = omega (arith, ws.0, v);
       small = omega (arith, ws.1, v);
       equation = rw z i.input;
@@ -130,7 +168,12 @@ IsWellMade-started name ports h few = record {
   lines = λ n line at. IsSoundLine-input name ports n line h (input_lines-from ports 0 n line at);
   places = length-undriven ports;
   drivers = λ k n d. absurd (undriven-at ports k n d);
+  few_memories = omega arith;
+  memories = λ m memory at. cc;
 }
+
+pub IsWritten-started : (name : List ℕ) (ports : List PortLine) → IsWritten (started name ports)
+IsWritten-started name ports m h = let at = h.is in cc
 
 pub IsClocked-started : (name : List ℕ) (ports : List PortLine) → IsClocked (started name ports)
 IsClocked-started name ports n h =
@@ -153,6 +196,8 @@ IsWellMade-with_driver b k n h d = record {
     | inl o ↦ (let i = h.drivers j m o in record { width = i.width; port = i.port; net = i.net })
     | inr o ↦ rw (o.0, ← o.1) (record { width = d.width; port = d.port; net = d.net })
   ];
+  few_memories = h.few_memories;
+  memories = h.memories;
 }
 
 -- a next net changes nothing else of a line
@@ -201,6 +246,14 @@ kept_widths b b' keeps n w h =
     let l = keeps.lines n o.0 o.1 in
     width_at-is b'.lines n l.later l.is ∙ ap Some (kept_width o.0 l.later l.kept ∙ o.2)
 
+-- an address and a word of a kept memory
+kept_inside : (memory later : Memory) (address : ℕ) → IsKeptMemory memory later → address < 2 ^ memory.address_bits → address < 2 ^ later.address_bits
+kept_inside memory later address k lt = subst (λ n. address < 2 ^ n) (sym k.address_bits) lt
+
+written_again : (o p : Option MemWrite) (P : MemWrite → Type 0) → IfSome o (λ write. p ≡ Some write) → IfSome p P → IfSome o P
+written_again None p P k h = tt
+written_again (Some write) p P k h = subst (λ (q : Option MemWrite). IfSome q P) k h
+
 kept_valuation : (b b' : Netlist) → Keeps b b' → (cycle : Cycle) → IsValuation b' cycle → IsValuation b cycle
 kept_valuation b b' keeps cycle v = record {
   nets = λ n line at.
@@ -211,13 +264,22 @@ kept_valuation b b' keeps cycle v = record {
         fits = subst (λ w. cycle.net n < 2 ^ w) same holds.fits;
         value = kept_value b.lines b'.lines (kept_widths b b' keeps) cycle line l.later (λ x. cycle.net n ≡ x) l.kept holds.value;
       });
+  words = λ m memory at address lt.
+      (let l = keeps.memories m memory at in
+      subst (λ w. cycle.cell m address < 2 ^ w) l.kept.width (v.words m l.later l.is address (kept_inside memory l.later address l.kept lt)));
 }
 
 kept_run : (b b' : Netlist) → Keeps b b' → (run : Run) (cycles : ℕ) → IsRun b' run cycles → IsRun b run cycles
 kept_run b b' keeps run cycles r = record {
   valuations = λ c h. kept_valuation b b' keeps (cycle_of run c) (r.valuations c h);
   starts = λ h. record { registers = λ n line at. (let l = keeps.lines n line at in kept_reset line l.later (λ x. run.net 0 n ≡ x) l.kept ((r.starts h).registers n l.later l.is)) };
-  steps = λ c h. record { registers = λ n line at. (let l = keeps.lines n line at in kept_next line l.later (λ m. run.net (c + 1) n ≡ run.net c m) l.kept ((r.steps c h).registers n l.later l.is)) };
+  steps = λ c h. record {
+    registers = λ n line at. (let l = keeps.lines n line at in kept_next line l.later (λ m. run.net (c + 1) n ≡ run.net c m) l.kept ((r.steps c h).registers n l.later l.is));
+    words = λ m memory at address lt.
+        (let l = keeps.memories m memory at in
+        written_again memory.write l.later.write (λ write. run.cell (c + 1) m address ≡ word_after (cycle_of run c) write m address) l.kept.write
+        ((r.steps c h).words m l.later l.is address (kept_inside memory l.later address l.kept lt)));
+  };
 }
 
 kept_count : (b b' : Netlist) → Keeps b b' → (length b.lines ≤ length b'.lines) ⊎ (length b'.lines < length b.lines) → length b.lines ≤ length b'.lines
@@ -240,6 +302,8 @@ Extends-keeps b b' keeps = record {
   nets = λ n w h. (let o = width_at-line b.lines n w h in
       let l = keeps.lines n o.0 o.1 in
       width_at-is b'.lines n l.later l.is ∙ ap Some (kept_width o.0 l.later l.kept ∙ o.2));
+  memories = λ mem h. (let l = keeps.memories mem.number h.memory h.is in
+      record { memory = l.later; is = l.is; width = l.kept.width ∙ h.width; address_bits = l.kept.address_bits ∙ h.address_bits });
   valuations = kept_valuation b b' keeps;
   runs = kept_run b b' keeps;
   count = kept_count b b' keeps (compared (length b.lines) (length b'.lines));
@@ -250,12 +314,20 @@ kept_twice x y z (inl e) k = subst (λ (l : Line). IsKept l z) e k
 kept_twice x y z (inr s) (inl f) = inr (record { waits = s.waits; next = s.next; is = f ∙ s.is })
 kept_twice x y z (inr s) (inr t) = absurd (let set : y.waits ≡ false = ap (λ (l : Line). l.waits) s.is in let waits = t.waits in cc)
 
+write_twice : (x y z : Option MemWrite) → IfSome x (λ write. y ≡ Some write) → IfSome y (λ write. z ≡ Some write) → IfSome x (λ write. z ≡ Some write)
+write_twice None y z p q = tt
+write_twice (Some write) y z p q = subst (λ (o : Option MemWrite). IfSome o (λ w. z ≡ Some w)) p q
+
+memory_twice : (x y z : Memory) → IsKeptMemory x y → IsKeptMemory y z → IsKeptMemory x z
+memory_twice x y z p q = record { width = q.width ∙ p.width; address_bits = q.address_bits ∙ p.address_bits; write = write_twice x.write y.write z.write p.write q.write }
+
 pub Keeps-chain : (a b c : Netlist) → Keeps a b → Keeps b c → Keeps a c
 Keeps-chain a b c p q = record {
   name = q.name ∙ p.name;
   ports = q.ports ∙ p.ports;
   lines = λ n line at. (let l = p.lines n line at in let m = q.lines n l.later l.is in record { later = m.later; is = m.is; kept = kept_twice line l.later m.later l.kept m.kept });
   drivers = λ k n d. q.drivers k n (p.drivers k n d);
+  memories = λ m memory at. (let l = p.memories m memory at in let k = q.memories m l.later l.is in record { later = k.later; is = k.is; kept = memory_twice memory l.later k.later l.kept k.kept });
 }
 
 Keeps-appended : (b : Netlist) (l : Line) → Keeps b (appended b l)
@@ -264,6 +336,7 @@ Keeps-appended b l = record {
   ports = refl;
   lines = λ n line at. record { later = line; is = slice_get-front b.lines _ n line at; kept = inl refl };
   drivers = λ k n d. d;
+  memories = λ m memory at. record { later = memory; is = at; kept = kept_same memory };
 }
 
 pub Extends-appended : (b : Netlist) (l : Line) → Extends b (appended b l)
@@ -275,13 +348,14 @@ Keeps-with_driver b k n u = record {
   ports = refl;
   lines = λ m line at. record { later = line; is = at; kept = inl refl };
   drivers = λ j m d. driver-kept b.drivers k n j m u d;
+  memories = λ j memory at. record { later = memory; is = at; kept = kept_same memory };
 }
 
 pub Extends-with_driver : (b : Netlist) (k n : ℕ) → driver_of b k ≡ None → Extends b (with_driver b k n)
 Extends-with_driver b k n u = Extends-keeps b (with_driver b k n) (Keeps-with_driver b k n u)
 
 pub Extends-same : (b b' : Netlist) → b' ≡ b → Extends b b'
-Extends-same b b' e = rw e (Extends-keeps b b (record { name = refl; ports = refl; lines = λ n line at. record { later = line; is = at; kept = inl refl }; drivers = λ k n d. d }))
+Extends-same b b' e = rw e (Extends-keeps b b (record { name = refl; ports = refl; lines = λ n line at. record { later = line; is = at; kept = inl refl }; drivers = λ k n d. d; memories = λ m memory at. record { later = memory; is = at; kept = kept_same memory } }))
 
 -- what a new line says in each valuation
 pub Always-appended : (b : Netlist) (l : Line) → Always (appended b l) (λ cycle. NetHolds (appended b l).lines cycle (length b.lines) l)
@@ -297,6 +371,10 @@ input_line b k w h i =
 -- the fields of a builder with one more line, and with one more driver
 pub pushed : (b now : Netlist) (lines : List Line) (l : Line) → b ≡ now → lines ≡ b.lines ++ l ∷ [] → record b { lines = lines } ≡ appended now l
 pushed b now lines l v p = rw (p, ← v) refl
+
+-- and one to which nothing was pushed
+pub unpushed : (b now : Netlist) (lines : List Line) → b ≡ now → lines ≡ b.lines → record b { lines = lines } ≡ now
+unpushed b now lines v p = ap (λ (ls : List Line). record b { lines = ls }) p ∙ v
 
 pub input_width : (b : Netlist) (k w n : ℕ) → IsWellMade b → n ≡ input_net b.ports k → IsInputPort b.ports k w → HasWidth b n w
 input_width b k w n h e i = rw e (width_at-is b.lines (input_net b.ports k) (line_of w (Input k)) (input_line b k w h i))
@@ -344,6 +422,7 @@ register_next (Not a) m h = cc
 register_next (Any a) m h = cc
 register_next (Mux s a b) m h = cc
 register_next (Slice a high low) m h = cc
+register_next (Read k a) m h = cc
 
 next_input : (e : Equation) (m : ℕ) → is_input (next_set e m) ≡ is_input e
 next_input (Reg reset next) m = refl
@@ -353,9 +432,9 @@ register_input : (e : Equation) → is_register e ≡ true → is_input e ≡ fa
 register_input (Input port) h = cc
 register_input _ h = refl
 
-next_sound : (ports : List PortLine) (lines : List Line) (n w : ℕ) (e : Equation) (m : ℕ) → IsSound ports lines n w e → IsSound ports lines n w (next_set e m)
-next_sound ports lines n w (Reg reset next) m h = h
-next_sound ports lines n w _ m h = h
+next_sound : (ports : List PortLine) (memories : List Memory) (lines : List Line) (n w : ℕ) (e : Equation) (m : ℕ) → IsSound ports memories lines n w e → IsSound ports memories lines n w (next_set e m)
+next_sound ports memories lines n w (Reg reset next) m h = h
+next_sound ports memories lines n w _ m h = h
 
 -- line k of the netlist waits, and net m may be its next net
 pub record MaySet (b : Netlist) (k m : ℕ) (line : Line) : Type 0 where
@@ -402,14 +481,14 @@ set_inputs b k m line is register h = record {
       let other : is_input line.equation ≡ false = register_input line.equation register in
       cc)
 
-set_line : (b : Netlist) (k m : ℕ) (line : Line) → IsWellMade b → MaySet b k m line → IsSoundLine b.ports (set b.lines k (with_next line m)) k (with_next line m)
+set_line : (b : Netlist) (k m : ℕ) (line : Line) → IsWellMade b → MaySet b k m line → IsSoundLine b.ports b.memories (set b.lines k (with_next line m)) k (with_next line m)
 set_line b k m line h s =
     let old = h.lines k line s.is in
     let wider = set_wider b k m line s.is in
     record {
       some_bit = old.some_bit;
       small = old.small;
-      equation = next_sound b.ports (set b.lines k (with_next line m)) k line.width line.equation m (IsSound-wider b.ports b.lines (set b.lines k (with_next line m)) k line.width line.equation wider old.equation);
+      equation = next_sound b.ports b.memories (set b.lines k (with_next line m)) k line.width line.equation m (IsSound-wider b.ports b.memories b.memories b.lines (set b.lines k (with_next line m)) k line.width line.equation (same_memories b.memories) wider old.equation);
       next = subst (λ o. IfSome o (λ j. width_at (set b.lines k (with_next line m)) j ≡ Some line.width)) (sym (register_next line.equation m (old.waits s.waits))) (wider m line.width s.next);
       waits = λ e. cc;
     }
@@ -422,11 +501,13 @@ IsWellMade-with_next b k m line h s =
       few = rw length-set h.few;
       inputs = set_inputs b k m line s.is ((h.lines k line s.is).waits s.waits) h.inputs;
       lines = λ n x at. elim (slice_get-set_newly b.lines k n (with_next line m) x at) [
-        | inl o ↦ IsSoundLine-wider b.ports b.lines (set b.lines k (with_next line m)) n x wider (h.lines n x o.1)
+        | inl o ↦ IsSoundLine-wider b.ports b.memories b.memories b.lines (set b.lines k (with_next line m)) n x (same_memories b.memories) wider (h.lines n x o.1)
         | inr o ↦ rw (o.0, ← o.1) (set_line b k m line h s)
       ];
       places = h.places;
       drivers = λ j n d. (let i = h.drivers j n d in record { width = i.width; port = i.port; net = wider n i.width i.net });
+      few_memories = h.few_memories;
+      memories = λ j memory at. IsSoundMemory-wider b.lines (set b.lines k (with_next line m)) memory wider (h.memories j memory at);
     }
 
 Keeps-with_next : (b : Netlist) (k m : ℕ) (line : Line) → MaySet b k m line → Keeps b (with_line b k (with_next line m))
@@ -438,6 +519,7 @@ Keeps-with_next b k m line s = record {
     | inr o ↦ record { later = with_next line m; is = o.1; kept = inr (was_set x (subst (λ j. slice_get b.lines j ≡ Some x) o.0 at)) }
   ];
   drivers = λ j n d. d;
+  memories = λ j memory at. record { later = memory; is = at; kept = kept_same memory };
 } where
   was_set : (x : Line) → slice_get b.lines k ≡ Some x → IsSetFrom x (with_next line m)
   was_set x e = (let is = s.is in let same : line ≡ x = cc in
@@ -480,7 +562,7 @@ waiting-unset b k m n line h = elim (slice_get-set_newly b.lines k n (with_next 
 net_within : (b : Netlist) (n w : ℕ) → HasWidth b n w → n < length b.lines
 net_within b n w h = let o = width_at-line b.lines n w h in slice_get-within b.lines n o.0 o.1
 
-operand_known : (b : Netlist) (x a w : ℕ) → x ≡ a → HasWidth b a w → IsOperand b.lines (length b.lines) x w
+pub operand_known : (b : Netlist) (x a w : ℕ) → x ≡ a → HasWidth b a w → IsOperand b.lines (length b.lines) x w
 operand_known b x a w e h = rw e (record { below = net_within b a w h; width = h })
 
 pub operands_known : (b : Netlist) (x y a c w v : ℕ) → x ≡ a → y ≡ c → HasWidth b a w → HasWidth b c v → w ≡ v → AreOperands b.lines (length b.lines) x y w
@@ -493,7 +575,7 @@ pub any_known : (b : Netlist) (x a w : ℕ) → x ≡ a → HasWidth b a w → I
 any_known b x a w e h = record { width = w; operand = operand_known b x a w e h; one_bit = refl }
 
 -- a line that was read at its place
-pub line_read : (lines : List Line) (k n : ℕ) (line : Line) → k ≡ n → n < length lines → line ≡ get_or lines k line → slice_get lines n ≡ Some line
+pub line_read : {X : Type 0} (lines : List X) (k n : ℕ) (line : X) → k ≡ n → n < length lines → line ≡ get_or lines k line → slice_get lines n ≡ Some line
 line_read lines k n line e h is = slice_get_read lines (length lines) n line refl h (subst (λ j. line ≡ get_or lines j line) e is)
 
 -- a line that was read at a net has its width, which is within the bounds

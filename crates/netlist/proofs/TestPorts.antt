@@ -1,10 +1,12 @@
 -- The header of the tests' module.
-use Rattle.std.proofs.Common.{◌≡◌, ◌≢◌, ℕ, zero, suc, ◌<◌, ◌≤◌, List, [], ◌∷◌, length, get_or, true, false, refl, arith}
+use Rattle.std.proofs.Common.{◌≡◌, ◌≢◌, ℕ, zero, suc, ◌<◌, ◌≤◌, List, [], ◌∷◌, length, slice_get, get_or, Some, true, false, refl, subst, arith}
 use Rattle.std.specs.Prelude.{codes, All}
 use Rattle.std.specs.Str.{bytes_eq}
 use Rattle.netlist.specs.declared.line.PortLine.{PortLine}
+use Rattle.netlist.specs.declared.line.Line.{Line}
+use Rattle.netlist.specs.declared.line.Memory.{Memory}
 use Rattle.netlist.specs.Names.{IsPortName}
-use Rattle.netlist.specs.Netlists.{IsHeader, IsOutputPort}
+use Rattle.netlist.specs.Netlists.{Netlist, IsHeader, IsOutputPort, IsClocked, IsWritten, WaitsForWrite}
 use Rattle.netlist.proofs.Ports.{names_equal}
 
 abbrev pub two : List PortLine
@@ -44,3 +46,15 @@ pub only_output : (k w : ℕ) → IsOutputPort two k w → k ≡ 0
 only_output zero w i = refl
 only_output (suc zero) w i = let e = i.is in let o = i.output in cc
 only_output (suc (suc k)) w i = let e = i.is in cc
+
+-- the same memories wait for their writes
+pub same_wait : (old new : Netlist) → new.memories ≡ old.memories → (m : ℕ) → WaitsForWrite new m → WaitsForWrite old m
+same_wait old new e m waiting = record { memory = waiting.memory; is = subst (λ (ms : List Memory). slice_get ms m ≡ Some waiting.memory) e waiting.is; waits = waiting.waits }
+
+-- and the same ones have them
+pub still_written : (old new : Netlist) → new.memories ≡ old.memories → IsWritten old → IsWritten new
+still_written old new e h m waiting = h m (same_wait old new e m waiting)
+
+-- the same lines have their next nets
+pub still_clocked : (old new : Netlist) → new.lines ≡ old.lines → IsClocked old → IsClocked new
+still_clocked old new e h n waiting = h n (record { line = waiting.line; is = subst (λ (ls : List Line). slice_get ls n ≡ Some waiting.line) e waiting.is; waits = waiting.waits })

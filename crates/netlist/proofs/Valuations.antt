@@ -7,10 +7,11 @@ use Rattle.std.proofs.lemmas.Nat.{or_lt, xor_lt, pow_pos, pow-add, mul-add-lt}
 use Rattle.av_base.specs.Word.{word, concat_of}
 use Rattle.netlist.specs.declared.line.Line.{Line}
 use Rattle.netlist.specs.declared.line.PortLine.{PortLine}
+use Rattle.netlist.specs.declared.line.Memory.{Memory}
 use Rattle.netlist.specs.declared.line.Equation.{Equation}
-use Rattle.netlist.specs.declared.line.Equation.TheVariants.{Input, Constant, And, Or, Xor, Add, Sub, Eq, Less, Concat, Not, Any, Mux, Slice, Reg}
-use Rattle.netlist.specs.Netlists.{Netlist, IsInputPort, IsSound, IsWellMade, HasWidth, width_at, is_register, next_in, next_of}
-use Rattle.netlist.specs.Runs.{Cycle, value_of, IsValuation, reset_of, InputsFit, StateFits, SameInputs, SameState, SameNets, HasValuation}
+use Rattle.netlist.specs.declared.line.Equation.TheVariants.{Input, Constant, And, Or, Xor, Add, Sub, Eq, Less, Concat, Not, Any, Mux, Slice, Reg, Read}
+use Rattle.netlist.specs.Netlists.{Netlist, IsInputPort, IsReadOf, IsSound, IsWellMade, HasWidth, width_at, is_register, next_in, next_of}
+use Rattle.netlist.specs.Runs.{Cycle, value_of, WordsFit, IsValuation, reset_of, InputsFit, StateFits, SameInputs, SameState, SameNets, HasValuation}
 use Rattle.netlist.proofs.Lists.{slice_get-some, slice_get-within, width_at-line, width_at-is}
 
 -- the cycle with these values of the nets
@@ -65,8 +66,8 @@ completed_at lines given n line at =
     ∙ ap (unwrap_or (value_of lines (with_nets given (nets_after lines given n)) line.width line.equation)) (early lines given n n (omega arith))
 
 -- the value of an equation hangs on its operands alone, which stand below it
-value_same : (b : Netlist) (x y : Cycle) (n w : ℕ) (e : Equation) → IsSound b.ports b.lines n w e → ((k v : ℕ) → IsInputPort b.ports k v → x.input k ≡ y.input k) →
-    ((m a : ℕ) → x.cell m a ≡ y.cell m a) → ((m : ℕ) → m < n → x.net m ≡ y.net m) → value_of b.lines x w e ≡ value_of b.lines y w e
+value_same : (b : Netlist) (x y : Cycle) (n w : ℕ) (e : Equation) → IsSound b.ports b.memories b.lines n w e → ((k v : ℕ) → IsInputPort b.ports k v → x.input k ≡ y.input k) →
+    ((m a : ℕ) → IsReadOf b.memories b.lines n w m a → x.cell m (x.net a) ≡ y.cell m (x.net a)) → ((m : ℕ) → m < n → x.net m ≡ y.net m) → value_of b.lines x w e ≡ value_of b.lines y w e
 value_same b x y n w (Input port) s inputs cells nets = ap Some (inputs port w s)
 value_same b x y n w (Constant value) s inputs cells nets = refl
 value_same b x y n w (And a c) s inputs cells nets = rw (nets a s.left.below, nets c s.right.below) refl
@@ -82,6 +83,7 @@ value_same b x y n w (Any a) s inputs cells nets = rw (nets a s.operand.below) r
 value_same b x y n w (Mux t a c) s inputs cells nets = rw (nets t s.test.below, nets a s.branches.left.below, nets c s.branches.right.below) refl
 value_same b x y n w (Slice a high low) s inputs cells nets = rw (nets a s.operand.below) refl
 value_same b x y n w (Reg reset next) s inputs cells nets = refl
+value_same b x y n w (Read m a) s inputs cells nets = ap Some (cells m a s ∙ ap (y.cell m) (nets a s.address.below))
 
 -- a register gives no value; the others give one
 no_value : (lines : List Line) (cycle : Cycle) (w : ℕ) (e : Equation) → is_register e ≡ true → value_of lines cycle w e ≡ None
@@ -100,8 +102,9 @@ no_value lines cycle w (Not a) h = cc
 no_value lines cycle w (Any a) h = cc
 no_value lines cycle w (Mux s a b) h = cc
 no_value lines cycle w (Slice a high low) h = cc
+no_value lines cycle w (Read m a) h = cc
 
-some_value : (b : Netlist) (cycle : Cycle) (n w : ℕ) (e : Equation) → IsSound b.ports b.lines n w e → is_register e ≡ false → (x : ℕ) × (value_of b.lines cycle w e ≡ Some x)
+some_value : (b : Netlist) (cycle : Cycle) (n w : ℕ) (e : Equation) → IsSound b.ports b.memories b.lines n w e → is_register e ≡ false → (x : ℕ) × (value_of b.lines cycle w e ≡ Some x)
 some_value b cycle n w (Reg reset next) s h = cc
 some_value b cycle n w (Concat a c) s h = (_, ap (option_map (λ k. (concat_of (word (w - k) (cycle.net a)) (word k (cycle.net c))).bits)) s.low.width)
 some_value b cycle n w _ s h = (_, refl)
@@ -128,7 +131,7 @@ bit_fits false x y w v e h k is = let small : v < 2 ^ 1 = omega arith in rw e sm
 mod_fits : (x w v : ℕ) → x % 2 ^ w ≡ v → v < 2 ^ w
 mod_fits x w v is = let p : 0 < 2 ^ w = pow_pos w in omega arith
 
-choice_fits : (t : Bool) (x y w v : ℕ) → x < 2 ^ w → y < 2 ^ w → (if t then x else y) ≡ v → v < 2 ^ w
+pub choice_fits : (t : Bool) (x y w v : ℕ) → x < 2 ^ w → y < 2 ^ w → (if t then x else y) ≡ v → v < 2 ^ w
 choice_fits true x y w v h k is = subst (λ u. u < 2 ^ w) is h
 choice_fits false x y w v h k is = subst (λ u. u < 2 ^ w) is k
 
@@ -137,64 +140,69 @@ joined_lt w v a b p q =
     let e : 2 ^ v * 2 ^ w ≡ 2 ^ (w + v) = grind (arith, pow-add) in
     rw (← e) (mul-add-lt a (2 ^ v) b (2 ^ w) p q)
 
-value_fits : (b : Netlist) (cycle : Cycle) (n w : ℕ) (e : Equation) → IsSound b.ports b.lines n w e → InputsFit b.ports cycle.input →
+value_fits : (b : Netlist) (cycle : Cycle) (n w : ℕ) (e : Equation) → IsSound b.ports b.memories b.lines n w e → InputsFit b.ports cycle.input → WordsFit b.memories cycle.cell →
     ((m v : ℕ) → m < n → HasWidth b m v → cycle.net m < 2 ^ v) → (x : ℕ) → value_of b.lines cycle w e ≡ Some x → x < 2 ^ w
-value_fits b cycle n w (Input port) s inputs nets x e =
+value_fits b cycle n w (Input port) s inputs words nets x e =
     let is : cycle.input port ≡ x = cc in
     subst (λ v. v < 2 ^ w) is (inputs port w s)
-value_fits b cycle n w (Constant value) s inputs nets x e =
+value_fits b cycle n w (Constant value) s inputs words nets x e =
     let is : value.bits ≡ x = cc in
     subst (λ v. v < 2 ^ w) is (subst (λ v. value.bits < 2 ^ v) s.width s.word.fits)
-value_fits b cycle n w (And a c) s inputs nets x e =
+value_fits b cycle n w (And a c) s inputs words nets x e =
     let is : bit_and (cycle.net a) (cycle.net c) ≡ x = cc in
     subst (λ v. v < 2 ^ w) is (and_lt w (cycle.net a) (cycle.net c) (nets a w s.left.below s.left.width) (nets c w s.right.below s.right.width))
-value_fits b cycle n w (Or a c) s inputs nets x e =
+value_fits b cycle n w (Or a c) s inputs words nets x e =
     let is : bit_or (cycle.net a) (cycle.net c) ≡ x = cc in
     subst (λ v. v < 2 ^ w) is (or_lt w (cycle.net a) (cycle.net c) (nets a w s.left.below s.left.width) (nets c w s.right.below s.right.width))
-value_fits b cycle n w (Xor a c) s inputs nets x e =
+value_fits b cycle n w (Xor a c) s inputs words nets x e =
     let is : bit_xor (cycle.net a) (cycle.net c) ≡ x = cc in
     subst (λ v. v < 2 ^ w) is (xor_lt w (cycle.net a) (cycle.net c) (nets a w s.left.below s.left.width) (nets c w s.right.below s.right.width))
-value_fits b cycle n w (Add a c) s inputs nets x e =
+value_fits b cycle n w (Add a c) s inputs words nets x e =
     let is : (cycle.net a + cycle.net c) % 2 ^ w ≡ x = cc in mod_fits (cycle.net a + cycle.net c) w x is
-value_fits b cycle n w (Sub a c) s inputs nets x e =
+value_fits b cycle n w (Sub a c) s inputs words nets x e =
     let is : (cycle.net a + (2 ^ w - cycle.net c)) % 2 ^ w ≡ x = cc in mod_fits (cycle.net a + (2 ^ w - cycle.net c)) w x is
-value_fits b cycle n w (Eq a c) s inputs nets x e =
+value_fits b cycle n w (Eq a c) s inputs words nets x e =
     let is : (if cycle.net a == cycle.net c then 1 else 0) ≡ x = cc in bit_fits (cycle.net a == cycle.net c) 1 0 w x s.one_bit (omega arith) (omega arith) is
-value_fits b cycle n w (Less a c) s inputs nets x e =
+value_fits b cycle n w (Less a c) s inputs words nets x e =
     let is : (if nat_lt (cycle.net a) (cycle.net c) then 1 else 0) ≡ x = cc in bit_fits (nat_lt (cycle.net a) (cycle.net c)) 1 0 w x s.one_bit (omega arith) (omega arith) is
-value_fits b cycle n w (Concat a c) s inputs nets x e =
+value_fits b cycle n w (Concat a c) s inputs words nets x e =
     let known : option_map (λ k. cycle.net a * 2 ^ k + cycle.net c) (width_at b.lines c) ≡ Some (cycle.net a * 2 ^ s.low_width + cycle.net c) = ap (option_map (λ k. cycle.net a * 2 ^ k + cycle.net c)) s.low.width in
     let is : cycle.net a * 2 ^ s.low_width + cycle.net c ≡ x = cc in
     subst (λ v. v < 2 ^ w) is (rw s.sum (joined_lt s.high_width s.low_width (cycle.net a) (cycle.net c) (nets a s.high_width s.high.below s.high.width) (nets c s.low_width s.low.below s.low.width)))
-value_fits b cycle n w (Not a) s inputs nets x e =
+value_fits b cycle n w (Not a) s inputs words nets x e =
     let is : 2 ^ w - 1 - cycle.net a ≡ x = cc in
     let p : 0 < 2 ^ w = pow_pos w in omega arith
-value_fits b cycle n w (Any a) s inputs nets x e =
+value_fits b cycle n w (Any a) s inputs words nets x e =
     let is : (if cycle.net a == 0 then 0 else 1) ≡ x = cc in bit_fits (cycle.net a == 0) 0 1 w x s.one_bit (omega arith) (omega arith) is
-value_fits b cycle n w (Mux t a c) s inputs nets x e =
+value_fits b cycle n w (Mux t a c) s inputs words nets x e =
     let is : (if cycle.net t == 0 then cycle.net c else cycle.net a) ≡ x = cc in
     choice_fits (cycle.net t == 0) (cycle.net c) (cycle.net a) w x (nets c w s.branches.right.below s.branches.right.width) (nets a w s.branches.left.below s.branches.left.width) is
-value_fits b cycle n w (Slice a high low) s inputs nets x e =
+value_fits b cycle n w (Slice a high low) s inputs words nets x e =
     let is : cycle.net a / 2 ^ low % 2 ^ (high - low + 1) ≡ x = cc in
     rw s.bits (mod_fits (cycle.net a / 2 ^ low) (high - low + 1) x is)
-value_fits b cycle n w (Reg reset next) s inputs nets x e = cc
+value_fits b cycle n w (Reg reset next) s inputs words nets x e = cc
+value_fits b cycle n w (Read m a) s inputs words nets x e =
+    let is : cycle.cell m (cycle.net a) ≡ x = cc in
+    let inside = nets a s.memory.address_bits s.address.below s.address.width in
+    subst (λ v. v < 2 ^ w) is (subst (λ v. cycle.cell m (cycle.net a) < 2 ^ v) s.width (words m s.memory s.is (cycle.net a) inside))
 
-pub reset_fits : (ports : List PortLine) (lines : List Line) (n w : ℕ) (e : Equation) → IsSound ports lines n w e → is_register e ≡ true → unwrap_or (reset_of e) 0 < 2 ^ w
-reset_fits ports lines n w (Reg reset next) s h = subst (λ v. reset.bits < 2 ^ v) s.width s.word.fits
-reset_fits ports lines n w (Input port) sound h = cc
-reset_fits ports lines n w (Constant value) sound h = cc
-reset_fits ports lines n w (And a b) sound h = cc
-reset_fits ports lines n w (Or a b) sound h = cc
-reset_fits ports lines n w (Xor a b) sound h = cc
-reset_fits ports lines n w (Add a b) sound h = cc
-reset_fits ports lines n w (Sub a b) sound h = cc
-reset_fits ports lines n w (Eq a b) sound h = cc
-reset_fits ports lines n w (Less a b) sound h = cc
-reset_fits ports lines n w (Concat a b) sound h = cc
-reset_fits ports lines n w (Not a) sound h = cc
-reset_fits ports lines n w (Any a) sound h = cc
-reset_fits ports lines n w (Mux s a b) sound h = cc
-reset_fits ports lines n w (Slice a high low) sound h = cc
+pub reset_fits : (ports : List PortLine) (memories : List Memory) (lines : List Line) (n w : ℕ) (e : Equation) → IsSound ports memories lines n w e → is_register e ≡ true → unwrap_or (reset_of e) 0 < 2 ^ w
+reset_fits ports memories lines n w (Reg reset next) s h = subst (λ v. reset.bits < 2 ^ v) s.width s.word.fits
+reset_fits ports memories lines n w (Input port) sound h = cc
+reset_fits ports memories lines n w (Constant value) sound h = cc
+reset_fits ports memories lines n w (And a b) sound h = cc
+reset_fits ports memories lines n w (Or a b) sound h = cc
+reset_fits ports memories lines n w (Xor a b) sound h = cc
+reset_fits ports memories lines n w (Add a b) sound h = cc
+reset_fits ports memories lines n w (Sub a b) sound h = cc
+reset_fits ports memories lines n w (Eq a b) sound h = cc
+reset_fits ports memories lines n w (Less a b) sound h = cc
+reset_fits ports memories lines n w (Concat a b) sound h = cc
+reset_fits ports memories lines n w (Not a) sound h = cc
+reset_fits ports memories lines n w (Any a) sound h = cc
+reset_fits ports memories lines n w (Mux s a b) sound h = cc
+reset_fits ports memories lines n w (Slice a high low) sound h = cc
+reset_fits ports memories lines n w (Read m a) sound h = cc
 
 pub next_fits : (net : ℕ → ℕ) (w : ℕ) (o : Option ℕ) → IfSome o (λ m. net m < 2 ^ w) → unwrap_or (option_map net o) 0 < 2 ^ w
 next_fits net w None h = pow_pos w
@@ -206,7 +214,7 @@ pub given_value : (o : Option ℕ) (d v : ℕ) → v ≡ unwrap_or o d → IfSom
 given_value None d v e = tt
 given_value (Some x) d v e = e
 
-pub stepped_value : (o : Option ℕ) (net : ℕ → ℕ) (v : ℕ) → v ≡ unwrap_or (option_map net o) 0 → IfSome o (λ m. v ≡ net m)
+pub stepped_value : {X : Type 0} (o : Option X) (net : X → ℕ) (v : ℕ) → v ≡ unwrap_or (option_map net o) 0 → IfSome o (λ m. v ≡ net m)
 stepped_value None net v e = tt
 stepped_value (Some m) net v e = e
 
@@ -220,7 +228,7 @@ completed_value b given n line h at =
     let lt = slice_get-within b.lines n line at in
     completed_at b.lines given n line at
     ∙ ap (λ o. unwrap_or o (given.net n)) (value_same b (with_nets given (nets_after b.lines given n)) (completed b.lines given) n line.width line.equation (h.lines n line at).equation
-    (λ k v i. refl) (λ m a. refl) (λ m k. below_same b.lines given n m (omega arith) k))
+    (λ k v i. refl) (λ m a r. refl) (λ m k. below_same b.lines given n m (omega arith) k))
 
 pub completed_state : (b : Netlist) (given : Cycle) (n : ℕ) (line : Line) → IsWellMade b → slice_get b.lines n ≡ Some line → is_register line.equation ≡ true →
     (completed b.lines given).net n ≡ given.net n
@@ -231,12 +239,12 @@ completed_state b given n line h at state =
 fits_one : (b : Netlist) (given : Cycle) (n : ℕ) (line : Line) → IsWellMade b → InputsFit b.ports given.input → StateFits b given → slice_get b.lines n ≡ Some line →
     ((m v : ℕ) → m < n → HasWidth b m v → (completed b.lines given).net m < 2 ^ v) → (s : Bool) → is_register line.equation ≡ s → (completed b.lines given).net n < 2 ^ line.width
 fits_one b given n line h inputs state at below true e =
-    subst (λ v. v < 2 ^ line.width) (sym (completed_state b given n line h at e)) (state n line at e)
+    subst (λ v. v < 2 ^ line.width) (sym (completed_state b given n line h at e)) (state.registers n line at e)
 fits_one b given n line h inputs state at below false e =
     let sound = (h.lines n line at).equation in
     let some = some_value b (completed b.lines given) n line.width line.equation sound e in
     let is : (completed b.lines given).net n ≡ some.0 = completed_value b given n line h at ∙ ap (λ o. unwrap_or o (given.net n)) some.1 in
-    subst (λ v. v < 2 ^ line.width) (sym is) (value_fits b (completed b.lines given) n line.width line.equation sound inputs below some.0 some.1)
+    subst (λ v. v < 2 ^ line.width) (sym is) (value_fits b (completed b.lines given) n line.width line.equation sound inputs state.words below some.0 some.1)
 
 fits_below : (b : Netlist) (given : Cycle) → IsWellMade b → InputsFit b.ports given.input → StateFits b given →
     (k n v : ℕ) → n < k → HasWidth b n v → (completed b.lines given).net n < 2 ^ v
@@ -255,6 +263,7 @@ completed_valuation b given h inputs state = record {
     fits = completed_fits b given h inputs state n line.width (width_at-is b.lines n line at);
     value = given_value (value_of b.lines (completed b.lines given) line.width line.equation) (given.net n) _ (completed_value b given n line h at);
   };
+  words = state.words;
 }
 
 -- any inputs and state have a valuation
@@ -263,8 +272,14 @@ has_valuation_law b h given inputs state = record {
   cycle = completed b.lines given;
   valuation = completed_valuation b given h inputs state;
   inputs = refl;
-  state = record { registers = λ n line at e. sym (completed_state b given n line h at e); words = λ m a. refl };
+  state = record { registers = λ n line at e. sym (completed_state b given n line h at e); words = λ m memory at a lt. refl };
 }
+
+-- a net's value in a valuation fits
+pub valued_fits : (b : Netlist) (cycle : Cycle) → IsValuation b cycle → (m v : ℕ) → HasWidth b m v → cycle.net m < 2 ^ v
+valued_fits b cycle valuation m v has =
+    let at = width_at-line b.lines m v has in
+    subst (λ w. cycle.net m < 2 ^ w) at.2 ((valuation.nets m at.0 at.1).fits)
 
 -- and no second one
 same_one : (b : Netlist) (x y : Cycle) (n : ℕ) (line : Line) → IsWellMade b → IsValuation b x → IsValuation b y → SameInputs b x y → SameState b x y → slice_get b.lines n ≡ Some line →
@@ -273,7 +288,8 @@ same_one b x y n line h vx vy inputs state at below true e = state.registers n l
 same_one b x y n line h vx vy inputs state at below false e =
     let sound = (h.lines n line at).equation in
     let some = some_value b x n line.width line.equation sound e in
-    let other : value_of b.lines y line.width line.equation ≡ Some some.0 = sym (value_same b x y n line.width line.equation sound inputs state.words below) ∙ some.1 in
+    let other : value_of b.lines y line.width line.equation ≡ Some some.0 = sym (value_same b x y n line.width line.equation sound inputs
+    (λ m a r. state.words m r.memory r.is (x.net a) (valued_fits b x vx a r.memory.address_bits r.address.width)) below) ∙ some.1 in
     let left : x.net n ≡ some.0 = subst (λ o. IfSome o (λ v. x.net n ≡ v)) some.1 ((vx.nets n line at).value) in
     let right : y.net n ≡ some.0 = subst (λ o. IfSome o (λ v. y.net n ≡ v)) other ((vy.nets n line at).value) in
     left ∙ sym right

@@ -3,18 +3,22 @@ use Rattle.std.specs.Prelude.{◌≡◌, ◌≢◌, ℕ, ◌+◌, ◌-◌, ◌^�
 use Rattle.av_base.specs.Word.{IsWord}
 use Rattle.av_base.specs.declared.value.Val.{Val}
 use Rattle.netlist.specs.Names.{IsModuleName, IsPortName}
-use Rattle.netlist.specs.Nets.{NetValue}
+use Rattle.netlist.specs.Nets.{NetValue, MemValue}
 use Rattle.netlist.specs.declared.line.Equation.{Equation}
-use Rattle.netlist.specs.declared.line.Equation.TheVariants.{Input, Constant, And, Or, Xor, Add, Sub, Eq, Less, Concat, Not, Any, Mux, Slice, Reg}
+use Rattle.netlist.specs.declared.line.Equation.TheVariants.{Input, Constant, And, Or, Xor, Add, Sub, Eq, Less, Concat, Not, Any, Mux, Slice, Reg, Read}
 use Rattle.netlist.specs.declared.line.Line.{Line}
 use Rattle.netlist.specs.declared.line.PortLine.{PortLine}
+use Rattle.netlist.specs.declared.line.MemLine.{MemLine}
+use Rattle.netlist.specs.declared.line.Memory.{Memory}
+use Rattle.netlist.specs.declared.line.MemWrite.{MemWrite}
 
--- the module's name, its ports in header order, the line of each net, and for each port the net that drives it
+-- the module's name, its ports in header order, the line of each net, for each port the net that drives it, and the memories
 pub record Netlist : Type 0 where
   pub name : List ℕ
   pub ports : List PortLine
   pub lines : List Line
   pub drivers : List (Option ℕ)
+  pub memories : List Memory
 
 abbrev pub line_with : ℕ → Equation → Bool → Line
 line_with w e waits = record { width = w; equation = e; waits = waits }
@@ -34,6 +38,13 @@ HasWidth netlist n w = width_at netlist.lines n ≡ Some w
 -- the net is one of this netlist
 abbrev pub IsNet : Netlist → NetValue → Type 0
 IsNet netlist net = HasWidth netlist net.number net.width
+
+-- the memory is one of this netlist
+pub record IsMem (netlist : Netlist) (mem : MemValue) : Type 0 where
+  pub memory : Memory
+  pub is : slice_get netlist.memories mem.number ≡ Some memory
+  pub width : memory.width ≡ mem.width
+  pub address_bits : memory.address_bits ≡ mem.address_bits
 
 -- the net that drives port k, where one does
 abbrev pub driver_of : Netlist → ℕ → Option ℕ
@@ -120,35 +131,56 @@ pub record IsChoice (lines : List Line) (n w s a b : ℕ) : Type 0 where
   pub test : IsOperand lines n s 1
   pub branches : AreOperands lines n a b w
 
+-- the word of memory m at net a's address
+pub record IsReadOf (memories : List Memory) (lines : List Line) (n w m a : ℕ) : Type 0 where
+  pub memory : Memory
+  pub is : slice_get memories m ≡ Some memory
+  pub width : memory.width ≡ w
+  pub address : IsOperand lines n a memory.address_bits
+
 -- a value of this width
 pub record IsValue (value : Val) (w : ℕ) : Type 0 where
   pub word : IsWord value.width value.bits
   pub width : value.width ≡ w
 
--- what the equation of net n, of this width, asks of the ports and lines that it stands among
-abbrev pub IsSound : List PortLine → List Line → ℕ → ℕ → Equation → Type 0
-IsSound ports lines n w (Input port) = IsInputPort ports port w
-IsSound ports lines n w (Constant value) = IsValue value w
-IsSound ports lines n w (And a b) = AreOperands lines n a b w
-IsSound ports lines n w (Or a b) = AreOperands lines n a b w
-IsSound ports lines n w (Xor a b) = AreOperands lines n a b w
-IsSound ports lines n w (Add a b) = AreOperands lines n a b w
-IsSound ports lines n w (Sub a b) = AreOperands lines n a b w
-IsSound ports lines n w (Eq a b) = IsComparison lines n w a b
-IsSound ports lines n w (Less a b) = IsComparison lines n w a b
-IsSound ports lines n w (Concat a b) = IsConcatenation lines n w a b
-IsSound ports lines n w (Not a) = IsOperand lines n a w
-IsSound ports lines n w (Any a) = IsAnyOf lines n w a
-IsSound ports lines n w (Mux s a b) = IsChoice lines n w s a b
-IsSound ports lines n w (Slice a high low) = IsSliceOf lines n w a high low
-IsSound ports lines n w (Reg reset next) = IsValue reset w
+-- what the equation of net n, of this width, asks of the ports, memories and lines that it stands among
+abbrev pub IsSound : List PortLine → List Memory → List Line → ℕ → ℕ → Equation → Type 0
+IsSound ports memories lines n w (Input port) = IsInputPort ports port w
+IsSound ports memories lines n w (Constant value) = IsValue value w
+IsSound ports memories lines n w (And a b) = AreOperands lines n a b w
+IsSound ports memories lines n w (Or a b) = AreOperands lines n a b w
+IsSound ports memories lines n w (Xor a b) = AreOperands lines n a b w
+IsSound ports memories lines n w (Add a b) = AreOperands lines n a b w
+IsSound ports memories lines n w (Sub a b) = AreOperands lines n a b w
+IsSound ports memories lines n w (Eq a b) = IsComparison lines n w a b
+IsSound ports memories lines n w (Less a b) = IsComparison lines n w a b
+IsSound ports memories lines n w (Concat a b) = IsConcatenation lines n w a b
+IsSound ports memories lines n w (Not a) = IsOperand lines n a w
+IsSound ports memories lines n w (Any a) = IsAnyOf lines n w a
+IsSound ports memories lines n w (Mux s a b) = IsChoice lines n w s a b
+IsSound ports memories lines n w (Slice a high low) = IsSliceOf lines n w a high low
+IsSound ports memories lines n w (Reg reset next) = IsValue reset w
+IsSound ports memories lines n w (Read m a) = IsReadOf memories lines n w m a
 
-pub record IsSoundLine (ports : List PortLine) (lines : List Line) (n : ℕ) (line : Line) : Type 0 where
+pub record IsSoundLine (ports : List PortLine) (memories : List Memory) (lines : List Line) (n : ℕ) (line : Line) : Type 0 where
   pub some_bit : 1 ≤ line.width
   pub small : line.width ≤ 128
-  pub equation : IsSound ports lines n line.width line.equation
+  pub equation : IsSound ports memories lines n line.width line.equation
   pub next : IfSome (next_of line) (λ m. width_at lines m ≡ Some line.width)
   pub waits : line.waits ≡ true → is_register line.equation ≡ true
+
+-- the write of a memory: a bit, an address and a word of its width
+pub record IsWriteOf (lines : List Line) (memory : Memory) (write : MemWrite) : Type 0 where
+  pub enable : width_at lines write.enable ≡ Some 1
+  pub address : width_at lines write.address ≡ Some memory.address_bits
+  pub word : width_at lines write.word ≡ Some memory.width
+
+pub record IsSoundMemory (lines : List Line) (memory : Memory) : Type 0 where
+  pub some_bit : 1 ≤ memory.width
+  pub small : memory.width ≤ 128
+  pub some_address : 1 ≤ memory.address_bits
+  pub few_addresses : memory.address_bits ≤ 10
+  pub write : IfSome memory.write (λ write. IsWriteOf lines memory write)
 
 -- the name and the ports that a module may have
 pub record IsHeader (name : List ℕ) (ports : List PortLine) : Type 0 where
@@ -174,9 +206,11 @@ pub record IsWellMade (netlist : Netlist) : Type 0 where
   pub header : IsHeader netlist.name netlist.ports
   pub few : length netlist.lines ≤ 2 ^ 20
   pub inputs : BeginsWithInputs netlist.ports netlist.lines
-  pub lines : (n : ℕ) (line : Line) → slice_get netlist.lines n ≡ Some line → IsSoundLine netlist.ports netlist.lines n line
+  pub lines : (n : ℕ) (line : Line) → slice_get netlist.lines n ≡ Some line → IsSoundLine netlist.ports netlist.memories netlist.lines n line
   pub places : length netlist.drivers ≡ length netlist.ports
   pub drivers : (k n : ℕ) → driver_of netlist k ≡ Some n → IsDriver netlist k n
+  pub few_memories : length netlist.memories ≤ 2 ^ 16
+  pub memories : (m : ℕ) (memory : Memory) → slice_get netlist.memories m ≡ Some memory → IsSoundMemory netlist.lines memory
 
 -- each output port has its driver
 abbrev pub IsDriven : Netlist → Type 0
@@ -192,11 +226,22 @@ pub record IsWaiting (netlist : Netlist) (n : ℕ) : Type 0 where
 abbrev pub IsClocked : Netlist → Type 0
 IsClocked netlist = (n : ℕ) → ¬ IsWaiting netlist n
 
+-- memory m waits for its write
+pub record WaitsForWrite (netlist : Netlist) (m : ℕ) : Type 0 where
+  pub memory : Memory
+  pub is : slice_get netlist.memories m ≡ Some memory
+  pub waits : memory.write ≡ None
+
+-- each memory has its write
+abbrev pub IsWritten : Netlist → Type 0
+IsWritten netlist = (m : ℕ) → ¬ WaitsForWrite netlist m
+
 -- what each module keeps
 pub record IsModule (netlist : Netlist) : Type 0 where
   pub well_made : IsWellMade netlist
   pub driven : IsDriven netlist
   pub clocked : IsClocked netlist
+  pub written : IsWritten netlist
 
 -- no net drives the port yet
 abbrev pub undriven : PortLine → Option ℕ
@@ -204,7 +249,7 @@ undriven port = None
 
 -- a netlist with its input nets alone
 abbrev pub started : List ℕ → List PortLine → Netlist
-started name ports = record { name = name; ports = ports; lines = input_lines 0 ports; drivers = map undriven ports }
+started name ports = record { name = name; ports = ports; lines = input_lines 0 ports; drivers = map undriven ports; memories = [] }
 
 -- the netlist with one more line
 abbrev pub appended : Netlist → Line → Netlist
@@ -229,3 +274,26 @@ with_line netlist n line = record netlist { lines = slice_set netlist.lines n li
 -- the netlist with port k driven by net n
 abbrev pub with_driver : Netlist → ℕ → ℕ → Netlist
 with_driver netlist k n = record netlist { drivers = slice_set netlist.drivers k (Some n) }
+
+-- a memory that waits for its write
+abbrev pub memory_with : ℕ → ℕ → Memory
+memory_with w bits = record { width = w; address_bits = bits; write = None }
+
+-- a memory with its write, as a line tells it
+abbrev pub memory_of : MemLine → Memory
+memory_of line = record {
+  width = line.width;
+  address_bits = line.address_bits;
+  write = Some (record { enable = line.enable; address = line.address; word = line.word });
+}
+
+abbrev pub write_of : ℕ → ℕ → ℕ → MemWrite
+write_of e a w = record { enable = e; address = a; word = w }
+
+-- the netlist with one more memory
+abbrev pub with_memory : Netlist → Memory → Netlist
+with_memory netlist memory = record netlist { memories = netlist.memories ++ memory ∷ [] }
+
+-- the netlist in which memory m, which is this one, has its write
+abbrev pub with_write : Netlist → ℕ → Memory → MemWrite → Netlist
+with_write netlist m memory write = record netlist { memories = slice_set netlist.memories m (record memory { write = Some write }) }

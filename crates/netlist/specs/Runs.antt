@@ -1,10 +1,12 @@
 -- Valuations and runs of a netlist.
-use Rattle.std.specs.Prelude.{◌≡◌, ℕ, ◌+◌, ◌-◌, ◌^◌, ◌==◌, if◌then◌else◌, ◌<◌, ◌≤◌, true, List, length, slice_get, Option, Some, None, option_map, IfSome}
+use Rattle.std.specs.Prelude.{◌≡◌, ℕ, ◌+◌, ◌-◌, ◌^◌, ◌==◌, ◌&&◌, if◌then◌else◌, ◌<◌, ◌≤◌, true, List, length, slice_get, Option, Some, None, option_map, IfSome}
 use Rattle.av_base.specs.Word.{word, and_of, or_of, xor_of, add_of, sub_of, eq_of, less_of, concat_of, not_of, any_of, slice_of}
 use Rattle.netlist.specs.declared.line.Equation.{Equation}
-use Rattle.netlist.specs.declared.line.Equation.TheVariants.{Input, Constant, And, Or, Xor, Add, Sub, Eq, Less, Concat, Not, Any, Mux, Slice, Reg}
+use Rattle.netlist.specs.declared.line.Equation.TheVariants.{Input, Constant, And, Or, Xor, Add, Sub, Eq, Less, Concat, Not, Any, Mux, Slice, Reg, Read}
 use Rattle.netlist.specs.declared.line.Line.{Line}
 use Rattle.netlist.specs.declared.line.PortLine.{PortLine}
+use Rattle.netlist.specs.declared.line.Memory.{Memory}
+use Rattle.netlist.specs.declared.line.MemWrite.{MemWrite}
 use Rattle.netlist.specs.Netlists.{Netlist, IsInputPort, width_at, is_register, next_of}
 
 -- one cycle: the value at each input port, of each net, and of each word of each memory as the cycle begins
@@ -39,15 +41,21 @@ value_of lines cycle w (Any a) = Some (any_of (word w (cycle.net a))).bits
 value_of lines cycle w (Mux s a b) = Some (if cycle.net s == 0 then cycle.net b else cycle.net a)
 value_of lines cycle w (Slice a high low) = Some (slice_of (word w (cycle.net a)) high low).bits
 value_of lines cycle w (Reg reset next) = None
+value_of lines cycle w (Read m a) = Some (cycle.cell m (cycle.net a))
 
 -- net n has a value of its width, the one that its equation gives
 pub record NetHolds (lines : List Line) (cycle : Cycle) (n : ℕ) (line : Line) : Type 0 where
   pub fits : cycle.net n < 2 ^ line.width
   pub value : IfSome (value_of lines cycle line.width line.equation) (λ x. cycle.net n ≡ x)
 
--- the equations hold in one cycle, in no order; what registers and memories hold is free
+-- each word of each memory has its memory's width
+abbrev pub WordsFit : List Memory → (ℕ → ℕ → ℕ) → Type 0
+WordsFit memories cell = (m : ℕ) (memory : Memory) → slice_get memories m ≡ Some memory → (address : ℕ) → address < 2 ^ memory.address_bits → cell m address < 2 ^ memory.width
+
+-- the equations hold in one cycle, in no order; what registers and memories hold is free, but that it fits
 pub record IsValuation (netlist : Netlist) (cycle : Cycle) : Type 0 where
   pub nets : (n : ℕ) (line : Line) → slice_get netlist.lines n ≡ Some line → NetHolds netlist.lines cycle n line
+  pub words : WordsFit netlist.memories cycle.cell
 
 -- the value that a register has in the first cycle; None for the other equations
 abbrev pub reset_of : Equation → Option ℕ
@@ -58,9 +66,17 @@ reset_of _ = None
 pub record StartsAt (netlist : Netlist) (first : Cycle) : Type 0 where
   pub registers : (n : ℕ) (line : Line) → slice_get netlist.lines n ≡ Some line → IfSome (reset_of line.equation) (λ x. first.net n ≡ x)
 
--- the clock's edge between two cycles: each register takes what its next net was; one that waits for it takes anything
+-- the word of memory m at an address after the clock's edge: the write's where it is enabled and goes there, else the one before
+abbrev pub word_after : Cycle → MemWrite → ℕ → ℕ → ℕ
+word_after before write m address =
+    if (before.net write.enable == 1) && (before.net write.address == address) then before.net write.word else before.cell m address
+
+-- the clock's edge between two cycles: each register takes what its next net was, and each memory what its write puts; one that waits
+-- for either takes anything
 pub record Steps (netlist : Netlist) (before after : Cycle) : Type 0 where
   pub registers : (n : ℕ) (line : Line) → slice_get netlist.lines n ≡ Some line → IfSome (next_of line) (λ m. after.net n ≡ before.net m)
+  pub words : (m : ℕ) (memory : Memory) → slice_get netlist.memories m ≡ Some memory → (address : ℕ) → address < 2 ^ memory.address_bits
+      → IfSome memory.write (λ write. after.cell m address ≡ word_after before write m address)
 
 -- The run obeys the netlist for so many cycles. `reset` is no net and no port: it is 0 in each cycle, so
 -- the emitted text's reset branches are never taken, and the first cycle has the reset values.
@@ -81,9 +97,10 @@ Always netlist P = (cycle : Cycle) → IsValuation netlist cycle → P cycle
 abbrev pub InputsFit : List PortLine → (ℕ → ℕ) → Type 0
 InputsFit ports input = (k w : ℕ) → IsInputPort ports k w → input k < 2 ^ w
 
--- each register's value fits its width
-abbrev pub StateFits : Netlist → Cycle → Type 0
-StateFits netlist cycle = (n : ℕ) (line : Line) → slice_get netlist.lines n ≡ Some line → is_register line.equation ≡ true → cycle.net n < 2 ^ line.width
+-- each register's value and each word fits its width
+pub record StateFits (netlist : Netlist) (cycle : Cycle) : Type 0 where
+  pub registers : (n : ℕ) (line : Line) → slice_get netlist.lines n ≡ Some line → is_register line.equation ≡ true → cycle.net n < 2 ^ line.width
+  pub words : WordsFit netlist.memories cycle.cell
 
 -- two cycles with equal values at the input ports
 abbrev pub SameInputs : Netlist → Cycle → Cycle → Type 0
@@ -92,7 +109,8 @@ SameInputs netlist x y = (k w : ℕ) → IsInputPort netlist.ports k w → x.inp
 -- two cycles in which each register, and each word of each memory, is the same
 pub record SameState (netlist : Netlist) (x y : Cycle) : Type 0 where
   pub registers : (n : ℕ) (line : Line) → slice_get netlist.lines n ≡ Some line → is_register line.equation ≡ true → x.net n ≡ y.net n
-  pub words : (m address : ℕ) → x.cell m address ≡ y.cell m address
+  pub words : (m : ℕ) (memory : Memory) → slice_get netlist.memories m ≡ Some memory → (address : ℕ) → address < 2 ^ memory.address_bits
+      → x.cell m address ≡ y.cell m address
 
 -- two cycles in which each net has the same value
 abbrev pub SameNets : Netlist → Cycle → Cycle → Type 0

@@ -1,12 +1,13 @@
-ghost use Rattle.std.specs.Prelude.{◌≡◌, ℕ, ◌+◌, ◌-◌, ◌*◌, ◌/◌, ◌%◌, ◌^◌, ◌<◌, ◌≤◌, ◌↔◌, ◌⊎◌, ◌==◌, nat_lt, bit_and, bit_or, bit_xor, true, false, if◌then◌else◌, [], ◌∷◌, ◌++◌, length, map, slice_get, IfOk, OnErr, IfSome, Some, None};
-ghost use Rattle.netlist.specs.Netlists.{IsNet, driver_of, IsInputPort, IsOutputPort, IsHeader, IsWellMade, IsDriven, IsClocked, IsWaiting, IsModule, input_count, input_net, input_lines, is_input, is_register, IsSound, IsSoundLine, undriven, started, appended, with_driver, with_line, with_next, line_with, line_of, register_of};
-ghost use Rattle.netlist.specs.Nets.{net_of};
+ghost use Rattle.std.specs.Prelude.{◌≡◌, ℕ, ◌+◌, ◌-◌, ◌*◌, ◌/◌, ◌%◌, ◌^◌, ◌<◌, ◌≤◌, ◌↔◌, ◌⊎◌, ◌==◌, ◌&&◌, nat_lt, bit_and, bit_or, bit_xor, true, false, if◌then◌else◌, [], ◌∷◌, ◌++◌, length, map, slice_get, IfOk, OnErr, IfSome, Some, None};
+ghost use Rattle.netlist.specs.Netlists.{IsNet, driver_of, IsInputPort, IsOutputPort, IsHeader, IsWellMade, IsDriven, IsClocked, IsWaiting, IsWritten, WaitsForWrite, IsMem, IsModule, input_count, input_net, input_lines, is_input, is_register, IsSound, IsSoundLine, undriven, started, appended, with_driver, with_line, with_next, line_with, line_of, register_of, memory_with, write_of, with_memory, with_write};
+ghost use Rattle.netlist.specs.Nets.{net_of, mem_of};
 ghost use Rattle.netlist.specs.Runs.{Run, IsRun, NetHolds, Always};
 ghost use Rattle.netlist.specs.Longer.{Extends, GrowsByOne};
 ghost use Rattle.netlist.specs.declared.line.Line.{Line};
+ghost use Rattle.netlist.specs.declared.line.Memory.{Memory};
 
 use crate::fault::NetFault;
-use crate::line::{Equation, Line, Net, PortLine};
+use crate::line::{Equation, Line, Mem, MemWrite, Memory, Net, PortLine};
 use crate::module::Module;
 use av_base::{List, Text, Val};
 use std::alloc::Global;
@@ -15,16 +16,20 @@ use std::marker::Model;
 /// The most nets that a module has.
 const NET_LIMIT: usize = 1 << 20;
 
-/// A module that grows: an ordered list of equations, one for each net.
+/// The most memories that a module has.
+const MEMORY_LIMIT: usize = 1 << 16;
+
+/// A module that grows: an ordered list of equations, one for each net, and a list of memories.
 ///
 /// Each maker appends one equation and keeps all that stand there. After a refusal the builder is unchanged.
-/// A `Net` argument must be one of this builder.
+/// A `Net` or `Mem` argument must be one of this builder.
 #[derive(Debug, Drop)]
 pub struct Builder {
     name: Text,
     ports: List<PortLine>,
     lines: Vec<Line>,
     drivers: Vec<Option<u32>>,
+    memories: Vec<Memory>,
 }
 
 impl Model for Builder {
@@ -32,9 +37,9 @@ impl Model for Builder {
 
     ghost Value = { Netlist };
 
-    ghost view = { λ b. record { name = b.name; ports = b.ports; lines = b.lines.items; drivers = b.drivers.items } };
+    ghost view = { λ b. record { name = b.name; ports = b.ports; lines = b.lines.items; drivers = b.drivers.items; memories = b.memories.items } };
 
-    ghost invariant = { λ b. IsWellMade (record { name = b.name; ports = b.ports; lines = b.lines.items; drivers = b.drivers.items }) };
+    ghost invariant = { λ b. IsWellMade (record { name = b.name; ports = b.ports; lines = b.lines.items; drivers = b.drivers.items; memories = b.memories.items }) };
 }
 
 fn count_inputs(ports: &[PortLine]) -> usize
@@ -80,6 +85,17 @@ fn clocked(line: &Line, next: u32) -> Line
     }
 }
 
+/// The memory with its write.
+fn written(memory: &Memory, write: MemWrite) -> Memory
+    ensures { result ≡ record { width = memory.now.width; address_bits = memory.now.address_bits; write = Some write } }
+{
+    Memory {
+        width: memory.width,
+        address_bits: memory.address_bits,
+        write: Some(write),
+    }
+}
+
 /// No driver yet for any port.
 fn no_drivers(alloc: Global, ports: &[PortLine]) -> Result<Vec<Option<u32>>, NetFault>
     ensures drivers { IfOk result (λ v. v.items ≡ map undriven ports.now) }
@@ -99,6 +115,7 @@ impl Builder {
         ensures started { IfOk result (λ b. b ≡ started name ports) }
         ensures well_made { IfOk result (λ b. IsWellMade b) }
         ensures clocked { IfOk result (λ b. IsClocked b) }
+        ensures written { IfOk result (λ b. IsWritten b) }
         ensures undriven { IfOk result (λ b. (k : ℕ) → driver_of b k ≡ None) }
         ensures full { (result ≡ Err NetFault.TooManyNets) ↔ (2 ^ 20 < input_count ports) }
     {
@@ -112,6 +129,7 @@ impl Builder {
             ports,
             lines,
             drivers,
+            memories: Vec::new(alloc),
         })
     }
 
@@ -139,7 +157,7 @@ impl Builder {
 
     /// One more line.
     fn append(&mut self, width: u8, equation: Equation, waits: bool) -> Result<Net, NetFault>
-        requires sound { IsSoundLine self.old.ports self.old.lines (length self.old.lines) (line_with width equation waits) }
+        requires sound { IsSoundLine self.old.ports self.old.memories self.old.lines (length self.old.lines) (line_with width equation waits) }
         requires computed { is_input equation ≡ false }
         ensures line { IfOk result (λ n. (self.new ≡ appended self.old (line_with width equation waits)) × (n ≡ net_of (length self.old.lines) width)) }
         ensures net { IfOk result (λ n. IsNet self.new n × (n.width ≡ width)) }
@@ -147,6 +165,7 @@ impl Builder {
         ensures extends { Extends self.old self.new }
         ensures most { length self.new.lines ≤ length self.old.lines + 1 }
         ensures drivers { self.new.drivers ≡ self.old.drivers }
+        ensures memories { self.new.memories ≡ self.old.memories }
         ensures waits { (n : ℕ) → IsWaiting self.old n → IsWaiting self.new n }
         ensures newly { (n : ℕ) → IsWaiting self.new n → IsWaiting self.old n ⊎ (waits ≡ true) × (n ≡ length self.old.lines) }
         ensures err { OnErr result (self.new ≡ self.old) }
@@ -168,7 +187,7 @@ impl Builder {
     fn append_computed(&mut self, width: u8, equation: Equation) -> Result<Net, NetFault>
         requires some_bit { 1 ≤ width }
         requires small { width ≤ 128 }
-        requires sound { IsSound self.old.ports self.old.lines (length self.old.lines) width equation }
+        requires sound { IsSound self.old.ports self.old.memories self.old.lines (length self.old.lines) width equation }
         requires computed { is_input equation ≡ false }
         requires unclocked { is_register equation ≡ false }
         ensures line { IfOk result (λ n. (self.new ≡ appended self.old (line_of width equation)) × (n ≡ net_of (length self.old.lines) width)) }
@@ -185,7 +204,7 @@ impl Builder {
     /// One more line, of the width of a net.
     fn append_like(&mut self, net: Net, equation: Equation) -> Result<Net, NetFault>
         requires net_is { IsNet self.old net }
-        requires sound { IsSound self.old.ports self.old.lines (length self.old.lines) net.width equation }
+        requires sound { IsSound self.old.ports self.old.memories self.old.lines (length self.old.lines) net.width equation }
         requires computed { is_input equation ≡ false }
         requires unclocked { is_register equation ≡ false }
         ensures line { IfOk result (λ n. (self.new ≡ appended self.old (line_of net.width equation)) × (n ≡ net_of (length self.old.lines) net.width)) }
@@ -477,6 +496,7 @@ impl Builder {
         ensures extends { Extends self.old self.new }
         ensures most { length self.new.lines ≤ length self.old.lines + 1 }
         ensures drivers { self.new.drivers ≡ self.old.drivers }
+        ensures memories { self.new.memories ≡ self.old.memories }
         ensures still_wait { (n : ℕ) → IsWaiting self.old n → IsWaiting self.new n }
         ensures newly { (n : ℕ) → IsWaiting self.new n → IsWaiting self.old n ⊎ (n ≡ length self.old.lines) }
         ensures err { OnErr result (self.new ≡ self.old) }
@@ -507,11 +527,104 @@ impl Builder {
         ensures extends { Extends self.old self.new }
         ensures same_count { length self.new.lines ≡ length self.old.lines }
         ensures drivers { self.new.drivers ≡ self.old.drivers }
+        ensures memories { self.new.memories ≡ self.old.memories }
         ensures still_wait { (n : ℕ) → (n ≡ register.number → ⊥) → IsWaiting self.old n → IsWaiting self.new n }
         ensures no_more_wait { (n : ℕ) → IsWaiting self.new n → IsWaiting self.old n × (n ≡ register.number → ⊥) }
     {
         let number = register.number() as usize;
         self.lines[number] = clocked(&self.lines[number], next.number());
+    }
+
+    /// A memory whose words have so many bits and whose addresses so many; it makes no net, and its write is to be set.
+    pub fn memory(&mut self, width: u8, address_bits: u8) -> Result<Mem, NetFault>
+        requires some_bit { 1 ≤ width }
+        requires small { width ≤ 128 }
+        requires some_address { 1 ≤ address_bits }
+        requires few_addresses { address_bits ≤ 10 }
+        ensures memory { IfOk result (λ m. (self.new ≡ with_memory self.old (memory_with width address_bits)) × (m ≡ mem_of (length self.old.memories) width address_bits)) }
+        ensures mem { IfOk result (λ m. IsMem self.new m) }
+        ensures fits { IfOk result (λ m. Always self.new (λ cycle. (address : ℕ) → address < 2 ^ address_bits → cycle.cell m.number address < 2 ^ width)) }
+        ensures waits { IfOk result (λ m. WaitsForWrite self.new m.number) }
+        ensures extends { Extends self.old self.new }
+        ensures lines { self.new.lines ≡ self.old.lines }
+        ensures drivers { self.new.drivers ≡ self.old.drivers }
+        ensures still_wait { (m : ℕ) → WaitsForWrite self.old m → WaitsForWrite self.new m }
+        ensures newly { (m : ℕ) → WaitsForWrite self.new m → WaitsForWrite self.old m ⊎ (m ≡ length self.old.memories) }
+        ensures err { OnErr result (self.new ≡ self.old) }
+        ensures full { (result ≡ Err NetFault.TooManyNets) ↔ (length self.old.memories ≡ 2 ^ 16) }
+    {
+        let number = self.memories.len();
+        if number >= MEMORY_LIMIT {
+            return Err(NetFault::TooManyNets);
+        }
+        self.memories.push(Memory {
+            width,
+            address_bits,
+            write: None,
+        })?;
+        Ok(Mem::new(number as u32, width, address_bits))
+    }
+
+    /// The width of a memory's words in bits.
+    fn word_width(&self, mem: Mem) -> u8
+        requires { IsMem self.now mem }
+        ensures value { result ≡ mem.width }
+        ensures bounds { (1 ≤ result) × (result ≤ 128) }
+    {
+        self.memories[mem.number() as usize].width
+    }
+
+    /// The word that a memory has at an address before the clock's edge.
+    pub fn read_memory(&mut self, mem: Mem, address: Net) -> Result<Net, NetFault>
+        requires mem_is { IsMem self.old mem }
+        requires address_is { IsNet self.old address }
+        requires widths { address.width ≡ mem.address_bits }
+        ensures line { IfOk result (λ n. (self.new ≡ appended self.old (line_of mem.width (Equation.Read mem.number address.number))) × (n ≡ net_of (length self.old.lines) mem.width)) }
+        ensures net { IfOk result (λ n. IsNet self.new n × (n.width ≡ mem.width)) }
+        ensures value { IfOk result (λ n. Always self.new (λ cycle. (cycle.net n.number < 2 ^ mem.width) × (cycle.net n.number ≡ cycle.cell mem.number (cycle.net address.number)))) }
+        ensures extends { Extends self.old self.new }
+        ensures grows { GrowsByOne self.old self.new }
+        ensures err { OnErr result (self.new ≡ self.old) }
+        ensures full { (result ≡ Err NetFault.TooManyNets) ↔ (length self.old.lines ≡ 2 ^ 20) }
+    {
+        let width = self.word_width(mem);
+        self.append_computed(
+            width,
+            Equation::Read {
+                memory: mem.number(),
+                address: address.number(),
+            },
+        )
+    }
+
+    /// Gives a memory its write: where the bit `enable` is set, the clock's edge puts the word at the address.
+    pub fn set_write(&mut self, mem: Mem, enable: Net, address: Net, word: Net)
+        requires mem_is { IsMem self.old mem }
+        requires waits { WaitsForWrite self.old mem.number }
+        requires enable_is { IsNet self.old enable }
+        requires one_bit { enable.width ≡ 1 }
+        requires address_is { IsNet self.old address }
+        requires address_width { address.width ≡ mem.address_bits }
+        requires word_is { IsNet self.old word }
+        requires word_width { word.width ≡ mem.width }
+        ensures memory { (memory : Memory) → slice_get self.old.memories mem.number ≡ Some memory → self.new ≡ with_write self.old mem.number memory (write_of enable.number address.number word.number) }
+        ensures value { (run : Run) (cycles : ℕ) → IsRun self.new run cycles → (c : ℕ) → c + 1 < cycles → (place : ℕ) → place < 2 ^ mem.address_bits
+            → run.cell (c + 1) mem.number place ≡ (if (run.net c enable.number == 1) && (run.net c address.number == place) then run.net c word.number else run.cell c mem.number place) }
+        ensures extends { Extends self.old self.new }
+        ensures lines { self.new.lines ≡ self.old.lines }
+        ensures drivers { self.new.drivers ≡ self.old.drivers }
+        ensures still_wait { (m : ℕ) → (m ≡ mem.number → ⊥) → WaitsForWrite self.old m → WaitsForWrite self.new m }
+        ensures no_more_wait { (m : ℕ) → WaitsForWrite self.new m → WaitsForWrite self.old m × (m ≡ mem.number → ⊥) }
+    {
+        let number = mem.number() as usize;
+        self.memories[number] = written(
+            &self.memories[number],
+            MemWrite {
+                enable: enable.number(),
+                address: address.number(),
+                word: word.number(),
+            },
+        );
     }
 
     /// Lets a net drive an output port.
@@ -521,6 +634,7 @@ impl Builder {
         requires undriven { driver_of self.old port ≡ None }
         ensures driven { self.new ≡ with_driver self.old port net.number }
         ensures driver { driver_of self.new port ≡ Some net.number }
+        ensures memories { self.new.memories ≡ self.old.memories }
         ensures extends { Extends self.old self.new }
         ensures waits { (n : ℕ) → IsWaiting self.old n → IsWaiting self.new n }
         ensures no_more_wait { (n : ℕ) → IsWaiting self.new n → IsWaiting self.old n }
@@ -528,14 +642,21 @@ impl Builder {
         self.drivers[port as usize] = Some(net.number());
     }
 
-    /// The module, which is whole: each output is driven and each register has its next net.
+    /// The module, which is whole: each output is driven, each register has its next net and each memory its write.
     pub fn finish(self) -> Module
         requires driven { IsDriven self }
         requires clocked { IsClocked self }
+        requires written { IsWritten self }
         ensures same { result ≡ self }
         ensures module { IsModule result }
     {
-        Module::new(self.name, self.ports, self.lines, self.drivers)
+        Module::new(
+            self.name,
+            self.ports,
+            self.lines,
+            self.drivers,
+            self.memories,
+        )
     }
 
     /// What a builder keeps.

@@ -12,5 +12,5 @@ mod tests;
 pub use builder::Builder;
 pub use fault::NetFault;
 pub use laws::{agree, goes_on, has_run, has_valuation, keeps, prefix, signals};
-pub use line::{Equation, Line, Net, PortLine};
+pub use line::{Equation, Line, Mem, MemLine, MemWrite, Memory, Net, PortLine};
 pub use module::Module;

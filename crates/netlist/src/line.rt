@@ -1,5 +1,5 @@
 ghost use Rattle.std.specs.Prelude.{◌≡◌};
-ghost use Rattle.netlist.specs.Nets.{net_of};
+ghost use Rattle.netlist.specs.Nets.{net_of, mem_of};
 
 use av_base::{Text, Val};
 use std::marker::Model;
@@ -43,6 +43,43 @@ impl Net {
     }
 }
 
+/// A memory of a builder.
+#[derive(Clone, Copy, Debug, PartialEq, Eq)]
+pub struct Mem {
+    number: u32,
+    width: u8,
+    address_bits: u8,
+}
+
+impl Model for Mem {
+    ghost use Rattle.netlist.specs.Nets.{MemValue, mem_of};
+
+    ghost Value = { MemValue };
+
+    ghost view = { λ m. mem_of m.number m.width m.address_bits };
+
+    ghost inverse = { λ m. record { number = m.number; width = m.width; address_bits = m.address_bits } };
+}
+
+impl Mem {
+    pub(crate) fn new(number: u32, width: u8, address_bits: u8) -> Mem
+        ensures { result ≡ mem_of number width address_bits }
+    {
+        Mem {
+            number,
+            width,
+            address_bits,
+        }
+    }
+
+    /// The memory's place in its module's list, from 0.
+    pub(crate) fn number(self) -> u32
+        ensures { result ≡ self.number }
+    {
+        self.number
+    }
+}
+
 /// A port of a module: its width in bits, and whether the module drives it.
 #[derive(Debug, Drop)]
 pub struct PortLine {
@@ -51,7 +88,7 @@ pub struct PortLine {
     pub output: bool,
 }
 
-/// What gives a net its value. Nets and ports are named by number; the operators are those of `Val`.
+/// What gives a net its value. Nets, ports and memories are named by number; the operators are those of `Val`.
 #[derive(Clone, Copy, Debug, PartialEq, Eq)]
 pub enum Equation {
     Input { port: u32 },
@@ -69,6 +106,7 @@ pub enum Equation {
     Mux { s: u32, a: u32, b: u32 },
     Slice { a: u32, high: u8, low: u8 },
     Reg { reset: Val, next: u32 },
+    Read { memory: u32, address: u32 },
 }
 
 /// A net's width in bits and its equation.
@@ -79,4 +117,30 @@ pub struct Line {
     pub width: u8,
     pub equation: Equation,
     pub waits: bool,
+}
+
+/// The nets of a memory's write: at the clock's edge the word goes to the address where `enable` is 1.
+#[derive(Clone, Copy, Debug, PartialEq, Eq)]
+pub struct MemWrite {
+    pub enable: u32,
+    pub address: u32,
+    pub word: u32,
+}
+
+/// A memory: its width and its address bits; and its write, once it is set.
+#[derive(Clone, Copy, Debug, PartialEq, Eq)]
+pub struct Memory {
+    pub width: u8,
+    pub address_bits: u8,
+    pub write: Option<MemWrite>,
+}
+
+/// A memory of a module: at the clock's edge the word goes to the address where `enable` is 1.
+#[derive(Clone, Copy, Debug, PartialEq, Eq)]
+pub struct MemLine {
+    pub width: u8,
+    pub address_bits: u8,
+    pub enable: u32,
+    pub address: u32,
+    pub word: u32,
 }

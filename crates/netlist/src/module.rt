@@ -1,17 +1,18 @@
 ghost use Rattle.std.specs.Prelude.{◌≡◌, ℕ, ◌^◌, ◌<◌, ◌≤◌, length, slice_get, Some};
-ghost use Rattle.netlist.specs.Netlists.{Netlist, HasWidth, driver_of, IsOutputPort, IsModule, line_of};
+ghost use Rattle.netlist.specs.Netlists.{Netlist, HasWidth, driver_of, IsOutputPort, IsModule, line_of, memory_of};
 
-use crate::line::{Equation, Line, PortLine};
+use crate::line::{Equation, Line, MemLine, Memory, PortLine};
 use av_base::{List, Text};
 use std::marker::Model;
 
-/// A whole module: its header, its nets and what drives its outputs.
+/// A whole module: its header, its nets, what drives its outputs, and its memories.
 #[derive(Debug, Drop)]
 pub struct Module {
     name: Text,
     ports: List<PortLine>,
     lines: Vec<Line>,
     drivers: Vec<Option<u32>>,
+    memories: Vec<Memory>,
 }
 
 impl Model for Module {
@@ -19,9 +20,9 @@ impl Model for Module {
 
     ghost Value = { Netlist };
 
-    ghost view = { λ m. record { name = m.name; ports = m.ports; lines = m.lines.items; drivers = m.drivers.items } };
+    ghost view = { λ m. record { name = m.name; ports = m.ports; lines = m.lines.items; drivers = m.drivers.items; memories = m.memories.items } };
 
-    ghost invariant = { λ m. IsModule (record { name = m.name; ports = m.ports; lines = m.lines.items; drivers = m.drivers.items }) };
+    ghost invariant = { λ m. IsModule (record { name = m.name; ports = m.ports; lines = m.lines.items; drivers = m.drivers.items; memories = m.memories.items }) };
 }
 
 impl Module {
@@ -30,9 +31,10 @@ impl Module {
         ports: List<PortLine>,
         lines: Vec<Line>,
         drivers: Vec<Option<u32>>,
+        memories: Vec<Memory>,
     ) -> Module
-        requires { IsModule (record { name = name; ports = ports; lines = lines.items; drivers = drivers.items }) }
-        ensures same { result ≡ record { name = name; ports = ports; lines = lines.items; drivers = drivers.items } }
+        requires { IsModule (record { name = name; ports = ports; lines = lines.items; drivers = drivers.items; memories = memories.items }) }
+        ensures same { result ≡ record { name = name; ports = ports; lines = lines.items; drivers = drivers.items; memories = memories.items } }
         ensures module { IsModule result }
     {
         Module {
@@ -40,6 +42,7 @@ impl Module {
             ports,
             lines,
             drivers,
+            memories,
         }
     }
 
@@ -85,6 +88,29 @@ impl Module {
         ensures width { (w : ℕ) → IsOutputPort self.now.ports port w → HasWidth self.now result w }
     {
         self.drivers[port as usize].unwrap()
+    }
+
+    pub fn memory_count(&self) -> u32
+        ensures count { result ≡ length self.now.memories }
+        ensures few { result ≤ 2 ^ 16 }
+    {
+        self.memories.len() as u32
+    }
+
+    /// A memory with its write.
+    pub fn memory(&self, k: u32) -> MemLine
+        requires { k < length self.now.memories }
+        ensures { slice_get self.now.memories k ≡ Some (memory_of result) }
+    {
+        let memory = &self.memories[k as usize];
+        let write = memory.write.unwrap();
+        MemLine {
+            width: memory.width,
+            address_bits: memory.address_bits,
+            enable: write.enable,
+            address: write.address,
+            word: write.word,
+        }
     }
 
     /// What a module keeps.

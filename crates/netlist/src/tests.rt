@@ -1,8 +1,8 @@
 ghost use Rattle.std.specs.Prelude.{◌≡◌, ℕ, ◌<◌, IfOk, None, [], ◌∷◌, true, false, codes};
 ghost use Rattle.av_base.specs.Word.{word};
-ghost use Rattle.netlist.specs.Netlists.{IsNet, IsInputPort, IsOutputPort, IsClocked, driver_of};
+ghost use Rattle.netlist.specs.Netlists.{IsNet, IsInputPort, IsOutputPort, IsClocked, IsWritten, driver_of};
 
-use crate::{Builder, Equation, Module, Net, PortLine};
+use crate::{Builder, Equation, MemLine, Module, Net, PortLine};
 use av_base::{List, Text, Val};
 use std::alloc::Global;
 use std::test::Fail;
@@ -31,6 +31,7 @@ fn two_port_builder(alloc: Global) -> Result<Builder, Fail>
     ensures no_more { IfOk result (λ b. (k w : ℕ) → IsOutputPort b.ports k w → k ≡ 0) }
     ensures undriven { IfOk result (λ b. driver_of b 0 ≡ None) }
     ensures clocked { IfOk result (λ b. IsClocked b) }
+    ensures written { IfOk result (λ b. IsWritten b) }
 {
     let ports = two_ports(alloc)?;
     let name = Text::copy(alloc, "t_interconnect")?;
@@ -73,6 +74,7 @@ fn driven_by(mut builder: Builder, net: Net) -> Module
     requires no_more { (k w : ℕ) → IsOutputPort builder.ports k w → k ≡ 0 }
     requires undriven { driver_of builder 0 ≡ None }
     requires clocked { IsClocked builder }
+    requires written { IsWritten builder }
     requires net_is { IsNet builder net }
     requires width { net.width ≡ 4 }
 {
@@ -161,5 +163,37 @@ fn a_register_takes_its_next_net(rt: HostRuntime) -> Result<(), Fail> {
     );
     assert_eq!(rt; module.equation(2), Equation::Add { a: 1, b: 0 });
     assert_eq!(rt; module.width(1), 4);
+    Ok(())
+}
+
+#[test]
+fn a_memory_is_written_and_read(rt: HostRuntime) -> Result<(), Fail> {
+    let mut builder = two_port_builder(rt.alloc())?;
+    let input = builder.input(1);
+    let enable = builder.any(input)?;
+    let memory = builder.memory(4, 4)?;
+    let word = builder.read_memory(memory, input)?;
+    builder.set_write(memory, enable, input, word);
+    let module = driven_by(builder, word);
+    assert_eq!(rt; module.net_count(), 3);
+    assert_eq!(rt;
+        module.equation(2),
+        Equation::Read {
+            memory: 0,
+            address: 0
+        }
+    );
+    assert_eq!(rt; module.width(2), 4);
+    assert_eq!(rt; module.memory_count(), 1);
+    assert_eq!(rt;
+        module.memory(0),
+        MemLine {
+            width: 4,
+            address_bits: 4,
+            enable: 1,
+            address: 0,
+            word: 2
+        }
+    );
     Ok(())
 }

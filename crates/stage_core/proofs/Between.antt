@@ -1,14 +1,17 @@
 -- The laws of stages between the views of nets.
-use Rattle.std.proofs.Common.{◌≡◌, ℕ, ◌<◌, Bool, ◌==◌, nat_lt, IsTrue, refl, sym, subst, ap}
+use Rattle.std.proofs.Common.{◌≡◌, ℕ, ◌<◌, Bool, ◌==◌, nat_lt, IsTrue, Option, Some, None, refl, sym, subst, ap}
+use Rattle.std.specs.Prelude.{IsSomeAnd}
 use Rattle.netlist.specs.Nets.{NetValue}
-use Rattle.netlist.specs.Runs.{Run}
+use Rattle.netlist.specs.Netlists.{Netlist}
+use Rattle.netlist.specs.Runs.{Cycle, Run}
 use Rattle.stream_runs.specs.View.{EndView, Side}
 use Rattle.stream_machines.specs.Stage.{Shape, StageRun, KeepsStageLaw, PassesReady, PassesAll, Fits, pass_shape, pass_run, chain_shape, chain_run, chain_rank, ready_cycles}
 use Rattle.stage_core.specs.declared.beat.BeatNets.{BeatNets}
-use Rattle.stage_core.specs.Beats.{view_of}
+use Rattle.stage_core.specs.Beats.{view_of, ShowSame}
 use Rattle.stage_core.specs.Law.{KeepsShape, ReadyPasses, unranked}
 use Rattle.stage_core.specs.PassNets.{IsPassShape}
 use Rattle.stage_core.specs.ChainNets.{ShapesFit}
+use Rattle.stage_core.specs.MaybeNets.{forward_of}
 
 -- ---- a stage of no nets
 
@@ -59,3 +62,12 @@ pub chain_ready_between : (first second shape : Shape) (up middle down : EndView
 chain_ready_between first second shape up middle down is fit shown law a x y =
     subst (λ (s : Shape). ReadyPasses s up down) (sym is)
     (law (record { up = up; down = middle; rank = a.rank }) (unranked middle down) (fitting first second up middle down a.rank (λ _. 0) fit shown (λ _. y)) a.keeps x y)
+
+-- ---- a stage where one is needed
+
+-- this cycle's ready, by what is kept of the part
+pub kept_ignores : {S H : Type 0} (forward_in : S → BeatNets → BeatNets → H → Netlist → Type 0) (owns : H → ℕ → Type 0) (stage : S) (from to : BeatNets) (kept : Option H) (netlist : Netlist) (one other : Cycle) →
+    ((held : H) → forward_in stage from to held netlist → ((n : ℕ) → owns held n → one.net n ≡ other.net n) → ShowSame from one other → ShowSame to one other) →
+    forward_of forward_in (Some stage) from to kept netlist → ((n : ℕ) → IsSomeAnd kept (λ held. owns held n) → one.net n ≡ other.net n) → ShowSame from one other → ShowSame to one other
+kept_ignores forward_in owns stage from to (Some held) netlist one other law f state same = law held f state same
+kept_ignores forward_in owns stage from to None netlist one other law f state same = absurd f

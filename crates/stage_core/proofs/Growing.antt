@@ -1,13 +1,15 @@
 -- Netlists that grow in several steps.
-use Rattle.std.proofs.Common.{◌≡◌, ℕ, zero, suc, ◌+◌, ◌-◌, ◌^◌, ◌<◌, ◌≤◌, List, [], ◌∷◌, length, slice_get, Some, Bool, true, false, if◌then◌else◌, refl, sym, subst, ap, ◌∙◌, arith, inl, inr}
-use Rattle.std.specs.Prelude.{Result, Ok, Err, IfOk, OnOk}
+use Rattle.std.proofs.Common.{◌≡◌, ℕ, zero, suc, ◌+◌, ◌-◌, ◌^◌, ◌<◌, ◌≤◌, List, [], ◌∷◌, length, slice_get, Option, Some, None, Bool, true, false, if◌then◌else◌, refl, sym, subst, ap, ◌∙◌, arith, inl, inr}
+use Rattle.std.specs.Prelude.{Result, Ok, Err, IfOk, OnOk, IfSome}
 use Rattle.netlist.specs.declared.line.Line.{Line}
+use Rattle.netlist.specs.declared.line.Memory.{Memory}
+use Rattle.netlist.specs.declared.line.MemWrite.{MemWrite}
 use Rattle.netlist.specs.Nets.{NetValue}
-use Rattle.netlist.specs.Netlists.{Netlist, width_at, IsWaiting, IsWellMade, is_register, next_set}
+use Rattle.netlist.specs.Netlists.{Netlist, IsNet, width_at, IsWaiting, IsWellMade, is_register, next_set}
 use Rattle.netlist.specs.Runs.{Cycle, IsValuation, SameState}
 use Rattle.netlist.specs.declared.line.Equation.{Equation}
-use Rattle.netlist.specs.declared.line.Equation.TheVariants.{Input, Constant, And, Or, Xor, Add, Sub, Eq, Less, Concat, Not, Any, Mux, Slice, Reg}
-use Rattle.netlist.specs.Longer.{IsKept, Keeps, Extends, GrowsByOne}
+use Rattle.netlist.specs.declared.line.Equation.TheVariants.{Input, Constant, And, Or, Xor, Add, Sub, Eq, Less, Concat, Not, Any, Mux, Slice, Reg, Read}
+use Rattle.netlist.specs.Longer.{IsKept, IsKeptMemory, Keeps, Extends, GrowsByOne}
 use Rattle.stage_core.specs.declared.beat.BeatNets.{BeatNets}
 use Rattle.stage_core.specs.Beats.{IsBit, HaveSameWidths, widths_of, ShowSame}
 use Rattle.stage_core.specs.Groups.{Shown, shown_in, AreNumbered, IsOfBeat}
@@ -18,18 +20,27 @@ kept_twice x y z (inl e) k = subst (λ (l : Line). IsKept l z) e k
 kept_twice x y z (inr s) (inl f) = inr (record { waits = s.waits; next = s.next; is = f ∙ s.is })
 kept_twice x y z (inr s) (inr t) = absurd (let set : y.waits ≡ false = ap (λ (l : Line). l.waits) s.is in let waits = t.waits in cc)
 
+write_twice : (x y z : Option MemWrite) → IfSome x (λ write. y ≡ Some write) → IfSome y (λ write. z ≡ Some write) → IfSome x (λ write. z ≡ Some write)
+write_twice None y z p q = tt
+write_twice (Some write) y z p q = subst (λ (o : Option MemWrite). IfSome o (λ w. z ≡ Some w)) p q
+
+memory_twice : (x y z : Memory) → IsKeptMemory x y → IsKeptMemory y z → IsKeptMemory x z
+memory_twice x y z p q = record { width = q.width ∙ p.width; address_bits = q.address_bits ∙ p.address_bits; write = write_twice x.write y.write z.write p.write q.write }
+
 keeps_twice : (a b c : Netlist) → Keeps a b → Keeps b c → Keeps a c
 keeps_twice a b c p q = record {
   name = q.name ∙ p.name;
   ports = q.ports ∙ p.ports;
   lines = λ n line at. (let l = p.lines n line at in let m = q.lines n l.later l.is in record { later = m.later; is = m.is; kept = kept_twice line l.later m.later l.kept m.kept });
   drivers = λ k n d. q.drivers k n (p.drivers k n d);
+  memories = λ m memory at. (let l = p.memories m memory at in let k = q.memories m l.later l.is in record { later = k.later; is = k.is; kept = memory_twice memory l.later k.later l.kept k.kept });
 }
 
 pub extends_twice : (a b c : Netlist) → Extends a b → Extends b c → Extends a c
 extends_twice a b c p q = record {
   keeps = keeps_twice a b c p.keeps q.keeps;
   nets = λ n w h. q.nets n w (p.nets n w h);
+  memories = λ mem h. q.memories mem (p.memories mem h);
   valuations = λ cycle v. p.valuations cycle (q.valuations cycle v);
   runs = λ run cycles r. p.runs run cycles (q.runs run cycles r);
   count = (let few = p.count in let more = q.count in omega arith);
@@ -40,10 +51,11 @@ grows_twice k m a b c p q = record {
   extends = extends_twice a b c p.extends q.extends;
   most = (let few = p.most in let more = q.most in omega arith);
   drivers = q.drivers ∙ p.drivers;
+  memories = q.memories ∙ p.memories;
 }
 
 pub grows_fewer : (k m : ℕ) (a b : Netlist) → k ≤ m → GrowsBy k a b → GrowsBy m a b
-grows_fewer k m a b h p = record { extends = p.extends; most = (let few = p.most in omega arith); drivers = p.drivers }
+grows_fewer k m a b h p = record { extends = p.extends; most = (let few = p.most in omega arith); drivers = p.drivers; memories = p.memories }
 
 pub on_ok : {X E : Type 0} (r : Result X E) (P Q : Type 0) → (P → Q) → OnOk r P → OnOk r Q
 on_ok (Ok x) P Q f h = f h
@@ -54,7 +66,7 @@ if_ok (Ok x) P Q f h = f x h
 if_ok (Err e) P Q f h = tt
 
 pub grows_once : (a b : Netlist) → Extends a b → GrowsByOne a b → AddsNets 1 a b
-grows_once a b e g = record { grows = record { extends = e; most = g.most; drivers = g.drivers }; waits = g.waits; no_more_wait = g.no_more_wait }
+grows_once a b e g = record { grows = record { extends = e; most = g.most; drivers = g.drivers; memories = g.memories }; waits = g.waits; no_more_wait = g.no_more_wait }
 
 pub adds_twice : (k m : ℕ) (a b c : Netlist) → AddsNets k a b → AddsNets m b c → AddsNets (k + m) a c
 adds_twice k m a b c p q = record {
@@ -130,6 +142,7 @@ register_kept line later (inr s) h = subst (λ (l : Line). is_register l.equatio
     of_next (Any a) i = i
     of_next (Mux t a b) i = i
     of_next (Slice a high low) i = i
+    of_next (Read m a) i = i
 
 -- a register that waited is the same in two cycles with one state
 pub owned_same : (netlist longer : Netlist) (n : ℕ) (one other : Cycle) → IsWellMade netlist → Extends netlist longer → IsWaiting netlist n → SameState longer one other → one.net n ≡ other.net n
@@ -151,11 +164,15 @@ line_of_width [] n w e = cc
 line_of_width (x ∷ xs) zero w e = (x, refl, (cc))
 line_of_width (x ∷ xs) (suc n) w e = line_of_width xs n w e
 
+-- a net's value has the net's width
+pub net_fits : (a : Netlist) (net : NetValue) → IsNet a net → (cycle : Cycle) → IsValuation a cycle → cycle.net net.number < 2 ^ net.width
+net_fits a net h cycle v =
+    let line = line_of_width a.lines net.number net.width h in
+    subst (λ k. cycle.net net.number < 2 ^ k) line.2 ((v.nets net.number line.0 line.1).fits)
+
 -- a net of one bit is 0 or 1
 pub bit_fits : (a : Netlist) (net : NetValue) → IsBit a net → (cycle : Cycle) → IsValuation a cycle → cycle.net net.number < 2
-bit_fits a net h cycle v =
-    let line = line_of_width a.lines net.number net.width h.is_net in
-    subst (λ k. cycle.net net.number < 2 ^ k) (line.2 ∙ h.has_width) ((v.nets net.number line.0 line.1).fits)
+bit_fits a net h cycle v = subst (λ k. cycle.net net.number < 2 ^ k) h.has_width (net_fits a net h.is_net cycle v)
 
 pub widths_turned : (one other : BeatNets) → HaveSameWidths one other → HaveSameWidths other one
 widths_turned one other h = record { valid = sym h.valid; word = sym h.word; channel = sym h.channel; error = sym h.error; first = sym h.first; last = sym h.last; empty = sym h.empty }
@@ -206,10 +223,18 @@ show_same nets one other e = record { valid = ap (λ (s : Shown). s.valid) e; be
 pub all_same : (nets : BeatNets) (one other : Cycle) → ShowSame nets one other → shown_in one nets ≡ shown_in other nets
 all_same nets one other h = rw (h.valid, h.beat) refl
 
+kept_write : (o : Option MemWrite) → IfSome o (λ write. o ≡ Some write)
+kept_write None = tt
+kept_write (Some write) = refl
+
+kept_same : (memory : Memory) → IsKeptMemory memory memory
+kept_same memory = record { width = refl; address_bits = refl; write = kept_write memory.write }
+
 pub extends_none : (a : Netlist) → Extends a a
 extends_none a = record {
-  keeps = record { name = refl; ports = refl; lines = λ n line at. record { later = line; is = at; kept = inl refl }; drivers = λ k n d. d };
+  keeps = record { name = refl; ports = refl; lines = λ n line at. record { later = line; is = at; kept = inl refl }; drivers = λ k n d. d; memories = λ m memory at. record { later = memory; is = at; kept = kept_same memory } };
   nets = λ n w h. h;
+  memories = λ mem h. h;
   valuations = λ cycle v. v;
   runs = λ run cycles r. r;
   count = omega arith;

@@ -5,4 +5,6 @@ pub mod RegisterLaw
 pub mod RowLemmas
 pub mod RowNets
 pub mod QueueLaw
-pub mod QueueSteps
+pub mod RowSteps
+pub mod RowHolds
+pub mod TestPorts

@@ -1,53 +1,29 @@
 -- The nets of a queue are the machine of a queue.
-use Rattle.std.proofs.Common.{◌≡◌, ℕ, zero, suc, ◌+◌, ◌<◌, Bool, true, false, not, ◌&&◌, ◌||◌, ◌==◌, nat_lt, if◌then◌else◌, List, [], ◌∷◌, ◌++◌, length, drop, append-nil, refl, sym, subst, ap, ◌∙◌, arith, inl}
+use Rattle.std.proofs.Common.{◌≡◌, ℕ, suc, ◌+◌, ◌<◌, Bool, true, false, not, ◌&&◌, ◌||◌, ◌==◌, nat_lt, if◌then◌else◌, List, [], ◌∷◌, length, drop, refl, sym, subst, ap, ◌∙◌, arith, inl}
 use Rattle.std.proofs.lemmas.Bool.{ne_eqb}
 use Rattle.netlist.specs.Nets.{NetValue}
 use Rattle.netlist.specs.Netlists.{Netlist}
 use Rattle.netlist.specs.Runs.{Cycle, Run, cycle_of, IsEndlessRun, IsValuation}
-use Rattle.stream_runs.specs.View.{EndView, Side, Beat}
+use Rattle.stream_runs.specs.View.{EndView, Side, Beat, is_transfer}
 use Rattle.stream_machines.specs.Stage.{Shape, KeepsStageLaw, PassesReady, PassesAll}
 use Rattle.stream_machines.specs.Parts.{plain_run}
-use Rattle.stream_machines.specs.Buffers.{IsQueueRun, ShowsHeld, buffer_shape}
+use Rattle.stream_machines.specs.Buffers.{IsQueueRun, buffer_shape}
 use Rattle.stage_core.specs.declared.beat.BeatNets.{BeatNets}
 use Rattle.stage_core.specs.declared.queue.FifoKept.{FifoKept}
 use Rattle.stage_core.specs.Beats.{view_of, ShowSame, beat_in}
 use Rattle.stage_core.specs.Groups.{Shown, shown_in}
 use Rattle.stage_core.specs.Law.{KeepsShape, ReadyPasses}
 use Rattle.stage_core.specs.RegisterNets.{IsBufferShape}
-use Rattle.stage_core.specs.Rows.{Place, place_in, row_in, held_of, fill_row, shift_row, last_valid, shown_first, InRow, AllEmpty, IsPacked, StartsAllEmpty}
-use Rattle.stage_core.specs.QueueBits.{SetsRow}
+use Rattle.stage_core.specs.Rows.{Place, place_in, row_in, held_of, RowSteps, last_valid, shown_first, InRow, AllEmpty, StartsAllEmpty}
+use Rattle.stage_core.specs.QueueBits.{SetsQueue}
 use Rattle.stage_core.specs.QueueNets.{QueueForward, QueueBackward, FirstNumbered}
 use Rattle.stage_core.proofs.Growing.{same_state, show_same, all_same}
-use Rattle.stage_core.proofs.Bits.{of_chosen}
-use Rattle.stage_core.proofs.RowLemmas.{has_room, last_full, fill_none, fill_packed, held_filled, not_shifted, held_shifted, shift_packed, room_last, room_count}
-
-empty_packed : (row : List Place) → AllEmpty row → IsPacked row
-empty_packed [] h = tt
-empty_packed (place ∷ row) h = ((λ e. h.1), empty_packed row h.1)
-
-held_none : (row : List Place) → AllEmpty row → held_of row ≡ []
-held_none [] h = refl
-held_none (place ∷ row) h = rw h.0 refl
-
--- one cycle: what is held, with the beat that comes, but for the one that goes
-held_step : (shift come : Bool) (end : Place) (beat : Beat) (row : List Place) → end.full ≡ false → IsPacked row →
-    held_of (shift_row shift end (fill_row come come beat row)) ≡ (if shift then drop 1 (held_of row ++ (if come && has_room row then beat ∷ [] else [])) else held_of row ++ (if come && has_room row then beat ∷ [] else []))
-held_step true true end beat row e h = held_shifted end (fill_row true true beat row) e (fill_packed true true beat row h) ∙ ap (drop 1) (held_filled beat row h)
-held_step true false end beat row e h = held_shifted end (fill_row false false beat row) e (fill_packed false false beat row h) ∙ ap (drop 1) (fill_none beat row ∙ sym (append-nil (held_of row)))
-held_step false true end beat row e h = ap held_of (not_shifted end (fill_row true true beat row)) ∙ held_filled beat row h
-held_step false false end beat row e h = ap held_of (not_shifted end (fill_row false false beat row)) ∙ fill_none beat row ∙ sym (append-nil (held_of row))
+use Rattle.stage_core.proofs.RowLemmas.{has_room, last_full, room_last}
+use Rattle.stage_core.proofs.RowHolds.{packed, room_now, row_holds}
 
 last_same : (cycle : Cycle) (first : BeatNets) (rest : List BeatNets) → last_full (place_in cycle first) (row_in cycle rest) ≡ (cycle.net (last_valid first rest).number == 1)
 last_same cycle first [] = refl
 last_same cycle first (next ∷ rest) = last_same cycle next rest
-
-row_length : (cycle : Cycle) (row : List BeatNets) → length (row_in cycle row) ≡ length row
-row_length cycle [] = refl
-row_length cycle (nets ∷ row) = ap suc (row_length cycle row)
-
-either : (v f : Bool) → (if v then v else f) ≡ (v || f)
-either true f = refl
-either false f = refl
 
 once : (f u : Bool) → ((f && u) && u) ≡ (f && u)
 once true true = refl
@@ -72,7 +48,7 @@ module _ (from to : BeatNets) (ready up : NetValue) (netlist : Netlist) (run : R
     holds = record {
       starts = refl;
       shows = λ c. record { valid = sym (ap (λ (s : Shown). s.valid) (shows c)); beat = sym (ap (λ (s : Shown). s.beat) (shows c)) };
-      moves = λ c.
+      moves = λ c legal.
           (let v : (run.net c to.valid.number == 1) ≡ (run.net c from.valid.number == 1) = ap (λ (s : Shown). s.valid == 1) (shows c) in
           let r : (run.net c up.number == 1) ≡ (run.net c ready.number == 1) = ap (λ (n : NetValue). run.net c n.number == 1) same in
           rw (direct, v, r) (wire_step (run.net c from.valid.number == 1) (run.net c ready.number == 1) (beat_in (cycle_of run c) from)));
@@ -81,65 +57,31 @@ module _ (from to : BeatNets) (ready up : NetValue) (netlist : Netlist) (run : R
   }
 
   module _ (first : BeatNets) (rest : List BeatNets) (starts : AllEmpty (row_in (cycle_of run 0) (first ∷ rest)))
-      (shows : (c : ℕ) → shown_in (cycle_of run c) to ≡ (if run.net c first.valid.number == 1 then shown_in (cycle_of run c) first else shown_in (cycle_of run c) from))
-      (sets : SetsRow netlist from first rest ready up) where
+      (shows : (c : ℕ) → shown_in (cycle_of run c) to ≡ shown_first (cycle_of run c) (first ∷ rest) from) (sets : SetsQueue netlist from first rest ready up) where
     abbrev row : ℕ → List Place
     row c = row_in (cycle_of run c) (first ∷ rest)
-
-    abbrev gives : ℕ → Bool
-    gives c = ((run.net c first.valid.number == 1) || (run.net c from.valid.number == 1)) && (run.net c ready.number == 1)
 
     abbrev comes : ℕ → Bool
     comes c = (run.net c from.valid.number == 1) && (run.net c up.number == 1)
 
-    next : (c : ℕ) → c + 1 ≡ suc c
-    next c = omega arith
-
-    packed : (c : ℕ) → IsPacked (row c)
-    packed zero = empty_packed (row 0) starts
-    packed (suc c) =
-        let step = sets.steps run (c + 2) (endless (c + 2)) c (omega arith) in
-        subst (λ k. IsPacked (row k)) (next c)
-        (subst IsPacked (sym step.is) (shift_packed (gives c) step.end (fill_row (comes c) (comes c) (beat_in (cycle_of run c) from) (row c)) step.empty (fill_packed (comes c) (comes c) (beat_in (cycle_of run c) from) (row c) (packed c))))
+    steps : (c : ℕ) → RowSteps (cycle_of run c) (cycle_of run (c + 1)) (first ∷ rest) from (comes c) ready
+    steps c = sets.steps run (c + 2) (endless (c + 2)) c (omega arith)
 
     room : (c : ℕ) → has_room (row c) ≡ (run.net c up.number == 1)
-    room c = room_last (place_in (cycle_of run c) first) (row_in (cycle_of run c) rest) (packed c) ∙ ap not (last_same (cycle_of run c) first rest) ∙ sym (sets.asks (cycle_of run c) (here c))
+    room c =
+        room_last (place_in (cycle_of run c) first) (row_in (cycle_of run c) rest) (packed from to ready up run (first ∷ rest) comes starts shows steps c)
+        ∙ ap not (last_same (cycle_of run c) first rest) ∙ sym (sets.asks (cycle_of run c) (here c))
 
-    given : (c : ℕ) → (run.net c to.valid.number == 1) ≡ ((run.net c first.valid.number == 1) || (run.net c from.valid.number == 1))
-    given c =
-        ap (λ (s : Shown). s.valid == 1) (shows c)
-        ∙ of_chosen (λ (s : Shown). s.valid == 1) (run.net c first.valid.number == 1) (shown_in (cycle_of run c) first) (shown_in (cycle_of run c) from)
-        ∙ either (run.net c first.valid.number == 1) (run.net c from.valid.number == 1)
-
-    moved : (c : ℕ) → held_of (row (c + 1)) ≡
-        (if (run.net c to.valid.number == 1) && (run.net c ready.number == 1)
-        then drop 1 (held_of (row c) ++ (if (run.net c from.valid.number == 1) && (nat_lt 0 side.pace.latency || (run.net c up.number == 1)) then beat_in (cycle_of run c) from ∷ [] else []))
-        else held_of (row c) ++ (if (run.net c from.valid.number == 1) && (nat_lt 0 side.pace.latency || (run.net c up.number == 1)) then beat_in (cycle_of run c) from ∷ [] else []))
-    moved c =
-        let step = sets.steps run (c + 2) (endless (c + 2)) c (omega arith) in
-        let beat = beat_in (cycle_of run c) from in
-        let taken : (comes c && has_room (row c)) ≡ ((run.net c from.valid.number == 1) && (nat_lt 0 side.pace.latency || (run.net c up.number == 1))) =
+    taken : (c : ℕ) → (comes c && has_room (row c)) ≡ is_transfer side.pace (view_of run from up) c
+    taken c =
         ap (λ t. comes c && t) (room c) ∙ once (run.net c from.valid.number == 1) (run.net c up.number == 1)
-        ∙ sym (ap (λ (n : ℕ). (run.net c from.valid.number == 1) && (nat_lt 0 n || (run.net c up.number == 1))) direct) in
-        ap held_of step.is
-        ∙ held_step (gives c) (comes c) step.end beat (row c) step.empty (packed c)
-        ∙ ap (λ (t : Bool). if gives c then drop 1 (held_of (row c) ++ (if t then beat ∷ [] else [])) else held_of (row c) ++ (if t then beat ∷ [] else [])) taken
-        ∙ ap (λ (t : Bool). if t && (run.net c ready.number == 1) then drop 1 (held_of (row c) ++ (if (run.net c from.valid.number == 1) && (nat_lt 0 side.pace.latency || (run.net c up.number == 1)) then beat ∷ [] else [])) else held_of (row c) ++ (if (run.net c from.valid.number == 1) && (nat_lt 0 side.pace.latency || (run.net c up.number == 1)) then beat ∷ [] else [])) (sym (given c))
-
-    shows_held : (c : ℕ) (v : Bool) → (run.net c first.valid.number == 1) ≡ v → shown_in (cycle_of run c) to ≡ (if v then shown_in (cycle_of run c) first else shown_in (cycle_of run c) from) →
-        ShowsHeld true (if v then beat_in (cycle_of run c) first ∷ held_of (row_in (cycle_of run c) rest) else []) (view_of run from up) (view_of run to ready) c
-    shows_held c true e same = (ap (λ (s : Shown). s.valid == 1) same ∙ e, ap (λ (s : Shown). s.beat) same)
-    shows_held c false e same = record { valid = sym (ap (λ (s : Shown). s.valid) same); beat = sym (ap (λ (s : Shown). s.beat) same) }
+        ∙ sym (ap (λ (n : ℕ). (run.net c from.valid.number == 1) && (nat_lt 0 n || (run.net c up.number == 1))) direct)
 
     row_run : IsQueueRun (suc (length rest)) side (view_of run from up) (view_of run to ready) (λ c. held_of (row c))
     row_run = record {
-      holds = record {
-        starts = held_none (row 0) starts;
-        shows = λ c. shows_held c (run.net c first.valid.number == 1) refl (shows c);
-        moves = λ c. sym (ap (λ k. held_of (row k)) (next c)) ∙ moved c;
-      };
+      holds = row_holds from to ready up run (first ∷ rest) comes starts shows steps side (λ c legal. taken c);
       asks = λ c.
-          sym (room c) ∙ room_count (row c) (packed c) ∙ ap (λ n. nat_lt (length (held_of (row c))) n) (row_length (cycle_of run c) (first ∷ rest))
+          sym (room c) ∙ room_now from to ready up run (first ∷ rest) comes starts shows steps c
           ∙ no_places (nat_lt (length (held_of (row c))) (suc (length rest))) (length rest) (run.net c ready.number == 1);
     }
 
@@ -173,7 +115,7 @@ queue_ready shape from to kept depth ready up netlist run p f b endless law =
     subst (λ (s : Shape). ReadyPasses s (view_of run from up) (view_of run to ready)) (sym p.is)
     (law shape.passes depth shape.up _ _ _ (kept_run from to kept depth ready up netlist run shape.up f b endless p.at_once) p.at_once)
 
-first_same : (one other : Cycle) (row : List BeatNets) (from : BeatNets) → FirstNumbered row → ((n : ℕ) → InRow row n → one.net n ≡ other.net n) → shown_in one from ≡ shown_in other from → shown_first one row from ≡ shown_first other row from
+pub first_same : (one other : Cycle) (row : List BeatNets) (from : BeatNets) → FirstNumbered row → ((n : ℕ) → InRow row n → one.net n ≡ other.net n) → shown_in one from ≡ shown_in other from → shown_first one row from ≡ shown_first other row from
 first_same one other [] from h state same = same
 first_same one other (first ∷ row) from h state same =
     let shown = same_state first one other h (λ n o. state n (inl o)) in

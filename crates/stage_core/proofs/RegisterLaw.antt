@@ -70,7 +70,7 @@ module _ (kept : RegisterKept) (ready up : NetValue) (netlist : Netlist) (f : Re
     holds = record {
       starts = ap held_in (f.starts run 1 (endless 1) (omega arith)) ∙ nothing_held;
       shows = λ c. shows_held (run.net c kept.registers.valid.number == 1) (view_of run kept.from up) (view_of run kept.registers ready) c refl;
-      moves = λ c. sym (ap (λ k. held_in (shown_in (cycle_of run k) kept.registers)) (next_of c)) ∙ moved side direct c;
+      moves = λ c legal. sym (ap (λ k. held_in (shown_in (cycle_of run k) kept.registers)) (next_of c)) ∙ moved side direct c;
     };
     asks = λ c. asked c ∙ room (run.net c kept.registers.valid.number == 1) (run.net c ready.number == 1) (shown_in (cycle_of run c) kept.registers).beat;
   } where

@@ -64,6 +64,7 @@ pub record AreMade (old now : Netlist) (like : BeatNets) (places : List BeatNets
   pub starts : StartsAllEmpty now places
   pub extends : Extends old now
   pub drivers : now.drivers ≡ old.drivers
+  pub memories : now.memories ≡ old.memories
   pub still_wait : StillWait old now
   pub newly : WaitsBeside (InRow places) old now
 
@@ -75,6 +76,7 @@ made_none old like e = record {
   starts = λ run cycles r lt. tt;
   extends = e;
   drivers = refl;
+  memories = refl;
   still_wait = λ n w. w;
   newly = λ n w. inl w;
 }
@@ -89,6 +91,7 @@ made_more old now new like nets row count h grows wait newly are widths register
   starts = λ run cycles r lt. empty_push run 0 row nets (h.starts run cycles (grows.extends.runs run cycles r) lt) (ap (λ (s : Shown). s.valid == 1) (starts run cycles r lt));
   extends = extends_twice old now new h.extends grows.extends;
   drivers = grows.drivers ∙ h.drivers;
+  memories = grows.memories ∙ h.memories;
   still_wait = λ n w. wait n (h.still_wait n w);
   newly = λ n w. elim (newly n w) [
     | inl before ↦ elim (h.newly n before) [ inl first ↦ inl first | inr made ↦ inr (in_pushed row nets n made) ]

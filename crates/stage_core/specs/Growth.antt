@@ -3,11 +3,12 @@ use Rattle.std.specs.Prelude.{◌≡◌, ℕ, ◌+◌, ◌<◌, ◌≤◌, ◌�
 use Rattle.netlist.specs.Netlists.{Netlist, IsWaiting}
 use Rattle.netlist.specs.Longer.{Extends}
 
--- the netlist grew by so many nets at most, and no driver was set
+-- the netlist grew by so many nets at most; no driver was set, and the memories are the same
 pub record GrowsBy (count : ℕ) (old new : Netlist) : Type 0 where
   pub extends : Extends old new
   pub most : length new.lines ≤ length old.lines + count
   pub drivers : new.drivers ≡ old.drivers
+  pub memories : new.memories ≡ old.memories
 
 -- the registers that waited wait
 abbrev pub StillWait : Netlist → Netlist → Type 0

@@ -5,6 +5,7 @@ pub mod Lasting
 pub mod Law
 pub mod PassNets
 pub mod ChainNets
+pub mod MaybeNets
 pub mod RegisterNets
 pub mod Rows
 pub mod QueueBits

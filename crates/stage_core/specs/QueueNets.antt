@@ -10,7 +10,7 @@ use Rattle.stage_core.specs.Beats.{AreBeatNets}
 use Rattle.stage_core.specs.Groups.{shown_in, AreNumbered}
 use Rattle.stage_core.specs.Lasting.{beat_lasts}
 use Rattle.stage_core.specs.Rows.{AreInRow, InRow, StartsAllEmpty, shown_first, row_lasts}
-use Rattle.stage_core.specs.QueueBits.{SetsRow}
+use Rattle.stage_core.specs.QueueBits.{SetsQueue}
 
 -- between the calls
 pub record QueueKeeps (kept : FifoKept) (depth : ℕ) (netlist : Netlist) : Type 0 where
@@ -34,7 +34,7 @@ pub record QueueForward (from to : BeatNets) (kept : FifoKept) (depth : ℕ) (ne
 -- after the second call: the row is set; without places ready goes through
 abbrev pub QueueBackward : Netlist → BeatNets → NetValue → NetValue → List BeatNets → Type 0
 QueueBackward netlist from ready up [] = up ≡ ready
-QueueBackward netlist from ready up (first ∷ rest) = SetsRow netlist from first rest ready up
+QueueBackward netlist from ready up (first ∷ rest) = SetsQueue netlist from first rest ready up
 
 -- ---- what stands lasts. No contract reads these proofs; the law of the queue cites them
 

@@ -1,5 +1,5 @@
 -- A row of places that hold beats, the oldest first.
-use Rattle.std.specs.Prelude.{◌≡◌, ℕ, ◌+◌, ◌<◌, Bool, false, ◌&&◌, ◌==◌, if◌then◌else◌, List, [], ◌∷◌, ◌⊎◌}
+use Rattle.std.specs.Prelude.{◌≡◌, ℕ, ◌+◌, ◌<◌, Bool, false, ◌&&◌, ◌||◌, ◌==◌, if◌then◌else◌, List, [], ◌∷◌, ◌⊎◌}
 use Rattle.std.proofs.Common.{inl, inr}
 use Rattle.netlist.specs.Nets.{NetValue}
 use Rattle.netlist.specs.Netlists.{Netlist, IsWaiting}
@@ -96,6 +96,27 @@ abbrev pub RowMoves : Netlist → List BeatNets → BeatNets → NetValue → Ne
 RowMoves netlist row first comes shift from end =
     (run : Run) (cycles : ℕ) → IsRun netlist run cycles → (c : ℕ) → c + 1 < cycles
     → row_in (cycle_of run (c + 1)) row ≡ shift_row (run.net c shift.number == 1) (place_in (cycle_of run c) end) (refilled (place_in (cycle_of run c) first) (run.net c comes.number == 1) (beat_in (cycle_of run c) from) (row_in (cycle_of run c) row))
+
+-- the first place is full
+abbrev pub is_first_full : Cycle → List BeatNets → Bool
+is_first_full cycle [] = false
+is_first_full cycle (nets ∷ row) = cycle.net nets.valid.number == 1
+
+-- a beat goes: one is held or shown, and ready is high
+abbrev pub gives_beat : Cycle → List BeatNets → BeatNets → NetValue → Bool
+gives_beat cycle row from ready = (is_first_full cycle row || (cycle.net from.valid.number == 1)) && (cycle.net ready.number == 1)
+
+-- from a cycle to the next, the beat that comes, if one does, takes the first empty place, and the row shifts where a beat goes
+pub record RowSteps (before after : Cycle) (row : List BeatNets) (from : BeatNets) (comes : Bool) (ready : NetValue) : Type 0 where
+  pub end : Place
+  pub empty : end.full ≡ false
+  pub is : row_in after row ≡ shift_row (gives_beat before row from ready) end (fill_row comes comes (beat_in before from) (row_in before row))
+
+-- in each run the row steps from cycle to cycle
+abbrev pub StepsRow : Netlist → List BeatNets → BeatNets → NetValue → NetValue → Type 0
+StepsRow netlist row from comes ready =
+    (run : Run) (cycles : ℕ) → IsRun netlist run cycles → (c : ℕ) → c + 1 < cycles
+    → RowSteps (cycle_of run c) (cycle_of run (c + 1)) row from (run.net c comes.number == 1) ready
 
 -- the nets of the first place where it is full, and else those that come
 abbrev pub shown_first : Cycle → List BeatNets → BeatNets → Shown

@@ -4,15 +4,19 @@
 pub mod beat;
 pub mod chain;
 pub mod makers;
+pub mod maybe;
 pub mod pass;
 pub mod queue;
 pub mod register;
-mod rows;
+pub mod rows;
 pub mod stage;
 pub mod stream;
+#[cfg(test)]
+mod tests;
 
 pub use beat::BeatNets;
 pub use chain::Chain;
+pub use maybe::Maybe;
 pub use pass::Pass;
 pub use queue::Fifo;
 pub use register::PipeReg;

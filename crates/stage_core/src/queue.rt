@@ -3,20 +3,19 @@
 //! the cycles that begin with an empty place. Its state is the row, and its hold so many beats as it has places. Its law is
 //! that of `queue_is_a_stage`.
 
-ghost use Rattle.std.specs.Prelude.{◌≡◌, ℕ, ◌+◌, ◌*◌, ◌^◌, ◌<◌, ◌∷◌, false, ◌==◌, length, IfOk, OnOk};
+ghost use Rattle.std.specs.Prelude.{◌≡◌, ℕ, ◌+◌, ◌*◌, ◌^◌, ◌<◌, ◌∷◌, ◌==◌, length, IfOk, OnOk};
 ghost use Rattle.netlist.specs.Netlists.{IsWaiting};
 ghost use Rattle.netlist.specs.Runs.{Always};
-ghost use Rattle.stage_core.specs.Beats.{IsBit, AreBeatNets, HaveSameWidths};
+ghost use Rattle.stage_core.specs.Beats.{IsBit, AreBeatNets};
 ghost use Rattle.stage_core.specs.Growth.{GrowsBy, AddsNets, WaitsWithout};
 ghost use Rattle.stage_core.specs.RegisterNets.{IsBufferShape};
-ghost use Rattle.stage_core.specs.Rows.{place_in, AreInRow, InRow};
-ghost use Rattle.stage_core.specs.QueueBits.{AreQueueBits, SetsRow};
+ghost use Rattle.stage_core.specs.Rows.{AreInRow, InRow};
+ghost use Rattle.stage_core.specs.QueueBits.{AreQueueBits, SetsQueue};
 ghost use Rattle.stage_core.specs.QueueNets.{QueueKeeps, QueueForward, QueueBackward, queue_keeps_lasts, queue_forward_lasts, queue_backward_lasts};
 
 use crate::beat::BeatNets;
-use crate::rows::{fill_place, last_valid, make_places, set_row, show_first};
+use crate::rows::{last_valid, make_places, set_places, show_first};
 use crate::stage::Stage;
-use av_base::Val;
 use netlist::{Builder, Net, NetFault};
 use std::alloc::Global;
 use stream_machines::machines::queue_is_a_stage;
@@ -45,61 +44,32 @@ pub struct FifoKept {
     pub from: BeatNets,
 }
 
-/// The bits that say what a row does in a cycle.
+/// The bits that say what a queue takes in a cycle.
 #[derive(Clone, Copy, Debug)]
 struct QueueBits {
     /// There is an empty place.
     room: Net,
     /// A beat comes in.
     comes: Net,
-    /// A beat goes out.
-    shift: Net,
 }
 
-/// The bits of a row from `valid` of its first and its last place, `valid` upstream and `ready` downstream.
-fn queue_bits(
-    builder: &mut Builder,
-    first: Net,
-    last: Net,
-    shown: Net,
-    ready: Net,
-) -> Result<QueueBits, NetFault>
-    requires first { IsBit builder.old first }
+/// The bits of a queue from `valid` of its last place and `valid` upstream.
+fn queue_bits(builder: &mut Builder, last: Net, shown: Net) -> Result<QueueBits, NetFault>
     requires last { IsBit builder.old last }
     requires shown { IsBit builder.old shown }
-    requires ready { IsBit builder.old ready }
     ensures room { IfOk result (λ bits. IsBit builder.new bits.room) }
     ensures comes { IfOk result (λ bits. IsBit builder.new bits.comes) }
-    ensures shift { IfOk result (λ bits. IsBit builder.new bits.shift) }
-    ensures value { IfOk result (λ bits. Always builder.new (λ cycle. AreQueueBits (cycle.net first.number == 1) (cycle.net last.number == 1) (cycle.net shown.number == 1) (cycle.net ready.number == 1) (cycle.net bits.room.number == 1) (cycle.net bits.comes.number == 1) (cycle.net bits.shift.number == 1))) }
-    ensures adds { AddsNets 4 builder.old builder.new }
-    ensures full { result ≡ Err NetFault.TooManyNets → 2 ^ 20 < length builder.old.lines + 4 }
+    ensures value { IfOk result (λ bits. Always builder.new (λ cycle. AreQueueBits (cycle.net last.number == 1) (cycle.net shown.number == 1) (cycle.net bits.room.number == 1) (cycle.net bits.comes.number == 1))) }
+    ensures adds { AddsNets 2 builder.old builder.new }
+    ensures full { result ≡ Err NetFault.TooManyNets → 2 ^ 20 < length builder.old.lines + 2 }
 {
     let room = builder.not(last)?;
     let comes = builder.and(shown, room)?;
-    let gives = builder.or(first, shown)?;
-    let shift = builder.and(gives, ready)?;
-    Ok(QueueBits { room, comes, shift })
+    Ok(QueueBits { room, comes })
 }
 
-/// What stands behind the last place: no beat.
-fn end_place(builder: &mut Builder, from: &BeatNets) -> Result<BeatNets, NetFault>
-    requires { AreBeatNets builder.old from.now }
-    ensures beat { IfOk result (λ made. AreBeatNets builder.new made) }
-    ensures widths { IfOk result (λ made. HaveSameWidths made from.now) }
-    ensures value { IfOk result (λ made. Always builder.new (λ cycle. (place_in cycle made).full ≡ false)) }
-    ensures adds { AddsNets 1 builder.old builder.new }
-    ensures full { result ≡ Err NetFault.TooManyNets → 2 ^ 20 < length builder.old.lines + 1 }
-{
-    let low = builder.constant(Val::new(1, 0).unwrap())?;
-    Ok(BeatNets {
-        valid: low,
-        ..from.copied()
-    })
-}
-
-/// Gives the places of a row, which has one at least, their next nets.
-fn set_places(
+/// Gives the places of a queue, which has one at least, their next nets.
+fn set_queue(
     builder: &mut Builder,
     row: &[BeatNets],
     first: &BeatNets,
@@ -112,17 +82,15 @@ fn set_places(
     requires from { AreBeatNets builder.old from.now }
     requires ready { IsBit builder.old ready }
     ensures net { IfOk result (λ up. IsBit builder.new up) }
-    ensures sets { IfOk result (λ up. SetsRow builder.new from.now first.now rest.now ready up) }
+    ensures sets { IfOk result (λ up. SetsQueue builder.new from.now first.now rest.now ready up) }
     ensures grows { GrowsBy (12 + 15 * length row.now) builder.old builder.new }
     ensures waits { (n : ℕ) → ¬ InRow row.now n → IsWaiting builder.old n → IsWaiting builder.new n }
     ensures no_more_wait { OnOk result (WaitsWithout (InRow row.now) builder.old builder.new) }
     ensures full { result ≡ Err NetFault.TooManyNets → 2 ^ 20 < length builder.old.lines + (12 + 15 * length row.now) }
 {
     let last = last_valid(first, rest);
-    let bits = queue_bits(builder, first.valid, last, from.valid, ready)?;
-    let end = end_place(builder, from)?;
-    let filled = fill_place(builder, first, bits.comes, from)?;
-    set_row(builder, row, &filled, bits.comes, bits.shift, from, &end)?;
+    let bits = queue_bits(builder, last, from.valid)?;
+    set_places(builder, row, from, bits.comes, ready)?;
     Ok(bits.room)
 }
 
@@ -170,7 +138,7 @@ impl Stage for Fifo {
         let row = kept.places.as_slice();
         match row.split_first() {
             None => Ok(ready),
-            Some((first, rest)) => set_places(builder, row, first, rest, &kept.from, ready),
+            Some((first, rest)) => set_queue(builder, row, first, rest, &kept.from, ready),
         }
     }
 

@@ -1,20 +1,21 @@
 //! A row of registers that holds beats, the oldest first.
 
-ghost use Rattle.std.specs.Prelude.{◌≡◌, ℕ, ◌+◌, ◌*◌, ◌^◌, ◌<◌, ◌≤◌, ◌&&◌, ◌==◌, length, IfOk, OnOk};
+ghost use Rattle.std.specs.Prelude.{◌≡◌, ℕ, ◌+◌, ◌*◌, ◌^◌, ◌<◌, ◌≤◌, ◌&&◌, ◌||◌, ◌==◌, false, length, IfOk, OnOk};
 ghost use Rattle.netlist.specs.Netlists.{IsWaiting};
 ghost use Rattle.netlist.specs.Runs.{Always};
 ghost use Rattle.stage_core.specs.Beats.{IsBit, AreBeatNets, HaveSameWidths, beat_in};
 ghost use Rattle.stage_core.specs.Groups.{shown_in};
 ghost use Rattle.stage_core.specs.Growth.{GrowsBy, AddsNets, StillWait, WaitsBeside, WaitsWithout, AreMadeBetween};
-ghost use Rattle.stage_core.specs.Rows.{place_in, row_in, first_or, filled, fill_row, AreInRow, InRow, StartsAllEmpty, RowMoves, shown_first, last_valid};
+ghost use Rattle.stage_core.specs.Rows.{place_in, row_in, first_or, filled, fill_row, AreInRow, InRow, StartsAllEmpty, RowMoves, StepsRow, shown_first, last_valid};
 
 use crate::beat::BeatNets;
 use crate::makers::{mux_beat, reg_beat, set_next_beat};
+use av_base::Val;
 use netlist::{Builder, Net, NetFault};
 use std::alloc::Global;
 
 /// A place as it is once a beat has come: full as it was, or else with the beat that comes, if it comes here.
-pub(crate) fn fill_place(
+fn fill_place(
     builder: &mut Builder,
     place: &BeatNets,
     here: Net,
@@ -68,7 +69,7 @@ fn fill_next(
 }
 
 /// Gives the places their next nets, from the oldest on. `first` is the first of them as it is once a beat has come.
-pub(crate) fn set_row(
+fn set_row(
     builder: &mut Builder,
     row: &[BeatNets],
     first: &BeatNets,
@@ -103,8 +104,67 @@ pub(crate) fn set_row(
     }
 }
 
+/// What stands behind the last place: no beat.
+fn end_place(builder: &mut Builder, from: &BeatNets) -> Result<BeatNets, NetFault>
+    requires { AreBeatNets builder.old from.now }
+    ensures beat { IfOk result (λ made. AreBeatNets builder.new made) }
+    ensures widths { IfOk result (λ made. HaveSameWidths made from.now) }
+    ensures value { IfOk result (λ made. Always builder.new (λ cycle. (place_in cycle made).full ≡ false)) }
+    ensures adds { AddsNets 1 builder.old builder.new }
+    ensures full { result ≡ Err NetFault.TooManyNets → 2 ^ 20 < length builder.old.lines + 1 }
+{
+    let low = builder.constant(Val::new(1, 0).unwrap())?;
+    Ok(BeatNets {
+        valid: low,
+        ..from.copied()
+    })
+}
+
+/// A beat goes where one is held in the first place or shown upstream, and ready is high.
+fn gives_beat(builder: &mut Builder, first: Net, shown: Net, ready: Net) -> Result<Net, NetFault>
+    requires first { IsBit builder.old first }
+    requires shown { IsBit builder.old shown }
+    requires ready { IsBit builder.old ready }
+    ensures net { IfOk result (λ gives. IsBit builder.new gives) }
+    ensures value { IfOk result (λ gives. Always builder.new (λ cycle. (cycle.net gives.number == 1) ≡ (((cycle.net first.number == 1) || (cycle.net shown.number == 1)) && (cycle.net ready.number == 1)))) }
+    ensures adds { AddsNets 2 builder.old builder.new }
+    ensures full { result ≡ Err NetFault.TooManyNets → 2 ^ 20 < length builder.old.lines + 2 }
+{
+    let some = builder.or(first, shown)?;
+    builder.and(some, ready)
+}
+
+/// Gives the places of a row their next nets, where `comes` says whether a beat comes.
+pub fn set_places(
+    builder: &mut Builder,
+    row: &[BeatNets],
+    from: &BeatNets,
+    comes: Net,
+    ready: Net,
+) -> Result<(), NetFault>
+    requires row { AreInRow builder.old from.now row.now }
+    requires from { AreBeatNets builder.old from.now }
+    requires comes { IsBit builder.old comes }
+    requires ready { IsBit builder.old ready }
+    ensures steps { OnOk result (StepsRow builder.new row.now from.now comes ready) }
+    ensures grows { GrowsBy (10 + 15 * length row.now) builder.old builder.new }
+    ensures waits { (n : ℕ) → ¬ InRow row.now n → IsWaiting builder.old n → IsWaiting builder.new n }
+    ensures no_more_wait { OnOk result (WaitsWithout (InRow row.now) builder.old builder.new) }
+    ensures full { result ≡ Err NetFault.TooManyNets → 2 ^ 20 < length builder.old.lines + (10 + 15 * length row.now) }
+{
+    match row.split_first() {
+        None => Ok(()),
+        Some((first, _)) => {
+            let shift = gives_beat(builder, first.valid, from.valid, ready)?;
+            let end = end_place(builder, from)?;
+            let filled = fill_place(builder, first, comes, from)?;
+            set_row(builder, row, &filled, comes, shift, from, &end)
+        }
+    }
+}
+
 /// The beat of the first place where it is full, and else the beat that comes.
-pub(crate) fn show_first(
+pub fn show_first(
     builder: &mut Builder,
     row: &[BeatNets],
     coming: &BeatNets,
@@ -131,6 +191,27 @@ pub(crate) fn last_valid(first: &BeatNets, rest: &[BeatNets]) -> Net
         None => first.valid,
         Some((next, others)) => last_valid(next, others),
     }
+}
+
+/// Makes each of the places a register, all empty.
+pub fn fill_places(
+    builder: &mut Builder,
+    like: &BeatNets,
+    places: &mut [BeatNets],
+) -> Result<(), NetFault>
+    requires { AreBeatNets builder.old like.now }
+    ensures row { OnOk result (AreInRow builder.new like.now places.new) }
+    ensures made { OnOk result (AreMadeBetween (InRow places.new) builder.old builder.new) }
+    ensures starts { OnOk result (StartsAllEmpty builder.new places.new) }
+    ensures grows { GrowsBy (7 * length places.old) builder.old builder.new }
+    ensures still_wait { StillWait builder.old builder.new }
+    ensures newly { OnOk result (WaitsBeside (InRow places.new) builder.old builder.new) }
+    ensures full { result ≡ Err NetFault.TooManyNets → 2 ^ 20 < length builder.old.lines + 7 * length places.old }
+{
+    for place in places.iter_mut() {
+        *place = reg_beat(builder, like)?;
+    }
+    Ok(())
 }
 
 /// So many places, all empty.

@@ -22,8 +22,8 @@ use Rattle.stream_machines.proofs.PassLaw.{one_if, ready_cycles_step, ready_cycl
 
 -- it holds at most one more for a beat that comes in
 held_grows : (through : Bool) (side : Side) (up down : EndView) (held : ℕ → List Beat) → HoldsBeats through side up down held
-    → (c : ℕ) → length (held (suc c)) ≤ length (held c) + one_if (is_transfer side.pace up c)
-held_grows through side up down held run c = by_transfer (is_transfer zero_pace down c) (run.moves c)
+    → (c : ℕ) → IsLegalSource side up (suc c) → length (held (suc c)) ≤ length (held c) + one_if (is_transfer side.pace up c)
+held_grows through side up down held run c legal = by_transfer (is_transfer zero_pace down c) (run.moves c legal)
   where
     taken_is : length (taken_now side up c) ≡ one_if (is_transfer side.pace up c)
     taken_is = by_taken (is_transfer side.pace up c)
@@ -97,7 +97,7 @@ module _ (through : Bool) (passes : ℕ → Bool) (places : ℕ) (side : Side) (
 
   pub all_hold : (c : ℕ) → IsLegalSource side up c → AllHold side (held c)
   all_hold zero legal = subst (AllHold side) (sym run.starts) tt
-  all_hold (suc c) legal = by_transfer (is_transfer zero_pace down c) (run.moves c) (hold-append side (held c) (taken_now side up c) (all_hold c (λ b h. legal b (omega arith))) (taken_holds c legal))
+  all_hold (suc c) legal = by_transfer (is_transfer zero_pace down c) (run.moves c legal) (hold-append side (held c) (taken_now side up c) (all_hold c (λ b h. legal b (omega arith))) (taken_holds c legal))
     where
       by_transfer : (b : Bool) → held (suc c) ≡ cond b (drop 1 (held c ++ taken_now side up c)) (held c ++ taken_now side up c) → AllHold side (held c ++ taken_now side up c) → AllHold side (held (suc c))
       by_transfer true e all = subst (AllHold side) (sym e) (hold-drop side (held c ++ taken_now side up c) all)
@@ -124,7 +124,7 @@ module _ (through : Bool) (passes : ℕ → Bool) (places : ℕ) (side : Side) (
       by_transfer : (b : Bool) → is_transfer zero_pace down c ≡ b → PassesOn (buffer_shape passes places side) (plain_run up down) store c
       by_transfer true moves =
           let first = goes_first c legal moves in
-          let next : held (suc c) ≡ drop 1 (held c ++ taken_now side up c) = run.moves c ∙ cond-true (is_transfer zero_pace down c) _ _ moves in
+          let next : held (suc c) ≡ drop 1 (held c ++ taken_now side up c) = run.moves c legal ∙ cond-true (is_transfer zero_pace down c) _ _ moves in
           let some : 0 < symbol_count side (beat_at down c) = (subst (AllHold side) first (hold-append side (held c) (taken_now side up c) (all_hold c (λ b h. legal b (omega arith))) (taken_holds c legal))).0 in
           record {
             out = shown_symbols side down c;
@@ -135,7 +135,7 @@ module _ (through : Bool) (passes : ℕ → Bool) (places : ℕ) (side : Side) (
             few = few;
           }
       by_transfer false quiet =
-          let next : held (suc c) ≡ held c ++ taken_now side up c = run.moves c ∙ cond-false (is_transfer zero_pace down c) _ _ quiet in
+          let next : held (suc c) ≡ held c ++ taken_now side up c = run.moves c legal ∙ cond-false (is_transfer zero_pace down c) _ _ quiet in
           record {
             out = [];
             split = store_with c legal ∙ ap (flat_map (symbols_of side)) (sym next);
@@ -180,7 +180,7 @@ module _ (through : Bool) (passes : ℕ → Bool) (places : ℕ) (side : Side) (
 
   holds : (c : ℕ) → IsLegalSource side up (suc c) → IsHeld zero_pace down c
   holds zero legal = tt
-  holds (suc c) legal = λ valid quiet. by_shown valid quiet (run.moves c ∙ cond-false (is_transfer zero_pace down c) _ _ quiet) (shown_at c)
+  holds (suc c) legal = λ valid quiet. by_shown valid quiet (run.moves c (λ b h. legal b (omega arith)) ∙ cond-false (is_transfer zero_pace down c) _ _ quiet) (shown_at c)
     where
       by_shown : is_high down.valid c ≡ true → is_transfer zero_pace down c ≡ false → held (suc c) ≡ held c ++ taken_now side up c → Shown c → ShowsSame down c (suc c)
       by_shown valid quiet next (from_held b bs is v same) = stands c b (bs ++ taken_now side up c) valid same (next ∙ ap (λ (q : List Beat). q ++ taken_now side up c) is)
@@ -239,11 +239,14 @@ comes_in_ready side up c strict legal moves = by_latency (cases_lt 0 side.pace.l
         let same : c - side.pace.latency ≡ c = omega arith in
         and_from _ _ (le-leb side.pace.latency c (omega arith)) (subst (λ n. is_high up.ready n ≡ true) (sym same) ready)
 
-module _ (side : Side) (up down : EndView) (held : ℕ → List Beat) (run : IsBufferRun side up down held) (strict : side.pace.allowance ≡ side.pace.latency) where
+-- what holds one more at most where a beat comes, and shows ready where what it holds leaves a place
+module _ (side : Side) (up : EndView) (held : ℕ → List Beat) (strict : side.pace.allowance ≡ side.pace.latency) (starts : held 0 ≡ [])
+    (grows : (c : ℕ) → IsLegalSource side up (suc c) → length (held (suc c)) ≤ length (held c) + one_if (is_transfer side.pace up c))
+    (asks : (c : ℕ) → is_high up.ready c ≡ nat_lt (length (held c) + ready_cycles side.pace.latency up c) (side.pace.latency + 1)) where
   -- the beats that are held and those that may still come have their places
-  room : (c : ℕ) → IsLegalSource side up c → length (held c) + ready_cycles side.pace.latency up c ≤ side.pace.latency + 1
-  room zero legal = omega (arith, ap length run.holds.starts, ready_cycles_le side.pace.latency up 0)
-  room (suc c) legal = by_transfer (room c (λ b h. legal b (omega arith))) (ready_cycles_step side.pace.latency up c) (is_transfer side.pace up c) refl (held_grows true side up down held run.holds c)
+  pub room : (c : ℕ) → IsLegalSource side up c → length (held c) + ready_cycles side.pace.latency up c ≤ side.pace.latency + 1
+  room zero legal = omega (arith, ap length starts, ready_cycles_le side.pace.latency up 0)
+  room (suc c) legal = by_transfer (room c (λ b h. legal b (omega arith))) (ready_cycles_step side.pace.latency up c) (is_transfer side.pace up c) refl (grows c legal)
     where
       one_at_most : (b : Bool) → one_if b ≤ 1
       one_at_most true = omega arith
@@ -251,7 +254,7 @@ module _ (side : Side) (up down : EndView) (held : ℕ → List Beat) (run : IsB
 
       by_ready : (a b : Bool) → length (held c) + ready_cycles side.pace.latency up c ≤ side.pace.latency + 1 → ready_cycles side.pace.latency up (suc c) + one_if b ≤ ready_cycles side.pace.latency up c + one_if a
           → is_high up.ready c ≡ a → length (held (suc c)) ≤ length (held c) + one_if b → length (held (suc c)) + ready_cycles side.pace.latency up (suc c) ≤ side.pace.latency + 1
-      by_ready true b r s e n = let below : length (held c) + ready_cycles side.pace.latency up c < side.pace.latency + 1 = ltb-true _ _ (sym (run.asks c) ∙ e) in omega (arith, below, s, n)
+      by_ready true b r s e n = let below : length (held c) + ready_cycles side.pace.latency up c < side.pace.latency + 1 = ltb-true _ _ (sym (asks c) ∙ e) in omega (arith, below, s, n)
       by_ready false b r s e n = omega (arith, r, s, n)
 
       by_transfer : length (held c) + ready_cycles side.pace.latency up c ≤ side.pace.latency + 1
@@ -264,13 +267,27 @@ module _ (side : Side) (up down : EndView) (held : ℕ → List Beat) (run : IsB
           by_ready (is_high up.ready c) true r (omega (arith, s')) refl n
       by_transfer r s false stays n = by_ready (is_high up.ready c) false r (omega (arith, s)) refl n
 
+  -- a beat that comes finds a place
+  pub has_place : (c : ℕ) → IsLegalSource side up (suc c) → is_transfer side.pace up c ≡ true → length (held c) ≤ side.pace.latency
+  has_place c legal moves = by_ready (room c (λ b h. legal b (omega arith))) (ready_cycles_step side.pace.latency up c) (is_high up.ready c) refl
+    where
+      ready : is_ready_cycle side.pace up c ≡ true
+      ready = comes_in_ready side up c strict (legal c (omega arith)) moves
+
+      by_ready : length (held c) + ready_cycles side.pace.latency up c ≤ side.pace.latency + 1
+          → ready_cycles side.pace.latency up (suc c) + one_if (is_ready_cycle side.pace up c) ≡ ready_cycles side.pace.latency up c + one_if (is_high up.ready c)
+          → (b : Bool) → is_high up.ready c ≡ b → length (held c) ≤ side.pace.latency
+      by_ready r s true e = let below : length (held c) + ready_cycles side.pace.latency up c < side.pace.latency + 1 = ltb-true _ _ (sym (asks c) ∙ e) in omega (arith, below)
+      by_ready r s false e = omega (arith, r, s, ap one_if ready, ap one_if e)
+
+module _ (side : Side) (up down : EndView) (held : ℕ → List Beat) (run : IsBufferRun side up down held) (strict : side.pace.allowance ≡ side.pace.latency) where
   asks_idle : (c : ℕ) → held c ≡ [] → is_high up.ready c ≡ true
   asks_idle c none = run.asks c ∙ lt-ltb (length (held c) + ready_cycles side.pace.latency up c) (side.pace.latency + 1) (omega (arith, ap length none, ready_cycles_le side.pace.latency up c))
 
   buffer_behaves : Behaves true (side.pace.latency + 1) side up down held
   buffer_behaves =
       record {
-        few = λ c legal. omega (arith, room c legal);
+        few = λ c legal. omega (arith, room side up held strict run.holds.starts (held_grows true side up down held run.holds) run.asks c legal);
         takes = λ c legal t none shown ready. and_from _ _ shown (or_right _ _ (asks_idle c none));
         rests = λ c legal none ready. asks_idle c none;
       }
@@ -283,9 +300,9 @@ ready_buffer_keeps passes side up down held run strict positive all_pass =
 -- ---- the register
 
 module _ (side : Side) (up down : EndView) (held : ℕ → List Beat) (run : IsRegisterRun side up down held) (direct : side.pace.latency ≡ 0) where
-  register_few : (c : ℕ) → length (held c) ≤ 1
-  register_few zero = omega (arith, ap length run.holds.starts)
-  register_few (suc c) = by_held (register_few c) (held c) refl (run.holds.shows c)
+  register_few : (c : ℕ) → IsLegalSource side up c → length (held c) ≤ 1
+  register_few zero legal = omega (arith, ap length run.holds.starts)
+  register_few (suc c) legal = by_held (register_few c (λ b h. legal b (omega arith))) (held c) refl (run.holds.shows c)
     where
       taken_at_most : length (taken_now side up c) ≤ 1
       taken_at_most = by_transfer (is_transfer side.pace up c)
@@ -297,7 +314,7 @@ module _ (side : Side) (up down : EndView) (held : ℕ → List Beat) (run : IsR
       by_held : length (held c) ≤ 1 → (bs : List Beat) → held c ≡ bs → ShowsHeld false bs up down c → length (held (suc c)) ≤ 1
       by_held few [] is s =
           let quiet : is_transfer zero_pace down c ≡ false = and_left _ _ s in
-          omega (arith, ap length (run.holds.moves c ∙ cond-false (is_transfer zero_pace down c) _ _ quiet), length-append (held c) (taken_now side up c), ap length is, taken_at_most)
+          omega (arith, ap length (run.holds.moves c legal ∙ cond-false (is_transfer zero_pace down c) _ _ quiet), length-append (held c) (taken_now side up c), ap length is, taken_at_most)
       by_held few (b ∷ bs) is s = by_ready (cases_Bool (is_high down.ready c))
         where
           full : length (held c) ≡ 1
@@ -306,17 +323,17 @@ module _ (side : Side) (up down : EndView) (held : ℕ → List Beat) (run : IsR
           by_ready : (is_high down.ready c ≡ true) ⊎ (is_high down.ready c ≡ false) → length (held (suc c)) ≤ 1
           by_ready (inl ready) =
               let moves : is_transfer zero_pace down c ≡ true = direct_transfer zero_pace down c refl ∙ and_from _ _ s.0 ready in
-              omega (arith, ap length (run.holds.moves c ∙ cond-true (is_transfer zero_pace down c) _ _ moves), length-drop 1 (held c ++ taken_now side up c), length-append (held c) (taken_now side up c), full, taken_at_most)
+              omega (arith, ap length (run.holds.moves c legal ∙ cond-true (is_transfer zero_pace down c) _ _ moves), length-drop 1 (held c ++ taken_now side up c), length-append (held c) (taken_now side up c), full, taken_at_most)
           by_ready (inr low) =
               let quiet : is_transfer zero_pace down c ≡ false = direct_transfer zero_pace down c refl ∙ and_right _ _ low in
               let shut : is_high up.ready c ≡ false = run.asks c ∙ (ap (λ b. b || is_high down.ready c) (le-ltb (length (held c)) 1 (omega (arith, full))) ∙ low) in
               let stays : is_transfer side.pace up c ≡ false = direct_transfer side.pace up c direct ∙ and_right _ _ shut in
-              omega (arith, ap length (run.holds.moves c ∙ cond-false (is_transfer zero_pace down c) _ _ quiet), length-append (held c) (taken_now side up c), full, ap length (cond-false (is_transfer side.pace up c) (beat_at up c ∷ []) [] stays))
+              omega (arith, ap length (run.holds.moves c legal ∙ cond-false (is_transfer zero_pace down c) _ _ quiet), length-append (held c) (taken_now side up c), full, ap length (cond-false (is_transfer side.pace up c) (beat_at up c ∷ []) [] stays))
 
   register_behaves : Behaves false 1 side up down held
   register_behaves =
       record {
-        few = λ c legal. register_few c;
+        few = register_few;
         takes = λ c legal t none shown ready. absurd (cc);
         rests = λ c legal none ready. run.asks c ∙ or_right _ _ ready;
       }
@@ -368,9 +385,9 @@ module _ (places : ℕ) (side : Side) (up down : EndView) (held : ℕ → List B
           by_ready false f = omega (arith, f, earlier)
 
   -- the beats that are held leave places for all that the allowance still lets come
-  leaves : (c : ℕ) → length (held c) + side.pace.allowance ≤ places + since side.pace up c
-  leaves zero = omega (arith, ap length run.holds.starts)
-  leaves (suc c) = by_ready (leaves c) (is_high up.ready c) refl (since_next side.pace up c)
+  leaves : (c : ℕ) → IsLegalSource side up c → length (held c) + side.pace.allowance ≤ places + since side.pace up c
+  leaves zero legal = omega (arith, ap length run.holds.starts)
+  leaves (suc c) legal = by_ready (leaves c (λ b h. legal b (omega arith))) (is_high up.ready c) refl (since_next side.pace up c)
     where
       one_at_most : (b : Bool) → one_if b ≤ 1
       one_at_most true = omega arith
@@ -378,13 +395,13 @@ module _ (places : ℕ) (side : Side) (up down : EndView) (held : ℕ → List B
 
       by_ready : length (held c) + side.pace.allowance ≤ places + since side.pace up c → (r : Bool) → is_high up.ready c ≡ r
           → beats_since_ready side.pace up c ≡ cond r 0 (since side.pace up c + one_if (is_transfer side.pace up c)) → length (held (suc c)) + side.pace.allowance ≤ places + beats_since_ready side.pace up c
-      by_ready earlier true asked e = let below : length (held c) + side.pace.allowance < places = ltb-true _ _ (sym (run.asks c) ∙ asked) in omega (arith, below, held_grows true side up down held run.holds c, one_at_most (is_transfer side.pace up c))
-      by_ready earlier false low e = omega (arith, earlier, held_grows true side up down held run.holds c, e)
+      by_ready earlier true asked e = let below : length (held c) + side.pace.allowance < places = ltb-true _ _ (sym (run.asks c) ∙ asked) in omega (arith, below, held_grows true side up down held run.holds c legal, one_at_most (is_transfer side.pace up c))
+      by_ready earlier false low e = omega (arith, earlier, held_grows true side up down held run.holds c legal, e)
 
   allowance_behaves : Behaves true places side up down held
   allowance_behaves =
       record {
-        few = λ c legal. omega (arith, leaves c, since_within c legal);
+        few = λ c legal. omega (arith, leaves c legal, since_within c legal);
         takes = λ c legal t none shown ready. and_from _ _ shown (or_left _ _ (lt-ltb 0 side.pace.latency delayed));
         rests = λ c legal none ready. run.asks c ∙ lt-ltb (length (held c) + side.pace.allowance) places (omega (arith, ap length none));
       }
@@ -398,8 +415,8 @@ allowance_buffer_keeps passes places side up down held run delayed above roomy p
 
 -- while its sink is always ready, a machine through which beats pass stays empty
 module _ (side : Side) (up down : EndView) (held : ℕ → List Beat) (run : HoldsBeats true side up down held) where
-  empty_next : (b : ℕ) → held b ≡ [] → is_high down.ready b ≡ true → held (suc b) ≡ []
-  empty_next b none ready_now = run.moves b ∙ by_transfer (is_transfer zero_pace down b) refl (is_transfer side.pace up b) refl
+  empty_next : (b : ℕ) → IsLegalSource side up (suc b) → held b ≡ [] → is_high down.ready b ≡ true → held (suc b) ≡ []
+  empty_next b legal none ready_now = run.moves b legal ∙ by_transfer (is_transfer zero_pace down b) refl (is_transfer side.pace up b) refl
     where
       shown : ShowsHeld true [] up down b
       shown = subst (λ (q : List Beat). ShowsHeld true q up down b) none (run.shows b)
@@ -413,14 +430,14 @@ module _ (side : Side) (up down : EndView) (held : ℕ → List Beat) (run : Hol
           let valid_up = (and_parts (is_high up.valid b) (nat_lt 0 side.pace.latency || is_high up.ready b) took).0 in
           absurd (both_ways _ quiet (direct_transfer zero_pace down b refl ∙ and_from _ _ (ap (λ n. eqb n 1) (sym shown.valid) ∙ valid_up) ready_now))
 
-  stays_empty : (b : ℕ) → ((d : ℕ) → d < b → is_high down.ready d ≡ true) → held b ≡ []
-  stays_empty zero all = run.starts
-  stays_empty (suc b) all = empty_next b (stays_empty b (λ d h. all d (omega arith))) (all b (omega arith))
+  stays_empty : (b : ℕ) → IsLegalSource side up b → ((d : ℕ) → d < b → is_high down.ready d ≡ true) → held b ≡ []
+  stays_empty zero legal all = run.starts
+  stays_empty (suc b) legal all = empty_next b legal (stays_empty b (λ d h. legal d (omega arith)) (λ d h. all d (omega arith))) (all b (omega arith))
 
 pub ready_buffer_passes_ready : (passes : ℕ → Bool) (side : Side) (up down : EndView) (held : ℕ → List Beat) → IsBufferRun side up down held → side.pace.allowance ≡ side.pace.latency
     → PassesReady (buffer_shape passes (side.pace.latency + 1) side) (plain_run up down)
 ready_buffer_passes_ready passes side up down held run strict c legal ready =
-    asks_idle side up down held run strict c (stays_empty side up down held run.holds c (λ b h. ready b (omega arith)))
+    asks_idle side up down held run strict c (stays_empty side up down held run.holds c (λ b h. legal b (omega arith)) (λ b h. ready b (omega arith)))
 
 -- ---- the queue
 
@@ -432,9 +449,9 @@ module _ (depth : ℕ) (side : Side) (up down : EndView) (held : ℕ → List Be
       by_depth (inl some) = or_left _ _ (lt-ltb (length (held c)) depth (omega (arith, ap length none)))
       by_depth (inr wire) = or_right _ _ (and_from _ _ (eq-eqb depth 0 (omega arith)) ready)
 
-  queue_few : (c : ℕ) → length (held c) ≤ depth
-  queue_few zero = omega (arith, ap length run.holds.starts)
-  queue_few (suc c) = by_ready (queue_few c) (is_high up.ready c) refl (held_grows true side up down held run.holds c)
+  queue_few : (c : ℕ) → IsLegalSource side up c → length (held c) ≤ depth
+  queue_few zero legal = omega (arith, ap length run.holds.starts)
+  queue_few (suc c) legal = by_ready (queue_few c (λ b h. legal b (omega arith))) (is_high up.ready c) refl (held_grows true side up down held run.holds c legal)
     where
       at_most : (b : Bool) → one_if b ≤ 1
       at_most true = omega arith
@@ -442,7 +459,7 @@ module _ (depth : ℕ) (side : Side) (up down : EndView) (held : ℕ → List Be
 
       -- a wire keeps nothing
       through : depth ≡ 0 → is_high down.ready c ≡ true → held c ≡ [] → held (suc c) ≡ []
-      through wire ready none = empty_next side up down held run.holds c none ready
+      through wire ready none = empty_next side up down held run.holds c legal none ready
 
       empty_list : (bs : List Beat) → length bs ≤ 0 → bs ≡ []
       empty_list [] h = refl
@@ -464,7 +481,7 @@ module _ (depth : ℕ) (side : Side) (up down : EndView) (held : ℕ → List Be
   queue_behaves : Behaves true depth side up down held
   queue_behaves =
       record {
-        few = λ c legal. queue_few c;
+        few = queue_few;
         takes = λ c legal t none shown ready. and_from _ _ shown (or_right _ _ (asks_empty c none ready));
         rests = λ c legal none ready. asks_empty c none ready;
       }
@@ -487,4 +504,4 @@ queue_has_room passes depth side up down held run direct positive all_pass c leg
 pub queue_passes_ready : (passes : ℕ → Bool) (depth : ℕ) (side : Side) (up down : EndView) (held : ℕ → List Beat) → IsQueueRun depth side up down held → side.pace.latency ≡ 0
     → PassesReady (buffer_shape passes depth side) (plain_run up down)
 queue_passes_ready passes depth side up down held run direct c legal ready =
-    asks_empty depth side up down held run direct c (stays_empty side up down held run.holds c (λ b h. ready b (omega arith))) (ready c (omega arith))
+    asks_empty depth side up down held run direct c (stays_empty side up down held run.holds c (λ b h. legal b (omega arith)) (λ b h. ready b (omega arith))) (ready c (omega arith))

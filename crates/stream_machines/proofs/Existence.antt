@@ -192,7 +192,7 @@ module _ (n : Numbers) (source : EndView) (ready : ℕ → ℕ) where
           starts = refl;
           asks = λ c. bit_is (ready_3 (held c) c) ∙ (ap (λ b. not b || ready_4 (held c) c) (sym (completes_is c)) ∙ ap (λ b. not (completes n.wide_parts line.parted (held c).beats c) || b) (sym (bit_is (ready_4 (held c) c))));
           valid = λ c. bit_is (valid_4 (held c) c) ∙ sym (completes_is c);
-          shows = λ c _. joined_is (side_three n) (side_four n) n.wide_parts some refl refl high high (held c).beats (beat_3 (held c) c) (gathers_few c);
+          shows = λ c legal _. joined_is (side_three n) (side_four n) n.wide_parts some refl refl high high (held c).beats (beat_3 (held c) c) (gathers_few c);
           same = λ b c e f.
               ap (λ (xs : List Beat). joined_beat (side_three n) (side_four n) n.wide_parts xs (beat_3 (held b) b)) e ∙ ap (joined_beat (side_three n) (side_four n) n.wide_parts (held c).beats) f;
           moves = λ c.
@@ -208,7 +208,7 @@ module _ (n : Numbers) (source : EndView) (ready : ℕ → ℕ) where
         holds = record {
           starts = refl;
           shows = λ c. shows_at c (held c).queue refl;
-          moves = λ c.
+          moves = λ c legal.
               ap (λ b. cond b (drop 1 ((held c).queue ++ cond (valid_4 (held c) c && ready_4 (held c) c) (beat_4 (held c) c ∷ []) [])) ((held c).queue ++ cond (valid_4 (held c) c && ready_4 (held c) c) (beat_4 (held c) c ∷ []) []))
               (sym (moves_2 (λ d. valid_5 (held d) d) (λ d. beat_5 (held d) d) ready_5 c))
               ∙ ap (λ b. cond (is_transfer zero_pace line.queued c) (drop 1 ((held c).queue ++ cond b (beat_4 (held c) c ∷ []) [])) ((held c).queue ++ cond b (beat_4 (held c) c ∷ []) []))

@@ -112,7 +112,7 @@ module _ (passes : ℕ → Bool) (parts : ℕ) (narrow wide : Side) (up down : E
     shown_now = (and_parts (is_high up.valid c) (is_high up.last c || eqb (length (gathered c) + 1) parts) done).0
 
     joined_now : IsJoined narrow wide (gathered c) (beat_at up c) (beat_at down c)
-    joined_now = run.shows c (run.valid c ∙ done)
+    joined_now = run.shows c legal (run.valid c ∙ done)
 
     before_now : Gathering narrow parts (is_open narrow.pace up c) (channel_before narrow.pace up c) (gathered c)
     before_now = gathering c (λ b h. legal b (omega arith))

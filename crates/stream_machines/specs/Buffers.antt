@@ -1,6 +1,7 @@
 -- Machines that hold beats whole: a buffer behind a source of some ready latency, and a register.
 use Rattle.std.specs.Prelude.{ℕ, suc, ◌+◌, ◌*◌, ◌≡◌, Bool, true, false, ◌||◌, ◌&&◌, ◌==◌, nat_lt, if◌then◌else◌, IsTrue, List, [], ◌∷◌, ◌++◌, length, drop}
 use Rattle.stream_runs.specs.View.{EndView, Beat, Pace, Side, beat_at, is_high, is_transfer}
+use Rattle.stream_runs.specs.Source.{IsLegalSource}
 use Rattle.stream_machines.specs.Stage.{Shape, ShowAlike, ready_cycles}
 
 -- ready latency 0
@@ -21,11 +22,11 @@ ShowsHeld through (beat ∷ beats) up down c = IsTrue (is_high down.valid c) × 
 abbrev pub taken_now : Side → EndView → ℕ → List Beat
 taken_now side up c = if is_transfer side.pace up c then beat_at up c ∷ [] else []
 
--- the beats that a machine holds as each cycle begins
+-- the beats that a machine holds as each cycle begins. It need not have places for what a source sends that isn't legal
 pub record HoldsBeats (through : Bool) (side : Side) (up down : EndView) (held : ℕ → List Beat) : Type 0 where
   pub starts : held 0 ≡ []
   pub shows : (c : ℕ) → ShowsHeld through (held c) up down c
-  pub moves : (c : ℕ) → held (suc c) ≡ (if is_transfer zero_pace down c then drop 1 (held c ++ taken_now side up c) else held c ++ taken_now side up c)
+  pub moves : (c : ℕ) → IsLegalSource side up (suc c) → held (suc c) ≡ (if is_transfer zero_pace down c then drop 1 (held c ++ taken_now side up c) else held c ++ taken_now side up c)
 
 -- what such a machine with this many places promises
 abbrev pub buffer_shape : (ℕ → Bool) → ℕ → Side → Shape

@@ -3,6 +3,7 @@
 use Rattle.std.specs.Prelude.{ℕ, suc, ◌+◌, ◌-◌, ◌*◌, ◌<◌, ◌≡◌, Bool, true, false, not, ◌&&◌, ◌||◌, ◌==◌, if◌then◌else◌, IsTrue, List, [], ◌∷◌, ◌++◌, map, length, fold, bit_or, drop}
 use Rattle.stream_runs.specs.View.{EndView, Beat, Side, beat_at, is_high, is_transfer}
 use Rattle.stream_runs.specs.Symbols.{symbol_count, value_of}
+use Rattle.stream_runs.specs.Source.{IsLegalSource}
 use Rattle.stream_machines.specs.Stage.{Shape, StageRun}
 
 -- from part number t on the word holds the data of these beats
@@ -33,12 +34,13 @@ pub record IsJoined (narrow wide : Side) (earlier : List Beat) (latest joined : 
 abbrev pub completes : ℕ → EndView → List Beat → ℕ → Bool
 completes parts up earlier c = is_high up.valid c && (is_high up.last c || (length earlier + 1 == parts))
 
--- a machine that gathers beats: it keeps all but the one that completes a wide beat
+-- a machine that gathers beats: it keeps all but the one that completes a wide beat. What it shows of beats that aren't
+-- legal is free, since their empty need not fit
 pub record IsWidenRun (parts : ℕ) (narrow wide : Side) (up down : EndView) (gathered : ℕ → List Beat) : Type 0 where
   pub starts : gathered 0 ≡ []
   pub asks : (c : ℕ) → is_high up.ready c ≡ (not (completes parts up (gathered c) c) || is_high down.ready c)
   pub valid : (c : ℕ) → is_high down.valid c ≡ completes parts up (gathered c) c
-  pub shows : (c : ℕ) → IsTrue (is_high down.valid c)
+  pub shows : (c : ℕ) → IsLegalSource narrow up (suc c) → IsTrue (is_high down.valid c)
       → IsJoined narrow wide (gathered c) (beat_at up c) (beat_at down c)
   pub same : (b c : ℕ) → gathered b ≡ gathered c → beat_at up b ≡ beat_at up c → beat_at down b ≡ beat_at down c
   pub moves : (c : ℕ) → gathered (suc c) ≡ (if is_transfer narrow.pace up c then (if completes parts up (gathered c) c then [] else gathered c ++ beat_at up c ∷ []) else gathered c)

@@ -4,10 +4,12 @@ use Rattle.std.proofs.lemmas.Option.{slice_get_within, get_or_from_slice_get}
 use Rattle.av_base.specs.declared.value.Val.{Val}
 use Rattle.netlist.specs.declared.line.Line.{Line}
 use Rattle.netlist.specs.declared.line.PortLine.{PortLine}
+use Rattle.netlist.specs.declared.line.Memory.{Memory}
+use Rattle.netlist.specs.declared.line.MemWrite.{MemWrite}
 use Rattle.netlist.specs.declared.line.Equation.{Equation}
 use Rattle.netlist.specs.declared.line.Equation.TheVariants.{Reg}
 use Rattle.netlist.specs.Netlists.{Netlist, HasWidth, is_register, line_of}
-use Rattle.verilog_writer.specs.Text.{wire_line, register_line, net_line, net_name, nets_text, constant_text, clock_line, clocked_line, clocked_text, assign_line, assigns_text}
+use Rattle.verilog_writer.specs.Text.{wire_line, register_line, net_line, net_name, nets_text, constant_text, clock_line, clocked_line, clocked_text, memory_name, memory_line, memories_text, write_line, written_line, writes_text, assign_line, assigns_text}
 
 -- what is left to write, after one more piece of it
 pub written_more : (old new add rest next total : List ℕ) → new ≡ old ++ add → rest ≡ add ++ next → old ++ rest ≡ total → new ++ next ≡ total
@@ -27,6 +29,14 @@ nets_step ports lines n line e = ap (nets_text ports n) (drop_get lines n line e
 pub clocked_step : (lines : List Line) (n : ℕ) (line : Line) → slice_get lines n ≡ Some line →
     clocked_text n (drop n lines) ≡ clocked_line n line.equation ++ clocked_text (n + 1) (drop (n + 1) lines)
 clocked_step lines n line e = ap (clocked_text n) (drop_get lines n line e)
+
+pub memories_step : (memories : List Memory) (m : ℕ) (memory : Memory) → slice_get memories m ≡ Some memory →
+    memories_text m (drop m memories) ≡ memory_line m memory ++ memories_text (m + 1) (drop (m + 1) memories)
+memories_step memories m memory e = ap (memories_text m) (drop_get memories m memory e)
+
+pub writes_step : (memories : List Memory) (m : ℕ) (memory : Memory) → slice_get memories m ≡ Some memory →
+    writes_text m (drop m memories) ≡ written_line m memory.write ++ writes_text (m + 1) (drop (m + 1) memories)
+writes_step memories m memory e = ap (writes_text m) (drop_get memories m memory e)
 
 pub assigns_step : (ports : List PortLine) (drivers : List (Option ℕ)) (k : ℕ) (port : PortLine) (driver : Option ℕ) → slice_get ports k ≡ Some port → slice_get drivers k ≡ Some driver →
     assigns_text (drop k ports) (drop k drivers) ≡ assign_line port driver ++ assigns_text (drop (k + 1) ports) (drop (k + 1) drivers)
@@ -80,3 +90,11 @@ regrouped a b c d e f g h i = simp append_assoc
 pub clock_line-parts : (n width reset next : ℕ) →
     clock_line n width reset next ≡ (codes "  always @(posedge clk) if (reset) n" ++ (decimal n ++ codes " <= ")) ++ (constant_text width reset ++ (codes "; else n" ++ (decimal n ++ (codes " <= n" ++ (decimal next ++ codes ";\n")))))
 clock_line-parts n width reset next = regrouped (codes "  always @(posedge clk) if (reset) ") (net_name n) (codes " <= ") (constant_text width reset) (codes "; else ") (net_name n) (codes " <= ") (net_name next) (codes ";\n")
+
+rightward : (a b c d e f g h i : List ℕ) → a ++ b ++ c ++ d ++ e ++ f ++ g ++ h ++ i ≡ a ++ (b ++ (c ++ (d ++ (e ++ (f ++ (g ++ (h ++ i)))))))
+rightward a b c d e f g h i = simp append_assoc
+
+-- the parts in which a memory's clocked line is written
+pub write_line-parts : (m : ℕ) (write : MemWrite) →
+    write_line m write ≡ codes "  always @(posedge clk) if (n" ++ (decimal write.enable ++ (codes ") m" ++ (decimal m ++ (codes "[n" ++ (decimal write.address ++ (codes "] <= n" ++ (decimal write.word ++ codes ";\n")))))))
+write_line-parts m write = rightward (codes "  always @(posedge clk) if (") (net_name write.enable) (codes ") ") (memory_name m) (codes "[") (net_name write.address) (codes "] <= ") (net_name write.word) (codes ";\n")

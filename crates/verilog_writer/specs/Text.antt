@@ -1,9 +1,12 @@
--- The Verilog text of a module, in this order: its header, a line for each net, a clocked line for each register, a line for each output.
-use Rattle.std.specs.Prelude.{ℕ, zero, suc, ◌+◌, ◌-◌, ◌/◌, ◌%◌, List, [], ◌∷◌, ◌++◌, codes, decimal, nat_lt, slice_get, Option, Some, None, if◌then◌else◌}
+-- The Verilog text of a module, in this order: its header, a line for each memory, a line for each net, a clocked line for each register
+-- and then for each memory, a line for each output.
+use Rattle.std.specs.Prelude.{ℕ, zero, suc, ◌+◌, ◌-◌, ◌/◌, ◌%◌, ◌^◌, List, [], ◌∷◌, ◌++◌, codes, decimal, nat_lt, slice_get, Option, Some, None, if◌then◌else◌}
 use Rattle.netlist.specs.declared.line.Equation.{Equation}
-use Rattle.netlist.specs.declared.line.Equation.TheVariants.{Input, Constant, And, Or, Xor, Add, Sub, Eq, Less, Concat, Not, Any, Mux, Slice, Reg}
+use Rattle.netlist.specs.declared.line.Equation.TheVariants.{Input, Constant, And, Or, Xor, Add, Sub, Eq, Less, Concat, Not, Any, Mux, Slice, Reg, Read}
 use Rattle.netlist.specs.declared.line.Line.{Line}
 use Rattle.netlist.specs.declared.line.PortLine.{PortLine}
+use Rattle.netlist.specs.declared.line.Memory.{Memory}
+use Rattle.netlist.specs.declared.line.MemWrite.{MemWrite}
 use Rattle.netlist.specs.Netlists.{Netlist, is_register}
 
 -- a number below 16 as a hexadecimal digit in lower case
@@ -25,6 +28,9 @@ range_text width = codes "[" ++ decimal (width - 1) ++ codes ":0]"
 
 abbrev pub net_name : ℕ → List ℕ
 net_name n = codes "n" ++ decimal n
+
+abbrev pub memory_name : ℕ → List ℕ
+memory_name m = codes "m" ++ decimal m
 
 abbrev pub direction_text : PortLine → List ℕ
 direction_text port = if port.output then codes "output" else codes "input"
@@ -66,12 +72,22 @@ right_text ports (Any a) = codes "|" ++ net_name a
 right_text ports (Mux s a b) = net_name s ++ codes " ? " ++ net_name a ++ codes " : " ++ net_name b
 right_text ports (Slice a high low) = net_name a ++ codes "[" ++ decimal high ++ codes ":" ++ decimal low ++ codes "]"
 right_text ports (Reg reset next) = []
+right_text ports (Read m a) = memory_name m ++ codes "[" ++ net_name a ++ codes "]"
 
 abbrev pub wire_line : List PortLine → ℕ → ℕ → Equation → List ℕ
 wire_line ports n width equation = codes "  wire " ++ range_text width ++ codes " " ++ net_name n ++ codes " = " ++ right_text ports equation ++ codes ";\n"
 
 abbrev pub register_line : ℕ → ℕ → List ℕ
 register_line n width = codes "  reg " ++ range_text width ++ codes " " ++ net_name n ++ codes ";\n"
+
+-- the line of memory m: the bits of its words, and its addresses up to the last
+abbrev pub memory_line : ℕ → Memory → List ℕ
+memory_line m memory = codes "  reg " ++ range_text memory.width ++ codes " " ++ memory_name m ++ codes " [0:" ++ decimal (2 ^ memory.address_bits - 1) ++ codes "];\n"
+
+-- the lines of the memories from memory m on
+abbrev pub memories_text : ℕ → List Memory → List ℕ
+memories_text m [] = []
+memories_text m (memory ∷ memories) = memory_line m memory ++ memories_text (m + 1) memories
 
 -- the line of net n
 abbrev pub net_line : List PortLine → ℕ → Line → List ℕ
@@ -97,6 +113,21 @@ abbrev pub clocked_text : ℕ → List Line → List ℕ
 clocked_text n [] = []
 clocked_text n (line ∷ lines) = clocked_line n line.equation ++ clocked_text (n + 1) lines
 
+-- what the clock does to memory m: it takes a word at an address where the write is enabled
+abbrev pub write_line : ℕ → MemWrite → List ℕ
+write_line m write =
+    codes "  always @(posedge clk) if (" ++ net_name write.enable ++ codes ") " ++ memory_name m ++ codes "[" ++ net_name write.address ++ codes "] <= " ++ net_name write.word ++ codes ";\n"
+
+-- the clocked line of memory m; one that waits for its write has none
+abbrev pub written_line : ℕ → Option MemWrite → List ℕ
+written_line m None = []
+written_line m (Some write) = write_line m write
+
+-- the clocked lines of the memories from memory m on
+abbrev pub writes_text : ℕ → List Memory → List ℕ
+writes_text m [] = []
+writes_text m (memory ∷ memories) = written_line m memory.write ++ writes_text (m + 1) memories
+
 -- the line of an output, by the net that drives it; an input has none
 abbrev pub assign_line : PortLine → Option ℕ → List ℕ
 assign_line port None = []
@@ -110,4 +141,6 @@ assigns_text (port ∷ ports) (driver ∷ drivers) = assign_line port driver ++ 
 
 -- the one text of a module
 abbrev pub text_of : Netlist → List ℕ
-text_of netlist = header_text netlist ++ nets_text netlist.ports 0 netlist.lines ++ clocked_text 0 netlist.lines ++ assigns_text netlist.ports netlist.drivers ++ codes "endmodule\n"
+text_of netlist =
+    header_text netlist ++ memories_text 0 netlist.memories ++ nets_text netlist.ports 0 netlist.lines ++ clocked_text 0 netlist.lines ++ writes_text 0 netlist.memories
+    ++ assigns_text netlist.ports netlist.drivers ++ codes "endmodule\n"

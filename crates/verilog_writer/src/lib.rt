@@ -1,17 +1,17 @@
 //! The Verilog text of a module.
 //!
-//! Each line of the text states one thing: a port, a net with its equation, what a register takes with the clock,
-//! or an output with the net that drives it.
+//! Each line of the text states one thing: a port, a memory, a net with its equation, what a register or a memory takes
+//! with the clock, or an output with the net that drives it.
 #![tactic(auto)]
 
 ghost use Rattle.std.specs.Prelude.{◌≡◌, ℕ, ◌+◌, ◌^◌, ◌≤◌, ◌<◌, ◌++◌, string_bytes, length, slice_get, OnOk, IfOk, Some, None, [], ◌∷◌, false, true, codes, decimal};
 ghost use Rattle.netlist.specs.declared.line.Line.{Line};
-ghost use Rattle.netlist.specs.Netlists.{IsModule, IsSound, IsInputPort, is_register, line_of};
+ghost use Rattle.netlist.specs.Netlists.{IsModule, IsSound, IsInputPort, is_register, line_of, memory_of};
 ghost use Rattle.av_base.specs.Word.{word};
-ghost use Rattle.verilog_writer.specs.Text.{hex_digit, hex_digits, constant_text, port_text, ports_text, header_text, name_of, infix_text, right_text, net_name, wire_line, register_line, net_line, nets_text, clock_line, clocked_line, clocked_text, assign_line, assigns_text, text_of};
+ghost use Rattle.verilog_writer.specs.Text.{hex_digit, hex_digits, constant_text, port_text, ports_text, header_text, name_of, infix_text, right_text, net_name, memory_name, memory_line, memories_text, wire_line, register_line, net_line, nets_text, clock_line, clocked_line, clocked_text, write_line, writes_text, assign_line, assigns_text, text_of};
 
 use av_base::{Bytes, NoMemory, Val};
-use netlist::{Equation, Module, PortLine};
+use netlist::{Equation, MemLine, Module, PortLine};
 use std::alloc::Global;
 use std::fmt::Write;
 
@@ -81,6 +81,28 @@ fn put_ports(text: &mut String, module: &Module) -> Result<(), NoMemory>
     Ok(())
 }
 
+/// The line of a memory: the bits of its words, and its addresses up to the last.
+fn put_memory(text: &mut String, number: u32, memory: &MemLine) -> Result<(), NoMemory>
+    requires some_bit { 1 ≤ memory.now.width }
+    requires few { memory.now.address_bits ≤ 10 }
+    ensures { OnOk result (string_bytes text.new ≡ string_bytes text.old ++ memory_line number (memory_of memory.now)) }
+{
+    let high = memory.width - 1;
+    let last = 2u32.pow(u32::from(memory.address_bits)) - 1;
+    write!(text, "  reg [{high}:0] m{number} [0:{last}];\n")?;
+    Ok(())
+}
+
+fn put_memories(text: &mut String, module: &Module) -> Result<(), NoMemory>
+    requires { IsModule «module».now }
+    ensures { OnOk result (string_bytes text.new ≡ string_bytes text.old ++ memories_text 0 «module».now.memories) }
+{
+    for number in 0..module.memory_count() {
+        put_memory(text, number, &module.memory(number))?;
+    }
+    Ok(())
+}
+
 /// Two nets with an operator between them.
 fn put_infix(text: &mut String, a: u32, operator: &str, b: u32) -> Result<(), NoMemory>
     ensures { OnOk result (string_bytes text.new ≡ string_bytes text.old ++ infix_text a operator.now b) }
@@ -117,6 +139,13 @@ fn put_slice(text: &mut String, a: u32, high: u8, low: u8) -> Result<(), NoMemor
     Ok(())
 }
 
+fn put_read(text: &mut String, memory: u32, address: u32) -> Result<(), NoMemory>
+    ensures { OnOk result (string_bytes text.new ≡ string_bytes text.old ++ (memory_name memory ++ codes "[" ++ net_name address ++ codes "]")) }
+{
+    write!(text, "m{memory}[n{address}]")?;
+    Ok(())
+}
+
 fn put_input(text: &mut String, module: &Module, port: u32) -> Result<(), NoMemory>
     requires { (w : ℕ) × IsInputPort «module».now.ports port w }
     ensures { OnOk result (string_bytes text.new ≡ string_bytes text.old ++ name_of (slice_get «module».now.ports port)) }
@@ -128,7 +157,7 @@ fn put_input(text: &mut String, module: &Module, port: u32) -> Result<(), NoMemo
 
 /// What stands on the right of a net's line.
 fn put_right(text: &mut String, module: &Module, equation: &Equation) -> Result<(), NoMemory>
-    requires { (net width : ℕ) × IsSound «module».now.ports «module».now.lines net width equation.now }
+    requires { (net width : ℕ) × IsSound «module».now.ports «module».now.memories «module».now.lines net width equation.now }
     ensures { OnOk result (string_bytes text.new ≡ string_bytes text.old ++ right_text «module».now.ports equation.now) }
 {
     match equation {
@@ -147,6 +176,7 @@ fn put_right(text: &mut String, module: &Module, equation: &Equation) -> Result<
         Equation::Mux { s, a, b } => put_choice(text, *s, *a, *b),
         Equation::Slice { a, high, low } => put_slice(text, *a, *high, *low),
         Equation::Reg { .. } => Ok(()),
+        Equation::Read { memory, address } => put_read(text, *memory, *address),
     }
 }
 
@@ -158,7 +188,7 @@ fn put_wire(
     equation: &Equation,
 ) -> Result<(), NoMemory>
     requires some_bit { 1 ≤ width }
-    requires sound { (n w : ℕ) × IsSound «module».now.ports «module».now.lines n w equation.now }
+    requires sound { (n w : ℕ) × IsSound «module».now.ports «module».now.memories «module».now.lines n w equation.now }
     ensures { OnOk result (string_bytes text.new ≡ string_bytes text.old ++ wire_line «module».now.ports net width equation.now) }
 {
     write!(text, "  wire [{}:0] n{net} = ", width - 1)?;
@@ -237,6 +267,27 @@ fn put_clocked_lines(text: &mut String, module: &Module) -> Result<(), NoMemory>
     Ok(())
 }
 
+fn put_write(text: &mut String, number: u32, memory: &MemLine) -> Result<(), NoMemory>
+    ensures { OnOk result (string_bytes text.new ≡ string_bytes text.old ++ write_line number (record { enable = memory.now.enable; address = memory.now.address; word = memory.now.word })) }
+{
+    let (enable, address, word) = (memory.enable, memory.address, memory.word);
+    write!(
+        text,
+        "  always @(posedge clk) if (n{enable}) m{number}[n{address}] <= n{word};\n"
+    )?;
+    Ok(())
+}
+
+/// What the clock does to each memory.
+fn put_writes(text: &mut String, module: &Module) -> Result<(), NoMemory>
+    ensures { OnOk result (string_bytes text.new ≡ string_bytes text.old ++ writes_text 0 «module».now.memories) }
+{
+    for number in 0..module.memory_count() {
+        put_write(text, number, &module.memory(number))?;
+    }
+    Ok(())
+}
+
 fn put_assign(text: &mut String, name: &str, net: u32) -> Result<(), NoMemory>
     ensures { OnOk result (string_bytes text.new ≡ string_bytes text.old ++ (codes "  assign " ++ name.now ++ codes " = " ++ net_name net ++ codes ";\n")) }
 {
@@ -263,8 +314,10 @@ pub fn write_module(alloc: Global, module: &Module) -> Result<Bytes, NoMemory>
     module.well_made();
     let mut text = String::new(alloc);
     put_header(&mut text, module)?;
+    put_memories(&mut text, module)?;
     put_nets(&mut text, module)?;
     put_clocked_lines(&mut text, module)?;
+    put_writes(&mut text, module)?;
     put_assigns(&mut text, module)?;
     text.push_str("endmodule\n")?;
     Ok(Bytes::from(text))
@@ -272,8 +325,14 @@ pub fn write_module(alloc: Global, module: &Module) -> Result<Bytes, NoMemory>
 
 /// A module of one register between an input and an output.
 pub fn module_is_spelled()
-    ensures { text_of (record { name = codes "t_interconnect"; ports = record { name = codes "a$i$d"; width = 8; output = false } ∷ record { name = codes "b$i$q"; width = 8; output = true } ∷ []; lines = line_of 8 (Equation.Input 0) ∷ line_of 8 (Equation.Reg (word 8 165) 0) ∷ []; drivers = None ∷ Some 1 ∷ [] })
+    ensures { text_of (record { name = codes "t_interconnect"; ports = record { name = codes "a$i$d"; width = 8; output = false } ∷ record { name = codes "b$i$q"; width = 8; output = true } ∷ []; lines = line_of 8 (Equation.Input 0) ∷ line_of 8 (Equation.Reg (word 8 165) 0) ∷ []; drivers = None ∷ Some 1 ∷ []; memories = [] })
         ≡ codes "module t_interconnect (\n  input wire clk,\n  input wire reset,\n  input wire [7:0] a$i$d,\n  output wire [7:0] b$i$q\n);\n  wire [7:0] n0 = a$i$d;\n  reg [7:0] n1;\n  always @(posedge clk) if (reset) n1 <= 8'ha5; else n1 <= n0;\n  assign b$i$q = n1;\nendmodule\n" }
+{}
+
+/// A module of one memory, which an input writes at the address of another and an output reads there.
+pub fn memory_is_spelled()
+    ensures { text_of (record { name = codes "t_interconnect"; ports = record { name = codes "a$i$d"; width = 1; output = false } ∷ record { name = codes "b$i$d"; width = 3; output = false } ∷ record { name = codes "c$i$q"; width = 1; output = true } ∷ []; lines = line_of 1 (Equation.Input 0) ∷ line_of 3 (Equation.Input 1) ∷ line_of 1 (Equation.Read 0 1) ∷ []; drivers = None ∷ None ∷ Some 2 ∷ []; memories = memory_of (record { width = 1; address_bits = 3; enable = 0; address = 1; word = 0 }) ∷ [] })
+        ≡ codes "module t_interconnect (\n  input wire clk,\n  input wire reset,\n  input wire [0:0] a$i$d,\n  input wire [2:0] b$i$d,\n  output wire [0:0] c$i$q\n);\n  reg [0:0] m0 [0:7];\n  wire [0:0] n0 = a$i$d;\n  wire [2:0] n1 = b$i$d;\n  wire [0:0] n2 = m0[n1];\n  always @(posedge clk) if (n0) m0[n1] <= n0;\n  assign c$i$q = n2;\nendmodule\n" }
 {}
 
 /// A line of each kind.
@@ -294,6 +353,9 @@ pub fn lines_are_spelled()
     ensures slice { net_line [] 3 (line_of 4 (Equation.Slice 1 6 3)) ≡ codes "  wire [3:0] n3 = n1[6:3];\n" }
     ensures register { net_line [] 3 (line_of 8 (Equation.Reg (word 8 165) 4)) ≡ codes "  reg [7:0] n3;\n" }
     ensures clocked { clocked_line 3 (Equation.Reg (word 8 165) 4) ≡ codes "  always @(posedge clk) if (reset) n3 <= 8'ha5; else n3 <= n4;\n" }
+    ensures memory { memory_line 12 (memory_of (record { width = 8; address_bits = 10; enable = 1; address = 2; word = 3 })) ≡ codes "  reg [7:0] m12 [0:1023];\n" }
+    ensures read { net_line [] 3 (line_of 8 (Equation.Read 12 1)) ≡ codes "  wire [7:0] n3 = m12[n1];\n" }
+    ensures write { write_line 12 (record { enable = 1; address = 2; word = 3 }) ≡ codes "  always @(posedge clk) if (n1) m12[n2] <= n3;\n" }
     ensures output { assign_line (record { name = codes "a$i$q"; width = 8; output = true }) (Some 3) ≡ codes "  assign a$i$q = n3;\n" }
 {}
 

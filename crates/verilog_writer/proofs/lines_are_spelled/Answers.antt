@@ -69,3 +69,15 @@ returns-clause-clocked c = refl
 pub returns-clause-output : goal.returns-clause-output
 unfolding digits
 returns-clause-output c = refl
+
+pub returns-clause-memory : goal.returns-clause-memory
+unfolding digits
+returns-clause-memory c = refl
+
+pub returns-clause-read : goal.returns-clause-read
+unfolding digits
+returns-clause-read c = refl
+
+pub returns-clause-write : goal.returns-clause-write
+unfolding digits
+returns-clause-write c = refl

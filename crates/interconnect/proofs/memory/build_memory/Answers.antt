@@ -1,6 +1,6 @@
 use Rattle.std.proofs.Common.{◌∙◌, sym}
 use Rattle.interconnect.proofs.EndFacts.{planned}
-use Rattle.interconnect.proofs.MemoryWires.{IsBegun, host_inputs, agent_inputs, IsAdded, can_drive, final_is, is_driven, is_clocked, is_module}
+use Rattle.interconnect.proofs.MemoryWires.{IsBegun, host_inputs, agent_inputs, IsAdded, can_drive, final_is, is_driven, is_clocked, is_written, is_module}
 use Rattle.interconnect.proofs.MemoryModules.{IsOnly, only, wire_of, begun_of, form_known, form_limits, room, ends_apart, memory_interconnect}
 use Rattle.interconnect.proofs.memory.build_memory.Goals as goal
 
@@ -55,6 +55,18 @@ finish-requires-clause-driven c =
     let added : IsAdded wire form c.wire_places-places.result c.in_ok-builder.builder c.wire_nets.new.builder c.host_nets-host.result c.agent_nets-agent.result c.in_ok-made.made =
     record { begun = begun; host_is = c.host_nets-host.ensures.nets; agent_is = c.agent_nets-agent.ensures.nets; adds = c.in_ok-made.ensures } in
     is_driven wire form c.wire_nets.new.builder.lines c.in_ok-made.made _ (final_is _ _ _ _ _ _ _ _ _ added c.drive_ends.ensures)
+
+pub finish-requires-clause-written : goal.finish-requires-clause-written
+finish-requires-clause-written c =
+    let system = c.args.plan.now.system in
+    let planned_is = planned c.args.plan.now c.well_made.ensures in
+    let one = only system planned_is c.requires.built c.requires.some_host in
+    let form = c.plan_form-form.result in
+    let wire = wire_of system one.connection in
+    let begun = begun_of system form c.wire_places-places.result c.in_ok-builder.builder c.plan_form-form.ensures one c.in_ok-builder.ensures.started c.wire_places-places.ensures in
+    let added : IsAdded wire form c.wire_places-places.result c.in_ok-builder.builder c.wire_nets.new.builder c.host_nets-host.result c.agent_nets-agent.result c.in_ok-made.made =
+    record { begun = begun; host_is = c.host_nets-host.ensures.nets; agent_is = c.agent_nets-agent.ensures.nets; adds = c.in_ok-made.ensures } in
+    is_written wire form c.wire_nets.new.builder.lines c.in_ok-made.made _ (final_is _ _ _ _ _ _ _ _ _ added c.drive_ends.ensures)
 
 pub finish-requires-clause-clocked : goal.finish-requires-clause-clocked
 finish-requires-clause-clocked c =

@@ -1,6 +1,7 @@
 use Rattle.std.proofs.Common.{subst, List}
 use Rattle.netlist.specs.declared.line.PortLine.{PortLine}
 use Rattle.netlist.specs.Netlists.{IsOutputPort}
+use Rattle.mm_wire.proofs.TestPorts.{still_written}
 use Rattle.mm_wire.proofs.tests.wire_module.Goals as goal
 
 pub finish-requires-clause-driven : goal.finish-requires-clause-driven
@@ -9,3 +10,6 @@ finish-requires-clause-driven c k w i =
 
 pub finish-requires-clause-clocked : goal.finish-requires-clause-clocked
 finish-requires-clause-clocked c n h = c.in_ok-builder.ensures.clocked n (c.in_ok-made.ensures.no_more_wait n h)
+
+pub finish-requires-clause-written : goal.finish-requires-clause-written
+finish-requires-clause-written c = still_written _ _ c.emit.ensures.memories c.in_ok-builder.ensures.written

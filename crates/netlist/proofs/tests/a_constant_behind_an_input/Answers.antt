@@ -1,6 +1,7 @@
 use Rattle.std.proofs.Common.{◌≡◌, ◌∙◌, subst, rules, List}
 use Rattle.netlist.specs.declared.line.PortLine.{PortLine}
 use Rattle.netlist.specs.Netlists.{IsOutputPort}
+use Rattle.netlist.proofs.TestPorts.{still_written}
 use Rattle.netlist.proofs.tests.a_constant_behind_an_input.Goals as goal
 
 pub finish-module-requires-clause-driven : goal.finish-module-requires-clause-driven
@@ -12,3 +13,6 @@ finish-module-requires-clause-driven g c k w i =
 pub finish-module-requires-clause-clocked : goal.finish-module-requires-clause-clocked
 finish-module-requires-clause-clocked g c n h =
     c.in_ok-builder.ensures.clocked n (c.constant.ensures.grows.no_more_wait n (c.drive.ensures.no_more_wait n h))
+
+pub finish-module-requires-clause-written : goal.finish-module-requires-clause-written
+finish-module-requires-clause-written g c = still_written _ _ (c.drive.ensures.memories ∙ c.constant.ensures.grows.memories) c.in_ok-builder.ensures.written

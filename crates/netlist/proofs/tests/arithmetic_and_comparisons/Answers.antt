@@ -1,6 +1,7 @@
 use Rattle.std.proofs.Common.{◌∙◌, subst, List}
 use Rattle.netlist.specs.declared.line.PortLine.{PortLine}
 use Rattle.netlist.specs.Netlists.{IsOutputPort}
+use Rattle.netlist.proofs.TestPorts.{still_written}
 use Rattle.netlist.proofs.tests.arithmetic_and_comparisons.Goals as goal
 
 pub sub-requires-clause-b_is : goal.sub-requires-clause-b_is
@@ -19,3 +20,6 @@ driven_by-module-requires-clause-no_more g c k w i =
 
 pub driven_by-module-requires-clause-clocked : goal.driven_by-module-requires-clause-clocked
 driven_by-module-requires-clause-clocked g c n h = c.in_ok-builder.ensures.clocked n (c.add.ensures.grows.no_more_wait n (c.sub.ensures.grows.no_more_wait n (c.eq.ensures.grows.no_more_wait n (c.less.ensures.grows.no_more_wait n h))))
+
+pub driven_by-module-requires-clause-written : goal.driven_by-module-requires-clause-written
+driven_by-module-requires-clause-written g c = still_written _ _ (c.less.ensures.grows.memories ∙ c.eq.ensures.grows.memories ∙ c.sub.ensures.grows.memories ∙ c.add.ensures.grows.memories) c.in_ok-builder.ensures.written

@@ -1,6 +1,7 @@
 use Rattle.std.proofs.Common.{◌∙◌, subst, List}
 use Rattle.netlist.specs.declared.line.PortLine.{PortLine}
 use Rattle.netlist.specs.Netlists.{IsOutputPort}
+use Rattle.netlist.proofs.TestPorts.{still_written}
 use Rattle.netlist.proofs.tests.bits_taken_and_joined.Goals as goal
 
 pub not-requires : goal.not-requires
@@ -19,3 +20,6 @@ driven_by-module-requires-clause-no_more g c k w i =
 
 pub driven_by-module-requires-clause-clocked : goal.driven_by-module-requires-clause-clocked
 driven_by-module-requires-clause-clocked g c n h = c.in_ok-builder.ensures.clocked n (c.any.ensures.grows.no_more_wait n (c.not.ensures.grows.no_more_wait n (c.concat.ensures.grows.no_more_wait n (c.slice.ensures.grows.no_more_wait n (c.mux.ensures.grows.no_more_wait n h)))))
+
+pub driven_by-module-requires-clause-written : goal.driven_by-module-requires-clause-written
+driven_by-module-requires-clause-written g c = still_written _ _ (c.mux.ensures.grows.memories ∙ c.slice.ensures.grows.memories ∙ c.concat.ensures.grows.memories ∙ c.not.ensures.grows.memories ∙ c.any.ensures.grows.memories) c.in_ok-builder.ensures.written

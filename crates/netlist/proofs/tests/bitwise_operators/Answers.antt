@@ -1,6 +1,7 @@
 use Rattle.std.proofs.Common.{◌∙◌, subst, List}
 use Rattle.netlist.specs.declared.line.PortLine.{PortLine}
 use Rattle.netlist.specs.Netlists.{IsOutputPort}
+use Rattle.netlist.proofs.TestPorts.{still_written}
 use Rattle.netlist.proofs.tests.bitwise_operators.Goals as goal
 
 pub or-requires-clause-b_is : goal.or-requires-clause-b_is
@@ -16,3 +17,6 @@ driven_by-module-requires-clause-no_more g c k w i =
 
 pub driven_by-module-requires-clause-clocked : goal.driven_by-module-requires-clause-clocked
 driven_by-module-requires-clause-clocked g c n h = c.in_ok-builder.ensures.clocked n (c.and.ensures.grows.no_more_wait n (c.or.ensures.grows.no_more_wait n (c.xor.ensures.grows.no_more_wait n h)))
+
+pub driven_by-module-requires-clause-written : goal.driven_by-module-requires-clause-written
+driven_by-module-requires-clause-written g c = still_written _ _ (c.xor.ensures.grows.memories ∙ c.or.ensures.grows.memories ∙ c.and.ensures.grows.memories) c.in_ok-builder.ensures.written

@@ -1,6 +1,7 @@
 use Rattle.std.proofs.Common.{◌≡◌, subst, rules, List}
 use Rattle.netlist.specs.declared.line.PortLine.{PortLine}
 use Rattle.netlist.specs.Netlists.{IsOutputPort}
+use Rattle.netlist.proofs.TestPorts.{still_written}
 use Rattle.netlist.proofs.tests.driven_by.Goals as goal
 
 pub finish-requires-clause-driven : goal.finish-requires-clause-driven
@@ -10,3 +11,6 @@ finish-requires-clause-driven c k w i =
 
 pub finish-requires-clause-clocked : goal.finish-requires-clause-clocked
 finish-requires-clause-clocked c n h = c.requires.clocked n (c.drive.ensures.no_more_wait n h)
+
+pub finish-requires-clause-written : goal.finish-requires-clause-written
+finish-requires-clause-written c = still_written _ _ (c.drive.ensures.memories) c.requires.written

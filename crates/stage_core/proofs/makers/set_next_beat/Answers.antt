@@ -125,6 +125,7 @@ returns-clause-grows c = record {
       let e7 : length c.set_next-7.new.self.lines ≡ length c.set_next-6.new.self.lines = c.set_next-7.ensures.same_count in
       omega arith);
   drivers = cc;
+  memories = cc;
 }
 
 pub returns-clause-value : goal.returns-clause-value

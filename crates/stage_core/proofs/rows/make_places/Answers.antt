@@ -19,6 +19,7 @@ returns-in_err-place-clause-grows c = record {
   extends = extends_twice _ _ _ c.loop-place.invariant.extends c.reg_beat.ensures.grows.extends;
   most = (let lines = c.loop-place.invariant.lines in let more = c.reg_beat.ensures.grows.most in omega arith);
   drivers = c.reg_beat.ensures.grows.drivers ∙ c.loop-place.invariant.drivers;
+  memories = c.reg_beat.ensures.grows.memories ∙ c.loop-place.invariant.memories;
 }
 
 pub returns-in_err-push-clause-grows : goal.returns-in_err-push-clause-grows
@@ -26,6 +27,7 @@ returns-in_err-push-clause-grows c = record {
   extends = extends_twice _ _ _ c.loop-place.invariant.extends c.reg_beat.ensures.grows.extends;
   most = (let lines = c.loop-place.invariant.lines in let more = c.reg_beat.ensures.grows.most in omega arith);
   drivers = c.reg_beat.ensures.grows.drivers ∙ c.loop-place.invariant.drivers;
+  memories = c.reg_beat.ensures.grows.memories ∙ c.loop-place.invariant.memories;
 }
 
 pub returns-in_err-place-clause-still_wait : goal.returns-in_err-place-clause-still_wait
@@ -52,6 +54,7 @@ returns-clause-grows c = record {
   extends = c.loop-place.invariant.extends;
   most = (let lines = c.loop-place.invariant.lines in omega arith);
   drivers = c.loop-place.invariant.drivers;
+  memories = c.loop-place.invariant.memories;
 }
 
 pub returns-clause-still_wait : goal.returns-clause-still_wait

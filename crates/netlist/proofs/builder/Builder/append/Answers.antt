@@ -3,7 +3,7 @@ use Rattle.netlist.specs.Netlists.{Netlist, IsWellMade, IsNet, IsWaiting, append
 use Rattle.netlist.specs.Nets.{NetValue, net_of}
 use Rattle.netlist.specs.Runs.{NetHolds, Always}
 use Rattle.netlist.specs.Longer.{Extends}
-use Rattle.netlist.proofs.Growth.{IsWellMade-appended, width-last, Always-appended, Extends-appended, pushed, waiting-appended, waiting-newly}
+use Rattle.netlist.proofs.Growth.{IsWellMade-appended, width-last, Always-appended, Extends-appended, pushed, unpushed, Extends-same, waiting-appended, waiting-newly}
 use Rattle.netlist.proofs.builder.Builder.append.Goals as goal
 
 pub invariant_of-self-2 : goal.invariant_of-self-2
@@ -49,3 +49,6 @@ returns-clause-newly c =
     let new = pushed _ c.args.self.now c.push.new.self.items (line_with c.args.width c.args.equation c.args.waits) c.self.view_is c.in_ok-push.ensures.items in
     subst (λ (b : Netlist). (n : ℕ) → IsWaiting b n → IsWaiting c.args.self.now n ⊎ (c.args.waits ≡ true) × (n ≡ length c.args.self.now.lines)) (sym new)
     (waiting-newly c.args.self.now (line_with c.args.width c.args.equation c.args.waits))
+
+pub returns-in_err-push-clause-extends : goal.returns-in_err-push-clause-extends
+returns-in_err-push-clause-extends c = Extends-same c.args.self.now _ (unpushed _ c.args.self.now c.push.new.self.items c.self.view_is c.in_err-push.ensures.items)

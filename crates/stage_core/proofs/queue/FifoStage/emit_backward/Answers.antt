@@ -1,5 +1,6 @@
-use Rattle.std.proofs.Common.{◌≡◌, List, ◌∷◌, [], length, refl, sym, subst, ap, ◌∙◌, arith}
+use Rattle.std.proofs.Common.{◌≡◌, List, length, refl, sym, subst, ap, ◌∙◌, arith}
 use Rattle.std.specs.Prelude.{IfOk, OnOk}
+use Rattle.std.proofs.lemmas.List.{nil_from_length}
 use Rattle.stage_core.specs.declared.beat.BeatNets.{BeatNets}
 use Rattle.stage_core.specs.Growth.{WaitsWithout}
 use Rattle.stage_core.specs.Rows.{AreInRow, InRow}
@@ -7,36 +8,32 @@ use Rattle.stage_core.specs.QueueNets.{QueueBackward}
 use Rattle.stage_core.proofs.Growing.{extends_none, grows_fewer}
 use Rattle.stage_core.proofs.queue.FifoStage.emit_backward.Goals as goal
 
-pub set_places-requires-clause-row : goal.set_places-requires-clause-row
-set_places-requires-clause-row c = subst (λ (row : List BeatNets). AreInRow c.args.builder.now c.args.kept.from row) (sym c.as_slice-row.ensures.value) c.requires.kept.row
+pub set_queue-requires-clause-row : goal.set_queue-requires-clause-row
+set_queue-requires-clause-row c = subst (λ (row : List BeatNets). AreInRow c.args.builder.now c.args.kept.from row) (sym c.as_slice-row.ensures.value) c.requires.kept.row
 
 pub returns-clause-made : goal.returns-clause-made
 returns-clause-made c =
-    subst (λ (row : List BeatNets). IfOk c.set_places.result (λ up. QueueBackward c.set_places.new.builder c.args.kept.from c.args.ready up row)) (sym c.in-Some.ensures.cases.0 ∙ c.as_slice-row.ensures.value) c.set_places.ensures.sets
+    subst (λ (row : List BeatNets). IfOk c.set_queue.result (λ up. QueueBackward c.set_queue.new.builder c.args.kept.from c.args.ready up row)) (sym c.in-Some.ensures.cases.0 ∙ c.as_slice-row.ensures.value) c.set_queue.ensures.sets
 
 pub returns-clause-grows : goal.returns-clause-grows
 returns-clause-grows c =
     let here : length c.as_slice-row.result.now ≡ length c.args.kept.places.items = ap length c.as_slice-row.ensures.value in
     let count = c.requires.kept.count in
-    grows_fewer _ _ _ _ (omega arith) c.set_places.ensures.grows
+    grows_fewer _ _ _ _ (omega arith) c.set_queue.ensures.grows
 
 pub returns-clause-waits : goal.returns-clause-waits
-returns-clause-waits c n apart w = c.set_places.ensures.waits n (λ o. apart (subst (λ (row : List BeatNets). InRow row n) c.as_slice-row.ensures.value o)) w
+returns-clause-waits c n apart w = c.set_queue.ensures.waits n (λ o. apart (subst (λ (row : List BeatNets). InRow row n) c.as_slice-row.ensures.value o)) w
 
 pub returns-clause-no_more_wait : goal.returns-clause-no_more_wait
 returns-clause-no_more_wait c =
-    subst (λ (row : List BeatNets). OnOk c.set_places.result (WaitsWithout (InRow row) c.args.builder.now c.set_places.new.builder)) c.as_slice-row.ensures.value c.set_places.ensures.no_more_wait
-
-no_items : (row : List BeatNets) → length row ≡ 0 → row ≡ []
-no_items [] e = refl
-no_items (nets ∷ row) e = absurd (omega (arith, e))
+    subst (λ (row : List BeatNets). OnOk c.set_queue.result (WaitsWithout (InRow row) c.args.builder.now c.set_queue.new.builder)) c.as_slice-row.ensures.value c.set_queue.ensures.no_more_wait
 
 pub returns-in-None-clause-grows : goal.returns-in-None-clause-grows
-returns-in-None-clause-grows c = record { extends = extends_none _; most = omega arith; drivers = refl }
+returns-in-None-clause-grows c = record { extends = extends_none _; most = omega arith; drivers = refl; memories = refl }
 
 pub returns-in-None-clause-made : goal.returns-in-None-clause-made
 returns-in-None-clause-made c =
-    subst (λ (row : List BeatNets). QueueBackward c.args.builder.now c.args.kept.from c.args.ready c.args.ready row) (sym (no_items c.args.kept.places.items (sym (ap length c.as_slice-row.ensures.value) ∙ c.in-None.ensures.cases))) refl
+    subst (λ (row : List BeatNets). QueueBackward c.args.builder.now c.args.kept.from c.args.ready c.args.ready row) (sym (nil_from_length c.args.kept.places.items (sym (ap length c.as_slice-row.ensures.value) ∙ c.in-None.ensures.cases))) refl
 
 pub returns-in-None-clause-no_more_wait : goal.returns-in-None-clause-no_more_wait
-returns-in-None-clause-no_more_wait c n w = (w, λ o. subst (λ (row : List BeatNets). InRow row n) (no_items c.args.kept.places.items (sym (ap length c.as_slice-row.ensures.value) ∙ c.in-None.ensures.cases)) o)
+returns-in-None-clause-no_more_wait c n w = (w, λ o. subst (λ (row : List BeatNets). InRow row n) (nil_from_length c.args.kept.places.items (sym (ap length c.as_slice-row.ensures.value) ∙ c.in-None.ensures.cases)) o)
