@@ -1,0 +1,3 @@
+pub mod Sims
+pub mod Standing
+pub mod Given
