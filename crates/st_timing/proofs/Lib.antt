@@ -1,0 +1,9 @@
+pub mod TieLaw
+pub mod Moving
+pub mod HistoryLaw
+pub mod DelayLaw
+pub mod Counting
+pub mod BufferRows
+pub mod BufferLaw
+pub mod TimingLaw
+pub mod TestPorts

@@ -1,0 +1,7 @@
+pub mod TieNets
+pub mod TransferNets
+pub mod HistoryNets
+pub mod DelayNets
+pub mod CountNets
+pub mod BufferNets
+pub mod TimingNets

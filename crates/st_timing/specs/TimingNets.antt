@@ -1,0 +1,103 @@
+-- The front part of what lies between a source and a sink, which leads from the source's ready latency to 0.
+use Rattle.std.specs.Prelude.{◌≡◌, ℕ, ◌+◌, ◌*◌, ◌%◌, ◌<◌, Bool, not, ◌&&◌, ◌==◌, if◌then◌else◌, IsTrue, IsFalse}
+use Rattle.netlist.specs.Nets.{NetValue}
+use Rattle.netlist.specs.Netlists.{Netlist, IsWaiting}
+use Rattle.netlist.specs.Longer.{Extends}
+use Rattle.iface_roles.specs.declared.records.SourcePort.{SourcePort}
+use Rattle.iface_roles.specs.declared.records.SinkPort.{SinkPort}
+use Rattle.stream_runs.specs.View.{Side}
+use Rattle.stream_machines.specs.Stage.{Shape}
+use Rattle.stream_machines.specs.Buffers.{direct_side}
+use Rattle.stage_core.specs.declared.beat.BeatNets.{BeatNets}
+use Rattle.stage_core.specs.PassNets.{IsPassShape}
+use Rattle.st_timing.specs.declared.timing.Timing.{Timing}
+use Rattle.st_timing.specs.declared.timing.Timing.TheVariants.{Tie, Buffer, Wire}
+use Rattle.st_timing.specs.declared.timing.TimingKept.{TimingKept}
+use Rattle.st_timing.specs.declared.timing.TimingKept.TheVariants.{Tied, Buffered, Straight}
+use Rattle.st_timing.specs.TieNets.{IsTieShape, IsTied}
+use Rattle.st_timing.specs.BufferNets.{IsReadyBufferShape, buffer_owns, BufferKeeps, BufferForward, BufferBackward, keeps_lasts, forward_lasts, backward_lasts}
+
+-- ---- which it is
+
+-- the sink is always ready, and has room for whole beats of the source
+abbrev pub ties_ready : SourcePort → SinkPort → Bool
+ties_ready source sink = not sink.ready && (sink.symbols % source.symbols == 0)
+
+-- the ready latency of a source: 0 without `ready`
+abbrev pub latency_of : SourcePort → ℕ
+latency_of source = if source.ready then source.latency else 0
+
+-- ready is tied where the sink is always ready, a buffer stands behind a ready latency above 0, and else nothing
+abbrev pub IsTimingOf : SourcePort → SinkPort → Timing → Type 0
+IsTimingOf source sink (Tie stage) = IsTrue (ties_ready source sink)
+IsTimingOf source sink (Buffer stage) = IsFalse (ties_ready source sink) × (stage.latency ≡ latency_of source) × (0 < stage.latency)
+IsTimingOf source sink (Wire stage) = IsFalse (ties_ready source sink) × (latency_of source ≡ 0)
+
+-- ---- as a stage
+
+abbrev pub timing_shape : Timing → Shape → Type 0
+timing_shape (Tie stage) shape = IsTieShape shape
+timing_shape (Buffer stage) shape = IsReadyBufferShape stage.latency shape
+timing_shape (Wire stage) shape = IsPassShape shape
+
+-- it keeps its law from this side to the same with ready latency 0, with this test
+pub record LeadsToZero (timing : Timing) (passes : ℕ → Bool) (side : Side) : Type 0 where
+  pub shape : Shape
+  pub has : timing_shape timing shape
+  pub up : shape.up ≡ side
+  pub down : shape.down ≡ direct_side side
+  pub test : shape.passes ≡ passes
+
+abbrev pub timing_forward_nets : Timing → ℕ
+timing_forward_nets (Buffer stage) = 7 * stage.latency + 15
+timing_forward_nets _ = 0
+
+abbrev pub timing_backward_nets : Timing → ℕ
+timing_backward_nets (Tie stage) = 1
+timing_backward_nets (Buffer stage) = 20 * stage.latency + 34
+timing_backward_nets (Wire stage) = 0
+
+-- the numbers of a buffer's registers
+abbrev pub timing_owns : TimingKept → ℕ → Type 0
+timing_owns Tied n = ⊥
+timing_owns (Buffered kept) n = buffer_owns kept n
+timing_owns Straight n = ⊥
+
+-- between the calls: what is kept is of the part that it is, and a buffer keeps what it does
+abbrev pub TimingKeeps : Timing → TimingKept → Netlist → Type 0
+TimingKeeps (Tie stage) Tied netlist = Unit {0}
+TimingKeeps (Buffer stage) (Buffered kept) netlist = BufferKeeps kept stage.latency netlist
+TimingKeeps (Wire stage) Straight netlist = Unit {0}
+TimingKeeps _ _ netlist = ⊥
+
+-- after the first call
+abbrev pub TimingForward : Timing → BeatNets → BeatNets → TimingKept → Netlist → Type 0
+TimingForward (Tie stage) from to Tied netlist = to ≡ from
+TimingForward (Buffer stage) from to (Buffered kept) netlist = BufferForward from to kept stage.latency netlist
+TimingForward (Wire stage) from to Straight netlist = to ≡ from
+TimingForward _ from to _ netlist = ⊥
+
+-- after the second call
+abbrev pub TimingBackward : TimingKept → NetValue → NetValue → Netlist → Type 0
+TimingBackward Tied ready up netlist = IsTied netlist up
+TimingBackward (Buffered kept) ready up netlist = BufferBackward kept ready up netlist
+TimingBackward Straight ready up netlist = up ≡ ready
+
+-- ---- what stands lasts. No contract reads these proofs; the law of the timing cites them
+
+pub timing_keeps_lasts : (timing : Timing) (kept : TimingKept) (old new : Netlist) → TimingKeeps timing kept old → Extends old new → ((n : ℕ) → timing_owns kept n → IsWaiting old n → IsWaiting new n) → TimingKeeps timing kept new
+timing_keeps_lasts (Tie stage) Tied old new h e w = h
+timing_keeps_lasts (Buffer stage) (Buffered kept) old new h e w = keeps_lasts kept stage.latency old new h e w
+timing_keeps_lasts (Wire stage) Straight old new h e w = h
+timing_keeps_lasts _ _ old new h e w = absurd h
+
+pub timing_forward_lasts : (timing : Timing) (from to : BeatNets) (kept : TimingKept) (old new : Netlist) → TimingForward timing from to kept old → Extends old new → TimingForward timing from to kept new
+timing_forward_lasts (Tie stage) from to Tied old new h e = h
+timing_forward_lasts (Buffer stage) from to (Buffered kept) old new h e = forward_lasts from to kept stage.latency old new h e
+timing_forward_lasts (Wire stage) from to Straight old new h e = h
+timing_forward_lasts _ from to _ old new h e = absurd h
+
+pub timing_backward_lasts : (kept : TimingKept) (ready up : NetValue) (old new : Netlist) → TimingBackward kept ready up old → Extends old new → TimingBackward kept ready up new
+timing_backward_lasts Tied ready up old new h e = λ cycle v. h cycle (e.valuations cycle v)
+timing_backward_lasts (Buffered kept) ready up old new h e = backward_lasts kept ready up old new h e
+timing_backward_lasts Straight ready up old new h e = h

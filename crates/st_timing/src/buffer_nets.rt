@@ -1,0 +1,116 @@
+//! The nets of a buffer behind a ready latency.
+
+ghost use Rattle.std.specs.Prelude.{◌≡◌, ◌+◌, ◌*◌, ◌^◌, ◌<◌, ◌≤◌, ◌==◌, nat_lt, length, IfOk};
+ghost use Rattle.netlist.specs.Netlists.{IsNet};
+ghost use Rattle.netlist.specs.Runs.{Always};
+ghost use Rattle.stage_core.specs.Beats.{IsBit};
+ghost use Rattle.stage_core.specs.Growth.{AddsNets};
+ghost use Rattle.st_timing.specs.CountNets.{full_count, high_bits, HaveValid};
+ghost use Rattle.st_timing.specs.BufferNets.{IsReadyBufferShape, buffer_owns, BufferKeeps, BufferForward, BufferBackward, keeps_lasts, forward_lasts, backward_lasts};
+
+use crate::buffer::{BufferKept, ReadyBuffer};
+use crate::count::{count_full, count_high};
+use crate::history::{make_history, set_history};
+use crate::transfer::transfers;
+use av_base::Val;
+use netlist::{Builder, Net, NetFault};
+use stage_core::rows::{fill_places, set_places, show_first};
+use stage_core::{BeatNets, Stage};
+use stream_machines::machines::buffer_is_a_stage;
+
+/// Whether the beats that are held, and those that may still come of the ready that was shown, leave a place.
+fn has_room(
+    builder: &mut Builder,
+    row: &[BeatNets],
+    history: Net,
+    latency: u8,
+) -> Result<Net, NetFault>
+    requires row { HaveValid builder.old row.now }
+    requires count { length row.now ≡ latency + 1 }
+    requires few { latency ≤ 8 }
+    requires history { IsNet builder.old history }
+    requires wide { latency ≤ history.width }
+    ensures net { IfOk result (λ room. IsBit builder.new room) }
+    ensures value { IfOk result (λ room. Always builder.new (λ cycle. (cycle.net room.number == 1) ≡ nat_lt (full_count cycle row.now + high_bits latency (cycle.net history.number)) (latency + 1))) }
+    ensures adds { AddsNets (5 * latency + 6) builder.old builder.new }
+    ensures full { result ≡ Err NetFault.TooManyNets → 2 ^ 20 < length builder.old.lines + (5 * latency + 6) }
+{
+    let zeros = builder.constant(Val::new(4, 0).unwrap())?;
+    let none = builder.constant(Val::new(5, 0).unwrap())?;
+    let held = count_full(builder, zeros, none, row)?;
+    let owed = count_high(builder, zeros, held, history, latency)?;
+    let places = builder.constant(Val::new(5, u128::from(latency) + 1).unwrap())?;
+    builder.less(owed, places)
+}
+
+impl Stage for ReadyBuffer {
+    type Held = BufferKept;
+
+    ghost has_shape = { λ s shape. IsReadyBufferShape s.latency shape };
+
+    ghost passes_ready = { λ s shape. IsReadyBufferShape s.latency shape };
+
+    ghost shows_ready = { λ s. ⊥ };
+
+    ghost takes = { λ s widths. Unit {0} };
+
+    ghost gives = { λ s widths. widths };
+
+    ghost forward_nets = { λ s. 7 * s.latency + 15 };
+
+    ghost backward_nets = { λ s. 20 * s.latency + 34 };
+
+    ghost owns = { λ kept n. buffer_owns kept n };
+
+    ghost is_kept = { λ s kept netlist. BufferKeeps kept s.latency netlist };
+
+    ghost forward_in = { λ s from to kept netlist. BufferForward from to kept s.latency netlist };
+
+    ghost backward_in = { λ s kept ready up netlist. BufferBackward kept ready up netlist };
+
+    fn emit_forward(
+        &self,
+        builder: &mut Builder,
+        from: BeatNets,
+    ) -> Result<(BeatNets, BufferKept), NetFault> {
+        let latency = self.latency;
+        let count = usize::from(latency) + 1;
+        let mut places = [from; 9];
+        fill_places(builder, &from, &mut places[..count])?;
+        let to = show_first(builder, &places[..count], &from)?;
+        let history = make_history(builder, latency.max(1))?;
+        Ok((
+            to,
+            BufferKept {
+                latency,
+                places,
+                history,
+                from,
+            },
+        ))
+    }
+
+    fn emit_backward(
+        &self,
+        builder: &mut Builder,
+        kept: BufferKept,
+        ready: Net,
+    ) -> Result<Net, NetFault> {
+        let row = &kept.places[..usize::from(kept.latency) + 1];
+        let up = has_room(builder, row, kept.history, kept.latency)?;
+        let comes = transfers(builder, kept.latency, kept.from.valid, up)?;
+        set_places(builder, row, &kept.from, comes, ready)?;
+        set_history(builder, kept.history, up)?;
+        Ok(up)
+    }
+
+    fn law(&self) {
+        buffer_is_a_stage();
+    }
+
+    ghost kept_lasts = { λ s kept old new h e w. keeps_lasts kept s.latency old new h e w };
+
+    ghost forward_lasts = { λ s from to kept old new h e. forward_lasts from to kept s.latency old new h e };
+
+    ghost backward_lasts = { λ s kept ready up old new h e. backward_lasts kept ready up old new h e };
+}

@@ -1,0 +1,18 @@
+//! The stages of a stream between two ready latencies, as equations with the law that each keeps.
+#![tactic(auto)]
+
+pub mod buffer;
+mod buffer_nets;
+mod count;
+pub mod delay;
+mod history;
+#[cfg(test)]
+mod tests;
+pub mod tie;
+pub mod timing;
+mod transfer;
+
+pub use buffer::ReadyBuffer;
+pub use delay::ReadyDelay;
+pub use tie::TieReady;
+pub use timing::{Timing, timing_of};
