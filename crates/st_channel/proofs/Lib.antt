@@ -1,0 +1,6 @@
+pub mod Numbers
+pub mod Comparing
+pub mod Raising
+pub mod FilterLaw
+pub mod ErrorLaw
+pub mod TestPorts

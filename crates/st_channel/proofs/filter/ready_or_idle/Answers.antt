@@ -1,0 +1,20 @@
+use Rattle.std.proofs.Common.{◌≡◌, ◌==◌, not, ◌||◌, ◌∙◌, ap}
+use Rattle.netlist.specs.Runs.{Always}
+use Rattle.stage_core.specs.Beats.{IsBit}
+use Rattle.stage_core.proofs.Growing.{grows_once, adds_twice, bit_fits, if_ok}
+use Rattle.stage_core.proofs.Bits.{high_or, high_turned}
+use Rattle.st_channel.proofs.filter.ready_or_idle.Goals as goal
+
+pub returns-clause-adds : goal.returns-clause-adds
+returns-clause-adds c = adds_twice _ _ _ _ _ (grows_once _ _ c.not.ensures.extends c.not.ensures.grows) (grows_once _ _ c.or.ensures.extends c.or.ensures.grows)
+
+pub returns-clause-value : goal.returns-clause-value
+returns-clause-value c =
+    if_ok c.or.result _ (λ up. Always c.or.new.self (λ cycle. (cycle.net up.number == 1) ≡ ((cycle.net c.args.ready.number == 1) || not (cycle.net c.args.shown.number == 1))))
+    (λ up value cycle v2. (
+    let v1 = c.or.ensures.extends.valuations cycle v2 in
+    let v0 = c.not.ensures.extends.valuations cycle v1 in
+    let idle : IsBit c.not.new.self c.in_ok-idle.idle = record { is_net = c.in_ok-idle.ensures.net.0; has_width = c.in_ok-idle.ensures.net.1 ∙ c.requires.shown.has_width } in
+    high_or (cycle.net c.args.ready.number) (cycle.net c.in_ok-idle.idle.number) (cycle.net up.number) (bit_fits _ _ c.requires.ready cycle v0) (bit_fits _ _ idle cycle v1) (value cycle v2).1
+    ∙ ap (λ t. (cycle.net c.args.ready.number == 1) || t) (high_turned c.args.shown.width (cycle.net c.args.shown.number) (cycle.net c.in_ok-idle.idle.number) c.requires.shown.has_width (bit_fits _ _ c.requires.shown cycle v0) (c.in_ok-idle.ensures.value cycle v1).1)))
+    c.or.ensures.value
