@@ -1,0 +1,209 @@
+-- Stages that lead from one side to another, one behind the other.
+use Rattle.std.proofs.Common.{◌≡◌, ℕ, ◌+◌, ◌-◌, ◌*◌, ◌<◌, ◌≤◌, Bool, true, false, not, ◌||◌, nat_lt, IsTrue, IsFalse, Option, Some, None, refl, sym, subst, ap, ◌∙◌, arith, ◌⊎◌, inl, inr}
+use Rattle.std.specs.Prelude.{IfSome, IsNone}
+use Rattle.std.proofs.lemmas.Bool.{ltb-true, both_ways}
+use Rattle.stream_runs.specs.View.{Side}
+use Rattle.stream_machines.specs.Stage.{Shape, PassesAll, chain_shape, pass_shape}
+use Rattle.stream_machines.specs.Parts.{narrow_shape, widen_shape}
+use Rattle.stream_machines.specs.Wires.{wire_shape, turned_side}
+use Rattle.stream_machines.specs.Line.{of_symbols}
+use Rattle.stage_core.specs.ChainNets.{IsChainOf, ShapesFit}
+use Rattle.stage_core.specs.MaybeNets.{shape_of}
+use Rattle.st_format.specs.declared.reorder.Reorder.{Reorder}
+use Rattle.st_format.specs.declared.clear.Clear.{Clear}
+use Rattle.st_format.specs.declared.narrow.Narrow.{Narrow}
+use Rattle.st_format.specs.declared.widen.Widen.{Widen}
+use Rattle.st_format.specs.ReorderNets.{IsReorderShape}
+use Rattle.st_format.specs.ClearNets.{IsClearShape}
+use Rattle.st_format.specs.NarrowNets.{IsNarrowShape}
+use Rattle.st_format.specs.WidenNets.{IsWidenShape}
+use Rattle.std.proofs.Math.Nat.{mul_comm}
+use Rattle.st_format.proofs.SizesLemmas.{split_symbols}
+use Rattle.st_format.specs.FormatNets.{IsTurn, IsClearing, IsCut, IsJoint}
+
+-- a shape of these leads from one side to another, needs no sink that is always ready, holds so many symbols at most, and keeps
+-- so many for good
+pub record Leads (has passing : Shape → Type 0) (can : Type 0) (passes : ℕ → Bool) (up down : Side) (most kept : ℕ) : Type 0 where
+  pub shape : Shape
+  pub has_it : has shape
+  pub passed : can → passing shape
+  pub up_is : shape.up ≡ up
+  pub down_is : shape.down ≡ down
+  pub test : shape.passes ≡ passes
+  pub free : shape.needs_ready ≡ false
+  pub hold : shape.hold ≤ most
+  pub rest : shape.rest ≤ kept
+
+never_late : (latency : ℕ) → latency ≡ 0 → IsTrue (nat_lt 0 latency) → ⊥
+never_late latency none late = let some : 0 < latency = ltb-true 0 latency late in absurd (omega (arith, some, none))
+
+or_neither : (a b : Bool) → a ≡ false → b ≡ false → (a || b) ≡ false
+or_neither a b p q = rw (p, q) refl
+
+pub chain_leads : (A PA B PB : Shape → Type 0) (S can : Type 0) (passes : ℕ → Bool) (up middle down : Side) (parts m1 k1 m2 k2 : ℕ) → Leads A PA can passes up middle m1 k1 → Leads B PB can passes middle down m2 k2 → middle.pace.latency ≡ 0 → 0 < up.symbols → up.error_bits ≡ middle.error_bits
+    → ((up.symbols ≡ middle.symbols * parts) ⊎ (down.symbols ≡ middle.symbols * parts)) → Leads (IsChainOf A B PB S) (IsChainOf (λ first. A first × PA first) PB PB S) can passes up down (m1 + m2) (k1 + k2)
+chain_leads A PA B PB S can passes up middle down parts m1 k1 m2 k2 one two direct some errors divides =
+    let direct' : two.shape.up.pace.latency ≡ 0 = ap (λ (s : Side). s.pace.latency) two.up_is ∙ direct in
+    let fit : ShapesFit one.shape two.shape = record {
+      same_side = one.down_is ∙ sym two.up_is;
+      passed_on = λ channel h. subst (λ (p : ℕ → Bool). IsTrue (p channel)) (one.test ∙ sym two.test) h;
+      has_symbols = subst (λ (s : Side). 0 < s.symbols) (sym one.up_is) some;
+      divides = (
+        parts,
+        elim divides [
+          | inl e ↦ inl (ap (λ (s : Side). s.symbols) one.up_is ∙ e ∙ ap (λ (s : Side). s.symbols * parts) (sym two.up_is))
+          | inr e ↦ inr (ap (λ (s : Side). s.symbols) two.down_is ∙ e ∙ ap (λ (s : Side). s.symbols * parts) (sym two.up_is))
+        ],
+      );
+      has_errors = λ a b. (
+          let here = ap (λ (s : Side). s.error_bits) one.up_is in
+          let there = ap (λ (s : Side). s.error_bits) two.up_is in
+          omega (arith, here, there, errors, b));
+      delayed = λ late. absurd (never_late _ direct' late);
+    } in
+    record {
+      shape = chain_shape one.shape two.shape;
+      has_it = record { first = one.shape; second = two.shape; is = refl; fit = fit; first_has = one.has_it; second_has = two.has_it; shown = λ late. absurd (never_late _ direct' late); always_ready = λ needs. absurd (both_ways _ one.free needs) };
+      passed = λ can. record {
+        first = one.shape;
+        second = two.shape;
+        is = refl;
+        fit = fit;
+        first_has = (one.has_it, one.passed can);
+        second_has = two.passed can;
+        shown = λ late. absurd (never_late _ direct' late);
+        always_ready = λ needs. absurd (both_ways _ one.free needs);
+      };
+      up_is = one.up_is;
+      down_is = two.down_is;
+      test = one.test;
+      free = or_neither _ _ one.free two.free;
+      hold = (let a = one.hold in let b = two.hold in omega arith);
+      rest = (let a = one.rest in let b = two.rest in omega arith);
+    }
+
+-- ---- each of them
+
+pub turn_leads : (can : Type 0) (stage : Option Reorder) (passes : ℕ → Bool) (side : Side) (turns high : Bool) (symbols bits : ℕ) → IsTurn turns symbols bits stage → side.symbols ≡ symbols → side.symbol_bits ≡ bits → 0 < side.symbols → PassesAll passes side
+    → (turns ≡ false → high ≡ side.first_high) → (turns ≡ true → high ≡ not side.first_high) →
+    Leads (shape_of (λ (s : Reorder) (shape : Shape). IsReorderShape s.symbols s.bits shape) stage) (shape_of (λ (s : Reorder) (shape : Shape). IsReorderShape s.symbols s.bits shape) stage) can passes side (record side { first_high = high }) 0 0
+turn_leads can None passes side turns high symbols bits is same same_bits some all stays changes = record {
+  shape = pass_shape passes side;
+  has_it = record { is = refl; some = some; passes = all };
+  passed = λ c. record { is = refl; some = some; passes = all };
+  up_is = refl;
+  down_is = ap (λ b. record side { first_high = b }) (sym (stays is));
+  test = refl;
+  free = refl;
+  hold = omega arith;
+  rest = omega arith;
+}
+turn_leads can (Some stage) passes side turns high symbols bits is same same_bits some all stays changes = record {
+  shape = wire_shape passes side (turned_side side) side.pace.latency false;
+  has_it = record { is = refl; symbols_are = same ∙ sym is.1; bits_are = same_bits ∙ sym is.2; some = some; passes = all };
+  passed = λ c. record { is = refl; symbols_are = same ∙ sym is.1; bits_are = same_bits ∙ sym is.2; some = some; passes = all };
+  up_is = refl;
+  down_is = ap (λ b. record side { first_high = b }) (sym (changes is.0));
+  test = refl;
+  free = refl;
+  hold = omega arith;
+  rest = omega arith;
+}
+
+pub clear_leads : (can : Type 0) (stage : Option Clear) (passes : ℕ → Bool) (side : Side) (clears : Bool) (symbols bits : ℕ) → IsClearing clears symbols bits stage → side.symbols ≡ symbols → side.symbol_bits ≡ bits → 0 < side.symbols → PassesAll passes side → (clears ≡ true → side.first_high ≡ true) →
+    Leads (shape_of (λ (s : Clear) (shape : Shape). IsClearShape s.symbols s.bits shape) stage) (shape_of (λ (s : Clear) (shape : Shape). IsClearShape s.symbols s.bits shape) stage) can passes side side 0 0
+clear_leads can None passes side clears symbols bits is same same_bits some all high = record { shape = pass_shape passes side; has_it = record { is = refl; some = some; passes = all }; passed = λ c. record { is = refl; some = some; passes = all }; up_is = refl; down_is = refl; test = refl; free = refl; hold = omega arith; rest = omega arith }
+clear_leads can (Some stage) passes side clears symbols bits is same same_bits some all high = record {
+  shape = wire_shape passes side side side.pace.latency false;
+  has_it = record { is = refl; symbols_are = same ∙ sym is.1; bits_are = same_bits ∙ sym is.2; first_high = high is.0; some = some; passes = all };
+  passed = λ c. record { is = refl; symbols_are = same ∙ sym is.1; bits_are = same_bits ∙ sym is.2; first_high = high is.0; some = some; passes = all };
+  up_is = refl;
+  down_is = refl;
+  test = refl;
+  free = refl;
+  hold = omega arith;
+  rest = omega arith;
+}
+
+pub cut_leads : (can : Type 0) (stage : Option Narrow) → (can → IsNone stage) → (passes : ℕ → Bool) (side : Side) (symbols parts bits : ℕ) → IsCut symbols parts bits stage → side.symbols ≡ symbols * parts → side.symbol_bits ≡ bits → 0 < side.symbols → PassesAll passes side → side.pace.latency ≡ 0 → (2 ≤ parts → side.first_high ≡ true) →
+    Leads (shape_of (λ (s : Narrow) (shape : Shape). IsNarrowShape s.sizes shape) stage) (shape_of (λ (s : Narrow) (shape : Shape). ⊥) stage) can passes side (of_symbols side symbols) side.symbols 0
+cut_leads can None none passes side symbols parts bits is size same_bits some all direct high = record {
+  shape = pass_shape passes side;
+  has_it = record { is = refl; some = some; passes = all };
+  passed = λ c. record { is = refl; some = some; passes = all };
+  up_is = refl;
+  down_is = ap (of_symbols side) (size ∙ ap (λ n. symbols * n) is ∙ omega arith);
+  test = refl;
+  free = refl;
+  hold = omega arith;
+  rest = omega arith;
+}
+cut_leads can (Some stage) none passes side symbols parts bits is size same_bits some all direct high = record {
+  shape = narrow_shape passes side (of_symbols side stage.sizes.symbols);
+  has_it = record {
+    is = refl;
+    symbols_are = size ∙ ap (λ n. n * parts) (sym is.0) ∙ ap (λ n. stage.sizes.symbols * n) (sym is.1);
+    bits_are = same_bits ∙ sym is.2;
+    first_high = high (let several = stage.sizes.several in let parts_are = is.1 in omega (arith, several, parts_are));
+    at_once = direct;
+    passes = all;
+  };
+  passed = λ c. absurd (let some = none c in cc);
+  up_is = refl;
+  down_is = ap (of_symbols side) is.0;
+  test = refl;
+  free = refl;
+  hold = omega arith;
+  rest = omega arith;
+}
+
+-- what is gathered for good is less than a wide beat
+kept_few : (symbols s p parts wide : ℕ) → s ≡ symbols → p ≡ parts → wide ≡ symbols * parts → 0 < symbols → 2 ≤ p → (p - 1) * s + 1 ≤ wide
+kept_few symbols s p parts wide same same_parts size some several =
+    let sum = split_symbols symbols parts (omega arith) in
+    let turned : (p - 1) * s ≡ symbols * (parts - 1) = ap (λ n. (n - 1) * s) same_parts ∙ ap (λ n. (parts - 1) * n) same ∙ mul_comm (parts - 1) symbols in
+    omega (arith, sum, turned, size, some)
+
+pub joint_leads : (can : Type 0) (stage : Option Widen) (passes : ℕ → Bool) (side : Side) (symbols parts bits wide : ℕ) → IsJoint symbols parts bits stage → side.symbols ≡ symbols → wide ≡ symbols * parts → side.symbol_bits ≡ bits → 0 < side.symbols → PassesAll passes side → side.pace.latency ≡ 0 → side.pace.allowance ≡ 0 → (2 ≤ parts → side.first_high ≡ true)
+    → IfSome stage (λ s. IsFalse side.packets → side.max_channel ≡ 0) →
+    Leads (shape_of (λ (s : Widen) (shape : Shape). IsWidenShape s.sizes shape) stage) (shape_of (λ (s : Widen) (shape : Shape). IsWidenShape s.sizes shape) stage) can passes side (of_symbols side wide) wide (wide - 1)
+joint_leads can None passes side symbols parts bits wide is same size same_bits some all direct strict high channels = record {
+  shape = pass_shape passes side;
+  has_it = record { is = refl; some = some; passes = all };
+  passed = λ c. record { is = refl; some = some; passes = all };
+  up_is = refl;
+  down_is = ap (of_symbols side) (same ∙ sym (size ∙ ap (λ n. symbols * n) is ∙ omega arith));
+  test = refl;
+  free = refl;
+  hold = omega arith;
+  rest = omega arith;
+}
+joint_leads can (Some stage) passes side symbols parts bits wide is same size same_bits some all direct strict high channels = record {
+  shape = widen_shape passes stage.sizes.parts side (of_symbols side (stage.sizes.symbols * stage.sizes.parts));
+  has_it = record {
+    is = refl;
+    symbols_are = same ∙ sym is.0;
+    bits_are = same_bits ∙ sym is.2;
+    first_high = high (let several = stage.sizes.several in let parts_are = is.1 in omega (arith, several, parts_are));
+    at_once = direct;
+    strict = strict;
+    channels = channels;
+    passes = all;
+  };
+  passed = λ c. record {
+    is = refl;
+    symbols_are = same ∙ sym is.0;
+    bits_are = same_bits ∙ sym is.2;
+    first_high = high (let several = stage.sizes.several in let parts_are = is.1 in omega (arith, several, parts_are));
+    at_once = direct;
+    strict = strict;
+    channels = channels;
+    passes = all;
+  };
+  up_is = refl;
+  down_is = ap (of_symbols side) (ap (λ n. n * stage.sizes.parts) is.0 ∙ ap (λ n. symbols * n) is.1 ∙ sym size);
+  test = refl;
+  free = refl;
+  hold = (let below = kept_few symbols (side.symbols) stage.sizes.parts parts wide same is.1 size (let here = some in let equal = same in omega (arith, here, equal)) stage.sizes.several in omega arith);
+  rest = (let below = kept_few symbols (side.symbols) stage.sizes.parts parts wide same is.1 size (let here = some in let equal = same in omega (arith, here, equal)) stage.sizes.several in omega arith);
+}

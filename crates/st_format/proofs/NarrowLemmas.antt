@@ -1,0 +1,52 @@
+-- The nets of the first part of a wide beat and of what is left of it.
+use Rattle.std.proofs.Common.{◌≡◌, ℕ, zero, suc, ◌+◌, ◌-◌, ◌*◌, ◌/◌, ◌%◌, ◌^◌, ◌<◌, ◌≤◌, Bool, true, false, not, ◌&&◌, ◌==◌, if◌then◌else◌, bit_and, refl, ap, ◌∙◌, arith}
+use Rattle.stage_core.specs.Groups.{Shown}
+use Rattle.stage_core.proofs.Bits.{high_and, high_turned}
+use Rattle.st_format.specs.declared.sizes.Sizes.{Sizes}
+use Rattle.st_format.specs.NarrowNets.{has_more, piece_of, shown_piece, shown_rest}
+
+pub part_bits : (sizes : Sizes) (x low wide : ℕ) → low ≡ sizes.bits * (sizes.symbols * (sizes.parts - 1)) → wide ≡ sizes.bits * sizes.symbols → 1 ≤ wide →
+    x / 2 ^ low % 2 ^ (low + wide - 1 - low + 1) ≡ x / 2 ^ (sizes.bits * (sizes.symbols * (sizes.parts - 1))) % 2 ^ (sizes.bits * sizes.symbols)
+part_bits sizes x low wide e f some =
+    let width : low + wide - 1 - low + 1 ≡ sizes.bits * sizes.symbols = omega (arith, f, some) in
+    ap (λ n. x / 2 ^ low % 2 ^ n) width ∙ ap (λ n. x / 2 ^ n % 2 ^ (sizes.bits * sizes.symbols)) e
+
+pub part_shown : (sizes : Sizes) (x y : Shown) (more word last empty : ℕ) → x ≡ y → (more == 1) ≡ has_more sizes y.beat
+    → word ≡ y.beat.word / 2 ^ (sizes.bits * (sizes.symbols * (sizes.parts - 1))) % 2 ^ (sizes.bits * sizes.symbols)
+    → last ≡ (if more == 1 then 0 else y.beat.last)
+    → empty ≡ (if has_more sizes y.beat then 0 else y.beat.empty - sizes.symbols * (sizes.parts - 1)) →
+    (record { valid = x.valid; beat = record { word = word; channel = x.beat.channel; error = x.beat.error; first = x.beat.first; last = last; empty = empty } }) ≡ shown_piece sizes y
+part_shown sizes x y more word last empty same follows words lasts empties =
+    ap (λ (z : Shown). record { valid = z.valid; beat = record { word = word; channel = z.beat.channel; error = z.beat.error; first = z.beat.first; last = last; empty = empty } }) same
+    ∙ ap (λ n. record { valid = y.valid; beat = record { word = n; channel = y.beat.channel; error = y.beat.error; first = y.beat.first; last = last; empty = empty } }) words
+    ∙ ap (λ n. record { valid = y.valid; beat = record (piece_of sizes y.beat) { last = n; empty = empty } }) (lasts ∙ ap (λ t. if t then 0 else y.beat.last) follows)
+    ∙ ap (λ n. record { valid = y.valid; beat = record (piece_of sizes y.beat) { empty = n } }) empties
+
+pub rest_shifted : (x rest zeros y k low b s p : ℕ) → low ≡ b * (s * (p - 1)) → 1 ≤ low → k ≡ b * s → rest ≡ x / 2 ^ 0 % 2 ^ (low - 1 - 0 + 1) → zeros ≡ 0 → y ≡ rest * 2 ^ k + zeros → y ≡ x % 2 ^ (b * (s * (p - 1))) * 2 ^ (b * s)
+rest_shifted x rest zeros y k low b s p e some f cut none is =
+    let whole : x / 2 ^ 0 ≡ x = omega arith in
+    let width : low - 1 - 0 + 1 ≡ b * (s * (p - 1)) = omega (arith, e, some) in
+    let kept : rest ≡ x % 2 ^ (b * (s * (p - 1))) = cut ∙ ap (λ n. n % 2 ^ (low - 1 - 0 + 1)) whole ∙ ap (λ n. x % 2 ^ n) width in
+    let bare : rest * 2 ^ k + zeros ≡ rest * 2 ^ k = omega (arith, none) in
+    is ∙ bare ∙ ap (λ n. n * 2 ^ k) kept ∙ ap (λ n. x % 2 ^ (b * (s * (p - 1))) * 2 ^ n) f
+
+pub one_where : (t : Bool) (more : ℕ) → more < 2 → (more == 1) ≡ t → more ≡ (if t then 1 else 0)
+one_where true zero h e = absurd (cc)
+one_where false zero h e = refl
+one_where true (suc zero) h e = refl
+one_where false (suc zero) h e = absurd (cc)
+one_where t (suc (suc more)) h e = absurd (omega arith)
+
+pub rest_shown : (sizes : Sizes) (x y : Shown) (more word first empty : ℕ) → x ≡ y → more < 2 → (more == 1) ≡ has_more sizes y.beat
+    → word ≡ y.beat.word % 2 ^ (sizes.bits * (sizes.symbols * (sizes.parts - 1))) * 2 ^ (sizes.bits * sizes.symbols)
+    → first ≡ 0 → empty ≡ (y.beat.empty + sizes.symbols) % 2 ^ 8 →
+    (record { valid = more; beat = record { word = word; channel = x.beat.channel; error = x.beat.error; first = first; last = x.beat.last; empty = empty } }) ≡ shown_rest sizes y
+rest_shown sizes x y more word first empty same small follows words firsts empties =
+    ap (λ (z : Shown). record { valid = more; beat = record { word = word; channel = z.beat.channel; error = z.beat.error; first = first; last = z.beat.last; empty = empty } }) same
+    ∙ rw (one_where (has_more sizes y.beat) more small follows, words, firsts, empties) refl
+
+pub asks_idle : (w held ready none up : ℕ) → w ≡ 1 → held < 2 → ready < 2 → none ≡ 2 ^ w - 1 - held → up ≡ bit_and none ready → (up == 1) ≡ (not (held == 1) && (ready == 1))
+asks_idle w held ready none up one h k inverted is =
+    let now : none ≡ 2 ^ 1 - 1 - held = inverted ∙ ap (λ n. 2 ^ n - 1 - held) one in
+    let small : none < 2 = omega (arith, now) in
+    high_and none ready up small k is ∙ ap (λ t. t && (ready == 1)) (high_turned w held none one h inverted)

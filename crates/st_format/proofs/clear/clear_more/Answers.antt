@@ -1,0 +1,33 @@
+use Rattle.std.proofs.Common.{◌≡◌, ◌+◌, ◌*◌, nat_lt, if◌then◌else◌, ◌∙◌, arith}
+use Rattle.netlist.specs.Runs.{Always}
+use Rattle.stage_core.specs.Beats.{IsNetOfWidth}
+use Rattle.stage_core.proofs.Growing.{extends_twice, grows_once, adds_twice, adds_fewer, if_ok}
+use Rattle.st_format.specs.ClearNets.{without_low}
+use Rattle.st_format.proofs.ClearLaw.{more_cleared}
+use Rattle.st_format.proofs.clear.clear_more.Goals as goal
+
+pub returns-in_err-more-clause-adds : goal.returns-in_err-more-clause-adds
+returns-in_err-more-clause-adds c = adds_fewer _ _ _ _ (omega arith) (adds_twice _ _ _ _ _ c.constant.ensures.adds (grows_once _ _ c.less.ensures.extends c.less.ensures.grows))
+
+pub returns-in_err-shorter-clause-adds : goal.returns-in_err-shorter-clause-adds
+returns-in_err-shorter-clause-adds c = adds_fewer _ _ _ _ (omega arith) (adds_twice _ _ _ _ _ (adds_twice _ _ _ _ _ c.constant.ensures.adds (grows_once _ _ c.less.ensures.extends c.less.ensures.grows)) c.clear_low.ensures.adds)
+
+pub returns-clause-adds : goal.returns-clause-adds
+returns-clause-adds c = adds_fewer _ _ _ _ (omega arith) (adds_twice _ _ _ _ _ (adds_twice _ _ _ _ _ (adds_twice _ _ _ _ _ c.constant.ensures.adds (grows_once _ _ c.less.ensures.extends c.less.ensures.grows)) c.clear_low.ensures.adds) (grows_once _ _ c.mux.ensures.extends c.mux.ensures.grows))
+
+pub returns-clause-net : goal.returns-clause-net
+returns-clause-net c = if_ok c.mux.result _ (λ more. IsNetOfWidth c.mux.new.self more c.args.word.width) (λ more net. record { is_net = net.0; has_width = net.1 ∙ c.in_ok-shorter.ensures.net.has_width }) c.mux.ensures.net
+
+pub mux-requires-clause-b_is : goal.mux-requires-clause-b_is
+mux-requires-clause-b_is c = (extends_twice _ _ _ c.constant.ensures.adds.grows.extends (extends_twice _ _ _ c.less.ensures.extends c.clear_low.ensures.adds.grows.extends)).nets _ _ c.requires.cleared.is_net
+
+pub returns-clause-value : goal.returns-clause-value
+returns-clause-value c =
+    if_ok c.mux.result _ (λ more. Always c.mux.new.self (λ cycle. cycle.net more.number ≡ (if nat_lt c.args.count (cycle.net c.args.empty.number) then without_low (c.args.bits * c.args.count + c.args.bits) (cycle.net c.args.word.number) else cycle.net c.args.cleared.number)))
+    (λ more value cycle v4. (
+    let v3 = c.mux.ensures.extends.valuations cycle v4 in
+    let v2 = c.clear_low.ensures.adds.grows.extends.valuations cycle v3 in
+    let v1 = c.less.ensures.extends.valuations cycle v2 in
+    let v0 = c.constant.ensures.adds.grows.extends.valuations cycle v1 in
+    more_cleared c.args.count _ (cycle.net c.args.empty.number) _ (cycle.net c.args.cleared.number) _ _ _ (c.in_ok-number.ensures.value cycle v1) (c.in_ok-more.ensures.value cycle v2).1 (c.in_ok-shorter.ensures.value cycle v3) (value cycle v4).1))
+    c.mux.ensures.value

@@ -1,0 +1,25 @@
+use Rattle.std.proofs.Common.{arith}
+use Rattle.stage_core.specs.Lasting.{beat_lasts}
+use Rattle.stage_core.proofs.Growing.{extends_twice, adds_twice, adds_fewer}
+use Rattle.st_format.proofs.narrow.cut_beat.Goals as goal
+
+pub returns-in_err-part-clause-adds : goal.returns-in_err-part-clause-adds
+returns-in_err-part-clause-adds c = adds_fewer _ _ _ _ (omega arith) (adds_twice _ _ _ _ _ c.part_follows.ensures.adds c.show_part.ensures.adds)
+
+pub returns-in_err-rest-clause-adds : goal.returns-in_err-rest-clause-adds
+returns-in_err-rest-clause-adds c = adds_fewer _ _ _ _ (omega arith) (adds_twice _ _ _ _ _ (adds_twice _ _ _ _ _ c.part_follows.ensures.adds c.show_part.ensures.adds) c.leave_rest.ensures.adds)
+
+pub returns-clause-adds : goal.returns-clause-adds
+returns-clause-adds c = adds_fewer _ _ _ _ (omega arith) (adds_twice _ _ _ _ _ (adds_twice _ _ _ _ _ c.part_follows.ensures.adds c.show_part.ensures.adds) c.leave_rest.ensures.adds)
+
+pub leave_rest-requires-clause-beat : goal.leave_rest-requires-clause-beat
+leave_rest-requires-clause-beat c = beat_lasts _ _ _ (extends_twice _ _ _ c.part_follows.ensures.adds.grows.extends c.show_part.ensures.adds.grows.extends) c.requires.beat
+
+pub leave_rest-requires-clause-follows : goal.leave_rest-requires-clause-follows
+leave_rest-requires-clause-follows c cycle v = c.in_ok-more.ensures.value cycle (c.show_part.ensures.adds.grows.extends.valuations cycle v)
+
+pub returns-clause-part : goal.returns-clause-part
+returns-clause-part c = beat_lasts _ _ _ c.leave_rest.ensures.adds.grows.extends c.in_ok-part.ensures.part
+
+pub returns-clause-shows : goal.returns-clause-shows
+returns-clause-shows c cycle v = c.in_ok-part.ensures.value cycle (c.leave_rest.ensures.adds.grows.extends.valuations cycle v)

@@ -1,0 +1,28 @@
+use Rattle.std.proofs.Common.{◌≡◌, ◌-◌, ◌*◌, nat_lt, if◌then◌else◌, ◌∙◌, arith}
+use Rattle.netlist.specs.Runs.{Always}
+use Rattle.netlist.proofs.Valuations.{valued_fits}
+use Rattle.stage_core.specs.Lasting.{bit_lasts}
+use Rattle.stage_core.proofs.Growing.{extends_twice, grows_once, adds_twice, adds_fewer, bit_fits, if_ok}
+use Rattle.st_format.proofs.CountedLemmas.{left_where}
+use Rattle.st_format.proofs.narrow.part_empty.Goals as goal
+
+pub returns-in_err-none-clause-adds : goal.returns-in_err-none-clause-adds
+returns-in_err-none-clause-adds c = adds_fewer _ _ _ _ (omega arith) (adds_twice _ _ _ _ _ (adds_twice _ _ _ _ _ c.constant.ensures.adds (grows_once _ _ c.sub.ensures.extends c.sub.ensures.grows)) c.constant-2.ensures.adds)
+
+pub mux-requires-clause-s_is : goal.mux-requires-clause-s_is
+mux-requires-clause-s_is c = (bit_lasts _ _ _ _ (extends_twice _ _ _ c.constant.ensures.adds.grows.extends (extends_twice _ _ _ c.sub.ensures.extends c.constant-2.ensures.adds.grows.extends)) c.requires.more).is_net
+
+pub returns-clause-value : goal.returns-clause-value
+returns-clause-value c =
+    if_ok c.mux.result _ (λ left. Always c.mux.new.self (λ cycle. cycle.net left.number ≡ (if nat_lt (cycle.net c.args.empty.number) (c.args.sizes.now.symbols * (c.args.sizes.now.parts - 1)) then 0 else cycle.net c.args.empty.number - c.args.sizes.now.symbols * (c.args.sizes.now.parts - 1))))
+    (λ left value cycle v4. (
+    let v3 = c.mux.ensures.extends.valuations cycle v4 in
+    let v2 = c.constant-2.ensures.adds.grows.extends.valuations cycle v3 in
+    let v1 = c.sub.ensures.extends.valuations cycle v2 in
+    let v0 = c.constant.ensures.adds.grows.extends.valuations cycle v1 in
+    left_where c.args.empty.width (cycle.net c.args.more.number) (cycle.net c.args.empty.number) _ _ _ (cycle.net left.number) _ c.requires.empty.has_width (valued_fits _ cycle v0 _ _ c.requires.empty.is_net) (bit_fits _ _ c.requires.more cycle v0) (c.requires.follows cycle v0)
+    (c.in_ok-behind.ensures.value cycle v1 ∙ c.rest_symbols.ensures.value) (c.in_ok-left.ensures.value cycle v2).1 (c.in_ok-none.ensures.value cycle v3) (value cycle v4).1))
+    c.mux.ensures.value
+
+pub returns-clause-adds : goal.returns-clause-adds
+returns-clause-adds c = adds_fewer _ _ _ _ (omega arith) (adds_twice _ _ _ _ _ (adds_twice _ _ _ _ _ (adds_twice _ _ _ _ _ c.constant.ensures.adds (grows_once _ _ c.sub.ensures.extends c.sub.ensures.grows)) c.constant-2.ensures.adds) (grows_once _ _ c.mux.ensures.extends c.mux.ensures.grows))

@@ -1,0 +1,97 @@
+use Rattle.std.proofs.Common.{◌==◌, ◌&&◌, if◌then◌else◌, sym, ap, ◌∙◌, arith}
+use Rattle.netlist.specs.Runs.{cycle_of}
+use Rattle.stage_core.specs.Groups.{Shown, shown_in}
+use Rattle.stage_core.specs.Lasting.{bit_lasts, beat_lasts, registers_last}
+use Rattle.stage_core.proofs.Growing.{extends_twice, grows_once, grows_twice, grows_fewer, bit_fits, widths_turned, widths_twice}
+use Rattle.stage_core.proofs.Bits.{high_and, high_room}
+use Rattle.st_format.proofs.widen.WidenStage.emit_backward.Goals as goal
+
+pub returns-in_err-up-clause-grows : goal.returns-in_err-up-clause-grows
+returns-in_err-up-clause-grows c = grows_fewer _ _ _ _ (omega arith) (grows_twice _ _ _ _ _ (grows_once _ _ c.not.ensures.extends c.not.ensures.grows).grows (grows_once _ _ c.or.ensures.extends c.or.ensures.grows).grows)
+
+pub returns-in_err-comes-clause-grows : goal.returns-in_err-comes-clause-grows
+returns-in_err-comes-clause-grows c = grows_fewer _ _ _ _ (omega arith) (grows_twice _ _ _ _ _ (grows_twice _ _ _ _ _ (grows_once _ _ c.not.ensures.extends c.not.ensures.grows).grows (grows_once _ _ c.or.ensures.extends c.or.ensures.grows).grows) (grows_once _ _ c.and.ensures.extends c.and.ensures.grows).grows)
+
+pub returns-in_err-gathered-clause-grows : goal.returns-in_err-gathered-clause-grows
+returns-in_err-gathered-clause-grows c = grows_fewer _ _ _ _ (omega arith) (grows_twice _ _ _ _ _ (grows_twice _ _ _ _ _ (grows_twice _ _ _ _ _ (grows_once _ _ c.not.ensures.extends c.not.ensures.grows).grows (grows_once _ _ c.or.ensures.extends c.or.ensures.grows).grows) (grows_once _ _ c.and.ensures.extends c.and.ensures.grows).grows) c.mux_beat.ensures.adds.grows)
+
+pub returns-in_err-next-clause-grows : goal.returns-in_err-next-clause-grows
+returns-in_err-next-clause-grows c = grows_fewer _ _ _ _ (omega arith) (grows_twice _ _ _ _ _ (grows_twice _ _ _ _ _ (grows_twice _ _ _ _ _ (grows_twice _ _ _ _ _ (grows_once _ _ c.not.ensures.extends c.not.ensures.grows).grows (grows_once _ _ c.or.ensures.extends c.or.ensures.grows).grows) (grows_once _ _ c.and.ensures.extends c.and.ensures.grows).grows) c.mux_beat.ensures.adds.grows) c.mux_beat-2.ensures.adds.grows)
+
+pub returns-clause-grows : goal.returns-clause-grows
+returns-clause-grows c = grows_fewer _ _ _ _ (omega arith) (grows_twice _ _ _ _ _ (grows_twice _ _ _ _ _ (grows_twice _ _ _ _ _ (grows_twice _ _ _ _ _ (grows_twice _ _ _ _ _ (grows_once _ _ c.not.ensures.extends c.not.ensures.grows).grows (grows_once _ _ c.or.ensures.extends c.or.ensures.grows).grows) (grows_once _ _ c.and.ensures.extends c.and.ensures.grows).grows) c.mux_beat.ensures.adds.grows) c.mux_beat-2.ensures.adds.grows) c.set_next_beat.ensures.grows)
+
+pub or-requires-clause-widths : goal.or-requires-clause-widths
+or-requires-clause-widths c = c.in_ok-not_full.ensures.net.1 ∙ (c.requires.kept.full.has_width ∙ sym c.requires.ready.has_width)
+
+pub and-requires-clause-widths : goal.and-requires-clause-widths
+and-requires-clause-widths c = c.requires.kept.coming.has_width ∙ sym (c.in_ok-up.ensures.net.1 ∙ (c.in_ok-not_full.ensures.net.1 ∙ c.requires.kept.full.has_width))
+
+pub mux_beat-requires-clause-bit : goal.mux_beat-requires-clause-bit
+mux_beat-requires-clause-bit c = bit_lasts _ _ _ _ (extends_twice _ _ _ c.not.ensures.extends (extends_twice _ _ _ c.or.ensures.extends c.and.ensures.extends)) c.requires.kept.full
+
+pub mux_beat-requires-clause-one : goal.mux_beat-requires-clause-one
+mux_beat-requires-clause-one c = beat_lasts _ _ _ (extends_twice _ _ _ c.not.ensures.extends (extends_twice _ _ _ c.or.ensures.extends c.and.ensures.extends)) c.requires.kept.none
+
+pub mux_beat-requires-clause-other : goal.mux_beat-requires-clause-other
+mux_beat-requires-clause-other c = beat_lasts _ _ _ (extends_twice _ _ _ c.not.ensures.extends (extends_twice _ _ _ c.or.ensures.extends c.and.ensures.extends)) c.requires.kept.filled
+
+pub mux_beat-requires-clause-widths : goal.mux_beat-requires-clause-widths
+mux_beat-requires-clause-widths c = widths_twice _ _ _ c.requires.kept.none_widths (widths_turned _ _ c.requires.kept.filled_widths)
+
+pub mux_beat-requires-2-clause-bit : goal.mux_beat-requires-2-clause-bit
+mux_beat-requires-2-clause-bit c = bit_lasts _ _ _ _ c.mux_beat.ensures.adds.grows.extends (record { is_net = c.in_ok-comes.ensures.net.0; has_width = c.in_ok-comes.ensures.net.1 ∙ c.requires.kept.coming.has_width })
+
+pub mux_beat-requires-2-clause-other : goal.mux_beat-requires-2-clause-other
+mux_beat-requires-2-clause-other c = beat_lasts _ _ _ (extends_twice _ _ _ c.not.ensures.extends (extends_twice _ _ _ c.or.ensures.extends (extends_twice _ _ _ c.and.ensures.extends c.mux_beat.ensures.adds.grows.extends))) c.requires.kept.held
+
+pub mux_beat-requires-2-clause-widths : goal.mux_beat-requires-2-clause-widths
+mux_beat-requires-2-clause-widths c = widths_twice _ _ _ c.in_ok-gathered.ensures.widths c.requires.kept.none_widths
+
+pub set_next_beat-requires-clause-registers : goal.set_next_beat-requires-clause-registers
+set_next_beat-requires-clause-registers c = beat_lasts _ _ _ (extends_twice _ _ _ c.not.ensures.extends (extends_twice _ _ _ c.or.ensures.extends (extends_twice _ _ _ c.and.ensures.extends (extends_twice _ _ _ c.mux_beat.ensures.adds.grows.extends c.mux_beat-2.ensures.adds.grows.extends)))) c.requires.kept.held
+
+pub set_next_beat-requires-clause-wait : goal.set_next_beat-requires-clause-wait
+set_next_beat-requires-clause-wait c =
+    registers_last _ _ _ _ (λ n o w. c.mux_beat-2.ensures.adds.waits n (c.mux_beat.ensures.adds.waits n (c.and.ensures.grows.waits n (c.or.ensures.grows.waits n (c.not.ensures.grows.waits n w))))) c.requires.kept.registers
+
+pub set_next_beat-requires-clause-widths : goal.set_next_beat-requires-clause-widths
+set_next_beat-requires-clause-widths c = widths_turned _ _ (widths_twice _ _ _ c.in_ok-next.ensures.widths (widths_twice _ _ _ c.in_ok-gathered.ensures.widths c.requires.kept.none_widths))
+
+pub returns-clause-net : goal.returns-clause-net
+returns-clause-net c =
+    bit_lasts _ _ _ _ (extends_twice _ _ _ c.and.ensures.extends (extends_twice _ _ _ c.mux_beat.ensures.adds.grows.extends (extends_twice _ _ _ c.mux_beat-2.ensures.adds.grows.extends c.set_next_beat.ensures.grows.extends))) (record { is_net = c.in_ok-up.ensures.net.0; has_width = c.in_ok-up.ensures.net.1 ∙ (c.in_ok-not_full.ensures.net.1 ∙ c.requires.kept.full.has_width) })
+
+pub returns-clause-made : goal.returns-clause-made
+returns-clause-made c = record {
+  asks = λ cycle v6. (
+      let v5 = c.set_next_beat.ensures.grows.extends.valuations cycle v6 in
+      let v4 = c.mux_beat-2.ensures.adds.grows.extends.valuations cycle v5 in
+      let v3 = c.mux_beat.ensures.adds.grows.extends.valuations cycle v4 in
+      let v2 = c.and.ensures.extends.valuations cycle v3 in
+      let v1 = c.or.ensures.extends.valuations cycle v2 in
+      let v0 = c.not.ensures.extends.valuations cycle v1 in
+      high_room _ (cycle.net c.args.kept.full.number) _ (cycle.net c.args.ready.number) _ c.requires.kept.full.has_width (bit_fits _ _ c.requires.kept.full cycle v0) (bit_fits _ _ c.requires.ready cycle v0) (c.in_ok-not_full.ensures.value cycle v1).1 (c.in_ok-up.ensures.value cycle v2).1);
+  moves = λ run cycles r n lt. (
+      let v6 = r.valuations n (omega arith) in
+      let v5 = c.set_next_beat.ensures.grows.extends.valuations (cycle_of run n) v6 in
+      let v4 = c.mux_beat-2.ensures.adds.grows.extends.valuations (cycle_of run n) v5 in
+      let v3 = c.mux_beat.ensures.adds.grows.extends.valuations (cycle_of run n) v4 in
+      let v2 = c.and.ensures.extends.valuations (cycle_of run n) v3 in
+      let v1 = c.or.ensures.extends.valuations (cycle_of run n) v2 in
+      let v0 = c.not.ensures.extends.valuations (cycle_of run n) v1 in
+      let up = bit_fits _ _ (record { is_net = c.in_ok-up.ensures.net.0; has_width = c.in_ok-up.ensures.net.1 ∙ (c.in_ok-not_full.ensures.net.1 ∙ c.requires.kept.full.has_width) }) (cycle_of run n) v2 in
+      let comes = high_and (run.net n c.args.kept.coming.number) (run.net n c.in_ok-up.up.number) (run.net n c.in_ok-comes.comes.number) (bit_fits _ _ c.requires.kept.coming (cycle_of run n) v0) up (c.in_ok-comes.ensures.value (cycle_of run n) v3).1 in
+      c.set_next_beat.ensures.value run cycles r n lt
+      ∙ c.in_ok-next.ensures.value (cycle_of run n) v5
+      ∙ ap (λ t. if t then shown_in (cycle_of run n) c.in_ok-gathered.gathered else shown_in (cycle_of run n) c.args.kept.held) comes
+      ∙ ap (λ (x : Shown). if (run.net n c.args.kept.coming.number == 1) && (run.net n c.in_ok-up.up.number == 1) then x else shown_in (cycle_of run n) c.args.kept.held) (c.in_ok-gathered.ensures.value (cycle_of run n) v4));
+}
+
+pub returns-clause-waits : goal.returns-clause-waits
+returns-clause-waits c n apart w = c.set_next_beat.ensures.still_wait n apart (c.mux_beat-2.ensures.adds.waits n (c.mux_beat.ensures.adds.waits n (c.and.ensures.grows.waits n (c.or.ensures.grows.waits n (c.not.ensures.grows.waits n w)))))
+
+pub returns-clause-no_more_wait : goal.returns-clause-no_more_wait
+returns-clause-no_more_wait c n w =
+    let set = c.set_next_beat.ensures.no_more_wait n w in
+    (c.not.ensures.grows.no_more_wait n (c.or.ensures.grows.no_more_wait n (c.and.ensures.grows.no_more_wait n (c.mux_beat.ensures.adds.no_more_wait n (c.mux_beat-2.ensures.adds.no_more_wait n set.0)))), set.1)

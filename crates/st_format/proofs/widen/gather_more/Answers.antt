@@ -1,0 +1,34 @@
+use Rattle.std.proofs.Common.{◌+◌, ◌%◌, ◌^◌, refl, sym, ap, ◌∙◌, arith}
+use Rattle.stage_core.specs.Lasting.{bit_lasts, beat_lasts}
+use Rattle.stage_core.proofs.Growing.{extends_twice, grows_once, adds_twice, adds_fewer, shown_same}
+use Rattle.st_format.proofs.widen.gather_more.Goals as goal
+
+pub returns-in_err-empty-clause-adds : goal.returns-in_err-empty-clause-adds
+returns-in_err-empty-clause-adds c = adds_fewer _ _ _ _ (omega arith) (adds_twice _ _ _ _ _ c.constant.ensures.adds (grows_once _ _ c.add.ensures.extends c.add.ensures.grows))
+
+pub returns-clause-adds : goal.returns-clause-adds
+returns-clause-adds c = adds_fewer _ _ _ _ (omega arith) (adds_twice _ _ _ _ _ c.constant.ensures.adds (grows_once _ _ c.add.ensures.extends c.add.ensures.grows))
+
+pub returns-clause-filled : goal.returns-clause-filled
+returns-clause-filled c =
+    let more = (extends_twice _ _ _ c.constant.ensures.adds.grows.extends c.add.ensures.extends) in
+    let joined = beat_lasts _ _ _ more c.requires.joined in
+    let none = beat_lasts _ _ _ more c.requires.none in
+    record { valid = bit_lasts _ _ _ _ more c.requires.coming; word = joined.word; channel = none.channel; error = joined.error; first = joined.first; last = none.last; empty = c.in_ok-empty.ensures.net.0 }
+
+pub returns-clause-widths : goal.returns-clause-widths
+returns-clause-widths c = record {
+  valid = c.requires.coming.has_width ∙ sym c.requires.none.valid.has_width;
+  word = sym c.requires.none_word;
+  channel = refl;
+  error = sym c.requires.none_error;
+  first = c.requires.joined.first.has_width ∙ sym c.requires.none.first.has_width;
+  last = refl;
+  empty = c.in_ok-empty.ensures.net.1 ∙ (c.requires.held_empty ∙ sym c.requires.none_empty);
+}
+
+pub returns-clause-value : goal.returns-clause-value
+returns-clause-value c cycle v2 =
+    let v1 = c.add.ensures.extends.valuations cycle v2 in
+    let empty = (c.in_ok-empty.ensures.value cycle v2).1 ∙ ap (λ w. (cycle.net c.args.held.now.empty.number + cycle.net c.in_ok-symbols.symbols.number) % 2 ^ w) c.requires.held_empty ∙ ap (λ n. (cycle.net c.args.held.now.empty.number + n) % 2 ^ 8) (c.in_ok-symbols.ensures.value cycle v1) in
+    shown_same _ _ refl refl refl refl refl refl empty

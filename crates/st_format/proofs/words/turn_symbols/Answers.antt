@@ -1,0 +1,38 @@
+use Rattle.std.proofs.Common.{◌≡◌, suc, ◌+◌, ◌*◌, ◌^◌, ◌<◌, sym, subst, ap, ◌∙◌, arith}
+use Rattle.stream_machines.specs.Words.{turned_word}
+use Rattle.stage_core.proofs.Growing.{grows_once, adds_twice, adds_fewer}
+use Rattle.netlist.proofs.Valuations.{valued_fits}
+use Rattle.st_format.proofs.Turning.{turned_more, turned_one}
+use Rattle.st_format.proofs.words.turn_symbols.Goals as goal
+
+pub returns-in_err-symbol-clause-adds : goal.returns-in_err-symbol-clause-adds
+returns-in_err-symbol-clause-adds c = adds_fewer _ _ _ _ (omega arith) (adds_twice _ _ _ _ _ c.loop-place.invariant.adds c.take_symbol-in-loop-place.ensures.adds)
+
+pub returns-in_err-turned-2-clause-adds : goal.returns-in_err-turned-2-clause-adds
+returns-in_err-turned-2-clause-adds c =
+    adds_fewer _ _ _ _ (omega arith) (adds_twice _ _ _ _ _ (adds_twice _ _ _ _ _ c.loop-place.invariant.adds c.take_symbol-in-loop-place.ensures.adds) (grows_once _ _ c.concat.ensures.extends c.concat.ensures.grows))
+
+pub loop-place-preserved : goal.loop-place-preserved
+loop-place-preserved c =
+    let next : c.loop-place.place + 1 ≡ suc c.loop-place.place = omega arith in
+    let sum : c.args.bits * c.loop-place.place + c.args.bits ≡ c.args.bits * (c.loop-place.place + 1) = omega arith in
+    record {
+      some = omega arith;
+      adds = adds_fewer _ _ _ _ (omega arith) (adds_twice _ _ _ _ _ (adds_twice _ _ _ _ _ c.loop-place.invariant.adds c.take_symbol-in-loop-place.ensures.adds) (grows_once _ _ c.concat.ensures.extends c.concat.ensures.grows));
+      net = record { is_net = c.in_ok-turned-2.ensures.net.0; has_width = c.in_ok-turned-2.ensures.net.1 ∙ (let wide = c.loop-place.invariant.net.has_width in let one = c.in_ok-symbol.ensures.net.has_width in omega (arith, wide, one, sum)) };
+      value = λ cycle v2. (
+          let v1 = c.concat.ensures.extends.valuations cycle v2 in
+          let v0 = c.take_symbol-in-loop-place.ensures.adds.grows.extends.valuations cycle v1 in
+          (c.in_ok-turned-2.ensures.value cycle v2).1
+          ∙ ap (λ n. cycle.net c.loop-place.turned.number * 2 ^ n + cycle.net c.in_ok-symbol.symbol.number) c.in_ok-symbol.ensures.net.has_width
+          ∙ ap (λ n. n * 2 ^ c.args.bits + cycle.net c.in_ok-symbol.symbol.number) (c.loop-place.invariant.value cycle v0)
+          ∙ ap (λ n. turned_word c.args.bits c.loop-place.place (cycle.net c.args.word.number) * 2 ^ c.args.bits + n) (c.in_ok-symbol.ensures.value cycle v1)
+          ∙ sym (ap (λ n. turned_word c.args.bits n (cycle.net c.args.word.number)) next ∙ turned_more c.args.bits c.loop-place.place (cycle.net c.args.word.number)));
+    }
+
+pub returns-then-symbols-eq1-clause-value : goal.returns-then-symbols-eq1-clause-value
+returns-then-symbols-eq1-clause-value c cycle v =
+    let one : c.args.symbols ≡ 1 = omega arith in
+    let bare : c.args.bits * c.args.symbols ≡ c.args.bits = ap (λ n. c.args.bits * n) one ∙ omega arith in
+    let fits : cycle.net c.args.word.number < 2 ^ c.args.bits = subst (λ w. cycle.net c.args.word.number < 2 ^ w) (c.requires.word.has_width ∙ bare) (valued_fits _ cycle v _ _ c.requires.word.is_net) in
+    turned_one c.args.bits (cycle.net c.args.word.number) fits ∙ ap (λ n. turned_word c.args.bits n (cycle.net c.args.word.number)) (sym one)

@@ -1,0 +1,8 @@
+pub mod Counted
+pub mod ReorderNets
+pub mod NarrowNets
+pub mod WidenNets
+pub mod ClearNets
+pub mod FormatNets
+pub mod ClearBeats
+pub mod FormatStands

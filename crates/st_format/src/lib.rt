@@ -1,0 +1,21 @@
+//! The stages of a stream between two formats of its beats, as equations with the law that each keeps.
+#![tactic(auto)]
+
+pub mod clear;
+mod counted;
+pub mod format;
+pub mod laws;
+pub mod narrow;
+pub mod reorder;
+pub mod sizes;
+#[cfg(test)]
+mod tests;
+pub mod widen;
+mod words;
+
+pub use clear::Clear;
+pub use format::{Format, format_of};
+pub use narrow::Narrow;
+pub use reorder::Reorder;
+pub use sizes::Sizes;
+pub use widen::Widen;

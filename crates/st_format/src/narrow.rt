@@ -1,0 +1,291 @@
+//! Wide beats that come apart: a beat is taken as its first part goes, and the rest of it is held and goes part by part. A part
+//! goes in each cycle with ready, and parts without a symbol aren't sent. Its state is one wide beat, its hold a wide beat
+//! without a part, and it makes 43 nets at most. Its law is that of `narrow_is_a_stage`.
+
+ghost use Rattle.std.specs.Prelude.{◌≡◌, ℕ, ◌+◌, ◌-◌, ◌*◌, ◌%◌, ◌^◌, ◌<◌, ◌≤◌, ◌==◌, ◌&&◌, not, nat_lt, if◌then◌else◌, length, IfOk};
+ghost use Rattle.netlist.specs.Netlists.{IsNet};
+ghost use Rattle.netlist.specs.Runs.{Always};
+ghost use Rattle.stage_core.specs.Beats.{Widths, IsBit, IsNetOfWidth, AreBeatNets, HaveSameWidths, beat_in};
+ghost use Rattle.stage_core.specs.Groups.{shown_in, IsOfBeat, AreRegisters, StartsEmpty};
+ghost use Rattle.stage_core.specs.Growth.{GrowsBy, AddsNets, StillWait, WaitsBeside, AreMadeBetween};
+ghost use Rattle.st_format.specs.Counted.{HaveCountedWidths};
+ghost use Rattle.st_format.specs.NarrowNets.{IsNarrowShape, has_more, piece_of, rest_of, shown_piece, shown_rest, shown_now, NarrowKeeps, NarrowForward, NarrowBackward, keeps_lasts, forward_lasts, backward_lasts};
+
+use crate::counted::{constant, count_empty};
+use crate::sizes::Sizes;
+use netlist::{Builder, Net, NetFault};
+use stage_core::makers::{mux_beat, reg_beat, set_next_beat};
+use stage_core::{BeatNets, Stage};
+use stream_machines::machines::{narrow_is_a_stage, words_fit};
+
+/// A stage from wide beats to narrow ones, between ends of ready latency 0 with the first symbol in the high-order bits.
+#[derive(Clone, Copy, Debug)]
+pub struct Narrow {
+    pub sizes: Sizes,
+}
+
+impl Narrow {
+    /// Of beats of so many symbols, each of so many bits, into so many parts.
+    pub fn new(sizes: Sizes) -> Narrow
+        ensures { result.sizes ≡ sizes }
+    {
+        Narrow { sizes }
+    }
+}
+
+/// What is kept of a stage that takes beats apart.
+#[derive(Clone, Copy, Debug)]
+pub struct NarrowKept {
+    /// The registers of what is held of a beat.
+    pub held: BeatNets,
+    /// What is left as the part goes.
+    pub rest: BeatNets,
+    /// A part is shown.
+    pub shown: Net,
+}
+
+/// The registers, and the wide beat of the cycle.
+#[derive(Clone, Copy, Debug)]
+struct Current {
+    held: BeatNets,
+    beat: BeatNets,
+}
+
+/// Makes the registers, and the wide beat of the cycle: what is held of one, or else the one that is shown.
+fn show_current(builder: &mut Builder, from: &BeatNets) -> Result<Current, NetFault>
+    requires from { AreBeatNets builder.old from.now }
+    requires small { from.now.empty.width ≤ 8 }
+    ensures held { IfOk result (λ made. AreBeatNets builder.new made.held) }
+    ensures registers { IfOk result (λ made. AreRegisters builder.new made.held made.held.valid.number) }
+    ensures owned { IfOk result (λ made. AreMadeBetween (IsOfBeat made.held) builder.old builder.new) }
+    ensures starts { IfOk result (λ made. StartsEmpty builder.new made.held) }
+    ensures beat { IfOk result (λ made. AreBeatNets builder.new made.beat) }
+    ensures widths { IfOk result (λ made. HaveSameWidths made.beat made.held) }
+    ensures counted { IfOk result (λ made. HaveCountedWidths made.beat from.now) }
+    ensures value { IfOk result (λ made. Always builder.new (λ cycle. shown_in cycle made.beat ≡ shown_now cycle made.held from.now)) }
+    ensures grows { GrowsBy 18 builder.old builder.new }
+    ensures still_wait { StillWait builder.old builder.new }
+    ensures newly { IfOk result (λ made. WaitsBeside (IsOfBeat made.held) builder.old builder.new) }
+    ensures full { result ≡ Err NetFault.TooManyNets → 2 ^ 20 < length builder.old.lines + 18 }
+{
+    let counted = count_empty(builder, from)?;
+    let held = reg_beat(builder, &counted)?;
+    let beat = mux_beat(builder, held.valid, &held, &counted)?;
+    Ok(Current { held, beat })
+}
+
+/// Whether a part follows the first one.
+fn part_follows(builder: &mut Builder, sizes: &Sizes, empty: Net) -> Result<Net, NetFault>
+    requires { IsNetOfWidth builder.old empty 8 }
+    ensures net { IfOk result (λ more. IsBit builder.new more) }
+    ensures value { IfOk result (λ more. Always builder.new (λ cycle. (cycle.net more.number == 1) ≡ nat_lt (cycle.net empty.number) (sizes.now.symbols * (sizes.now.parts - 1)))) }
+    ensures adds { AddsNets 2 builder.old builder.new }
+    ensures full { result ≡ Err NetFault.TooManyNets → 2 ^ 20 < length builder.old.lines + 2 }
+{
+    let most = constant(builder, 8, sizes.rest_symbols())?;
+    builder.less(empty, most)
+}
+
+/// `empty` of the first part.
+fn part_empty(builder: &mut Builder, sizes: &Sizes, empty: Net, more: Net) -> Result<Net, NetFault>
+    requires empty { IsNetOfWidth builder.old empty 8 }
+    requires more { IsBit builder.old more }
+    requires follows { Always builder.old (λ cycle. (cycle.net more.number == 1) ≡ nat_lt (cycle.net empty.number) (sizes.now.symbols * (sizes.now.parts - 1))) }
+    ensures net { IfOk result (λ left. IsNetOfWidth builder.new left 8) }
+    ensures value { IfOk result (λ left. Always builder.new (λ cycle. cycle.net left.number ≡ (if nat_lt (cycle.net empty.number) (sizes.now.symbols * (sizes.now.parts - 1)) then 0 else cycle.net empty.number - sizes.now.symbols * (sizes.now.parts - 1)))) }
+    ensures adds { AddsNets 4 builder.old builder.new }
+    ensures full { result ≡ Err NetFault.TooManyNets → 2 ^ 20 < length builder.old.lines + 4 }
+{
+    let behind = constant(builder, 8, sizes.rest_symbols())?;
+    let left = builder.sub(empty, behind)?;
+    let none = constant(builder, 8, 0)?;
+    builder.mux(more, none, left)
+}
+
+/// The last mark of the first part.
+fn part_last(builder: &mut Builder, last: Net, more: Net) -> Result<Net, NetFault>
+    requires last { IsBit builder.old last }
+    requires more { IsBit builder.old more }
+    ensures net { IfOk result (λ mark. IsBit builder.new mark) }
+    ensures value { IfOk result (λ mark. Always builder.new (λ cycle. cycle.net mark.number ≡ (if cycle.net more.number == 1 then 0 else cycle.net last.number))) }
+    ensures adds { AddsNets 2 builder.old builder.new }
+    ensures full { result ≡ Err NetFault.TooManyNets → 2 ^ 20 < length builder.old.lines + 2 }
+{
+    let none = constant(builder, 1, 0)?;
+    builder.mux(more, none, last)
+}
+
+/// The first part of a wide beat.
+fn show_part(
+    builder: &mut Builder,
+    sizes: &Sizes,
+    beat: &BeatNets,
+    more: Net,
+) -> Result<BeatNets, NetFault>
+    requires beat { AreBeatNets builder.old beat.now }
+    requires word { beat.now.word.width ≡ sizes.now.bits * (sizes.now.symbols * sizes.now.parts) }
+    requires empty { beat.now.empty.width ≡ 8 }
+    requires more { IsBit builder.old more }
+    requires follows { Always builder.old (λ cycle. (cycle.net more.number == 1) ≡ has_more sizes.now (beat_in cycle beat.now)) }
+    ensures part { IfOk result (λ made. AreBeatNets builder.new made) }
+    ensures word { IfOk result (λ made. made.word.width ≡ sizes.now.bits * sizes.now.symbols) }
+    ensures channel { IfOk result (λ made. made.channel.width ≡ beat.now.channel.width) }
+    ensures error { IfOk result (λ made. made.error.width ≡ beat.now.error.width) }
+    ensures empty { IfOk result (λ made. made.empty.width ≡ 8) }
+    ensures value { IfOk result (λ made. Always builder.new (λ cycle. shown_in cycle made ≡ shown_piece sizes.now (shown_in cycle beat.now))) }
+    ensures adds { AddsNets 7 builder.old builder.new }
+    ensures full { result ≡ Err NetFault.TooManyNets → 2 ^ 20 < length builder.old.lines + 7 }
+{
+    let low = sizes.rest_bits();
+    let word = builder.slice(beat.word, low + sizes.narrow_bits() - 1, low)?;
+    let last = part_last(builder, beat.last, more)?;
+    let empty = part_empty(builder, sizes, beat.empty, more)?;
+    Ok(BeatNets {
+        word,
+        last,
+        empty,
+        ..beat.copied()
+    })
+}
+
+/// The word without its first part.
+fn rest_word(builder: &mut Builder, sizes: &Sizes, word: Net) -> Result<Net, NetFault>
+    requires word { IsNetOfWidth builder.old word (sizes.now.bits * (sizes.now.symbols * sizes.now.parts)) }
+    ensures net { IfOk result (λ rest. IsNetOfWidth builder.new rest (sizes.now.bits * (sizes.now.symbols * sizes.now.parts))) }
+    ensures value { IfOk result (λ rest. Always builder.new (λ cycle. cycle.net rest.number ≡ cycle.net word.number % 2 ^ (sizes.now.bits * (sizes.now.symbols * (sizes.now.parts - 1))) * 2 ^ (sizes.now.bits * sizes.now.symbols))) }
+    ensures adds { AddsNets 3 builder.old builder.new }
+    ensures full { result ≡ Err NetFault.TooManyNets → 2 ^ 20 < length builder.old.lines + 3 }
+{
+    let zeros = constant(builder, sizes.narrow_bits(), 0)?;
+    let rest = builder.slice(word, sizes.rest_bits() - 1, 0)?;
+    builder.concat(rest, zeros)
+}
+
+/// What is left of a wide beat behind its first part.
+fn leave_rest(
+    builder: &mut Builder,
+    sizes: &Sizes,
+    beat: &BeatNets,
+    more: Net,
+) -> Result<BeatNets, NetFault>
+    requires beat { AreBeatNets builder.old beat.now }
+    requires word { beat.now.word.width ≡ sizes.now.bits * (sizes.now.symbols * sizes.now.parts) }
+    requires empty { beat.now.empty.width ≡ 8 }
+    requires more { IsBit builder.old more }
+    requires follows { Always builder.old (λ cycle. (cycle.net more.number == 1) ≡ has_more sizes.now (beat_in cycle beat.now)) }
+    ensures rest { IfOk result (λ made. AreBeatNets builder.new made) }
+    ensures widths { IfOk result (λ made. HaveSameWidths made beat.now) }
+    ensures value { IfOk result (λ made. Always builder.new (λ cycle. shown_in cycle made ≡ shown_rest sizes.now (shown_in cycle beat.now))) }
+    ensures adds { AddsNets 6 builder.old builder.new }
+    ensures full { result ≡ Err NetFault.TooManyNets → 2 ^ 20 < length builder.old.lines + 6 }
+{
+    let word = rest_word(builder, sizes, beat.word)?;
+    let first = constant(builder, 1, 0)?;
+    let gone = constant(builder, 8, sizes.symbols)?;
+    let empty = builder.add(beat.empty, gone)?;
+    Ok(BeatNets {
+        valid: more,
+        word,
+        first,
+        empty,
+        ..beat.copied()
+    })
+}
+
+/// A wide beat in two.
+#[derive(Clone, Copy, Debug)]
+struct Cut {
+    part: BeatNets,
+    rest: BeatNets,
+}
+
+/// The first part of a wide beat and what is left behind it.
+fn cut_beat(builder: &mut Builder, sizes: &Sizes, beat: &BeatNets) -> Result<Cut, NetFault>
+    requires beat { AreBeatNets builder.old beat.now }
+    requires word { beat.now.word.width ≡ sizes.now.bits * (sizes.now.symbols * sizes.now.parts) }
+    requires empty { beat.now.empty.width ≡ 8 }
+    ensures part { IfOk result (λ made. AreBeatNets builder.new made.part) }
+    ensures word { IfOk result (λ made. made.part.word.width ≡ sizes.now.bits * sizes.now.symbols) }
+    ensures channel { IfOk result (λ made. made.part.channel.width ≡ beat.now.channel.width) }
+    ensures error { IfOk result (λ made. made.part.error.width ≡ beat.now.error.width) }
+    ensures empty { IfOk result (λ made. made.part.empty.width ≡ 8) }
+    ensures shows { IfOk result (λ made. Always builder.new (λ cycle. shown_in cycle made.part ≡ shown_piece sizes.now (shown_in cycle beat.now))) }
+    ensures rest { IfOk result (λ made. AreBeatNets builder.new made.rest) }
+    ensures widths { IfOk result (λ made. HaveSameWidths made.rest beat.now) }
+    ensures rests { IfOk result (λ made. Always builder.new (λ cycle. shown_in cycle made.rest ≡ shown_rest sizes.now (shown_in cycle beat.now))) }
+    ensures adds { AddsNets 15 builder.old builder.new }
+    ensures full { result ≡ Err NetFault.TooManyNets → 2 ^ 20 < length builder.old.lines + 15 }
+{
+    let more = part_follows(builder, sizes, beat.empty)?;
+    let part = show_part(builder, sizes, beat, more)?;
+    let rest = leave_rest(builder, sizes, beat, more)?;
+    Ok(Cut { part, rest })
+}
+
+impl Stage for Narrow {
+    type Held = NarrowKept;
+
+    ghost has_shape = { λ s shape. IsNarrowShape s.sizes shape };
+
+    ghost passes_ready = { λ s shape. ⊥ };
+
+    ghost shows_ready = { λ s. ⊥ };
+
+    ghost takes = { λ s widths. (widths.word ≡ s.sizes.bits * (s.sizes.symbols * s.sizes.parts)) × (widths.empty ≤ 8) };
+
+    ghost gives = { λ s widths. record widths { word = s.sizes.bits * s.sizes.symbols; empty = 8 } };
+
+    ghost forward_nets = { λ s. 33 };
+
+    ghost backward_nets = { λ s. 10 };
+
+    ghost owns = { λ kept n. IsOfBeat kept.held n };
+
+    ghost is_kept = { λ s kept netlist. NarrowKeeps kept netlist };
+
+    ghost forward_in = { λ s from to kept netlist. NarrowForward s.sizes from to kept netlist };
+
+    ghost backward_in = { λ s kept ready up netlist. NarrowBackward kept ready up netlist };
+
+    fn emit_forward(
+        &self,
+        builder: &mut Builder,
+        from: BeatNets,
+    ) -> Result<(BeatNets, NarrowKept), NetFault> {
+        let current = show_current(builder, &from)?;
+        let Cut { part, rest } = cut_beat(builder, &self.sizes, &current.beat)?;
+        let kept = NarrowKept {
+            held: current.held,
+            rest,
+            shown: part.valid,
+        };
+        Ok((part, kept))
+    }
+
+    fn emit_backward(
+        &self,
+        builder: &mut Builder,
+        kept: NarrowKept,
+        ready: Net,
+    ) -> Result<Net, NetFault> {
+        let shown = kept.shown;
+        let held = &kept.held;
+        let none_held = builder.not(held.valid)?;
+        let up = builder.and(none_held, ready)?;
+        let goes = builder.and(shown, ready)?;
+        let next = mux_beat(builder, goes, &kept.rest, held)?;
+        set_next_beat(builder, held, &next);
+        Ok(up)
+    }
+
+    fn law(&self) {
+        narrow_is_a_stage();
+        words_fit();
+    }
+
+    ghost kept_lasts = { λ s kept old new h e w. keeps_lasts kept old new h e w };
+
+    ghost forward_lasts = { λ s from to kept old new h e. forward_lasts s.sizes from to kept old new h e };
+
+    ghost backward_lasts = { λ s kept ready up old new h e. backward_lasts kept ready up old new h e };
+}
