@@ -1,0 +1,392 @@
+-- Stages that stand one behind the other lead from the source on.
+use Rattle.std.proofs.Common.{◌≡◌, ◌⊎◌, inl, inr, ℕ, zero, suc, ◌+◌, ◌*◌, ◌≤◌, ◌<◌, Bool, true, false, not, ◌||◌, nat_lt, IsTrue, Option, Some, None, Result, Ok, Err, refl, ap, sym, ◌∙◌, subst, arith}
+use Rattle.std.specs.Prelude.{if◌then◌else◌, IfOk, max}
+use Rattle.std.proofs.Math.Nat.{mul-le-mul_right}
+use Rattle.std.proofs.lemmas.Bool.{and_parts, ltb-true, ltb-false, le-leb, eqb-true}
+use Rattle.iface_roles.specs.declared.records.SourcePort.{SourcePort}
+use Rattle.iface_roles.specs.declared.records.SinkPort.{SinkPort}
+use Rattle.netlist.specs.Nets.{NetValue}
+use Rattle.netlist.specs.Netlists.{Netlist}
+use Rattle.netlist.specs.declared.fault.NetFault.{NetFault}
+use Rattle.stream_runs.specs.View.{Pace, Side}
+use Rattle.stream_runs.specs.Delivery.{stream_lag}
+use Rattle.stream_runs.specs.Ends.{Declared, pace_of, side_of, stream_of}
+use Rattle.stream_machines.specs.Stage.{Shape, PassesAll, chain_shape, pass_shape}
+use Rattle.stream_machines.specs.Buffers.{buffer_shape}
+use Rattle.stream_machines.specs.Wires.{wire_shape, with_error_bits, turned_side, delayed_side}
+use Rattle.stage_core.specs.declared.beat.BeatNets.{BeatNets}
+use Rattle.stage_core.specs.declared.stream.StreamNets.{StreamNets}
+use Rattle.stage_core.specs.Law.{KeepsInLonger, PassesInLonger}
+use Rattle.stage_core.specs.ChainNets.{ShapesFit, IsChainOf}
+use Rattle.stage_core.specs.MaybeNets.{shape_of}
+use Rattle.stage_core.specs.RegisterNets.{IsBufferShape}
+use Rattle.st_channel.specs.declared.filter.ChannelFilter.{ChannelFilter}
+use Rattle.st_channel.specs.declared.error_tie.ErrorTie.{ErrorTie}
+use Rattle.st_channel.specs.ErrorNets.{IsErrorTieShape}
+use Rattle.st_channel.specs.FilterNets.{IsFilterShape, compares, is_ready_wire}
+use Rattle.st_format.specs.declared.reorder.Reorder.{Reorder}
+use Rattle.st_format.specs.ReorderNets.{IsReorderShape}
+use Rattle.st_timing.specs.declared.timing.Timing.{Timing}
+use Rattle.st_timing.specs.declared.timing.Timing.TheVariants.{Tie, Buffer, Wire}
+use Rattle.st_timing.specs.DelayNets.{IsDelayShape}
+use Rattle.st_timing.specs.TimingNets.{latency_of, IsTimingOf, timing_shape, LeadsToZero}
+use Rattle.stream_path.specs.Joining.{FitsPorts, TakesWhole, CanJoin, declared_source, declared_sink}
+use Rattle.stream_path.specs.Between.{joined_channel, filtered, timed, with_errors, formed, ordered, at_sink, joined_test, timed_hold, queued_hold, IsFront, IsDelayEnough, CarriesStream}
+use Rattle.stream_path.specs.Parts.{IsErrorTieOf, IsTurnBack}
+use Rattle.stream_path.proofs.AtPorts.{none_below}
+
+-- ---- a part behind a front
+
+-- a part of this shape leads from one side to another
+pub record IsPart (source sink : Declared) (up down : Side) (least most : ℕ) (has passing : Shape → Type 0) : Type 0 where
+  pub shape : Shape
+  pub up_is : shape.up ≡ up
+  pub down_is : shape.down ≡ down
+  pub test : shape.passes ≡ joined_test source sink
+  pub room : least ≤ shape.hold
+  pub hold : shape.hold ≤ most
+  pub free : shape.needs_ready ≡ false
+  pub keeps : has shape
+  pub passes : TakesWhole source sink → passing shape
+
+or_first : (a b : Bool) → b ≡ false → IsTrue (a || b) → IsTrue a
+or_first true b none h = refl
+or_first false b none h = absurd (cc)
+
+never_late : (latency : ℕ) → latency ≡ 0 → IsTrue (nat_lt 0 latency) → ⊥
+never_late latency none late = let some : 0 < latency = ltb-true 0 latency late in absurd (omega (arith, some, none))
+
+module _ (source sink : Declared) (side down : Side) (least least' most most' parts : ℕ) (has passing seconds ready_seconds : Shape → Type 0) (shows : Type 0)
+    (front : IsFront source sink side least most has passing) (part : IsPart source sink side down least' most' seconds ready_seconds)
+    (at_once : side.pace.latency ≡ 0) (some : 1 ≤ source.symbols) (divides : (source.symbols ≡ side.symbols * parts) ⊎ (down.symbols ≡ side.symbols * parts))
+    (errors : 0 < down.error_bits → 0 < source.error_bits → 0 < side.error_bits) where
+  direct : part.shape.up.pace.latency ≡ 0
+  direct = ap (λ (s : Side). s.pace.latency) part.up_is ∙ at_once
+
+  fits : ShapesFit front.shape part.shape
+  fits = record {
+    same_side = front.down ∙ sym part.up_is;
+    passed_on = λ channel h. subst (λ (p : ℕ → Bool). IsTrue (p channel)) (front.test ∙ sym part.test) h;
+    has_symbols = subst (λ (s : Side). 0 < s.symbols) (sym front.up) some;
+    divides = (
+      parts,
+      elim divides [
+        | inl e ↦ inl (ap (λ (s : Side). s.symbols) front.up ∙ e ∙ ap (λ (s : Side). s.symbols * parts) (sym part.up_is))
+        | inr e ↦ inr (ap (λ (s : Side). s.symbols) part.down_is ∙ e ∙ ap (λ (s : Side). s.symbols * parts) (sym part.up_is))
+      ],
+    );
+    has_errors = λ a b. subst (λ (s : Side). 0 < s.error_bits) (sym part.up_is)
+        (errors (subst (λ (s : Side). 0 < s.error_bits) part.down_is a) (subst (λ (s : Side). 0 < s.error_bits) front.up b));
+    delayed = λ late. absurd (never_late _ direct late);
+  }
+
+  pub behind : (least'' most'' : ℕ) → least'' ≤ least + least' → most + most' ≤ most''
+      → IsFront source sink down least'' most'' (IsChainOf has seconds ready_seconds shows) (IsChainOf (λ first. has first × passing first) ready_seconds ready_seconds shows)
+  behind least'' most'' more less = record {
+    shape = chain_shape front.shape part.shape;
+    up = front.up;
+    down = part.down_is;
+    test = front.test;
+    room = (let r = front.room in let r' = part.room in omega arith);
+    hold = (let h = front.hold in let h' = part.hold in omega arith);
+    always_ready = λ needs. front.always_ready (or_first _ _ part.free needs);
+    keeps = record {
+      first = front.shape;
+      second = part.shape;
+      is = refl;
+      fit = fits;
+      first_has = front.keeps;
+      second_has = part.keeps;
+      shown = λ late. absurd (never_late _ direct late);
+      always_ready = λ needs. part.passes (front.always_ready needs);
+    };
+    passes = λ whole. record {
+      first = front.shape;
+      second = part.shape;
+      is = refl;
+      fit = fits;
+      first_has = (front.keeps, front.passes whole);
+      second_has = part.passes whole;
+      shown = λ late. absurd (never_late _ direct late);
+      always_ready = λ needs. part.passes whole;
+    };
+  }
+
+-- ---- the channels
+
+-- without channel the largest is 0
+pub side_channel : (end : Declared) → FitsPorts end → (side_of end).max_channel ≡ end.max_channel
+side_channel end ports = by_port (nat_lt 0 end.channel_bits) refl
+  where
+    by_port : (b : Bool) → nat_lt 0 end.channel_bits ≡ b → (if b then end.max_channel else 0) ≡ end.max_channel
+    by_port true is = refl
+    by_port false is = sym (none_below end.channel_bits end.max_channel (ltb-false 0 end.channel_bits is) ports.channels)
+
+pub joined_all : (source sink : Declared) (side : Side) → side.max_channel ≡ joined_channel source sink → PassesAll (joined_test source sink) side
+joined_all source sink side same channel most = le-leb channel (joined_channel source sink) (omega (arith, same))
+
+-- ---- the filter and the stage to ready latency 0
+
+timing_holds : (timing : Timing) (shape : Shape) → timing_shape timing shape → shape.hold ≤ (shape.up.pace.latency + 1) * shape.up.symbols
+timing_holds (Tie stage) shape has = let none : shape.hold ≡ 0 = ap (λ (s : Shape). s.hold) has.is in omega arith
+timing_holds (Buffer stage) shape has = let all : shape.hold ≡ (shape.up.pace.latency + 1) * shape.up.symbols = ap (λ (s : Shape). s.hold) has.is in omega arith
+timing_holds (Wire stage) shape has = let none : shape.hold ≡ 0 = ap (λ (s : Shape). s.hold) has.is in omega arith
+
+not_true : (b : Bool) → not b ≡ true → b ≡ false
+not_true true h = absurd (cc)
+not_true false h = refl
+
+-- it needs an always ready sink only where the sink takes whole beats
+timing_needs : (source : SourcePort) (sink : SinkPort) (timing : Timing) (shape : Shape) → IsTimingOf source sink timing → timing_shape timing shape → IsTrue shape.needs_ready → TakesWhole (declared_source source) (declared_sink sink)
+timing_needs source sink (Tie stage) shape is has needs =
+    record { no_ready = not_true sink.ready (and_parts (not sink.ready) _ is).0; whole = eqb-true _ 0 (and_parts (not sink.ready) _ is).1 }
+timing_needs source sink (Buffer stage) shape is has needs = absurd (let none : shape.needs_ready ≡ false = ap (λ (s : Shape). s.needs_ready) has.is in cc)
+timing_needs source sink (Wire stage) shape is has needs = absurd (let none : shape.needs_ready ≡ false = ap (λ (s : Shape). s.needs_ready) has.is in cc)
+
+abbrev pub pace_latency : Pace → ℕ
+pace_latency pace = pace.latency
+
+pub source_pace : (source : SourcePort) → (pace_of (declared_source source)).latency ≡ latency_of source
+source_pace source = by_ready source.ready
+  where
+    by_ready : (b : Bool) → pace_latency (if b then record { latency = source.latency; allowance = source.allowance } else record { latency = 0; allowance = 0 }) ≡ (if b then source.latency else 0)
+    by_ready true = refl
+    by_ready false = refl
+
+late_wire : (late c : Bool) → IsTrue late → IsTrue (late || not c)
+late_wire true c h = refl
+late_wire false c h = absurd (cc)
+
+module _ (from : SourcePort) (to : SinkPort) (filter : ChannelFilter) (timing : Timing) (join : CanJoin (declared_source from) (declared_sink to)) (is : IsTimingOf from to timing)
+    (latency_is : filter.latency ≡ (pace_of (declared_source from)).latency)
+    (filter_is : IsFilterShape filter (wire_shape (joined_test (declared_source from) (declared_sink to)) (side_of (declared_source from)) (filtered (declared_source from) (declared_sink to)) (pace_of (declared_source from)).latency false))
+    (leads : LeadsToZero timing (joined_test (declared_source from) (declared_sink to)) (filtered (declared_source from) (declared_sink to))) where
+  abbrev source : Declared
+  source = declared_source from
+
+  abbrev sink : Declared
+  sink = declared_sink to
+
+  abbrev gate : Shape
+  gate = wire_shape (joined_test source sink) (side_of source) (filtered source sink) (pace_of source).latency false
+
+  front_fits : ShapesFit gate leads.shape
+  front_fits = record {
+    same_side = sym leads.up;
+    passed_on = λ channel h. subst (λ (p : ℕ → Bool). IsTrue (p channel)) (sym leads.test) h;
+    has_symbols = join.source_fits.some;
+    divides = (1, inl (let same = ap (λ (s : Side). s.symbols) leads.up in omega (arith, same)));
+    has_errors = λ a b. subst (λ (s : Side). 0 < s.error_bits) (sym leads.up) b;
+    delayed = λ late. (refl, ap (λ (s : Side). s.pace) (sym leads.up));
+  }
+
+  shown : IsTrue (nat_lt 0 leads.shape.up.pace.latency) → IsTrue (is_ready_wire filter)
+  shown late = late_wire (nat_lt 0 filter.latency) (compares filter) (subst (λ n. IsTrue (nat_lt 0 n)) (ap (λ (s : Side). s.pace.latency) leads.up ∙ sym latency_is) late)
+
+  pub begun : IsFront source sink (timed source sink) 0 (timed_hold source)
+      (IsChainOf (IsFilterShape filter) (timing_shape timing) (timing_shape timing) (IsTrue (is_ready_wire filter)))
+      (IsChainOf (λ first. IsFilterShape filter first × IsFilterShape filter first) (timing_shape timing) (timing_shape timing) (IsTrue (is_ready_wire filter)))
+  begun = record {
+    shape = chain_shape gate leads.shape;
+    up = refl;
+    down = leads.down;
+    test = refl;
+    room = omega arith;
+    hold = subst (λ (s : Side). 0 + leads.shape.hold ≤ (s.pace.latency + 1) * s.symbols) leads.up (let most = timing_holds timing leads.shape leads.has in omega arith);
+    always_ready = λ needs. timing_needs from to timing leads.shape is leads.has needs;
+    keeps = record { first = gate; second = leads.shape; is = refl; fit = front_fits; first_has = filter_is; second_has = leads.has; shown = shown; always_ready = λ needs. absurd (cc) };
+    passes = λ whole. record { first = gate; second = leads.shape; is = refl; fit = front_fits; first_has = (filter_is, filter_is); second_has = leads.has; shown = shown; always_ready = λ needs. absurd (cc) };
+  }
+
+-- ---- the error
+
+abbrev pub ErrorHas : Option ErrorTie → Shape → Type 0
+ErrorHas stage = shape_of (λ (s : ErrorTie) (shape : Shape). IsErrorTieShape s.width shape) stage
+
+same_errors : (bits wanted : ℕ) → (0 < wanted → 0 < bits) → (0 < bits → bits ≡ wanted) → bits ≡ wanted
+same_errors zero zero some same = refl
+same_errors zero (suc wanted) some same = absurd (let none = some (omega arith) in omega arith)
+same_errors (suc bits) wanted some same = same (omega arith)
+
+pub error_part : (source sink : Declared) (stage : Option ErrorTie) → CanJoin source sink → IsErrorTieOf source.error_bits sink.error_bits stage
+    → IsPart source sink (timed source sink) (with_errors source sink) 0 0 (ErrorHas stage) (ErrorHas stage)
+error_part source sink None join is =
+    let all = joined_all source sink (timed source sink) refl in
+    record {
+      shape = pass_shape (joined_test source sink) (timed source sink);
+      up_is = refl;
+      down_is = ap (with_error_bits (timed source sink)) (same_errors source.error_bits sink.error_bits is join.errors);
+      test = refl;
+      room = omega arith;
+      hold = omega arith;
+      free = refl;
+      keeps = record { is = refl; some = join.source_fits.some; passes = all };
+      passes = λ whole. record { is = refl; some = join.source_fits.some; passes = all };
+    }
+error_part source sink (Some tie) join is =
+    let all = joined_all source sink (timed source sink) refl in
+    record {
+      shape = wire_shape (joined_test source sink) (timed source sink) (with_error_bits (timed source sink) tie.width) 0 false;
+      up_is = refl;
+      down_is = ap (with_error_bits (timed source sink)) is.1;
+      test = refl;
+      room = omega arith;
+      hold = omega arith;
+      free = refl;
+      keeps = record { is = refl; quiet = is.0; some = join.source_fits.some; passes = all };
+      passes = λ whole. record { is = refl; quiet = is.0; some = join.source_fits.some; passes = all };
+    }
+
+-- ---- the queue
+
+pub queue_part : (source sink : Declared) (depth places : ℕ) → CanJoin source sink → places ≡ depth
+    → IsPart source sink (formed source sink) (formed source sink) (depth * sink.symbols) (depth * sink.symbols) (IsBufferShape places) (IsBufferShape places)
+queue_part source sink depth places join same =
+    let all = joined_all source sink (formed source sink) refl in
+    record {
+      shape = buffer_shape (joined_test source sink) places (formed source sink);
+      up_is = refl;
+      down_is = refl;
+      test = refl;
+      room = subst (λ k. k * sink.symbols ≤ places * sink.symbols) same (omega arith);
+      hold = subst (λ k. places * sink.symbols ≤ k * sink.symbols) same (omega arith);
+      free = refl;
+      keeps = record { is = refl; at_once = refl; some = join.sink_fits.some; passes = all };
+      passes = λ whole. record { is = refl; at_once = refl; some = join.sink_fits.some; passes = all };
+    }
+
+-- ---- the turn to the sink's order
+
+abbrev pub TurnHas : Option Reorder → Shape → Type 0
+TurnHas stage = shape_of (λ (s : Reorder) (shape : Shape). IsReorderShape s.symbols s.bits shape) stage
+
+pub turn_part : (source sink : Declared) (stage : Option Reorder) → CanJoin source sink → IsTurnBack source sink stage
+    → IsPart source sink (formed source sink) (ordered source sink) 0 0 (TurnHas stage) (TurnHas stage)
+turn_part source sink None join is =
+    let all = joined_all source sink (formed source sink) refl in
+    record {
+      shape = pass_shape (joined_test source sink) (formed source sink);
+      up_is = refl;
+      down_is = ap (λ b. record (formed source sink) { first_high = b }) is;
+      test = refl;
+      room = omega arith;
+      hold = omega arith;
+      free = refl;
+      keeps = record { is = refl; some = join.sink_fits.some; passes = all };
+      passes = λ whole. record { is = refl; some = join.sink_fits.some; passes = all };
+    }
+turn_part source sink (Some turn) join is =
+    let all = joined_all source sink (formed source sink) refl in
+    let turns = is.0 in
+    let low = is.1 in
+    record {
+      shape = wire_shape (joined_test source sink) (formed source sink) (turned_side (formed source sink)) 0 false;
+      up_is = refl;
+      down_is = ap (λ b. record (formed source sink) { first_high = b }) (ap not turns ∙ sym low);
+      test = refl;
+      room = omega arith;
+      hold = omega arith;
+      free = refl;
+      keeps = record { is = refl; symbols_are = sym is.2; bits_are = join.symbol_bits ∙ sym is.3; some = join.sink_fits.some; passes = all };
+      passes = λ whole. record { is = refl; symbols_are = sym is.2; bits_are = join.symbol_bits ∙ sym is.3; some = join.sink_fits.some; passes = all };
+    }
+
+-- ---- the delay of ready
+
+abbrev pub DelayPasses : ℕ → ℕ → Shape → Type 0
+DelayPasses latency cycles shape = IsDelayShape latency cycles shape × (cycles ≡ 0)
+
+side_by_parts : (p p' : Pace) (b b' : ℕ) (k k' : Bool) (n m e : ℕ) (h : Bool) → p ≡ p' → b ≡ b' → k ≡ k'
+    → ◌≡◌ {A = Side} (record { pace = p; symbols = n; symbol_bits = b; first_high = h; packets = k; max_channel = m; error_bits = e }) (record { pace = p'; symbols = n; symbol_bits = b'; first_high = h; packets = k'; max_channel = m; error_bits = e })
+side_by_parts p p' b b' k k' n m e h q0 q1 q2 = rw (q0, q1, q2) refl
+
+pace_by_parts : (pace : Pace) (latency : ℕ) → latency ≡ pace.latency → pace.allowance ≡ pace.latency → ◌≡◌ {A = Pace} (record { latency = latency; allowance = latency }) pace
+pace_by_parts pace latency same strict = rw (same) (ap (λ (n : ℕ). record { latency = pace.latency; allowance = n }) (sym strict))
+
+no_latency : (end : Declared) → end.ready ≡ false → (pace_of end).latency ≡ 0
+no_latency end none = ap (λ (p : Pace). p.latency) (ap (λ (b : Bool). if b then record { latency = end.latency; allowance = end.allowance } else record { latency = 0; allowance = 0 }) none)
+
+pub delay_part : (source sink : Declared) (latency cycles : ℕ) → CanJoin source sink → latency ≡ 0 → cycles ≡ (pace_of sink).latency
+    → IsPart source sink (ordered source sink) (at_sink source sink) 0 0 (IsDelayShape latency cycles) (DelayPasses latency cycles)
+delay_part source sink latency cycles join at_once same =
+    let all = joined_all source sink (ordered source sink) refl in
+    let delay : IsDelayShape latency cycles (wire_shape (joined_test source sink) (ordered source sink) (delayed_side (ordered source sink) cycles) 0 false) =
+    record { is = refl; behind = sym at_once; strict = refl; some = join.sink_fits.some; passes = all } in
+    record {
+      shape = wire_shape (joined_test source sink) (ordered source sink) (delayed_side (ordered source sink) cycles) 0 false;
+      up_is = refl;
+      down_is = side_by_parts _ _ _ _ _ _ _ _ _ _ (pace_by_parts (pace_of sink) (0 + cycles) (omega (arith, same)) join.sink_fits.pace.strict) join.symbol_bits join.packets;
+      test = refl;
+      room = omega arith;
+      hold = omega arith;
+      free = refl;
+      keeps = delay;
+      passes = λ whole. (delay, same ∙ no_latency sink whole.no_ready);
+    }
+
+-- ---- the whole
+
+larger_left : (a b : ℕ) → a ≤ max a b
+larger_left a b = omega arith
+
+lag_fits : (n m latency allowance depth : ℕ) → latency ≤ allowance → (latency + 1) * n + (n + m) + depth * m ≤ n * (allowance + 3) + m * (depth + 3)
+lag_fits n m latency allowance depth fewer =
+    let more : (latency + 2) * n ≤ (allowance + 3) * n = mul-le-mul_right n (omega arith) in
+    omega (arith, more)
+
+lag_within : (source sink : Declared) (depth : ℕ) → CanJoin source sink → queued_hold source sink depth ≤ stream_lag (stream_of source sink depth)
+lag_within source sink depth join =
+    let larger : (pace_of source).allowance ≤ max (pace_of source).allowance (pace_of sink).allowance = larger_left (pace_of source).allowance (pace_of sink).allowance in
+    let strict = join.source_fits.pace.strict in
+    lag_fits source.symbols sink.symbols (pace_of source).latency (max (pace_of source).allowance (pace_of sink).allowance) depth (omega (arith, larger, strict))
+
+-- what `emit_stream` gives of a stage that leads to the sink
+pub carries : (source sink : Declared) (depth : ℕ) (has passing : Shape → Type 0) (netlist : Netlist) (from : BeatNets) (ready : NetValue) (r : Result StreamNets NetFault) → CanJoin source sink
+    → IsFront source sink (at_sink source sink) (depth * sink.symbols) (queued_hold source sink depth) has passing
+    → IfOk r (λ made. (shape : Shape) → has shape → KeepsInLonger shape netlist from made.ready made.beat ready)
+    → IfOk r (λ made. (shape : Shape) → passing shape → PassesInLonger shape netlist from made.ready made.beat ready)
+    → IfOk r (λ made. CarriesStream source sink depth netlist from made ready)
+carries source sink depth has passing netlist from ready (Ok made) join front kept passed = record {
+  shape = front.shape;
+  leads = record {
+    up = front.up;
+    down = front.down;
+    passes = front.test;
+    room = front.room;
+    hold = (let held = front.hold in let most = lag_within source sink depth join in omega (arith, held, most));
+    always_ready = front.always_ready;
+  };
+  keeps = kept front.shape front.keeps;
+  passes = λ whole. passed front.shape (front.passes whole);
+}
+carries source sink depth has passing netlist from ready (Err e) join front kept passed = tt
+
+-- ---- a delay of ready alone, between ends of one form
+
+module _ (source sink : Declared) (depth latency cycles : ℕ) (join : CanJoin source sink) (enough : IsDelayEnough source sink depth)
+    (latency_is : latency ≡ (pace_of source).latency) (cycles_are : latency + cycles ≡ (pace_of sink).latency) where
+  same_channel : (side_of source).max_channel ≡ joined_channel source sink
+  same_channel = side_channel source join.source_fits ∙ (let fewer = enough.form.max_channel in omega (arith, fewer))
+
+  one_side : (p : Pace) (s n b b' e e' m m' : ℕ) (h h' k k' : Bool) → s ≡ n → b ≡ b' → h ≡ h' → k ≡ k' → e ≡ e' → m ≡ m'
+      → ◌≡◌ {A = Side} (record { pace = p; symbols = s; symbol_bits = b; first_high = h; packets = k; max_channel = m; error_bits = e }) (record { pace = p; symbols = n; symbol_bits = b'; first_high = h'; packets = k'; max_channel = m'; error_bits = e' })
+  one_side p s n b b' e e' m m' h h' k k' q0 q1 q2 q3 q4 q5 = rw (q0, q1, q2, q3, q4, q5) refl
+
+  down : delayed_side (side_of source) cycles ≡ at_sink source sink
+  down =
+      one_side (record { latency = (pace_of source).latency + cycles; allowance = (pace_of source).latency + cycles }) _ _ _ _ _ _ _ _ _ _ _ _
+      enough.form.symbols enough.form.symbol_bits enough.form.first_high enough.form.packets enough.form.error_bits same_channel
+      ∙ ap (λ (p : Pace). record (at_sink source sink) { pace = p }) (pace_by_parts (pace_of sink) ((pace_of source).latency + cycles) (omega (arith, latency_is, cycles_are)) join.sink_fits.pace.strict)
+
+  pub delay_front : IsFront source sink (at_sink source sink) (depth * sink.symbols) (queued_hold source sink depth) (IsDelayShape latency cycles) (DelayPasses latency cycles)
+  delay_front = record {
+    shape = wire_shape (joined_test source sink) (side_of source) (delayed_side (side_of source) cycles) (pace_of source).latency false;
+    up = refl;
+    down = down;
+    test = refl;
+    room = subst (λ k. k * sink.symbols ≤ 0) (sym enough.no_queue) (omega arith);
+    hold = omega arith;
+    always_ready = λ needs. absurd (cc);
+    keeps = record { is = refl; behind = sym latency_is; strict = join.source_fits.pace.strict; some = join.source_fits.some; passes = joined_all source sink (side_of source) same_channel };
+    passes = λ whole. absurd (let has = enough.ready in let none = whole.no_ready in cc);
+  }

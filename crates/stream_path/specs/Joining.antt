@@ -1,0 +1,84 @@
+-- What is declared of both ends of a stream, and which ends a path joins.
+use Rattle.std.specs.Prelude.{◌≡◌, ◌*◌, ◌%◌, ◌^◌, ◌<◌, ◌≤◌, IsTrue, IsFalse}
+use Rattle.iface_roles.specs.declared.records.SourcePort.{SourcePort}
+use Rattle.iface_roles.specs.declared.records.SinkPort.{SinkPort}
+use Rattle.stream_runs.specs.View.{Pace}
+use Rattle.stream_runs.specs.Ends.{Declared, pace_of}
+
+abbrev pub declared_source : SourcePort → Declared
+declared_source source =
+    record {
+      symbols = source.symbols;
+      symbol_bits = source.symbol_bits;
+      first_high = source.first_high;
+      ready = source.ready;
+      latency = source.latency;
+      allowance = source.allowance;
+      channel_bits = source.channel_bits;
+      max_channel = source.max_channel;
+      error_bits = source.error_bits;
+      packets = source.packets;
+      empty_bits = source.empty_bits;
+    }
+
+abbrev pub declared_sink : SinkPort → Declared
+declared_sink sink =
+    record {
+      symbols = sink.symbols;
+      symbol_bits = sink.symbol_bits;
+      first_high = sink.first_high;
+      ready = sink.ready;
+      latency = sink.latency;
+      allowance = sink.allowance;
+      channel_bits = sink.channel_bits;
+      max_channel = sink.max_channel;
+      error_bits = sink.error_bits;
+      packets = sink.packets;
+      empty_bits = sink.empty_bits;
+    }
+
+-- beats of the same form, and no channel that the sink doesn't take
+pub record HaveOneForm (source sink : Declared) : Type 0 where
+  pub symbols : source.symbols ≡ sink.symbols
+  pub symbol_bits : source.symbol_bits ≡ sink.symbol_bits
+  pub first_high : source.first_high ≡ sink.first_high
+  pub channel_bits : source.channel_bits ≡ sink.channel_bits
+  pub max_channel : source.max_channel ≤ sink.max_channel
+  pub error_bits : source.error_bits ≡ sink.error_bits
+  pub packets : source.packets ≡ sink.packets
+  pub empty_bits : source.empty_bits ≡ sink.empty_bits
+
+-- a ready latency of at most 8 cycles, and no larger allowance
+pub record IsStrict (pace : Pace) : Type 0 where
+  pub short : pace.latency ≤ 8
+  pub strict : pace.allowance ≡ pace.latency
+
+-- what is declared of an end fits its ports: its largest channel, and in packets the empty symbols
+pub record FitsPorts (end : Declared) : Type 0 where
+  pub some : 1 ≤ end.symbols
+  pub few : end.symbols ≤ 32
+  pub some_bits : 1 ≤ end.symbol_bits
+  pub small : end.symbols * end.symbol_bits ≤ 128
+  pub pace : IsStrict (pace_of end)
+  pub channel : end.channel_bits ≤ 16
+  pub channels : end.max_channel < 2 ^ end.channel_bits
+  pub error : end.error_bits ≤ 32
+  pub empty : end.empty_bits ≤ 8
+  pub empties : IsTrue end.packets → end.symbols ≤ 2 ^ end.empty_bits
+
+-- the sink is always ready, and has room for whole beats of the source
+pub record TakesWhole (source sink : Declared) : Type 0 where
+  pub no_ready : IsFalse sink.ready
+  pub whole : sink.symbols % source.symbols ≡ 0
+
+-- the ends keep the rules on a connection
+pub record CanJoin (source sink : Declared) : Type 0 where
+  pub source_fits : FitsPorts source
+  pub sink_fits : FitsPorts sink
+  pub symbol_bits : source.symbol_bits ≡ sink.symbol_bits
+  pub packets : source.packets ≡ sink.packets
+  -- a source that can't wait needs a sink that never lets it
+  pub waits : IsFalse source.ready → TakesWhole source sink
+  -- beats on several channels aren't joined to wider ones
+  pub channels : 0 < source.channel_bits → source.symbols % sink.symbols ≡ 0
+  pub errors : 0 < source.error_bits → source.error_bits ≡ sink.error_bits

@@ -1,0 +1,5 @@
+pub mod Joining
+pub mod Ends
+pub mod Serving
+pub mod Between
+pub mod Parts
