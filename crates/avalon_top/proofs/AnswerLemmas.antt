@@ -3,6 +3,7 @@ use Rattle.std.proofs.Common.{◌≡◌, ℕ, List, length, Option, Some, None, 
 use Rattle.std.specs.Prelude.{Result, Ok, Err, OnOk, IfOk, IfErr}
 use Rattle.av_scripts.specs.Tables.{SystemTable}
 use Rattle.link_rules.specs.declared.faults.LinkRule.{LinkRule}
+use Rattle.link_rules.specs.declared.faults.LinkRule.TheVariants as link
 use Rattle.link_rules.specs.Plans.{PlanTable}
 use Rattle.system_plan.specs.declared.faults.Refusal.{Refusal}
 use Rattle.system_plan.specs.declared.faults.Refusal.TheVariants as refusal
@@ -66,11 +67,11 @@ abbrev pub accepted_files : (files : List (List ℕ)) (plan : PlanTable) → IsP
 accepted_files files plan is = record { system = plan.system; stated = is.stated; maps = is.is_plan.maps.kept; links = is.is_plan.links; limits = is.is_plan.limits }
 
 -- what a task can't build yet of the one system of the files
-same_unbuilt : (task : Task) (a b : SystemTable) (found : Option (ℕ × LinkRule)) → a ≡ b → unbuilt_of task a ≡ found → unbuilt_of task b ≡ found
+same_unbuilt : (task : Task) (a b : SystemTable) (found : Option ℕ) → a ≡ b → unbuilt_of task a ≡ found → unbuilt_of task b ≡ found
 same_unbuilt task a b found e h = ap (unbuilt_of task) (sym e) ∙ h
 
-not_both : (found : Option (ℕ × LinkRule)) (p : ℕ × LinkRule) → found ≡ Some p → found ≡ None → ⊥
-not_both found p some none = cc
+not_both : (found : Option ℕ) (k : ℕ) → found ≡ Some k → found ≡ None → ⊥
+not_both found k some none = cc
 
 only_done : (task : Task) (files : List (List ℕ)) (system : SystemTable) → ((a : IsAccepted files) → system ≡ a.system) → ((s : Refusal) → IsRefusedBy files s → ⊥)
     → unbuilt_of task system ≡ None → (other : Exit) → CallsFor task files other → other ≡ exit.Done
@@ -79,7 +80,7 @@ only_done task files system same none built (exit.ScriptRefused place rule) h = 
 only_done task files system same none built (exit.LinkRefused connection rule other) h =
     ⊎_elim
     (λ l. absurd (none (refusal.Link connection rule other) l))
-    (λ u. let is = same_unbuilt task system u.accepted.system None (same u.accepted) built in absurd (not_both (unbuilt_of task u.accepted.system) (connection, rule) u.pending is))
+    (λ u. let is = same_unbuilt task system u.accepted.system None (same u.accepted) built in absurd (not_both (unbuilt_of task u.accepted.system) connection u.pending is))
     h
 only_done task files system same none built (exit.Limit which count) h = absurd (none (refusal.Limit which count) h)
 only_done task files system same none built exit.Usage h = absurd h
@@ -93,43 +94,40 @@ pub done_files : (task : Task) (files : List (List ℕ)) (plan : PlanTable) → 
 done_files task files plan is same none built =
     record { called = record { accepted = accepted_files files plan is; built = built }; only = only_done task files plan.system same none built }
 
-same_link : (p q : ℕ × LinkRule) (other : Option ℕ) → Some p ≡ Some q → other ≡ None → exit.LinkRefused p.0 p.1 other ≡ exit.LinkRefused q.0 q.1 None
-same_link p q other e alone =
-    let pairs : p ≡ q = cc in
-    let numbers : p.0 ≡ q.0 = ap (λ (x : ℕ × LinkRule). x.0) pairs in
-    let rules : p.1 ≡ q.1 = ap (λ (x : ℕ × LinkRule). x.1) pairs in cc
+same_link : (j k : ℕ) (r : LinkRule) (other : Option ℕ) → Some j ≡ Some k → r ≡ link.Mm 10 → other ≡ None → exit.LinkRefused j r other ≡ exit.LinkRefused k (link.Mm 10) None
+same_link j k r other e rule alone = cc
 
-only_unbuilt : (task : Task) (files : List (List ℕ)) (system : SystemTable) (k : ℕ) (r : LinkRule) → ((a : IsAccepted files) → system ≡ a.system) → ((s : Refusal) → IsRefusedBy files s → ⊥)
-    → unbuilt_of task system ≡ Some (k, r) → (other : Exit) → CallsFor task files other → other ≡ exit.LinkRefused k r None
-only_unbuilt task files system k r same none found exit.Done h =
-    absurd (not_both (unbuilt_of task h.accepted.system) (k, r) (same_unbuilt task system h.accepted.system (Some (k, r)) (same h.accepted) found) h.built)
-only_unbuilt task files system k r same none found (exit.ScriptRefused place rule) h = absurd (none (refusal.Script place rule) h)
-only_unbuilt task files system k r same none found (exit.LinkRefused connection rule other) h =
+only_unbuilt : (task : Task) (files : List (List ℕ)) (system : SystemTable) (k : ℕ) → ((a : IsAccepted files) → system ≡ a.system) → ((s : Refusal) → IsRefusedBy files s → ⊥)
+    → unbuilt_of task system ≡ Some k → (other : Exit) → CallsFor task files other → other ≡ exit.LinkRefused k (link.Mm 10) None
+only_unbuilt task files system k same none found exit.Done h =
+    absurd (not_both (unbuilt_of task h.accepted.system) k (same_unbuilt task system h.accepted.system (Some k) (same h.accepted) found) h.built)
+only_unbuilt task files system k same none found (exit.ScriptRefused place rule) h = absurd (none (refusal.Script place rule) h)
+only_unbuilt task files system k same none found (exit.LinkRefused connection rule other) h =
     ⊎_elim
     (λ l. absurd (none (refusal.Link connection rule other) l))
     (λ u.
-    let is = same_unbuilt task system u.accepted.system (Some (k, r)) (same u.accepted) found in
-    same_link (connection, rule) (k, r) other (sym u.pending ∙ is) u.alone)
+    let is = same_unbuilt task system u.accepted.system (Some k) (same u.accepted) found in
+    same_link connection k rule other (sym u.pending ∙ is) u.rule_is u.alone)
     h
-only_unbuilt task files system k r same none found (exit.Limit which count) h = absurd (none (refusal.Limit which count) h)
-only_unbuilt task files system k r same none found exit.Usage h = absurd h
-only_unbuilt task files system k r same none found (exit.ReadFault file) h = absurd h
-only_unbuilt task files system k r same none found exit.WriteFault h = absurd h
-only_unbuilt task files system k r same none found exit.NoMemory h = absurd h
+only_unbuilt task files system k same none found (exit.Limit which count) h = absurd (none (refusal.Limit which count) h)
+only_unbuilt task files system k same none found exit.Usage h = absurd h
+only_unbuilt task files system k same none found (exit.ReadFault file) h = absurd h
+only_unbuilt task files system k same none found exit.WriteFault h = absurd h
+only_unbuilt task files system k same none found exit.NoMemory h = absurd h
 
-unbuilt_files : (task : Task) (files : List (List ℕ)) (plan : PlanTable) (k : ℕ) (r : LinkRule) → IsPlanned files plan → ((a : IsAccepted files) → plan.system ≡ a.system)
-    → ((s : Refusal) → IsRefusedBy files s → ⊥) → unbuilt_of task plan.system ≡ Some (k, r) → IsOnlyAnswer task files (exit.LinkRefused k r None)
-unbuilt_files task files plan k r is same none found =
+unbuilt_files : (task : Task) (files : List (List ℕ)) (plan : PlanTable) (k : ℕ) → IsPlanned files plan → ((a : IsAccepted files) → plan.system ≡ a.system)
+    → ((s : Refusal) → IsRefusedBy files s → ⊥) → unbuilt_of task plan.system ≡ Some k → IsOnlyAnswer task files (exit.LinkRefused k (link.Mm 10) None)
+unbuilt_files task files plan k is same none found =
     record {
-      called = inr record { accepted = accepted_files files plan is; pending = found; alone = refl };
-      only = only_unbuilt task files plan.system k r same none found;
+      called = inr record { accepted = accepted_files files plan is; pending = found; rule_is = refl; alone = refl };
+      only = only_unbuilt task files plan.system k same none found;
     }
 
 -- a connection is in the task's way, or memory was wanted
 pub stopped_files : (task : Task) (files : List (List ℕ)) (plan : PlanTable) (e : Exit) → IsPlanned files plan → ((a : IsAccepted files) → plan.system ≡ a.system)
     → ((s : Refusal) → IsRefusedBy files s → ⊥) → StopsWriting task plan.system e → StopsFiles task files e
 stopped_files task files plan (exit.LinkRefused k r other) is same none s =
-    inr (subst (λ (o : Option ℕ). IsOnlyAnswer task files (exit.LinkRefused k r o)) (sym s.1) (unbuilt_files task files plan k r is same none s.0))
+    inr (subst (IsOnlyAnswer task files) (sym (same_link k k r other refl s.1 s.2)) (unbuilt_files task files plan k is same none s.0))
 stopped_files task files plan exit.NoMemory is same none s = inl refl
 stopped_files task files plan exit.Done is same none s = absurd s
 stopped_files task files plan exit.Usage is same none s = absurd s

@@ -2,6 +2,7 @@
 use Rattle.std.specs.Prelude.{◌≡◌, ℕ, ◌<◌, ◌⊎◌, List, length, Some, None}
 use Rattle.av_base.specs.Outside.{Rose, WhereTold}
 use Rattle.av_scripts.specs.Tables.{SystemTable}
+use Rattle.link_rules.specs.declared.faults.LinkRule.TheVariants as link
 use Rattle.system_plan.specs.declared.faults.Refusal.{Refusal}
 use Rattle.system_plan.specs.declared.faults.Refusal.TheVariants as refusal
 use Rattle.avalon_top.specs.declared.exit.Exit.{Exit}
@@ -33,7 +34,7 @@ StopsLoading words reads _ = ⊥
 
 -- the task can't build this connection of the system yet, or memory was wanted
 abbrev pub StopsWriting : Task → SystemTable → Exit → Type 0
-StopsWriting task system (exit.LinkRefused connection rule other) = (unbuilt_of task system ≡ Some (connection, rule)) × (other ≡ None)
+StopsWriting task system (exit.LinkRefused connection rule other) = (unbuilt_of task system ≡ Some connection) × (rule ≡ link.Mm 10) × (other ≡ None)
 StopsWriting task system exit.NoMemory = Unit {0}
 StopsWriting task system _ = ⊥
 

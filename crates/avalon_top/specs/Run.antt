@@ -2,6 +2,7 @@
 use Rattle.std.specs.Prelude.{◌≡◌, ℕ, ◌+◌, ◌<◌, ◌≤◌, ◌⊎◌, List, length, take, slice_get, All, Option, Some, None}
 use Rattle.av_base.specs.Outside.{Rose, with_more, WhereTold}
 use Rattle.link_rules.specs.declared.faults.LinkRule.{LinkRule}
+use Rattle.link_rules.specs.declared.faults.LinkRule.TheVariants as link
 use Rattle.link_rules.specs.Plans.{PlanTable}
 use Rattle.av_scripts.specs.Tables.{SystemTable}
 use Rattle.system_plan.specs.declared.faults.Refusal.TheVariants as refusal
@@ -19,8 +20,8 @@ use Rattle.avalon_top.specs.Words.{AsksFor, AsksForNothing}
 
 -- ---- what files call for
 
--- the least connection that a task would have to build and can't yet, and the rule that refuses it; checking builds nothing
-abbrev pub unbuilt_of : Task → SystemTable → Option (ℕ × LinkRule)
+-- the least connection that a task would have to build and can't yet; checking builds nothing
+abbrev pub unbuilt_of : Task → SystemTable → Option ℕ
 unbuilt_of Generate system = pending_of system
 unbuilt_of Check system = None
 
@@ -29,10 +30,11 @@ pub record CanBeDone (task : Task) (files : List (List ℕ)) : Type 0 where
   pub accepted : IsAccepted files
   pub built : unbuilt_of task accepted.system ≡ None
 
--- no rule and no limit refuses the files, but this is the least connection that can't be built yet
+-- no rule and no limit refuses the files, but this is the least connection that can't be built yet; P10 refuses it
 pub record IsUnbuilt (task : Task) (files : List (List ℕ)) (connection : ℕ) (rule : LinkRule) (other : Option ℕ) : Type 0 where
   pub accepted : IsAccepted files
-  pub pending : unbuilt_of task accepted.system ≡ Some (connection, rule)
+  pub pending : unbuilt_of task accepted.system ≡ Some connection
+  pub rule_is : rule ≡ link.Mm 10
   pub alone : other ≡ None
 
 -- the answer that a task's files call for, where nothing fails

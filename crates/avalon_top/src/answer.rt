@@ -12,7 +12,7 @@ use crate::exit::Exit;
 use crate::words::{Task, read_words};
 use av_base::{Bytes, List, LoadFault, NoMemory, Shelf, Sink, load_all, put_all};
 use interconnect::{build, pending};
-use link_rules::Plan;
+use link_rules::{LinkRule, Plan};
 use map_text::map_text;
 use std::alloc::Global;
 use system_plan::plan_of;
@@ -63,8 +63,8 @@ fn interconnect_text(alloc: Global, plan: &Plan) -> Result<Bytes, NoMemory>
     requires { pending_of plan.now.system ≡ None }
     ensures { IfOk result (λ text. (netlist : Netlist) × IsInterconnect plan.now.system netlist × (text ≡ text_of netlist)) }
 {
-    let module = build(alloc, plan)?;
-    write_module(alloc, &module)
+    let built = build(alloc, plan)?;
+    write_module(alloc, &built.module)
 }
 
 /// What a task writes of a plan, or the least connection that it can't build yet.
@@ -76,9 +76,9 @@ fn text_of_plan(alloc: Global, task: Task, plan: &Plan) -> Result<Bytes, Exit>
     match task {
         Task::Check => Ok(map_text(alloc, plan)?),
         Task::Generate => match pending(plan) {
-            Some((connection, rule)) => Err(Exit::LinkRefused {
+            Some(connection) => Err(Exit::LinkRefused {
                 connection,
-                rule,
+                rule: LinkRule::Mm(10),
                 other: None,
             }),
             None => Ok(interconnect_text(alloc, plan)?),

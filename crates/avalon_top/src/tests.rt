@@ -177,9 +177,9 @@ fn rows() -> [Row; 14] {
         ),
         (
             &THREE,
-            [wire(), wide_source(), sink()],
+            [staged_bus(), master(), memory()],
             6,
-            b"link refused: connection 0 rule S10\n",
+            b"link refused: connection 0 rule P10\n",
         ),
         (
             &CHECK_THREE,

@@ -1,5 +1,5 @@
 -- How many connections a plan has.
-use Rattle.std.proofs.Common.{◌≡◌, ◌⊎◌, inl, inr, ℕ, zero, suc, ◌+◌, ◌<◌, ◌≤◌, Bool, true, false, cond, List, [], ◌∷◌, length, slice_get, Option, Some, None, refl, sym, ap, ◌∙◌, arith}
+use Rattle.std.proofs.Common.{◌≡◌, ◌⊎◌, inl, inr, ℕ, suc, ◌+◌, ◌≤◌, Bool, true, false, cond, List, [], ◌∷◌, length, slice_get, Option, Some, None, refl, ap, arith}
 use Rattle.std.specs.List.{filter, filter_map, cons_option, enumerate_from}
 use Rattle.iface_roles.specs.declared.kinds.Kind.{Kind}
 use Rattle.iface_roles.specs.declared.kinds.Kind.TheVariants.{Clock, Reset, Mm, Stream, Conduit, Interrupt}
@@ -7,7 +7,7 @@ use Rattle.iface_roles.specs.declared.records.Finished.{Finished}
 use Rattle.av_scripts.specs.declared.tables.Connection.{Connection}
 use Rattle.av_scripts.specs.Tables.{SystemTable, Joins}
 use Rattle.address_map.specs.Maps.{is_mm, mm_connections}
-use Rattle.link_rules.specs.Links.{is_stream, streams_of}
+use Rattle.link_rules.specs.Links.{is_stream}
 use Rattle.interconnect.proofs.EndFacts.{IsPlanned}
 use Rattle.interconnect.proofs.Numbering.{number_of}
 

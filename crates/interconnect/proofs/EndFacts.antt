@@ -1,5 +1,5 @@
 -- What is known of a plan and at an end of it.
-use Rattle.std.proofs.Common.{◌≡◌, ◌≤◌, ◌*◌, ◌^◌, ℕ, Bool, Some, List, length, slice_get, sym, subst, ◌∙◌, arith}
+use Rattle.std.proofs.Common.{◌≡◌, ◌≤◌, ◌*◌, ◌^◌, ℕ, Bool, Some, length, slice_get, sym, subst, ◌∙◌, arith}
 use Rattle.std.proofs.lemmas.Bool.{or_parts, ltb-false}
 use Rattle.std.proofs.Math.Pow.{pow_mono}
 use Rattle.iface_roles.specs.declared.records.Finished.{Finished}
@@ -13,7 +13,7 @@ use Rattle.av_scripts.specs.Tables.{SystemTable, IsEnd, IsSystem}
 use Rattle.address_map.specs.Footprints.{known_at}
 use Rattle.address_map.specs.Maps.{hosts_of, agents_of}
 use Rattle.link_rules.specs.Pairs.{KeepsAll}
-use Rattle.link_rules.specs.Links.{streams_of, tests_as}
+use Rattle.link_rules.specs.Links.{streams_of, tests_as, tests_of}
 use Rattle.link_rules.specs.Plans.{PlanTable, IsPlan}
 use Rattle.interconnect.specs.Ends.{IsPlanEnd}
 
@@ -28,6 +28,7 @@ pub record IsPlanned (system : SystemTable) : Type 0 where
   pub few_hosts : length (hosts_of system) ≤ 16
   pub few_agents : length (agents_of system) ≤ 32
   pub few_streams : length (streams_of system) ≤ 16
+  pub rules : (k : ℕ) (a : Connection) → slice_get system.connections k ≡ Some a → KeepsAll (tests_of system a)
   pub narrow : (k : ℕ) (a : Connection) → slice_get system.connections k ≡ Some a → AreNarrow (known_at system a.start) (known_at system a.end)
 
 narrow_by : (clock : Bool) (a b : Finished) → KeepsAll (tests_as clock a b) → AreNarrow a b
@@ -43,6 +44,7 @@ planned plan h =
       few_hosts = ltb-false 16 (length (hosts_of plan.system)) (h.limits 1);
       few_agents = ltb-false 32 (length (agents_of plan.system)) (h.limits 2);
       few_streams = ltb-false 16 (length (streams_of plan.system)) (h.limits 3);
+      rules = λ k a e. h.links k a e;
       narrow = λ k a e. narrow_by a.clock_fits (known_at plan.system a.start) (known_at plan.system a.end) (h.links k a e);
     }
 

@@ -1,6 +1,6 @@
 -- The header of a system: its names are names of ports, each stands there once, and its widths are within bounds.
-use Rattle.std.proofs.Common.{◌≡◌, ◌≢◌, ◌⊎◌, inl, inr, ℕ, zero, suc, ◌+◌, ◌*◌, ◌^◌, ◌<◌, ◌≤◌, Bool, true, false, cond, List, [], ◌∷◌, ◌++◌, length, map, get_or, slice_get, Option, Some, None, codes, refl, sym, ap, subst, ◌∙◌, arith, All, AllPairs, length-append}
-use Rattle.std.specs.List.{filter, flat_map, count_by}
+use Rattle.std.proofs.Common.{◌≡◌, ◌≢◌, inl, inr, ℕ, ◌*◌, ◌<◌, ◌≤◌, Bool, true, false, List, [], ◌∷◌, ◌++◌, length, map, get_or, slice_get, Option, Some, None, refl, sym, ap, subst, ◌∙◌, arith, AllPairs, length-append}
+use Rattle.std.specs.List.{flat_map}
 use Rattle.std.proofs.lemmas.Bool.{ltb-true}
 use Rattle.std.proofs.lemmas.List.{map-append, length-map, get_or-map}
 use Rattle.std.proofs.lemmas.List.Sums.{count_by-le-length, length-filter}
@@ -27,13 +27,14 @@ use Rattle.netlist.specs.Netlists.{IsHeader, input_count}
 use Rattle.stream_runs.specs.Ends.{Declared}
 use Rattle.interconnect.specs.declared.roles.Role.TheVariants as role
 use Rattle.interconnect.specs.declared.roles.RolePort.{RolePort}
-use Rattle.interconnect.specs.Ports.{EndName, port_of, bits_if, host_ports, agent_ports, stream_ports, declared_source, declared_sink, may_have, has_bits, role_ports, starts, name_at, port_name, port_line, known_ports, end_ports, connection_ends, ends_of, ports_of, module_name}
+use Rattle.interconnect.specs.Ports.{port_of, bits_if, host_ports, agent_ports, stream_ports, may_have, has_bits, role_ports, starts, name_at, port_name, port_line, end_ports, connection_ends, ends_of, ports_of, module_name}
+use Rattle.stream_path.specs.Joining.{declared_source, declared_sink}
 use Rattle.interconnect.specs.Ends.{IsNarrow, IsPlanEnd}
 use Rattle.interconnect.proofs.EndFacts.{IsPlanned, known_is, small_word}
-use Rattle.interconnect.proofs.Names.{IsNamed, IsOneName, one_name}
+use Rattle.interconnect.proofs.Names.{IsNamed, one_name}
 use Rattle.interconnect.proofs.PortForms.{IsName, name_text, module_name_is, port_name_is}
 use Rattle.interconnect.proofs.Words.{word_of, distinct_words}
-use Rattle.interconnect.proofs.Lists.{Among, among_at, IsAt, at_among, among_append, ComesFrom, among_map, among_flat_map, among_filter, Distinct, distinct_map, distinct_flat_map, distinct_pairs}
+use Rattle.interconnect.proofs.Lists.{Among, among_at, among_map, among_flat_map, among_filter, Distinct, distinct_map, distinct_flat_map, distinct_pairs}
 use Rattle.interconnect.proofs.Numbering.{end_of, distinct_ends, plan_end}
 
 -- what each proper record keeps
@@ -124,6 +125,10 @@ pairs_of ports h i j d below inside same =
     let one = get_or-map name_of ports i d (name_of d) (omega arith) in
     let other = get_or-map name_of ports j d (name_of d) inside in
     h i j (name_of d) below long (one ∙ same ∙ sym other)
+
+-- no two ports have one name
+pub distinct_ports : (system : SystemTable) → IsPlanned system → AllPairs (λ (p q : PortLine). p.name ≢ q.name) (ports_of system)
+distinct_ports system h = pairs_of (ports_of system) (distinct_pairs (map name_of (ports_of system)) (distinct_names system h))
 
 -- ---- widths
 
@@ -277,6 +282,20 @@ ports-few system h =
 pub inputs-few : (system : SystemTable) → IsPlanned system → input_count (ports_of system) ≤ 880
 inputs-few system h = le_trans (count_by-le-length _ (ports_of system)) (ports-few system h)
 
+pub inputs-ends : (system : SystemTable) → input_count (ports_of system) ≤ 11 * length (ends_of system)
+inputs-ends system = le_trans (count_by-le-length _ (ports_of system)) (length-flat (end_ports system) 11 (ends_of system) (end_ports-few system))
+
+-- of a system of streams alone
+pub stream_inputs-few : (system : SystemTable) → hosts_of system ≡ [] → agents_of system ≡ [] → input_count (ports_of system) ≤ 22 * length (streams_of system)
+stream_inputs-few system none no_agent =
+    let flat = inputs-ends system in
+    let streams = length-flat (connection_ends system) 2 (streams_of system) (connection_ends-few system) in
+    let first = length-append (hosts_of system) (agents_of system) in
+    let all = length-append (hosts_of system ++ agents_of system) (flat_map (connection_ends system) (streams_of system)) in
+    let no_hosts = ap (λ (ends : List EndId). length ends) none in
+    let no_agents = ap (λ (ends : List EndId). length ends) no_agent in
+    omega (arith, flat, streams, first, all, no_hosts, no_agents)
+
 -- ---- the header
 
 pub is_header : (system : SystemTable) → AreBounded → IsPlanned system → IsHeader (module_name system) (ports_of system)
@@ -285,7 +304,7 @@ is_header system laws h =
     record {
       module_name = module_name_is system.name h.kept.name;
       port_names = λ k d inside. (each k d inside).name;
-      distinct = pairs_of (ports_of system) (distinct_pairs (map name_of (ports_of system)) (distinct_names system h));
+      distinct = distinct_ports system h;
       widths = λ k d inside. ((each k d inside).some, (each k d inside).few);
       few = (let few = ports-few system h in omega arith);
     }

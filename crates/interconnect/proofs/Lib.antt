@@ -6,11 +6,14 @@ pub mod Words
 pub mod PortForms
 pub mod Headers
 pub mod Counts
-pub mod Blocks
-pub mod Joining
 pub mod Signals
+pub mod PortPlaces
+pub mod Forms
+pub mod Joining
+pub mod WireNets
 pub mod Served
 pub mod StreamModules
+pub mod Inputs
 pub mod MemoryNames
 pub mod MemoryWires
 pub mod MemoryModules

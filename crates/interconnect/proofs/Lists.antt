@@ -1,5 +1,5 @@
 -- Lists by place.
-use Rattle.std.proofs.Common.{◌≡◌, ◌≢◌, ◌⊎◌, inl, inr, ℕ, zero, suc, ◌+◌, ◌<◌, ◌≤◌, Bool, true, false, cond, List, [], ◌∷◌, ◌++◌, length, map, take, drop, get_or, slice_get, Option, Some, None, refl, sym, ap, subst, ◌∙◌, arith, AllPairs, append-nil}
+use Rattle.std.proofs.Common.{◌≡◌, ◌≢◌, ◌⊎◌, inl, inr, ℕ, zero, suc, ◌+◌, ◌<◌, ◌≤◌, Bool, true, false, cond, List, [], ◌∷◌, ◌++◌, length, map, take, drop, slice_get, Option, Some, None, refl, sym, ap, subst, ◌∙◌, arith, AllPairs, append-nil}
 use Rattle.std.proofs.lemmas.Grind.{flat_map-append}
 use Rattle.std.specs.List.{position_from, filter, filter_map, cons_option, flat_map}
 use Rattle.std.proofs.lemmas.Option.{slice_get-get_or}
@@ -46,6 +46,15 @@ pub among_append : {X : Type 0} (xs ys : List X) (x : X) → Among x (xs ++ ys) 
 among_append [] ys x h = inr h
 among_append (z ∷ xs) ys x (inl e) = inl (inl e)
 among_append (z ∷ xs) ys x (inr h) = elim (among_append xs ys x h) [ inl k ↦ inl (inr k) | inr k ↦ inr k ]
+
+pub among_front : {X : Type 0} (xs ys : List X) (x : X) → Among x xs → Among x (xs ++ ys)
+among_front [] ys x h = absurd h
+among_front (z ∷ xs) ys x (inl e) = inl e
+among_front (z ∷ xs) ys x (inr h) = inr (among_front xs ys x h)
+
+pub among_back : {X : Type 0} (xs ys : List X) (x : X) → Among x ys → Among x (xs ++ ys)
+among_back [] ys x h = h
+among_back (z ∷ xs) ys x h = inr (among_back xs ys x h)
 
 -- what an element of a list that was made of another comes from
 pub record ComesFrom {X Y : Type 0} (xs : List X) (y : Y) (Makes : X → Y → Type 0) : Type 0 where
@@ -196,3 +205,10 @@ flat_one_more f g xs k x e =
     ap (λ zs. flat_map f (flat_map g zs)) (take_one_more xs k x e)
     ∙ ap (flat_map f) (flat_map-append g (take k xs) (x ∷ []) ∙ ap (λ ys. flat_map g (take k xs) ++ ys) (append-nil (g x)))
     ∙ flat_map-append f (flat_map g (take k xs)) (g x)
+
+-- ---- numbers
+
+pub nat_less : (n number : ℕ) → n < number + 1 → (n < number) ⊎ (n ≡ number)
+nat_less n zero h = inr (omega (arith, h))
+nat_less zero (suc number) h = inl (omega arith)
+nat_less (suc n) (suc number) h = elim (nat_less n number (omega (arith, h))) [ inl e ↦ inl (omega (arith, e)) | inr e ↦ inr (ap suc e) ]

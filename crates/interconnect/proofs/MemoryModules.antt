@@ -1,6 +1,6 @@
 -- The module of one host and one agent: what the plan says of them, and that the header is that of the wire.
-use Rattle.std.proofs.Common.{◌≡◌, ◌≢◌, ◌⊎◌, inl, inr, ℕ, zero, suc, ◌+◌, ◌*◌, ◌^◌, ◌<◌, ◌≤◌, Bool, true, false, ◌&&◌, not, ltb, cond, List, [], ◌∷◌, ◌++◌, length, map, get_or, slice_get, Option, Some, None, refl, sym, ap, subst, ◌∙◌, arith, append_assoc, append-nil, IsTrue}
-use Rattle.std.specs.Prelude.{nat_le, nat_lt, if◌then◌else◌, ◌==◌}
+use Rattle.std.proofs.Common.{◌≡◌, ◌≢◌, inl, ℕ, zero, suc, ◌+◌, ◌*◌, ◌^◌, ◌≤◌, Bool, true, false, ◌&&◌, cond, List, [], ◌∷◌, ◌++◌, length, map, get_or, slice_get, Some, None, refl, sym, ap, subst, ◌∙◌, arith, append_assoc, append-nil}
+use Rattle.std.specs.Prelude.{if◌then◌else◌, ◌==◌}
 use Rattle.std.specs.List.{filter, filter_map, cons_option, flat_map, enumerate_from}
 use Rattle.std.proofs.lemmas.Bool.{and_parts, eqb-true, leb-true, not-true, false≢true}
 use Rattle.std.proofs.lemmas.Bool.Decides.{Decides-ltb}
@@ -8,7 +8,7 @@ use Rattle.std.proofs.lemmas.List.{map-append}
 use Rattle.iface_roles.specs.declared.kinds.Kind.{Kind}
 use Rattle.iface_roles.specs.declared.kinds.Kind.TheVariants.{Clock, Reset, Mm, Stream, Conduit, Interrupt}
 use Rattle.iface_roles.specs.declared.records.Finished.{Finished}
-use Rattle.iface_roles.specs.declared.records.Finished.TheVariants.{Host, Agent, Source, Sink}
+use Rattle.iface_roles.specs.declared.records.Finished.TheVariants.{Host, Agent}
 use Rattle.iface_roles.specs.declared.records.HostPort.{HostPort}
 use Rattle.iface_roles.specs.declared.records.AgentPort.{AgentPort}
 use Rattle.iface_roles.specs.declared.records.SourcePort.{SourcePort}
@@ -19,28 +19,29 @@ use Rattle.av_scripts.specs.Tables.{SystemTable, IsEnd}
 use Rattle.address_map.specs.Ends.{each_once}
 use Rattle.address_map.specs.Footprints.{known_at}
 use Rattle.address_map.specs.Maps.{is_mm, mm_connections, hosts_of, agents_of}
-use Rattle.link_rules.specs.Links.{is_stream, streams_of}
+use Rattle.link_rules.specs.Links.{is_stream, streams_of, weight_of}
+use Rattle.netlist.specs.declared.line.Line.{Line}
 use Rattle.netlist.specs.declared.line.PortLine.{PortLine}
-use Rattle.netlist.specs.Netlists.{Netlist, IsModule, input_count, input_lines, started}
+use Rattle.netlist.specs.Netlists.{Netlist, started}
 use Rattle.mm_runs.specs.BoundedWire.{WireForm, IsWireForm}
 use Rattle.interconnect.specs.declared.roles.Role.TheVariants as role
 use Rattle.interconnect.specs.declared.roles.RolePort.{RolePort}
 use Rattle.interconnect.specs.declared.memory.MemoryForm.{MemoryForm}
-use Rattle.interconnect.specs.Ports.{EndName, bits_if, port_of, host_ports, agent_ports, has_bits, role_ports, name_at, port_line, known_ports, end_ports, connection_ends, ends_of, ports_of, module_name, declared_source, declared_sink}
-use Rattle.interconnect.specs.Wires.{both_or_neither, is_wire_host, is_wire_agent, fills_range, is_wire_memory, is_alone, is_built_as, is_built, pending_of}
+use Rattle.interconnect.specs.Ports.{EndName, bits_if, port_of, host_ports, agent_ports, has_bits, role_ports, name_at, port_line, known_ports, end_ports, connection_ends, ends_of, ports_of, module_name}
+use Rattle.interconnect.specs.Wires.{is_wire_host, is_wire_agent, fills_range, is_wire_memory, is_alone, is_built_as, is_built, pending_of}
 use Rattle.interconnect.specs.Streams.{IsStream}
-use Rattle.interconnect.specs.Memory.{IsMemory, bound_of, form_of, ServesMemory}
+use Rattle.interconnect.specs.Memory.{IsMemory, form_of, ServesMemory}
 use Rattle.interconnect.specs.MemoryNets.{Wire, bounded_form, memory_ports, header, wire_places, IsOnlyMemory}
 use Rattle.interconnect.specs.declared.memory.WirePlaces.{WirePlaces}
 use Rattle.interconnect.specs.Interconnect.{IsInterconnect}
 use Rattle.interconnect.proofs.EndFacts.{IsPlanned, known_is}
 use Rattle.interconnect.proofs.Numbering.{JoinsMm, mm_among, among_once, number_of}
-use Rattle.interconnect.proofs.Blocks.{all_built, same_flag}
-use Rattle.interconnect.proofs.Headers.{end_named, one_end, inputs-few}
+use Rattle.interconnect.proofs.Forms.{all_built, same_flag}
+use Rattle.interconnect.proofs.Headers.{end_named, one_end, inputs-few, inputs-ends}
 use Rattle.interconnect.proofs.MemoryNames.{AreApart}
 use Rattle.interconnect.proofs.MemoryWires.{IsBegun, IsMemoryModule}
 use Rattle.interconnect.proofs.StreamModules.{length-input_lines}
-use Rattle.interconnect.proofs.Lists.{Among, among_at, IsAt, at_among, ComesFrom, among_map, among_filter}
+use Rattle.interconnect.proofs.Lists.{Among, at_among, among_map, among_filter}
 
 -- ---- the only connection
 
@@ -374,13 +375,25 @@ memory_is system h netlist number connection host agent is serves =
     one_of c zero a e = cc
     one_of c (suc k) a e = absurd (let none : None ≡ Some a = e in cc)
 
-pub memory_interconnect : (system : SystemTable) (form : MemoryForm) (final : Netlist) (h : IsOnly system) → bounded_form form ≡ form_of h.joins.agent → IsMemoryModule (wire_of system h.connection) form final
-    → IsInterconnect system final
-memory_interconnect system form final h e whole =
+-- its nets are few
+pub memory_few : (system : SystemTable) (old new final : Netlist) → IsOnly system → old ≡ started (module_name system) (ports_of system) → length new.lines ≤ length old.lines + 15 → final.lines ≡ new.lines
+    → length final.lines ≤ weight_of system
+memory_few system old new final h is most same =
+    let lines = ap (λ (n : Netlist). length n.lines) is in
+    let inputs = length-input_lines (ports_of system) 0 in
+    let few = inputs-ends system in
+    let ends = ap (λ (ends : List EndId). length ends) (ends_are system h) in
+    let long = ap (λ (ls : List Line). length ls) same in
+    omega (arith, lines, inputs, few, ends, long, most)
+
+pub memory_interconnect : (system : SystemTable) (form : MemoryForm) (final : Netlist) (h : IsOnly system) → bounded_form form ≡ form_of h.joins.agent → length final.lines ≤ weight_of system
+    → IsMemoryModule (wire_of system h.connection) form final → IsInterconnect system final
+memory_interconnect system form final h e few whole =
     record {
       name = whole.name;
       ports = whole.ports ∙ sym (header_is system form h e);
-      wired = λ number connection source sink is. absurd (no_stream_of system h number connection source sink is);
+      few = few;
+      wired = λ number connection source sink is wire. absurd (no_stream_of system h number connection source sink is);
       streams = λ number connection source sink is. absurd (no_stream_of system h number connection source sink is);
       memory = λ number connection host agent is. memory_is system h final number connection host agent is
           (subst (λ (f : WireForm). ServesMemory final f (name_at system h.connection.start) (name_at system h.connection.end)) e whole.serves);

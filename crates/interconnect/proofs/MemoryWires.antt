@@ -1,5 +1,5 @@
 -- The finished netlist of a memory-mapped wire: its ports, the nets at them, and what each of its runs does.
-use Rattle.std.proofs.Common.{◌≡◌, ℕ, zero, suc, ◌+◌, ◌<◌, ◌≤◌, ◌^◌, Bool, true, false, not, ◌&&◌, ◌||◌, List, [], ◌∷◌, ◌++◌, length, map, Option, Some, None, option_map, codes, refl, sym, ap, subst, ◌∙◌, IsTrue, arith}
+use Rattle.std.proofs.Common.{◌≡◌, ℕ, zero, suc, ◌+◌, ◌<◌, ◌^◌, Bool, true, false, not, ◌&&◌, ◌||◌, List, [], ◌∷◌, map, Option, Some, None, option_map, codes, refl, sym, ap, subst, ◌∙◌, IsTrue, arith}
 use Rattle.std.specs.Prelude.{IsSome, IfSome, is_some, slice_get, slice_index_or}
 use Rattle.std.proofs.Math.Path.{fun_ext}
 use Rattle.std.proofs.lemmas.Bool.{and_parts, false≢true}
@@ -7,8 +7,8 @@ use Rattle.netlist.specs.declared.line.Line.{Line}
 use Rattle.netlist.specs.declared.line.Memory.{Memory}
 use Rattle.netlist.specs.declared.line.PortLine.{PortLine}
 use Rattle.netlist.specs.Nets.{NetValue, net_of}
-use Rattle.netlist.specs.Netlists.{Netlist, IsInputPort, IsOutputPort, IsDriven, IsClocked, IsWritten, IsWaiting, next_of, undriven, started, is_register}
-use Rattle.netlist.specs.Runs.{Cycle, Run, word_after, WordsFit, NetHolds, IsValuation, IsRun, SameState, reset_of, cycle_of}
+use Rattle.netlist.specs.Netlists.{Netlist, IsInputPort, IsOutputPort, IsDriven, IsClocked, IsWritten, next_of, undriven, started}
+use Rattle.netlist.specs.Runs.{Cycle, Run, word_after, WordsFit, NetHolds, IsValuation, IsRun, reset_of, cycle_of}
 use Rattle.netlist.specs.Longer.{Extends}
 use Rattle.netlist.specs.Signals.{port_value}
 use Rattle.stream_runs.specs.Ends.{signal_or}
@@ -25,7 +25,7 @@ use Rattle.mm_wire.specs.declared.nets.WireNets.{WireNets}
 use Rattle.mm_wire.specs.Nets.{IsNetOfWidth, IsRegister}
 use Rattle.mm_wire.specs.Wires.{AreHostNets, AreAgentNets, AreWireNets, RunsAsWire, IgnoresWord}
 use Rattle.mm_wire.specs.Wires as wires
-use Rattle.interconnect.specs.Ports.{EndName, port_name, port_line, port_of}
+use Rattle.interconnect.specs.Ports.{EndName, port_of}
 use Rattle.interconnect.specs.Memory.{host_view, agent_view, shown_run, moment_in, standing_still, CanShow, plan_of, ServesMemory}
 use Rattle.interconnect.specs.MemoryNets.{Wire, bounded_form, memory_ports, header, wire_places, AreHostInputs, AreAgentInputs, host_nets_at, agent_nets_at, AddsWire, CanDrive, driven_by, wire_drivers}
 use Rattle.interconnect.specs.declared.roles.Role.TheVariants.{Grant}
@@ -566,6 +566,9 @@ final_is wire m places old new final host agent made added e =
     let agents = agent_known wire m places old new host agent made added in
     e ∙ ap (driven_by new) (drivers_are places m wire.from wire.to host agent made added.begun.places_are hosts agents)
     ∙ ap (λ (n : Netlist). driven_by n (drivers_of m wire.from wire.to made)) (emitted_is wire m places old new host agent made added)
+
+pub lines_final : (wire : Wire) (m : MemoryForm) (new final : Netlist) (made : WireNets) → final ≡ finished wire.name m wire.from wire.to new.lines made → final.lines ≡ new.lines
+lines_final wire m new final made e = ap (λ (n : Netlist). n.lines) e ∙ lines-driven (undriven_with wire.name m wire.from wire.to new.lines) (drivers_of m wire.from wire.to made)
 
 pub is_driven : (wire : Wire) (m : MemoryForm) (lines : List Line) (made : WireNets) (final : Netlist) → final ≡ finished wire.name m wire.from wire.to lines made → IsDriven final
 is_driven wire m lines made final e = subst IsDriven (sym e) (driven_is_by wire.name m.address_bits m.pending wire.from wire.to lines made m.has_enables)

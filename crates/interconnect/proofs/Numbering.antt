@@ -1,7 +1,7 @@
 -- The hosts, agents and streams of a system: where they come from, and that each end has ports once.
-use Rattle.std.proofs.Common.{eqb, ◌≡◌, ◌≢◌, ◌⊎◌, inl, inr, ℕ, zero, suc, ◌+◌, ◌<◌, ◌≤◌, Bool, true, false, not, ◌&&◌, List, [], ◌∷◌, ◌++◌, length, map, slice_get, get_or, Option, Some, None, refl, sym, ap, subst, ◌∙◌, arith}
+use Rattle.std.proofs.Common.{eqb, ◌≡◌, ◌⊎◌, inl, inr, ℕ, zero, suc, ◌+◌, ◌<◌, Bool, true, false, not, List, [], ◌∷◌, ◌++◌, length, map, slice_get, get_or, Option, Some, None, refl, sym, ap, subst, ◌∙◌, arith}
 use Rattle.std.specs.Prelude.{if◌then◌else◌}
-use Rattle.std.specs.List.{filter, filter_map, flat_map, enumerate_from}
+use Rattle.std.specs.List.{flat_map, enumerate_from}
 use Rattle.std.proofs.lemmas.Option.{slice_get-get_or, get_or_from_slice_get, slice_get_within}
 use Rattle.std.proofs.lemmas.Bool.{and_parts, and_from, eqb-true, eq-eqb, false≢true}
 use Rattle.iface_roles.specs.declared.kinds.Kind.{Kind}
@@ -15,7 +15,7 @@ use Rattle.iface_roles.specs.declared.records.SinkPort.{SinkPort}
 use Rattle.iface_roles.specs.Proper.{IsProper}
 use Rattle.av_scripts.specs.declared.tables.EndId.{EndId}
 use Rattle.av_scripts.specs.declared.tables.Connection.{Connection}
-use Rattle.av_scripts.specs.Tables.{SystemTable, IsEnd, IsLogic, IsSystem, Joins}
+use Rattle.av_scripts.specs.Tables.{SystemTable, IsEnd, IsLogic, Joins}
 use Rattle.address_map.specs.Ends.{is_same_end, each_once}
 use Rattle.address_map.specs.Footprints.{known_at}
 use Rattle.address_map.specs.Maps.{is_mm, mm_connections, hosts_of, agents_of}
@@ -23,7 +23,7 @@ use Rattle.link_rules.specs.Links.{is_stream, streams_of}
 use Rattle.interconnect.specs.Ports.{connection_ends, ends_of}
 use Rattle.interconnect.specs.Ends.{IsNarrow, IsPlanEnd, ArePlanEnds, IsStreamPlace}
 use Rattle.interconnect.proofs.EndFacts.{AreNarrow, IsPlanned, known_is}
-use Rattle.interconnect.proofs.Lists.{Among, among_at, IsAt, at_among, among_append, ComesFrom, among_map, among_flat_map, among_filter, among_filter_map, Distinct, distinct_filter, distinct_append, distinct_filter_map, distinct_flat_map}
+use Rattle.interconnect.proofs.Lists.{Among, among_at, at_among, among_append, among_map, among_flat_map, among_filter, among_filter_map, Distinct, distinct_filter, distinct_append, distinct_filter_map, distinct_flat_map}
 
 -- ---- ends
 
@@ -256,7 +256,7 @@ one_pair xs a b k l e =
     let second : a.1 ≡ b.1 = cc in
     pair_is a b e second
 
-distinct_streams : (system : SystemTable) → Distinct (streams_of system)
+pub distinct_streams : (system : SystemTable) → Distinct (streams_of system)
 distinct_streams system =
     distinct_filter_map number_of (enumerate_from 0 system.connections)
     (λ a b n k l e f. one_pair system.connections a b k l ((number_from a n e).number_is ∙ sym (number_from b n f).number_is))
@@ -431,3 +431,21 @@ stream_place system number streams connections d h e f inside =
       source_is = known_is system is.connection.start (Source at.joins.source) at.joins.start;
       sink_is = known_is system is.connection.end (Sink at.joins.sink) at.joins.end;
     })
+
+-- ---- what the ends by number are known as
+
+pub agent_known : (system : SystemTable) (number : ℕ) (end : EndId) → IsPlanned system → slice_get (agents_of system) number ≡ Some end → (agent : AgentPort) × (known_at system end ≡ Agent agent)
+agent_known system number end h e =
+    let once = among_once (map (λ (c : Connection). c.end) (mm_connections system)) end (among_at (agents_of system) number end e) in
+    let from = among_map (λ (c : Connection). c.end) (mm_connections system) end once in
+    let joins = mm_among system from.from h from.among in
+    (joins.agent, ap (known_at system) (sym from.makes) ∙ known_is system from.from.end (Agent joins.agent) joins.end)
+
+pub sink_known : (system : SystemTable) (number place : ℕ) (connection : Connection) → IsPlanned system → slice_get (streams_of system) number ≡ Some place → slice_get system.connections place ≡ Some connection
+    → (sink : SinkPort) × (known_at system connection.end ≡ Sink sink)
+sink_known system number place connection h e f =
+    let known = stream_number system place (among_at (streams_of system) number place e) in
+    let p = known.is in
+    let same : known.connection ≡ connection = cc in
+    let at = stream_at system place connection h f (ap (λ (c : Connection). c.kind) (sym same) ∙ known.kind) in
+    (at.joins.sink, known_is system connection.end (Sink at.joins.sink) at.joins.end)

@@ -1,5 +1,5 @@
 -- Names of the right form: of the module, and of a port.
-use Rattle.std.proofs.Common.{◌≡◌, ℕ, Bool, ◌&&◌, ◌||◌, length, List, [], ◌∷◌, ◌++◌, codes, refl, sym, subst, ◌∙◌, IsTrue}
+use Rattle.std.proofs.Common.{ℕ, Bool, ◌&&◌, ◌||◌, length, List, [], ◌∷◌, ◌++◌, codes, refl, sym, subst, ◌∙◌, IsTrue}
 use Rattle.std.specs.Prelude.{nat_le}
 use Rattle.std.specs.List.{list_all, list_any}
 use Rattle.std.proofs.lemmas.Bool.{and_from, and_parts, or_left, or_right, false≢true}

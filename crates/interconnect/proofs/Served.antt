@@ -1,112 +1,52 @@
--- A joined stream is a wire, and so it is served.
-use Rattle.std.proofs.Common.{◌≡◌, ◌≢◌, ◌⊎◌, inl, inr, ℕ, zero, suc, ◌+◌, ◌<◌, ◌≤◌, Bool, true, false, List, [], ◌∷◌, ◌++◌, length, map, slice_get, Option, Some, None, codes, refl, sym, ap, subst, ◌∙◌, arith, AllPairs}
-use Rattle.std.specs.Prelude.{option_map, unwrap_or}
+-- A joined stream is served, and one that is a wire joins each output to its input.
+use Rattle.std.proofs.Common.{◌≡◌, ◌⊎◌, inl, inr, ℕ, ◌+◌, ◌*◌, ◌<◌, Bool, true, false, not, List, slice_get, Option, Some, None, codes, refl, sym, ap, subst, ◌∙◌, arith}
+use Rattle.std.specs.Prelude.{IfSome, IsSome, option_map, unwrap_or, nat_lt, if◌then◌else◌}
 use Rattle.std.specs.List.{filter}
-use Rattle.std.specs.Str.{bytes_eq}
-use Rattle.std.proofs.lemmas.Bool.{false≢true}
-use Rattle.std.proofs.lemmas.Option.{slice_get_within}
-use Rattle.std.proofs.lemmas.Slice.Eq.{bytes_eq-Decides}
-use Rattle.std.proofs.lemmas.List.{map-append}
+use Rattle.std.proofs.lemmas.Bool.{false≢true, ltb-true}
+use Rattle.std.proofs.lemmas.Bool.Decides.{Decides-ltb}
 use Rattle.iface_roles.specs.declared.records.Finished.{Finished}
 use Rattle.iface_roles.specs.declared.records.Finished.TheVariants.{Source, Sink}
 use Rattle.iface_roles.specs.declared.records.SourcePort.{SourcePort}
 use Rattle.iface_roles.specs.declared.records.SinkPort.{SinkPort}
-use Rattle.iface_roles.specs.Proper.{IsProper, IsBoundedSource}
 use Rattle.av_scripts.specs.declared.tables.EndId.{EndId}
 use Rattle.av_scripts.specs.declared.tables.Connection.{Connection}
-use Rattle.av_scripts.specs.Tables.{SystemTable, IsEnd}
+use Rattle.av_scripts.specs.Tables.{SystemTable}
 use Rattle.address_map.specs.Footprints.{known_at}
-use Rattle.link_rules.specs.Links.{streams_of}
 use Rattle.netlist.specs.declared.line.PortLine.{PortLine}
-use Rattle.netlist.specs.Netlists.{Netlist, IsInputPort, IsOutputPort, IsWellMade, driver_of, input_net}
-use Rattle.netlist.specs.Runs.{Run, IsRun}
+use Rattle.netlist.specs.Nets.{NetValue, net_of}
+use Rattle.netlist.specs.Netlists.{Netlist, IsInputPort, IsWellMade, driver_of, input_count, input_net}
+use Rattle.netlist.specs.Runs.{Run}
 use Rattle.netlist.specs.Signals.{port_net, port_value, port_named, signal}
 use Rattle.stream_runs.specs.Source.{IsLegalSource}
 use Rattle.stream_runs.specs.Delivery.{IsServed}
-use Rattle.stream_runs.specs.Ends.{Declared, Signals, AreAlike, IsWire as IsWireRun, side_of, view_of, signal_or, stream_of, run_of}
+use Rattle.stream_runs.specs.Ends.{Declared, Signals, side_of, view_of, signal_or, stream_of, run_of}
+use Rattle.stream_path.specs.Joining.{declared_source, declared_sink}
+use Rattle.stream_path.specs.Ends.{signal_on, signal_of, signal_where, source_signals, sink_signals}
+use Rattle.stream_path.specs.declared.ends.PathNets.{PathNets}
+use Rattle.interconnect.specs.declared.roles.Role.{Role}
 use Rattle.interconnect.specs.declared.roles.Role.TheVariants as role
 use Rattle.interconnect.specs.declared.roles.RolePort.{RolePort}
-use Rattle.interconnect.specs.Ports.{EndName, role_word, is_forward, port_of, port_name, port_line, stream_ports, has_bits, declared_source, declared_sink, role_ports, name_at, ports_of}
-use Rattle.interconnect.specs.Ends.{IsPlanEnd, IsStreamPlace}
-use Rattle.interconnect.specs.Streams.{end_signals, dropped_signal, ServesStream, IsDrivenBy, IsJoined, IsJoinedBy, IsWired, low_line}
-use Rattle.interconnect.specs.Joins.{AreOpposite, AreStreamPorts, AreJoined, IsJoinedStream, first_port}
-use Rattle.interconnect.proofs.EndFacts.{IsPlanned, known_is, known_proper}
-use Rattle.interconnect.proofs.Words.{word_of}
-use Rattle.interconnect.proofs.Blocks.{IsBlock, block_of, alike_ports, sink_ports-are}
-use Rattle.interconnect.proofs.Joining.{stream_ports_are}
-use Rattle.interconnect.proofs.Signals.{named_at, absent, IsRoleAt, find_role}
-use Rattle.interconnect.proofs.Lists.{Among, among_append}
+use Rattle.interconnect.specs.Ports.{role_word, is_forward, is_output, bits_if, port_of, port_name, stream_ports, has_bits, name_at, ports_of}
+use Rattle.interconnect.specs.PortMaps.{port_at}
+use Rattle.interconnect.specs.Ends.{IsStreamPlace}
+use Rattle.interconnect.specs.Wires.{is_wire_stream, is_wire_as, is_wire_at, wires_before}
+use Rattle.interconnect.specs.Streams.{end_signals, dropped_signal, ServesStream, IsDrivenBy, IsJoined, IsWired, low_line}
+use Rattle.interconnect.specs.Joins.{input_at, wire_nets, output_roles, output_at, net_for, low_at, IsJoinedStream}
+use Rattle.interconnect.proofs.EndFacts.{IsPlanned}
+use Rattle.interconnect.proofs.Forms.{IsWire, wire_is}
+use Rattle.interconnect.proofs.PortPlaces.{IsPortIf, port_known}
+use Rattle.interconnect.proofs.Joining.{start_among, finish_among, extends-refl, output_width, outputs_are}
+use Rattle.interconnect.proofs.WireNets.{same_signals}
+use Rattle.interconnect.proofs.Lists.{Among, among_at, among_filter}
 
 -- a stream in a finished netlist
-pub record IsJoinedIn (system : SystemTable) (number : ℕ) (connection : Connection) (at : IsStreamPlace system number connection) (netlist : Netlist) (low : ℕ) : Type 0 where
+pub record IsJoinedIn (system : SystemTable) (number : ℕ) (connection : Connection) (netlist : Netlist) : Type 0 where
   pub planned : IsPlanned system
-  pub alike : AreAlike (declared_source at.source_port) (declared_sink at.sink_port)
-  pub no_queue : connection.fifo ≡ 0
+  pub at : IsStreamPlace system number connection
   pub well_made : IsWellMade netlist
   pub ports : netlist.ports ≡ ports_of system
-  pub joined : IsJoinedStream netlist (first_port system number) (length (role_ports (Source at.source_port))) low
-
-abbrev roles_at : {system : SystemTable} {number : ℕ} {connection : Connection} → IsStreamPlace system number connection → List RolePort
-roles_at at = role_ports (Source at.source_port)
-
--- a port by its place
-port_found : (system : SystemTable) (netlist : Netlist) (k : ℕ) (p : PortLine) → IsWellMade netlist → netlist.ports ≡ ports_of system → slice_get (ports_of system) k ≡ Some p → port_named netlist.ports p.name ≡ Some k
-port_found system netlist k p h e at =
-    named_at netlist.ports k p h.header.distinct (subst (λ (ports : List PortLine). slice_get ports k ≡ Some p) (sym e) at)
-
--- ---- drivers
-
-joined_role : (system : SystemTable) (number : ℕ) (connection : Connection) (at : IsStreamPlace system number connection) (netlist : Netlist) (low k : ℕ) (port : RolePort)
-    → IsJoinedIn system number connection at netlist low → slice_get (roles_at at) k ≡ Some port
-    → IsJoined netlist (name_at system connection.start) (name_at system connection.end) port.role
-joined_role system number connection at netlist low zero port j e =
-    let from = name_at system connection.start in
-    let to = name_at system connection.end in
-    let roles = roles_at at in
-    let block = block_of system number connection at j.alike in
-    let first = block.ready in
-    let is : port_of role.Ready 1 ≡ port = (let some : Some (port_of role.Ready 1) ≡ Some port = sym first ∙ e in cc) in
-    let n : first_port system number + 0 ≡ first_port system number = omega arith in
-    let m : first_port system number + length roles + 0 ≡ first_port system number + length roles = omega arith in
-    let known : IsJoined netlist from to role.Ready = record {
-      output_port = first_port system number + 0;
-      input_port = first_port system number + length roles + 0;
-      output_is = port_found system netlist _ (port_line from true (port_of role.Ready 1)) j.well_made j.ports (block.from_at 0 (port_of role.Ready 1) first);
-      input_is = port_found system netlist _ (port_line to false (port_of role.Ready 1)) j.well_made j.ports (block.to_at 0 (port_of role.Ready 1) first);
-      driver = ap (driver_of netlist) n ∙ j.joined.ends.ready ∙ ap (λ (i : ℕ). Some (input_net netlist.ports i)) (sym m);
-    } in
-    subst (λ (p : RolePort). IsJoined netlist from to p.role) is known
-joined_role system number connection at netlist low (suc k) port j e =
-    let from = name_at system connection.start in
-    let to = name_at system connection.end in
-    let roles = roles_at at in
-    let block = block_of system number connection at j.alike in
-    let below = slice_get_within roles (suc k) port e in
-    let known : IsJoinedBy true netlist from to (role_word port.role) = record {
-      output_port = first_port system number + length roles + suc k;
-      input_port = first_port system number + suc k;
-      output_is = port_found system netlist _ (port_line to false port) j.well_made j.ports (block.to_at (suc k) port e);
-      input_is = port_found system netlist _ (port_line from true port) j.well_made j.ports (block.from_at (suc k) port e);
-      driver = j.joined.ends.forward (suc k) (omega arith) below;
-    } in
-    subst (λ (b : Bool). IsJoinedBy b netlist from to (role_word port.role)) (sym (block.forward k port e)) known
-
-dropped_found : (system : SystemTable) (number : ℕ) (connection : Connection) (at : IsStreamPlace system number connection) (netlist : Netlist) (low : ℕ)
-    → IsJoinedIn system number connection at netlist low
-    → port_named netlist.ports (port_name (name_at system connection.end) (codes "dropped")) ≡ Some (first_port system number + length (roles_at at) + length (roles_at at))
-dropped_found system number connection at netlist low j =
-    port_found system netlist _ (port_line (name_at system connection.end) false (port_of role.Dropped 1)) j.well_made j.ports (block_of system number connection at j.alike).dropped_at
-
-pub is_wired : (system : SystemTable) (number : ℕ) (connection : Connection) (at : IsStreamPlace system number connection) (netlist : Netlist) (low : ℕ) → IsJoinedIn system number connection at netlist low
-    → IsWired netlist (name_at system connection.start) (name_at system connection.end) (declared_source at.source_port) low
-is_wired system number connection at netlist low j =
-    record {
-      joined = λ k port e. joined_role system number connection at netlist low k port j e;
-      dropped_port = first_port system number + length (roles_at at) + length (roles_at at);
-      dropped_is = dropped_found system number connection at netlist low j;
-      dropped = j.joined.dropped;
-      is_low = j.joined.is_low;
-    }
+  pub some_bits : 0 < at.sink_port.symbols * at.sink_port.symbol_bits
+  pub joined : IsJoinedStream system netlist number at.place connection at.source_port at.sink_port
 
 -- ---- signals
 
@@ -122,124 +62,314 @@ no_driver netlist k w h i (Some n) e =
     let both : false ≡ true = sym input ∙ ap (λ (port : PortLine). port.output) same ∙ output in
     absurd (false≢true both)
 
-input_net_at : (netlist : Netlist) (k w : ℕ) → IsWellMade netlist → IsInputPort netlist.ports k w → port_net netlist k ≡ input_net netlist.ports k
-input_net_at netlist k w h i = ap (λ (o : Option ℕ). unwrap_or o (input_net netlist.ports k)) (no_driver netlist k w h i (driver_of netlist k) refl)
-
--- an output and the input that drives it have one net
-one_net : (netlist : Netlist) (j k : ℕ) → IsWellMade netlist → AreOpposite netlist.ports j k → driver_of netlist j ≡ Some (input_net netlist.ports k) → port_net netlist j ≡ port_net netlist k
-one_net netlist j k h o e = ap (λ (d : Option ℕ). unwrap_or d (input_net netlist.ports j)) e ∙ sym (input_net_at netlist k o.width h o.is_input)
-
--- both ports of a role have one net
-role_net : (system : SystemTable) (number : ℕ) (connection : Connection) (at : IsStreamPlace system number connection) (netlist : Netlist) (low k : ℕ) → IsJoinedIn system number connection at netlist low
-    → k < length (roles_at at) → port_net netlist (first_port system number + length (roles_at at) + k) ≡ port_net netlist (first_port system number + k)
-role_net system number connection at netlist low k j below =
-    let ports : AreStreamPorts netlist.ports (first_port system number) (length (roles_at at)) =
-    subst (λ (ps : List PortLine). AreStreamPorts ps (first_port system number) (length (roles_at at))) (sym j.ports) (stream_ports_are system number _ _ _ _ (block_of system number connection at j.alike)) in
-    by_place k below ports
-  where
-    by_place : (k : ℕ) → k < length (roles_at at) → AreStreamPorts netlist.ports (first_port system number) (length (roles_at at))
-        → port_net netlist (first_port system number + length (roles_at at) + k) ≡ port_net netlist (first_port system number + k)
-    by_place zero below ports =
-        let n : first_port system number + 0 ≡ first_port system number = omega arith in
-        let m : first_port system number + length (roles_at at) + 0 ≡ first_port system number + length (roles_at at) = omega arith in
-        ap (port_net netlist) m ∙ sym (one_net netlist _ _ j.well_made ports.ready j.joined.ends.ready) ∙ ap (port_net netlist) (sym n)
-    by_place (suc k) below ports = one_net netlist _ _ j.well_made (ports.forward (suc k) (omega arith) below) (j.joined.ends.forward (suc k) (omega arith) below)
-
--- the signal at a port that is found at a place
+-- what is shown at the port of this number
 abbrev shown : Netlist → Run → Option ℕ → Option (ℕ → ℕ)
-shown netlist run place = option_map (λ k. λ c. port_value netlist run c k) place
+shown netlist run port = option_map (λ k. λ c. port_value netlist run c k) port
 
-sink_words : (system : SystemTable) (number : ℕ) (connection : Connection) (at : IsStreamPlace system number connection) (word : List ℕ) → AreAlike (declared_source at.source_port) (declared_sink at.sink_port)
-    → bytes_eq (codes "dropped") word ≡ false → (Among word (map word_of (roles_at at)) → ⊥) → Among word (map word_of (role_ports (Sink at.sink_port))) → ⊥
-sink_words system number connection at word alike other none a =
-    let are : role_ports (Sink at.sink_port) ≡ roles_at at ++ port_of role.Dropped 1 ∷ [] =
-    sink_ports-are at.sink_port ∙ ap (λ (ports : List RolePort). filter has_bits ports ++ port_of role.Dropped 1 ∷ []) (alike_ports (declared_source at.source_port) (declared_sink at.sink_port) alike) in
-    let words = ap (map word_of) are ∙ map-append word_of (roles_at at) (port_of role.Dropped 1 ∷ []) in
-    elim (among_append (map word_of (roles_at at)) (codes "dropped" ∷ []) word (subst (Among word) words a)) [
-      | inl there ↦ none there
-      | inr last ↦ elim last [
-        | inl same ↦ (let yes = (bytes_eq-Decides (codes "dropped") word).1 same in let both : false ≡ true = sym other ∙ yes in false≢true both)
-        | inr nothing ↦ nothing
-      ]
-    ]
+shown_at : (system : SystemTable) (netlist : Netlist) (run : Run) (end : EndId) (r : Role) → netlist.ports ≡ ports_of system
+    → signal netlist run (port_name (name_at system end) (role_word r)) ≡ shown netlist run (port_at system end r)
+shown_at system netlist run end r e = ap (λ (ports : List PortLine). shown netlist run (port_named ports (port_name (name_at system end) (role_word r)))) e
 
-source_end : (system : SystemTable) (number : ℕ) (connection : Connection) (at : IsStreamPlace system number connection) → IsEnd system connection.start (Source at.source_port)
-source_end system number connection at = subst (IsEnd system connection.start) (sym (known_is system connection.start at.source.known at.source.is) ∙ at.source_is) at.source.is
+output_shown : (ports : List PortLine) (netlist : Netlist) (run : Run) (present : Bool) (width : ℕ) (net : NetValue) (o : Option ℕ) → nat_lt 0 width ≡ present → IsPortIf ports true width o
+    → IfSome o (λ k. driver_of netlist k ≡ Some net.number) → shown netlist run o ≡ signal_where present run net
+output_shown ports netlist run present width net None e none driven =
+    let is : false ≡ present = ap (nat_lt 0) (sym none) ∙ e in
+    ap (λ (b : Bool). signal_where b run net) is
+output_shown ports netlist run present width net (Some k) e p driven =
+    let is : true ≡ present = sym ((Decides-ltb 0 width).1 p.some) ∙ e in
+    let at : port_net netlist k ≡ net.number = ap (λ (d : Option ℕ). unwrap_or d (input_net netlist.ports k)) driven in
+    ap (λ (n : ℕ). Some (λ (c : ℕ). run.net c n)) at ∙ ap (λ (b : Bool). signal_where b run net) is
 
-sink_end : (system : SystemTable) (number : ℕ) (connection : Connection) (at : IsStreamPlace system number connection) → IsEnd system connection.end (Sink at.sink_port)
-sink_end system number connection at = subst (IsEnd system connection.end) (sym (known_is system connection.end at.sink.known at.sink.is) ∙ at.sink_is) at.sink.is
+input_shown : (ports : List PortLine) (netlist : Netlist) (run : Run) (width : ℕ) (net : Option NetValue) (o : Option ℕ) → IsWellMade netlist → netlist.ports ≡ ports → IsPortIf ports false width o
+    → net ≡ option_map (λ (k : ℕ). net_of (input_net ports k) width) o → shown netlist run o ≡ signal_of run net
+input_shown ports netlist run width net None h e none is = ap (signal_of run) (sym is)
+input_shown ports netlist run width net (Some k) h e p is =
+    let input : IsInputPort netlist.ports k width = subst (λ (ps : List PortLine). IsInputPort ps k width) (sym e) (record { port = p.port; is = p.is; input = p.output_is; width = p.width_is }) in
+    let none = no_driver netlist k width h input (driver_of netlist k) refl in
+    let at : port_net netlist k ≡ input_net ports k = ap (λ (d : Option ℕ). unwrap_or d (input_net netlist.ports k)) none ∙ ap (λ (ps : List PortLine). input_net ps k) e in
+    ap (λ (n : ℕ). Some (λ (c : ℕ). run.net c n)) at ∙ ap (signal_of run) (sym is)
 
--- at the ports of a role both ends show the same
-one_signal : (system : SystemTable) (number : ℕ) (connection : Connection) (at : IsStreamPlace system number connection) (netlist : Netlist) (low : ℕ) (run : Run) (word : List ℕ)
-    → IsJoinedIn system number connection at netlist low → bytes_eq (codes "dropped") word ≡ false
-    → signal netlist run (port_name (name_at system connection.end) word) ≡ signal netlist run (port_name (name_at system connection.start) word)
-one_signal system number connection at netlist low run word j other =
-    elim (find_role word (roles_at at)) [
-      | inl found ↦ (let block = block_of system number connection at j.alike in
-          let from = port_found system netlist _ (port_line (name_at system connection.start) true found.port) j.well_made j.ports (block.from_at found.place found.port found.is) in
-          let to = port_found system netlist _ (port_line (name_at system connection.end) false found.port) j.well_made j.ports (block.to_at found.place found.port found.is) in
-          let net = role_net system number connection at netlist low found.place j (slice_get_within (roles_at at) found.place found.port found.is) in
-          let from_word = ap (λ (w : List ℕ). port_named netlist.ports (port_name (name_at system connection.start) w)) (sym found.named) ∙ from in
-          let to_word = ap (λ (w : List ℕ). port_named netlist.ports (port_name (name_at system connection.end) w)) (sym found.named) ∙ to in
-          ap (shown netlist run) to_word ∙ ap (λ (n : ℕ). Some (λ (c : ℕ). run.net c n)) net ∙ sym (ap (shown netlist run) from_word))
-      | inr none ↦ (let from = absent system connection.start (Source at.source_port) word j.planned (source_end system number connection at) none in
-          let to = absent system connection.end (Sink at.sink_port) word j.planned (sink_end system number connection at) (sink_words system number connection at word j.alike other none) in
-          let from_here = ap (λ (ports : List PortLine). port_named ports (port_name (name_at system connection.start) word)) j.ports ∙ from in
-          let to_here = ap (λ (ports : List PortLine). port_named ports (port_name (name_at system connection.end) word)) j.ports ∙ to in
-          ap (shown netlist run) to_here ∙ sym (ap (shown netlist run) from_here))
-    ]
+bits_lt : (b : Bool) → nat_lt 0 (bits_if b 1) ≡ b
+bits_lt true = refl
+bits_lt false = refl
 
-signals_of : Option (ℕ → ℕ) → Option (ℕ → ℕ) → Option (ℕ → ℕ) → Option (ℕ → ℕ) → Option (ℕ → ℕ) → Option (ℕ → ℕ) → Option (ℕ → ℕ) → Option (ℕ → ℕ) → Signals
-signals_of ready valid word channel error startofpacket endofpacket empty =
-    record { ready = ready; valid = valid; word = word; channel = channel; error = error; startofpacket = startofpacket; endofpacket = endofpacket; empty = empty }
+-- what stands at an output of a stream, and what at an input
+out : (system : SystemTable) (number : ℕ) (connection : Connection) (netlist : Netlist) (run : Run) (n : ℕ) (r : Role) (end : EndId) (present : Bool) (j : IsJoinedIn system number connection netlist)
+    → n < 9 → slice_get output_roles n ≡ Some r → output_at system connection r ≡ port_at system end r → nat_lt 0 (output_width (declared_source j.at.source_port) (declared_sink j.at.sink_port) r) ≡ present
+    → signal netlist run (port_name (name_at system end) (role_word r)) ≡ signal_where present run (net_for j.joined.made r)
+out system number connection netlist run n r end present j below e is there =
+    shown_at system netlist run end r j.ports
+    ∙ ap (shown netlist run) (sym is)
+    ∙ output_shown (ports_of system) netlist run present (output_width (declared_source j.at.source_port) (declared_sink j.at.sink_port) r) (net_for j.joined.made r) (output_at system connection r) there
+    (outputs_are system number connection j.planned j.at n r e) (j.joined.driven n r below e)
 
-signals_are : (netlist : Netlist) (run : Run) (name : EndName) → end_signals netlist run name
-    ≡ signals_of (signal netlist run (port_name name (codes "ready"))) (signal netlist run (port_name name (codes "valid"))) (signal netlist run (port_name name (codes "data")))
-    (signal netlist run (port_name name (codes "channel"))) (signal netlist run (port_name name (codes "error"))) (signal netlist run (port_name name (codes "startofpacket")))
-    (signal netlist run (port_name name (codes "endofpacket"))) (signal netlist run (port_name name (codes "empty")))
-unfolding signals_of
-signals_are netlist run name = refl
+inp : (system : SystemTable) (number : ℕ) (connection : Connection) (netlist : Netlist) (run : Run) (end : EndId) (p : RolePort) (net : Option NetValue) (j : IsJoinedIn system number connection netlist)
+    → IsPortIf (ports_of system) false p.width (port_at system end p.role) → net ≡ input_at system end p.role p.width
+    → signal netlist run (port_name (name_at system end) (role_word p.role)) ≡ signal_of run net
+inp system number connection netlist run end p net j port is =
+    shown_at system netlist run end p.role j.ports ∙ input_shown (ports_of system) netlist run p.width net (port_at system end p.role) j.well_made j.ports port is
 
-signals_joined : (system : SystemTable) (number : ℕ) (connection : Connection) (at : IsStreamPlace system number connection) (netlist : Netlist) (low : ℕ) (run : Run)
-    → IsJoinedIn system number connection at netlist low → end_signals netlist run (name_at system connection.end) ≡ end_signals netlist run (name_at system connection.start)
-signals_joined system number connection at netlist low run j =
-    let a = one_signal system number connection at netlist low run (codes "ready") j refl in
-    let b = one_signal system number connection at netlist low run (codes "valid") j refl in
-    let c = one_signal system number connection at netlist low run (codes "data") j refl in
-    let d = one_signal system number connection at netlist low run (codes "channel") j refl in
-    let e = one_signal system number connection at netlist low run (codes "error") j refl in
-    let f = one_signal system number connection at netlist low run (codes "startofpacket") j refl in
-    let g = one_signal system number connection at netlist low run (codes "endofpacket") j refl in
-    let h = one_signal system number connection at netlist low run (codes "empty") j refl in
-    signals_are netlist run (name_at system connection.end)
-    ∙ eight a b c d e f g h
-    ∙ sym (signals_are netlist run (name_at system connection.start))
+-- an input of a source
+source_input : (system : SystemTable) (number : ℕ) (connection : Connection) (netlist : Netlist) (run : Run) (p : RolePort) (net : Option NetValue) (j : IsJoinedIn system number connection netlist)
+    → Among p (stream_ports (declared_source j.at.source_port)) → is_output true p.role ≡ false → net ≡ input_at system connection.start p.role p.width
+    → signal netlist run (port_name (name_at system connection.start) (role_word p.role)) ≡ signal_of run net
+source_input system number connection netlist run p net j may way is =
+    inp system number connection netlist run connection.start p net j
+    (subst (λ (b : Bool). IsPortIf (ports_of system) b p.width (port_at system connection.start p.role)) way
+    (port_known system connection.start (Source j.at.source_port) p j.planned (start_among system number connection j.at) j.at.source_is may)) is
+
+packet_width : (system : SystemTable) (end : EndId) (r : Role) (packets : Bool) (net : Option NetValue) → IsPortIf (ports_of system) false (bits_if packets 1) (port_at system end r) → net ≡ input_at system end r 1
+    → net ≡ input_at system end r (bits_if packets 1)
+packet_width system end r true net port is = is
+packet_width system end r false net port is = is ∙ by_port (port_at system end r) port
   where
-    eight : {a b c d e f g h i j k l m n o p : Option (ℕ → ℕ)} → a ≡ i → b ≡ j → c ≡ k → d ≡ l → e ≡ m → f ≡ n → g ≡ o → h ≡ p → signals_of a b c d e f g h ≡ signals_of i j k l m n o p
-    eight q r s t u v w x = cc
+    by_port : (o : Option ℕ) → IsPortIf (ports_of system) false 0 o → option_map (λ (k : ℕ). net_of (input_net (ports_of system) k) 1) o ≡ option_map (λ (k : ℕ). net_of (input_net (ports_of system) k) 0) o
+    by_port None e = refl
+    by_port (Some k) p = (let some = p.some in absurd (omega (arith, some)))
 
--- what the law of wires says
-abbrev pub WiresAreServed : Type 0
-WiresAreServed =
-    (source sink : Declared) (from to : Signals) (dropped : ℕ → ℕ) (count : ℕ) → AreAlike source sink → 0 < source.symbols → IsWireRun from to dropped count
-    → IsLegalSource (side_of source) (view_of from) count → IsServed (stream_of source sink 0) (run_of from to dropped) count
+source_port_of : (system : SystemTable) (number : ℕ) (connection : Connection) (netlist : Netlist) (p : RolePort) (j : IsJoinedIn system number connection netlist)
+    → Among p (stream_ports (declared_source j.at.source_port)) → is_output true p.role ≡ false → IsPortIf (ports_of system) false p.width (port_at system connection.start p.role)
+source_port_of system number connection netlist p j may way =
+    subst (λ (b : Bool). IsPortIf (ports_of system) b p.width (port_at system connection.start p.role)) way
+    (port_known system connection.start (Source j.at.source_port) p j.planned (start_among system number connection j.at) j.at.source_is may)
 
-low_dropped : (system : SystemTable) (number : ℕ) (connection : Connection) (at : IsStreamPlace system number connection) (netlist : Netlist) (low : ℕ) (run : Run) (cycles c : ℕ)
-    → IsJoinedIn system number connection at netlist low → IsRun netlist run cycles → c < cycles → dropped_signal netlist run (name_at system connection.end) c ≡ 0
-low_dropped system number connection at netlist low run cycles c j is_run below =
-    let found = dropped_found system number connection at netlist low j in
-    let place = first_port system number + length (roles_at at) + length (roles_at at) in
-    let net : port_net netlist place ≡ low = ap (λ (d : Option ℕ). unwrap_or d (input_net netlist.ports place)) j.joined.dropped in
-    let value : run.net c low ≡ 0 = ((is_run.valuations c below).nets low low_line j.joined.is_low).value in
-    ap (λ (o : Option ℕ). signal_or 0 (shown netlist run o) c) found ∙ ap (λ (n : ℕ). run.net c n) net ∙ value
+source_shown : (system : SystemTable) (number : ℕ) (connection : Connection) (netlist : Netlist) (run : Run) (j : IsJoinedIn system number connection netlist)
+    → end_signals netlist run (name_at system connection.start) ≡ source_signals (declared_source j.at.source_port) j.joined.from j.joined.made run
+source_shown system number connection netlist run j =
+    let declared = declared_source j.at.source_port in
+    let input = source_input system number connection netlist run in
+    let packets = source_port_of system number connection netlist in
+    same_signals _ _
+    (out system number connection netlist run 0 role.Ready connection.start declared.ready j (omega arith) refl refl (bits_lt declared.ready))
+    (input (port_of role.Valid 1) (Some j.joined.from.valid) j (inr (inl refl)) refl (sym j.joined.from_are.valid))
+    (input (port_of role.Data (declared.symbols * declared.symbol_bits)) (Some j.joined.from.word) j (inr (inr (inl refl))) refl (sym j.joined.from_are.word))
+    (input (port_of role.Channel declared.channel_bits) j.joined.from.channel j (inr (inr (inr (inl refl)))) refl j.joined.from_are.channel)
+    (input (port_of role.Error declared.error_bits) j.joined.from.error j (inr (inr (inr (inr (inl refl))))) refl j.joined.from_are.error)
+    (input (port_of role.StartOfPacket (bits_if declared.packets 1)) j.joined.from.startofpacket j (inr (inr (inr (inr (inr (inl refl)))))) refl
+    (packet_width system connection.start role.StartOfPacket declared.packets j.joined.from.startofpacket
+    (packets (port_of role.StartOfPacket (bits_if declared.packets 1)) j (inr (inr (inr (inr (inr (inl refl)))))) refl) j.joined.from_are.startofpacket))
+    (input (port_of role.EndOfPacket (bits_if declared.packets 1)) j.joined.from.endofpacket j (inr (inr (inr (inr (inr (inr (inl refl))))))) refl
+    (packet_width system connection.start role.EndOfPacket declared.packets j.joined.from.endofpacket
+    (packets (port_of role.EndOfPacket (bits_if declared.packets 1)) j (inr (inr (inr (inr (inr (inr (inl refl))))))) refl) j.joined.from_are.endofpacket))
+    (input (port_of role.Empty declared.empty_bits) j.joined.from.empty j (inr (inr (inr (inr (inr (inr (inr (inl refl)))))))) refl j.joined.from_are.empty)
 
-pub is_served : (system : SystemTable) (number : ℕ) (connection : Connection) (at : IsStreamPlace system number connection) (netlist : Netlist) (low : ℕ) → WiresAreServed
-    → ((source : SourcePort) → IsProper (Source source) → IsBoundedSource source) → IsJoinedIn system number connection at netlist low
-    → ServesStream netlist (name_at system connection.start) (name_at system connection.end) (declared_source at.source_port) (declared_sink at.sink_port) connection.fifo
-is_served system number connection at netlist low law bounded j run cycles is_run legal =
-    let proper = known_proper system connection.start (Source at.source_port) at.source (source_end system number connection at) in
-    let served = law (declared_source at.source_port) (declared_sink at.sink_port) (end_signals netlist run (name_at system connection.start)) (end_signals netlist run (name_at system connection.end))
-    (dropped_signal netlist run (name_at system connection.end)) cycles j.alike (bounded at.source_port proper).some
-    (record { joined = signals_joined system number connection at netlist low run j; drops_none = λ c below. low_dropped system number connection at netlist low run cycles c j is_run below }) legal in
-    subst (λ (fifo : ℕ). IsServed (stream_of (declared_source at.source_port) (declared_sink at.sink_port) fifo)
-    (run_of (end_signals netlist run (name_at system connection.start)) (end_signals netlist run (name_at system connection.end)) (dropped_signal netlist run (name_at system connection.end))) cycles) (sym j.no_queue) served
+sink_ready_port : (system : SystemTable) (number : ℕ) (connection : Connection) (netlist : Netlist) (j : IsJoinedIn system number connection netlist)
+    → IsPortIf (ports_of system) false (bits_if (declared_sink j.at.sink_port).ready 1) (port_at system connection.end role.Ready)
+sink_ready_port system number connection netlist j =
+    port_known system connection.end (Sink j.at.sink_port) (port_of role.Ready (bits_if (declared_sink j.at.sink_port).ready 1)) j.planned (finish_among system number connection j.at) j.at.sink_is (inl refl)
+
+sink_shown : (system : SystemTable) (number : ℕ) (connection : Connection) (netlist : Netlist) (run : Run) (j : IsJoinedIn system number connection netlist)
+    → end_signals netlist run (name_at system connection.end) ≡ sink_signals (declared_sink j.at.sink_port) j.joined.ready j.joined.made run
+sink_shown system number connection netlist run j =
+    let declared = declared_sink j.at.sink_port in
+    let output = out system number connection netlist run in
+    same_signals _ _
+    (inp system number connection netlist run connection.end (port_of role.Ready (bits_if declared.ready 1)) j.joined.ready j (sink_ready_port system number connection netlist j)
+    (packet_width system connection.end role.Ready declared.ready j.joined.ready (sink_ready_port system number connection netlist j) j.joined.ready_is))
+    (output 1 role.Valid connection.end true j (omega arith) refl refl refl)
+    (output 2 role.Data connection.end true j (omega arith) refl refl ((Decides-ltb 0 (declared.symbols * declared.symbol_bits)).1 j.some_bits))
+    (output 3 role.Channel connection.end (nat_lt 0 declared.channel_bits) j (omega arith) refl refl refl)
+    (output 4 role.Error connection.end (nat_lt 0 declared.error_bits) j (omega arith) refl refl refl)
+    (output 5 role.StartOfPacket connection.end declared.packets j (omega arith) refl refl (bits_lt declared.packets))
+    (output 6 role.EndOfPacket connection.end declared.packets j (omega arith) refl refl (bits_lt declared.packets))
+    (output 7 role.Empty connection.end (nat_lt 0 declared.empty_bits) j (omega arith) refl refl refl)
+
+-- ---- the stream is served
+
+dropped_shown : (system : SystemTable) (number : ℕ) (connection : Connection) (netlist : Netlist) (run : Run) (j : IsJoinedIn system number connection netlist)
+    → dropped_signal netlist run (name_at system connection.end) ≡ signal_on run j.joined.made.dropped
+dropped_shown system number connection netlist run j =
+    ap (λ (o : Option (ℕ → ℕ)). signal_or 0 o) (out system number connection netlist run 8 role.Dropped connection.end true j (omega arith) refl refl refl)
+
+pub is_served : (system : SystemTable) (number : ℕ) (connection : Connection) (netlist : Netlist) (j : IsJoinedIn system number connection netlist)
+    → ServesStream netlist (name_at system connection.start) (name_at system connection.end) (declared_source j.at.source_port) (declared_sink j.at.sink_port) connection.fifo
+is_served system number connection netlist j run cycles is_run legal =
+    let source = declared_source j.at.source_port in
+    let sink = declared_sink j.at.sink_port in
+    let from = source_shown system number connection netlist run j in
+    let to = sink_shown system number connection netlist run j in
+    let dropped = dropped_shown system number connection netlist run j in
+    let served = j.joined.serves netlist (extends-refl netlist) run cycles is_run (subst (λ (s : Signals). IsLegalSource (side_of source) (view_of s) cycles) from legal) in
+    subst (λ (d : ℕ → ℕ). IsServed (stream_of source sink connection.fifo) (run_of (end_signals netlist run (name_at system connection.start)) (end_signals netlist run (name_at system connection.end)) d) cycles) (sym dropped)
+    (subst (λ (s : Signals). IsServed (stream_of source sink connection.fifo) (run_of (end_signals netlist run (name_at system connection.start)) s (signal_on run j.joined.made.dropped)) cycles) (sym to)
+    (subst (λ (s : Signals). IsServed (stream_of source sink connection.fifo) (run_of s (sink_signals sink j.joined.ready j.joined.made run) (signal_on run j.joined.made.dropped)) cycles) (sym from) served))
+
+-- ---- a wire
+
+-- the output of one name is driven by the input of another
+driven_by : (ports : List PortLine) (netlist : Netlist) (output input : List ℕ) (o i : Option ℕ) (width : ℕ) (net : NetValue) → netlist.ports ≡ ports → port_named ports output ≡ o → port_named ports input ≡ i
+    → IsPortIf ports true width o → IsPortIf ports false width i → 0 < width → IfSome o (λ k. driver_of netlist k ≡ Some net.number) → IfSome i (λ k. net.number ≡ input_net ports k)
+    → IsDrivenBy netlist output input
+driven_by ports netlist output input None i width net e f g p q some driver is = absurd (omega (arith, p, some))
+driven_by ports netlist output input (Some k) None width net e f g p q some driver is = absurd (omega (arith, q, some))
+driven_by ports netlist output input (Some k) (Some l) width net e f g p q some driver is =
+    record {
+      output_port = k;
+      input_port = l;
+      output_is = ap (λ (ps : List PortLine). port_named ps output) e ∙ f;
+      input_is = ap (λ (ps : List PortLine). port_named ps input) e ∙ g;
+      driver = driver ∙ ap Some is ∙ ap (λ (ps : List PortLine). Some (input_net ps l)) (sym e);
+    }
+
+-- the net of an input is the one of its port
+net_is : (ports : List PortLine) (width : ℕ) (o : Option ℕ) (net : Option NetValue) (low : NetValue) → net ≡ option_map (λ (k : ℕ). net_of (input_net ports k) width) o → IfSome o (λ k. (unwrap_or net low).number ≡ input_net ports k)
+net_is ports width None net low e = tt
+net_is ports width (Some k) net low e = ap (λ (o : Option NetValue). (unwrap_or o low).number) e
+
+-- a wire in a finished netlist
+record IsWireIn (system : SystemTable) (number : ℕ) (connection : Connection) (netlist : Netlist) (low : NetValue) : Type 0 where
+  joined : IsJoinedIn system number connection netlist
+  wire : IsWire (declared_source joined.at.source_port) (declared_sink joined.at.sink_port) connection.fifo
+  made : joined.joined.made ≡ wire_nets joined.joined.from joined.joined.ready low
+
+-- what holds of each port of an end of a stream
+each_port : (P : RolePort → Type 0) (d : Declared) → P (port_of role.Ready (bits_if d.ready 1)) → P (port_of role.Valid 1) → P (port_of role.Data (d.symbols * d.symbol_bits)) → P (port_of role.Channel d.channel_bits)
+    → P (port_of role.Error d.error_bits) → P (port_of role.StartOfPacket (bits_if d.packets 1)) → P (port_of role.EndOfPacket (bits_if d.packets 1)) → P (port_of role.Empty d.empty_bits)
+    → (p : RolePort) → Among p (stream_ports d) → P p
+each_port P d a b c e f g h i p (inl is) = subst P is a
+each_port P d a b c e f g h i p (inr (inl is)) = subst P is b
+each_port P d a b c e f g h i p (inr (inr (inl is))) = subst P is c
+each_port P d a b c e f g h i p (inr (inr (inr (inl is)))) = subst P is e
+each_port P d a b c e f g h i p (inr (inr (inr (inr (inl is))))) = subst P is f
+each_port P d a b c e f g h i p (inr (inr (inr (inr (inr (inl is)))))) = subst P is g
+each_port P d a b c e f g h i p (inr (inr (inr (inr (inr (inr (inl is))))))) = subst P is h
+each_port P d a b c e f g h i p (inr (inr (inr (inr (inr (inr (inr (inl is)))))))) = subst P is i
+each_port P d a b c e f g h i p (inr (inr (inr (inr (inr (inr (inr (inr none)))))))) = absurd none
+
+-- a signal that goes forward
+forward_joined : (system : SystemTable) (number : ℕ) (connection : Connection) (netlist : Netlist) (low : NetValue) (n width : ℕ) (r : Role) (net : Option NetValue) (w : IsWireIn system number connection netlist low)
+    → n < 9 → slice_get output_roles n ≡ Some r → is_forward r ≡ true → Among (port_of r width) (stream_ports (declared_source w.joined.at.source_port))
+    → output_width (declared_source w.joined.at.source_port) (declared_sink w.joined.at.sink_port) r ≡ width → net ≡ input_at system connection.start r width
+    → net_for w.joined.joined.made r ≡ unwrap_or net low → 0 < width → IsDrivenBy netlist (port_name (name_at system connection.end) (role_word r)) (port_name (name_at system connection.start) (role_word r))
+forward_joined system number connection netlist low n width r net w below e forward may same is made some =
+    let j = w.joined in
+    let here : output_at system connection r ≡ port_at system connection.end r = ap (λ (b : Bool). port_at system (if b then connection.end else connection.start) r) forward in
+    let input : is_output true r ≡ false = ap not forward in
+    driven_by (ports_of system) netlist _ _ (output_at system connection r) (port_at system connection.start r) width (net_for j.joined.made r) j.ports (sym here) refl
+    (subst (λ (n : ℕ). IsPortIf (ports_of system) true n (output_at system connection r)) same (outputs_are system number connection j.planned j.at n r e))
+    (subst (λ (b : Bool). IsPortIf (ports_of system) b width (port_at system connection.start r)) input
+    (port_known system connection.start (Source j.at.source_port) (port_of r width) j.planned (start_among system number connection j.at) j.at.source_is may))
+    some (j.joined.driven n r below e)
+    (subst (λ (x : NetValue). IfSome (port_at system connection.start r) (λ k. x.number ≡ input_net (ports_of system) k)) (sym made) (net_is (ports_of system) width (port_at system connection.start r) net low is))
+
+-- and `ready`
+ready_joined : (system : SystemTable) (number : ℕ) (connection : Connection) (netlist : Netlist) (low : NetValue) → IsWireIn system number connection netlist low
+    → IsDrivenBy netlist (port_name (name_at system connection.start) (codes "ready")) (port_name (name_at system connection.end) (codes "ready"))
+ready_joined system number connection netlist low w =
+    let j = w.joined in
+    let one : output_width (declared_source j.at.source_port) (declared_sink j.at.sink_port) role.Ready ≡ 1 = ap (λ (b : Bool). bits_if b 1) w.wire.alike.source_ready in
+    let other : bits_if (declared_sink j.at.sink_port).ready 1 ≡ 1 = ap (λ (b : Bool). bits_if b 1) w.wire.alike.sink_ready in
+    driven_by (ports_of system) netlist _ _ (output_at system connection role.Ready) (port_at system connection.end role.Ready) 1 (net_for j.joined.made role.Ready) j.ports refl refl
+    (subst (λ (n : ℕ). IsPortIf (ports_of system) true n (output_at system connection role.Ready)) one (outputs_are system number connection j.planned j.at 0 role.Ready refl))
+    (subst (λ (n : ℕ). IsPortIf (ports_of system) false n (port_at system connection.end role.Ready)) other (sink_ready_port system number connection netlist j))
+    (omega arith) (j.joined.driven 0 role.Ready (omega arith) refl)
+    (subst (λ (m : PathNets). IfSome (port_at system connection.end role.Ready) (λ k. (net_for m role.Ready).number ≡ input_net (ports_of system) k)) (sym w.made)
+    (net_is (ports_of system) 1 (port_at system connection.end role.Ready) j.joined.ready low j.joined.ready_is))
+
+port_joined : (system : SystemTable) (number : ℕ) (connection : Connection) (netlist : Netlist) (low : NetValue) (w : IsWireIn system number connection netlist low) (p : RolePort)
+    → Among p (stream_ports (declared_source w.joined.at.source_port)) → 0 < p.width → IsJoined netlist (name_at system connection.start) (name_at system connection.end) p.role
+port_joined system number connection netlist low w =
+    let j = w.joined in
+    let d = declared_source j.at.source_port in
+    let alike = w.wire.alike in
+    let bits : (declared_sink j.at.sink_port).symbols * (declared_sink j.at.sink_port).symbol_bits ≡ d.symbols * d.symbol_bits = (let a = alike.symbols in let b = alike.symbol_bits in cc) in
+    let forward = forward_joined system number connection netlist low in
+    let packets = source_port_of system number connection netlist in
+    each_port (λ p. 0 < p.width → IsJoined netlist (name_at system connection.start) (name_at system connection.end) p.role) d
+    (λ some. ready_joined system number connection netlist low w)
+    (forward 1 1 role.Valid (Some j.joined.from.valid) w (omega arith) refl refl (inr (inl refl)) refl (sym j.joined.from_are.valid) (ap (λ (m : PathNets). m.beat.valid) w.made))
+    (forward 2 (d.symbols * d.symbol_bits) role.Data (Some j.joined.from.word) w (omega arith) refl refl (inr (inr (inl refl))) bits (sym j.joined.from_are.word) (ap (λ (m : PathNets). m.beat.word) w.made))
+    (forward 3 d.channel_bits role.Channel j.joined.from.channel w (omega arith) refl refl (inr (inr (inr (inl refl)))) (sym alike.channel_bits) j.joined.from_are.channel (ap (λ (m : PathNets). m.beat.channel) w.made))
+    (forward 4 d.error_bits role.Error j.joined.from.error w (omega arith) refl refl (inr (inr (inr (inr (inl refl))))) (sym alike.error_bits) j.joined.from_are.error (ap (λ (m : PathNets). m.beat.error) w.made))
+    (forward 5 (bits_if d.packets 1) role.StartOfPacket j.joined.from.startofpacket w (omega arith) refl refl (inr (inr (inr (inr (inr (inl refl)))))) (ap (λ (b : Bool). bits_if b 1) (sym alike.packets))
+    (packet_width system connection.start role.StartOfPacket d.packets j.joined.from.startofpacket
+    (packets (port_of role.StartOfPacket (bits_if d.packets 1)) j (inr (inr (inr (inr (inr (inl refl)))))) refl) j.joined.from_are.startofpacket) (ap (λ (m : PathNets). m.beat.first) w.made))
+    (forward 6 (bits_if d.packets 1) role.EndOfPacket j.joined.from.endofpacket w (omega arith) refl refl (inr (inr (inr (inr (inr (inr (inl refl))))))) (ap (λ (b : Bool). bits_if b 1) (sym alike.packets))
+    (packet_width system connection.start role.EndOfPacket d.packets j.joined.from.endofpacket
+    (packets (port_of role.EndOfPacket (bits_if d.packets 1)) j (inr (inr (inr (inr (inr (inr (inl refl))))))) refl) j.joined.from_are.endofpacket) (ap (λ (m : PathNets). m.beat.last) w.made))
+    (forward 7 d.empty_bits role.Empty j.joined.from.empty w (omega arith) refl refl (inr (inr (inr (inr (inr (inr (inr (inl refl)))))))) (sym alike.empty_bits) j.joined.from_are.empty (ap (λ (m : PathNets). m.beat.empty) w.made))
+
+-- `dropped` stands there and is driven
+record IsDroppedBy (netlist : Netlist) (ports : List PortLine) (name : List ℕ) (net : NetValue) : Type 0 where
+  port : ℕ
+  is : port_named ports name ≡ Some port
+  driver : driver_of netlist port ≡ Some net.number
+
+dropped_there : (netlist : Netlist) (ports : List PortLine) (name : List ℕ) (net : NetValue) (o : Option ℕ) → port_named ports name ≡ o → IsPortIf ports true 1 o → IfSome o (λ k. driver_of netlist k ≡ Some net.number)
+    → IsDroppedBy netlist ports name net
+dropped_there netlist ports name net None e p driver = absurd (omega (arith, p))
+dropped_there netlist ports name net (Some k) e p driver = record { port = k; is = e; driver = driver }
+
+-- the low net of a stream that is a wire
+low_of_wire : (system : SystemTable) (number place : ℕ) (connection : Connection) (source : SourcePort) (sink : SinkPort) → slice_get system.connections place ≡ Some connection
+    → known_at system connection.start ≡ Source source → known_at system connection.end ≡ Sink sink → is_wire_stream (declared_source source) (declared_sink sink) connection.fifo ≡ true
+    → low_at system number place ≡ Some (net_of (input_count (ports_of system) + wires_before system number) 1)
+low_of_wire system number place connection source sink is e f wire =
+    let known : is_wire_as connection.fifo (known_at system connection.start) (known_at system connection.end) ≡ true =
+    ap (λ (a : Finished). is_wire_as connection.fifo a (known_at system connection.end)) e ∙ ap (is_wire_as connection.fifo (Source source)) f ∙ wire in
+    let test : is_wire_at system place ≡ true = rw is known in
+    ap (λ (b : Bool). if b then Some (net_of (input_count (ports_of system) + wires_before system number) 1) else None) test
+
+pub is_wired : (system : SystemTable) (number : ℕ) (connection : Connection) (netlist : Netlist) (j : IsJoinedIn system number connection netlist)
+    → is_wire_stream (declared_source j.at.source_port) (declared_sink j.at.sink_port) connection.fifo ≡ true
+    → slice_get netlist.lines (input_count (ports_of system) + wires_before system number) ≡ Some low_line
+    → IsWired netlist (name_at system connection.start) (name_at system connection.end) (declared_source j.at.source_port) (input_count netlist.ports + wires_before system number)
+is_wired system number connection netlist j wire line =
+    let low = net_of (input_count (ports_of system) + wires_before system number) 1 in
+    let is = low_of_wire system number j.at.place connection j.at.source_port j.at.sink_port j.at.connection_is j.at.source_is j.at.sink_is wire in
+    let made = subst (λ (o : Option NetValue). IfSome o (λ net. j.joined.made ≡ wire_nets j.joined.from j.joined.ready net)) is j.joined.wire in
+    let w : IsWireIn system number connection netlist low = record { joined = j; wire = wire_is (declared_source j.at.source_port) (declared_sink j.at.sink_port) connection.fifo wire; made = made } in
+    let dropped = dropped_there netlist (ports_of system) (port_name (name_at system connection.end) (role_word role.Dropped)) (net_for j.joined.made role.Dropped) (output_at system connection role.Dropped) refl
+    (outputs_are system number connection j.planned j.at 8 role.Dropped refl) (j.joined.driven 8 role.Dropped (omega arith) refl) in
+    subst (λ (n : ℕ). IsWired netlist (name_at system connection.start) (name_at system connection.end) (declared_source j.at.source_port) (n + wires_before system number)) (ap input_count (sym j.ports))
+    (record {
+      joined = λ k port e. (let kept = among_filter has_bits (stream_ports (declared_source j.at.source_port)) port (among_at (filter has_bits (stream_ports (declared_source j.at.source_port))) k port e) in
+          port_joined system number connection netlist low w port kept.0 (ltb-true 0 port.width kept.1));
+      dropped_port = dropped.port;
+      dropped_is = ap (λ (ps : List PortLine). port_named ps (port_name (name_at system connection.end) (codes "dropped"))) j.ports ∙ dropped.is;
+      dropped = dropped.driver ∙ ap (λ (m : PathNets). Some m.dropped.number) made;
+      is_low = line;
+    })
+
+-- ---- each output is driven
+
+driven_some : (netlist : Netlist) (k : ℕ) (o : Option ℕ) (net : NetValue) → o ≡ Some k → IfSome o (λ k. driver_of netlist k ≡ Some net.number) → IsSome (driver_of netlist k)
+driven_some netlist k o net e driven =
+    let is : driver_of netlist k ≡ Some net.number = subst (λ (o : Option ℕ). IfSome o (λ k. driver_of netlist k ≡ Some net.number)) e driven in
+    subst IsSome (sym is) refl
+
+output_driven : (system : SystemTable) (number : ℕ) (connection : Connection) (netlist : Netlist) (k n : ℕ) (r : Role) → IsJoinedIn system number connection netlist → n < 9 → slice_get output_roles n ≡ Some r
+    → output_at system connection r ≡ Some k → IsSome (driver_of netlist k)
+output_driven system number connection netlist k n r j below e is = driven_some netlist k (output_at system connection r) (net_for j.joined.made r) is (j.joined.driven n r below e)
+
+no_input : (b : Bool) {P : Type 0} → b ≡ true → b ≡ false → P
+no_input b e f = absurd (let both : false ≡ true = sym f ∙ e in false≢true both)
+
+pub source_driven : (system : SystemTable) (number : ℕ) (connection : Connection) (netlist : Netlist) (k : ℕ) (j : IsJoinedIn system number connection netlist) (p : RolePort)
+    → Among p (stream_ports (declared_source j.at.source_port)) → is_output true p.role ≡ true → port_at system connection.start p.role ≡ Some k → IsSome (driver_of netlist k)
+source_driven system number connection netlist k j =
+    each_port (λ p. is_output true p.role ≡ true → port_at system connection.start p.role ≡ Some k → IsSome (driver_of netlist k)) (declared_source j.at.source_port)
+    (λ way is. output_driven system number connection netlist k 0 role.Ready j (omega arith) refl is)
+    (λ way is. no_input _ way refl)
+    (λ way is. no_input _ way refl)
+    (λ way is. no_input _ way refl)
+    (λ way is. no_input _ way refl)
+    (λ way is. no_input _ way refl)
+    (λ way is. no_input _ way refl)
+    (λ way is. no_input _ way refl)
+
+pub sink_driven : (system : SystemTable) (number : ℕ) (connection : Connection) (netlist : Netlist) (k : ℕ) (j : IsJoinedIn system number connection netlist) (p : RolePort)
+    → Among p (stream_ports (declared_sink j.at.sink_port)) ⊎ (p ≡ port_of role.Dropped 1) → is_output false p.role ≡ true → port_at system connection.end p.role ≡ Some k → IsSome (driver_of netlist k)
+sink_driven system number connection netlist k j p (inl among) way at =
+    each_port (λ p. is_output false p.role ≡ true → port_at system connection.end p.role ≡ Some k → IsSome (driver_of netlist k)) (declared_sink j.at.sink_port)
+    (λ way is. no_input _ way refl)
+    (λ way is. output_driven system number connection netlist k 1 role.Valid j (omega arith) refl is)
+    (λ way is. output_driven system number connection netlist k 2 role.Data j (omega arith) refl is)
+    (λ way is. output_driven system number connection netlist k 3 role.Channel j (omega arith) refl is)
+    (λ way is. output_driven system number connection netlist k 4 role.Error j (omega arith) refl is)
+    (λ way is. output_driven system number connection netlist k 5 role.StartOfPacket j (omega arith) refl is)
+    (λ way is. output_driven system number connection netlist k 6 role.EndOfPacket j (omega arith) refl is)
+    (λ way is. output_driven system number connection netlist k 7 role.Empty j (omega arith) refl is)
+    p among way at
+sink_driven system number connection netlist k j p (inr is) way at =
+    output_driven system number connection netlist k 8 role.Dropped j (omega arith) refl (ap (λ (q : RolePort). port_at system connection.end q.role) (sym is) ∙ at)

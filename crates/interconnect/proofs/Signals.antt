@@ -1,5 +1,5 @@
 -- The ports of an end by their names, and the signals at them.
-use Rattle.std.proofs.Common.{◌≡◌, ◌≢◌, ◌⊎◌, inl, inr, ℕ, zero, suc, ◌+◌, ◌<◌, ◌≤◌, Bool, true, false, cond, List, [], ◌∷◌, ◌++◌, length, map, get_or, slice_get, Option, Some, None, codes, refl, sym, ap, subst, ◌∙◌, arith, AllPairs}
+use Rattle.std.proofs.Common.{◌≡◌, ◌≢◌, ◌⊎◌, inl, inr, ℕ, zero, suc, ◌+◌, Bool, true, false, List, [], ◌∷◌, map, get_or, slice_get, Some, None, refl, sym, ap, subst, ◌∙◌, arith, AllPairs}
 use Rattle.std.specs.List.{position_from}
 use Rattle.std.specs.Str.{bytes_eq}
 use Rattle.std.proofs.lemmas.Bool.{false_from_ne_true}
@@ -12,14 +12,13 @@ use Rattle.address_map.specs.Footprints.{known_at}
 use Rattle.netlist.specs.declared.line.PortLine.{PortLine}
 use Rattle.netlist.specs.Signals.{port_named}
 use Rattle.interconnect.specs.declared.roles.RolePort.{RolePort}
-use Rattle.interconnect.specs.Ports.{EndName, role_ports, starts, name_at, port_name, port_line, end_ports, ends_of, ports_of}
-use Rattle.interconnect.specs.Ends.{IsPlanEnd}
+use Rattle.interconnect.specs.Ports.{role_ports, starts, name_at, port_name, port_line, end_ports, ends_of, ports_of}
 use Rattle.interconnect.proofs.EndFacts.{IsPlanned, known_is}
 use Rattle.interconnect.proofs.Names.{one_name}
 use Rattle.interconnect.proofs.Words.{word_of}
 use Rattle.interconnect.proofs.Numbering.{plan_end}
 use Rattle.interconnect.proofs.Headers.{end_named, one_end}
-use Rattle.interconnect.proofs.Lists.{Among, among_at, among_map, among_flat_map, among_image}
+use Rattle.interconnect.proofs.Lists.{Among, among_map, among_flat_map, among_image}
 
 -- no two ports have one name, so each is found by its own
 found_from : (ports : List PortLine) (j k : ℕ) (port : PortLine) → AllPairs (λ (p q : PortLine). p.name ≢ q.name) ports → slice_get ports k ≡ Some port →

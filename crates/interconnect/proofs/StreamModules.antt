@@ -1,40 +1,48 @@
 -- The module of a system without hosts: how it begins, and what it is at the end.
-use Rattle.std.proofs.Common.{◌≡◌, ◌⊎◌, inl, inr, ℕ, zero, suc, ◌+◌, ◌<◌, ◌≤◌, Bool, true, false, not, cond, List, [], ◌∷◌, ◌++◌, length, map, take, slice_get, Option, Some, None, refl, sym, ap, subst, ◌∙◌, arith, append-nil}
-use Rattle.std.specs.Prelude.{if◌then◌else◌}
-use Rattle.std.specs.List.{filter, flat_map}
-use Rattle.std.proofs.lemmas.List.Sums.{sum_by-cons}
+use Rattle.std.proofs.Common.{◌≡◌, inl, inr, ℕ, zero, suc, ◌+◌, ◌*◌, ◌<◌, ◌≤◌, ◌^◌, Bool, true, false, not, cond, List, [], ◌∷◌, ◌++◌, length, map, take, slice_get, Option, Some, None, refl, sym, ap, subst, ◌∙◌, arith, append-nil, append_assoc, length-append}
+use Rattle.std.specs.Prelude.{IfSome, IsSome, if◌then◌else◌}
+use Rattle.std.specs.List.{flat_map, count_by}
+use Rattle.std.proofs.lemmas.List.Sums.{sum_by-cons, sum_by-append, count_by-le-length}
 use Rattle.std.proofs.lemmas.Option.{slice_get_within}
 use Rattle.iface_roles.specs.declared.records.Finished.{Finished}
-use Rattle.iface_roles.specs.declared.records.Finished.TheVariants.{Host, Agent, Source, Sink}
+use Rattle.iface_roles.specs.declared.records.Finished.TheVariants.{Host, Source, Sink}
 use Rattle.iface_roles.specs.declared.records.HostPort.{HostPort}
 use Rattle.iface_roles.specs.declared.records.AgentPort.{AgentPort}
 use Rattle.iface_roles.specs.declared.records.SourcePort.{SourcePort}
 use Rattle.iface_roles.specs.declared.records.SinkPort.{SinkPort}
-use Rattle.iface_roles.specs.Proper.{IsProper, IsBoundedSource}
+use Rattle.iface_roles.specs.Proper.{IsProper, IsBoundedSink}
 use Rattle.av_scripts.specs.declared.tables.EndId.{EndId}
 use Rattle.av_scripts.specs.declared.tables.Connection.{Connection}
 use Rattle.av_scripts.specs.Tables.{SystemTable, IsEnd}
 use Rattle.address_map.specs.Ends.{each_once}
 use Rattle.address_map.specs.Footprints.{known_at}
 use Rattle.address_map.specs.Maps.{is_mm, mm_connections, hosts_of, agents_of}
-use Rattle.link_rules.specs.Links.{is_stream, streams_of}
+use Rattle.link_rules.specs.Links.{streams_of}
 use Rattle.netlist.specs.declared.line.Line.{Line}
 use Rattle.netlist.specs.declared.line.PortLine.{PortLine}
+use Rattle.netlist.specs.declared.line.Memory.{Memory}
 use Rattle.netlist.specs.declared.line.Equation.TheVariants.{Input}
-use Rattle.netlist.specs.Netlists.{Netlist, IsOutputPort, IsDriven, IsClocked, IsWritten, IsModule, IsWellMade, driver_of, input_count, input_lines, line_of, started}
-use Rattle.interconnect.specs.Ports.{connection_ends, end_ports, ends_of, ports_of, module_name, role_ports, name_at, declared_source, declared_sink}
+use Rattle.netlist.specs.Nets.{NetValue, net_of}
+use Rattle.netlist.specs.Netlists.{Netlist, IsDriven, IsClocked, IsWritten, IsWellMade, driver_of, input_count, input_lines, line_of, started, appended}
+use Rattle.stage_core.specs.Growth.{StillWait}
+use Rattle.stream_path.specs.Joining.{declared_source, declared_sink}
+use Rattle.interconnect.specs.declared.roles.Role.TheVariants as role
+use Rattle.interconnect.specs.declared.roles.RolePort.{RolePort}
+use Rattle.interconnect.specs.Ports.{is_output, port_of, port_line, stream_ports, may_have, has_bits, connection_ends, end_ports, ends_of, ports_of, module_name, role_ports, starts, name_at}
+use Rattle.interconnect.specs.PortMaps.{port_at}
 use Rattle.interconnect.specs.Ends.{IsStreamPlace}
-use Rattle.interconnect.specs.Wires.{pending_of}
-use Rattle.interconnect.specs.Streams.{IsStream, IsWired, ServesStream}
-use Rattle.interconnect.specs.Memory.{IsMemory, ServesMemory}
-use Rattle.interconnect.specs.Joins.{first_port, IsJoinedUpTo}
+use Rattle.interconnect.specs.Wires.{is_wire, is_wire_at, wires_before, is_wire_stream}
+use Rattle.interconnect.specs.Streams.{IsStream, low_line}
+use Rattle.interconnect.specs.Memory.{IsMemory}
+use Rattle.interconnect.specs.Joins.{output_at, low_at, low_lines, with_lows, AddsLow, AreLows, IsJoinedUpTo}
 use Rattle.interconnect.specs.Interconnect.{IsInterconnect}
-use Rattle.interconnect.proofs.EndFacts.{IsPlanned, known_is}
-use Rattle.interconnect.proofs.Numbering.{IsStreamNumber, stream_number, IsStreamAt, stream_at, JoinsStream, of_stream, stream_kind}
-use Rattle.interconnect.proofs.Blocks.{IsWire, built_wire, all_built}
-use Rattle.interconnect.proofs.Served.{WiresAreServed, IsJoinedIn, is_wired, is_served}
+use Rattle.interconnect.proofs.EndFacts.{IsPlanned, known_is, known_proper}
+use Rattle.interconnect.proofs.Numbering.{stream_number, stream_at, of_stream, stream_kind, ends_at}
+use Rattle.interconnect.proofs.Headers.{inputs-few, stream_inputs-few, distinct_ports}
+use Rattle.interconnect.proofs.Signals.{named_at}
+use Rattle.interconnect.proofs.Served.{IsJoinedIn, is_served, is_wired, source_driven, sink_driven}
 use Rattle.interconnect.proofs.Counts.{of_kind}
-use Rattle.interconnect.proofs.Lists.{Among, among_at, among_kept}
+use Rattle.interconnect.proofs.Lists.{Among, among_at, at_among, among_append, among_map, among_flat_map, among_filter, among_kept, slice_get-append, slice_get-front, take_one_more, nat_less}
 
 -- ---- a system without hosts has no agents
 
@@ -52,12 +60,7 @@ no_mm system e = map_none (λ (c : Connection). c.start) (mm_connections system)
 no_agents : (system : SystemTable) → hosts_of system ≡ [] → agents_of system ≡ []
 no_agents system e = ap (λ (cs : List Connection). each_once (map (λ (c : Connection). c.end) cs)) (no_mm system e)
 
-no_ports_before : (system : SystemTable) → hosts_of system ≡ [] → 0 ≡ first_port system 0
-no_ports_before system e =
-    let nothing : hosts_of system ++ agents_of system ++ [] ≡ [] = append-nil (hosts_of system ++ agents_of system) ∙ ap (λ (ends : List EndId). ends ++ agents_of system) e ∙ no_agents system e in
-    sym (ap (λ (ends : List EndId). length (flat_map (end_ports system) ends)) nothing)
-
--- ---- the beginning
+-- ---- how many nets
 
 input_count-cons : (p : PortLine) (ports : List PortLine) → input_count (p ∷ ports) ≡ cond (not p.output) 1 0 + input_count ports
 input_count-cons p ports = sum_by-cons (λ (port : PortLine). cond (not port.output) 1 0) p ports
@@ -71,21 +74,164 @@ length-input_lines [] j = refl
 length-input_lines (p ∷ ports) j =
     rw input_count-cons (counted p.output (line_of p.width (Input j)) (input_lines (j + 1) ports) (input_count ports) (length-input_lines ports (j + 1)))
 
-pub begins : (system : SystemTable) (builder : Netlist) → hosts_of system ≡ [] → builder ≡ started (module_name system) (ports_of system) → IsClocked builder → IsWritten builder → ((k : ℕ) → driver_of builder k ≡ None)
-    → IsJoinedUpTo system 0 0 builder
-begins system builder none is clocked written undriven =
-    let ports : builder.ports ≡ ports_of system = ap (λ (n : Netlist). n.ports) is in
-    let lines : builder.lines ≡ input_lines 0 (ports_of system) = ap (λ (n : Netlist). n.lines) is in
+-- ---- the nets that are always low
+
+low_lines-more : (count : ℕ) → low_lines count ++ low_line ∷ [] ≡ low_lines (suc count)
+low_lines-more zero = refl
+low_lines-more (suc count) = ap (λ (lines : List Line). low_line ∷ lines) (low_lines-more count)
+
+length-low_lines : (count : ℕ) → length (low_lines count) ≡ count
+length-low_lines zero = refl
+length-low_lines (suc count) = ap suc (length-low_lines count)
+
+low_lines-at : (count n : ℕ) → n < count → slice_get (low_lines count) n ≡ Some low_line
+low_lines-at zero n h = absurd (omega arith)
+low_lines-at (suc count) zero h = refl
+low_lines-at (suc count) (suc n) h = low_lines-at count n (omega arith)
+
+pub with_none : (netlist : Netlist) → netlist ≡ with_lows netlist 0
+with_none netlist = ap (λ (lines : List Line). record netlist { lines = lines }) (sym (append-nil netlist.lines))
+
+with_more : (netlist : Netlist) (count : ℕ) → appended (with_lows netlist count) low_line ≡ with_lows netlist (suc count)
+with_more netlist count =
+    ap (λ (lines : List Line). record netlist { lines = lines }) (append_assoc netlist.lines (low_lines count) (low_line ∷ []) ∙ ap (λ (lines : List Line). netlist.lines ++ lines) (low_lines-more count))
+
+count_more : (test : ℕ → Bool) (xs : List ℕ) (x : ℕ) (b : Bool) → test x ≡ b → count_by test (xs ++ x ∷ []) ≡ count_by test xs + cond b 1 0
+count_more test xs x b e = sum_by-append (λ (y : ℕ). cond (test y) 1 0) xs (x ∷ []) ∙ ap (λ (n : ℕ). count_by test xs + n) (one b e)
+  where
+    one : (b : Bool) → test x ≡ b → count_by test (x ∷ []) ≡ cond b 1 0
+    one b e = sum_by-cons (λ (y : ℕ). cond (test y) 1 0) x [] ∙ rw e (omega arith)
+
+wires_more : (system : SystemTable) (number place : ℕ) (b : Bool) → slice_get (streams_of system) number ≡ Some place → is_wire_at system place ≡ b → wires_before system (number + 1) ≡ wires_before system number + cond b 1 0
+wires_more system number place b e is = ap (count_by (is_wire_at system)) (take_one_more (streams_of system) number place e) ∙ count_more (is_wire_at system) (take number (streams_of system)) place b is
+
+wire_test : (system : SystemTable) (number : ℕ) (connection : Connection) (at : IsStreamPlace system number connection) → is_wire_at system at.place ≡ is_wire system connection
+wire_test system number connection at = (let is = at.connection_is in rw is refl)
+
+-- how far the low nets are made
+pub record AreLowsTo (system : SystemTable) (number : ℕ) (old now : Netlist) (made : List (Option NetValue)) : Type 0 where
+  pub lows : AreLows system number made
+  pub lines : now ≡ with_lows old (wires_before system number)
+  pub no_more_wait : StillWait now old
+
+pub no_lows : (system : SystemTable) (old : Netlist) → AreLowsTo system 0 old old []
+no_lows system old =
     record {
-      name = ap (λ (n : Netlist). n.name) is;
-      ports = ports;
-      place_is = no_ports_before system none;
-      nets = (let a = length-input_lines (ports_of system) 0 in let b = ap (λ (ls : List Line). length ls) lines in let d = ap input_count ports in omega (arith, a, b, d));
-      joined = λ n a source sink below is. absurd (omega (arith, below));
-      driven = λ k w below o. absurd (omega (arith, below));
-      rest = λ k above. undriven k;
-      clocked = clocked;
-      written = written;
+      lows = record { count = refl; each = λ n place below e. absurd (omega (arith, below)) };
+      lines = with_none old;
+      no_more_wait = λ n w. w;
+    }
+
+pub lows_more : (system : SystemTable) (number place : ℕ) (lows : List (Option NetValue)) (low : Option NetValue) → AreLows system number lows → slice_get (streams_of system) number ≡ Some place
+    → low ≡ low_at system number place → AreLows system (number + 1) (lows ++ low ∷ [])
+lows_more system number place lows low h e is =
+    record {
+      count = (let whole = length-append lows (low ∷ []) in let count = h.count in omega (arith, whole, count));
+      each = λ n p below f. elim (nat_less n number below) [
+        | inl earlier ↦ slice_get-front lows (low ∷ []) n (low_at system n p) (h.each n p earlier f)
+        | inr same ↦ (let here : slice_get (streams_of system) number ≡ Some p = subst (λ (m : ℕ). slice_get (streams_of system) m ≡ Some p) same f in
+            let places : place ≡ p = cc in
+            let zero_more : length lows + 0 ≡ n = (let count = h.count in omega (arith, count, same)) in
+            subst (λ (m : ℕ). slice_get (lows ++ low ∷ []) m ≡ Some (low_at system n p)) zero_more
+            (slice_get-append lows (low ∷ []) 0 ∙ ap Some (is ∙ ap (low_at system number) places ∙ ap (λ (m : ℕ). low_at system m p) (sym same))))
+      ];
+    }
+
+lows_length : (system : SystemTable) (old : Netlist) (count : ℕ) → old ≡ started (module_name system) (ports_of system) → length (with_lows old count).lines ≡ input_count (ports_of system) + count
+lows_length system old count is =
+    let lines = ap (λ (n : Netlist). length n.lines) is in
+    let inputs = length-input_lines (ports_of system) 0 in
+    let whole = length-append old.lines (low_lines count) in
+    let lows = length-low_lines count in
+    omega (arith, lines, inputs, whole, lows)
+
+wires-few : (system : SystemTable) (number : ℕ) → wires_before system number ≤ length (streams_of system)
+wires-few system number =
+    let counted = count_by-le-length (is_wire_at system) (take number (streams_of system)) in
+    let taken = length-take number (streams_of system) in
+    omega (arith, counted, taken)
+  where
+    length-take : {X : Type 0} (k : ℕ) (xs : List X) → length (take k xs) ≤ length xs
+    length-take zero [] = omega arith
+    length-take zero (x ∷ xs) = omega arith
+    length-take (suc k) [] = omega arith
+    length-take (suc k) (x ∷ xs) = (let rest = length-take k xs in omega (arith, rest))
+
+pub low_room : (system : SystemTable) (number : ℕ) (old now : Netlist) (lows : List (Option NetValue)) → IsPlanned system → old ≡ started (module_name system) (ports_of system) → AreLowsTo system number old now lows
+    → length now.lines < 2 ^ 20
+low_room system number old now lows h is to =
+    let lines = ap (λ (n : Netlist). length n.lines) to.lines in
+    let long = lows_length system old (wires_before system number) is in
+    let wires = wires-few system number in
+    let inputs = inputs-few system h in
+    let streams = h.few_streams in
+    omega (arith, lines, long, wires, inputs, streams)
+
+-- a wire gets a low net
+pub wire_low : (system : SystemTable) (number : ℕ) (connection : Connection) (old now new : Netlist) (lows : List (Option NetValue)) (net : NetValue) → old ≡ started (module_name system) (ports_of system)
+    → IsStreamPlace system number connection → is_wire system connection ≡ true → AreLowsTo system number old now lows → new ≡ appended now low_line → net ≡ net_of (length now.lines) 1 → StillWait new now
+    → AreLowsTo system (number + 1) old new (lows ++ Some net ∷ [])
+wire_low system number connection old now new lows net is at wire to e f waits =
+    let test = wire_test system number connection at ∙ wire in
+    let more : wires_before system (number + 1) ≡ suc (wires_before system number) = (let n = wires_more system number at.place true at.place_is test in omega (arith, n)) in
+    let long : length now.lines ≡ input_count (ports_of system) + wires_before system number = ap (λ (n : Netlist). length n.lines) to.lines ∙ lows_length system old (wires_before system number) is in
+    let low : low_at system number at.place ≡ Some (net_of (input_count (ports_of system) + wires_before system number) 1) =
+    ap (λ (b : Bool). if b then Some (net_of (input_count (ports_of system) + wires_before system number) 1) else None) test in
+    record {
+      lows = lows_more system number at.place lows (Some net) to.lows at.place_is (ap Some (f ∙ ap (λ (n : ℕ). net_of n 1) long) ∙ sym low);
+      lines = e ∙ ap (λ (n : Netlist). appended n low_line) to.lines ∙ with_more old (wires_before system number) ∙ ap (with_lows old) (sym more);
+      no_more_wait = λ n w. to.no_more_wait n (waits n w);
+    }
+
+-- another stream gets none
+pub no_low : (system : SystemTable) (number : ℕ) (connection : Connection) (old now : Netlist) (lows : List (Option NetValue)) → IsStreamPlace system number connection → is_wire system connection ≡ false
+    → AreLowsTo system number old now lows → AreLowsTo system (number + 1) old now (lows ++ None ∷ [])
+no_low system number connection old now lows at wire to =
+    let test = wire_test system number connection at ∙ wire in
+    let same : wires_before system (number + 1) ≡ wires_before system number = (let n = wires_more system number at.place false at.place_is test in omega (arith, n)) in
+    let low : low_at system number at.place ≡ None = ap (λ (b : Bool). if b then Some (net_of (input_count (ports_of system) + wires_before system number) 1) else None) test in
+    record {
+      lows = lows_more system number at.place lows None to.lows at.place_is (sym low);
+      lines = to.lines ∙ ap (with_lows old) (sym same);
+      no_more_wait = to.no_more_wait;
+    }
+
+-- one stream more, whether a wire or not
+pub low_more : (system : SystemTable) (number : ℕ) (connection : Connection) (old now new : Netlist) (lows more : List (Option NetValue)) (low : Option NetValue) → old ≡ started (module_name system) (ports_of system)
+    → IsStreamPlace system number connection → AreLowsTo system number old now lows → AddsLow (is_wire system connection) now new low → more ≡ lows ++ low ∷ [] → AreLowsTo system (number + 1) old new more
+low_more system number connection old now new lows more low is at to adds e = subst (AreLowsTo system (number + 1) old new) (sym e) (by_wire (is_wire system connection) refl adds)
+  where
+    by_wire : (b : Bool) → is_wire system connection ≡ b → AddsLow b now new low → AreLowsTo system (number + 1) old new (lows ++ low ∷ [])
+    by_wire true wire added = subst (λ (o : Option NetValue). AreLowsTo system (number + 1) old new (lows ++ o ∷ [])) (sym added.1)
+        (wire_low system number connection old now new lows (net_of (length now.lines) 1) is at wire to added.0 refl added.2)
+    by_wire false wire added = subst (λ (o : Option NetValue). AreLowsTo system (number + 1) old new (lows ++ o ∷ [])) (sym added.1)
+        (subst (λ (n : Netlist). AreLowsTo system (number + 1) old n (lows ++ None ∷ [])) (sym added.0) (no_low system number connection old now lows at wire to))
+
+-- ---- the beginning
+
+undriven_at : (netlist : Netlist) (o : Option ℕ) → ((k : ℕ) → driver_of netlist k ≡ None) → IfSome o (λ k. driver_of netlist k ≡ None)
+undriven_at netlist None h = tt
+undriven_at netlist (Some k) h = h k
+
+pub begins : (system : SystemTable) (old now : Netlist) → old ≡ started (module_name system) (ports_of system) → now ≡ with_lows old (wires_before system (length (streams_of system))) → StillWait now old
+    → IsClocked old → IsWritten old → ((k : ℕ) → driver_of old k ≡ None) → IsJoinedUpTo system 0 now
+begins system old now is e waits clocked written undriven =
+    let count = wires_before system (length (streams_of system)) in
+    let lines : now.lines ≡ old.lines ++ low_lines count = ap (λ (n : Netlist). n.lines) e in
+    let inputs : length old.lines ≡ input_count (ports_of system) = ap (λ (n : Netlist). length n.lines) is ∙ length-input_lines (ports_of system) 0 in
+    let memories : now.memories ≡ old.memories = ap (λ (n : Netlist). n.memories) e in
+    record {
+      name = ap (λ (n : Netlist). n.name) e ∙ ap (λ (n : Netlist). n.name) is;
+      ports = ap (λ (n : Netlist). n.ports) e ∙ ap (λ (n : Netlist). n.ports) is;
+      lows = λ n below. ap (λ (ls : List Line). slice_get ls (input_count (ports_of system) + n)) lines
+          ∙ ap (λ (m : ℕ). slice_get (old.lines ++ low_lines count) (m + n)) (sym inputs)
+          ∙ slice_get-append old.lines (low_lines count) n
+          ∙ low_lines-at count n below;
+      joined = λ n place a source sink below f at. absurd (omega (arith, below));
+      rest = λ n a source sink above at m r f. undriven_at now (output_at system a r) (λ k. ap (λ (n : Netlist). driver_of n k) e ∙ undriven k);
+      clocked = λ n w. clocked n (waits n w);
+      written = λ m w. written m (record { memory = w.memory; is = subst (λ (ms : List Memory). slice_get ms m ≡ Some w.memory) memories w.is; waits = w.waits });
+      few = (let long = ap (λ (n : Netlist). length n.lines) e ∙ lows_length system old count is in let wires = wires-few system (length (streams_of system)) in omega (arith, long, wires));
     }
 
 -- ---- the end
@@ -93,18 +239,6 @@ begins system builder none is clocked written undriven =
 take_all : {X : Type 0} (xs : List X) → take (length xs) xs ≡ xs
 take_all [] = refl
 take_all (x ∷ xs) = ap (λ ys. x ∷ ys) (take_all xs)
-
-last_port : (system : SystemTable) → first_port system (length (streams_of system)) ≡ length (ports_of system)
-last_port system = ap (λ (streams : List ℕ). length (flat_map (end_ports system) (hosts_of system ++ agents_of system ++ flat_map (connection_ends system) streams))) (take_all (streams_of system))
-
-pub all_driven : (system : SystemTable) (number place : ℕ) (netlist : Netlist) → number ≡ length (streams_of system) → IsJoinedUpTo system number place netlist → IsDriven netlist
-all_driven system number place netlist e h k w o =
-    let inside = slice_get_within netlist.ports k o.port o.is in
-    let ports = ap (λ (ps : List PortLine). length ps) h.ports in
-    let last = last_port system in
-    let here = ap (first_port system) e in
-    let place_is = h.place_is in
-    h.driven k w (omega (arith, inside, ports, last, here, place_is)) o
 
 -- the place of a stream
 place_of_stream : (system : SystemTable) (number : ℕ) (connection : Connection) (source : SourcePort) (sink : SinkPort) → IsPlanned system → IsStream system number connection source sink
@@ -128,20 +262,39 @@ place_of_stream system number connection source sink h is =
       sink_is = is.sink_is;
     }
 
-joined_in : (system : SystemTable) (number place last : ℕ) (connection : Connection) (source : SourcePort) (sink : SinkPort) (netlist : Netlist) (h : IsPlanned system) → pending_of system ≡ None
-    → last ≡ length (streams_of system) → IsJoinedUpTo system last place netlist → IsModule netlist → (is : IsStream system number connection source sink)
-    → IsJoinedIn system number connection (place_of_stream system number connection source sink h is) netlist (input_count netlist.ports + number)
+-- what the law of proper records says of sinks
+abbrev pub SinksAreBounded : Type 0
+SinksAreBounded = (sink : SinkPort) → IsProper (Sink sink) → IsBoundedSink sink
+
+pub mul_some : (a b : ℕ) → 1 ≤ a → 1 ≤ b → 0 < a * b
+mul_some zero b h k = absurd (omega arith)
+mul_some (suc a) zero h k = absurd (omega arith)
+mul_some (suc a) (suc b) h k = omega arith
+
+sink_end : (system : SystemTable) (number : ℕ) (connection : Connection) (at : IsStreamPlace system number connection) → IsEnd system connection.end (Sink at.sink_port)
+sink_end system number connection at = subst (IsEnd system connection.end) (sym (known_is system connection.end at.sink.known at.sink.is) ∙ at.sink_is) at.sink.is
+
+-- the whole module
+pub record IsWhole (system : SystemTable) (netlist : Netlist) : Type 0 where
+  pub planned : IsPlanned system
+  pub no_host : hosts_of system ≡ []
+  pub bounded : SinksAreBounded
+  pub upto : IsJoinedUpTo system (length (streams_of system)) netlist
+  pub well_made : IsWellMade netlist
+
+joined_in : (system : SystemTable) (number : ℕ) (connection : Connection) (source : SourcePort) (sink : SinkPort) (netlist : Netlist) → (w : IsWhole system netlist) → IsStream system number connection source sink
+    → IsJoinedIn system number connection netlist
 unfolding place_of_stream
-joined_in system number place last connection source sink netlist h none e upto whole is =
-    let wire = built_wire system connection source sink is.source_is is.sink_is (all_built system is.place connection none is.connection_is) in
-    let below = slice_get_within (streams_of system) number is.place is.place_is in
+joined_in system number connection source sink netlist w is =
+    let at = place_of_stream system number connection source sink w.planned is in
+    let bounded = w.bounded sink (known_proper system connection.end (Sink sink) at.sink (sink_end system number connection at)) in
     record {
-      planned = h;
-      alike = wire.alike;
-      no_queue = wire.no_queue;
-      well_made = whole.well_made;
-      ports = upto.ports;
-      joined = upto.joined number connection source sink (omega (arith, below, e)) is;
+      planned = w.planned;
+      at = at;
+      well_made = w.well_made;
+      ports = w.upto.ports;
+      some_bits = mul_some sink.symbols sink.symbol_bits bounded.some bounded.bit;
+      joined = w.upto.joined number is.place connection source sink (slice_get_within (streams_of system) number is.place is.place_is) is.place_is is;
     }
 
 -- no connection goes from a host to an agent
@@ -155,17 +308,89 @@ no_memory system number connection host agent h none is =
           cc)
     ]
 
-pub stream_interconnect : (system : SystemTable) (place last : ℕ) (netlist : Netlist) → IsPlanned system → pending_of system ≡ None → hosts_of system ≡ [] → WiresAreServed
-    → ((source : SourcePort) → IsProper (Source source) → IsBoundedSource source) → last ≡ length (streams_of system) → IsJoinedUpTo system last place netlist → IsModule netlist
-    → IsInterconnect system netlist
-unfolding place_of_stream
-stream_interconnect system place last netlist h none no_host law bounded e upto whole =
+-- the wires before one are fewer than all
+pub wire_below : (system : SystemTable) (number place : ℕ) → slice_get (streams_of system) number ≡ Some place → is_wire_at system place ≡ true → wires_before system number < wires_before system (length (streams_of system))
+wire_below system number place e is =
+    let more = wires_more system number place true e is in
+    let inside = slice_get_within (streams_of system) number place e in
+    let most = count_grows (is_wire_at system) (number + 1) (streams_of system) in
+    let whole = ap (count_by (is_wire_at system)) (take_all (streams_of system)) in
+    omega (arith, more, most, whole)
+  where
+    count_grows : (test : ℕ → Bool) (k : ℕ) (xs : List ℕ) → count_by test (take k xs) ≤ count_by test xs
+    count_grows test zero xs = omega arith
+    count_grows test (suc k) [] = omega arith
+    count_grows test (suc k) (x ∷ xs) =
+        let rest = count_grows test k xs in
+        let one = sum_by-cons (λ (y : ℕ). cond (test y) 1 0) x (take k xs) in
+        let other = sum_by-cons (λ (y : ℕ). cond (test y) 1 0) x xs in
+        omega (arith, rest, one, other)
+
+wire_at : (system : SystemTable) (connection : Connection) (place : ℕ) (source : SourcePort) (sink : SinkPort) → slice_get system.connections place ≡ Some connection → known_at system connection.start ≡ Source source
+    → known_at system connection.end ≡ Sink sink → is_wire_stream (declared_source source) (declared_sink sink) connection.fifo ≡ true → is_wire_at system place ≡ true
+wire_at system connection place source sink is e f wire =
+    let known : is_wire system connection ≡ true = rw (e, f) wire in
+    rw is known
+
+-- each output is driven: it is one of a stream's source or sink
+pub all_driven : (system : SystemTable) (netlist : Netlist) → IsWhole system netlist → IsDriven netlist
+all_driven system netlist w k width o =
+    let there : slice_get (ports_of system) k ≡ Some o.port = subst (λ (ps : List PortLine). slice_get ps k ≡ Some o.port) w.upto.ports o.is in
+    let from = among_flat_map (end_ports system) (ends_of system) o.port (among_at (ports_of system) k o.port there) in
+    let line = among_map (port_line (name_at system from.from) (starts (known_at system from.from))) (role_ports (known_at system from.from)) o.port from.makes in
+    let named : port_at system from.from line.from.role ≡ Some k =
+    named_at (ports_of system) k (port_line (name_at system from.from) (starts (known_at system from.from)) line.from) (distinct_ports system w.planned) (there ∙ ap Some (sym line.makes)) in
+    let output : is_output (starts (known_at system from.from)) line.from.role ≡ true = ap (λ (p : PortLine). p.output) line.makes ∙ o.output in
+    let may = (among_filter has_bits (may_have (known_at system from.from)) line.from line.among).0 in
+    let nothing : hosts_of system ++ agents_of system ≡ [] = ap (λ (ends : List EndId). ends ++ agents_of system) w.no_host ∙ no_agents system w.no_host in
+    elim (among_append (hosts_of system ++ agents_of system) (flat_map (connection_ends system) (streams_of system)) from.from from.among) [
+      | inl none ↦ absurd (subst (λ (ends : List EndId). Among from.from ends) nothing none)
+      | inr more ↦ (let stream = among_flat_map (connection_ends system) (streams_of system) from.from more in
+          by_stream stream.from (at_among (streams_of system) stream.from stream.among).place (at_among (streams_of system) stream.from stream.among).is from.from line.from stream.makes named output may)
+    ]
+  where
+    at_source : (number : ℕ) (connection : Connection) (j : IsJoinedIn system number connection netlist) (end : EndId) (p : RolePort) → connection.start ≡ end → port_at system end p.role ≡ Some k
+        → is_output (starts (known_at system end)) p.role ≡ true → Among p (may_have (known_at system end)) → IsSome (driver_of netlist k)
+    at_source number connection j end p e named output may =
+        (let known : known_at system end ≡ Source j.at.source_port = ap (known_at system) (sym e) ∙ j.at.source_is in
+        source_driven system number connection netlist k j p (subst (λ (f : Finished). Among p (may_have f)) known may)
+        (subst (λ (f : Finished). is_output (starts f) p.role ≡ true) known output) (ap (λ (x : EndId). port_at system x p.role) e ∙ named))
+
+    at_sink : (number : ℕ) (connection : Connection) (j : IsJoinedIn system number connection netlist) (end : EndId) (p : RolePort) → connection.end ≡ end → port_at system end p.role ≡ Some k
+        → is_output (starts (known_at system end)) p.role ≡ true → Among p (may_have (known_at system end)) → IsSome (driver_of netlist k)
+    at_sink number connection j end p e named output may =
+        (let known : known_at system end ≡ Sink j.at.sink_port = ap (known_at system) (sym e) ∙ j.at.sink_is in
+        let split = among_append (stream_ports (declared_sink j.at.sink_port)) (port_of role.Dropped 1 ∷ []) p (subst (λ (f : Finished). Among p (may_have f)) known may) in
+        sink_driven system number connection netlist k j p (elim split [ inl a ↦ inl a | inr b ↦ elim b [ inl is ↦ inr (sym is) | inr none ↦ absurd none ] ])
+        (subst (λ (f : Finished). is_output (starts f) p.role ≡ true) known output) (ap (λ (x : EndId). port_at system x p.role) e ∙ named))
+
+    by_stream : (place number : ℕ) → slice_get (streams_of system) number ≡ Some place → (end : EndId) (p : RolePort) → Among end (connection_ends system place) → port_at system end p.role ≡ Some k
+        → is_output (starts (known_at system end)) p.role ≡ true → Among p (may_have (known_at system end)) → IsSome (driver_of netlist k)
+    by_stream place number e end p among named output may =
+        (let known = stream_number system place (among_at (streams_of system) number place e) in
+        let at = stream_at system place known.connection w.planned known.is known.kind in
+        let is : IsStream system number known.connection at.joins.source at.joins.sink = record {
+          place = place;
+          place_is = e;
+          connection_is = known.is;
+          source_is = known_is system known.connection.start (Source at.joins.source) at.joins.start;
+          sink_is = known_is system known.connection.end (Sink at.joins.sink) at.joins.end;
+        } in
+        let j = joined_in system number known.connection at.joins.source at.joins.sink netlist w is in
+        elim (subst (λ (ends : List EndId). Among end ends) (ends_at system place known.connection known.is) among) [
+          | inl start ↦ at_source number known.connection j end p start named output may
+          | inr rest ↦ elim rest [ inl finish ↦ at_sink number known.connection j end p finish named output may | inr none ↦ absurd none ]
+        ])
+
+pub stream_interconnect : (system : SystemTable) (netlist : Netlist) → IsWhole system netlist → IsInterconnect system netlist
+unfolding place_of_stream joined_in
+stream_interconnect system netlist w =
     record {
-      name = upto.name;
-      ports = upto.ports;
-      wired = λ number connection source sink is. is_wired system number connection (place_of_stream system number connection source sink h is) netlist (input_count netlist.ports + number)
-          (joined_in system number place last connection source sink netlist h none e upto whole is);
-      streams = λ number connection source sink is. is_served system number connection (place_of_stream system number connection source sink h is) netlist (input_count netlist.ports + number) law bounded
-          (joined_in system number place last connection source sink netlist h none e upto whole is);
-      memory = λ number connection host agent is. absurd (no_memory system number connection host agent h no_host is);
+      name = w.upto.name;
+      ports = w.upto.ports;
+      few = (let most = w.upto.few in let inputs = stream_inputs-few system w.no_host (no_agents system w.no_host) in omega (arith, most, inputs));
+      wired = λ number connection source sink is wire. is_wired system number connection netlist (joined_in system number connection source sink netlist w is) wire
+          (w.upto.lows (wires_before system number) (wire_below system number is.place is.place_is (wire_at system connection is.place source sink is.connection_is is.source_is is.sink_is wire)));
+      streams = λ number connection source sink is. is_served system number connection netlist (joined_in system number connection source sink netlist w is);
+      memory = λ number connection host agent is. absurd (no_memory system number connection host agent w.planned w.no_host is);
     }

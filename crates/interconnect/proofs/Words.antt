@@ -1,5 +1,5 @@
 -- The words for the roles of an end are distinct.
-use Rattle.std.proofs.Common.{◌≡◌, ◌⊎◌, inl, inr, ℕ, Bool, true, false, ◌&&◌, ◌||◌, not, cond, List, [], ◌∷◌, map, refl, sym, ap, subst, ◌∙◌}
+use Rattle.std.proofs.Common.{◌≡◌, inl, inr, ℕ, Bool, true, false, ◌&&◌, ◌||◌, not, cond, List, [], ◌∷◌, map, refl, subst}
 use Rattle.std.specs.List.{filter}
 use Rattle.std.specs.Str.{bytes_eq}
 use Rattle.std.proofs.lemmas.Bool.{and_parts, or_left, or_right, false≢true}
@@ -34,12 +34,12 @@ distinct_test (w ∷ words) e =
 abbrev pub word_of : RolePort → List ℕ
 word_of port = role_word port.role
 
-distinct_all : (known : Finished) → Distinct (map word_of (may_have known))
-distinct_all (Host host) = distinct_test (map word_of (may_have (Host host))) refl
-distinct_all (Agent agent) = distinct_test (map word_of (may_have (Agent agent))) refl
-distinct_all (Source source) = distinct_test (map word_of (may_have (Source source))) refl
-distinct_all (Sink sink) = distinct_test (map word_of (may_have (Sink sink))) refl
-distinct_all Other = tt
+pub distinct_may_have : (known : Finished) → Distinct (map word_of (may_have known))
+distinct_may_have (Host host) = distinct_test (map word_of (may_have (Host host))) refl
+distinct_may_have (Agent agent) = distinct_test (map word_of (may_have (Agent agent))) refl
+distinct_may_have (Source source) = distinct_test (map word_of (may_have (Source source))) refl
+distinct_may_have (Sink sink) = distinct_test (map word_of (may_have (Sink sink))) refl
+distinct_may_have Other = tt
 
 kept_word : (word : List ℕ) (port : RolePort) (ports : List RolePort) → (Among word (map word_of (filter has_bits ports)) → Among word (map word_of ports)) → (b : Bool)
     → Among word (map word_of (cond b (port ∷ filter has_bits ports) (filter has_bits ports))) → Among word (map word_of (port ∷ ports))
@@ -61,4 +61,4 @@ distinct_there [] h = tt
 distinct_there (port ∷ ports) h = kept_distinct port ports h.0 (distinct_there ports h.1) (has_bits port)
 
 pub distinct_words : (known : Finished) → Distinct (map word_of (role_ports known))
-distinct_words known = distinct_there (may_have known) (distinct_all known)
+distinct_words known = distinct_there (may_have known) (distinct_may_have known)

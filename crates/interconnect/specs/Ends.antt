@@ -1,7 +1,7 @@
 -- The ends that the steps of building go through, and what a plan promises of them.
 use Rattle.std.specs.Prelude.{◌≡◌, ◌*◌, ◌≤◌, ℕ, List, Some, slice_get}
 use Rattle.iface_roles.specs.declared.records.Finished.{Finished}
-use Rattle.iface_roles.specs.declared.records.Finished.TheVariants.{Host, Agent, Source, Sink, Other}
+use Rattle.iface_roles.specs.declared.records.Finished.TheVariants.{Source, Sink}
 use Rattle.iface_roles.specs.declared.records.SourcePort.{SourcePort}
 use Rattle.iface_roles.specs.declared.records.SinkPort.{SinkPort}
 use Rattle.iface_roles.specs.Proper.{IsProper}

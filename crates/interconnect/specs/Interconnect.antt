@@ -1,13 +1,16 @@
 -- What the interconnect of an accepted system must be: its name, its ports, and what every run of it does.
-use Rattle.std.specs.Prelude.{ℕ, ◌≡◌, ◌+◌}
+use Rattle.std.specs.Prelude.{ℕ, ◌≡◌, ◌+◌, ◌≤◌, length, IsTrue}
 use Rattle.av_scripts.specs.declared.tables.Connection.{Connection}
 use Rattle.iface_roles.specs.declared.records.HostPort.{HostPort}
 use Rattle.iface_roles.specs.declared.records.AgentPort.{AgentPort}
 use Rattle.iface_roles.specs.declared.records.SourcePort.{SourcePort}
 use Rattle.iface_roles.specs.declared.records.SinkPort.{SinkPort}
 use Rattle.av_scripts.specs.Tables.{SystemTable}
+use Rattle.link_rules.specs.Links.{weight_of}
 use Rattle.netlist.specs.Netlists.{Netlist, input_count}
-use Rattle.interconnect.specs.Ports.{name_at, ports_of, module_name, declared_source, declared_sink}
+use Rattle.stream_path.specs.Joining.{declared_source, declared_sink}
+use Rattle.interconnect.specs.Ports.{name_at, ports_of, module_name}
+use Rattle.interconnect.specs.Wires.{is_wire_stream, wires_before}
 use Rattle.interconnect.specs.Streams.{IsStream, ServesStream, IsWired}
 use Rattle.interconnect.specs.Memory.{IsMemory, form_of, ServesMemory}
 
@@ -15,9 +18,11 @@ use Rattle.interconnect.specs.Memory.{IsMemory, form_of, ServesMemory}
 pub record IsInterconnect (system : SystemTable) (netlist : Netlist) : Type 0 where
   pub name : netlist.name ≡ module_name system
   pub ports : netlist.ports ≡ ports_of system
-  -- each stream is a wire, whose net for `dropped` follows those of the inputs, in the order of the streams
+  pub few : length netlist.lines ≤ weight_of system
+  -- a stream that is a wire, whose net for `dropped` follows those of the inputs, in the order of the wires
   pub wired : (number : ℕ) (connection : Connection) (source : SourcePort) (sink : SinkPort) → IsStream system number connection source sink
-      → IsWired netlist (name_at system connection.start) (name_at system connection.end) (declared_source source) (input_count netlist.ports + number)
+      → IsTrue (is_wire_stream (declared_source source) (declared_sink sink) connection.fifo)
+      → IsWired netlist (name_at system connection.start) (name_at system connection.end) (declared_source source) (input_count netlist.ports + wires_before system number)
   pub streams : (number : ℕ) (connection : Connection) (source : SourcePort) (sink : SinkPort) → IsStream system number connection source sink
       → ServesStream netlist (name_at system connection.start) (name_at system connection.end) (declared_source source) (declared_sink sink) connection.fifo
   pub memory : (number : ℕ) (connection : Connection) (host : HostPort) (agent : AgentPort) → IsMemory system number connection host agent

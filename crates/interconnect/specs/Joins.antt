@@ -1,40 +1,94 @@
--- How far a module is built: where the ports of its streams stand, and what drives them.
-use Rattle.std.specs.Prelude.{◌≡◌, ◌≢◌, ◌+◌, ◌<◌, ◌≤◌, ℕ, List, ◌++◌, length, take, flat_map, Some, None, IsSome, slice_get}
-use Rattle.av_scripts.specs.declared.tables.Connection.{Connection}
+-- How far a module is built: which of its nets are those of the ends of streams, and which drive their outputs.
+use Rattle.std.specs.Prelude.{◌≡◌, ℕ, zero, suc, ◌+◌, ◌*◌, ◌<◌, ◌≤◌, Bool, true, false, List, [], ◌∷◌, ◌++◌, length, Option, Some, None, option_map, unwrap_or, if◌then◌else◌, IfSome, slice_get}
 use Rattle.iface_roles.specs.declared.records.SourcePort.{SourcePort}
 use Rattle.iface_roles.specs.declared.records.SinkPort.{SinkPort}
-use Rattle.iface_roles.specs.declared.records.Finished.TheVariants.{Source}
+use Rattle.av_scripts.specs.declared.tables.EndId.{EndId}
+use Rattle.av_scripts.specs.declared.tables.Connection.{Connection}
 use Rattle.av_scripts.specs.Tables.{SystemTable}
-use Rattle.address_map.specs.Maps.{hosts_of, agents_of}
 use Rattle.link_rules.specs.Links.{streams_of}
-use Rattle.netlist.specs.declared.line.PortLine.{PortLine}
-use Rattle.netlist.specs.Netlists.{Netlist, IsInputPort, IsOutputPort, IsClocked, IsWritten, driver_of, input_count, input_net}
-use Rattle.interconnect.specs.Ports.{role_ports, connection_ends, end_ports, ports_of, module_name}
+use Rattle.netlist.specs.declared.line.Line.{Line}
+use Rattle.netlist.specs.Nets.{NetValue, net_of}
+use Rattle.netlist.specs.Netlists.{Netlist, IsNet, IsInputPort, IsOutputPort, IsClocked, IsWritten, driver_of, input_count, input_net, appended}
+use Rattle.stream_runs.specs.Ends.{Declared}
+use Rattle.stage_core.specs.Growth.{GrowsBy, StillWait}
+use Rattle.stream_path.specs.Joining.{declared_source, declared_sink}
+use Rattle.stream_path.specs.Ends.{ArePathNets}
+use Rattle.stream_path.specs.Serving.{most_nets, ServesInLonger}
+use Rattle.stream_path.specs.declared.ends.SourceNets.{SourceNets}
+use Rattle.stream_path.specs.declared.ends.PathNets.{PathNets}
+use Rattle.interconnect.specs.declared.roles.Role.{Role}
+use Rattle.interconnect.specs.declared.roles.Role.TheVariants as role
+use Rattle.interconnect.specs.Ports.{is_forward, ends_of, ports_of, module_name}
+use Rattle.interconnect.specs.PortMaps.{port_at}
+use Rattle.interconnect.specs.Wires.{is_wire_at, wires_before}
 use Rattle.interconnect.specs.Streams.{IsStream, low_line}
 
--- an output and an input of one width
-pub record AreOpposite (ports : List PortLine) (output input : ℕ) : Type 0 where
-  pub width : ℕ
-  pub is_output : IsOutputPort ports output width
-  pub is_input : IsInputPort ports input width
+-- one of the ends of a system
+abbrev pub IsAnEnd : SystemTable → EndId → Type 0
+IsAnEnd system end = (n : ℕ) × (slice_get (ends_of system) n ≡ Some end)
 
--- the ports of a stream stand from this place on: so many of its source, as many of its sink, and `dropped`. The first of each is `ready`
-pub record AreStreamPorts (ports : List PortLine) (place count : ℕ) : Type 0 where
-  pub some : 0 < count
-  pub ready : AreOpposite ports place (place + count)
-  pub forward : (k : ℕ) → 0 < k → k < count → AreOpposite ports (place + count + k) (place + k)
-  pub dropped : IsOutputPort ports (place + count + count) 1
+-- ---- the nets of a stream
 
--- each of its outputs but `dropped` is driven by the input of the other end
-pub record AreJoined (netlist : Netlist) (place count : ℕ) : Type 0 where
-  pub ready : driver_of netlist place ≡ Some (input_net netlist.ports (place + count))
-  pub forward : (k : ℕ) → 0 < k → k < count → driver_of netlist (place + count + k) ≡ Some (input_net netlist.ports (place + k))
+-- the port of a role is an input of this width, where there is one
+abbrev pub IsInputIf : SystemTable → EndId → Role → ℕ → Type 0
+IsInputIf system end role width = IfSome (port_at system end role) (λ port. IsInputPort (ports_of system) port width)
 
--- and `dropped` by a net that is always low
-pub record IsJoinedStream (netlist : Netlist) (place count low : ℕ) : Type 0 where
-  pub ends : AreJoined netlist place count
-  pub dropped : driver_of netlist (place + count + count) ≡ Some low
-  pub is_low : slice_get netlist.lines low ≡ Some low_line
+-- the net of the input port of a role at an end, where there is one
+abbrev pub input_at : SystemTable → EndId → Role → ℕ → Option NetValue
+input_at system end role width = option_map (λ port. net_of (input_net (ports_of system) port) width) (port_at system end role)
+
+-- the nets of the ports of a source that the module reads
+pub record AreInputs (system : SystemTable) (end : EndId) (declared : Declared) (nets : SourceNets) : Type 0 where
+  pub valid : input_at system end role.Valid 1 ≡ Some nets.valid
+  pub word : input_at system end role.Data (declared.symbols * declared.symbol_bits) ≡ Some nets.word
+  pub channel : nets.channel ≡ input_at system end role.Channel declared.channel_bits
+  pub error : nets.error ≡ input_at system end role.Error declared.error_bits
+  pub startofpacket : nets.startofpacket ≡ input_at system end role.StartOfPacket 1
+  pub endofpacket : nets.endofpacket ≡ input_at system end role.EndOfPacket 1
+  pub empty : nets.empty ≡ input_at system end role.Empty declared.empty_bits
+
+-- what drives the outputs of a stream that is a wire: the inputs of the other end, and for `dropped` a net that is always low
+abbrev pub wire_nets : SourceNets → Option NetValue → NetValue → PathNets
+wire_nets from ready low =
+    record {
+      ready = unwrap_or ready low;
+      beat = record {
+        valid = from.valid;
+        word = from.word;
+        channel = unwrap_or from.channel low;
+        error = unwrap_or from.error low;
+        first = unwrap_or from.startofpacket low;
+        last = unwrap_or from.endofpacket low;
+        empty = unwrap_or from.empty low;
+      };
+      dropped = low;
+    }
+
+-- the roles of the outputs of a stream
+abbrev pub output_roles : List Role
+output_roles = role.Ready ∷ role.Valid ∷ role.Data ∷ role.Channel ∷ role.Error ∷ role.StartOfPacket ∷ role.EndOfPacket ∷ role.Empty ∷ role.Dropped ∷ []
+
+-- the end at which an output of a role stands
+abbrev pub output_end : Connection → Role → EndId
+output_end connection role = if is_forward role then connection.end else connection.start
+
+-- the output port of a role, where there is one
+abbrev pub output_at : SystemTable → Connection → Role → Option ℕ
+output_at system connection role = port_at system (output_end connection role) role
+
+-- the net that drives it
+abbrev pub net_for : PathNets → Role → NetValue
+net_for made role.Ready = made.ready
+net_for made role.Valid = made.beat.valid
+net_for made role.Data = made.beat.word
+net_for made role.Channel = made.beat.channel
+net_for made role.Error = made.beat.error
+net_for made role.StartOfPacket = made.beat.first
+net_for made role.EndOfPacket = made.beat.last
+net_for made role.Empty = made.beat.empty
+net_for made _ = made.dropped
+
+-- ---- drivers
 
 -- the same but for what drives its ports
 pub record HasSameNets (old new : Netlist) : Type 0 where
@@ -43,23 +97,93 @@ pub record HasSameNets (old new : Netlist) : Type 0 where
   pub lines : new.lines ≡ old.lines
   pub memories : new.memories ≡ old.memories
 
--- nothing drives a port from this one on
-abbrev pub IsUndrivenFrom : Netlist → ℕ → Type 0
-IsUndrivenFrom netlist place = (k : ℕ) → place ≤ k → driver_of netlist k ≡ None
+-- the net may drive the port
+pub record MayDrive (netlist : Netlist) (net : NetValue) (port : ℕ) : Type 0 where
+  pub output : IsOutputPort netlist.ports port net.width
+  pub is_net : IsNet netlist net
+  pub undriven : driver_of netlist port ≡ None
 
--- where the ports of the stream of this number begin
-abbrev pub first_port : SystemTable → ℕ → ℕ
-first_port system number = length (flat_map (end_ports system) (hosts_of system ++ agents_of system ++ flat_map (connection_ends system) (take number (streams_of system))))
+-- each net of a stream may drive its output
+abbrev pub MayDriveAll : SystemTable → Connection → PathNets → Netlist → Type 0
+MayDriveAll system connection made netlist =
+    (n : ℕ) (role : Role) → slice_get output_roles n ≡ Some role → IfSome (output_at system connection role) (MayDrive netlist (net_for made role))
 
--- the streams below this number are joined, and nothing else is driven
-pub record IsJoinedUpTo (system : SystemTable) (number place : ℕ) (netlist : Netlist) : Type 0 where
+-- the first outputs of a stream are driven, each by its net
+abbrev pub AreDrivenBelow : ℕ → SystemTable → Connection → PathNets → Netlist → Type 0
+AreDrivenBelow count system connection made netlist =
+    (n : ℕ) (role : Role) → n < count → slice_get output_roles n ≡ Some role
+    → IfSome (output_at system connection role) (λ port. driver_of netlist port ≡ Some (net_for made role).number)
+
+-- all outputs of a stream are driven
+abbrev pub AreDriven : SystemTable → Connection → PathNets → Netlist → Type 0
+AreDriven system connection made netlist = AreDrivenBelow 9 system connection made netlist
+
+-- the port is none of the first outputs of a stream
+abbrev pub IsNoOutput : ℕ → SystemTable → Connection → ℕ → Type 0
+IsNoOutput count system connection port = (n : ℕ) (role : Role) → n < count → slice_get output_roles n ≡ Some role → ¬ (output_at system connection role ≡ Some port)
+
+-- no output of a stream is driven
+abbrev pub AreUndriven : SystemTable → Connection → Netlist → Type 0
+AreUndriven system connection netlist = (n : ℕ) (role : Role) → slice_get output_roles n ≡ Some role → IfSome (output_at system connection role) (λ port. driver_of netlist port ≡ None)
+
+-- ---- one stream
+
+-- the low net of a stream that is a wire; its connection has number `place`
+abbrev pub low_at : SystemTable → ℕ → ℕ → Option NetValue
+low_at system number place = if is_wire_at system place then Some (net_of (input_count (ports_of system) + wires_before system number) 1) else None
+
+-- what stands between two ends was added
+pub record AddsStream (system : SystemTable) (connection : Connection) (source : SourcePort) (sink : SinkPort) (low : Option NetValue) (old new : Netlist) (made : PathNets) : Type 0 where
+  pub from : SourceNets
+  pub ready : Option NetValue
+  pub from_are : AreInputs system connection.start (declared_source source) from
+  pub ready_is : ready ≡ input_at system connection.end role.Ready 1
+  pub nets : ArePathNets new (declared_sink sink) made
+  pub serves : ServesInLonger (declared_source source) (declared_sink sink) connection.fifo from ready made new
+  pub grows : GrowsBy most_nets old new
+  pub no_more_wait : StillWait new old
+  pub wire : IfSome low (λ net. made ≡ wire_nets from ready net)
+
+-- a stream whose outputs are driven by what serves it
+pub record IsJoinedStream (system : SystemTable) (netlist : Netlist) (number place : ℕ) (connection : Connection) (source : SourcePort) (sink : SinkPort) : Type 0 where
+  pub from : SourceNets
+  pub ready : Option NetValue
+  pub made : PathNets
+  pub from_are : AreInputs system connection.start (declared_source source) from
+  pub ready_is : ready ≡ input_at system connection.end role.Ready 1
+  pub serves : ServesInLonger (declared_source source) (declared_sink sink) connection.fifo from ready made netlist
+  pub driven : AreDriven system connection made netlist
+  pub wire : IfSome (low_at system number place) (λ net. made ≡ wire_nets from ready net)
+
+-- ---- all streams
+
+-- so many nets that are always low
+abbrev pub low_lines : ℕ → List Line
+low_lines zero = []
+low_lines (suc count) = low_line ∷ low_lines count
+
+-- the netlist with so many of them
+abbrev pub with_lows : Netlist → ℕ → Netlist
+with_lows netlist count = record netlist { lines = netlist.lines ++ low_lines count }
+
+-- a low net was added, where one is asked for, and else nothing
+abbrev pub AddsLow : Bool → Netlist → Netlist → Option NetValue → Type 0
+AddsLow true old new low = (new ≡ appended old low_line) × (low ≡ Some (net_of (length old.lines) 1)) × StillWait new old
+AddsLow false old new low = (new ≡ old) × (low ≡ None)
+
+-- the low nets of the first streams
+pub record AreLows (system : SystemTable) (number : ℕ) (lows : List (Option NetValue)) : Type 0 where
+  pub count : length lows ≡ number
+  pub each : (n place : ℕ) → n < number → slice_get (streams_of system) n ≡ Some place → slice_get lows n ≡ Some (low_at system n place)
+
+-- the streams below this number are joined, and no output of the others is driven
+pub record IsJoinedUpTo (system : SystemTable) (number : ℕ) (netlist : Netlist) : Type 0 where
   pub name : netlist.name ≡ module_name system
   pub ports : netlist.ports ≡ ports_of system
-  pub place_is : place ≡ first_port system number
-  pub nets : length netlist.lines ≡ input_count netlist.ports + number
-  pub joined : (n : ℕ) (connection : Connection) (source : SourcePort) (sink : SinkPort) → n < number → IsStream system n connection source sink
-      → IsJoinedStream netlist (first_port system n) (length (role_ports (Source source))) (input_count netlist.ports + n)
-  pub driven : (k w : ℕ) → k < place → IsOutputPort netlist.ports k w → IsSome (driver_of netlist k)
-  pub rest : IsUndrivenFrom netlist place
+  pub lows : (n : ℕ) → n < wires_before system (length (streams_of system)) → slice_get netlist.lines (input_count (ports_of system) + n) ≡ Some low_line
+  pub joined : (n place : ℕ) (connection : Connection) (source : SourcePort) (sink : SinkPort) → n < number → slice_get (streams_of system) n ≡ Some place
+      → IsStream system n connection source sink → IsJoinedStream system netlist n place connection source sink
+  pub rest : (n : ℕ) (connection : Connection) (source : SourcePort) (sink : SinkPort) → number ≤ n → IsStream system n connection source sink → AreUndriven system connection netlist
   pub clocked : IsClocked netlist
   pub written : IsWritten netlist
+  pub few : length netlist.lines ≤ input_count (ports_of system) + length (streams_of system) + number * most_nets

@@ -1,5 +1,5 @@
 -- The nets of a memory-mapped wire, by the numbers of its ports in the header, and the nets that drive its outputs.
-use Rattle.std.specs.Prelude.{◌≡◌, ℕ, ◌+◌, Bool, true, false, List, [], ◌∷◌, ◌++◌, map, Option, Some, None, option_map, IfSome, IsTrue}
+use Rattle.std.specs.Prelude.{◌≡◌, ℕ, ◌+◌, ◌≤◌, length, Bool, true, false, List, [], ◌∷◌, ◌++◌, map, Option, Some, None, option_map, IfSome, IsTrue}
 use Rattle.netlist.specs.Nets.{NetValue, net_of}
 use Rattle.netlist.specs.Netlists.{Netlist, IsInputPort, IsOutputPort, IsNet, IsWaiting, driver_of, input_net, with_driver}
 use Rattle.netlist.specs.Longer.{Extends}
@@ -122,6 +122,7 @@ pub record AddsWire (old new : Netlist) (host : HostNets) (agent : AgentNets) (m
   pub register : IsRegister new made.unanswered.number
   pub ignores : IgnoresWord new host agent made
   pub extends : Extends old new
+  pub most : length new.lines ≤ length old.lines + 15
   pub drivers : new.drivers ≡ old.drivers
   pub memories : new.memories ≡ old.memories
   pub no_more_wait : (n : ℕ) → IsWaiting new n → IsWaiting old n

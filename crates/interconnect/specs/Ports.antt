@@ -1,10 +1,8 @@
 -- The ports of a module: those of each end, in the order of the tables of roles.
-use Rattle.std.specs.Prelude.{◌≡◌, ℕ, ◌+◌, ◌*◌, Bool, true, false, not, nat_lt, if◌then◌else◌, List, [], ◌∷◌, ◌++◌, codes, map, filter, flat_map, slice_get, Option, Some, None}
+use Rattle.std.specs.Prelude.{ℕ, ◌*◌, Bool, true, false, not, nat_lt, if◌then◌else◌, List, [], ◌∷◌, ◌++◌, codes, map, filter, flat_map, slice_get, Option, Some, None}
 use Rattle.std.specs.Option.{option_map_or}
 use Rattle.iface_roles.specs.declared.records.HostPort.{HostPort}
 use Rattle.iface_roles.specs.declared.records.AgentPort.{AgentPort}
-use Rattle.iface_roles.specs.declared.records.SourcePort.{SourcePort}
-use Rattle.iface_roles.specs.declared.records.SinkPort.{SinkPort}
 use Rattle.iface_roles.specs.declared.records.Finished.{Finished}
 use Rattle.iface_roles.specs.declared.records.Finished.TheVariants.{Host, Agent, Source, Sink, Other}
 use Rattle.av_scripts.specs.declared.tables.EndId.{EndId}
@@ -14,6 +12,7 @@ use Rattle.address_map.specs.Maps.{hosts_of, agents_of}
 use Rattle.link_rules.specs.Links.{streams_of}
 use Rattle.netlist.specs.declared.line.PortLine.{PortLine}
 use Rattle.stream_runs.specs.Ends.{Declared}
+use Rattle.stream_path.specs.Joining.{declared_source, declared_sink}
 use Rattle.interconnect.specs.declared.roles.Role.{Role}
 use Rattle.interconnect.specs.declared.roles.Role.TheVariants as role
 use Rattle.interconnect.specs.declared.roles.RolePort.{RolePort}
@@ -105,40 +104,6 @@ agent_ports agent =
     ∷ port_of role.Response (bits_if agent.response 2)
     ∷ port_of role.Grant 4
     ∷ []
-
--- what is declared of a source
-abbrev pub declared_source : SourcePort → Declared
-declared_source source =
-    record {
-      symbols = source.symbols;
-      symbol_bits = source.symbol_bits;
-      first_high = source.first_high;
-      ready = source.ready;
-      latency = source.latency;
-      allowance = source.allowance;
-      channel_bits = source.channel_bits;
-      max_channel = source.max_channel;
-      error_bits = source.error_bits;
-      packets = source.packets;
-      empty_bits = source.empty_bits;
-    }
-
--- and of a sink
-abbrev pub declared_sink : SinkPort → Declared
-declared_sink sink =
-    record {
-      symbols = sink.symbols;
-      symbol_bits = sink.symbol_bits;
-      first_high = sink.first_high;
-      ready = sink.ready;
-      latency = sink.latency;
-      allowance = sink.allowance;
-      channel_bits = sink.channel_bits;
-      max_channel = sink.max_channel;
-      error_bits = sink.error_bits;
-      packets = sink.packets;
-      empty_bits = sink.empty_bits;
-    }
 
 -- the ports that a source or a sink may have
 abbrev pub stream_ports : Declared → List RolePort

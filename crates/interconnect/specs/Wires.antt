@@ -1,20 +1,17 @@
--- Which connections are built so far: streams that are wires, and one host joined to one agent that fills its range.
-use Rattle.std.specs.Prelude.{◌≡◌, ℕ, ◌+◌, Bool, true, false, not, ◌&&◌, ◌==◌, nat_le, length, Option, Some, None, option_map, position, slice_get}
+-- Which connections are built so far: each stream, and one host joined to one agent that fills its range. Which streams are wires.
+use Rattle.std.specs.Prelude.{ℕ, ◌+◌, Bool, true, false, not, ◌&&◌, ◌==◌, nat_le, length, take, count_by, Option, slice_get}
 use Rattle.std.specs.List.{position_from}
 use Rattle.std.specs.Option.{option_map_or}
-use Rattle.iface_roles.specs.declared.kinds.Kind.{Kind}
-use Rattle.iface_roles.specs.declared.kinds.Kind.TheVariants as kind
 use Rattle.iface_roles.specs.declared.records.HostPort.{HostPort}
 use Rattle.iface_roles.specs.declared.records.AgentPort.{AgentPort}
 use Rattle.iface_roles.specs.declared.records.Finished.{Finished}
-use Rattle.iface_roles.specs.declared.records.Finished.TheVariants.{Host, Agent, Source, Sink, Other}
+use Rattle.iface_roles.specs.declared.records.Finished.TheVariants.{Host, Agent, Source, Sink}
 use Rattle.av_scripts.specs.declared.tables.Connection.{Connection}
 use Rattle.av_scripts.specs.Tables.{SystemTable}
 use Rattle.address_map.specs.Footprints.{known_at}
-use Rattle.link_rules.specs.declared.faults.LinkRule.{LinkRule}
-use Rattle.link_rules.specs.declared.faults.LinkRule.TheVariants as rule
+use Rattle.link_rules.specs.Links.{streams_of}
 use Rattle.stream_runs.specs.Ends.{Declared}
-use Rattle.interconnect.specs.Ports.{declared_source, declared_sink}
+use Rattle.stream_path.specs.Joining.{declared_source, declared_sink}
 
 abbrev pub both_or_neither : Bool → Bool → Bool
 both_or_neither true b = b
@@ -34,7 +31,7 @@ has_plain_ready source sink = source.ready && sink.ready && (source.latency == 0
 -- a stream that is a wire: nothing has to be cut, changed, delayed or kept between its ends
 abbrev pub is_wire_stream : Declared → Declared → ℕ → Bool
 is_wire_stream source sink fifo =
-    has_same_beats source sink && has_plain_ready source sink && nat_le source.max_channel sink.max_channel && (fifo == 0)
+    has_same_beats source sink && nat_le source.max_channel sink.max_channel && has_plain_ready source sink && (fifo == 0)
 
 -- a host of 32-bit words that counts bytes and answers by `readdatavalid`, without bursts
 abbrev pub is_wire_host : HostPort → Bool
@@ -59,7 +56,7 @@ abbrev pub is_alone : SystemTable → Connection → Bool
 is_alone system connection = (length system.connections == 1) && (connection.base == 0) && (system.stages == 0)
 
 abbrev pub is_built_as : SystemTable → Connection → Finished → Finished → Bool
-is_built_as system connection (Source source) (Sink sink) = is_wire_stream (declared_source source) (declared_sink sink) connection.fifo
+is_built_as system connection (Source source) (Sink sink) = true
 is_built_as system connection (Host host) (Agent agent) = is_alone system connection && is_wire_memory host agent
 is_built_as system connection _ _ = false
 
@@ -67,14 +64,22 @@ is_built_as system connection _ _ = false
 abbrev pub is_built : SystemTable → Connection → Bool
 is_built system connection = is_built_as system connection (known_at system connection.start) (known_at system connection.end)
 
--- the rule that refuses a connection that isn't built
-abbrev pub unbuilt_rule : Kind → LinkRule
-unbuilt_rule kind.Stream = rule.Stream 10
-unbuilt_rule _ = rule.Mm 10
+abbrev pub is_wire_as : ℕ → Finished → Finished → Bool
+is_wire_as fifo (Source source) (Sink sink) = is_wire_stream (declared_source source) (declared_sink sink) fifo
+is_wire_as fifo _ _ = false
 
-abbrev pub rule_at : SystemTable → ℕ → LinkRule
-rule_at system number = option_map_or (λ connection. unbuilt_rule connection.kind) (slice_get system.connections number) (rule.Mm 10)
+-- the connection is a stream that is a wire
+abbrev pub is_wire : SystemTable → Connection → Bool
+is_wire system connection = is_wire_as connection.fifo (known_at system connection.start) (known_at system connection.end)
 
--- the least connection that isn't built, and the rule that refuses it
-abbrev pub pending_of : SystemTable → Option (ℕ × LinkRule)
-pending_of system = option_map (λ number. (number, rule_at system number)) (position_from (λ connection. not (is_built system connection)) 0 system.connections)
+-- the connection of this number is a stream that is a wire
+abbrev pub is_wire_at : SystemTable → ℕ → Bool
+is_wire_at system number = option_map_or (is_wire system) (slice_get system.connections number) false
+
+-- how many of the streams before this one are wires
+abbrev pub wires_before : SystemTable → ℕ → ℕ
+wires_before system number = count_by (is_wire_at system) (take number (streams_of system))
+
+-- the least connection that isn't built
+abbrev pub pending_of : SystemTable → Option ℕ
+pending_of system = position_from (λ connection. not (is_built system connection)) 0 system.connections

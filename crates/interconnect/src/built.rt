@@ -1,11 +1,12 @@
 ghost use Rattle.std.specs.Prelude.{◌≡◌, length};
 ghost use Rattle.av_scripts.specs.Tables.{IsLogic};
-ghost use Rattle.interconnect.specs.Ports.{declared_source, declared_sink};
-ghost use Rattle.interconnect.specs.Wires.{has_same_beats, has_plain_ready, is_wire_stream, is_wire_host, is_wire_agent, fills_range, is_wire_memory, is_alone, is_built, unbuilt_rule, pending_of};
+ghost use Rattle.stream_path.specs.Joining.{declared_source, declared_sink};
+ghost use Rattle.interconnect.specs.Wires.{has_same_beats, has_plain_ready, is_wire_stream, is_wire, is_wire_host, is_wire_agent, fills_range, is_wire_memory, is_alone, is_built, pending_of};
+ghost use Rattle.interconnect.specs.Ends.{IsPlanEnd};
 
 use av_scripts::Connection;
-use iface_roles::{AgentPort, Finished, HostPort, Kind, SinkPort, SourcePort};
-use link_rules::{LinkRule, Plan};
+use iface_roles::{AgentPort, Finished, HostPort, SinkPort, SourcePort};
+use link_rules::Plan;
 
 fn has_same_beats(source: &SourcePort, sink: &SinkPort) -> bool
     ensures { result ≡ has_same_beats (declared_source source.now) (declared_sink sink.now) }
@@ -31,9 +32,25 @@ fn is_wire_stream(source: &SourcePort, sink: &SinkPort, fifo: u8) -> bool
     ensures { result ≡ is_wire_stream (declared_source source.now) (declared_sink sink.now) fifo }
 {
     has_same_beats(source, sink)
-        && has_plain_ready(source, sink)
         && source.max_channel <= sink.max_channel
+        && has_plain_ready(source, sink)
         && fifo == 0
+}
+
+/// Whether the connection is a stream that is a wire.
+pub(crate) fn is_wire(plan: &Plan, connection: Connection) -> bool
+    requires start { IsPlanEnd plan.now.system connection.start }
+    requires end { IsPlanEnd plan.now.system connection.end }
+    ensures { result ≡ is_wire plan.now.system connection }
+{
+    let start = plan.interface(connection.start);
+    let end = plan.interface(connection.end);
+    match (start, end) {
+        (Finished::Source(source), Finished::Sink(sink)) => {
+            is_wire_stream(&source, &sink, connection.fifo)
+        }
+        _ => false,
+    }
 }
 
 fn is_wire_host(host: &HostPort) -> bool
@@ -94,9 +111,7 @@ fn is_built(plan: &Plan, connection: Connection) -> bool
     let start = plan.interface(connection.start);
     let end = plan.interface(connection.end);
     match (start, end) {
-        (Finished::Source(source), Finished::Sink(sink)) => {
-            is_wire_stream(&source, &sink, connection.fifo)
-        }
+        (Finished::Source(_), Finished::Sink(_)) => true,
         (Finished::Host(host), Finished::Agent(agent)) => {
             is_alone(plan, connection) && is_wire_memory(&host, &agent)
         }
@@ -104,24 +119,15 @@ fn is_built(plan: &Plan, connection: Connection) -> bool
     }
 }
 
-fn unbuilt_rule(kind: Kind) -> LinkRule
-    ensures { result ≡ unbuilt_rule kind }
-{
-    match kind {
-        Kind::Stream => LinkRule::Stream(10),
-        _ => LinkRule::Mm(10),
-    }
-}
-
-/// The least connection that isn't built yet, and the rule that refuses it: P10 or S10.
-pub fn pending(plan: &Plan) -> Option<(u32, LinkRule)>
+/// The least connection that isn't built yet: one of a host and an agent.
+pub fn pending(plan: &Plan) -> Option<u32>
     ensures { result ≡ pending_of plan.now.system }
 {
     plan.well_made();
     plan.is_within_limits();
     for (number, connection) in plan.connections().iter().enumerate() {
         if !is_built(plan, *connection) {
-            return Some((number as u32, unbuilt_rule(connection.kind)));
+            return Some(number as u32);
         }
     }
     None

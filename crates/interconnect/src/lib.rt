@@ -4,9 +4,12 @@
 mod built;
 mod header;
 mod memory;
+mod port_map;
+mod port_table;
 mod roles;
 mod streams;
 mod whole;
 
 pub use built::pending;
-pub use whole::build;
+pub use port_table::PortMap;
+pub use whole::{Built, build};

@@ -8,9 +8,11 @@ ghost use Rattle.address_map.specs.Maps.{hosts_of};
 ghost use Rattle.interconnect.specs.Wires.{pending_of};
 ghost use Rattle.interconnect.specs.Memory.{form_of};
 ghost use Rattle.interconnect.specs.Interconnect.{IsInterconnect};
+ghost use Rattle.interconnect.specs.PortMaps.{entries_of};
 ghost use Rattle.interconnect.specs.MemoryNets.{bounded_form, IsOnlyMemory, wire_places, AreHostInputs, AreAgentInputs, host_nets_at, agent_nets_at, AddsWire, driver, CanDrive, driven_by, enables_driver, wire_drivers};
 
 use crate::header::start;
+use crate::port_table::PortMap;
 use av_base::NoMemory;
 use iface_roles::{AgentPort, Finished};
 use link_rules::Plan;
@@ -248,9 +250,10 @@ fn plan_form(plan: &Plan) -> MemoryForm
 }
 
 /// The interconnect of a system with a host: one host and one agent.
-pub(crate) fn build_memory(alloc: Global, plan: &Plan) -> Result<Module, NoMemory>
+pub(crate) fn build_memory(alloc: Global, plan: &Plan, ports: &PortMap) -> Result<Module, NoMemory>
     requires built { pending_of plan.now.system ≡ None }
     requires some_host { hosts_of plan.now.system ≢ [] }
+    requires map { ports.now.entries ≡ entries_of plan.now.system }
     ensures { IfOk result (λ whole. IsInterconnect plan.now.system whole) }
 {
     // the laws of such a wire, which the contract rests on
@@ -260,7 +263,7 @@ pub(crate) fn build_memory(alloc: Global, plan: &Plan) -> Result<Module, NoMemor
     plan.well_made();
     let form = plan_form(plan);
     let places = wire_places(form.has_enables);
-    let mut builder = start(alloc, plan)?;
+    let mut builder = start(alloc, plan, ports)?;
     let host = host_nets(&builder, places.host, form.address_bits);
     let agent = agent_nets(&builder, places.agent);
     let made = wire_nets(&mut builder, &host, &agent, form)?;

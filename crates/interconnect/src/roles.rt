@@ -1,5 +1,6 @@
-ghost use Rattle.std.specs.Prelude.{◌≡◌, ◌*◌, ◌≤◌, count_by};
-ghost use Rattle.interconnect.specs.Ports.{role_word, is_forward, is_output, port_of, bits_if, host_ports, agent_ports, declared_source, declared_sink, stream_ports, has_bits};
+ghost use Rattle.std.specs.Prelude.{◌≡◌, ◌*◌, ◌≤◌};
+ghost use Rattle.interconnect.specs.Ports.{role_word, is_forward, is_output, port_of, bits_if, host_ports, agent_ports, stream_ports};
+ghost use Rattle.stream_path.specs.Joining.{declared_source, declared_sink};
 
 use iface_roles::{AgentPort, HostPort, SinkPort, SourcePort};
 
@@ -66,7 +67,7 @@ impl Role {
     }
 
     /// Whether the signal goes the way of the connection: from a host or a source.
-    fn is_forward(self) -> bool
+    pub(crate) fn is_forward(self) -> bool
         ensures { result ≡ is_forward self }
     {
         !matches!(
@@ -179,11 +180,4 @@ pub(crate) fn sink_ports(sink: &SinkPort) -> [RolePort; 8]
         port(Role::EndOfPacket, bits_if(sink.packets, 1)),
         port(Role::Empty, sink.empty_bits),
     ]
-}
-
-/// How many of the ports are there.
-pub(crate) fn count_ports(ports: &[RolePort]) -> usize
-    ensures { result ≡ count_by has_bits ports.now }
-{
-    ports.iter().filter(|port| port.width > 0).count()
 }

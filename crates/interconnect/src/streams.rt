@@ -1,71 +1,110 @@
-ghost use Rattle.std.specs.Prelude.{◌≡◌, ◌≢◌, ℕ, ◌+◌, ◌^◌, ◌<◌, ◌≤◌, [], length, Some, None, IfOk, OnOk};
+ghost use Rattle.std.specs.Prelude.{◌≡◌, ◌≢◌, ℕ, ◌+◌, ◌^◌, ◌<◌, ◌≤◌, [], length, slice_get, Some, None, IfOk, IfSome, OnOk};
 ghost use Rattle.iface_roles.specs.declared.records.SourcePort.{SourcePort};
-ghost use Rattle.iface_roles.specs.declared.records.Finished.TheVariants.{Source};
+ghost use Rattle.iface_roles.specs.declared.records.SinkPort.{SinkPort};
+ghost use Rattle.iface_roles.specs.declared.records.Finished.TheVariants.{Source, Sink};
 ghost use Rattle.address_map.specs.Footprints.{known_at};
-ghost use Rattle.netlist.specs.Netlists.{IsNet, IsOutputPort, driver_of, input_net, appended};
-ghost use Rattle.netlist.specs.Nets.{net_of};
 ghost use Rattle.address_map.specs.Maps.{hosts_of};
 ghost use Rattle.link_rules.specs.Links.{streams_of};
+ghost use Rattle.netlist.specs.Nets.{net_of};
+ghost use Rattle.netlist.specs.Netlists.{driver_of, appended, started};
+ghost use Rattle.netlist.specs.Longer.{Extends};
+ghost use Rattle.stage_core.specs.Beats.{IsNetOfWidth};
+ghost use Rattle.stage_core.specs.Growth.{GrowsBy, StillWait};
+ghost use Rattle.stream_path.specs.Joining.{declared_source, declared_sink, CanJoin};
+ghost use Rattle.stream_path.specs.Ends.{IsNetIf, AreSourceNets, ArePathNets};
+ghost use Rattle.stream_path.specs.Serving.{most_nets, ServesInLonger};
 ghost use Rattle.interconnect.specs.Interconnect.{IsInterconnect};
-ghost use Rattle.interconnect.specs.Ends.{IsPlanEnd};
-ghost use Rattle.interconnect.specs.Ports.{role_ports};
-ghost use Rattle.interconnect.specs.Wires.{pending_of};
+ghost use Rattle.interconnect.specs.Ends.{IsPlanEnd, IsStreamPlace};
+ghost use Rattle.interconnect.specs.Ports.{ends_of, ports_of, module_name};
+ghost use Rattle.interconnect.specs.PortMaps.{entries_of, port_at};
+ghost use Rattle.interconnect.specs.Wires.{is_wire, wires_before};
 ghost use Rattle.interconnect.specs.Streams.{low_line};
-ghost use Rattle.interconnect.specs.Joins.{AreOpposite, AreStreamPorts, AreJoined, HasSameNets, IsUndrivenFrom, IsJoinedUpTo};
+ghost use Rattle.interconnect.specs.Joins.{IsAnEnd, IsInputIf, input_at, AreInputs, wire_nets, output_roles, output_end, net_for, HasSameNets, MayDrive, MayDriveAll, AreDriven, IsNoOutput, low_at, AddsLow, AddsStream, with_lows, AreLows, IsJoinedUpTo};
 
+use crate::built::is_wire;
 use crate::header::{start, stream_at};
-use crate::roles::{count_ports, source_ports};
-use av_base::{NoMemory, Val};
-use av_scripts::EndId;
-use iface_roles::{Finished, proper_records_are_bounded};
+use crate::port_table::PortMap;
+use crate::roles::Role;
+use av_base::{List, NoMemory, Val};
+use av_scripts::{Connection, EndId};
+use iface_roles::{Finished, SinkPort, SourcePort, proper_records_are_bounded};
 use link_rules::Plan;
 use netlist::{Builder, Module, Net, NetFault};
+use stage_core::BeatNets;
 use std::alloc::Global;
+use stream_path::{PathNets, SourceNets, emit_path};
 
-/// Lets a net drive an output port.
-fn drive(builder: &mut Builder, output: u32, net: Net)
-    requires port { IsOutputPort builder.old.ports output net.width }
-    requires net_is { IsNet builder.old net }
-    requires undriven { driver_of builder.old output ≡ None }
-    ensures same { HasSameNets builder.old builder.new }
-    ensures driver { driver_of builder.new output ≡ Some net.number }
-    ensures others { (k : ℕ) → k ≢ output → driver_of builder.new k ≡ driver_of builder.old k }
+/// The port of a role at an end.
+fn port_of(plan: &Plan, ports: &PortMap, end: EndId, role: Role) -> Option<u32>
+    requires map { ports.now.entries ≡ entries_of plan.now.system }
+    requires end { IsAnEnd plan.now.system end }
+    ensures { result ≡ port_at plan.now.system end role }
 {
-    builder.drive(output, net);
+    plan.well_made();
+    ports.find(end, role)
 }
 
-/// Lets an input port drive an output port.
-fn connect(builder: &mut Builder, output: u32, input: u32)
-    requires alike { AreOpposite builder.old.ports output input }
-    requires undriven { driver_of builder.old output ≡ None }
-    ensures same { HasSameNets builder.old builder.new }
-    ensures driver { driver_of builder.new output ≡ Some (input_net builder.old.ports input) }
-    ensures others { (k : ℕ) → k ≢ output → driver_of builder.new k ≡ driver_of builder.old k }
+/// The net of the input port of a role at an end.
+fn input_of(builder: &Builder, plan: &Plan, ports: &PortMap, end: EndId, role: Role) -> Option<Net>
+    requires builder { builder.now.ports ≡ ports_of plan.now.system }
+    requires map { ports.now.entries ≡ entries_of plan.now.system }
+    requires end { IsAnEnd plan.now.system end }
+    requires input { (width : ℕ) × IsInputIf plan.now.system end role width }
+    ensures net { (width : ℕ) → IsInputIf plan.now.system end role width → result ≡ input_at plan.now.system end role width }
+    ensures is { (width : ℕ) → IsInputIf plan.now.system end role width → IfSome result (λ net. IsNetOfWidth builder.now net width) }
 {
-    let net = builder.input(input);
-    drive(builder, output, net);
+    match port_of(plan, ports, end, role) {
+        Some(port) => Some(builder.input(port)),
+        None => None,
+    }
 }
 
-/// Joins the ends of a stream, each of so many ports, the first of which stands at `place`.
-fn join(builder: &mut Builder, place: u32, count: u32)
-    requires ports { AreStreamPorts builder.old.ports place count }
-    requires small { place + count + count < 2 ^ 32 }
-    requires undriven { IsUndrivenFrom builder.old place }
-    ensures same { HasSameNets builder.old builder.new }
-    ensures joined { AreJoined builder.new place count }
-    ensures before { (k : ℕ) → k < place → driver_of builder.new k ≡ driver_of builder.old k }
-    ensures rest { IsUndrivenFrom builder.new (place + count + count) }
+/// The nets of a source.
+fn source_nets(builder: &Builder, plan: &Plan, ports: &PortMap, end: EndId) -> SourceNets
+    requires builder { builder.now.ports ≡ ports_of plan.now.system }
+    requires map { ports.now.entries ≡ entries_of plan.now.system }
+    requires end { IsAnEnd plan.now.system end }
+    requires source { (source : SourcePort) × (known_at plan.now.system end ≡ Source source) }
+    ensures inputs { (source : SourcePort) → known_at plan.now.system end ≡ Source source → AreInputs plan.now.system end (declared_source source) result }
+    ensures nets { (source : SourcePort) → known_at plan.now.system end ≡ Source source → AreSourceNets builder.now (declared_source source) result }
 {
-    connect(builder, place, place + count);
-    for k in 1..count {
-        connect(builder, place + count + k, place + k);
+    proper_records_are_bounded();
+    plan.well_made();
+    SourceNets {
+        valid: input_of(builder, plan, ports, end, Role::Valid).unwrap(),
+        word: input_of(builder, plan, ports, end, Role::Data).unwrap(),
+        channel: input_of(builder, plan, ports, end, Role::Channel),
+        error: input_of(builder, plan, ports, end, Role::Error),
+        startofpacket: input_of(builder, plan, ports, end, Role::StartOfPacket),
+        endofpacket: input_of(builder, plan, ports, end, Role::EndOfPacket),
+        empty: input_of(builder, plan, ports, end, Role::Empty),
+    }
+}
+
+/// What drives the outputs of a stream that is a wire, by a net that is always low.
+fn wire_nets(from: &SourceNets, ready: Option<Net>, low: Net) -> PathNets
+    ensures { result ≡ wire_nets from.now ready low }
+{
+    PathNets {
+        ready: ready.unwrap_or(low),
+        beat: BeatNets {
+            valid: from.valid,
+            word: from.word,
+            channel: from.channel.unwrap_or(low),
+            error: from.error.unwrap_or(low),
+            first: from.startofpacket.unwrap_or(low),
+            last: from.endofpacket.unwrap_or(low),
+            empty: from.empty.unwrap_or(low),
+        },
+        dropped: low,
     }
 }
 
 /// A net that is always low.
 fn low(builder: &mut Builder) -> Result<Net, NoMemory>
     requires { length builder.old.lines < 2 ^ 20 }
-    ensures { IfOk result (λ net. (builder.new ≡ appended builder.old low_line) × (net ≡ net_of (length builder.old.lines) 1)) }
+    ensures line { IfOk result (λ net. (builder.new ≡ appended builder.old low_line) × (net ≡ net_of (length builder.old.lines) 1)) }
+    ensures no_more_wait { StillWait builder.new builder.old }
 {
     match builder.constant(Val::new(1, 0).unwrap()) {
         Ok(net) => Ok(net),
@@ -74,55 +113,241 @@ fn low(builder: &mut Builder) -> Result<Net, NoMemory>
     }
 }
 
-/// How many ports a source has.
-fn count_source_ports(plan: &Plan, end: EndId) -> usize
-    requires { IsPlanEnd plan.now.system end }
-    ensures value { (source : SourcePort) → known_at plan.now.system end ≡ Source source → result ≡ length (role_ports (Source source)) }
-    ensures few { result ≤ 8 }
+/// A net that is always low, where the connection is a stream that is a wire.
+fn low_net(
+    builder: &mut Builder,
+    plan: &Plan,
+    connection: Connection,
+) -> Result<Option<Net>, NoMemory>
+    requires start { IsPlanEnd plan.now.system connection.start }
+    requires end { IsPlanEnd plan.now.system connection.end }
+    requires room { length builder.old.lines < 2 ^ 20 }
+    ensures { IfOk result (AddsLow (is_wire plan.now.system connection) builder.old builder.new) }
 {
-    match plan.interface(end) {
-        Finished::Source(source) => count_ports(&source_ports(&source)),
-        _ => 0,
+    if is_wire(plan, connection) {
+        let net = low(builder)?;
+        Ok(Some(net))
+    } else {
+        Ok(None)
     }
 }
 
-/// Joins the ends of a stream, whose ports begin at `place`. Gives the place behind them.
-fn join_stream(
+/// For each stream that is a wire a net that is always low, by the stream's number.
+fn low_nets(
+    alloc: Global,
     builder: &mut Builder,
     plan: &Plan,
-    number: usize,
-    place: u32,
-) -> Result<u32, NoMemory>
-    requires inside { number < length (streams_of plan.now.system) }
-    requires built { pending_of plan.now.system ≡ None }
-    requires joined { IsJoinedUpTo plan.now.system number place builder.old }
-    ensures { IfOk result (λ next. IsJoinedUpTo plan.now.system (number + 1) next builder.new) }
+) -> Result<List<Option<Net>>, NoMemory>
+    requires { builder.old ≡ started (module_name plan.now.system) (ports_of plan.now.system) }
+    ensures lows { IfOk result (AreLows plan.now.system (length (streams_of plan.now.system))) }
+    ensures lines { OnOk result (builder.new ≡ with_lows builder.old (wires_before plan.now.system (length (streams_of plan.now.system)))) }
+    ensures no_more_wait { OnOk result (StillWait builder.new builder.old) }
 {
     plan.well_made();
-    builder.well_made();
-    let connection = stream_at(plan, number);
-    let count = count_source_ports(plan, connection.start) as u32;
-    let dropped = low(builder)?;
-    join(builder, place, count);
-    drive(builder, place + count + count, dropped);
-    Ok(place + count + count + 1)
+    let mut lows = List::new(alloc);
+    for number in 0..plan.streams().len() {
+        let connection = stream_at(plan, number);
+        let low = low_net(builder, plan, connection)?;
+        lows.push(low)?;
+    }
+    Ok(lows)
 }
 
-/// The interconnect of a system without hosts.
-pub(crate) fn build_streams(alloc: Global, plan: &Plan) -> Result<Module, NoMemory>
-    requires built { pending_of plan.now.system ≡ None }
-    requires no_host { hosts_of plan.now.system ≡ [] }
-    ensures { IfOk result (λ whole. IsInterconnect plan.now.system whole) }
+/// What stands between a source and a sink that aren't joined by a wire.
+fn path_nets(
+    alloc: Global,
+    builder: &mut Builder,
+    source: &SourcePort,
+    sink: &SinkPort,
+    depth: u8,
+    from: &SourceNets,
+    ready: Option<Net>,
+) -> Result<PathNets, NoMemory>
+    requires joined { CanJoin (declared_source source.now) (declared_sink sink.now) }
+    requires shallow { depth ≤ 64 }
+    requires from { AreSourceNets builder.old (declared_source source.now) from.now }
+    requires ready { IsNetIf sink.now.ready 1 builder.old ready }
+    requires room { length builder.old.lines + most_nets ≤ 2 ^ 20 }
+    ensures nets { IfOk result (λ made. ArePathNets builder.new (declared_sink sink.now) made) }
+    ensures serves { IfOk result (λ made. ServesInLonger (declared_source source.now) (declared_sink sink.now) depth from.now ready made builder.new) }
+    ensures grows { GrowsBy most_nets builder.old builder.new }
+    ensures no_more_wait { OnOk result (StillWait builder.new builder.old) }
+{
+    match emit_path(alloc, builder, source, sink, depth, from, ready) {
+        Ok(made) => Ok(made),
+        Err(NetFault::NoMemory) => Err(NoMemory),
+        Err(NetFault::TooManyNets) => unreachable!(),
+    }
+}
+
+/// What stands between the ends of a stream; with `low` it is a wire.
+fn stream_nets(
+    alloc: Global,
+    builder: &mut Builder,
+    plan: &Plan,
+    ports: &PortMap,
+    number: usize,
+    connection: Connection,
+    low: Option<Net>,
+) -> Result<PathNets, NoMemory>
+    requires at { IsStreamPlace plan.now.system number connection }
+    requires map { ports.now.entries ≡ entries_of plan.now.system }
+    requires low { (place : ℕ) → slice_get (streams_of plan.now.system) number ≡ Some place → low ≡ low_at plan.now.system number place }
+    requires joined { IsJoinedUpTo plan.now.system number builder.old }
+    ensures { IfOk result (λ made. (source : SourcePort) (sink : SinkPort) → known_at plan.now.system connection.start ≡ Source source → known_at plan.now.system connection.end ≡ Sink sink
+        → AddsStream plan.now.system connection source sink low builder.old builder.new made) }
 {
     // the law of a wire, which the contract rests on
     stream_runs::wire_is_served();
     proper_records_are_bounded();
     plan.well_made();
-
-    let mut builder = start(alloc, plan)?;
-    let mut place = 0;
-    for number in 0..plan.streams().len() {
-        place = join_stream(&mut builder, plan, number, place)?;
+    let Finished::Source(source) = plan.interface(connection.start) else {
+        unreachable!()
+    };
+    let Finished::Sink(sink) = plan.interface(connection.end) else {
+        unreachable!()
+    };
+    let from = source_nets(builder, plan, ports, connection.start);
+    let ready = input_of(builder, plan, ports, connection.end, Role::Ready);
+    match low {
+        Some(low) => Ok(wire_nets(&from, ready, low)),
+        None => path_nets(
+            alloc,
+            builder,
+            &source,
+            &sink,
+            connection.fifo,
+            &from,
+            ready,
+        ),
     }
+}
+
+/// Lets a net drive an output port, where there is one.
+fn drive(builder: &mut Builder, port: Option<u32>, net: Net)
+    requires { IfSome port (MayDrive builder.old net) }
+    ensures same { HasSameNets builder.old builder.new }
+    ensures extends { Extends builder.old builder.new }
+    ensures driver { IfSome port (λ k. driver_of builder.new k ≡ Some net.number) }
+    ensures others { (k : ℕ) → port ≢ Some k → driver_of builder.new k ≡ driver_of builder.old k }
+{
+    if let Some(port) = port {
+        builder.drive(port, net);
+    }
+}
+
+/// The roles of the outputs of a stream.
+fn output_roles() -> [Role; 9]
+    ensures { result ≡ output_roles }
+{
+    [
+        Role::Ready,
+        Role::Valid,
+        Role::Data,
+        Role::Channel,
+        Role::Error,
+        Role::StartOfPacket,
+        Role::EndOfPacket,
+        Role::Empty,
+        Role::Dropped,
+    ]
+}
+
+/// The end at which an output of a role stands.
+fn output_end(connection: Connection, role: Role) -> EndId
+    ensures { result ≡ output_end connection role }
+{
+    if role.is_forward() {
+        connection.end
+    } else {
+        connection.start
+    }
+}
+
+/// The net that drives the output of a role.
+fn net_for(made: &PathNets, role: Role) -> Net
+    ensures { result ≡ net_for made.now role }
+{
+    match role {
+        Role::Ready => made.ready,
+        Role::Valid => made.beat.valid,
+        Role::Data => made.beat.word,
+        Role::Channel => made.beat.channel,
+        Role::Error => made.beat.error,
+        Role::StartOfPacket => made.beat.first,
+        Role::EndOfPacket => made.beat.last,
+        Role::Empty => made.beat.empty,
+        _ => made.dropped,
+    }
+}
+
+/// Lets the nets of a stream drive its outputs.
+fn drive_outputs(
+    builder: &mut Builder,
+    plan: &Plan,
+    ports: &PortMap,
+    connection: Connection,
+    made: &PathNets,
+)
+    requires start { IsAnEnd plan.now.system connection.start }
+    requires end { IsAnEnd plan.now.system connection.end }
+    requires map { ports.now.entries ≡ entries_of plan.now.system }
+    requires can { MayDriveAll plan.now.system connection made.now builder.old }
+    ensures same { HasSameNets builder.old builder.new }
+    ensures extends { Extends builder.old builder.new }
+    ensures driven { AreDriven plan.now.system connection made.now builder.new }
+    ensures others { (k : ℕ) → IsNoOutput 9 plan.now.system connection k → driver_of builder.new k ≡ driver_of builder.old k }
+{
+    plan.well_made();
+    netlist::keeps();
+    let roles = output_roles();
+    for role in &roles {
+        let end = output_end(connection, *role);
+        drive(
+            builder,
+            port_of(plan, ports, end, *role),
+            net_for(made, *role),
+        );
+    }
+}
+
+/// Joins the ends of a stream; with `low` by a wire.
+fn join_stream(
+    alloc: Global,
+    builder: &mut Builder,
+    plan: &Plan,
+    ports: &PortMap,
+    number: usize,
+    low: Option<Net>,
+) -> Result<(), NoMemory>
+    requires inside { number < length (streams_of plan.now.system) }
+    requires map { ports.now.entries ≡ entries_of plan.now.system }
+    requires low { (place : ℕ) → slice_get (streams_of plan.now.system) number ≡ Some place → low ≡ low_at plan.now.system number place }
+    requires joined { IsJoinedUpTo plan.now.system number builder.old }
+    ensures { OnOk result (IsJoinedUpTo plan.now.system (number + 1) builder.new) }
+{
+    plan.well_made();
+    netlist::keeps();
+    let connection = stream_at(plan, number);
+    let made = stream_nets(alloc, builder, plan, ports, number, connection, low)?;
+    drive_outputs(builder, plan, ports, connection, &made);
+    Ok(())
+}
+
+/// The interconnect of a system without hosts.
+pub(crate) fn build_streams(alloc: Global, plan: &Plan, ports: &PortMap) -> Result<Module, NoMemory>
+    requires no_host { hosts_of plan.now.system ≡ [] }
+    requires map { ports.now.entries ≡ entries_of plan.now.system }
+    ensures { IfOk result (λ whole. IsInterconnect plan.now.system whole) }
+{
+    proper_records_are_bounded();
+    plan.well_made();
+    let mut builder = start(alloc, plan, ports)?;
+    let lows = low_nets(alloc, &mut builder, plan)?;
+    for number in 0..plan.streams().len() {
+        let low = lows.as_slice()[number];
+        join_stream(alloc, &mut builder, plan, ports, number, low)?;
+    }
+    builder.well_made();
     Ok(builder.finish())
 }

@@ -97,6 +97,16 @@ pub fn bus() -> &'static [u8] {
     b"create_system bus\nadd_instance m master\nadd_instance s memory\nadd_connection m.h s.a\n"
 }
 
+/// The same, with a pipeline stage.
+pub fn staged_bus() -> &'static [u8] {
+    b"create_system bus
+add_instance m master
+add_instance s memory
+add_connection m.h s.a
+set_interconnect_requirement {$system} qsys_mm.maxAdditionalLatency 1
+"
+}
+
 pub fn master() -> &'static [u8] {
     b"package require -exact qsys 16.0
 set_module_property NAME master

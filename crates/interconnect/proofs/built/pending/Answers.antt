@@ -1,10 +1,9 @@
 use Rattle.std.proofs.Common.{◌≡◌, ◌<◌, ◌≤◌, ℕ, ◌+◌, true, false, not, Option, Some, None, ◌∙◌, sym, ap, subst, length, get_or, drop, List, slice_get, arith, refl}
-use Rattle.std.specs.Prelude.{option_map}
 use Rattle.std.specs.List.{position_from}
 use Rattle.std.proofs.lemmas.Option.{slice_get-get_or}
 use Rattle.av_scripts.specs.declared.tables.Connection.{Connection}
 use Rattle.av_scripts.specs.Tables.{SystemTable}
-use Rattle.interconnect.specs.Wires.{is_built, rule_at, unbuilt_rule, pending_of}
+use Rattle.interconnect.specs.Wires.{is_built, pending_of}
 use Rattle.interconnect.proofs.Lists.{position_at, position_past}
 use Rattle.interconnect.proofs.EndFacts.{planned}
 use Rattle.interconnect.proofs.Counts.{connections-few}
@@ -17,11 +16,11 @@ abbrev from_place : SystemTable → ℕ → Option ℕ
 from_place system k = position_from (λ (connection : Connection). not (is_built system connection)) k (drop k system.connections)
 
 found : (system : SystemTable) (k : ℕ) (a : Connection) → slice_get system.connections k ≡ Some a → Waits system (from_place system k) → is_built system a ≡ false
-    → pending_of system ≡ Some (k, unbuilt_rule a.kind)
+    → pending_of system ≡ Some k
 found system k a at waits unbuilt =
     let step = position_at (λ (connection : Connection). not (is_built system connection)) system.connections k a at in
     let stop : from_place system k ≡ Some k = rw unbuilt at step in
-    ap (option_map (λ number. (number, rule_at system number))) (waits ∙ stop) ∙ rw at refl
+    waits ∙ stop
 
 goes_on : (system : SystemTable) (k : ℕ) (a : Connection) → slice_get system.connections k ≡ Some a → Waits system (from_place system k) → is_built system a ≡ true
     → Waits system (from_place system (k + 1))
@@ -32,7 +31,7 @@ goes_on system k a at waits built =
 
 none_waits : (system : SystemTable) (k : ℕ) → length system.connections ≤ k → Waits system (from_place system k) → pending_of system ≡ None
 none_waits system k past waits =
-    ap (option_map (λ number. (number, rule_at system number))) (waits ∙ position_past (λ (connection : Connection). not (is_built system connection)) system.connections k k past)
+    waits ∙ position_past (λ (connection : Connection). not (is_built system connection)) system.connections k k past
 
 -- the item that the loop is at
 at_item : (system : SystemTable) (xs : List Connection) (k : ℕ) (d : Connection) → xs ≡ system.connections → k < length xs → slice_get system.connections k ≡ Some (get_or xs k d)
@@ -42,7 +41,6 @@ pub returns-then-not-is_built : goal.returns-then-not-is_built
 returns-then-not-is_built c =
     let system = c.args.plan.now.system in
     let at = at_item system c.connections-connection-items.result.now c.loop-number.number _ c.connections-connection-items.ensures c.loop-number-test.true in
-    let rule = c.unbuilt_rule.ensures in
     let unbuilt = sym c.is_built.ensures ∙ c.if-not-is_built.true in
     let is = found system c.loop-number.number _ at c.loop-number.invariant unbuilt in
     cc

@@ -1,12 +1,24 @@
-use Rattle.std.proofs.Common.{sym, subst, List}
-use Rattle.av_scripts.specs.declared.tables.EndId.{EndId}
-use Rattle.interconnect.specs.Ends.{ArePlanEnds}
+use Rattle.std.proofs.Common.{◌≡◌, ℕ, zero, suc, List, [], ◌∷◌, ◌≤◌, refl, length, take, map, arith, ap, ◌∙◌}
+use Rattle.std.proofs.lemmas.Option.{slice_get-get_or}
+use Rattle.interconnect.specs.PortMaps.{line_of_entry}
 use Rattle.interconnect.proofs.EndFacts.{planned}
-use Rattle.interconnect.proofs.Numbering.{are_hosts, are_agents}
+use Rattle.interconnect.proofs.PortPlaces.{lines-are, entry_end}
 use Rattle.interconnect.proofs.header.header_ports.Goals as goal
 
-pub push_ends-requires : goal.push_ends-requires
-push_ends-requires c = subst (λ (ends : List EndId). ArePlanEnds c.args.plan.now.system ends) (sym c.hosts.ensures) (are_hosts c.args.plan.now.system (planned c.args.plan.now c.well_made.ensures))
+pub line_of_entry-requires : goal.line_of_entry-requires
+line_of_entry-requires c =
+    entry_end c.args.plan.now.system c.as_slice-entry-items.result.now c.loop-entry.entry-index _ (planned c.args.plan.now c.well_made.ensures) (c.as_slice-entry-items.ensures ∙ c.requires)
+    (slice_get-get_or c.as_slice-entry-items.result.now c.loop-entry.entry-index _ c.loop-entry-test.true)
 
-pub push_ends-requires-2 : goal.push_ends-requires-2
-push_ends-requires-2 c = subst (λ (ends : List EndId). ArePlanEnds c.args.plan.now.system ends) (sym c.agents.ensures) (are_agents c.args.plan.now.system (planned c.args.plan.now c.well_made.ensures))
+take_past : {X : Type 0} (k : ℕ) (xs : List X) → length xs ≤ k → take k xs ≡ xs
+take_past zero [] h = refl
+take_past zero (x ∷ xs) h = absurd (omega arith)
+take_past (suc k) [] h = refl
+take_past (suc k) (x ∷ xs) h = ap (λ ys. x ∷ ys) (take_past k xs (omega arith))
+
+pub returns : goal.returns
+returns c =
+    let same = ap length c.as_slice-entry-items.ensures in
+    c.loop-entry.invariant
+    ∙ ap (map (line_of_entry c.args.plan.now.system)) (take_past c.loop-entry.entry-index c.args.ports.now.entries (omega (arith, same, c.loop-entry-test.false)) ∙ c.requires)
+    ∙ lines-are c.args.plan.now.system

@@ -1,10 +1,9 @@
-use Rattle.std.proofs.Common.{◌≡◌, ◌++◌, ◌∷◌, [], List, take, ap, sym, ◌∙◌, append_assoc}
+use Rattle.std.proofs.Common.{◌++◌, ◌∷◌, [], List, take, ap, sym, ◌∙◌, append_assoc}
 use Rattle.std.specs.List.{flat_map}
-use Rattle.netlist.specs.declared.line.PortLine.{PortLine}
-use Rattle.av_scripts.specs.declared.tables.Connection.{Connection}
 use Rattle.link_rules.specs.Links.{streams_of}
-use Rattle.interconnect.specs.Ports.{connection_ends, end_ports}
-use Rattle.interconnect.specs.Ends.{IsStreamPlace}
+use Rattle.interconnect.specs.Ports.{connection_ends}
+use Rattle.interconnect.specs.PortMaps.{end_entries}
+use Rattle.interconnect.specs.declared.port_table.PortEntry.{PortEntry}
 use Rattle.interconnect.proofs.Lists.{flat_one_more}
 use Rattle.interconnect.proofs.Numbering.{are_ends, ends_at}
 use Rattle.interconnect.proofs.header.push_streams.Goals as goal
@@ -18,10 +17,10 @@ loop-number-preserved c =
     let number = c.loop-number.number in
     let at = c.stream_at-connection.ensures in
     let ends = ends_at plan.system at.place c.stream_at-connection.result at.connection_is in
-    let more = flat_one_more (end_ports plan.system) (connection_ends plan.system) (streams_of plan.system) number at.place at.place_is in
+    let more = flat_one_more (end_entries plan.system) (connection_ends plan.system) (streams_of plan.system) number at.place at.place_is in
     let pushed = c.in_ok-push_ends.ensures in
     let before = c.loop-number.invariant in
     pushed
-    ∙ ap (λ (ports : List PortLine). ports ++ flat_map (end_ports plan.system) (c.stream_at-connection.result.start ∷ c.stream_at-connection.result.end ∷ [])) before
-    ∙ append_assoc c.args.lines.now (flat_map (end_ports plan.system) (flat_map (connection_ends plan.system) (take number (streams_of plan.system)))) _
-    ∙ ap (λ (ports : List PortLine). c.args.lines.now ++ ports) (ap (λ ends. flat_map (end_ports plan.system) (flat_map (connection_ends plan.system) (take number (streams_of plan.system))) ++ flat_map (end_ports plan.system) ends) (sym ends) ∙ sym more)
+    ∙ ap (λ (ports : List PortEntry). ports ++ flat_map (end_entries plan.system) (c.stream_at-connection.result.start ∷ c.stream_at-connection.result.end ∷ [])) before
+    ∙ append_assoc c.args.entries.now (flat_map (end_entries plan.system) (flat_map (connection_ends plan.system) (take number (streams_of plan.system)))) _
+    ∙ ap (λ (ports : List PortEntry). c.args.entries.now ++ ports) (ap (λ ends. flat_map (end_entries plan.system) (flat_map (connection_ends plan.system) (take number (streams_of plan.system))) ++ flat_map (end_entries plan.system) ends) (sym ends) ∙ sym more)

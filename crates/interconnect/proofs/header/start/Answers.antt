@@ -1,7 +1,7 @@
-use Rattle.std.proofs.Common.{Err, ◌^◌, ◌≤◌, ℕ, List, sym, ap, subst, ◌∙◌, arith}
+use Rattle.std.proofs.Common.{Err, ℕ, List, sym, ap, subst, arith}
 use Rattle.netlist.specs.declared.line.PortLine.{PortLine}
 use Rattle.netlist.specs.Netlists.{IsHeader, input_count}
-use Rattle.interconnect.specs.Ports.{module_name, ports_of}
+use Rattle.interconnect.specs.Ports.{module_name}
 use Rattle.interconnect.proofs.EndFacts.{planned}
 use Rattle.interconnect.proofs.Headers.{AreBounded, is_header, inputs-few}
 use Rattle.interconnect.proofs.header.start.Goals as goal
@@ -15,12 +15,12 @@ new-requires c =
       source = c.proper_records_are_bounded.ensures.source;
       sink = c.proper_records_are_bounded.ensures.sink;
     } in
-    let known = subst (λ (ports : List PortLine). IsHeader (module_name system) ports) (sym c.in_ok-ports.ensures) (is_header system laws (planned c.args.plan.now c.well_made.ensures)) in
-    subst (λ (name : List ℕ). IsHeader name c.in_ok-ports.ports) (sym c.in_ok-name.ensures) known
+    let known = subst (λ (ports : List PortLine). IsHeader (module_name system) ports) (sym c.in_ok-lines.ensures) (is_header system laws (planned c.args.plan.now c.well_made.ensures)) in
+    subst (λ (name : List ℕ). IsHeader name c.in_ok-lines.lines) (sym c.in_ok-name.ensures) known
 
 pub unreachable-requires : goal.unreachable-requires
 unreachable-requires c =
     let few = inputs-few c.args.plan.now.system (planned c.args.plan.now c.well_made.ensures) in
     let full = c.in-Err-TooManyNets.ensures.full.0 (ap Err c.in-Err-TooManyNets.field-0-is) in
-    let same = ap input_count c.in_ok-ports.ensures in
+    let same = ap input_count c.in_ok-lines.ensures in
     absurd (omega (arith, full, few, same))

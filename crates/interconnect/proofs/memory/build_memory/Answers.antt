@@ -1,7 +1,7 @@
-use Rattle.std.proofs.Common.{◌∙◌, sym}
+use Rattle.std.proofs.Common.{◌∙◌}
 use Rattle.interconnect.proofs.EndFacts.{planned}
-use Rattle.interconnect.proofs.MemoryWires.{IsBegun, host_inputs, agent_inputs, IsAdded, can_drive, final_is, is_driven, is_clocked, is_written, is_module}
-use Rattle.interconnect.proofs.MemoryModules.{IsOnly, only, wire_of, begun_of, form_known, form_limits, room, ends_apart, memory_interconnect}
+use Rattle.interconnect.proofs.MemoryWires.{host_inputs, agent_inputs, IsAdded, can_drive, final_is, is_driven, is_clocked, is_written, lines_final, is_module}
+use Rattle.interconnect.proofs.MemoryModules.{only, wire_of, begun_of, form_known, form_limits, room, ends_apart, memory_few, memory_interconnect}
 use Rattle.interconnect.proofs.memory.build_memory.Goals as goal
 
 pub host_nets-host-requires : goal.host_nets-host-requires
@@ -93,4 +93,5 @@ returns c =
     let whole = c.finish.ensures.same ∙ final_is _ _ _ _ _ _ _ _ _ added c.drive_ends.ensures in
     let is = is_module _ _ _ _ _ _ _ _ _ (ends_apart system one planned_is) (form_limits system form c.plan_form-form.ensures one) c.bounded_wire_is_safe.ensures.safe c.bounded_wire_is_safe.ensures.plan
     c.memory_is_read_back.ensures added whole in
-    memory_interconnect system form _ one (form_known system form c.plan_form-form.ensures one) is
+    let lines = lines_final wire form c.wire_nets.new.builder c.finish.result c.in_ok-made.made whole in
+    memory_interconnect system form _ one (form_known system form c.plan_form-form.ensures one) (memory_few system c.in_ok-builder.builder c.wire_nets.new.builder c.finish.result one c.in_ok-builder.ensures.started c.in_ok-made.ensures.most lines) is

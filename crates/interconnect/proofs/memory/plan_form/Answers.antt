@@ -1,9 +1,8 @@
-use Rattle.std.proofs.Common.{◌≡◌, ◌<◌, ◌∙◌, ap, sym, length, List, arith}
-use Rattle.iface_roles.specs.declared.records.Finished.{Finished}
+use Rattle.std.proofs.Common.{◌∙◌, ap, length, List, arith}
 use Rattle.iface_roles.specs.declared.records.Finished.TheVariants.{Agent}
 use Rattle.av_scripts.specs.declared.tables.Connection.{Connection}
 use Rattle.interconnect.proofs.EndFacts.{planned, same_known}
-use Rattle.interconnect.proofs.MemoryModules.{IsOnly, only, form_of_only, end_known, end_is}
+use Rattle.interconnect.proofs.MemoryModules.{only, form_of_only, end_known, end_is}
 use Rattle.interconnect.proofs.memory.plan_form.Goals as goal
 
 pub bounds-connections-0 : goal.bounds-connections-0

@@ -1,0 +1,155 @@
+-- What is built: that the ends of each stream keep what a path rests on, and which of them are joined by a wire.
+use Rattle.std.proofs.Common.{◌≡◌, ℕ, zero, suc, ◌+◌, ◌*◌, ◌<◌, ◌≤◌, Bool, true, false, ◌&&◌, ◌||◌, not, cond, List, [], ◌∷◌, slice_get, Option, Some, None, refl, sym, subst, ◌∙◌, arith}
+use Rattle.std.specs.Prelude.{nat_le, nat_lt, ◌%◌, if◌then◌else◌, ◌==◌}
+use Rattle.std.specs.List.{position_from}
+use Rattle.std.proofs.lemmas.Bool.{and_parts, or_parts, eqb-true, leb-true, ltb-false, lt-ltb, false≢true}
+use Rattle.iface_roles.specs.declared.records.Finished.{Finished}
+use Rattle.iface_roles.specs.declared.records.Finished.TheVariants.{Source, Sink}
+use Rattle.iface_roles.specs.declared.records.SourcePort.{SourcePort}
+use Rattle.iface_roles.specs.declared.records.SinkPort.{SinkPort}
+use Rattle.iface_roles.specs.Proper.{AreStreamPorts, IsBoundedSource, IsBoundedSink}
+use Rattle.av_scripts.specs.declared.tables.Connection.{Connection}
+use Rattle.av_scripts.specs.Tables.{SystemTable}
+use Rattle.address_map.specs.Footprints.{known_at}
+use Rattle.link_rules.specs.Pairs.{KeepsAll, stream_tests, is_multiple, ready_latency}
+use Rattle.link_rules.specs.Links.{tests_as}
+use Rattle.stream_runs.specs.Ends.{Declared, AreAlike, pace_of}
+use Rattle.stream_path.specs.Joining.{declared_source, declared_sink, IsStrict, FitsPorts, CanJoin}
+use Rattle.interconnect.specs.Wires.{both_or_neither, has_same_beats, has_plain_ready, is_wire_stream, is_built, pending_of}
+use Rattle.interconnect.specs.Ends.{IsStreamPlace}
+use Rattle.interconnect.proofs.EndFacts.{IsPlanned}
+
+-- ---- what is built
+
+none_before : (test : Connection → Bool) (n k : ℕ) (xs : List Connection) (a : Connection) → position_from test n xs ≡ None → slice_get xs k ≡ Some a → test a ≡ false
+none_before test n k [] a e f = absurd (let none : None ≡ Some a = f in cc)
+none_before test n zero (x ∷ xs) a e f = let is : x ≡ a = cc in subst (λ z. test z ≡ false) is (by_test (test x) refl e)
+  where
+    by_test : (b : Bool) → test x ≡ b → cond b (Some n) (position_from test (n + 1) xs) ≡ None → test x ≡ false
+    by_test true g h = absurd (let none : Some n ≡ None = h in cc)
+    by_test false g h = g
+none_before test n (suc k) (x ∷ xs) a e f = none_before test (n + 1) k xs a (rest (test x) e) f
+  where
+    rest : (b : Bool) → cond b (Some n) (position_from test (n + 1) xs) ≡ None → position_from test (n + 1) xs ≡ None
+    rest true h = absurd (let none : Some n ≡ None = h in cc)
+    rest false h = h
+
+not_false : (b : Bool) → not b ≡ false → b ≡ true
+not_false true e = refl
+not_false false e = absurd (false≢true (sym e))
+
+-- where no connection is pending, each is built
+pub all_built : (system : SystemTable) (k : ℕ) (a : Connection) → pending_of system ≡ None → slice_get system.connections k ≡ Some a → is_built system a ≡ true
+all_built system k a none at = not_false _ (none_before (λ (c : Connection). not (is_built system c)) 0 k system.connections a none at)
+
+-- ---- ends that agree
+
+pub same_flag : (a b : Bool) → both_or_neither a b ≡ true → a ≡ b
+same_flag true b e = sym e
+same_flag false true e = absurd (false≢true e)
+same_flag false false e = refl
+
+-- a stream that is a wire
+pub record IsWire (source sink : Declared) (fifo : ℕ) : Type 0 where
+  pub alike : AreAlike source sink
+  pub no_queue : fifo ≡ 0
+
+pub wire_is : (source sink : Declared) (fifo : ℕ) → is_wire_stream source sink fifo ≡ true → IsWire source sink fifo
+wire_is source sink fifo e =
+    let all = and_parts (has_same_beats source sink && nat_le source.max_channel sink.max_channel && has_plain_ready source sink) (fifo == 0) e in
+    let two = and_parts (has_same_beats source sink && nat_le source.max_channel sink.max_channel) (has_plain_ready source sink) all.0 in
+    let form = and_parts (has_same_beats source sink) (nat_le source.max_channel sink.max_channel) two.0 in
+    let b7 = and_parts _ _ form.0 in
+    let b6 = and_parts _ _ b7.0 in
+    let b5 = and_parts _ _ b6.0 in
+    let b4 = and_parts _ _ b5.0 in
+    let b3 = and_parts _ _ b4.0 in
+    let b2 = and_parts _ _ b3.0 in
+    let r4 = and_parts _ _ two.1 in
+    let r3 = and_parts _ _ r4.0 in
+    let r2 = and_parts source.ready sink.ready r3.0 in
+    record {
+      alike = record {
+        symbols = eqb-true source.symbols sink.symbols b2.0;
+        symbol_bits = eqb-true source.symbol_bits sink.symbol_bits b2.1;
+        first_high = same_flag source.first_high sink.first_high b3.1;
+        source_ready = r2.0;
+        sink_ready = r2.1;
+        source_latency = eqb-true source.latency 0 r3.1;
+        sink_latency = eqb-true sink.latency 0 r4.1;
+        channel_bits = eqb-true source.channel_bits sink.channel_bits b4.1;
+        max_channel = leb-true source.max_channel sink.max_channel form.1;
+        error_bits = eqb-true source.error_bits sink.error_bits b5.1;
+        packets = same_flag source.packets sink.packets b6.1;
+        empty_bits = eqb-true source.empty_bits sink.empty_bits b7.1;
+      };
+      no_queue = eqb-true fifo 0 all.1;
+    }
+
+-- ---- what a stream of a plan keeps
+
+strict_is : (ready : Bool) (latency allowance : ℕ) → nat_lt 8 (ready_latency ready latency) ≡ false → not (allowance == latency) ≡ false
+    → IsStrict (if ready then record { latency = latency; allowance = allowance } else record { latency = 0; allowance = 0 })
+strict_is true latency allowance e f = record { short = ltb-false 8 latency e; strict = eqb-true allowance latency (not_false (allowance == latency) f) }
+strict_is false latency allowance e f = record { short = omega arith; strict = refl }
+
+-- what the ports of an end keep
+fits_is : (end : Declared) → AreStreamPorts end.symbols end.symbol_bits end.latency end.allowance end.channel_bits end.max_channel end.error_bits end.empty_bits end.packets
+    → end.symbols * end.symbol_bits ≤ 128 → IsStrict (pace_of end) → FitsPorts end
+fits_is end ports small pace =
+    record {
+      some = ports.some;
+      few = ports.few;
+      some_bits = ports.bit;
+      small = small;
+      pace = pace;
+      channel = ports.channel;
+      channels = ports.channels;
+      error = ports.error;
+      empty = ports.empty;
+      empties = ports.empty_counts;
+    }
+
+-- no test of one flag and not the other
+same_flags : (a b : Bool) → ((a && not b) || (b && not a)) ≡ false → a ≡ b
+same_flags true true e = refl
+same_flags true false e = absurd (false≢true (sym e))
+same_flags false true e = absurd (false≢true (sym e))
+same_flags false false e = refl
+
+-- no test of one and not the other: with the one comes the other
+with_it : (a b : Bool) → (a && not b) ≡ false → a ≡ true → b ≡ true
+with_it true true e is = refl
+with_it true false e is = absurd (false≢true (sym e))
+with_it false b e is = absurd (false≢true is)
+
+takes_by : (source sink m : Bool) → (not source && (sink || not m)) ≡ false → source ≡ false → (sink ≡ false) × (m ≡ true)
+takes_by true sink m e is = absurd (false≢true (sym is))
+takes_by false true m e is = absurd (false≢true (sym e))
+takes_by false false true e is = (refl, refl)
+takes_by false false false e is = absurd (false≢true (sym e))
+
+pub can_join : (system : SystemTable) (number : ℕ) (connection : Connection) (at : IsStreamPlace system number connection) → IsPlanned system
+    → IsBoundedSource at.source_port → IsBoundedSink at.sink_port → CanJoin (declared_source at.source_port) (declared_sink at.sink_port)
+can_join system number connection at h source_bounded sink_bounded =
+    let source = at.source_port in
+    let sink = at.sink_port in
+    let tests : KeepsAll (stream_tests source sink connection.clock_fits) =
+    subst (λ (b : Finished). KeepsAll (tests_as connection.clock_fits (Source source) b)) at.sink_is
+    (subst (λ (a : Finished). KeepsAll (tests_as connection.clock_fits a (known_at system connection.end))) at.source_is (h.rules at.place connection at.connection_is)) in
+    let small = or_parts _ _ (tests 6) in
+    let late = or_parts _ _ (tests 7) in
+    let strict = or_parts _ _ (tests 9) in
+    record {
+      source_fits = fits_is (declared_source source) source_bounded (ltb-false 128 (source.symbols * source.symbol_bits) small.0) (strict_is source.ready source.latency source.allowance late.0 strict.0);
+      sink_fits = fits_is (declared_sink sink) sink_bounded (ltb-false 128 (sink.symbols * sink.symbol_bits) small.1) (strict_is sink.ready sink.latency sink.allowance late.1 strict.1);
+      symbol_bits = eqb-true source.symbol_bits sink.symbol_bits (not_false (source.symbol_bits == sink.symbol_bits) (tests 1));
+      packets = same_flags source.packets sink.packets (tests 2);
+      waits = λ no_ready.
+          let takes = takes_by source.ready sink.ready (is_multiple sink.symbols source.symbols) (tests 3) no_ready in
+          record { no_ready = takes.0; whole = eqb-true (sink.symbols % source.symbols) 0 takes.1 };
+      channels = λ some. eqb-true (source.symbols % sink.symbols) 0
+          (with_it (nat_lt 0 source.channel_bits) (is_multiple source.symbols sink.symbols) (tests 4) (lt-ltb 0 source.channel_bits some));
+      errors = λ some. eqb-true source.error_bits sink.error_bits
+          (with_it (nat_lt 0 source.error_bits) (source.error_bits == sink.error_bits) (tests 5) (lt-ltb 0 source.error_bits some));
+    }

@@ -1,0 +1,320 @@
+-- The nets at the inputs of a stream.
+use Rattle.std.proofs.Common.{◌≡◌, ℕ, zero, suc, ◌+◌, ◌*◌, ◌<◌, ◌≤◌, ◌^◌, Bool, true, false, List, Option, Some, None, slice_get, length, inl, inr, refl, sym, ap, subst, ◌∙◌, arith}
+use Rattle.std.specs.Prelude.{IfSome, IsSome, is_some, option_map, nat_lt, if◌then◌else◌}
+use Rattle.std.proofs.lemmas.Bool.Decides.{Decides-ltb}
+use Rattle.iface_roles.specs.declared.records.Finished.{Finished}
+use Rattle.iface_roles.specs.declared.records.Finished.TheVariants.{Source, Sink}
+use Rattle.iface_roles.specs.declared.records.SourcePort.{SourcePort}
+use Rattle.iface_roles.specs.declared.records.SinkPort.{SinkPort}
+use Rattle.iface_roles.specs.Proper.{IsProper, IsBoundedSource, IsBoundedSink}
+use Rattle.av_scripts.specs.declared.tables.EndId.{EndId}
+use Rattle.av_scripts.specs.declared.tables.Connection.{Connection}
+use Rattle.av_scripts.specs.Tables.{SystemTable, IsEnd}
+use Rattle.address_map.specs.Footprints.{known_at}
+use Rattle.link_rules.specs.Links.{streams_of}
+use Rattle.netlist.specs.declared.line.PortLine.{PortLine}
+use Rattle.netlist.specs.Nets.{NetValue, net_of}
+use Rattle.netlist.specs.Netlists.{Netlist, IsInputPort, input_count, input_net}
+use Rattle.stage_core.specs.Beats.{IsNetOfWidth}
+use Rattle.stage_core.specs.Growth.{GrowsBy, StillWait}
+use Rattle.stream_path.specs.Joining.{declared_source, declared_sink, CanJoin}
+use Rattle.stream_path.specs.Ends.{IsNetIf, AreSourceNets, ArePathNets}
+use Rattle.stream_path.specs.Serving.{most_nets, ServesInLonger}
+use Rattle.stream_path.specs.declared.ends.SourceNets.{SourceNets}
+use Rattle.stream_path.specs.declared.ends.PathNets.{PathNets}
+use Rattle.interconnect.specs.declared.roles.Role.{Role}
+use Rattle.interconnect.specs.declared.roles.Role.TheVariants as role
+use Rattle.interconnect.specs.declared.roles.RolePort.{RolePort}
+use Rattle.interconnect.specs.Ports.{is_output, bits_if, port_of, stream_ports, ends_of, ports_of}
+use Rattle.interconnect.specs.PortMaps.{port_at}
+use Rattle.interconnect.specs.Ends.{IsStreamPlace}
+use Rattle.interconnect.specs.Wires.{is_wire, is_wire_as, is_wire_at, is_wire_stream, wires_before}
+use Rattle.interconnect.specs.Streams.{low_line}
+use Rattle.interconnect.specs.Joins.{IsInputIf, input_at, AreInputs, wire_nets, low_at, AddsStream, IsJoinedUpTo}
+use Rattle.interconnect.proofs.EndFacts.{IsPlanned, known_is, known_proper}
+use Rattle.interconnect.proofs.Forms.{wire_is, can_join}
+use Rattle.interconnect.proofs.Headers.{inputs-few}
+use Rattle.interconnect.proofs.Numbering.{plan_end}
+use Rattle.interconnect.proofs.PortPlaces.{IsPortIf, port_known}
+use Rattle.interconnect.proofs.Joining.{finish_among}
+use Rattle.interconnect.proofs.WireNets.{WiresAreServed, wire_serves, wire_path, low_bit, grows-none}
+use Rattle.interconnect.proofs.StreamModules.{mul_some, wire_below}
+use Rattle.interconnect.proofs.Lists.{Among}
+
+-- ---- one input
+
+-- what was read of an input
+pub record IsRead (system : SystemTable) (netlist : Netlist) (end : EndId) (r : Role) (net : Option NetValue) : Type 0 where
+  pub net_is : (width : ℕ) → IsInputIf system end r width → net ≡ input_at system end r width
+  pub is : (width : ℕ) → IsInputIf system end r width → IfSome net (λ n. IsNetOfWidth netlist n width)
+
+input_port : (ports : List PortLine) (width : ℕ) (o : Option ℕ) → IsPortIf ports false width o → IfSome o (λ k. IsInputPort ports k width)
+input_port ports width None p = tt
+input_port ports width (Some k) p = record { port = p.port; is = p.is; input = p.output_is; width = p.width_is }
+
+bit_port : (ports : List PortLine) (present : Bool) (o : Option ℕ) → IsPortIf ports false (bits_if present 1) o → IfSome o (λ k. IsInputPort ports k 1)
+bit_port ports true o p = input_port ports 1 o p
+bit_port ports false None p = tt
+bit_port ports false (Some k) p = (let some = p.some in absurd (omega (arith, some)))
+
+-- the ports of a source, and `ready` of a sink
+pub record IsSourceAt (system : SystemTable) (end : EndId) (source : SourcePort) : Type 0 where
+  pub planned : IsPlanned system
+  pub among : Among end (ends_of system)
+  pub known : known_at system end ≡ Source source
+
+source_port : (system : SystemTable) (end : EndId) (source : SourcePort) (p : RolePort) → IsSourceAt system end source → Among p (stream_ports (declared_source source)) → is_output true p.role ≡ false
+    → IsPortIf (ports_of system) false p.width (port_at system end p.role)
+source_port system end source p h may way =
+    subst (λ (b : Bool). IsPortIf (ports_of system) b p.width (port_at system end p.role)) way (port_known system end (Source source) p h.planned h.among h.known may)
+
+valid_port : (system : SystemTable) (end : EndId) (source : SourcePort) → IsSourceAt system end source → IsPortIf (ports_of system) false 1 (port_at system end role.Valid)
+valid_port system end source h = source_port system end source (port_of role.Valid 1) h (inr (inl refl)) refl
+
+data_port : (system : SystemTable) (end : EndId) (source : SourcePort) → IsSourceAt system end source → IsPortIf (ports_of system) false (source.symbols * source.symbol_bits) (port_at system end role.Data)
+data_port system end source h = source_port system end source (port_of role.Data (source.symbols * source.symbol_bits)) h (inr (inr (inl refl))) refl
+
+channel_port : (system : SystemTable) (end : EndId) (source : SourcePort) → IsSourceAt system end source → IsPortIf (ports_of system) false source.channel_bits (port_at system end role.Channel)
+channel_port system end source h = source_port system end source (port_of role.Channel source.channel_bits) h (inr (inr (inr (inl refl)))) refl
+
+error_port : (system : SystemTable) (end : EndId) (source : SourcePort) → IsSourceAt system end source → IsPortIf (ports_of system) false source.error_bits (port_at system end role.Error)
+error_port system end source h = source_port system end source (port_of role.Error source.error_bits) h (inr (inr (inr (inr (inl refl))))) refl
+
+start_port : (system : SystemTable) (end : EndId) (source : SourcePort) → IsSourceAt system end source → IsPortIf (ports_of system) false (bits_if source.packets 1) (port_at system end role.StartOfPacket)
+start_port system end source h = source_port system end source (port_of role.StartOfPacket (bits_if source.packets 1)) h (inr (inr (inr (inr (inr (inl refl)))))) refl
+
+end_port : (system : SystemTable) (end : EndId) (source : SourcePort) → IsSourceAt system end source → IsPortIf (ports_of system) false (bits_if source.packets 1) (port_at system end role.EndOfPacket)
+end_port system end source h = source_port system end source (port_of role.EndOfPacket (bits_if source.packets 1)) h (inr (inr (inr (inr (inr (inr (inl refl))))))) refl
+
+empty_port : (system : SystemTable) (end : EndId) (source : SourcePort) → IsSourceAt system end source → IsPortIf (ports_of system) false source.empty_bits (port_at system end role.Empty)
+empty_port system end source h = source_port system end source (port_of role.Empty source.empty_bits) h (inr (inr (inr (inr (inr (inr (inr (inl refl)))))))) refl
+
+pub source_at : (system : SystemTable) (end : EndId) (source : SourcePort) → IsPlanned system → Among end (ends_of system) → known_at system end ≡ Source source → IsSourceAt system end source
+source_at system end source h a e = record { planned = h; among = a; known = e }
+
+pub valid_input : (system : SystemTable) (end : EndId) (source : SourcePort) → IsSourceAt system end source → IsInputIf system end role.Valid 1
+valid_input system end source h = input_port (ports_of system) 1 (port_at system end role.Valid) (valid_port system end source h)
+
+pub data_input : (system : SystemTable) (end : EndId) (source : SourcePort) → IsSourceAt system end source → IsInputIf system end role.Data (source.symbols * source.symbol_bits)
+data_input system end source h = input_port (ports_of system) (source.symbols * source.symbol_bits) (port_at system end role.Data) (data_port system end source h)
+
+pub channel_input : (system : SystemTable) (end : EndId) (source : SourcePort) → IsSourceAt system end source → IsInputIf system end role.Channel source.channel_bits
+channel_input system end source h = input_port (ports_of system) source.channel_bits (port_at system end role.Channel) (channel_port system end source h)
+
+pub error_input : (system : SystemTable) (end : EndId) (source : SourcePort) → IsSourceAt system end source → IsInputIf system end role.Error source.error_bits
+error_input system end source h = input_port (ports_of system) source.error_bits (port_at system end role.Error) (error_port system end source h)
+
+pub start_input : (system : SystemTable) (end : EndId) (source : SourcePort) → IsSourceAt system end source → IsInputIf system end role.StartOfPacket 1
+start_input system end source h = bit_port (ports_of system) source.packets (port_at system end role.StartOfPacket) (start_port system end source h)
+
+pub end_input : (system : SystemTable) (end : EndId) (source : SourcePort) → IsSourceAt system end source → IsInputIf system end role.EndOfPacket 1
+end_input system end source h = bit_port (ports_of system) source.packets (port_at system end role.EndOfPacket) (end_port system end source h)
+
+pub empty_input : (system : SystemTable) (end : EndId) (source : SourcePort) → IsSourceAt system end source → IsInputIf system end role.Empty source.empty_bits
+empty_input system end source h = input_port (ports_of system) source.empty_bits (port_at system end role.Empty) (empty_port system end source h)
+
+-- ---- nets
+
+-- a net where the end has the port
+net_if : (ports : List PortLine) (netlist : Netlist) (width : ℕ) (o : Option ℕ) (net : Option NetValue) → IsPortIf ports false width o → net ≡ option_map (λ (k : ℕ). net_of (input_net ports k) width) o
+    → IfSome net (λ n. IsNetOfWidth netlist n width) → IsNetIf (nat_lt 0 width) width netlist net
+net_if ports netlist width None net p e is = subst (λ (w : ℕ). IsNetIf (nat_lt 0 w) w netlist net) (sym p) e
+net_if ports netlist width (Some k) net p e is =
+    subst (λ (b : Bool). IsNetIf b width netlist net) (sym ((Decides-ltb 0 width).1 p.some))
+    (subst (λ (o : Option NetValue). IsNetIf true width netlist o) (sym e) (subst (λ (o : Option NetValue). IfSome o (λ n. IsNetOfWidth netlist n width)) e is))
+
+pub bit_if : (ports : List PortLine) (netlist : Netlist) (present : Bool) (o : Option ℕ) (net : Option NetValue) → IsPortIf ports false (bits_if present 1) o → net ≡ option_map (λ (k : ℕ). net_of (input_net ports k) 1) o
+    → IfSome net (λ n. IsNetOfWidth netlist n 1) → IsNetIf present 1 netlist net
+bit_if ports netlist true o net p e is = net_if ports netlist 1 o net p e is
+bit_if ports netlist false None net p e is = e
+bit_if ports netlist false (Some k) net p e is = (let some = p.some in absurd (omega (arith, some)))
+
+some_port : (ports : List PortLine) (width : ℕ) (o : Option ℕ) → 0 < width → IsPortIf ports false width o → is_some o ≡ true
+some_port ports width None some p = absurd (omega (arith, some, p))
+some_port ports width (Some k) some p = refl
+
+mapped_some : (o : Option ℕ) (f : ℕ → NetValue) → is_some o ≡ true → IsSome (option_map f o)
+mapped_some None f e = e
+mapped_some (Some k) f e = refl
+
+read_some : (system : SystemTable) (netlist : Netlist) (end : EndId) (r : Role) (width : ℕ) (net : Option NetValue) → IsRead system netlist end r net → 0 < width
+    → IsPortIf (ports_of system) false width (port_at system end r) → IsSome net
+read_some system netlist end r width net read some port =
+    subst IsSome (sym (read.net_is width (input_port (ports_of system) width (port_at system end r) port)))
+    (mapped_some (port_at system end r) (λ (k : ℕ). net_of (input_net (ports_of system) k) width) (some_port (ports_of system) width (port_at system end r) some port))
+
+pub valid_some : (system : SystemTable) (netlist : Netlist) (end : EndId) (source : SourcePort) (net : Option NetValue) → IsSourceAt system end source → IsRead system netlist end role.Valid net → IsSome net
+valid_some system netlist end source net h read = read_some system netlist end role.Valid 1 net read (omega arith) (valid_port system end source h)
+
+pub data_some : (system : SystemTable) (netlist : Netlist) (end : EndId) (source : SourcePort) (net : Option NetValue) → IsSourceAt system end source → IsBoundedSource source → IsRead system netlist end role.Data net → IsSome net
+data_some system netlist end source net h bounded read =
+    read_some system netlist end role.Data (source.symbols * source.symbol_bits) net read (mul_some source.symbols source.symbol_bits bounded.some bounded.bit) (data_port system end source h)
+
+pub bounded_at : (system : SystemTable) (end : EndId) (source : SourcePort) → IsSourceAt system end source → ((source : SourcePort) → IsProper (Source source) → IsBoundedSource source) → IsBoundedSource source
+bounded_at system end source h law =
+    let at = plan_end system end h.planned h.among in
+    law source (subst IsProper (sym (known_is system end at.known at.is) ∙ h.known) at.proper)
+
+-- what was read of all inputs of a source
+pub record AreRead (system : SystemTable) (netlist : Netlist) (end : EndId) (valid word channel error startofpacket endofpacket empty : Option NetValue) : Type 0 where
+  pub valid_is : IsRead system netlist end role.Valid valid
+  pub word_is : IsRead system netlist end role.Data word
+  pub channel_is : IsRead system netlist end role.Channel channel
+  pub error_is : IsRead system netlist end role.Error error
+  pub start_is : IsRead system netlist end role.StartOfPacket startofpacket
+  pub end_is : IsRead system netlist end role.EndOfPacket endofpacket
+  pub empty_is : IsRead system netlist end role.Empty empty
+
+pub are_inputs : (system : SystemTable) (netlist : Netlist) (end : EndId) (source : SourcePort) (valid word : NetValue) (v d channel error startofpacket endofpacket empty : Option NetValue) → IsSourceAt system end source
+    → AreRead system netlist end v d channel error startofpacket endofpacket empty → v ≡ Some valid → d ≡ Some word
+    → AreInputs system end (declared_source source)
+    (record { valid = valid; word = word; channel = channel; error = error; startofpacket = startofpacket; endofpacket = endofpacket; empty = empty })
+are_inputs system netlist end source valid word v d channel error startofpacket endofpacket empty h read e f =
+    record {
+      valid = sym (read.valid_is.net_is 1 (valid_input system end source h)) ∙ e;
+      word = sym (read.word_is.net_is (source.symbols * source.symbol_bits) (data_input system end source h)) ∙ f;
+      channel = read.channel_is.net_is source.channel_bits (channel_input system end source h);
+      error = read.error_is.net_is source.error_bits (error_input system end source h);
+      startofpacket = read.start_is.net_is 1 (start_input system end source h);
+      endofpacket = read.end_is.net_is 1 (end_input system end source h);
+      empty = read.empty_is.net_is source.empty_bits (empty_input system end source h);
+    }
+
+some_net : (netlist : Netlist) (width : ℕ) (o : Option NetValue) (net : NetValue) → o ≡ Some net → IfSome o (λ n. IsNetOfWidth netlist n width) → IsNetOfWidth netlist net width
+some_net netlist width o net e is = subst (λ (o : Option NetValue). IfSome o (λ n. IsNetOfWidth netlist n width)) e is
+
+pub are_nets : (system : SystemTable) (netlist : Netlist) (end : EndId) (source : SourcePort) (valid word : NetValue) (v d channel error startofpacket endofpacket empty : Option NetValue) → IsSourceAt system end source
+    → AreRead system netlist end v d channel error startofpacket endofpacket empty → v ≡ Some valid → d ≡ Some word
+    → AreSourceNets netlist (declared_source source)
+    (record { valid = valid; word = word; channel = channel; error = error; startofpacket = startofpacket; endofpacket = endofpacket; empty = empty })
+are_nets system netlist end source valid word v d channel error startofpacket endofpacket empty h read e f =
+    let channel_here = channel_input system end source h in
+    let error_here = error_input system end source h in
+    let start_here = start_input system end source h in
+    let end_here = end_input system end source h in
+    let empty_here = empty_input system end source h in
+    record {
+      valid = some_net netlist 1 v valid e (read.valid_is.is 1 (valid_input system end source h));
+      word = some_net netlist (source.symbols * source.symbol_bits) d word f (read.word_is.is (source.symbols * source.symbol_bits) (data_input system end source h));
+      channel = net_if (ports_of system) netlist source.channel_bits (port_at system end role.Channel) channel (channel_port system end source h) (read.channel_is.net_is source.channel_bits channel_here) (read.channel_is.is source.channel_bits channel_here);
+      error = net_if (ports_of system) netlist source.error_bits (port_at system end role.Error) error (error_port system end source h) (read.error_is.net_is source.error_bits error_here) (read.error_is.is source.error_bits error_here);
+      startofpacket = bit_if (ports_of system) netlist source.packets (port_at system end role.StartOfPacket) startofpacket (start_port system end source h) (read.start_is.net_is 1 start_here) (read.start_is.is 1 start_here);
+      endofpacket = bit_if (ports_of system) netlist source.packets (port_at system end role.EndOfPacket) endofpacket (end_port system end source h) (read.end_is.net_is 1 end_here) (read.end_is.is 1 end_here);
+      empty = net_if (ports_of system) netlist source.empty_bits (port_at system end role.Empty) empty (empty_port system end source h) (read.empty_is.net_is source.empty_bits empty_here) (read.empty_is.is source.empty_bits empty_here);
+    }
+
+-- ---- the ends of a stream as they were found
+
+-- the records of the ends are those of the stream's place
+pub record AreEndsOf (system : SystemTable) (number : ℕ) (connection : Connection) (source : SourcePort) (sink : SinkPort) : Type 0 where
+  pub planned : IsPlanned system
+  pub at : IsStreamPlace system number connection
+  pub source_is : at.source_port ≡ source
+  pub sink_is : at.sink_port ≡ sink
+
+pub ends_of_stream : (system : SystemTable) (number : ℕ) (connection : Connection) (source : SourcePort) (sink : SinkPort) → IsPlanned system → IsStreamPlace system number connection
+    → IsEnd system connection.start (Source source) → IsEnd system connection.end (Sink sink) → AreEndsOf system number connection source sink
+ends_of_stream system number connection source sink h at start end =
+    let from : Source at.source_port ≡ Source source = sym at.source_is ∙ known_is system connection.start (Source source) start in
+    let to : Sink at.sink_port ≡ Sink sink = sym at.sink_is ∙ known_is system connection.end (Sink sink) end in
+    record { planned = h; at = at; source_is = cc; sink_is = cc }
+
+pub source_known : (system : SystemTable) (number : ℕ) (connection : Connection) (source : SourcePort) (sink : SinkPort) → AreEndsOf system number connection source sink → known_at system connection.start ≡ Source source
+source_known system number connection source sink e = e.at.source_is ∙ ap Source e.source_is
+
+sink_known_as : (system : SystemTable) (number : ℕ) (connection : Connection) (source : SourcePort) (sink : SinkPort) → AreEndsOf system number connection source sink → known_at system connection.end ≡ Sink sink
+sink_known_as system number connection source sink e = e.at.sink_is ∙ ap Sink e.sink_is
+
+ready_port : (system : SystemTable) (number : ℕ) (connection : Connection) (source : SourcePort) (sink : SinkPort) → AreEndsOf system number connection source sink
+    → IsPortIf (ports_of system) false (bits_if sink.ready 1) (port_at system connection.end role.Ready)
+ready_port system number connection source sink e =
+    port_known system connection.end (Sink sink) (port_of role.Ready (bits_if sink.ready 1)) e.planned (finish_among system number connection e.at) (sink_known_as system number connection source sink e) (inl refl)
+
+pub ready_input : (system : SystemTable) (number : ℕ) (connection : Connection) (source : SourcePort) (sink : SinkPort) → AreEndsOf system number connection source sink → IsInputIf system connection.end role.Ready 1
+ready_input system number connection source sink e = bit_port (ports_of system) sink.ready (port_at system connection.end role.Ready) (ready_port system number connection source sink e)
+
+pub ready_if : (system : SystemTable) (number : ℕ) (connection : Connection) (source : SourcePort) (sink : SinkPort) (netlist : Netlist) (net : Option NetValue) → AreEndsOf system number connection source sink
+    → IsRead system netlist connection.end role.Ready net → IsNetIf sink.ready 1 netlist net
+ready_if system number connection source sink netlist net e read =
+    let here = ready_input system number connection source sink e in
+    bit_if (ports_of system) netlist sink.ready (port_at system connection.end role.Ready) net (ready_port system number connection source sink e) (read.net_is 1 here) (read.is 1 here)
+
+bounded_source : (system : SystemTable) (number : ℕ) (connection : Connection) (at : IsStreamPlace system number connection) → ((source : SourcePort) → IsProper (Source source) → IsBoundedSource source) → IsBoundedSource at.source_port
+bounded_source system number connection at law =
+    law at.source_port (known_proper system connection.start (Source at.source_port) at.source (subst (IsEnd system connection.start) (sym (known_is system connection.start at.source.known at.source.is) ∙ at.source_is) at.source.is))
+
+bounded_sink : (system : SystemTable) (number : ℕ) (connection : Connection) (at : IsStreamPlace system number connection) → ((sink : SinkPort) → IsProper (Sink sink) → IsBoundedSink sink) → IsBoundedSink at.sink_port
+bounded_sink system number connection at law =
+    law at.sink_port (known_proper system connection.end (Sink at.sink_port) at.sink (subst (IsEnd system connection.end) (sym (known_is system connection.end at.sink.known at.sink.is) ∙ at.sink_is) at.sink.is))
+
+pub joins : (system : SystemTable) (number : ℕ) (connection : Connection) (source : SourcePort) (sink : SinkPort) → AreEndsOf system number connection source sink
+    → ((source : SourcePort) → IsProper (Source source) → IsBoundedSource source) → ((sink : SinkPort) → IsProper (Sink sink) → IsBoundedSink sink) → CanJoin (declared_source source) (declared_sink sink)
+joins system number connection source sink e sources sinks =
+    subst (λ (t : SinkPort). CanJoin (declared_source source) (declared_sink t)) e.sink_is
+    (subst (λ (s : SourcePort). CanJoin (declared_source s) (declared_sink e.at.sink_port)) e.source_is
+    (can_join system number connection e.at e.planned (bounded_source system number connection e.at sources) (bounded_sink system number connection e.at sinks)))
+
+pub is_shallow : (system : SystemTable) (number : ℕ) (connection : Connection) → IsPlanned system → IsStreamPlace system number connection → connection.fifo ≤ 64
+is_shallow system number connection h at = (h.kept.connections at.place connection at.connection_is).fifo
+
+pub path_room : (system : SystemTable) (number : ℕ) (netlist : Netlist) → IsPlanned system → number < length (streams_of system) → IsJoinedUpTo system number netlist → length netlist.lines + most_nets ≤ 2 ^ 20
+path_room system number netlist h inside upto =
+    let few = upto.few in
+    let inputs = inputs-few system h in
+    let streams = h.few_streams in
+    omega (arith, few, inputs, streams, inside)
+
+-- ---- what was added
+
+pub adds_path : (system : SystemTable) (number : ℕ) (connection : Connection) (source s : SourcePort) (sink t : SinkPort) (low : Option NetValue) (old new : Netlist) (from : SourceNets) (ready : Option NetValue) (made : PathNets)
+    → AreEndsOf system number connection source sink → known_at system connection.start ≡ Source s → known_at system connection.end ≡ Sink t → AreInputs system connection.start (declared_source source) from
+    → ready ≡ input_at system connection.end role.Ready 1 → ArePathNets new (declared_sink sink) made → ServesInLonger (declared_source source) (declared_sink sink) connection.fifo from ready made new
+    → GrowsBy most_nets old new → StillWait new old → IfSome low (λ net. made ≡ wire_nets from ready net) → AddsStream system connection s t low old new made
+adds_path system number connection source s sink t low old new from ready made e f g inputs is nets serves grows waits wire =
+    let from_is : Source source ≡ Source s = sym (source_known system number connection source sink e) ∙ f in
+    let to_is : Sink sink ≡ Sink t = sym (sink_known_as system number connection source sink e) ∙ g in
+    let sources : source ≡ s = cc in
+    let sinks : sink ≡ t = cc in
+    subst (λ (x : SourcePort). AddsStream system connection x t low old new made) sources
+    (subst (λ (y : SinkPort). AddsStream system connection source y low old new made) sinks (record {
+      from = from;
+      ready = ready;
+      from_are = inputs;
+      ready_is = is;
+      nets = nets;
+      serves = serves;
+      grows = grows;
+      no_more_wait = waits;
+      wire = wire;
+    }))
+
+-- a stream with a low net is a wire, and the net is its own
+low_known : (system : SystemTable) (number place : ℕ) (low : NetValue) (b : Bool) → is_wire_at system place ≡ b → Some low ≡ (if b then Some (net_of (input_count (ports_of system) + wires_before system number) 1) else None)
+    → (is_wire_at system place ≡ true) × (low ≡ net_of (input_count (ports_of system) + wires_before system number) 1)
+low_known system number place low true e f = (e, cc)
+low_known system number place low false e f = absurd (let none : Some low ≡ None = f in cc)
+
+wire_of_test : (system : SystemTable) (number : ℕ) (connection : Connection) (source : SourcePort) (sink : SinkPort) (e : AreEndsOf system number connection source sink) → is_wire_at system e.at.place ≡ true
+    → is_wire_stream (declared_source source) (declared_sink sink) connection.fifo ≡ true
+wire_of_test system number connection source sink e test =
+    let known : is_wire system connection ≡ true = (let is = e.at.connection_is in sym (rw is refl) ∙ test) in
+    subst (λ (b : Finished). is_wire_as connection.fifo (Source source) b ≡ true) (sink_known_as system number connection source sink e)
+    (subst (λ (a : Finished). is_wire_as connection.fifo a (known_at system connection.end) ≡ true) (source_known system number connection source sink e) known)
+
+pub adds_wire : WiresAreServed → (system : SystemTable) (number : ℕ) (connection : Connection) (source s : SourcePort) (sink t : SinkPort) (low : NetValue) (netlist : Netlist) (from : SourceNets) (ready : Option NetValue) (made : PathNets)
+    → (e : AreEndsOf system number connection source sink) → ((source : SourcePort) → IsProper (Source source) → IsBoundedSource source) → known_at system connection.start ≡ Source s → known_at system connection.end ≡ Sink t
+    → AreInputs system connection.start (declared_source source) from → AreSourceNets netlist (declared_source source) from → IsRead system netlist connection.end role.Ready ready
+    → Some low ≡ low_at system number e.at.place → IsJoinedUpTo system number netlist → made ≡ wire_nets from ready low → AddsStream system connection s t (Some low) netlist netlist made
+adds_wire law system number connection source s sink t low netlist from ready made e bounded f g inputs nets read low_is upto is =
+    let known = low_known system number e.at.place low (is_wire_at system e.at.place) refl low_is in
+    let wire = wire_is (declared_source source) (declared_sink sink) connection.fifo (wire_of_test system number connection source sink e known.0) in
+    let there = ready_if system number connection source sink netlist ready e read in
+    let line = upto.lows (wires_before system number) (wire_below system number e.at.place e.at.place_is known.0) in
+    let number_is : low.number ≡ input_count (ports_of system) + wires_before system number = ap (λ (n : NetValue). n.number) known.1 in
+    let some = (subst IsBoundedSource e.source_is (bounded_source system number connection e.at bounded)).some in
+    adds_path system number connection source s sink t (Some low) netlist netlist from ready made e f g inputs (read.net_is 1 (ready_input system number connection source sink e))
+    (subst (ArePathNets netlist (declared_sink sink)) (sym is) (wire_path netlist (declared_source source) (declared_sink sink) from ready low wire.alike nets there
+    (low_bit netlist low (input_count (ports_of system) + wires_before system number) known.1 line)))
+    (subst (λ (m : PathNets). ServesInLonger (declared_source source) (declared_sink sink) connection.fifo from ready m netlist) (sym is)
+    (wire_serves law netlist (declared_source source) (declared_sink sink) connection.fifo from ready low wire some nets there (subst (λ (n : ℕ). slice_get netlist.lines n ≡ Some low_line) (sym number_is) line)))
+    (grows-none most_nets netlist) (λ n w. w) is
