@@ -1,10 +1,10 @@
 //! The module of a host and an agent, stepped cycle by cycle.
 
-ghost use Rattle.std.specs.Prelude.{◌^◌, ◌<◌, length, IfOk};
+ghost use Rattle.std.specs.Prelude.{◌≡◌, ◌^◌, ◌<◌, ◌≤◌, true, length, IfOk};
 
-use av_base::Bytes;
+use av_base::{Bytes, Val};
+use cycle_sim::Sim;
 use interconnect::{build, pending};
-use netlist::{Equation, Module};
 use std::alloc::{AllocError, Global};
 use std::process::Abort;
 use std::test::Fail;
@@ -57,8 +57,8 @@ fn file_of(alloc: Global, text: &[u8]) -> Result<Bytes, Fail>
     Ok(bytes)
 }
 
-/// The module of the host and the agent.
-fn bus_module(alloc: Global) -> Result<Module, Fail> {
+/// The module of the host and the agent, before its first cycle.
+fn bus_sim(alloc: Global) -> Result<Sim, Fail> {
     let files = [
         file_of(alloc, bus())?,
         file_of(alloc, master())?,
@@ -66,119 +66,52 @@ fn bus_module(alloc: Global) -> Result<Module, Fail> {
     ];
     let plan = plan_of(alloc, &files)?;
     match pending(&plan) {
-        None => Ok(build(alloc, &plan)?),
+        None => Ok(Sim::new(alloc, build(alloc, &plan)?.module)?),
         Some(_) => Err(Fail::new("the bus isn't built")),
     }
 }
 
-fn at(values: &[u64], place: u32) -> u64 {
-    values.get(place as usize).copied().unwrap_or(0)
+/// The value with these bits, and 0 where they don't fit.
+fn value(width: u8, bits: u64) -> Val
+    requires { (1 ≤ width) × (width ≤ 64) }
+{
+    Val::new(width, u128::from(bits)).unwrap_or(Val::new(width, 0).unwrap())
 }
 
-/// The value without what is above this width.
-fn cut(value: u64, width: u8) -> u64 {
-    match u64::MAX.checked_shl(u32::from(width)) {
-        Some(above) => value & !above,
-        None => value,
-    }
+/// The inputs of a cycle, in header order.
+fn inputs_of(from_host: [u64; 5], from_agent: [u64; 3]) -> [Val; 8] {
+    let [address, read, write, word, enables] = from_host;
+    let [wait, answer, valid] = from_agent;
+    [
+        value(8, address),
+        value(1, read),
+        value(1, write),
+        value(32, word),
+        value(4, enables),
+        value(1, wait),
+        value(32, answer),
+        value(1, valid),
+    ]
 }
 
-fn width_of(module: &Module, net: u32) -> u8 {
-    if net < module.net_count() {
-        module.width(net)
-    } else {
-        0
-    }
-}
-
-fn low_half(bits: u128) -> u64 {
-    (bits & 0xffff_ffff_ffff_ffff) as u64
-}
-
-/// What an equation gives, from the inputs by the port's number, all values of the cycle before, and the earlier ones of this cycle.
-fn value_of(
-    module: &Module,
-    equation: Equation,
-    inputs: &[u64],
-    before: &[u64],
-    values: &[u64],
-) -> u64 {
-    match equation {
-        Equation::Input { port } => at(inputs, port),
-        Equation::Constant { value } => low_half(value.bits()),
-        Equation::And { a, b } => at(values, a) & at(values, b),
-        Equation::Or { a, b } => at(values, a) | at(values, b),
-        Equation::Xor { a, b } => at(values, a) ^ at(values, b),
-        Equation::Add { a, b } => at(values, a).wrapping_add(at(values, b)),
-        Equation::Sub { a, b } => at(values, a).wrapping_sub(at(values, b)),
-        Equation::Eq { a, b } => u64::from(at(values, a) == at(values, b)),
-        Equation::Less { a, b } => u64::from(at(values, a) < at(values, b)),
-        Equation::Concat { a, b } => joined(at(values, a), at(values, b), width_of(module, b)),
-        Equation::Not { a } => !at(values, a),
-        Equation::Any { a } => u64::from(at(values, a) != 0),
-        Equation::Mux { s, a, b } => at(values, if at(values, s) != 0 { a } else { b }),
-        Equation::Slice { a, low, .. } => shifted(at(values, a), low),
-        Equation::Reg { reset, next } => {
-            if before.is_empty() {
-                low_half(reset.bits())
-            } else {
-                at(before, next)
-            }
-        }
-        // the bus has no memory of its own
-        Equation::Read { .. } => 0,
-    }
-}
-
-fn joined(above: u64, below: u64, width: u8) -> u64 {
-    above.checked_shl(u32::from(width)).unwrap_or(0) | below
-}
-
-fn shifted(value: u64, low: u8) -> u64 {
-    value.checked_shr(u32::from(low)).unwrap_or(0)
-}
-
-/// The values of all nets in a cycle.
-fn step(
-    alloc: Global,
-    module: &Module,
-    inputs: &[u64],
-    before: &[u64],
-) -> Result<Vec<u64>, AllocError> {
-    let mut values = Vec::new(alloc);
-    for net in 0..module.net_count() {
-        let equation = module.equation(net);
-        let value = value_of(module, equation, inputs, before, values.as_slice());
-        values.push(cut(value, module.width(net)))?;
-    }
-    Ok(values)
-}
-
-/// The values at the outputs, in header order.
-fn outputs(alloc: Global, module: &Module, values: &[u64]) -> Result<Vec<u64>, AllocError> {
+/// The values at the outputs in the present cycle, in header order.
+fn outputs_of(alloc: Global, sim: &Sim) -> Result<Vec<u128>, AllocError>
+    requires { sim.now.stepped ≡ true }
+{
     // there are fewer than 2^32 ports
-    module.well_made();
+    sim.module().well_made();
     let mut shown = Vec::new(alloc);
-    for (port, line) in module.ports().iter().enumerate() {
+    for (port, line) in sim.module().ports().iter().enumerate() {
         if line.output {
-            shown.push(at(values, module.driver(port as u32)))?;
+            shown.push(sim.output(port as u32).bits())?;
         }
     }
     Ok(shown)
 }
 
-/// The inputs of a cycle by the number of their port.
-fn by_port(from_host: [u64; 5], from_agent: [u64; 3]) -> [u64; 16] {
-    let [address, read, write, word, enables] = from_host;
-    let [wait, answer, valid] = from_agent;
-    [
-        address, read, write, word, enables, 0, 0, 0, 0, 0, 0, 0, 0, wait, answer, valid,
-    ]
-}
-
 /// What the host gives (address, read, write, word, byte enables), what the agent gives (wait, word, valid), what the host sees (wait, word,
 /// valid), and what the agent sees (address, read, write, word, byte enables, grant).
-fn cycles() -> [([u64; 5], [u64; 3], [u64; 9]); 11] {
+fn cycles() -> [([u64; 5], [u64; 3], [u128; 9]); 11] {
     [
         // A write of two lanes, which the agent lets wait for a cycle.
         (
@@ -222,14 +155,15 @@ fn cycles() -> [([u64; 5], [u64; 3], [u64; 9]); 11] {
 #[test]
 fn holds_a_third_read_back(rt: HostRuntime) -> Result<(), Fail> {
     let alloc = rt.alloc();
-    let module = bus_module(alloc)?;
-    let mut before = Vec::new(alloc);
+    let mut sim = bus_sim(alloc)?;
     for (from_host, from_agent, expected) in cycles() {
-        let inputs = by_port(from_host, from_agent);
-        let values = step(alloc, &module, &inputs, before.as_slice())?;
-        let shown = outputs(alloc, &module, values.as_slice())?;
-        assert_eq!(rt; shown.as_slice(), expected.as_slice());
-        before = values;
+        let inputs = inputs_of(from_host, from_agent);
+        if !sim.fits(&inputs) {
+            return Err(Fail::new("these aren't inputs of the bus"));
+        }
+        sim.step(&inputs);
+        assert_eq!(rt; outputs_of(alloc, &sim)?.as_slice(), expected.as_slice());
+        sim.advance();
     }
     Ok(())
 }

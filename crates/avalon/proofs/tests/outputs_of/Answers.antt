@@ -1,10 +1,11 @@
-use Rattle.std.proofs.Common.{ℕ, ◌≡◌, refl, sym, ap, ◌∙◌, length, slice_get, Some}
+use Rattle.std.proofs.Common.{refl, sym, ap, ◌∙◌, length, slice_get}
 use Rattle.std.proofs.lemmas.Option.{slice_get_read}
-use Rattle.avalon.proofs.tests.outputs.Goals as goal
+use Rattle.netlist.specs.Netlists.{Netlist}
+use Rattle.avalon.proofs.tests.outputs_of.Goals as goal
 
-pub driver-requires : goal.driver-requires
-driver-requires c =
-    let ports = c.ports-line-items.ensures in (
+pub output-requires-clause-port_is : goal.output-requires-clause-port_is
+output-requires-clause-port_is c =
+    let ports = c.ports-line-items.ensures ∙ ap (λ (n : Netlist). n.ports) c.module-2.ensures in (
       c.line-item.result.width,
       record {
         port = c.line-item.result;

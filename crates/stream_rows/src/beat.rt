@@ -1,0 +1,128 @@
+//! Beats, their text, and their symbols.
+
+use crate::end::End;
+use std::alloc::{AllocError, Global};
+
+#[derive(Clone, Copy, Debug, PartialEq, Eq)]
+pub struct Beat {
+    pub word: u128,
+    pub first: bool,
+    pub last: bool,
+    /// How many symbols are empty.
+    pub empty: u8,
+    pub channel: u32,
+    pub error: u32,
+}
+
+/// A symbol and the marks that it bears.
+#[derive(Clone, Copy, Debug, PartialEq, Eq)]
+pub struct Symbol {
+    pub value: u128,
+    pub first: bool,
+    pub last: bool,
+}
+
+impl Beat {
+    /// A beat of this word, without marks.
+    pub fn plain(word: u128) -> Beat {
+        Beat {
+            word,
+            first: false,
+            last: false,
+            empty: 0,
+            channel: 0,
+            error: 0,
+        }
+    }
+
+    /// The beat with one more mark, as `s` or `empty=1`.
+    fn with(self, mark: &str) -> Option<Beat> {
+        let (name, number) = mark.split_once('=').unwrap_or((mark, "0"));
+        let number: u8 = number.parse().ok()?;
+        match name {
+            "s" => Some(Beat {
+                first: true,
+                ..self
+            }),
+            "e" => Some(Beat { last: true, ..self }),
+            "empty" => Some(Beat {
+                empty: number,
+                ..self
+            }),
+            "channel" => Some(Beat {
+                channel: u32::from(number),
+                ..self
+            }),
+            "error" => Some(Beat {
+                error: u32::from(number),
+                ..self
+            }),
+            _ => None,
+        }
+    }
+
+    /// The beat of a word, as `070000/e/empty=2`.
+    pub fn read(word: &str) -> Option<Beat> {
+        let mut parts = word.split('/');
+        let mut beat = Beat::plain(u128::from_str_radix(parts.next()?, 16).ok()?);
+        for mark in parts {
+            beat = beat.with(mark)?;
+        }
+        Some(beat)
+    }
+
+    /// How many symbols hold data.
+    pub fn count(&self, end: &End) -> u8 {
+        if self.last {
+            end.symbols.saturating_sub(self.empty)
+        } else {
+            end.symbols
+        }
+    }
+
+    /// Symbol `k`.
+    pub fn symbol(&self, end: &End, k: u8) -> Symbol {
+        let value = self.word.checked_shr(end.bits_below(k)).unwrap_or(0) & end.full_symbol();
+        Symbol {
+            value,
+            first: self.first && k == 0,
+            last: self.last && k.saturating_add(1) == self.count(end),
+        }
+    }
+}
+
+fn number_mark(alloc: Global, name: &str, number: u32) -> Result<String, AllocError> {
+    if number == 0 {
+        String::from_str(alloc, "")
+    } else {
+        format!(in alloc; "/{name}={number}")
+    }
+}
+
+/// The marks of a packet.
+fn packet_marks(alloc: Global, beat: &Beat) -> Result<String, AllocError> {
+    let first = if beat.first { "/s" } else { "" };
+    let last = if beat.last { "/e" } else { "" };
+    let empty = if beat.last { beat.empty } else { 0 };
+    let empty = number_mark(alloc, "empty", u32::from(empty))?;
+    format!(in alloc; "{first}{last}{empty}")
+}
+
+/// A beat as the rows write it.
+pub fn text_of(alloc: Global, beat: &Beat) -> Result<String, AllocError> {
+    let marks = packet_marks(alloc, beat)?;
+    let channel = number_mark(alloc, "channel", beat.channel)?;
+    let error = number_mark(alloc, "error", beat.error)?;
+    format!(in alloc; "{:x}{marks}{channel}{error}", beat.word)
+}
+
+/// The symbols of beats, in order.
+pub fn symbols_of(alloc: Global, end: &End, beats: &[Beat]) -> Result<Vec<Symbol>, AllocError> {
+    let mut symbols = Vec::new(alloc);
+    for beat in beats {
+        for k in 0..beat.count(end) {
+            symbols.push(beat.symbol(end, k))?;
+        }
+    }
+    Ok(symbols)
+}

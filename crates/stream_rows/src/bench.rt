@@ -1,0 +1,148 @@
+//! A source and a sink that keep to what they declare, and what the sink is given.
+
+use crate::beat::Beat;
+use crate::row::Row;
+use std::alloc::{AllocError, Global};
+
+/// What the ends show in a cycle.
+#[derive(Clone, Copy)]
+pub struct Shown {
+    /// The source's beat, None where it shows none.
+    pub beat: Option<Beat>,
+    pub ready: bool,
+}
+
+/// What the ends see in a cycle.
+#[derive(Clone, Copy)]
+pub struct Seen {
+    pub ready: bool,
+    pub beat: Option<Beat>,
+    pub dropped: bool,
+}
+
+/// What came to the sink, and when.
+#[derive(Drop)]
+pub struct Tally {
+    pub beats: Vec<Beat>,
+    pub first: u32,
+    pub last: u32,
+    /// Each beat came in a ready cycle, and one that had to wait stood.
+    pub in_time: bool,
+    /// How many cycles showed a dropped beat.
+    pub dropped: u32,
+    /// The first cycle in which the source saw ready low, after it had sent a beat.
+    pub held_back: Option<u32>,
+}
+
+/// Both ends, as a cycle begins.
+#[derive(Drop)]
+pub struct Bench {
+    sent: usize,
+    /// The ready that the source saw, and the one that the sink showed, cycle by cycle.
+    upstream: Vec<bool>,
+    downstream: Vec<bool>,
+    /// The beat that the sink has let wait.
+    waiting: Option<Beat>,
+    pub tally: Tally,
+}
+
+/// Whether ready was high so many cycles before this one.
+fn was_ready(levels: &[bool], latency: u8, cycle: u32) -> bool {
+    match cycle.checked_sub(u32::from(latency)) {
+        Some(before) => levels.get(before as usize) == Some(&true),
+        None => false,
+    }
+}
+
+impl Bench {
+    pub fn new(alloc: Global) -> Bench {
+        Bench {
+            sent: 0,
+            upstream: Vec::new(alloc),
+            downstream: Vec::new(alloc),
+            waiting: None,
+            tally: Tally {
+                beats: Vec::new(alloc),
+                first: 0,
+                last: 0,
+                in_time: true,
+                dropped: 0,
+                held_back: None,
+            },
+        }
+    }
+
+    /// What both ends show: the source its next beat, whenever it may.
+    pub fn shows(&self, row: &Row, cycle: u32) -> Shown {
+        let latency = row.source.latency.unwrap_or(0);
+        let may_show = latency == 0 || was_ready(self.upstream.as_slice(), latency, cycle);
+        Shown {
+            beat: if may_show {
+                row.beats.get(self.sent).copied()
+            } else {
+                None
+            },
+            ready: row.is_ready(cycle),
+        }
+    }
+
+    /// A beat was delivered.
+    fn deliver(&mut self, beat: Beat, cycle: u32) -> Result<(), AllocError> {
+        if self.tally.beats.is_empty() {
+            self.tally.first = cycle;
+        }
+        self.tally.last = cycle;
+        self.tally.beats.push(beat)?;
+        Ok(())
+    }
+
+    /// What the sink makes of what it sees.
+    fn take(
+        &mut self,
+        row: &Row,
+        shown: Shown,
+        beat: Option<Beat>,
+        cycle: u32,
+    ) -> Result<(), AllocError> {
+        let latency = row.sink.latency.unwrap_or(0);
+        if self.waiting.is_some() && beat != self.waiting {
+            self.tally.in_time = false;
+        }
+        self.waiting = None;
+        let Some(beat) = beat else {
+            return Ok(());
+        };
+        if latency > 0 && !was_ready(self.downstream.as_slice(), latency, cycle) {
+            self.tally.in_time = false;
+        }
+        if latency > 0 || shown.ready {
+            return self.deliver(beat, cycle);
+        }
+        self.waiting = Some(beat);
+        Ok(())
+    }
+
+    /// The cycle ends.
+    pub fn sees(
+        &mut self,
+        row: &Row,
+        shown: Shown,
+        seen: Seen,
+        cycle: u32,
+    ) -> Result<(), AllocError> {
+        let latency = row.source.latency.unwrap_or(0);
+        if shown.beat.is_some() && (latency > 0 || seen.ready) {
+            self.sent = self.sent.saturating_add(1);
+        }
+        if !seen.ready && self.sent > 0 && self.tally.held_back.is_none() {
+            self.tally.held_back = Some(cycle);
+        }
+        if seen.dropped {
+            self.tally.dropped = self.tally.dropped.saturating_add(1);
+        }
+        self.take(row, shown, seen.beat, cycle)?;
+        self.upstream.push(seen.ready)?;
+        self.downstream.push(shown.ready)?;
+        Ok(())
+    }
+}
