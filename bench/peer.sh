@@ -33,3 +33,5 @@ show() {
 
 show one one.tcl gen.tcl chk.tcl
 show bus bus.tcl master.tcl memory.tcl
+show stream stream.tcl camera.tcl scaler.tcl
+show stream packets.tcl tuner.tcl framer.tcl voices.tcl mixer.tcl
