@@ -22,13 +22,13 @@ take() {
   echo "$* takes $(basename "$text")"
 }
 
-# The name of an example, then its files, the system first.
+# The folder of an example, then its files, the system first.
 show() {
-  local name=$1
+  local example=$1 text=$folder/${2%.tcl}.v
   shift
-  (cd "$top/examples/$name" && "$top/avalon" generate "$@") >"$folder/$name.v"
-  take "$folder/$name.v" iverilog -Wall -t null
-  take "$folder/$name.v" verilator --lint-only
+  (cd "$top/examples/$example" && "$top/avalon" generate "$@") >"$text"
+  take "$text" iverilog -Wall -t null
+  take "$text" verilator --lint-only
 }
 
 show one one.tcl gen.tcl chk.tcl
