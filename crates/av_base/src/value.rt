@@ -6,7 +6,7 @@ use std::marker::Model;
 /// A value of 1 to 128 bits.
 #[derive(Clone, Copy, Debug, PartialEq, Eq)]
 pub struct Val {
-    width: u8,
+    width: u64,
     bits: u128,
 }
 
@@ -93,14 +93,17 @@ impl Val {
         if bits > greatest(width) {
             return None;
         }
-        Some(Val { width, bits })
+        Some(Val {
+            width: u64::from(width),
+            bits,
+        })
     }
 
     pub fn width(self) -> u8
         ensures value { result ≡ self.width }
         ensures word { IsWord self.width self.bits }
     {
-        self.width
+        self.width as u8
     }
 
     pub fn bits(self) -> u128
@@ -150,7 +153,7 @@ impl Val {
     {
         Val {
             width: self.width,
-            bits: wrapped_sum(self.width, self.bits, b.bits),
+            bits: wrapped_sum(self.width(), self.bits, b.bits),
         }
     }
 
@@ -161,7 +164,7 @@ impl Val {
     {
         Val {
             width: self.width,
-            bits: wrapped_difference(self.width, self.bits, b.bits),
+            bits: wrapped_difference(self.width(), self.bits, b.bits),
         }
     }
 
@@ -193,7 +196,7 @@ impl Val {
     {
         Val {
             width: self.width,
-            bits: greatest(self.width) - self.bits,
+            bits: greatest(self.width()) - self.bits,
         }
     }
 
@@ -215,7 +218,7 @@ impl Val {
     {
         let width = high - low + 1;
         Val {
-            width,
+            width: u64::from(width),
             bits: low_bits(self.bits >> low, width),
         }
     }
@@ -227,7 +230,7 @@ impl Val {
     {
         Val {
             width: self.width + low.width,
-            bits: joined(self.width, self.bits, low.width, low.bits),
+            bits: joined(self.width(), self.bits, low.width(), low.bits),
         }
     }
 
