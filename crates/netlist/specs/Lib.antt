@@ -4,3 +4,4 @@ pub mod Netlists
 pub mod Runs
 pub mod Longer
 pub mod Signals
+pub mod Makers

@@ -3,6 +3,7 @@ ghost use Rattle.netlist.specs.Netlists.{IsNet, driver_of, IsInputPort, IsOutput
 ghost use Rattle.netlist.specs.Nets.{net_of, mem_of};
 ghost use Rattle.netlist.specs.Runs.{Run, IsRun, NetHolds, Always};
 ghost use Rattle.netlist.specs.Longer.{Extends, GrowsByOne};
+ghost use Rattle.netlist.specs.Makers.{IsAppended, IsMade};
 ghost use Rattle.netlist.specs.declared.line.Line.{Line};
 ghost use Rattle.netlist.specs.declared.line.Memory.{Memory};
 
@@ -190,13 +191,7 @@ impl Builder {
         requires sound { IsSound self.old.ports self.old.memories self.old.lines (length self.old.lines) width equation }
         requires computed { is_input equation ≡ false }
         requires unclocked { is_register equation ≡ false }
-        ensures line { IfOk result (λ n. (self.new ≡ appended self.old (line_of width equation)) × (n ≡ net_of (length self.old.lines) width)) }
-        ensures net { IfOk result (λ n. IsNet self.new n × (n.width ≡ width)) }
-        ensures value { IfOk result (λ n. Always self.new (λ cycle. NetHolds self.new.lines cycle n.number (line_of width equation))) }
-        ensures extends { Extends self.old self.new }
-        ensures grows { GrowsByOne self.old self.new }
-        ensures err { OnErr result (self.new ≡ self.old) }
-        ensures full { (result ≡ Err NetFault.TooManyNets) ↔ (length self.old.lines ≡ 2 ^ 20) }
+        ensures { IsAppended self.old self.new result width equation }
     {
         self.append(width, equation, false)
     }
@@ -207,13 +202,7 @@ impl Builder {
         requires sound { IsSound self.old.ports self.old.memories self.old.lines (length self.old.lines) net.width equation }
         requires computed { is_input equation ≡ false }
         requires unclocked { is_register equation ≡ false }
-        ensures line { IfOk result (λ n. (self.new ≡ appended self.old (line_of net.width equation)) × (n ≡ net_of (length self.old.lines) net.width)) }
-        ensures net { IfOk result (λ n. IsNet self.new n × (n.width ≡ net.width)) }
-        ensures value { IfOk result (λ n. Always self.new (λ cycle. NetHolds self.new.lines cycle n.number (line_of net.width equation))) }
-        ensures extends { Extends self.old self.new }
-        ensures grows { GrowsByOne self.old self.new }
-        ensures err { OnErr result (self.new ≡ self.old) }
-        ensures full { (result ≡ Err NetFault.TooManyNets) ↔ (length self.old.lines ≡ 2 ^ 20) }
+        ensures { IsAppended self.old self.new result net.width equation }
     {
         let width = self.width(net);
         self.append_computed(width, equation)
@@ -221,13 +210,7 @@ impl Builder {
 
     /// A net that always has this value.
     pub fn constant(&mut self, value: Val) -> Result<Net, NetFault>
-        ensures line { IfOk result (λ n. (self.new ≡ appended self.old (line_of value.width (Equation.Constant value))) × (n ≡ net_of (length self.old.lines) value.width)) }
-        ensures net { IfOk result (λ n. IsNet self.new n × (n.width ≡ value.width)) }
-        ensures value { IfOk result (λ n. Always self.new (λ cycle. (cycle.net n.number < 2 ^ value.width) × (cycle.net n.number ≡ value.bits))) }
-        ensures extends { Extends self.old self.new }
-        ensures grows { GrowsByOne self.old self.new }
-        ensures err { OnErr result (self.new ≡ self.old) }
-        ensures full { (result ≡ Err NetFault.TooManyNets) ↔ (length self.old.lines ≡ 2 ^ 20) }
+        ensures { IsMade self.old self.new result value.width (Equation.Constant value) (λ cycle. value.bits) }
     {
         self.append_computed(value.width(), Equation::Constant { value })
     }
@@ -237,13 +220,7 @@ impl Builder {
         requires a_is { IsNet self.old a }
         requires b_is { IsNet self.old b }
         requires widths { a.width ≡ b.width }
-        ensures line { IfOk result (λ n. (self.new ≡ appended self.old (line_of a.width (Equation.And a.number b.number))) × (n ≡ net_of (length self.old.lines) a.width)) }
-        ensures net { IfOk result (λ n. IsNet self.new n × (n.width ≡ a.width)) }
-        ensures value { IfOk result (λ n. Always self.new (λ cycle. (cycle.net n.number < 2 ^ a.width) × (cycle.net n.number ≡ bit_and (cycle.net a.number) (cycle.net b.number)))) }
-        ensures extends { Extends self.old self.new }
-        ensures grows { GrowsByOne self.old self.new }
-        ensures err { OnErr result (self.new ≡ self.old) }
-        ensures full { (result ≡ Err NetFault.TooManyNets) ↔ (length self.old.lines ≡ 2 ^ 20) }
+        ensures { IsMade self.old self.new result a.width (Equation.And a.number b.number) (λ cycle. bit_and (cycle.net a.number) (cycle.net b.number)) }
     {
         self.append_like(
             a,
@@ -259,13 +236,7 @@ impl Builder {
         requires a_is { IsNet self.old a }
         requires b_is { IsNet self.old b }
         requires widths { a.width ≡ b.width }
-        ensures line { IfOk result (λ n. (self.new ≡ appended self.old (line_of a.width (Equation.Or a.number b.number))) × (n ≡ net_of (length self.old.lines) a.width)) }
-        ensures net { IfOk result (λ n. IsNet self.new n × (n.width ≡ a.width)) }
-        ensures value { IfOk result (λ n. Always self.new (λ cycle. (cycle.net n.number < 2 ^ a.width) × (cycle.net n.number ≡ bit_or (cycle.net a.number) (cycle.net b.number)))) }
-        ensures extends { Extends self.old self.new }
-        ensures grows { GrowsByOne self.old self.new }
-        ensures err { OnErr result (self.new ≡ self.old) }
-        ensures full { (result ≡ Err NetFault.TooManyNets) ↔ (length self.old.lines ≡ 2 ^ 20) }
+        ensures { IsMade self.old self.new result a.width (Equation.Or a.number b.number) (λ cycle. bit_or (cycle.net a.number) (cycle.net b.number)) }
     {
         self.append_like(
             a,
@@ -281,13 +252,7 @@ impl Builder {
         requires a_is { IsNet self.old a }
         requires b_is { IsNet self.old b }
         requires widths { a.width ≡ b.width }
-        ensures line { IfOk result (λ n. (self.new ≡ appended self.old (line_of a.width (Equation.Xor a.number b.number))) × (n ≡ net_of (length self.old.lines) a.width)) }
-        ensures net { IfOk result (λ n. IsNet self.new n × (n.width ≡ a.width)) }
-        ensures value { IfOk result (λ n. Always self.new (λ cycle. (cycle.net n.number < 2 ^ a.width) × (cycle.net n.number ≡ bit_xor (cycle.net a.number) (cycle.net b.number)))) }
-        ensures extends { Extends self.old self.new }
-        ensures grows { GrowsByOne self.old self.new }
-        ensures err { OnErr result (self.new ≡ self.old) }
-        ensures full { (result ≡ Err NetFault.TooManyNets) ↔ (length self.old.lines ≡ 2 ^ 20) }
+        ensures { IsMade self.old self.new result a.width (Equation.Xor a.number b.number) (λ cycle. bit_xor (cycle.net a.number) (cycle.net b.number)) }
     {
         self.append_like(
             a,
@@ -303,13 +268,7 @@ impl Builder {
         requires a_is { IsNet self.old a }
         requires b_is { IsNet self.old b }
         requires widths { a.width ≡ b.width }
-        ensures line { IfOk result (λ n. (self.new ≡ appended self.old (line_of a.width (Equation.Add a.number b.number))) × (n ≡ net_of (length self.old.lines) a.width)) }
-        ensures net { IfOk result (λ n. IsNet self.new n × (n.width ≡ a.width)) }
-        ensures value { IfOk result (λ n. Always self.new (λ cycle. (cycle.net n.number < 2 ^ a.width) × (cycle.net n.number ≡ (cycle.net a.number + cycle.net b.number) % 2 ^ a.width))) }
-        ensures extends { Extends self.old self.new }
-        ensures grows { GrowsByOne self.old self.new }
-        ensures err { OnErr result (self.new ≡ self.old) }
-        ensures full { (result ≡ Err NetFault.TooManyNets) ↔ (length self.old.lines ≡ 2 ^ 20) }
+        ensures { IsMade self.old self.new result a.width (Equation.Add a.number b.number) (λ cycle. (cycle.net a.number + cycle.net b.number) % 2 ^ a.width) }
     {
         self.append_like(
             a,
@@ -325,13 +284,7 @@ impl Builder {
         requires a_is { IsNet self.old a }
         requires b_is { IsNet self.old b }
         requires widths { a.width ≡ b.width }
-        ensures line { IfOk result (λ n. (self.new ≡ appended self.old (line_of a.width (Equation.Sub a.number b.number))) × (n ≡ net_of (length self.old.lines) a.width)) }
-        ensures net { IfOk result (λ n. IsNet self.new n × (n.width ≡ a.width)) }
-        ensures value { IfOk result (λ n. Always self.new (λ cycle. (cycle.net n.number < 2 ^ a.width) × (cycle.net n.number ≡ (cycle.net a.number + (2 ^ a.width - cycle.net b.number)) % 2 ^ a.width))) }
-        ensures extends { Extends self.old self.new }
-        ensures grows { GrowsByOne self.old self.new }
-        ensures err { OnErr result (self.new ≡ self.old) }
-        ensures full { (result ≡ Err NetFault.TooManyNets) ↔ (length self.old.lines ≡ 2 ^ 20) }
+        ensures { IsMade self.old self.new result a.width (Equation.Sub a.number b.number) (λ cycle. (cycle.net a.number + (2 ^ a.width - cycle.net b.number)) % 2 ^ a.width) }
     {
         self.append_like(
             a,
@@ -347,13 +300,7 @@ impl Builder {
         requires a_is { IsNet self.old a }
         requires b_is { IsNet self.old b }
         requires widths { a.width ≡ b.width }
-        ensures line { IfOk result (λ n. (self.new ≡ appended self.old (line_of 1 (Equation.Eq a.number b.number))) × (n ≡ net_of (length self.old.lines) 1)) }
-        ensures net { IfOk result (λ n. IsNet self.new n × (n.width ≡ 1)) }
-        ensures value { IfOk result (λ n. Always self.new (λ cycle. (cycle.net n.number < 2 ^ 1) × (cycle.net n.number ≡ (if cycle.net a.number == cycle.net b.number then 1 else 0)))) }
-        ensures extends { Extends self.old self.new }
-        ensures grows { GrowsByOne self.old self.new }
-        ensures err { OnErr result (self.new ≡ self.old) }
-        ensures full { (result ≡ Err NetFault.TooManyNets) ↔ (length self.old.lines ≡ 2 ^ 20) }
+        ensures { IsMade self.old self.new result 1 (Equation.Eq a.number b.number) (λ cycle. if cycle.net a.number == cycle.net b.number then 1 else 0) }
     {
         self.append_computed(
             1,
@@ -369,13 +316,7 @@ impl Builder {
         requires a_is { IsNet self.old a }
         requires b_is { IsNet self.old b }
         requires widths { a.width ≡ b.width }
-        ensures line { IfOk result (λ n. (self.new ≡ appended self.old (line_of 1 (Equation.Less a.number b.number))) × (n ≡ net_of (length self.old.lines) 1)) }
-        ensures net { IfOk result (λ n. IsNet self.new n × (n.width ≡ 1)) }
-        ensures value { IfOk result (λ n. Always self.new (λ cycle. (cycle.net n.number < 2 ^ 1) × (cycle.net n.number ≡ (if nat_lt (cycle.net a.number) (cycle.net b.number) then 1 else 0)))) }
-        ensures extends { Extends self.old self.new }
-        ensures grows { GrowsByOne self.old self.new }
-        ensures err { OnErr result (self.new ≡ self.old) }
-        ensures full { (result ≡ Err NetFault.TooManyNets) ↔ (length self.old.lines ≡ 2 ^ 20) }
+        ensures { IsMade self.old self.new result 1 (Equation.Less a.number b.number) (λ cycle. if nat_lt (cycle.net a.number) (cycle.net b.number) then 1 else 0) }
     {
         self.append_computed(
             1,
@@ -391,13 +332,7 @@ impl Builder {
         requires a_is { IsNet self.old a }
         requires b_is { IsNet self.old b }
         requires widths { a.width + b.width ≤ 128 }
-        ensures line { IfOk result (λ n. (self.new ≡ appended self.old (line_of (a.width + b.width) (Equation.Concat a.number b.number))) × (n ≡ net_of (length self.old.lines) (a.width + b.width))) }
-        ensures net { IfOk result (λ n. IsNet self.new n × (n.width ≡ (a.width + b.width))) }
-        ensures value { IfOk result (λ n. Always self.new (λ cycle. (cycle.net n.number < 2 ^ (a.width + b.width)) × (cycle.net n.number ≡ cycle.net a.number * 2 ^ b.width + cycle.net b.number))) }
-        ensures extends { Extends self.old self.new }
-        ensures grows { GrowsByOne self.old self.new }
-        ensures err { OnErr result (self.new ≡ self.old) }
-        ensures full { (result ≡ Err NetFault.TooManyNets) ↔ (length self.old.lines ≡ 2 ^ 20) }
+        ensures { IsMade self.old self.new result (a.width + b.width) (Equation.Concat a.number b.number) (λ cycle. cycle.net a.number * 2 ^ b.width + cycle.net b.number) }
     {
         let width = self.width(a) + self.width(b);
         self.append_computed(
@@ -412,13 +347,7 @@ impl Builder {
     /// Each bit turned.
     pub fn not(&mut self, a: Net) -> Result<Net, NetFault>
         requires a_is { IsNet self.old a }
-        ensures line { IfOk result (λ n. (self.new ≡ appended self.old (line_of a.width (Equation.Not a.number))) × (n ≡ net_of (length self.old.lines) a.width)) }
-        ensures net { IfOk result (λ n. IsNet self.new n × (n.width ≡ a.width)) }
-        ensures value { IfOk result (λ n. Always self.new (λ cycle. (cycle.net n.number < 2 ^ a.width) × (cycle.net n.number ≡ 2 ^ a.width - 1 - cycle.net a.number))) }
-        ensures extends { Extends self.old self.new }
-        ensures grows { GrowsByOne self.old self.new }
-        ensures err { OnErr result (self.new ≡ self.old) }
-        ensures full { (result ≡ Err NetFault.TooManyNets) ↔ (length self.old.lines ≡ 2 ^ 20) }
+        ensures { IsMade self.old self.new result a.width (Equation.Not a.number) (λ cycle. 2 ^ a.width - 1 - cycle.net a.number) }
     {
         self.append_like(a, Equation::Not { a: a.number() })
     }
@@ -426,13 +355,7 @@ impl Builder {
     /// One bit: whether some bit is set.
     pub fn any(&mut self, a: Net) -> Result<Net, NetFault>
         requires a_is { IsNet self.old a }
-        ensures line { IfOk result (λ n. (self.new ≡ appended self.old (line_of 1 (Equation.Any a.number))) × (n ≡ net_of (length self.old.lines) 1)) }
-        ensures net { IfOk result (λ n. IsNet self.new n × (n.width ≡ 1)) }
-        ensures value { IfOk result (λ n. Always self.new (λ cycle. (cycle.net n.number < 2 ^ 1) × (cycle.net n.number ≡ (if cycle.net a.number == 0 then 0 else 1)))) }
-        ensures extends { Extends self.old self.new }
-        ensures grows { GrowsByOne self.old self.new }
-        ensures err { OnErr result (self.new ≡ self.old) }
-        ensures full { (result ≡ Err NetFault.TooManyNets) ↔ (length self.old.lines ≡ 2 ^ 20) }
+        ensures { IsMade self.old self.new result 1 (Equation.Any a.number) (λ cycle. if cycle.net a.number == 0 then 0 else 1) }
     {
         self.append_computed(1, Equation::Any { a: a.number() })
     }
@@ -444,13 +367,7 @@ impl Builder {
         requires a_is { IsNet self.old a }
         requires b_is { IsNet self.old b }
         requires widths { a.width ≡ b.width }
-        ensures line { IfOk result (λ n. (self.new ≡ appended self.old (line_of a.width (Equation.Mux s.number a.number b.number))) × (n ≡ net_of (length self.old.lines) a.width)) }
-        ensures net { IfOk result (λ n. IsNet self.new n × (n.width ≡ a.width)) }
-        ensures value { IfOk result (λ n. Always self.new (λ cycle. (cycle.net n.number < 2 ^ a.width) × (cycle.net n.number ≡ (if cycle.net s.number == 0 then cycle.net b.number else cycle.net a.number)))) }
-        ensures extends { Extends self.old self.new }
-        ensures grows { GrowsByOne self.old self.new }
-        ensures err { OnErr result (self.new ≡ self.old) }
-        ensures full { (result ≡ Err NetFault.TooManyNets) ↔ (length self.old.lines ≡ 2 ^ 20) }
+        ensures { IsMade self.old self.new result a.width (Equation.Mux s.number a.number b.number) (λ cycle. if cycle.net s.number == 0 then cycle.net b.number else cycle.net a.number) }
     {
         self.append_like(
             a,
@@ -467,13 +384,7 @@ impl Builder {
         requires a_is { IsNet self.old a }
         requires order { low ≤ high }
         requires inside { high < a.width }
-        ensures line { IfOk result (λ n. (self.new ≡ appended self.old (line_of (high - low + 1) (Equation.Slice a.number high low))) × (n ≡ net_of (length self.old.lines) (high - low + 1))) }
-        ensures net { IfOk result (λ n. IsNet self.new n × (n.width ≡ (high - low + 1))) }
-        ensures value { IfOk result (λ n. Always self.new (λ cycle. (cycle.net n.number < 2 ^ (high - low + 1)) × (cycle.net n.number ≡ cycle.net a.number / 2 ^ low % 2 ^ (high - low + 1)))) }
-        ensures extends { Extends self.old self.new }
-        ensures grows { GrowsByOne self.old self.new }
-        ensures err { OnErr result (self.new ≡ self.old) }
-        ensures full { (result ≡ Err NetFault.TooManyNets) ↔ (length self.old.lines ≡ 2 ^ 20) }
+        ensures { IsMade self.old self.new result (high - low + 1) (Equation.Slice a.number high low) (λ cycle. cycle.net a.number / 2 ^ low % 2 ^ (high - low + 1)) }
     {
         let _inside = self.width(a);
         self.append_computed(
@@ -579,13 +490,7 @@ impl Builder {
         requires mem_is { IsMem self.old mem }
         requires address_is { IsNet self.old address }
         requires widths { address.width ≡ mem.address_bits }
-        ensures line { IfOk result (λ n. (self.new ≡ appended self.old (line_of mem.width (Equation.Read mem.number address.number))) × (n ≡ net_of (length self.old.lines) mem.width)) }
-        ensures net { IfOk result (λ n. IsNet self.new n × (n.width ≡ mem.width)) }
-        ensures value { IfOk result (λ n. Always self.new (λ cycle. (cycle.net n.number < 2 ^ mem.width) × (cycle.net n.number ≡ cycle.cell mem.number (cycle.net address.number)))) }
-        ensures extends { Extends self.old self.new }
-        ensures grows { GrowsByOne self.old self.new }
-        ensures err { OnErr result (self.new ≡ self.old) }
-        ensures full { (result ≡ Err NetFault.TooManyNets) ↔ (length self.old.lines ≡ 2 ^ 20) }
+        ensures { IsMade self.old self.new result mem.width (Equation.Read mem.number address.number) (λ cycle. cycle.cell mem.number (cycle.net address.number)) }
     {
         let width = self.word_width(mem);
         self.append_computed(
