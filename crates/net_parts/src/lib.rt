@@ -1,0 +1,10 @@
+//! Parts that every adapter makes of nets: constants, fitted words, comparisons, counts and registers.
+#![tactic(auto)]
+
+mod counts;
+mod histories;
+mod makers;
+
+pub use counts::{add_bit, count_high};
+pub use histories::{bit_before, make_history, set_history};
+pub use makers::{choose, constant, fit_bits, is_above, level, low_register};
