@@ -12,15 +12,14 @@ use Rattle.iface_roles.specs.declared.properties.PropertyId.{PropertyId}
 use Rattle.iface_roles.specs.declared.properties.PropertyId.TheVariants.{ReadLatency, MaximumPendingReadTransactions, DataBitsPerSymbol, MaxChannel, ReadyLatency, ReadyAllowance}
 use Rattle.iface_roles.specs.declared.records.HostPort.{HostPort}
 use Rattle.iface_roles.specs.declared.records.AgentPort.{AgentPort}
-use Rattle.iface_roles.specs.declared.records.SourcePort.{SourcePort}
-use Rattle.iface_roles.specs.declared.records.SinkPort.{SinkPort}
+use Rattle.iface_roles.specs.declared.records.StreamPort.{StreamPort}
 use Rattle.iface_roles.specs.declared.records.Finished.TheVariants.{Host, Agent, Source, Sink}
 use Rattle.iface_roles.specs.declared.roles.Role.TheVariants.{Address, Read, Write, WriteData, BurstCount, WaitRequest, ReadData, ReadDataValid, Valid, Data, Channel, Error, StartOfPacket, Empty}
 use Rattle.iface_roles.specs.Held.{Held, has, width_of, port_of, set_to, setting_of, AreInRange}
 use Rattle.iface_roles.specs.Kinds.{is_avalon}
 use Rattle.iface_roles.specs.Properties.{IsInRange}
-use Rattle.iface_roles.specs.Proper.{IsProper, IsWordSize, AreMmPorts, IsBoundedHost, IsBoundedAgent, AreStreamPorts, IsBoundedSource, IsBoundedSink}
-use Rattle.iface_roles.specs.Records.{host_of, agent_of, source_of, sink_of, finished_as, allowance_of}
+use Rattle.iface_roles.specs.Proper.{IsProper, IsWordSize, AreMmPorts, IsBoundedHost, IsBoundedAgent, IsBoundedStream}
+use Rattle.iface_roles.specs.Records.{host_of, agent_of, stream_of, finished_as, allowance_of}
 use Rattle.iface_roles.specs.Rules.{KeepsRules, word_bits, word_bytes, symbols_of, is_word, is_beat, without, lacks_ports_as, reach_as, can_count}
 use Rattle.iface_roles.proofs.FitLemmas.{bits_of, kept, or-left, or-right, narrow, FitsMm-from_rules, FitsStream-from_rules}
 
@@ -176,8 +175,8 @@ allowance-within (Some x) latency h l =
     let high : x ≤ 63 = (h x refl).high in
     elim (nat_eq x 0) as (λ b. cond b latency x ≤ 63) [ true ↦ l | false ↦ high ]
 
-AreStreamPorts-from_rules : (i : Held) → i.kind ≡ Stream → AreInRange i.settings → KeepsRules i → AreStreamPorts (symbols_of i) (setting_of i DataBitsPerSymbol) (setting_of i ReadyLatency) (allowance_of i) (width_of i Channel) (setting_of i MaxChannel) (width_of i Error) (width_of i Empty) (has i StartOfPacket)
-AreStreamPorts-from_rules i stream in_range keeps =
+IsBoundedStream-from_rules : (i : Held) → i.kind ≡ Stream → AreInRange i.settings → KeepsRules i → IsBoundedStream (stream_of i)
+IsBoundedStream-from_rules i stream in_range keeps =
     let avalon : is_avalon i.kind ≡ true = ap is_avalon stream in
     let fits = FitsStream-from_rules i stream keeps in
     let ports : lacks_ports_as Stream i.side i ≡ false = subst (λ (k : Kind). lacks_ports_as k i.side i ≡ false) stream (kept i avalon keeps 0) in
@@ -196,8 +195,8 @@ AreStreamPorts-from_rules i stream in_range keeps =
       few = fits.symbols;
       bit = bits.low;
       bits = bits.high;
-      ready_latency = latency;
-      ready_allowance = allowance-within (set_to i ReadyAllowance) (setting_of i ReadyLatency) (in_range ReadyAllowance) latency;
+      latency = latency;
+      allowance = allowance-within (set_to i ReadyAllowance) (setting_of i ReadyLatency) (in_range ReadyAllowance) latency;
       channel = fits.channel;
       channels = channels-within (has i Channel) (width_of i Channel) (setting_of i MaxChannel) (no_bits (port_of i Channel)) (kept i avalon keeps 12);
       error = fits.error;
@@ -230,10 +229,10 @@ agent-bounded_as Reset side agent i k s r keeps is = cc
 agent-bounded_as Conduit side agent i k s r keeps is = cc
 agent-bounded_as Interrupt side agent i k s r keeps is = cc
 
-source-bounded_as : (kind : Kind) (side : Side) (source : SourcePort) (i : Held) → i.kind ≡ kind → i.side ≡ side → AreInRange i.settings → KeepsRules i → Source source ≡ finished_as kind side i → IsBoundedSource source
+source-bounded_as : (kind : Kind) (side : Side) (source : StreamPort) (i : Held) → i.kind ≡ kind → i.side ≡ side → AreInRange i.settings → KeepsRules i → Source source ≡ finished_as kind side i → IsBoundedStream source
 source-bounded_as Stream Start source i k s r keeps is =
-    let same : source_of i ≡ source = cc in
-    subst IsBoundedSource same (AreStreamPorts-from_rules i k r keeps)
+    let same : stream_of i ≡ source = cc in
+    subst IsBoundedStream same (IsBoundedStream-from_rules i k r keeps)
 source-bounded_as Stream End source i k s r keeps is = cc
 source-bounded_as Mm Start source i k s r keeps is = cc
 source-bounded_as Mm End source i k s r keeps is = cc
@@ -242,10 +241,10 @@ source-bounded_as Reset side source i k s r keeps is = cc
 source-bounded_as Conduit side source i k s r keeps is = cc
 source-bounded_as Interrupt side source i k s r keeps is = cc
 
-sink-bounded_as : (kind : Kind) (side : Side) (sink : SinkPort) (i : Held) → i.kind ≡ kind → i.side ≡ side → AreInRange i.settings → KeepsRules i → Sink sink ≡ finished_as kind side i → IsBoundedSink sink
+sink-bounded_as : (kind : Kind) (side : Side) (sink : StreamPort) (i : Held) → i.kind ≡ kind → i.side ≡ side → AreInRange i.settings → KeepsRules i → Sink sink ≡ finished_as kind side i → IsBoundedStream sink
 sink-bounded_as Stream End sink i k s r keeps is =
-    let same : sink_of i ≡ sink = cc in
-    subst IsBoundedSink same (AreStreamPorts-from_rules i k r keeps)
+    let same : stream_of i ≡ sink = cc in
+    subst IsBoundedStream same (IsBoundedStream-from_rules i k r keeps)
 sink-bounded_as Stream Start sink i k s r keeps is = cc
 sink-bounded_as Mm Start sink i k s r keeps is = cc
 sink-bounded_as Mm End sink i k s r keeps is = cc
@@ -260,8 +259,8 @@ proper_host host p = host-bounded_as p.held.kind p.held.side host p.held refl re
 pub proper_agent : (agent : AgentPort) → IsProper (Agent agent) → IsBoundedAgent agent
 proper_agent agent p = agent-bounded_as p.held.kind p.held.side agent p.held refl refl p.in_range p.keeps p.is
 
-pub proper_source : (source : SourcePort) → IsProper (Source source) → IsBoundedSource source
+pub proper_source : (source : StreamPort) → IsProper (Source source) → IsBoundedStream source
 proper_source source p = source-bounded_as p.held.kind p.held.side source p.held refl refl p.in_range p.keeps p.is
 
-pub proper_sink : (sink : SinkPort) → IsProper (Sink sink) → IsBoundedSink sink
+pub proper_sink : (sink : StreamPort) → IsProper (Sink sink) → IsBoundedStream sink
 proper_sink sink p = sink-bounded_as p.held.kind p.held.side sink p.held refl refl p.in_range p.keeps p.is

@@ -2,8 +2,7 @@
 use Rattle.std.specs.Prelude.{◌≡◌, ◌*◌, ◌^◌, ◌<◌, ◌≤◌, ℕ, Bool, ◌||◌, max, IsTrue, if◌then◌else◌}
 use Rattle.iface_roles.specs.declared.records.HostPort.{HostPort}
 use Rattle.iface_roles.specs.declared.records.AgentPort.{AgentPort}
-use Rattle.iface_roles.specs.declared.records.SourcePort.{SourcePort}
-use Rattle.iface_roles.specs.declared.records.SinkPort.{SinkPort}
+use Rattle.iface_roles.specs.declared.records.StreamPort.{StreamPort}
 use Rattle.iface_roles.specs.declared.records.Finished.{Finished}
 use Rattle.iface_roles.specs.Held.{Held, AreInRange}
 use Rattle.iface_roles.specs.Records.{finished}
@@ -57,24 +56,16 @@ pub record IsBoundedAgent (agent : AgentPort) : Type 0 where
   pub pending : agent.pending ≤ 64
 
 -- the ports and settings of a source or a sink fit the tables and one another; without `channel` the largest channel is 0
-pub record AreStreamPorts (symbols symbol_bits latency allowance channel_bits max_channel error_bits empty_bits : ℕ) (packets : Bool) : Type 0 where
-  pub some : 1 ≤ symbols
-  pub few : symbols ≤ 32
-  pub bit : 1 ≤ symbol_bits
-  pub bits : symbol_bits ≤ 512
-  pub ready_latency : latency ≤ 63
-  pub ready_allowance : allowance ≤ 63
-  pub channel : channel_bits ≤ 16
-  pub channels : max_channel < 2 ^ channel_bits
-  pub error : error_bits ≤ 32
-  pub empty : empty_bits ≤ 8
-  pub empty_packets : 0 < empty_bits → IsTrue packets
-  pub empty_counts : IsTrue packets → symbols ≤ 2 ^ empty_bits
-
-abbrev pub IsBoundedSource : SourcePort → Type 0
-IsBoundedSource source =
-    AreStreamPorts source.symbols source.symbol_bits source.latency source.allowance source.channel_bits source.max_channel source.error_bits source.empty_bits source.packets
-
-abbrev pub IsBoundedSink : SinkPort → Type 0
-IsBoundedSink sink =
-    AreStreamPorts sink.symbols sink.symbol_bits sink.latency sink.allowance sink.channel_bits sink.max_channel sink.error_bits sink.empty_bits sink.packets
+pub record IsBoundedStream (port : StreamPort) : Type 0 where
+  pub some : 1 ≤ port.symbols
+  pub few : port.symbols ≤ 32
+  pub bit : 1 ≤ port.symbol_bits
+  pub bits : port.symbol_bits ≤ 512
+  pub latency : port.latency ≤ 63
+  pub allowance : port.allowance ≤ 63
+  pub channel : port.channel_bits ≤ 16
+  pub channels : port.max_channel < 2 ^ port.channel_bits
+  pub error : port.error_bits ≤ 32
+  pub empty : port.empty_bits ≤ 8
+  pub empty_packets : 0 < port.empty_bits → IsTrue port.packets
+  pub empty_counts : IsTrue port.packets → port.symbols ≤ 2 ^ port.empty_bits

@@ -8,8 +8,7 @@ use Rattle.iface_roles.specs.declared.properties.PropertyId.{PropertyId}
 use Rattle.iface_roles.specs.declared.properties.PropertyId.TheVariants.{ReadLatency, ReadWaitTime, WriteWaitTime, MaximumPendingReadTransactions, WaitRequestAllowance, SetupTime, HoldTime, LinewrapBursts, BurstOnBurstBoundariesOnly, DataBitsPerSymbol, FirstSymbolInHighOrderBits, MaxChannel, ReadyLatency, ReadyAllowance}
 use Rattle.iface_roles.specs.declared.records.HostPort.{HostPort}
 use Rattle.iface_roles.specs.declared.records.AgentPort.{AgentPort}
-use Rattle.iface_roles.specs.declared.records.SourcePort.{SourcePort}
-use Rattle.iface_roles.specs.declared.records.SinkPort.{SinkPort}
+use Rattle.iface_roles.specs.declared.records.StreamPort.{StreamPort}
 use Rattle.iface_roles.specs.declared.records.Finished.{Finished}
 use Rattle.iface_roles.specs.declared.records.Finished.TheVariants.{Host, Agent, Source, Sink, Other}
 use Rattle.iface_roles.specs.declared.roles.Role.TheVariants.{Address, Read, Write, ByteEnable, BurstCount, WaitRequest, ReadDataValid, Response, WriteResponseValid, Lock, DebugAccess, BeginBurstTransfer, Ready, Channel, Error, StartOfPacket, Empty}
@@ -25,6 +24,10 @@ abbrev pub allowance_of : Held → ℕ
 allowance_of i =
     let allowance = unwrap_or (set_to i ReadyAllowance) 0 in
     if allowance == 0 then setting_of i ReadyLatency else allowance
+
+-- the ready latency of an end of a stream: 0 without `ready`
+abbrev pub ready_latency : StreamPort → ℕ
+ready_latency port = if port.ready then port.latency else 0
 
 abbrev pub host_of : Held → HostPort
 host_of i = record {
@@ -75,23 +78,9 @@ agent_of i = record {
   setup_hold = nat_lt 0 (setting_of i SetupTime) || nat_lt 0 (setting_of i HoldTime);
 }
 
-abbrev pub source_of : Held → SourcePort
-source_of i = record {
-  symbols = symbols_of i;
-  symbol_bits = setting_of i DataBitsPerSymbol;
-  first_high = is_true i FirstSymbolInHighOrderBits;
-  ready = has i Ready;
-  latency = setting_of i ReadyLatency;
-  allowance = allowance_of i;
-  channel_bits = width_of i Channel;
-  max_channel = setting_of i MaxChannel;
-  error_bits = width_of i Error;
-  packets = has i StartOfPacket;
-  empty_bits = width_of i Empty;
-}
-
-abbrev pub sink_of : Held → SinkPort
-sink_of i = record {
+-- of a source or a sink
+abbrev pub stream_of : Held → StreamPort
+stream_of i = record {
   symbols = symbols_of i;
   symbol_bits = setting_of i DataBitsPerSymbol;
   first_high = is_true i FirstSymbolInHighOrderBits;
@@ -109,8 +98,8 @@ sink_of i = record {
 abbrev pub finished_as : Kind → Side → Held → Finished
 finished_as Mm Start i = Host (host_of i)
 finished_as Mm End i = Agent (agent_of i)
-finished_as Stream Start i = Source (source_of i)
-finished_as Stream End i = Sink (sink_of i)
+finished_as Stream Start i = Source (stream_of i)
+finished_as Stream End i = Sink (stream_of i)
 finished_as Clock side i = Other
 finished_as Reset side i = Other
 finished_as Conduit side i = Other

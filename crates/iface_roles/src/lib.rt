@@ -15,6 +15,6 @@ pub use interface::Interface;
 pub use kinds::{Kind, PortDirection, Side};
 pub use properties::{Property, PropertyId, Values, property_of};
 pub use records::{
-    AgentPort, Finished, HostPort, SinkPort, SourcePort, proper_records_are_bounded,
+    AgentPort, Finished, HostPort, SinkPort, SourcePort, StreamPort, proper_records_are_bounded,
 };
 pub use roles::{Role, role_of};

@@ -5,8 +5,7 @@ ghost use Rattle.iface_roles.specs.Proper.{
   IsProper,
   IsBoundedHost,
   IsBoundedAgent,
-  IsBoundedSource,
-  IsBoundedSink,
+  IsBoundedStream,
 };
 ghost use Rattle.iface_roles.specs.Records.{
   is_true,
@@ -14,8 +13,8 @@ ghost use Rattle.iface_roles.specs.Records.{
   agent_of,
   is_left_out_agent,
   has_setup_or_hold,
-  source_of,
-  sink_of,
+  stream_of,
+  ready_latency,
   allowance_of,
   finished,
   FitsMm,
@@ -95,9 +94,9 @@ pub struct AgentPort {
     pub setup_hold: bool,
 }
 
-/// A streaming source. Widths are in bits, 0 where the port isn't there; latencies are in cycles.
+/// A streaming source or sink. Widths are in bits, 0 where the port isn't there; latencies are in cycles.
 #[derive(Clone, Copy, Debug, PartialEq, Eq)]
-pub struct SourcePort {
+pub struct StreamPort {
     /// The symbols of a beat.
     pub symbols: u8,
     /// The bits of a symbol.
@@ -118,20 +117,17 @@ pub struct SourcePort {
     pub empty_bits: u8,
 }
 
-/// A streaming sink. Its fields are those of a source.
-#[derive(Clone, Copy, Debug, PartialEq, Eq)]
-pub struct SinkPort {
-    pub symbols: u8,
-    pub symbol_bits: u16,
-    pub first_high: bool,
-    pub ready: bool,
-    pub latency: u8,
-    pub allowance: u8,
-    pub channel_bits: u8,
-    pub max_channel: u32,
-    pub error_bits: u8,
-    pub packets: bool,
-    pub empty_bits: u8,
+pub type SourcePort = StreamPort;
+
+pub type SinkPort = StreamPort;
+
+impl StreamPort {
+    /// The ready latency: 0 without `ready`.
+    pub fn ready_latency(&self) -> u8
+        ensures { result ≡ ready_latency self.now }
+    {
+        if self.ready { self.latency } else { 0 }
+    }
 }
 
 /// What an interface is, once its ports and properties are known.
@@ -228,30 +224,11 @@ impl Interface {
         self.setting(PropertyId::SetupTime) > 0 || self.setting(PropertyId::HoldTime) > 0
     }
 
-    fn source(&self) -> SourcePort
+    fn stream(&self) -> StreamPort
         requires { FitsStream self.now }
-        ensures { result ≡ source_of self.now }
+        ensures { result ≡ stream_of self.now }
     {
-        SourcePort {
-            symbols: self.symbols() as u8,
-            symbol_bits: self.symbol_bits() as u16,
-            first_high: self.is_true(PropertyId::FirstSymbolInHighOrderBits),
-            ready: self.has(Role::Ready),
-            latency: self.small_setting(PropertyId::ReadyLatency),
-            allowance: self.allowance(),
-            channel_bits: self.bits(Role::Channel),
-            max_channel: self.setting(PropertyId::MaxChannel),
-            error_bits: self.bits(Role::Error),
-            packets: self.has(Role::StartOfPacket),
-            empty_bits: self.bits(Role::Empty),
-        }
-    }
-
-    fn sink(&self) -> SinkPort
-        requires { FitsStream self.now }
-        ensures { result ≡ sink_of self.now }
-    {
-        SinkPort {
+        StreamPort {
             symbols: self.symbols() as u8,
             symbol_bits: self.symbol_bits() as u16,
             first_high: self.is_true(PropertyId::FirstSymbolInHighOrderBits),
@@ -285,8 +262,8 @@ impl Interface {
         match (self.kind(), self.side()) {
             (Kind::Mm, Side::Start) => Finished::Host(self.host()),
             (Kind::Mm, Side::End) => Finished::Agent(self.agent()),
-            (Kind::Stream, Side::Start) => Finished::Source(self.source()),
-            (Kind::Stream, Side::End) => Finished::Sink(self.sink()),
+            (Kind::Stream, Side::Start) => Finished::Source(self.stream()),
+            (Kind::Stream, Side::End) => Finished::Sink(self.stream()),
             _ => Finished::Other,
         }
     }
@@ -318,6 +295,6 @@ impl Interface {
 pub fn proper_records_are_bounded()
     ensures host { (host : HostPort) → IsProper (Finished.Host host) → IsBoundedHost host }
     ensures agent { (agent : AgentPort) → IsProper (Finished.Agent agent) → IsBoundedAgent agent }
-    ensures source { (source : SourcePort) → IsProper (Finished.Source source) → IsBoundedSource source }
-    ensures sink { (sink : SinkPort) → IsProper (Finished.Sink sink) → IsBoundedSink sink }
+    ensures source { (source : StreamPort) → IsProper (Finished.Source source) → IsBoundedStream source }
+    ensures sink { (sink : StreamPort) → IsProper (Finished.Sink sink) → IsBoundedStream sink }
 {}

@@ -11,9 +11,8 @@ use Rattle.iface_roles.specs.declared.records.Finished.{Finished}
 use Rattle.iface_roles.specs.declared.records.Finished.TheVariants.{Host, Agent, Source, Sink, Other}
 use Rattle.iface_roles.specs.declared.records.HostPort.{HostPort}
 use Rattle.iface_roles.specs.declared.records.AgentPort.{AgentPort}
-use Rattle.iface_roles.specs.declared.records.SourcePort.{SourcePort}
-use Rattle.iface_roles.specs.declared.records.SinkPort.{SinkPort}
-use Rattle.iface_roles.specs.Proper.{IsProper, IsBoundedHost, IsBoundedAgent, IsBoundedSource, IsBoundedSink}
+use Rattle.iface_roles.specs.declared.records.StreamPort.{StreamPort}
+use Rattle.iface_roles.specs.Proper.{IsProper, IsBoundedHost, IsBoundedAgent, IsBoundedStream}
 use Rattle.std.specs.Option.{option_map_or}
 use Rattle.av_scripts.specs.declared.tables.EndId.{EndId}
 use Rattle.av_scripts.specs.declared.tables.Connection.{Connection}
@@ -28,7 +27,7 @@ use Rattle.stream_runs.specs.Ends.{Declared}
 use Rattle.interconnect.specs.declared.roles.Role.TheVariants as role
 use Rattle.interconnect.specs.declared.roles.RolePort.{RolePort}
 use Rattle.interconnect.specs.Ports.{port_of, bits_if, host_ports, agent_ports, stream_ports, may_have, has_bits, role_ports, starts, name_at, port_name, port_line, end_ports, connection_ends, ends_of, ports_of, module_name}
-use Rattle.stream_path.specs.Joining.{declared_source, declared_sink}
+use Rattle.stream_path.specs.Joining.{declared}
 use Rattle.interconnect.specs.Ends.{IsNarrow, IsPlanEnd}
 use Rattle.interconnect.proofs.EndFacts.{IsPlanned, known_is, small_word}
 use Rattle.interconnect.proofs.Names.{IsNamed, one_name}
@@ -41,8 +40,8 @@ use Rattle.interconnect.proofs.Numbering.{end_of, distinct_ends, plan_end}
 pub record AreBounded : Type 0 where
   pub host : (host : HostPort) → IsProper (Host host) → IsBoundedHost host
   pub agent : (agent : AgentPort) → IsProper (Agent agent) → IsBoundedAgent agent
-  pub source : (source : SourcePort) → IsProper (Source source) → IsBoundedSource source
-  pub sink : (sink : SinkPort) → IsProper (Sink sink) → IsBoundedSink sink
+  pub source : (source : StreamPort) → IsProper (Source source) → IsBoundedStream source
+  pub sink : (sink : StreamPort) → IsProper (Sink sink) → IsBoundedStream sink
 
 -- ---- the names of ends
 
@@ -209,10 +208,10 @@ known_widths (Host host) laws proper narrow = host_widths host (laws.host host p
 known_widths (Agent agent) laws proper narrow = agent_widths agent (laws.agent agent proper)
 known_widths (Source source) laws proper narrow =
     let b = laws.source source proper in
-    stream_widths (declared_source source) narrow b.channel b.error b.empty
+    stream_widths (declared source) narrow b.channel b.error b.empty
 known_widths (Sink sink) laws proper narrow =
     let b = laws.sink sink proper in
-    each-append IsSmall (stream_ports (declared_sink sink)) (port_of role.Dropped 1 ∷ []) (stream_widths (declared_sink sink) narrow b.channel b.error b.empty) (omega arith, tt)
+    each-append IsSmall (stream_ports (declared sink)) (port_of role.Dropped 1 ∷ []) (stream_widths (declared sink) narrow b.channel b.error b.empty) (omega arith, tt)
 known_widths Other laws proper narrow = tt
 
 -- a name and a width that a port may have

@@ -4,9 +4,8 @@ use Rattle.std.specs.Prelude.{IfSome, IsSome, is_some, option_map, nat_lt, if◌
 use Rattle.std.proofs.lemmas.Bool.Decides.{Decides-ltb}
 use Rattle.iface_roles.specs.declared.records.Finished.{Finished}
 use Rattle.iface_roles.specs.declared.records.Finished.TheVariants.{Source, Sink}
-use Rattle.iface_roles.specs.declared.records.SourcePort.{SourcePort}
-use Rattle.iface_roles.specs.declared.records.SinkPort.{SinkPort}
-use Rattle.iface_roles.specs.Proper.{IsProper, IsBoundedSource, IsBoundedSink}
+use Rattle.iface_roles.specs.declared.records.StreamPort.{StreamPort}
+use Rattle.iface_roles.specs.Proper.{IsProper, IsBoundedStream}
 use Rattle.av_scripts.specs.declared.tables.EndId.{EndId}
 use Rattle.av_scripts.specs.declared.tables.Connection.{Connection}
 use Rattle.av_scripts.specs.Tables.{SystemTable, IsEnd}
@@ -17,7 +16,7 @@ use Rattle.netlist.specs.Nets.{NetValue, net_of}
 use Rattle.netlist.specs.Netlists.{Netlist, IsInputPort, input_count, input_net}
 use Rattle.stage_core.specs.Beats.{IsNetOfWidth}
 use Rattle.stage_core.specs.Growth.{GrowsBy, StillWait}
-use Rattle.stream_path.specs.Joining.{declared_source, declared_sink, CanJoin}
+use Rattle.stream_path.specs.Joining.{declared, CanJoin}
 use Rattle.stream_path.specs.Ends.{IsNetIf, AreSourceNets, ArePathNets}
 use Rattle.stream_path.specs.Serving.{most_nets, ServesInLonger}
 use Rattle.stream_path.specs.declared.ends.SourceNets.{SourceNets}
@@ -58,59 +57,59 @@ bit_port ports false None p = tt
 bit_port ports false (Some k) p = (let some = p.some in absurd (omega (arith, some)))
 
 -- the ports of a source, and `ready` of a sink
-pub record IsSourceAt (system : SystemTable) (end : EndId) (source : SourcePort) : Type 0 where
+pub record IsSourceAt (system : SystemTable) (end : EndId) (source : StreamPort) : Type 0 where
   pub planned : IsPlanned system
   pub among : Among end (ends_of system)
   pub known : known_at system end ≡ Source source
 
-source_port : (system : SystemTable) (end : EndId) (source : SourcePort) (p : RolePort) → IsSourceAt system end source → Among p (stream_ports (declared_source source)) → is_output true p.role ≡ false
+source_port : (system : SystemTable) (end : EndId) (source : StreamPort) (p : RolePort) → IsSourceAt system end source → Among p (stream_ports (declared source)) → is_output true p.role ≡ false
     → IsPortIf (ports_of system) false p.width (port_at system end p.role)
 source_port system end source p h may way =
     subst (λ (b : Bool). IsPortIf (ports_of system) b p.width (port_at system end p.role)) way (port_known system end (Source source) p h.planned h.among h.known may)
 
-valid_port : (system : SystemTable) (end : EndId) (source : SourcePort) → IsSourceAt system end source → IsPortIf (ports_of system) false 1 (port_at system end role.Valid)
+valid_port : (system : SystemTable) (end : EndId) (source : StreamPort) → IsSourceAt system end source → IsPortIf (ports_of system) false 1 (port_at system end role.Valid)
 valid_port system end source h = source_port system end source (port_of role.Valid 1) h (inr (inl refl)) refl
 
-data_port : (system : SystemTable) (end : EndId) (source : SourcePort) → IsSourceAt system end source → IsPortIf (ports_of system) false (source.symbols * source.symbol_bits) (port_at system end role.Data)
+data_port : (system : SystemTable) (end : EndId) (source : StreamPort) → IsSourceAt system end source → IsPortIf (ports_of system) false (source.symbols * source.symbol_bits) (port_at system end role.Data)
 data_port system end source h = source_port system end source (port_of role.Data (source.symbols * source.symbol_bits)) h (inr (inr (inl refl))) refl
 
-channel_port : (system : SystemTable) (end : EndId) (source : SourcePort) → IsSourceAt system end source → IsPortIf (ports_of system) false source.channel_bits (port_at system end role.Channel)
+channel_port : (system : SystemTable) (end : EndId) (source : StreamPort) → IsSourceAt system end source → IsPortIf (ports_of system) false source.channel_bits (port_at system end role.Channel)
 channel_port system end source h = source_port system end source (port_of role.Channel source.channel_bits) h (inr (inr (inr (inl refl)))) refl
 
-error_port : (system : SystemTable) (end : EndId) (source : SourcePort) → IsSourceAt system end source → IsPortIf (ports_of system) false source.error_bits (port_at system end role.Error)
+error_port : (system : SystemTable) (end : EndId) (source : StreamPort) → IsSourceAt system end source → IsPortIf (ports_of system) false source.error_bits (port_at system end role.Error)
 error_port system end source h = source_port system end source (port_of role.Error source.error_bits) h (inr (inr (inr (inr (inl refl))))) refl
 
-start_port : (system : SystemTable) (end : EndId) (source : SourcePort) → IsSourceAt system end source → IsPortIf (ports_of system) false (bits_if source.packets 1) (port_at system end role.StartOfPacket)
+start_port : (system : SystemTable) (end : EndId) (source : StreamPort) → IsSourceAt system end source → IsPortIf (ports_of system) false (bits_if source.packets 1) (port_at system end role.StartOfPacket)
 start_port system end source h = source_port system end source (port_of role.StartOfPacket (bits_if source.packets 1)) h (inr (inr (inr (inr (inr (inl refl)))))) refl
 
-end_port : (system : SystemTable) (end : EndId) (source : SourcePort) → IsSourceAt system end source → IsPortIf (ports_of system) false (bits_if source.packets 1) (port_at system end role.EndOfPacket)
+end_port : (system : SystemTable) (end : EndId) (source : StreamPort) → IsSourceAt system end source → IsPortIf (ports_of system) false (bits_if source.packets 1) (port_at system end role.EndOfPacket)
 end_port system end source h = source_port system end source (port_of role.EndOfPacket (bits_if source.packets 1)) h (inr (inr (inr (inr (inr (inr (inl refl))))))) refl
 
-empty_port : (system : SystemTable) (end : EndId) (source : SourcePort) → IsSourceAt system end source → IsPortIf (ports_of system) false source.empty_bits (port_at system end role.Empty)
+empty_port : (system : SystemTable) (end : EndId) (source : StreamPort) → IsSourceAt system end source → IsPortIf (ports_of system) false source.empty_bits (port_at system end role.Empty)
 empty_port system end source h = source_port system end source (port_of role.Empty source.empty_bits) h (inr (inr (inr (inr (inr (inr (inr (inl refl)))))))) refl
 
-pub source_at : (system : SystemTable) (end : EndId) (source : SourcePort) → IsPlanned system → Among end (ends_of system) → known_at system end ≡ Source source → IsSourceAt system end source
+pub source_at : (system : SystemTable) (end : EndId) (source : StreamPort) → IsPlanned system → Among end (ends_of system) → known_at system end ≡ Source source → IsSourceAt system end source
 source_at system end source h a e = record { planned = h; among = a; known = e }
 
-pub valid_input : (system : SystemTable) (end : EndId) (source : SourcePort) → IsSourceAt system end source → IsInputIf system end role.Valid 1
+pub valid_input : (system : SystemTable) (end : EndId) (source : StreamPort) → IsSourceAt system end source → IsInputIf system end role.Valid 1
 valid_input system end source h = input_port (ports_of system) 1 (port_at system end role.Valid) (valid_port system end source h)
 
-pub data_input : (system : SystemTable) (end : EndId) (source : SourcePort) → IsSourceAt system end source → IsInputIf system end role.Data (source.symbols * source.symbol_bits)
+pub data_input : (system : SystemTable) (end : EndId) (source : StreamPort) → IsSourceAt system end source → IsInputIf system end role.Data (source.symbols * source.symbol_bits)
 data_input system end source h = input_port (ports_of system) (source.symbols * source.symbol_bits) (port_at system end role.Data) (data_port system end source h)
 
-pub channel_input : (system : SystemTable) (end : EndId) (source : SourcePort) → IsSourceAt system end source → IsInputIf system end role.Channel source.channel_bits
+pub channel_input : (system : SystemTable) (end : EndId) (source : StreamPort) → IsSourceAt system end source → IsInputIf system end role.Channel source.channel_bits
 channel_input system end source h = input_port (ports_of system) source.channel_bits (port_at system end role.Channel) (channel_port system end source h)
 
-pub error_input : (system : SystemTable) (end : EndId) (source : SourcePort) → IsSourceAt system end source → IsInputIf system end role.Error source.error_bits
+pub error_input : (system : SystemTable) (end : EndId) (source : StreamPort) → IsSourceAt system end source → IsInputIf system end role.Error source.error_bits
 error_input system end source h = input_port (ports_of system) source.error_bits (port_at system end role.Error) (error_port system end source h)
 
-pub start_input : (system : SystemTable) (end : EndId) (source : SourcePort) → IsSourceAt system end source → IsInputIf system end role.StartOfPacket 1
+pub start_input : (system : SystemTable) (end : EndId) (source : StreamPort) → IsSourceAt system end source → IsInputIf system end role.StartOfPacket 1
 start_input system end source h = bit_port (ports_of system) source.packets (port_at system end role.StartOfPacket) (start_port system end source h)
 
-pub end_input : (system : SystemTable) (end : EndId) (source : SourcePort) → IsSourceAt system end source → IsInputIf system end role.EndOfPacket 1
+pub end_input : (system : SystemTable) (end : EndId) (source : StreamPort) → IsSourceAt system end source → IsInputIf system end role.EndOfPacket 1
 end_input system end source h = bit_port (ports_of system) source.packets (port_at system end role.EndOfPacket) (end_port system end source h)
 
-pub empty_input : (system : SystemTable) (end : EndId) (source : SourcePort) → IsSourceAt system end source → IsInputIf system end role.Empty source.empty_bits
+pub empty_input : (system : SystemTable) (end : EndId) (source : StreamPort) → IsSourceAt system end source → IsInputIf system end role.Empty source.empty_bits
 empty_input system end source h = input_port (ports_of system) source.empty_bits (port_at system end role.Empty) (empty_port system end source h)
 
 -- ---- nets
@@ -143,14 +142,14 @@ read_some system netlist end r width net read some port =
     subst IsSome (sym (read.net_is width (input_port (ports_of system) width (port_at system end r) port)))
     (mapped_some (port_at system end r) (λ (k : ℕ). net_of (input_net (ports_of system) k) width) (some_port (ports_of system) width (port_at system end r) some port))
 
-pub valid_some : (system : SystemTable) (netlist : Netlist) (end : EndId) (source : SourcePort) (net : Option NetValue) → IsSourceAt system end source → IsRead system netlist end role.Valid net → IsSome net
+pub valid_some : (system : SystemTable) (netlist : Netlist) (end : EndId) (source : StreamPort) (net : Option NetValue) → IsSourceAt system end source → IsRead system netlist end role.Valid net → IsSome net
 valid_some system netlist end source net h read = read_some system netlist end role.Valid 1 net read (omega arith) (valid_port system end source h)
 
-pub data_some : (system : SystemTable) (netlist : Netlist) (end : EndId) (source : SourcePort) (net : Option NetValue) → IsSourceAt system end source → IsBoundedSource source → IsRead system netlist end role.Data net → IsSome net
+pub data_some : (system : SystemTable) (netlist : Netlist) (end : EndId) (source : StreamPort) (net : Option NetValue) → IsSourceAt system end source → IsBoundedStream source → IsRead system netlist end role.Data net → IsSome net
 data_some system netlist end source net h bounded read =
     read_some system netlist end role.Data (source.symbols * source.symbol_bits) net read (mul_some source.symbols source.symbol_bits bounded.some bounded.bit) (data_port system end source h)
 
-pub bounded_at : (system : SystemTable) (end : EndId) (source : SourcePort) → IsSourceAt system end source → ((source : SourcePort) → IsProper (Source source) → IsBoundedSource source) → IsBoundedSource source
+pub bounded_at : (system : SystemTable) (end : EndId) (source : StreamPort) → IsSourceAt system end source → ((source : StreamPort) → IsProper (Source source) → IsBoundedStream source) → IsBoundedStream source
 bounded_at system end source h law =
     let at = plan_end system end h.planned h.among in
     law source (subst IsProper (sym (known_is system end at.known at.is) ∙ h.known) at.proper)
@@ -165,9 +164,9 @@ pub record AreRead (system : SystemTable) (netlist : Netlist) (end : EndId) (val
   pub end_is : IsRead system netlist end role.EndOfPacket endofpacket
   pub empty_is : IsRead system netlist end role.Empty empty
 
-pub are_inputs : (system : SystemTable) (netlist : Netlist) (end : EndId) (source : SourcePort) (valid word : NetValue) (v d channel error startofpacket endofpacket empty : Option NetValue) → IsSourceAt system end source
+pub are_inputs : (system : SystemTable) (netlist : Netlist) (end : EndId) (source : StreamPort) (valid word : NetValue) (v d channel error startofpacket endofpacket empty : Option NetValue) → IsSourceAt system end source
     → AreRead system netlist end v d channel error startofpacket endofpacket empty → v ≡ Some valid → d ≡ Some word
-    → AreInputs system end (declared_source source)
+    → AreInputs system end (declared source)
     (record { valid = valid; word = word; channel = channel; error = error; startofpacket = startofpacket; endofpacket = endofpacket; empty = empty })
 are_inputs system netlist end source valid word v d channel error startofpacket endofpacket empty h read e f =
     record {
@@ -183,9 +182,9 @@ are_inputs system netlist end source valid word v d channel error startofpacket 
 some_net : (netlist : Netlist) (width : ℕ) (o : Option NetValue) (net : NetValue) → o ≡ Some net → IfSome o (λ n. IsNetOfWidth netlist n width) → IsNetOfWidth netlist net width
 some_net netlist width o net e is = subst (λ (o : Option NetValue). IfSome o (λ n. IsNetOfWidth netlist n width)) e is
 
-pub are_nets : (system : SystemTable) (netlist : Netlist) (end : EndId) (source : SourcePort) (valid word : NetValue) (v d channel error startofpacket endofpacket empty : Option NetValue) → IsSourceAt system end source
+pub are_nets : (system : SystemTable) (netlist : Netlist) (end : EndId) (source : StreamPort) (valid word : NetValue) (v d channel error startofpacket endofpacket empty : Option NetValue) → IsSourceAt system end source
     → AreRead system netlist end v d channel error startofpacket endofpacket empty → v ≡ Some valid → d ≡ Some word
-    → AreSourceNets netlist (declared_source source)
+    → AreSourceNets netlist (declared source)
     (record { valid = valid; word = word; channel = channel; error = error; startofpacket = startofpacket; endofpacket = endofpacket; empty = empty })
 are_nets system netlist end source valid word v d channel error startofpacket endofpacket empty h read e f =
     let channel_here = channel_input system end source h in
@@ -206,52 +205,52 @@ are_nets system netlist end source valid word v d channel error startofpacket en
 -- ---- the ends of a stream as they were found
 
 -- the records of the ends are those of the stream's place
-pub record AreEndsOf (system : SystemTable) (number : ℕ) (connection : Connection) (source : SourcePort) (sink : SinkPort) : Type 0 where
+pub record AreEndsOf (system : SystemTable) (number : ℕ) (connection : Connection) (source : StreamPort) (sink : StreamPort) : Type 0 where
   pub planned : IsPlanned system
   pub at : IsStreamPlace system number connection
   pub source_is : at.source_port ≡ source
   pub sink_is : at.sink_port ≡ sink
 
-pub ends_of_stream : (system : SystemTable) (number : ℕ) (connection : Connection) (source : SourcePort) (sink : SinkPort) → IsPlanned system → IsStreamPlace system number connection
+pub ends_of_stream : (system : SystemTable) (number : ℕ) (connection : Connection) (source : StreamPort) (sink : StreamPort) → IsPlanned system → IsStreamPlace system number connection
     → IsEnd system connection.start (Source source) → IsEnd system connection.end (Sink sink) → AreEndsOf system number connection source sink
 ends_of_stream system number connection source sink h at start end =
     let from : Source at.source_port ≡ Source source = sym at.source_is ∙ known_is system connection.start (Source source) start in
     let to : Sink at.sink_port ≡ Sink sink = sym at.sink_is ∙ known_is system connection.end (Sink sink) end in
     record { planned = h; at = at; source_is = cc; sink_is = cc }
 
-pub source_known : (system : SystemTable) (number : ℕ) (connection : Connection) (source : SourcePort) (sink : SinkPort) → AreEndsOf system number connection source sink → known_at system connection.start ≡ Source source
+pub source_known : (system : SystemTable) (number : ℕ) (connection : Connection) (source : StreamPort) (sink : StreamPort) → AreEndsOf system number connection source sink → known_at system connection.start ≡ Source source
 source_known system number connection source sink e = e.at.source_is ∙ ap Source e.source_is
 
-sink_known_as : (system : SystemTable) (number : ℕ) (connection : Connection) (source : SourcePort) (sink : SinkPort) → AreEndsOf system number connection source sink → known_at system connection.end ≡ Sink sink
+sink_known_as : (system : SystemTable) (number : ℕ) (connection : Connection) (source : StreamPort) (sink : StreamPort) → AreEndsOf system number connection source sink → known_at system connection.end ≡ Sink sink
 sink_known_as system number connection source sink e = e.at.sink_is ∙ ap Sink e.sink_is
 
-ready_port : (system : SystemTable) (number : ℕ) (connection : Connection) (source : SourcePort) (sink : SinkPort) → AreEndsOf system number connection source sink
+ready_port : (system : SystemTable) (number : ℕ) (connection : Connection) (source : StreamPort) (sink : StreamPort) → AreEndsOf system number connection source sink
     → IsPortIf (ports_of system) false (bits_if sink.ready 1) (port_at system connection.end role.Ready)
 ready_port system number connection source sink e =
     port_known system connection.end (Sink sink) (port_of role.Ready (bits_if sink.ready 1)) e.planned (finish_among system number connection e.at) (sink_known_as system number connection source sink e) (inl refl)
 
-pub ready_input : (system : SystemTable) (number : ℕ) (connection : Connection) (source : SourcePort) (sink : SinkPort) → AreEndsOf system number connection source sink → IsInputIf system connection.end role.Ready 1
+pub ready_input : (system : SystemTable) (number : ℕ) (connection : Connection) (source : StreamPort) (sink : StreamPort) → AreEndsOf system number connection source sink → IsInputIf system connection.end role.Ready 1
 ready_input system number connection source sink e = bit_port (ports_of system) sink.ready (port_at system connection.end role.Ready) (ready_port system number connection source sink e)
 
-pub ready_if : (system : SystemTable) (number : ℕ) (connection : Connection) (source : SourcePort) (sink : SinkPort) (netlist : Netlist) (net : Option NetValue) → AreEndsOf system number connection source sink
+pub ready_if : (system : SystemTable) (number : ℕ) (connection : Connection) (source : StreamPort) (sink : StreamPort) (netlist : Netlist) (net : Option NetValue) → AreEndsOf system number connection source sink
     → IsRead system netlist connection.end role.Ready net → IsNetIf sink.ready 1 netlist net
 ready_if system number connection source sink netlist net e read =
     let here = ready_input system number connection source sink e in
     bit_if (ports_of system) netlist sink.ready (port_at system connection.end role.Ready) net (ready_port system number connection source sink e) (read.net_is 1 here) (read.is 1 here)
 
-bounded_source : (system : SystemTable) (number : ℕ) (connection : Connection) (at : IsStreamPlace system number connection) → ((source : SourcePort) → IsProper (Source source) → IsBoundedSource source) → IsBoundedSource at.source_port
+bounded_source : (system : SystemTable) (number : ℕ) (connection : Connection) (at : IsStreamPlace system number connection) → ((source : StreamPort) → IsProper (Source source) → IsBoundedStream source) → IsBoundedStream at.source_port
 bounded_source system number connection at law =
     law at.source_port (known_proper system connection.start (Source at.source_port) at.source (subst (IsEnd system connection.start) (sym (known_is system connection.start at.source.known at.source.is) ∙ at.source_is) at.source.is))
 
-bounded_sink : (system : SystemTable) (number : ℕ) (connection : Connection) (at : IsStreamPlace system number connection) → ((sink : SinkPort) → IsProper (Sink sink) → IsBoundedSink sink) → IsBoundedSink at.sink_port
+bounded_sink : (system : SystemTable) (number : ℕ) (connection : Connection) (at : IsStreamPlace system number connection) → ((sink : StreamPort) → IsProper (Sink sink) → IsBoundedStream sink) → IsBoundedStream at.sink_port
 bounded_sink system number connection at law =
     law at.sink_port (known_proper system connection.end (Sink at.sink_port) at.sink (subst (IsEnd system connection.end) (sym (known_is system connection.end at.sink.known at.sink.is) ∙ at.sink_is) at.sink.is))
 
-pub joins : (system : SystemTable) (number : ℕ) (connection : Connection) (source : SourcePort) (sink : SinkPort) → AreEndsOf system number connection source sink
-    → ((source : SourcePort) → IsProper (Source source) → IsBoundedSource source) → ((sink : SinkPort) → IsProper (Sink sink) → IsBoundedSink sink) → CanJoin (declared_source source) (declared_sink sink)
+pub joins : (system : SystemTable) (number : ℕ) (connection : Connection) (source : StreamPort) (sink : StreamPort) → AreEndsOf system number connection source sink
+    → ((source : StreamPort) → IsProper (Source source) → IsBoundedStream source) → ((sink : StreamPort) → IsProper (Sink sink) → IsBoundedStream sink) → CanJoin (declared source) (declared sink)
 joins system number connection source sink e sources sinks =
-    subst (λ (t : SinkPort). CanJoin (declared_source source) (declared_sink t)) e.sink_is
-    (subst (λ (s : SourcePort). CanJoin (declared_source s) (declared_sink e.at.sink_port)) e.source_is
+    subst (λ (t : StreamPort). CanJoin (declared source) (declared t)) e.sink_is
+    (subst (λ (s : StreamPort). CanJoin (declared s) (declared e.at.sink_port)) e.source_is
     (can_join system number connection e.at e.planned (bounded_source system number connection e.at sources) (bounded_sink system number connection e.at sinks)))
 
 pub is_shallow : (system : SystemTable) (number : ℕ) (connection : Connection) → IsPlanned system → IsStreamPlace system number connection → connection.fifo ≤ 64
@@ -266,17 +265,17 @@ path_room system number netlist h inside upto =
 
 -- ---- what was added
 
-pub adds_path : (system : SystemTable) (number : ℕ) (connection : Connection) (source s : SourcePort) (sink t : SinkPort) (low : Option NetValue) (old new : Netlist) (from : SourceNets) (ready : Option NetValue) (made : PathNets)
-    → AreEndsOf system number connection source sink → known_at system connection.start ≡ Source s → known_at system connection.end ≡ Sink t → AreInputs system connection.start (declared_source source) from
-    → ready ≡ input_at system connection.end role.Ready 1 → ArePathNets new (declared_sink sink) made → ServesInLonger (declared_source source) (declared_sink sink) connection.fifo from ready made new
+pub adds_path : (system : SystemTable) (number : ℕ) (connection : Connection) (source s : StreamPort) (sink t : StreamPort) (low : Option NetValue) (old new : Netlist) (from : SourceNets) (ready : Option NetValue) (made : PathNets)
+    → AreEndsOf system number connection source sink → known_at system connection.start ≡ Source s → known_at system connection.end ≡ Sink t → AreInputs system connection.start (declared source) from
+    → ready ≡ input_at system connection.end role.Ready 1 → ArePathNets new (declared sink) made → ServesInLonger (declared source) (declared sink) connection.fifo from ready made new
     → GrowsBy most_nets old new → StillWait new old → IfSome low (λ net. made ≡ wire_nets from ready net) → AddsStream system connection s t low old new made
 adds_path system number connection source s sink t low old new from ready made e f g inputs is nets serves grows waits wire =
     let from_is : Source source ≡ Source s = sym (source_known system number connection source sink e) ∙ f in
     let to_is : Sink sink ≡ Sink t = sym (sink_known_as system number connection source sink e) ∙ g in
     let sources : source ≡ s = cc in
     let sinks : sink ≡ t = cc in
-    subst (λ (x : SourcePort). AddsStream system connection x t low old new made) sources
-    (subst (λ (y : SinkPort). AddsStream system connection source y low old new made) sinks (record {
+    subst (λ (x : StreamPort). AddsStream system connection x t low old new made) sources
+    (subst (λ (y : StreamPort). AddsStream system connection source y low old new made) sinks (record {
       from = from;
       ready = ready;
       from_are = inputs;
@@ -294,27 +293,27 @@ low_known : (system : SystemTable) (number place : ℕ) (low : NetValue) (b : Bo
 low_known system number place low true e f = (e, cc)
 low_known system number place low false e f = absurd (let none : Some low ≡ None = f in cc)
 
-wire_of_test : (system : SystemTable) (number : ℕ) (connection : Connection) (source : SourcePort) (sink : SinkPort) (e : AreEndsOf system number connection source sink) → is_wire_at system e.at.place ≡ true
-    → is_wire_stream (declared_source source) (declared_sink sink) connection.fifo ≡ true
+wire_of_test : (system : SystemTable) (number : ℕ) (connection : Connection) (source : StreamPort) (sink : StreamPort) (e : AreEndsOf system number connection source sink) → is_wire_at system e.at.place ≡ true
+    → is_wire_stream (declared source) (declared sink) connection.fifo ≡ true
 wire_of_test system number connection source sink e test =
     let known : is_wire system connection ≡ true = (let is = e.at.connection_is in sym (rw is refl) ∙ test) in
     subst (λ (b : Finished). is_wire_as connection.fifo (Source source) b ≡ true) (sink_known_as system number connection source sink e)
     (subst (λ (a : Finished). is_wire_as connection.fifo a (known_at system connection.end) ≡ true) (source_known system number connection source sink e) known)
 
-pub adds_wire : WiresAreServed → (system : SystemTable) (number : ℕ) (connection : Connection) (source s : SourcePort) (sink t : SinkPort) (low : NetValue) (netlist : Netlist) (from : SourceNets) (ready : Option NetValue) (made : PathNets)
-    → (e : AreEndsOf system number connection source sink) → ((source : SourcePort) → IsProper (Source source) → IsBoundedSource source) → known_at system connection.start ≡ Source s → known_at system connection.end ≡ Sink t
-    → AreInputs system connection.start (declared_source source) from → AreSourceNets netlist (declared_source source) from → IsRead system netlist connection.end role.Ready ready
+pub adds_wire : WiresAreServed → (system : SystemTable) (number : ℕ) (connection : Connection) (source s : StreamPort) (sink t : StreamPort) (low : NetValue) (netlist : Netlist) (from : SourceNets) (ready : Option NetValue) (made : PathNets)
+    → (e : AreEndsOf system number connection source sink) → ((source : StreamPort) → IsProper (Source source) → IsBoundedStream source) → known_at system connection.start ≡ Source s → known_at system connection.end ≡ Sink t
+    → AreInputs system connection.start (declared source) from → AreSourceNets netlist (declared source) from → IsRead system netlist connection.end role.Ready ready
     → Some low ≡ low_at system number e.at.place → IsJoinedUpTo system number netlist → made ≡ wire_nets from ready low → AddsStream system connection s t (Some low) netlist netlist made
 adds_wire law system number connection source s sink t low netlist from ready made e bounded f g inputs nets read low_is upto is =
     let known = low_known system number e.at.place low (is_wire_at system e.at.place) refl low_is in
-    let wire = wire_is (declared_source source) (declared_sink sink) connection.fifo (wire_of_test system number connection source sink e known.0) in
+    let wire = wire_is (declared source) (declared sink) connection.fifo (wire_of_test system number connection source sink e known.0) in
     let there = ready_if system number connection source sink netlist ready e read in
     let line = upto.lows (wires_before system number) (wire_below system number e.at.place e.at.place_is known.0) in
     let number_is : low.number ≡ input_count (ports_of system) + wires_before system number = ap (λ (n : NetValue). n.number) known.1 in
-    let some = (subst IsBoundedSource e.source_is (bounded_source system number connection e.at bounded)).some in
+    let some = (subst IsBoundedStream e.source_is (bounded_source system number connection e.at bounded)).some in
     adds_path system number connection source s sink t (Some low) netlist netlist from ready made e f g inputs (read.net_is 1 (ready_input system number connection source sink e))
-    (subst (ArePathNets netlist (declared_sink sink)) (sym is) (wire_path netlist (declared_source source) (declared_sink sink) from ready low wire.alike nets there
+    (subst (ArePathNets netlist (declared sink)) (sym is) (wire_path netlist (declared source) (declared sink) from ready low wire.alike nets there
     (low_bit netlist low (input_count (ports_of system) + wires_before system number) known.1 line)))
-    (subst (λ (m : PathNets). ServesInLonger (declared_source source) (declared_sink sink) connection.fifo from ready m netlist) (sym is)
-    (wire_serves law netlist (declared_source source) (declared_sink sink) connection.fifo from ready low wire some nets there (subst (λ (n : ℕ). slice_get netlist.lines n ≡ Some low_line) (sym number_is) line)))
+    (subst (λ (m : PathNets). ServesInLonger (declared source) (declared sink) connection.fifo from ready m netlist) (sym is)
+    (wire_serves law netlist (declared source) (declared sink) connection.fifo from ready low wire some nets there (subst (λ (n : ℕ). slice_get netlist.lines n ≡ Some low_line) (sym number_is) line)))
     (grows-none most_nets netlist) (λ n w. w) is

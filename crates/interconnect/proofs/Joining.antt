@@ -5,8 +5,7 @@ use Rattle.std.specs.List.{flat_map}
 use Rattle.std.proofs.lemmas.Bool.{false≢true}
 use Rattle.std.proofs.lemmas.Bool.Decides.{Decides-ltb}
 use Rattle.iface_roles.specs.declared.records.Finished.TheVariants.{Source, Sink}
-use Rattle.iface_roles.specs.declared.records.SourcePort.{SourcePort}
-use Rattle.iface_roles.specs.declared.records.SinkPort.{SinkPort}
+use Rattle.iface_roles.specs.declared.records.StreamPort.{StreamPort}
 use Rattle.av_scripts.specs.declared.tables.EndId.{EndId}
 use Rattle.av_scripts.specs.declared.tables.Connection.{Connection}
 use Rattle.av_scripts.specs.Tables.{SystemTable}
@@ -22,7 +21,7 @@ use Rattle.netlist.specs.Netlists.{Netlist, IsNet, IsOutputPort, IsWaiting, Wait
 use Rattle.netlist.specs.Longer.{Keeps, Extends}
 use Rattle.stream_runs.specs.Ends.{Declared}
 use Rattle.stage_core.specs.Beats.{IsNetOfWidth, IsBit}
-use Rattle.stream_path.specs.Joining.{declared_source, declared_sink}
+use Rattle.stream_path.specs.Joining.{declared}
 use Rattle.stream_path.specs.Ends.{IsNetWhere, ArePathNets}
 use Rattle.stream_path.specs.declared.ends.PathNets.{PathNets}
 use Rattle.interconnect.specs.declared.roles.Role.{Role}
@@ -104,12 +103,12 @@ abbrev pub AreOutputs : SystemTable → Connection → Declared → Declared →
 AreOutputs system connection source sink = (n : ℕ) (r : Role) → slice_get output_roles n ≡ Some r → IsPortIf (ports_of system) true (output_width source sink r) (output_at system connection r)
 
 pub outputs_are : (system : SystemTable) (number : ℕ) (connection : Connection) → IsPlanned system → (at : IsStreamPlace system number connection)
-    → AreOutputs system connection (declared_source at.source_port) (declared_sink at.sink_port)
+    → AreOutputs system connection (declared at.source_port) (declared at.sink_port)
 outputs_are system number connection h at =
     let start = start_among system number connection at in
     let end = finish_among system number connection at in
-    let source = declared_source at.source_port in
-    let sink = declared_sink at.sink_port in
+    let source = declared at.source_port in
+    let sink = declared at.sink_port in
     let known = port_known system connection.end (Sink at.sink_port) in
     each_output (λ r. IsPortIf (ports_of system) true (output_width source sink r) (output_at system connection r))
     (port_known system connection.start (Source at.source_port) (port_of role.Ready (bits_if source.ready 1)) h start at.source_is (inl refl))
@@ -156,10 +155,10 @@ can_drive netlist ports width net (Some k) e p is undriven =
     }
 
 pub may_drive_all : (system : SystemTable) (number : ℕ) (connection : Connection) (netlist : Netlist) (made : PathNets) → IsPlanned system → (at : IsStreamPlace system number connection) → netlist.ports ≡ ports_of system
-    → ArePathNets netlist (declared_sink at.sink_port) made → AreUndriven system connection netlist → MayDriveAll system connection made netlist
+    → ArePathNets netlist (declared at.sink_port) made → AreUndriven system connection netlist → MayDriveAll system connection made netlist
 may_drive_all system number connection netlist made h at ports nets undriven n r e =
-    can_drive netlist (ports_of system) (output_width (declared_source at.source_port) (declared_sink at.sink_port) r) (net_for made r) (output_at system connection r) ports
-    (outputs_are system number connection h at n r e) (widths_are netlist (declared_source at.source_port) (declared_sink at.sink_port) made nets n r e) (undriven n r e)
+    can_drive netlist (ports_of system) (output_width (declared at.source_port) (declared at.sink_port) r) (net_for made r) (output_at system connection r) ports
+    (outputs_are system number connection h at n r e) (widths_are netlist (declared at.source_port) (declared at.sink_port) made nets n r e) (undriven n r e)
 
 -- ---- one output after the other
 
@@ -341,7 +340,7 @@ pub record AreSteps (system : SystemTable) (number : ℕ) (connection : Connecti
   pub others : (k : ℕ) → IsNoOutput 9 system connection k → driver_of new k ≡ driver_of middle k
 
 -- a stream stays joined in a longer netlist
-pub stays_joined : KeepsOn → (system : SystemTable) (old new : Netlist) (number place : ℕ) (connection : Connection) (source : SourcePort) (sink : SinkPort) → Extends old new
+pub stays_joined : KeepsOn → (system : SystemTable) (old new : Netlist) (number place : ℕ) (connection : Connection) (source : StreamPort) (sink : StreamPort) → Extends old new
     → IsJoinedStream system old number place connection source sink → IsJoinedStream system new number place connection source sink
 stays_joined law system old new number place connection source sink h j =
     record {
@@ -373,7 +372,7 @@ one_place (y ∷ xs) (suc i) zero x d e f = absurd (d.0 (among_at xs i y (let is
 one_place (y ∷ xs) (suc i) (suc j) x d e f = ap suc (one_place xs i j x d.1 e f)
 
 -- streams that share an end are one
-one_stream_by : (system : SystemTable) (m n : ℕ) (a b : Connection) (source : SourcePort) (sink : SinkPort) → IsPlanned system → IsStreamPlace system m a → IsStream system n b source sink
+one_stream_by : (system : SystemTable) (m n : ℕ) (a b : Connection) (source : StreamPort) (sink : StreamPort) → IsPlanned system → IsStreamPlace system m a → IsStream system n b source sink
     → (a.start ≡ b.start) ⊎ (a.end ≡ b.end) → m ≡ n
 one_stream_by system m n a b source sink h at is ends =
     let known = stream_number system at.place (among_at (streams_of system) m at.place at.place_is) in
@@ -394,7 +393,7 @@ shared_end a b r = by_way (is_forward r)
     by_way true e = inr e
     by_way false e = inl e
 
-place_of_stream : (system : SystemTable) (number : ℕ) (connection : Connection) (source : SourcePort) (sink : SinkPort) → IsStream system number connection source sink → Among connection.start (ends_of system) × Among connection.end (ends_of system)
+place_of_stream : (system : SystemTable) (number : ℕ) (connection : Connection) (source : StreamPort) (sink : StreamPort) → IsStream system number connection source sink → Among connection.start (ends_of system) × Among connection.end (ends_of system)
 place_of_stream system number connection source sink is = (there connection.start (inl refl), there connection.end (inr (inl refl)))
   where
     there : (end : EndId) → Among end (connection.start ∷ connection.end ∷ []) → Among end (ends_of system)
@@ -404,7 +403,7 @@ place_of_stream system number connection source sink is = (there connection.star
         (subst (λ (ends : List EndId). Among end ends) (sym (ends_at system is.place connection is.connection_is)) a))
 
 -- an output of another stream is none of this one's
-other_output : (system : SystemTable) (m n k : ℕ) (a b : Connection) (source : SourcePort) (sink : SinkPort) (r : Role) → IsPlanned system → IsStreamPlace system m a → IsStream system n b source sink → m < n
+other_output : (system : SystemTable) (m n k : ℕ) (a b : Connection) (source : StreamPort) (sink : StreamPort) (r : Role) → IsPlanned system → IsStreamPlace system m a → IsStream system n b source sink → m < n
     → output_at system b r ≡ Some k → IsNoOutput 9 system a k
 other_output system m n k a b source sink r h at is less here i s below f there =
     let ends = place_of_stream system n b source sink is in
@@ -425,13 +424,13 @@ same_drivers : (old new : Netlist) (k : ℕ) → new.drivers ≡ old.drivers →
 same_drivers old new k e = ap (λ (ds : List (Option ℕ)). driver_of (record old { drivers = ds }) k) e
 
 -- the stream of a number is one
-record IsSameStream (system : SystemTable) (number place : ℕ) (a b : Connection) (source : SourcePort) (sink : SinkPort) (at : IsStreamPlace system number b) : Type 0 where
+record IsSameStream (system : SystemTable) (number place : ℕ) (a b : Connection) (source : StreamPort) (sink : StreamPort) (at : IsStreamPlace system number b) : Type 0 where
   place_is : at.place ≡ place
   connection_is : b ≡ a
   source_is : at.source_port ≡ source
   sink_is : at.sink_port ≡ sink
 
-one_stream_of : (system : SystemTable) (number place : ℕ) (a b : Connection) (source : SourcePort) (sink : SinkPort) (at : IsStreamPlace system number b) → slice_get (streams_of system) number ≡ Some place
+one_stream_of : (system : SystemTable) (number place : ℕ) (a b : Connection) (source : StreamPort) (sink : StreamPort) (at : IsStreamPlace system number b) → slice_get (streams_of system) number ≡ Some place
     → IsStream system number a source sink → IsSameStream system number place a b source sink at
 one_stream_of system number place a b source sink at e is =
     let p = is.place_is in
@@ -460,13 +459,13 @@ newly_joined system number connection old middle new made law s =
       wire = s.adds.wire;
     }
 
-joined_as : (system : SystemTable) (netlist : Netlist) (number place : ℕ) (a b : Connection) (source : SourcePort) (sink : SinkPort) (at : IsStreamPlace system number b)
+joined_as : (system : SystemTable) (netlist : Netlist) (number place : ℕ) (a b : Connection) (source : StreamPort) (sink : StreamPort) (at : IsStreamPlace system number b)
     → IsSameStream system number place a b source sink at → IsJoinedStream system netlist number at.place b at.source_port at.sink_port → IsJoinedStream system netlist number place a source sink
 joined_as system netlist number place a b source sink at e j =
     subst (λ (p : ℕ). IsJoinedStream system netlist number p a source sink) e.place_is
     (subst (λ (c : Connection). IsJoinedStream system netlist number at.place c source sink) e.connection_is
-    (subst (λ (t : SinkPort). IsJoinedStream system netlist number at.place b source t) e.sink_is
-    (subst (λ (s : SourcePort). IsJoinedStream system netlist number at.place b s at.sink_port) e.source_is j)))
+    (subst (λ (t : StreamPort). IsJoinedStream system netlist number at.place b source t) e.sink_is
+    (subst (λ (s : StreamPort). IsJoinedStream system netlist number at.place b s at.sink_port) e.source_is j)))
 
 waiting_as : (old new : Netlist) (n : ℕ) → new.lines ≡ old.lines → IsWaiting new n → IsWaiting old n
 waiting_as old new n e w = record { line = w.line; is = subst (λ (ls : List Line). slice_get ls n ≡ Some w.line) e w.is; waits = w.waits }

@@ -11,8 +11,7 @@ use Rattle.iface_roles.specs.declared.records.Finished.{Finished}
 use Rattle.iface_roles.specs.declared.records.Finished.TheVariants.{Host, Agent}
 use Rattle.iface_roles.specs.declared.records.HostPort.{HostPort}
 use Rattle.iface_roles.specs.declared.records.AgentPort.{AgentPort}
-use Rattle.iface_roles.specs.declared.records.SourcePort.{SourcePort}
-use Rattle.iface_roles.specs.declared.records.SinkPort.{SinkPort}
+use Rattle.iface_roles.specs.declared.records.StreamPort.{StreamPort}
 use Rattle.av_scripts.specs.declared.tables.EndId.{EndId}
 use Rattle.av_scripts.specs.declared.tables.Connection.{Connection}
 use Rattle.av_scripts.specs.Tables.{SystemTable, IsEnd}
@@ -352,7 +351,7 @@ ends_apart system h planned =
 
 -- ---- the module
 
-no_stream_of : (system : SystemTable) (h : IsOnly system) (number : ℕ) (connection : Connection) (source : SourcePort) (sink : SinkPort) → IsStream system number connection source sink → ⊥
+no_stream_of : (system : SystemTable) (h : IsOnly system) (number : ℕ) (connection : Connection) (source : StreamPort) (sink : StreamPort) → IsStream system number connection source sink → ⊥
 no_stream_of system h number connection source sink is =
     let none : slice_get (streams_of system) number ≡ None = ap (λ (streams : List ℕ). slice_get streams number) (streams_are system h) in
     let some : None ≡ Some is.place = sym none ∙ is.place_is in

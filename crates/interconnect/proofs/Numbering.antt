@@ -10,8 +10,7 @@ use Rattle.iface_roles.specs.declared.records.Finished.{Finished}
 use Rattle.iface_roles.specs.declared.records.Finished.TheVariants.{Host, Agent, Source, Sink, Other}
 use Rattle.iface_roles.specs.declared.records.HostPort.{HostPort}
 use Rattle.iface_roles.specs.declared.records.AgentPort.{AgentPort}
-use Rattle.iface_roles.specs.declared.records.SourcePort.{SourcePort}
-use Rattle.iface_roles.specs.declared.records.SinkPort.{SinkPort}
+use Rattle.iface_roles.specs.declared.records.StreamPort.{StreamPort}
 use Rattle.iface_roles.specs.Proper.{IsProper}
 use Rattle.av_scripts.specs.declared.tables.EndId.{EndId}
 use Rattle.av_scripts.specs.declared.tables.Connection.{Connection}
@@ -86,8 +85,8 @@ joins_mm (Host h) (Agent a) j = record { host = h; agent = a; is_host = refl; is
 joins_mm a b j = absurd j
 
 record AreStream (a b : Finished) : Type 0 where
-  source : SourcePort
-  sink : SinkPort
+  source : StreamPort
+  sink : StreamPort
   is_source : a ≡ Source source
   is_sink : b ≡ Sink sink
 
@@ -118,8 +117,8 @@ of_mm system connection l e =
 
 -- what a connection of a source to a sink joins
 pub record JoinsStream (system : SystemTable) (connection : Connection) : Type 0 where
-  pub source : SourcePort
-  pub sink : SinkPort
+  pub source : StreamPort
+  pub sink : StreamPort
   pub start : IsEnd system connection.start (Source source)
   pub end : IsEnd system connection.end (Sink sink)
   pub start_proper : IsProper (Source source)
@@ -264,7 +263,7 @@ distinct_streams system =
 
 -- ---- the ends of streams
 
-narrow_ends : (a b : Finished) → (source : SourcePort) (sink : SinkPort) → a ≡ Source source → b ≡ Sink sink → AreNarrow a b → IsNarrow a × IsNarrow b
+narrow_ends : (a b : Finished) → (source : StreamPort) (sink : StreamPort) → a ≡ Source source → b ≡ Sink sink → AreNarrow a b → IsNarrow a × IsNarrow b
 narrow_ends a b source sink e f h =
     let are = subst (λ y. AreNarrow (Source source) y) f (subst (λ x. AreNarrow x b) e h) in
     (subst IsNarrow (sym e) are.0, subst IsNarrow (sym f) are.1)
@@ -442,7 +441,7 @@ agent_known system number end h e =
     (joins.agent, ap (known_at system) (sym from.makes) ∙ known_is system from.from.end (Agent joins.agent) joins.end)
 
 pub sink_known : (system : SystemTable) (number place : ℕ) (connection : Connection) → IsPlanned system → slice_get (streams_of system) number ≡ Some place → slice_get system.connections place ≡ Some connection
-    → (sink : SinkPort) × (known_at system connection.end ≡ Sink sink)
+    → (sink : StreamPort) × (known_at system connection.end ≡ Sink sink)
 sink_known system number place connection h e f =
     let known = stream_number system place (among_at (streams_of system) number place e) in
     let p = known.is in

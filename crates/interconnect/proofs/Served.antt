@@ -6,8 +6,7 @@ use Rattle.std.proofs.lemmas.Bool.{false≢true, ltb-true}
 use Rattle.std.proofs.lemmas.Bool.Decides.{Decides-ltb}
 use Rattle.iface_roles.specs.declared.records.Finished.{Finished}
 use Rattle.iface_roles.specs.declared.records.Finished.TheVariants.{Source, Sink}
-use Rattle.iface_roles.specs.declared.records.SourcePort.{SourcePort}
-use Rattle.iface_roles.specs.declared.records.SinkPort.{SinkPort}
+use Rattle.iface_roles.specs.declared.records.StreamPort.{StreamPort}
 use Rattle.av_scripts.specs.declared.tables.EndId.{EndId}
 use Rattle.av_scripts.specs.declared.tables.Connection.{Connection}
 use Rattle.av_scripts.specs.Tables.{SystemTable}
@@ -20,7 +19,7 @@ use Rattle.netlist.specs.Signals.{port_net, port_value, port_named, signal}
 use Rattle.stream_runs.specs.Source.{IsLegalSource}
 use Rattle.stream_runs.specs.Delivery.{IsServed}
 use Rattle.stream_runs.specs.Ends.{Declared, Signals, side_of, view_of, signal_or, stream_of, run_of}
-use Rattle.stream_path.specs.Joining.{declared_source, declared_sink}
+use Rattle.stream_path.specs.Joining.{declared}
 use Rattle.stream_path.specs.Ends.{signal_on, signal_of, signal_where, source_signals, sink_signals}
 use Rattle.stream_path.specs.declared.ends.PathNets.{PathNets}
 use Rattle.interconnect.specs.declared.roles.Role.{Role}
@@ -95,12 +94,12 @@ bits_lt false = refl
 
 -- what stands at an output of a stream, and what at an input
 out : (system : SystemTable) (number : ℕ) (connection : Connection) (netlist : Netlist) (run : Run) (n : ℕ) (r : Role) (end : EndId) (present : Bool) (j : IsJoinedIn system number connection netlist)
-    → n < 9 → slice_get output_roles n ≡ Some r → output_at system connection r ≡ port_at system end r → nat_lt 0 (output_width (declared_source j.at.source_port) (declared_sink j.at.sink_port) r) ≡ present
+    → n < 9 → slice_get output_roles n ≡ Some r → output_at system connection r ≡ port_at system end r → nat_lt 0 (output_width (declared j.at.source_port) (declared j.at.sink_port) r) ≡ present
     → signal netlist run (port_name (name_at system end) (role_word r)) ≡ signal_where present run (net_for j.joined.made r)
 out system number connection netlist run n r end present j below e is there =
     shown_at system netlist run end r j.ports
     ∙ ap (shown netlist run) (sym is)
-    ∙ output_shown (ports_of system) netlist run present (output_width (declared_source j.at.source_port) (declared_sink j.at.sink_port) r) (net_for j.joined.made r) (output_at system connection r) there
+    ∙ output_shown (ports_of system) netlist run present (output_width (declared j.at.source_port) (declared j.at.sink_port) r) (net_for j.joined.made r) (output_at system connection r) there
     (outputs_are system number connection j.planned j.at n r e) (j.joined.driven n r below e)
 
 inp : (system : SystemTable) (number : ℕ) (connection : Connection) (netlist : Netlist) (run : Run) (end : EndId) (p : RolePort) (net : Option NetValue) (j : IsJoinedIn system number connection netlist)
@@ -111,7 +110,7 @@ inp system number connection netlist run end p net j port is =
 
 -- an input of a source
 source_input : (system : SystemTable) (number : ℕ) (connection : Connection) (netlist : Netlist) (run : Run) (p : RolePort) (net : Option NetValue) (j : IsJoinedIn system number connection netlist)
-    → Among p (stream_ports (declared_source j.at.source_port)) → is_output true p.role ≡ false → net ≡ input_at system connection.start p.role p.width
+    → Among p (stream_ports (declared j.at.source_port)) → is_output true p.role ≡ false → net ≡ input_at system connection.start p.role p.width
     → signal netlist run (port_name (name_at system connection.start) (role_word p.role)) ≡ signal_of run net
 source_input system number connection netlist run p net j may way is =
     inp system number connection netlist run connection.start p net j
@@ -128,51 +127,51 @@ packet_width system end r false net port is = is ∙ by_port (port_at system end
     by_port (Some k) p = (let some = p.some in absurd (omega (arith, some)))
 
 source_port_of : (system : SystemTable) (number : ℕ) (connection : Connection) (netlist : Netlist) (p : RolePort) (j : IsJoinedIn system number connection netlist)
-    → Among p (stream_ports (declared_source j.at.source_port)) → is_output true p.role ≡ false → IsPortIf (ports_of system) false p.width (port_at system connection.start p.role)
+    → Among p (stream_ports (declared j.at.source_port)) → is_output true p.role ≡ false → IsPortIf (ports_of system) false p.width (port_at system connection.start p.role)
 source_port_of system number connection netlist p j may way =
     subst (λ (b : Bool). IsPortIf (ports_of system) b p.width (port_at system connection.start p.role)) way
     (port_known system connection.start (Source j.at.source_port) p j.planned (start_among system number connection j.at) j.at.source_is may)
 
 source_shown : (system : SystemTable) (number : ℕ) (connection : Connection) (netlist : Netlist) (run : Run) (j : IsJoinedIn system number connection netlist)
-    → end_signals netlist run (name_at system connection.start) ≡ source_signals (declared_source j.at.source_port) j.joined.from j.joined.made run
+    → end_signals netlist run (name_at system connection.start) ≡ source_signals (declared j.at.source_port) j.joined.from j.joined.made run
 source_shown system number connection netlist run j =
-    let declared = declared_source j.at.source_port in
+    let source = declared j.at.source_port in
     let input = source_input system number connection netlist run in
     let packets = source_port_of system number connection netlist in
     same_signals _ _
-    (out system number connection netlist run 0 role.Ready connection.start declared.ready j (omega arith) refl refl (bits_lt declared.ready))
+    (out system number connection netlist run 0 role.Ready connection.start source.ready j (omega arith) refl refl (bits_lt source.ready))
     (input (port_of role.Valid 1) (Some j.joined.from.valid) j (inr (inl refl)) refl (sym j.joined.from_are.valid))
-    (input (port_of role.Data (declared.symbols * declared.symbol_bits)) (Some j.joined.from.word) j (inr (inr (inl refl))) refl (sym j.joined.from_are.word))
-    (input (port_of role.Channel declared.channel_bits) j.joined.from.channel j (inr (inr (inr (inl refl)))) refl j.joined.from_are.channel)
-    (input (port_of role.Error declared.error_bits) j.joined.from.error j (inr (inr (inr (inr (inl refl))))) refl j.joined.from_are.error)
-    (input (port_of role.StartOfPacket (bits_if declared.packets 1)) j.joined.from.startofpacket j (inr (inr (inr (inr (inr (inl refl)))))) refl
-    (packet_width system connection.start role.StartOfPacket declared.packets j.joined.from.startofpacket
-    (packets (port_of role.StartOfPacket (bits_if declared.packets 1)) j (inr (inr (inr (inr (inr (inl refl)))))) refl) j.joined.from_are.startofpacket))
-    (input (port_of role.EndOfPacket (bits_if declared.packets 1)) j.joined.from.endofpacket j (inr (inr (inr (inr (inr (inr (inl refl))))))) refl
-    (packet_width system connection.start role.EndOfPacket declared.packets j.joined.from.endofpacket
-    (packets (port_of role.EndOfPacket (bits_if declared.packets 1)) j (inr (inr (inr (inr (inr (inr (inl refl))))))) refl) j.joined.from_are.endofpacket))
-    (input (port_of role.Empty declared.empty_bits) j.joined.from.empty j (inr (inr (inr (inr (inr (inr (inr (inl refl)))))))) refl j.joined.from_are.empty)
+    (input (port_of role.Data (source.symbols * source.symbol_bits)) (Some j.joined.from.word) j (inr (inr (inl refl))) refl (sym j.joined.from_are.word))
+    (input (port_of role.Channel source.channel_bits) j.joined.from.channel j (inr (inr (inr (inl refl)))) refl j.joined.from_are.channel)
+    (input (port_of role.Error source.error_bits) j.joined.from.error j (inr (inr (inr (inr (inl refl))))) refl j.joined.from_are.error)
+    (input (port_of role.StartOfPacket (bits_if source.packets 1)) j.joined.from.startofpacket j (inr (inr (inr (inr (inr (inl refl)))))) refl
+    (packet_width system connection.start role.StartOfPacket source.packets j.joined.from.startofpacket
+    (packets (port_of role.StartOfPacket (bits_if source.packets 1)) j (inr (inr (inr (inr (inr (inl refl)))))) refl) j.joined.from_are.startofpacket))
+    (input (port_of role.EndOfPacket (bits_if source.packets 1)) j.joined.from.endofpacket j (inr (inr (inr (inr (inr (inr (inl refl))))))) refl
+    (packet_width system connection.start role.EndOfPacket source.packets j.joined.from.endofpacket
+    (packets (port_of role.EndOfPacket (bits_if source.packets 1)) j (inr (inr (inr (inr (inr (inr (inl refl))))))) refl) j.joined.from_are.endofpacket))
+    (input (port_of role.Empty source.empty_bits) j.joined.from.empty j (inr (inr (inr (inr (inr (inr (inr (inl refl)))))))) refl j.joined.from_are.empty)
 
 sink_ready_port : (system : SystemTable) (number : ℕ) (connection : Connection) (netlist : Netlist) (j : IsJoinedIn system number connection netlist)
-    → IsPortIf (ports_of system) false (bits_if (declared_sink j.at.sink_port).ready 1) (port_at system connection.end role.Ready)
+    → IsPortIf (ports_of system) false (bits_if (declared j.at.sink_port).ready 1) (port_at system connection.end role.Ready)
 sink_ready_port system number connection netlist j =
-    port_known system connection.end (Sink j.at.sink_port) (port_of role.Ready (bits_if (declared_sink j.at.sink_port).ready 1)) j.planned (finish_among system number connection j.at) j.at.sink_is (inl refl)
+    port_known system connection.end (Sink j.at.sink_port) (port_of role.Ready (bits_if (declared j.at.sink_port).ready 1)) j.planned (finish_among system number connection j.at) j.at.sink_is (inl refl)
 
 sink_shown : (system : SystemTable) (number : ℕ) (connection : Connection) (netlist : Netlist) (run : Run) (j : IsJoinedIn system number connection netlist)
-    → end_signals netlist run (name_at system connection.end) ≡ sink_signals (declared_sink j.at.sink_port) j.joined.ready j.joined.made run
+    → end_signals netlist run (name_at system connection.end) ≡ sink_signals (declared j.at.sink_port) j.joined.ready j.joined.made run
 sink_shown system number connection netlist run j =
-    let declared = declared_sink j.at.sink_port in
+    let sink = declared j.at.sink_port in
     let output = out system number connection netlist run in
     same_signals _ _
-    (inp system number connection netlist run connection.end (port_of role.Ready (bits_if declared.ready 1)) j.joined.ready j (sink_ready_port system number connection netlist j)
-    (packet_width system connection.end role.Ready declared.ready j.joined.ready (sink_ready_port system number connection netlist j) j.joined.ready_is))
+    (inp system number connection netlist run connection.end (port_of role.Ready (bits_if sink.ready 1)) j.joined.ready j (sink_ready_port system number connection netlist j)
+    (packet_width system connection.end role.Ready sink.ready j.joined.ready (sink_ready_port system number connection netlist j) j.joined.ready_is))
     (output 1 role.Valid connection.end true j (omega arith) refl refl refl)
-    (output 2 role.Data connection.end true j (omega arith) refl refl ((Decides-ltb 0 (declared.symbols * declared.symbol_bits)).1 j.some_bits))
-    (output 3 role.Channel connection.end (nat_lt 0 declared.channel_bits) j (omega arith) refl refl refl)
-    (output 4 role.Error connection.end (nat_lt 0 declared.error_bits) j (omega arith) refl refl refl)
-    (output 5 role.StartOfPacket connection.end declared.packets j (omega arith) refl refl (bits_lt declared.packets))
-    (output 6 role.EndOfPacket connection.end declared.packets j (omega arith) refl refl (bits_lt declared.packets))
-    (output 7 role.Empty connection.end (nat_lt 0 declared.empty_bits) j (omega arith) refl refl refl)
+    (output 2 role.Data connection.end true j (omega arith) refl refl ((Decides-ltb 0 (sink.symbols * sink.symbol_bits)).1 j.some_bits))
+    (output 3 role.Channel connection.end (nat_lt 0 sink.channel_bits) j (omega arith) refl refl refl)
+    (output 4 role.Error connection.end (nat_lt 0 sink.error_bits) j (omega arith) refl refl refl)
+    (output 5 role.StartOfPacket connection.end sink.packets j (omega arith) refl refl (bits_lt sink.packets))
+    (output 6 role.EndOfPacket connection.end sink.packets j (omega arith) refl refl (bits_lt sink.packets))
+    (output 7 role.Empty connection.end (nat_lt 0 sink.empty_bits) j (omega arith) refl refl refl)
 
 -- ---- the stream is served
 
@@ -182,10 +181,10 @@ dropped_shown system number connection netlist run j =
     ap (λ (o : Option (ℕ → ℕ)). signal_or 0 o) (out system number connection netlist run 8 role.Dropped connection.end true j (omega arith) refl refl refl)
 
 pub is_served : (system : SystemTable) (number : ℕ) (connection : Connection) (netlist : Netlist) (j : IsJoinedIn system number connection netlist)
-    → ServesStream netlist (name_at system connection.start) (name_at system connection.end) (declared_source j.at.source_port) (declared_sink j.at.sink_port) connection.fifo
+    → ServesStream netlist (name_at system connection.start) (name_at system connection.end) (declared j.at.source_port) (declared j.at.sink_port) connection.fifo
 is_served system number connection netlist j run cycles is_run legal =
-    let source = declared_source j.at.source_port in
-    let sink = declared_sink j.at.sink_port in
+    let source = declared j.at.source_port in
+    let sink = declared j.at.sink_port in
     let from = source_shown system number connection netlist run j in
     let to = sink_shown system number connection netlist run j in
     let dropped = dropped_shown system number connection netlist run j in
@@ -219,7 +218,7 @@ net_is ports width (Some k) net low e = ap (λ (o : Option NetValue). (unwrap_or
 -- a wire in a finished netlist
 record IsWireIn (system : SystemTable) (number : ℕ) (connection : Connection) (netlist : Netlist) (low : NetValue) : Type 0 where
   joined : IsJoinedIn system number connection netlist
-  wire : IsWire (declared_source joined.at.source_port) (declared_sink joined.at.sink_port) connection.fifo
+  wire : IsWire (declared joined.at.source_port) (declared joined.at.sink_port) connection.fifo
   made : joined.joined.made ≡ wire_nets joined.joined.from joined.joined.ready low
 
 -- what holds of each port of an end of a stream
@@ -238,8 +237,8 @@ each_port P d a b c e f g h i p (inr (inr (inr (inr (inr (inr (inr (inr none))))
 
 -- a signal that goes forward
 forward_joined : (system : SystemTable) (number : ℕ) (connection : Connection) (netlist : Netlist) (low : NetValue) (n width : ℕ) (r : Role) (net : Option NetValue) (w : IsWireIn system number connection netlist low)
-    → n < 9 → slice_get output_roles n ≡ Some r → is_forward r ≡ true → Among (port_of r width) (stream_ports (declared_source w.joined.at.source_port))
-    → output_width (declared_source w.joined.at.source_port) (declared_sink w.joined.at.sink_port) r ≡ width → net ≡ input_at system connection.start r width
+    → n < 9 → slice_get output_roles n ≡ Some r → is_forward r ≡ true → Among (port_of r width) (stream_ports (declared w.joined.at.source_port))
+    → output_width (declared w.joined.at.source_port) (declared w.joined.at.sink_port) r ≡ width → net ≡ input_at system connection.start r width
     → net_for w.joined.joined.made r ≡ unwrap_or net low → 0 < width → IsDrivenBy netlist (port_name (name_at system connection.end) (role_word r)) (port_name (name_at system connection.start) (role_word r))
 forward_joined system number connection netlist low n width r net w below e forward may same is made some =
     let j = w.joined in
@@ -257,8 +256,8 @@ ready_joined : (system : SystemTable) (number : ℕ) (connection : Connection) (
     → IsDrivenBy netlist (port_name (name_at system connection.start) (codes "ready")) (port_name (name_at system connection.end) (codes "ready"))
 ready_joined system number connection netlist low w =
     let j = w.joined in
-    let one : output_width (declared_source j.at.source_port) (declared_sink j.at.sink_port) role.Ready ≡ 1 = ap (λ (b : Bool). bits_if b 1) w.wire.alike.source_ready in
-    let other : bits_if (declared_sink j.at.sink_port).ready 1 ≡ 1 = ap (λ (b : Bool). bits_if b 1) w.wire.alike.sink_ready in
+    let one : output_width (declared j.at.source_port) (declared j.at.sink_port) role.Ready ≡ 1 = ap (λ (b : Bool). bits_if b 1) w.wire.alike.source_ready in
+    let other : bits_if (declared j.at.sink_port).ready 1 ≡ 1 = ap (λ (b : Bool). bits_if b 1) w.wire.alike.sink_ready in
     driven_by (ports_of system) netlist _ _ (output_at system connection role.Ready) (port_at system connection.end role.Ready) 1 (net_for j.joined.made role.Ready) j.ports refl refl
     (subst (λ (n : ℕ). IsPortIf (ports_of system) true n (output_at system connection role.Ready)) one (outputs_are system number connection j.planned j.at 0 role.Ready refl))
     (subst (λ (n : ℕ). IsPortIf (ports_of system) false n (port_at system connection.end role.Ready)) other (sink_ready_port system number connection netlist j))
@@ -267,12 +266,12 @@ ready_joined system number connection netlist low w =
     (net_is (ports_of system) 1 (port_at system connection.end role.Ready) j.joined.ready low j.joined.ready_is))
 
 port_joined : (system : SystemTable) (number : ℕ) (connection : Connection) (netlist : Netlist) (low : NetValue) (w : IsWireIn system number connection netlist low) (p : RolePort)
-    → Among p (stream_ports (declared_source w.joined.at.source_port)) → 0 < p.width → IsJoined netlist (name_at system connection.start) (name_at system connection.end) p.role
+    → Among p (stream_ports (declared w.joined.at.source_port)) → 0 < p.width → IsJoined netlist (name_at system connection.start) (name_at system connection.end) p.role
 port_joined system number connection netlist low w =
     let j = w.joined in
-    let d = declared_source j.at.source_port in
+    let d = declared j.at.source_port in
     let alike = w.wire.alike in
-    let bits : (declared_sink j.at.sink_port).symbols * (declared_sink j.at.sink_port).symbol_bits ≡ d.symbols * d.symbol_bits = (let a = alike.symbols in let b = alike.symbol_bits in cc) in
+    let bits : (declared j.at.sink_port).symbols * (declared j.at.sink_port).symbol_bits ≡ d.symbols * d.symbol_bits = (let a = alike.symbols in let b = alike.symbol_bits in cc) in
     let forward = forward_joined system number connection netlist low in
     let packets = source_port_of system number connection netlist in
     each_port (λ p. 0 < p.width → IsJoined netlist (name_at system connection.start) (name_at system connection.end) p.role) d
@@ -301,8 +300,8 @@ dropped_there netlist ports name net None e p driver = absurd (omega (arith, p))
 dropped_there netlist ports name net (Some k) e p driver = record { port = k; is = e; driver = driver }
 
 -- the low net of a stream that is a wire
-low_of_wire : (system : SystemTable) (number place : ℕ) (connection : Connection) (source : SourcePort) (sink : SinkPort) → slice_get system.connections place ≡ Some connection
-    → known_at system connection.start ≡ Source source → known_at system connection.end ≡ Sink sink → is_wire_stream (declared_source source) (declared_sink sink) connection.fifo ≡ true
+low_of_wire : (system : SystemTable) (number place : ℕ) (connection : Connection) (source : StreamPort) (sink : StreamPort) → slice_get system.connections place ≡ Some connection
+    → known_at system connection.start ≡ Source source → known_at system connection.end ≡ Sink sink → is_wire_stream (declared source) (declared sink) connection.fifo ≡ true
     → low_at system number place ≡ Some (net_of (input_count (ports_of system) + wires_before system number) 1)
 low_of_wire system number place connection source sink is e f wire =
     let known : is_wire_as connection.fifo (known_at system connection.start) (known_at system connection.end) ≡ true =
@@ -311,19 +310,19 @@ low_of_wire system number place connection source sink is e f wire =
     ap (λ (b : Bool). if b then Some (net_of (input_count (ports_of system) + wires_before system number) 1) else None) test
 
 pub is_wired : (system : SystemTable) (number : ℕ) (connection : Connection) (netlist : Netlist) (j : IsJoinedIn system number connection netlist)
-    → is_wire_stream (declared_source j.at.source_port) (declared_sink j.at.sink_port) connection.fifo ≡ true
+    → is_wire_stream (declared j.at.source_port) (declared j.at.sink_port) connection.fifo ≡ true
     → slice_get netlist.lines (input_count (ports_of system) + wires_before system number) ≡ Some low_line
-    → IsWired netlist (name_at system connection.start) (name_at system connection.end) (declared_source j.at.source_port) (input_count netlist.ports + wires_before system number)
+    → IsWired netlist (name_at system connection.start) (name_at system connection.end) (declared j.at.source_port) (input_count netlist.ports + wires_before system number)
 is_wired system number connection netlist j wire line =
     let low = net_of (input_count (ports_of system) + wires_before system number) 1 in
     let is = low_of_wire system number j.at.place connection j.at.source_port j.at.sink_port j.at.connection_is j.at.source_is j.at.sink_is wire in
     let made = subst (λ (o : Option NetValue). IfSome o (λ net. j.joined.made ≡ wire_nets j.joined.from j.joined.ready net)) is j.joined.wire in
-    let w : IsWireIn system number connection netlist low = record { joined = j; wire = wire_is (declared_source j.at.source_port) (declared_sink j.at.sink_port) connection.fifo wire; made = made } in
+    let w : IsWireIn system number connection netlist low = record { joined = j; wire = wire_is (declared j.at.source_port) (declared j.at.sink_port) connection.fifo wire; made = made } in
     let dropped = dropped_there netlist (ports_of system) (port_name (name_at system connection.end) (role_word role.Dropped)) (net_for j.joined.made role.Dropped) (output_at system connection role.Dropped) refl
     (outputs_are system number connection j.planned j.at 8 role.Dropped refl) (j.joined.driven 8 role.Dropped (omega arith) refl) in
-    subst (λ (n : ℕ). IsWired netlist (name_at system connection.start) (name_at system connection.end) (declared_source j.at.source_port) (n + wires_before system number)) (ap input_count (sym j.ports))
+    subst (λ (n : ℕ). IsWired netlist (name_at system connection.start) (name_at system connection.end) (declared j.at.source_port) (n + wires_before system number)) (ap input_count (sym j.ports))
     (record {
-      joined = λ k port e. (let kept = among_filter has_bits (stream_ports (declared_source j.at.source_port)) port (among_at (filter has_bits (stream_ports (declared_source j.at.source_port))) k port e) in
+      joined = λ k port e. (let kept = among_filter has_bits (stream_ports (declared j.at.source_port)) port (among_at (filter has_bits (stream_ports (declared j.at.source_port))) k port e) in
           port_joined system number connection netlist low w port kept.0 (ltb-true 0 port.width kept.1));
       dropped_port = dropped.port;
       dropped_is = ap (λ (ps : List PortLine). port_named ps (port_name (name_at system connection.end) (codes "dropped"))) j.ports ∙ dropped.is;
@@ -346,9 +345,9 @@ no_input : (b : Bool) {P : Type 0} → b ≡ true → b ≡ false → P
 no_input b e f = absurd (let both : false ≡ true = sym f ∙ e in false≢true both)
 
 pub source_driven : (system : SystemTable) (number : ℕ) (connection : Connection) (netlist : Netlist) (k : ℕ) (j : IsJoinedIn system number connection netlist) (p : RolePort)
-    → Among p (stream_ports (declared_source j.at.source_port)) → is_output true p.role ≡ true → port_at system connection.start p.role ≡ Some k → IsSome (driver_of netlist k)
+    → Among p (stream_ports (declared j.at.source_port)) → is_output true p.role ≡ true → port_at system connection.start p.role ≡ Some k → IsSome (driver_of netlist k)
 source_driven system number connection netlist k j =
-    each_port (λ p. is_output true p.role ≡ true → port_at system connection.start p.role ≡ Some k → IsSome (driver_of netlist k)) (declared_source j.at.source_port)
+    each_port (λ p. is_output true p.role ≡ true → port_at system connection.start p.role ≡ Some k → IsSome (driver_of netlist k)) (declared j.at.source_port)
     (λ way is. output_driven system number connection netlist k 0 role.Ready j (omega arith) refl is)
     (λ way is. no_input _ way refl)
     (λ way is. no_input _ way refl)
@@ -359,9 +358,9 @@ source_driven system number connection netlist k j =
     (λ way is. no_input _ way refl)
 
 pub sink_driven : (system : SystemTable) (number : ℕ) (connection : Connection) (netlist : Netlist) (k : ℕ) (j : IsJoinedIn system number connection netlist) (p : RolePort)
-    → Among p (stream_ports (declared_sink j.at.sink_port)) ⊎ (p ≡ port_of role.Dropped 1) → is_output false p.role ≡ true → port_at system connection.end p.role ≡ Some k → IsSome (driver_of netlist k)
+    → Among p (stream_ports (declared j.at.sink_port)) ⊎ (p ≡ port_of role.Dropped 1) → is_output false p.role ≡ true → port_at system connection.end p.role ≡ Some k → IsSome (driver_of netlist k)
 sink_driven system number connection netlist k j p (inl among) way at =
-    each_port (λ p. is_output false p.role ≡ true → port_at system connection.end p.role ≡ Some k → IsSome (driver_of netlist k)) (declared_sink j.at.sink_port)
+    each_port (λ p. is_output false p.role ≡ true → port_at system connection.end p.role ≡ Some k → IsSome (driver_of netlist k)) (declared j.at.sink_port)
     (λ way is. no_input _ way refl)
     (λ way is. output_driven system number connection netlist k 1 role.Valid j (omega arith) refl is)
     (λ way is. output_driven system number connection netlist k 2 role.Data j (omega arith) refl is)

@@ -8,9 +8,8 @@ use Rattle.iface_roles.specs.declared.records.Finished.{Finished}
 use Rattle.iface_roles.specs.declared.records.Finished.TheVariants.{Host, Source, Sink}
 use Rattle.iface_roles.specs.declared.records.HostPort.{HostPort}
 use Rattle.iface_roles.specs.declared.records.AgentPort.{AgentPort}
-use Rattle.iface_roles.specs.declared.records.SourcePort.{SourcePort}
-use Rattle.iface_roles.specs.declared.records.SinkPort.{SinkPort}
-use Rattle.iface_roles.specs.Proper.{IsProper, IsBoundedSink}
+use Rattle.iface_roles.specs.declared.records.StreamPort.{StreamPort}
+use Rattle.iface_roles.specs.Proper.{IsProper, IsBoundedStream}
 use Rattle.av_scripts.specs.declared.tables.EndId.{EndId}
 use Rattle.av_scripts.specs.declared.tables.Connection.{Connection}
 use Rattle.av_scripts.specs.Tables.{SystemTable, IsEnd}
@@ -25,7 +24,7 @@ use Rattle.netlist.specs.declared.line.Equation.TheVariants.{Input}
 use Rattle.netlist.specs.Nets.{NetValue, net_of}
 use Rattle.netlist.specs.Netlists.{Netlist, IsDriven, IsClocked, IsWritten, IsWellMade, driver_of, input_count, input_lines, line_of, started, appended}
 use Rattle.stage_core.specs.Growth.{StillWait}
-use Rattle.stream_path.specs.Joining.{declared_source, declared_sink}
+use Rattle.stream_path.specs.Joining.{declared}
 use Rattle.interconnect.specs.declared.roles.Role.TheVariants as role
 use Rattle.interconnect.specs.declared.roles.RolePort.{RolePort}
 use Rattle.interconnect.specs.Ports.{is_output, port_of, port_line, stream_ports, may_have, has_bits, connection_ends, end_ports, ends_of, ports_of, module_name, role_ports, starts, name_at}
@@ -241,7 +240,7 @@ take_all [] = refl
 take_all (x ∷ xs) = ap (λ ys. x ∷ ys) (take_all xs)
 
 -- the place of a stream
-place_of_stream : (system : SystemTable) (number : ℕ) (connection : Connection) (source : SourcePort) (sink : SinkPort) → IsPlanned system → IsStream system number connection source sink
+place_of_stream : (system : SystemTable) (number : ℕ) (connection : Connection) (source : StreamPort) (sink : StreamPort) → IsPlanned system → IsStream system number connection source sink
     → IsStreamPlace system number connection
 place_of_stream system number connection source sink h is =
     let known = stream_number system is.place (among_at (streams_of system) number is.place is.place_is) in
@@ -264,7 +263,7 @@ place_of_stream system number connection source sink h is =
 
 -- what the law of proper records says of sinks
 abbrev pub SinksAreBounded : Type 0
-SinksAreBounded = (sink : SinkPort) → IsProper (Sink sink) → IsBoundedSink sink
+SinksAreBounded = (sink : StreamPort) → IsProper (Sink sink) → IsBoundedStream sink
 
 pub mul_some : (a b : ℕ) → 1 ≤ a → 1 ≤ b → 0 < a * b
 mul_some zero b h k = absurd (omega arith)
@@ -282,7 +281,7 @@ pub record IsWhole (system : SystemTable) (netlist : Netlist) : Type 0 where
   pub upto : IsJoinedUpTo system (length (streams_of system)) netlist
   pub well_made : IsWellMade netlist
 
-joined_in : (system : SystemTable) (number : ℕ) (connection : Connection) (source : SourcePort) (sink : SinkPort) (netlist : Netlist) → (w : IsWhole system netlist) → IsStream system number connection source sink
+joined_in : (system : SystemTable) (number : ℕ) (connection : Connection) (source : StreamPort) (sink : StreamPort) (netlist : Netlist) → (w : IsWhole system netlist) → IsStream system number connection source sink
     → IsJoinedIn system number connection netlist
 unfolding place_of_stream
 joined_in system number connection source sink netlist w is =
@@ -326,8 +325,8 @@ wire_below system number place e is =
         let other = sum_by-cons (λ (y : ℕ). cond (test y) 1 0) x xs in
         omega (arith, rest, one, other)
 
-wire_at : (system : SystemTable) (connection : Connection) (place : ℕ) (source : SourcePort) (sink : SinkPort) → slice_get system.connections place ≡ Some connection → known_at system connection.start ≡ Source source
-    → known_at system connection.end ≡ Sink sink → is_wire_stream (declared_source source) (declared_sink sink) connection.fifo ≡ true → is_wire_at system place ≡ true
+wire_at : (system : SystemTable) (connection : Connection) (place : ℕ) (source : StreamPort) (sink : StreamPort) → slice_get system.connections place ≡ Some connection → known_at system connection.start ≡ Source source
+    → known_at system connection.end ≡ Sink sink → is_wire_stream (declared source) (declared sink) connection.fifo ≡ true → is_wire_at system place ≡ true
 wire_at system connection place source sink is e f wire =
     let known : is_wire system connection ≡ true = rw (e, f) wire in
     rw is known
@@ -360,7 +359,7 @@ all_driven system netlist w k width o =
         → is_output (starts (known_at system end)) p.role ≡ true → Among p (may_have (known_at system end)) → IsSome (driver_of netlist k)
     at_sink number connection j end p e named output may =
         (let known : known_at system end ≡ Sink j.at.sink_port = ap (known_at system) (sym e) ∙ j.at.sink_is in
-        let split = among_append (stream_ports (declared_sink j.at.sink_port)) (port_of role.Dropped 1 ∷ []) p (subst (λ (f : Finished). Among p (may_have f)) known may) in
+        let split = among_append (stream_ports (declared j.at.sink_port)) (port_of role.Dropped 1 ∷ []) p (subst (λ (f : Finished). Among p (may_have f)) known may) in
         sink_driven system number connection netlist k j p (elim split [ inl a ↦ inl a | inr b ↦ elim b [ inl is ↦ inr (sym is) | inr none ↦ absurd none ] ])
         (subst (λ (f : Finished). is_output (starts f) p.role ≡ true) known output) (ap (λ (x : EndId). port_at system x p.role) e ∙ named))
 

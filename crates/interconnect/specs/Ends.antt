@@ -2,8 +2,7 @@
 use Rattle.std.specs.Prelude.{◌≡◌, ◌*◌, ◌≤◌, ℕ, List, Some, slice_get}
 use Rattle.iface_roles.specs.declared.records.Finished.{Finished}
 use Rattle.iface_roles.specs.declared.records.Finished.TheVariants.{Source, Sink}
-use Rattle.iface_roles.specs.declared.records.SourcePort.{SourcePort}
-use Rattle.iface_roles.specs.declared.records.SinkPort.{SinkPort}
+use Rattle.iface_roles.specs.declared.records.StreamPort.{StreamPort}
 use Rattle.iface_roles.specs.Proper.{IsProper}
 use Rattle.av_scripts.specs.declared.tables.EndId.{EndId}
 use Rattle.av_scripts.specs.declared.tables.Connection.{Connection}
@@ -35,7 +34,7 @@ pub record IsStreamPlace (system : SystemTable) (number : ℕ) (connection : Con
   pub connection_is : slice_get system.connections place ≡ Some connection
   pub source : IsPlanEnd system connection.start
   pub sink : IsPlanEnd system connection.end
-  pub source_port : SourcePort
-  pub sink_port : SinkPort
+  pub source_port : StreamPort
+  pub sink_port : StreamPort
   pub source_is : known_at system connection.start ≡ Source source_port
   pub sink_is : known_at system connection.end ≡ Sink sink_port

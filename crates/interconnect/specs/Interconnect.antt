@@ -3,12 +3,11 @@ use Rattle.std.specs.Prelude.{ℕ, ◌≡◌, ◌+◌, ◌≤◌, length, IsTrue
 use Rattle.av_scripts.specs.declared.tables.Connection.{Connection}
 use Rattle.iface_roles.specs.declared.records.HostPort.{HostPort}
 use Rattle.iface_roles.specs.declared.records.AgentPort.{AgentPort}
-use Rattle.iface_roles.specs.declared.records.SourcePort.{SourcePort}
-use Rattle.iface_roles.specs.declared.records.SinkPort.{SinkPort}
+use Rattle.iface_roles.specs.declared.records.StreamPort.{StreamPort}
 use Rattle.av_scripts.specs.Tables.{SystemTable}
 use Rattle.link_rules.specs.Links.{weight_of}
 use Rattle.netlist.specs.Netlists.{Netlist, input_count}
-use Rattle.stream_path.specs.Joining.{declared_source, declared_sink}
+use Rattle.stream_path.specs.Joining.{declared}
 use Rattle.interconnect.specs.Ports.{name_at, ports_of, module_name}
 use Rattle.interconnect.specs.Wires.{is_wire_stream, wires_before}
 use Rattle.interconnect.specs.Streams.{IsStream, ServesStream, IsWired}
@@ -20,10 +19,10 @@ pub record IsInterconnect (system : SystemTable) (netlist : Netlist) : Type 0 wh
   pub ports : netlist.ports ≡ ports_of system
   pub few : length netlist.lines ≤ weight_of system
   -- a stream that is a wire, whose net for `dropped` follows those of the inputs, in the order of the wires
-  pub wired : (number : ℕ) (connection : Connection) (source : SourcePort) (sink : SinkPort) → IsStream system number connection source sink
-      → IsTrue (is_wire_stream (declared_source source) (declared_sink sink) connection.fifo)
-      → IsWired netlist (name_at system connection.start) (name_at system connection.end) (declared_source source) (input_count netlist.ports + wires_before system number)
-  pub streams : (number : ℕ) (connection : Connection) (source : SourcePort) (sink : SinkPort) → IsStream system number connection source sink
-      → ServesStream netlist (name_at system connection.start) (name_at system connection.end) (declared_source source) (declared_sink sink) connection.fifo
+  pub wired : (number : ℕ) (connection : Connection) (source : StreamPort) (sink : StreamPort) → IsStream system number connection source sink
+      → IsTrue (is_wire_stream (declared source) (declared sink) connection.fifo)
+      → IsWired netlist (name_at system connection.start) (name_at system connection.end) (declared source) (input_count netlist.ports + wires_before system number)
+  pub streams : (number : ℕ) (connection : Connection) (source : StreamPort) (sink : StreamPort) → IsStream system number connection source sink
+      → ServesStream netlist (name_at system connection.start) (name_at system connection.end) (declared source) (declared sink) connection.fifo
   pub memory : (number : ℕ) (connection : Connection) (host : HostPort) (agent : AgentPort) → IsMemory system number connection host agent
       → ServesMemory netlist (form_of agent) (name_at system connection.start) (name_at system connection.end)

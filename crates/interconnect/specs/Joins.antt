@@ -1,7 +1,6 @@
 -- How far a module is built: which of its nets are those of the ends of streams, and which drive their outputs.
 use Rattle.std.specs.Prelude.{◌≡◌, ℕ, zero, suc, ◌+◌, ◌*◌, ◌<◌, ◌≤◌, Bool, true, false, List, [], ◌∷◌, ◌++◌, length, Option, Some, None, option_map, unwrap_or, if◌then◌else◌, IfSome, slice_get}
-use Rattle.iface_roles.specs.declared.records.SourcePort.{SourcePort}
-use Rattle.iface_roles.specs.declared.records.SinkPort.{SinkPort}
+use Rattle.iface_roles.specs.declared.records.StreamPort.{StreamPort}
 use Rattle.av_scripts.specs.declared.tables.EndId.{EndId}
 use Rattle.av_scripts.specs.declared.tables.Connection.{Connection}
 use Rattle.av_scripts.specs.Tables.{SystemTable}
@@ -11,7 +10,7 @@ use Rattle.netlist.specs.Nets.{NetValue, net_of}
 use Rattle.netlist.specs.Netlists.{Netlist, IsNet, IsInputPort, IsOutputPort, IsClocked, IsWritten, driver_of, input_count, input_net, appended}
 use Rattle.stream_runs.specs.Ends.{Declared}
 use Rattle.stage_core.specs.Growth.{GrowsBy, StillWait}
-use Rattle.stream_path.specs.Joining.{declared_source, declared_sink}
+use Rattle.stream_path.specs.Joining.{declared}
 use Rattle.stream_path.specs.Ends.{ArePathNets}
 use Rattle.stream_path.specs.Serving.{most_nets, ServesInLonger}
 use Rattle.stream_path.specs.declared.ends.SourceNets.{SourceNets}
@@ -38,14 +37,14 @@ abbrev pub input_at : SystemTable → EndId → Role → ℕ → Option NetValue
 input_at system end role width = option_map (λ port. net_of (input_net (ports_of system) port) width) (port_at system end role)
 
 -- the nets of the ports of a source that the module reads
-pub record AreInputs (system : SystemTable) (end : EndId) (declared : Declared) (nets : SourceNets) : Type 0 where
+pub record AreInputs (system : SystemTable) (end : EndId) (source : Declared) (nets : SourceNets) : Type 0 where
   pub valid : input_at system end role.Valid 1 ≡ Some nets.valid
-  pub word : input_at system end role.Data (declared.symbols * declared.symbol_bits) ≡ Some nets.word
-  pub channel : nets.channel ≡ input_at system end role.Channel declared.channel_bits
-  pub error : nets.error ≡ input_at system end role.Error declared.error_bits
+  pub word : input_at system end role.Data (source.symbols * source.symbol_bits) ≡ Some nets.word
+  pub channel : nets.channel ≡ input_at system end role.Channel source.channel_bits
+  pub error : nets.error ≡ input_at system end role.Error source.error_bits
   pub startofpacket : nets.startofpacket ≡ input_at system end role.StartOfPacket 1
   pub endofpacket : nets.endofpacket ≡ input_at system end role.EndOfPacket 1
-  pub empty : nets.empty ≡ input_at system end role.Empty declared.empty_bits
+  pub empty : nets.empty ≡ input_at system end role.Empty source.empty_bits
 
 -- what drives the outputs of a stream that is a wire: the inputs of the other end, and for `dropped` a net that is always low
 abbrev pub wire_nets : SourceNets → Option NetValue → NetValue → PathNets
@@ -133,25 +132,25 @@ abbrev pub low_at : SystemTable → ℕ → ℕ → Option NetValue
 low_at system number place = if is_wire_at system place then Some (net_of (input_count (ports_of system) + wires_before system number) 1) else None
 
 -- what stands between two ends was added
-pub record AddsStream (system : SystemTable) (connection : Connection) (source : SourcePort) (sink : SinkPort) (low : Option NetValue) (old new : Netlist) (made : PathNets) : Type 0 where
+pub record AddsStream (system : SystemTable) (connection : Connection) (source : StreamPort) (sink : StreamPort) (low : Option NetValue) (old new : Netlist) (made : PathNets) : Type 0 where
   pub from : SourceNets
   pub ready : Option NetValue
-  pub from_are : AreInputs system connection.start (declared_source source) from
+  pub from_are : AreInputs system connection.start (declared source) from
   pub ready_is : ready ≡ input_at system connection.end role.Ready 1
-  pub nets : ArePathNets new (declared_sink sink) made
-  pub serves : ServesInLonger (declared_source source) (declared_sink sink) connection.fifo from ready made new
+  pub nets : ArePathNets new (declared sink) made
+  pub serves : ServesInLonger (declared source) (declared sink) connection.fifo from ready made new
   pub grows : GrowsBy most_nets old new
   pub no_more_wait : StillWait new old
   pub wire : IfSome low (λ net. made ≡ wire_nets from ready net)
 
 -- a stream whose outputs are driven by what serves it
-pub record IsJoinedStream (system : SystemTable) (netlist : Netlist) (number place : ℕ) (connection : Connection) (source : SourcePort) (sink : SinkPort) : Type 0 where
+pub record IsJoinedStream (system : SystemTable) (netlist : Netlist) (number place : ℕ) (connection : Connection) (source : StreamPort) (sink : StreamPort) : Type 0 where
   pub from : SourceNets
   pub ready : Option NetValue
   pub made : PathNets
-  pub from_are : AreInputs system connection.start (declared_source source) from
+  pub from_are : AreInputs system connection.start (declared source) from
   pub ready_is : ready ≡ input_at system connection.end role.Ready 1
-  pub serves : ServesInLonger (declared_source source) (declared_sink sink) connection.fifo from ready made netlist
+  pub serves : ServesInLonger (declared source) (declared sink) connection.fifo from ready made netlist
   pub driven : AreDriven system connection made netlist
   pub wire : IfSome (low_at system number place) (λ net. made ≡ wire_nets from ready net)
 
@@ -181,9 +180,9 @@ pub record IsJoinedUpTo (system : SystemTable) (number : ℕ) (netlist : Netlist
   pub name : netlist.name ≡ module_name system
   pub ports : netlist.ports ≡ ports_of system
   pub lows : (n : ℕ) → n < wires_before system (length (streams_of system)) → slice_get netlist.lines (input_count (ports_of system) + n) ≡ Some low_line
-  pub joined : (n place : ℕ) (connection : Connection) (source : SourcePort) (sink : SinkPort) → n < number → slice_get (streams_of system) n ≡ Some place
+  pub joined : (n place : ℕ) (connection : Connection) (source : StreamPort) (sink : StreamPort) → n < number → slice_get (streams_of system) n ≡ Some place
       → IsStream system n connection source sink → IsJoinedStream system netlist n place connection source sink
-  pub rest : (n : ℕ) (connection : Connection) (source : SourcePort) (sink : SinkPort) → number ≤ n → IsStream system n connection source sink → AreUndriven system connection netlist
+  pub rest : (n : ℕ) (connection : Connection) (source : StreamPort) (sink : StreamPort) → number ≤ n → IsStream system n connection source sink → AreUndriven system connection netlist
   pub clocked : IsClocked netlist
   pub written : IsWritten netlist
   pub few : length netlist.lines ≤ input_count (ports_of system) + length (streams_of system) + number * most_nets

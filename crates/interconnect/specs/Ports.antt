@@ -12,7 +12,7 @@ use Rattle.address_map.specs.Maps.{hosts_of, agents_of}
 use Rattle.link_rules.specs.Links.{streams_of}
 use Rattle.netlist.specs.declared.line.PortLine.{PortLine}
 use Rattle.stream_runs.specs.Ends.{Declared}
-use Rattle.stream_path.specs.Joining.{declared_source, declared_sink}
+use Rattle.stream_path.specs.Joining.{declared}
 use Rattle.interconnect.specs.declared.roles.Role.{Role}
 use Rattle.interconnect.specs.declared.roles.Role.TheVariants as role
 use Rattle.interconnect.specs.declared.roles.RolePort.{RolePort}
@@ -107,23 +107,23 @@ agent_ports agent =
 
 -- the ports that a source or a sink may have
 abbrev pub stream_ports : Declared → List RolePort
-stream_ports declared =
-    port_of role.Ready (bits_if declared.ready 1)
+stream_ports end =
+    port_of role.Ready (bits_if end.ready 1)
     ∷ port_of role.Valid 1
-    ∷ port_of role.Data (declared.symbols * declared.symbol_bits)
-    ∷ port_of role.Channel declared.channel_bits
-    ∷ port_of role.Error declared.error_bits
-    ∷ port_of role.StartOfPacket (bits_if declared.packets 1)
-    ∷ port_of role.EndOfPacket (bits_if declared.packets 1)
-    ∷ port_of role.Empty declared.empty_bits
+    ∷ port_of role.Data (end.symbols * end.symbol_bits)
+    ∷ port_of role.Channel end.channel_bits
+    ∷ port_of role.Error end.error_bits
+    ∷ port_of role.StartOfPacket (bits_if end.packets 1)
+    ∷ port_of role.EndOfPacket (bits_if end.packets 1)
+    ∷ port_of role.Empty end.empty_bits
     ∷ []
 
 -- the ports that an end may have; behind those of a sink stands `dropped`
 abbrev pub may_have : Finished → List RolePort
 may_have (Host host) = host_ports host
 may_have (Agent agent) = agent_ports agent
-may_have (Source source) = stream_ports (declared_source source)
-may_have (Sink sink) = stream_ports (declared_sink sink) ++ port_of role.Dropped 1 ∷ []
+may_have (Source source) = stream_ports (declared source)
+may_have (Sink sink) = stream_ports (declared sink) ++ port_of role.Dropped 1 ∷ []
 may_have Other = []
 
 abbrev pub has_bits : RolePort → Bool

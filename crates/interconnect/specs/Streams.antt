@@ -2,8 +2,7 @@
 use Rattle.std.specs.Prelude.{ℕ, ◌≡◌, Bool, true, false, List, Some, codes, filter, slice_get}
 use Rattle.av_base.specs.Word.{word}
 use Rattle.av_scripts.specs.declared.tables.Connection.{Connection}
-use Rattle.iface_roles.specs.declared.records.SourcePort.{SourcePort}
-use Rattle.iface_roles.specs.declared.records.SinkPort.{SinkPort}
+use Rattle.iface_roles.specs.declared.records.StreamPort.{StreamPort}
 use Rattle.iface_roles.specs.declared.records.Finished.TheVariants.{Source, Sink}
 use Rattle.av_scripts.specs.Tables.{SystemTable}
 use Rattle.address_map.specs.Footprints.{known_at}
@@ -21,7 +20,7 @@ use Rattle.interconnect.specs.declared.roles.RolePort.{RolePort}
 use Rattle.interconnect.specs.Ports.{role_word, is_forward, has_bits, stream_ports, EndName, port_name}
 
 -- the stream of this number, its connection and its two ends
-pub record IsStream (system : SystemTable) (number : ℕ) (connection : Connection) (source : SourcePort) (sink : SinkPort) : Type 0 where
+pub record IsStream (system : SystemTable) (number : ℕ) (connection : Connection) (source : StreamPort) (sink : StreamPort) : Type 0 where
   pub place : ℕ
   pub place_is : slice_get (streams_of system) number ≡ Some place
   pub connection_is : slice_get system.connections place ≡ Some connection

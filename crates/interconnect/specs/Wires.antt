@@ -11,7 +11,7 @@ use Rattle.av_scripts.specs.Tables.{SystemTable}
 use Rattle.address_map.specs.Footprints.{known_at}
 use Rattle.link_rules.specs.Links.{streams_of}
 use Rattle.stream_runs.specs.Ends.{Declared}
-use Rattle.stream_path.specs.Joining.{declared_source, declared_sink}
+use Rattle.stream_path.specs.Joining.{declared}
 
 abbrev pub both_or_neither : Bool → Bool → Bool
 both_or_neither true b = b
@@ -65,7 +65,7 @@ abbrev pub is_built : SystemTable → Connection → Bool
 is_built system connection = is_built_as system connection (known_at system connection.start) (known_at system connection.end)
 
 abbrev pub is_wire_as : ℕ → Finished → Finished → Bool
-is_wire_as fifo (Source source) (Sink sink) = is_wire_stream (declared_source source) (declared_sink sink) fifo
+is_wire_as fifo (Source source) (Sink sink) = is_wire_stream (declared source) (declared sink) fifo
 is_wire_as fifo _ _ = false
 
 -- the connection is a stream that is a wire

@@ -1,6 +1,6 @@
 ghost use Rattle.std.specs.Prelude.{◌≡◌, length};
 ghost use Rattle.av_scripts.specs.Tables.{IsLogic};
-ghost use Rattle.stream_path.specs.Joining.{declared_source, declared_sink};
+ghost use Rattle.stream_path.specs.Joining.{declared};
 ghost use Rattle.interconnect.specs.Wires.{has_same_beats, has_plain_ready, is_wire_stream, is_wire, is_wire_host, is_wire_agent, fills_range, is_wire_memory, is_alone, is_built, pending_of};
 ghost use Rattle.interconnect.specs.Ends.{IsPlanEnd};
 
@@ -9,7 +9,7 @@ use iface_roles::{AgentPort, Finished, HostPort, SinkPort, SourcePort};
 use link_rules::Plan;
 
 fn has_same_beats(source: &SourcePort, sink: &SinkPort) -> bool
-    ensures { result ≡ has_same_beats (declared_source source.now) (declared_sink sink.now) }
+    ensures { result ≡ has_same_beats (declared source.now) (declared sink.now) }
 {
     source.symbols == sink.symbols
         && source.symbol_bits == sink.symbol_bits
@@ -22,14 +22,14 @@ fn has_same_beats(source: &SourcePort, sink: &SinkPort) -> bool
 
 /// Whether both ends have `ready`, with ready latency 0.
 fn has_plain_ready(source: &SourcePort, sink: &SinkPort) -> bool
-    ensures { result ≡ has_plain_ready (declared_source source.now) (declared_sink sink.now) }
+    ensures { result ≡ has_plain_ready (declared source.now) (declared sink.now) }
 {
     source.ready && sink.ready && source.latency == 0 && sink.latency == 0
 }
 
 /// Whether nothing has to be cut, changed, delayed or kept between the ends.
 fn is_wire_stream(source: &SourcePort, sink: &SinkPort, fifo: u8) -> bool
-    ensures { result ≡ is_wire_stream (declared_source source.now) (declared_sink sink.now) fifo }
+    ensures { result ≡ is_wire_stream (declared source.now) (declared sink.now) fifo }
 {
     has_same_beats(source, sink)
         && source.max_channel <= sink.max_channel

@@ -1,6 +1,6 @@
 ghost use Rattle.std.specs.Prelude.{◌≡◌, ◌*◌, ◌≤◌};
 ghost use Rattle.interconnect.specs.Ports.{role_word, is_forward, is_output, port_of, bits_if, host_ports, agent_ports, stream_ports};
-ghost use Rattle.stream_path.specs.Joining.{declared_source, declared_sink};
+ghost use Rattle.stream_path.specs.Joining.{declared};
 
 use iface_roles::{AgentPort, HostPort, SinkPort, SourcePort};
 
@@ -145,7 +145,7 @@ pub(crate) fn agent_ports(agent: &AgentPort) -> [RolePort; 11]
 /// The ports that a source may have.
 pub(crate) fn source_ports(source: &SourcePort) -> [RolePort; 8]
     requires { source.now.symbols * source.now.symbol_bits ≤ 128 }
-    ensures { result ≡ stream_ports (declared_source source.now) }
+    ensures { result ≡ stream_ports (declared source.now) }
 {
     [
         port(Role::Ready, bits_if(source.ready, 1)),
@@ -165,7 +165,7 @@ pub(crate) fn source_ports(source: &SourcePort) -> [RolePort; 8]
 /// The ports that a sink may have, but for `dropped`.
 pub(crate) fn sink_ports(sink: &SinkPort) -> [RolePort; 8]
     requires { sink.now.symbols * sink.now.symbol_bits ≤ 128 }
-    ensures { result ≡ stream_ports (declared_sink sink.now) }
+    ensures { result ≡ stream_ports (declared sink.now) }
 {
     [
         port(Role::Ready, bits_if(sink.ready, 1)),

@@ -1,6 +1,5 @@
 ghost use Rattle.std.specs.Prelude.{◌≡◌, ◌≢◌, ℕ, ◌+◌, ◌^◌, ◌<◌, ◌≤◌, [], length, slice_get, Some, None, IfOk, IfSome, OnOk};
-ghost use Rattle.iface_roles.specs.declared.records.SourcePort.{SourcePort};
-ghost use Rattle.iface_roles.specs.declared.records.SinkPort.{SinkPort};
+ghost use Rattle.iface_roles.specs.declared.records.StreamPort.{StreamPort};
 ghost use Rattle.iface_roles.specs.declared.records.Finished.TheVariants.{Source, Sink};
 ghost use Rattle.address_map.specs.Footprints.{known_at};
 ghost use Rattle.address_map.specs.Maps.{hosts_of};
@@ -10,7 +9,7 @@ ghost use Rattle.netlist.specs.Netlists.{driver_of, appended, started};
 ghost use Rattle.netlist.specs.Longer.{Extends};
 ghost use Rattle.stage_core.specs.Beats.{IsNetOfWidth};
 ghost use Rattle.stage_core.specs.Growth.{GrowsBy, StillWait};
-ghost use Rattle.stream_path.specs.Joining.{declared_source, declared_sink, CanJoin};
+ghost use Rattle.stream_path.specs.Joining.{declared, CanJoin};
 ghost use Rattle.stream_path.specs.Ends.{IsNetIf, AreSourceNets, ArePathNets};
 ghost use Rattle.stream_path.specs.Serving.{most_nets, ServesInLonger};
 ghost use Rattle.interconnect.specs.Interconnect.{IsInterconnect};
@@ -64,9 +63,9 @@ fn source_nets(builder: &Builder, plan: &Plan, ports: &PortMap, end: EndId) -> S
     requires builder { builder.now.ports ≡ ports_of plan.now.system }
     requires map { ports.now.entries ≡ entries_of plan.now.system }
     requires end { IsAnEnd plan.now.system end }
-    requires source { (source : SourcePort) × (known_at plan.now.system end ≡ Source source) }
-    ensures inputs { (source : SourcePort) → known_at plan.now.system end ≡ Source source → AreInputs plan.now.system end (declared_source source) result }
-    ensures nets { (source : SourcePort) → known_at plan.now.system end ≡ Source source → AreSourceNets builder.now (declared_source source) result }
+    requires source { (source : StreamPort) × (known_at plan.now.system end ≡ Source source) }
+    ensures inputs { (source : StreamPort) → known_at plan.now.system end ≡ Source source → AreInputs plan.now.system end (declared source) result }
+    ensures nets { (source : StreamPort) → known_at plan.now.system end ≡ Source source → AreSourceNets builder.now (declared source) result }
 {
     proper_records_are_bounded();
     plan.well_made();
@@ -163,13 +162,13 @@ fn path_nets(
     from: &SourceNets,
     ready: Option<Net>,
 ) -> Result<PathNets, NoMemory>
-    requires joined { CanJoin (declared_source source.now) (declared_sink sink.now) }
+    requires joined { CanJoin (declared source.now) (declared sink.now) }
     requires shallow { depth ≤ 64 }
-    requires from { AreSourceNets builder.old (declared_source source.now) from.now }
+    requires from { AreSourceNets builder.old (declared source.now) from.now }
     requires ready { IsNetIf sink.now.ready 1 builder.old ready }
     requires room { length builder.old.lines + most_nets ≤ 2 ^ 20 }
-    ensures nets { IfOk result (λ made. ArePathNets builder.new (declared_sink sink.now) made) }
-    ensures serves { IfOk result (λ made. ServesInLonger (declared_source source.now) (declared_sink sink.now) depth from.now ready made builder.new) }
+    ensures nets { IfOk result (λ made. ArePathNets builder.new (declared sink.now) made) }
+    ensures serves { IfOk result (λ made. ServesInLonger (declared source.now) (declared sink.now) depth from.now ready made builder.new) }
     ensures grows { GrowsBy most_nets builder.old builder.new }
     ensures no_more_wait { OnOk result (StillWait builder.new builder.old) }
 {
@@ -194,7 +193,7 @@ fn stream_nets(
     requires map { ports.now.entries ≡ entries_of plan.now.system }
     requires low { (place : ℕ) → slice_get (streams_of plan.now.system) number ≡ Some place → low ≡ low_at plan.now.system number place }
     requires joined { IsJoinedUpTo plan.now.system number builder.old }
-    ensures { IfOk result (λ made. (source : SourcePort) (sink : SinkPort) → known_at plan.now.system connection.start ≡ Source source → known_at plan.now.system connection.end ≡ Sink sink
+    ensures { IfOk result (λ made. (source : StreamPort) (sink : StreamPort) → known_at plan.now.system connection.start ≡ Source source → known_at plan.now.system connection.end ≡ Sink sink
         → AddsStream plan.now.system connection source sink low builder.old builder.new made) }
 {
     // the law of a wire, which the contract rests on

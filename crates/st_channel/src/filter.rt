@@ -4,6 +4,7 @@
 //! It keeps no state, and makes eight nets at most, and four more for `dropped`. Its law is that of `filter_is_a_stage`.
 
 ghost use Rattle.std.specs.Prelude.{◌≡◌, ℕ, ◌+◌, ◌^◌, ◌<◌, ◌≤◌, ◌==◌, ◌||◌, ◌&&◌, not, max, nat_lt, length, false, if◌then◌else◌, IsTrue, IfOk};
+ghost use Rattle.iface_roles.specs.Records.{ready_latency};
 ghost use Rattle.netlist.specs.Runs.{Always};
 ghost use Rattle.stream_runs.specs.View.{Side};
 ghost use Rattle.stream_runs.specs.Delivery.{reaches};
@@ -37,7 +38,7 @@ impl ChannelFilter {
     pub fn new(source: &SourcePort, sink: &SinkPort) -> ChannelFilter
         requires source { HasChannels source.now.channel_bits source.now.max_channel }
         requires sink { HasChannels sink.now.channel_bits sink.now.max_channel }
-        ensures latency { result.latency ≡ (if source.now.ready then source.now.latency else 0) }
+        ensures latency { result.latency ≡ ready_latency source.now }
         ensures source_bits { result.source.bits ≡ max source.now.channel_bits 1 }
         ensures source_largest { result.source.largest ≡ source.now.max_channel }
         ensures sink_bits { result.sink.bits ≡ max sink.now.channel_bits 1 }
@@ -48,7 +49,7 @@ impl ChannelFilter {
             → IsFilterShape result (wire_shape (reaches (filtered_side side sink.now.max_channel)) side (filtered_side side sink.now.max_channel) side.pace.latency false) }
     {
         ChannelFilter {
-            latency: if source.ready { source.latency } else { 0 },
+            latency: source.ready_latency(),
             source: Channels::new(source.channel_bits, source.max_channel),
             sink: Channels::new(sink.channel_bits, sink.max_channel),
         }

@@ -4,8 +4,7 @@ use Rattle.std.specs.Prelude.{IfSome, IsNone}
 use Rattle.std.specs.Int.{IsGcd}
 use Rattle.std.proofs.lemmas.Nat.Gcd.{IsGcd-from_zero, IsGcd-swap, IsGcd-from_sub, same_from_IsGcd}
 use Rattle.std.proofs.lemmas.Bool.{and_parts, or_right, eqb-true, eq-eqb, both_ways}
-use Rattle.iface_roles.specs.declared.records.SourcePort.{SourcePort}
-use Rattle.iface_roles.specs.declared.records.SinkPort.{SinkPort}
+use Rattle.iface_roles.specs.declared.records.StreamPort.{StreamPort}
 use Rattle.stream_runs.specs.View.{Side}
 use Rattle.stream_machines.specs.Stage.{PassesAll}
 use Rattle.stream_machines.specs.Line.{of_symbols}
@@ -57,13 +56,13 @@ not_equal a b apart = by_test (a == b) refl
     by_test true e = absurd (apart (eqb-true a b e))
     by_test false e = refl
 
-pub format_is : (source : SourcePort) (sink : SinkPort) (format : Stages) (common narrow_parts wide_parts : ℕ) → IsGcd source.symbols sink.symbols common → source.symbols ≡ common * narrow_parts → sink.symbols ≡ common * wide_parts
+pub format_is : (source : StreamPort) (sink : StreamPort) (format : Stages) (common narrow_parts wide_parts : ℕ) → IsGcd source.symbols sink.symbols common → source.symbols ≡ common * narrow_parts → sink.symbols ≡ common * wide_parts
     → IsTurn (turns_first source sink) source.symbols source.symbol_bits format.first.first.stage → IsClearing (clears source sink) source.symbols source.symbol_bits format.first.second.stage
     → IsCut common narrow_parts source.symbol_bits format.second.first.stage → IsJoint common wide_parts source.symbol_bits format.second.second.stage → IsFormatOf source sink format
 format_is source sink format common narrow_parts wide_parts greatest narrow_size wide_size turn clear narrow widen =
     record { common = common; greatest = greatest; narrow_parts = narrow_parts; narrow_size = narrow_size; wide_parts = wide_parts; wide_size = wide_size; turn = turn; clear = clear; narrow = narrow; widen = widen }
 
-module _ (source : SourcePort) (sink : SinkPort) (format : Stages) (is : IsFormatOf source sink format) (some : 1 ≤ source.symbols) (sink_some : 1 ≤ sink.symbols) where
+module _ (source : StreamPort) (sink : StreamPort) (format : Stages) (is : IsFormatOf source sink format) (some : 1 ≤ source.symbols) (sink_some : 1 ≤ sink.symbols) where
   abbrev high : Bool
   high = source.first_high || (sink.first_high || changes source sink)
 

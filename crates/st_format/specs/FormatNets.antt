@@ -1,8 +1,7 @@
 -- What stands between a source and a sink whose beats have other forms.
 use Rattle.std.specs.Prelude.{◌≡◌, ℕ, ◌+◌, ◌*◌, ◌<◌, ◌≤◌, Bool, false, not, ◌&&◌, ◌||◌, ◌==◌, nat_lt, IsTrue, IsFalse, Option, Some, None, IfSome, IsNone, option_map, unwrap_or}
 use Rattle.std.specs.Int.{IsGcd}
-use Rattle.iface_roles.specs.declared.records.SourcePort.{SourcePort}
-use Rattle.iface_roles.specs.declared.records.SinkPort.{SinkPort}
+use Rattle.iface_roles.specs.declared.records.StreamPort.{StreamPort}
 use Rattle.stream_runs.specs.View.{Side}
 use Rattle.stream_machines.specs.Stage.{Shape}
 use Rattle.stage_core.specs.declared.chain.Chain.{Chain}
@@ -26,15 +25,15 @@ Stages = Chain (Chain (Maybe Reorder) (Maybe Clear)) (Chain (Maybe Narrow) (Mayb
 -- ---- which they are
 
 -- the beats have other numbers of symbols
-abbrev pub changes : SourcePort → SinkPort → Bool
+abbrev pub changes : StreamPort → StreamPort → Bool
 changes source sink = not (source.symbols == sink.symbols)
 
 -- the first symbol is brought to the high-order bits, where the sink has it there or parts are changed
-abbrev pub turns_first : SourcePort → SinkPort → Bool
+abbrev pub turns_first : StreamPort → StreamPort → Bool
 turns_first source sink = not source.first_high && (sink.first_high || changes source sink)
 
 -- empty symbols are cleared where parts are changed
-abbrev pub clears : SourcePort → SinkPort → Bool
+abbrev pub clears : StreamPort → StreamPort → Bool
 clears source sink = changes source sink && nat_lt 0 source.empty_bits
 
 abbrev pub IsTurn : Bool → ℕ → ℕ → Option Reorder → Type 0
@@ -56,7 +55,7 @@ IsJoint symbols parts bits None = parts ≡ 1
 IsJoint symbols parts bits (Some stage) = (stage.sizes.symbols ≡ symbols) × (stage.sizes.parts ≡ parts) × (stage.sizes.bits ≡ bits)
 
 -- between the parts, a beat has the largest number of symbols that divides that of both ends
-pub record IsFormatOf (source : SourcePort) (sink : SinkPort) (format : Stages) : Type 0 where
+pub record IsFormatOf (source : StreamPort) (sink : StreamPort) (format : Stages) : Type 0 where
   pub common : ℕ
   pub greatest : IsGcd source.symbols sink.symbols common
   pub narrow_parts : ℕ
@@ -117,7 +116,7 @@ pub record LeadsTo (format : Stages) (passes : ℕ → Bool) (up down : Side) : 
   pub rest : shape.rest < down.symbols
 
 -- a side of ready latency 0 as the source's beats have it; without packets there is one channel where beats are joined
-pub record IsSideOf (source : SourcePort) (format : Stages) (side : Side) : Type 0 where
+pub record IsSideOf (source : StreamPort) (format : Stages) (side : Side) : Type 0 where
   pub symbols : side.symbols ≡ source.symbols
   pub bits : side.symbol_bits ≡ source.symbol_bits
   pub first_high : side.first_high ≡ source.first_high
@@ -126,7 +125,7 @@ pub record IsSideOf (source : SourcePort) (format : Stages) (side : Side) : Type
   pub channels : IfSome format.second.second.stage (λ s. IsFalse side.packets → side.max_channel ≡ 0)
 
 -- the same side with the sink's symbols, and the first symbol in the high-order bits where it was turned or stood there
-abbrev pub formatted : SourcePort → SinkPort → Side → Side
+abbrev pub formatted : StreamPort → StreamPort → Side → Side
 formatted source sink side = record side { symbols = sink.symbols; first_high = source.first_high || (sink.first_high || changes source sink) }
 
 -- ---- widths

@@ -3,8 +3,8 @@ use Rattle.std.specs.Prelude.{◌≡◌, ℕ, ◌+◌, ◌*◌, ◌%◌, ◌<◌
 use Rattle.netlist.specs.Nets.{NetValue}
 use Rattle.netlist.specs.Netlists.{Netlist, IsWaiting}
 use Rattle.netlist.specs.Longer.{Extends}
-use Rattle.iface_roles.specs.declared.records.SourcePort.{SourcePort}
-use Rattle.iface_roles.specs.declared.records.SinkPort.{SinkPort}
+use Rattle.iface_roles.specs.declared.records.StreamPort.{StreamPort}
+use Rattle.iface_roles.specs.Records.{ready_latency}
 use Rattle.stream_runs.specs.View.{Side}
 use Rattle.stream_machines.specs.Stage.{Shape}
 use Rattle.stream_machines.specs.Buffers.{direct_side}
@@ -20,18 +20,14 @@ use Rattle.st_timing.specs.BufferNets.{IsReadyBufferShape, buffer_owns, BufferKe
 -- ---- which it is
 
 -- the sink is always ready, and has room for whole beats of the source
-abbrev pub ties_ready : SourcePort → SinkPort → Bool
+abbrev pub ties_ready : StreamPort → StreamPort → Bool
 ties_ready source sink = not sink.ready && (sink.symbols % source.symbols == 0)
 
--- the ready latency of a source: 0 without `ready`
-abbrev pub latency_of : SourcePort → ℕ
-latency_of source = if source.ready then source.latency else 0
-
 -- ready is tied where the sink is always ready, a buffer stands behind a ready latency above 0, and else nothing
-abbrev pub IsTimingOf : SourcePort → SinkPort → Timing → Type 0
+abbrev pub IsTimingOf : StreamPort → StreamPort → Timing → Type 0
 IsTimingOf source sink (Tie stage) = IsTrue (ties_ready source sink)
-IsTimingOf source sink (Buffer stage) = IsFalse (ties_ready source sink) × (stage.latency ≡ latency_of source) × (0 < stage.latency)
-IsTimingOf source sink (Wire stage) = IsFalse (ties_ready source sink) × (latency_of source ≡ 0)
+IsTimingOf source sink (Buffer stage) = IsFalse (ties_ready source sink) × (stage.latency ≡ ready_latency source) × (0 < stage.latency)
+IsTimingOf source sink (Wire stage) = IsFalse (ties_ready source sink) × (ready_latency source ≡ 0)
 
 -- ---- as a stage
 

@@ -2,9 +2,10 @@
 //! the sink is always ready, a buffer stands behind a latency above 0, and else there is nothing.
 
 ghost use Rattle.std.specs.Prelude.{◌≡◌, ◌<◌, ◌≤◌, ℕ, Bool};
+ghost use Rattle.iface_roles.specs.Records.{ready_latency};
 ghost use Rattle.stream_runs.specs.View.{Side};
 ghost use Rattle.stream_machines.specs.Stage.{PassesAll};
-ghost use Rattle.st_timing.specs.TimingNets.{latency_of, IsTimingOf, timing_shape, LeadsToZero, timing_forward_nets, timing_backward_nets, timing_owns, TimingKeeps, TimingForward, TimingBackward, timing_keeps_lasts, timing_forward_lasts, timing_backward_lasts};
+ghost use Rattle.st_timing.specs.TimingNets.{IsTimingOf, timing_shape, LeadsToZero, timing_forward_nets, timing_backward_nets, timing_owns, TimingKeeps, TimingForward, TimingBackward, timing_keeps_lasts, timing_forward_lasts, timing_backward_lasts};
 
 use crate::buffer::{BufferKept, ReadyBuffer};
 use crate::tie::TieReady;
@@ -37,16 +38,17 @@ pub enum TimingKept {
 /// last, behind all other stages, and isn't part of it.
 pub fn timing_of(source: &SourcePort, sink: &SinkPort) -> Timing
     requires some { 1 ≤ source.now.symbols }
-    requires few { latency_of source.now ≤ 8 }
+    requires few { ready_latency source.now ≤ 8 }
     ensures timing { IsTimingOf source.now sink.now result }
-    ensures leads { (passes : ℕ → Bool) (side : Side) → side.pace.latency ≡ latency_of source.now → side.pace.allowance ≡ side.pace.latency
+    ensures leads { (passes : ℕ → Bool) (side : Side) → side.pace.latency ≡ ready_latency source.now → side.pace.allowance ≡ side.pace.latency
         → 0 < side.symbols → PassesAll passes side → LeadsToZero result passes side }
 {
     if !sink.ready && sink.symbols % source.symbols == 0 {
         return Timing::Tie(TieReady::new());
     }
-    if source.ready && source.latency > 0 {
-        return Timing::Buffer(ReadyBuffer::new(source.latency));
+    let latency = source.ready_latency();
+    if latency > 0 {
+        return Timing::Buffer(ReadyBuffer::new(latency));
     }
     Timing::Wire(Pass)
 }

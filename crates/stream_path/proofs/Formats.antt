@@ -4,8 +4,7 @@ use Rattle.std.specs.Prelude.{IsFalse, IfSome}
 use Rattle.std.specs.Int.{IsGcd}
 use Rattle.std.proofs.Math.Nat.{mul-le-mul_right}
 use Rattle.std.proofs.lemmas.Nat.Gcd.{dvd_of_mod-eq-zero, dvd_refl, IsGcd-swap, le_from_IsGcd}
-use Rattle.iface_roles.specs.declared.records.SourcePort.{SourcePort}
-use Rattle.iface_roles.specs.declared.records.SinkPort.{SinkPort}
+use Rattle.iface_roles.specs.declared.records.StreamPort.{StreamPort}
 use Rattle.stream_runs.specs.View.{Side}
 use Rattle.stream_runs.specs.Ends.{Declared}
 use Rattle.stream_machines.specs.Stage.{Shape, PassesAll}
@@ -19,7 +18,7 @@ use Rattle.st_format.specs.ClearNets.{IsClearShape}
 use Rattle.st_format.specs.NarrowNets.{IsNarrowShape}
 use Rattle.st_format.specs.WidenNets.{IsWidenShape}
 use Rattle.st_format.specs.FormatNets.{Stages, IsCut, IsJoint, IsFormatOf, IsSideOf, LeadsTo, formatted, format_has, front_has, back_has, back_passes}
-use Rattle.stream_path.specs.Joining.{declared_source, declared_sink, TakesWhole, CanJoin}
+use Rattle.stream_path.specs.Joining.{declared, TakesWhole, CanJoin}
 use Rattle.stream_path.specs.Between.{joined_channel, with_errors, formed, joined_test}
 use Rattle.stream_path.proofs.Fronts.{IsPart, TurnHas, joined_all}
 
@@ -113,12 +112,12 @@ no_channels : (stage : Option Widen) (symbols parts bits channel : ℕ) (packets
 no_channels None symbols parts bits channel packets is none = tt
 no_channels (Some stage) symbols parts bits channel packets is none = λ h. none (let several = stage.sizes.several in let same = is.1 in omega (arith, several, same))
 
-module _ (from : SourcePort) (to : SinkPort) (format : Stages) (join : CanJoin (declared_source from) (declared_sink to)) (is : IsFormatOf from to format) where
+module _ (from : StreamPort) (to : StreamPort) (format : Stages) (join : CanJoin (declared from) (declared to)) (is : IsFormatOf from to format) where
   abbrev source : Declared
-  source = declared_source from
+  source = declared from
 
   abbrev sink : Declared
-  sink = declared_sink to
+  sink = declared to
 
   -- beats are joined to wider ones only where there is one channel
   one_channel : 2 ≤ is.wide_parts → joined_channel source sink ≡ 0

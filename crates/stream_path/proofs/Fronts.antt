@@ -3,8 +3,8 @@ use Rattle.std.proofs.Common.{◌≡◌, ◌⊎◌, inl, inr, ℕ, zero, suc, �
 use Rattle.std.specs.Prelude.{if◌then◌else◌, IfOk, max}
 use Rattle.std.proofs.Math.Nat.{mul-le-mul_right}
 use Rattle.std.proofs.lemmas.Bool.{and_parts, ltb-true, ltb-false, le-leb, eqb-true}
-use Rattle.iface_roles.specs.declared.records.SourcePort.{SourcePort}
-use Rattle.iface_roles.specs.declared.records.SinkPort.{SinkPort}
+use Rattle.iface_roles.specs.declared.records.StreamPort.{StreamPort}
+use Rattle.iface_roles.specs.Records.{ready_latency}
 use Rattle.netlist.specs.Nets.{NetValue}
 use Rattle.netlist.specs.Netlists.{Netlist}
 use Rattle.netlist.specs.declared.fault.NetFault.{NetFault}
@@ -29,8 +29,8 @@ use Rattle.st_format.specs.ReorderNets.{IsReorderShape}
 use Rattle.st_timing.specs.declared.timing.Timing.{Timing}
 use Rattle.st_timing.specs.declared.timing.Timing.TheVariants.{Tie, Buffer, Wire}
 use Rattle.st_timing.specs.DelayNets.{IsDelayShape}
-use Rattle.st_timing.specs.TimingNets.{latency_of, IsTimingOf, timing_shape, LeadsToZero}
-use Rattle.stream_path.specs.Joining.{FitsPorts, TakesWhole, CanJoin, declared_source, declared_sink}
+use Rattle.st_timing.specs.TimingNets.{IsTimingOf, timing_shape, LeadsToZero}
+use Rattle.stream_path.specs.Joining.{FitsPorts, TakesWhole, CanJoin, declared}
 use Rattle.stream_path.specs.Between.{joined_channel, filtered, timed, with_errors, formed, ordered, at_sink, joined_test, timed_hold, queued_hold, IsFront, IsDelayEnough, CarriesStream}
 use Rattle.stream_path.specs.Parts.{IsErrorTieOf, IsTurnBack}
 use Rattle.stream_path.proofs.AtPorts.{none_below}
@@ -137,7 +137,7 @@ not_true true h = absurd (cc)
 not_true false h = refl
 
 -- it needs an always ready sink only where the sink takes whole beats
-timing_needs : (source : SourcePort) (sink : SinkPort) (timing : Timing) (shape : Shape) → IsTimingOf source sink timing → timing_shape timing shape → IsTrue shape.needs_ready → TakesWhole (declared_source source) (declared_sink sink)
+timing_needs : (source : StreamPort) (sink : StreamPort) (timing : Timing) (shape : Shape) → IsTimingOf source sink timing → timing_shape timing shape → IsTrue shape.needs_ready → TakesWhole (declared source) (declared sink)
 timing_needs source sink (Tie stage) shape is has needs =
     record { no_ready = not_true sink.ready (and_parts (not sink.ready) _ is).0; whole = eqb-true _ 0 (and_parts (not sink.ready) _ is).1 }
 timing_needs source sink (Buffer stage) shape is has needs = absurd (let none : shape.needs_ready ≡ false = ap (λ (s : Shape). s.needs_ready) has.is in cc)
@@ -146,10 +146,10 @@ timing_needs source sink (Wire stage) shape is has needs = absurd (let none : sh
 abbrev pub pace_latency : Pace → ℕ
 pace_latency pace = pace.latency
 
-pub source_pace : (source : SourcePort) → (pace_of (declared_source source)).latency ≡ latency_of source
-source_pace source = by_ready source.ready
+pub pace_is : (end : StreamPort) → (pace_of (declared end)).latency ≡ ready_latency end
+pace_is end = by_ready end.ready
   where
-    by_ready : (b : Bool) → pace_latency (if b then record { latency = source.latency; allowance = source.allowance } else record { latency = 0; allowance = 0 }) ≡ (if b then source.latency else 0)
+    by_ready : (b : Bool) → pace_latency (if b then record { latency = end.latency; allowance = end.allowance } else record { latency = 0; allowance = 0 }) ≡ (if b then end.latency else 0)
     by_ready true = refl
     by_ready false = refl
 
@@ -157,15 +157,15 @@ late_wire : (late c : Bool) → IsTrue late → IsTrue (late || not c)
 late_wire true c h = refl
 late_wire false c h = absurd (cc)
 
-module _ (from : SourcePort) (to : SinkPort) (filter : ChannelFilter) (timing : Timing) (join : CanJoin (declared_source from) (declared_sink to)) (is : IsTimingOf from to timing)
-    (latency_is : filter.latency ≡ (pace_of (declared_source from)).latency)
-    (filter_is : IsFilterShape filter (wire_shape (joined_test (declared_source from) (declared_sink to)) (side_of (declared_source from)) (filtered (declared_source from) (declared_sink to)) (pace_of (declared_source from)).latency false))
-    (leads : LeadsToZero timing (joined_test (declared_source from) (declared_sink to)) (filtered (declared_source from) (declared_sink to))) where
+module _ (from : StreamPort) (to : StreamPort) (filter : ChannelFilter) (timing : Timing) (join : CanJoin (declared from) (declared to)) (is : IsTimingOf from to timing)
+    (latency_is : filter.latency ≡ (pace_of (declared from)).latency)
+    (filter_is : IsFilterShape filter (wire_shape (joined_test (declared from) (declared to)) (side_of (declared from)) (filtered (declared from) (declared to)) (pace_of (declared from)).latency false))
+    (leads : LeadsToZero timing (joined_test (declared from) (declared to)) (filtered (declared from) (declared to))) where
   abbrev source : Declared
-  source = declared_source from
+  source = declared from
 
   abbrev sink : Declared
-  sink = declared_sink to
+  sink = declared to
 
   abbrev gate : Shape
   gate = wire_shape (joined_test source sink) (side_of source) (filtered source sink) (pace_of source).latency false

@@ -1,40 +1,24 @@
 -- What is declared of both ends of a stream, and which ends a path joins.
 use Rattle.std.specs.Prelude.{◌≡◌, ◌*◌, ◌%◌, ◌^◌, ◌<◌, ◌≤◌, IsTrue, IsFalse}
-use Rattle.iface_roles.specs.declared.records.SourcePort.{SourcePort}
-use Rattle.iface_roles.specs.declared.records.SinkPort.{SinkPort}
+use Rattle.iface_roles.specs.declared.records.StreamPort.{StreamPort}
 use Rattle.stream_runs.specs.View.{Pace}
 use Rattle.stream_runs.specs.Ends.{Declared, pace_of}
 
-abbrev pub declared_source : SourcePort → Declared
-declared_source source =
+-- what is declared of an end
+abbrev pub declared : StreamPort → Declared
+declared end =
     record {
-      symbols = source.symbols;
-      symbol_bits = source.symbol_bits;
-      first_high = source.first_high;
-      ready = source.ready;
-      latency = source.latency;
-      allowance = source.allowance;
-      channel_bits = source.channel_bits;
-      max_channel = source.max_channel;
-      error_bits = source.error_bits;
-      packets = source.packets;
-      empty_bits = source.empty_bits;
-    }
-
-abbrev pub declared_sink : SinkPort → Declared
-declared_sink sink =
-    record {
-      symbols = sink.symbols;
-      symbol_bits = sink.symbol_bits;
-      first_high = sink.first_high;
-      ready = sink.ready;
-      latency = sink.latency;
-      allowance = sink.allowance;
-      channel_bits = sink.channel_bits;
-      max_channel = sink.max_channel;
-      error_bits = sink.error_bits;
-      packets = sink.packets;
-      empty_bits = sink.empty_bits;
+      symbols = end.symbols;
+      symbol_bits = end.symbol_bits;
+      first_high = end.first_high;
+      ready = end.ready;
+      latency = end.latency;
+      allowance = end.allowance;
+      channel_bits = end.channel_bits;
+      max_channel = end.max_channel;
+      error_bits = end.error_bits;
+      packets = end.packets;
+      empty_bits = end.empty_bits;
     }
 
 -- beats of the same form, and no channel that the sink doesn't take

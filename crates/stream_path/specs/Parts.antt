@@ -3,16 +3,16 @@ use Rattle.std.specs.Prelude.{◌≡◌, ℕ, ◌<◌, Option, Some, None, IsTru
 use Rattle.stream_runs.specs.Ends.{Declared}
 use Rattle.st_channel.specs.declared.error_tie.ErrorTie.{ErrorTie}
 use Rattle.st_format.specs.declared.reorder.Reorder.{Reorder}
-use Rattle.stream_path.specs.Joining.{declared_source, declared_sink}
+use Rattle.stream_path.specs.Joining.{declared}
 use Rattle.stream_path.specs.Between.{puts_first_high}
 use Rattle.stream_path.specs.declared.stages.Joint.{Joint}
 
 -- the ends of a joint
 abbrev pub source_of : Joint → Declared
-source_of joint = declared_source joint.source
+source_of joint = declared joint.source
 
 abbrev pub sink_of : Joint → Declared
-sink_of joint = declared_sink joint.sink
+sink_of joint = declared joint.sink
 
 -- the error is tied where the sink has an error port, of so many bits, and the source none; the others have the same, or the
 -- sink has none

@@ -3,7 +3,7 @@ ghost use Rattle.netlist.specs.Netlists.{IsNet};
 ghost use Rattle.netlist.specs.Runs.{Always};
 ghost use Rattle.stage_core.specs.Beats.{IsBit, AreBeatNets};
 ghost use Rattle.stage_core.specs.Growth.{GrowsBy, StillWait, AddsNets};
-ghost use Rattle.stream_path.specs.Joining.{declared_source, declared_sink, CanJoin};
+ghost use Rattle.stream_path.specs.Joining.{declared, CanJoin};
 ghost use Rattle.stream_path.specs.Ends.{IsNetIf, AreSourceNets, IsNetWhere, ArePathNets};
 ghost use Rattle.stream_path.specs.Serving.{most_nets, ServesInLonger};
 ghost use Rattle.stream_path.specs.Between.{most_delay_nets, beat_of, IsReadyOf, IsDelayEnough, ShowsUnreached};
@@ -67,14 +67,14 @@ fn emit_dropped(
     ready: Net,
     low: Net,
 ) -> Result<Net, NetFault>
-    requires joined { CanJoin (declared_source source.now) (declared_sink sink.now) }
+    requires joined { CanJoin (declared source.now) (declared sink.now) }
     requires from { AreBeatNets builder.old from.now }
     requires width { from.now.channel.width ≡ max source.now.channel_bits 1 }
     requires ready { IsBit builder.old ready }
     requires low { IsBit builder.old low }
     requires is_low { Always builder.old (λ cycle. cycle.net low.number ≡ 0) }
     ensures net { IfOk result (λ net. IsBit builder.new net) }
-    ensures shows { IfOk result (λ net. ShowsUnreached (declared_source source.now) (declared_sink sink.now) builder.new from.now ready net) }
+    ensures shows { IfOk result (λ net. ShowsUnreached (declared source.now) (declared sink.now) builder.new from.now ready net) }
     ensures adds { AddsNets (if nat_lt sink.now.max_channel source.now.max_channel then 4 else 0) builder.old builder.new }
     ensures full { result ≡ Err NetFault.TooManyNets → 2 ^ 20 < length builder.old.lines + 4 }
 {
@@ -128,18 +128,18 @@ pub fn emit_path(
     from: &SourceNets,
     ready: Option<Net>,
 ) -> Result<PathNets, NetFault>
-    requires joined { CanJoin (declared_source source.now) (declared_sink sink.now) }
+    requires joined { CanJoin (declared source.now) (declared sink.now) }
     requires shallow { depth ≤ 64 }
-    requires from { AreSourceNets builder.old (declared_source source.now) from.now }
+    requires from { AreSourceNets builder.old (declared source.now) from.now }
     requires ready { IsNetIf sink.now.ready 1 builder.old ready }
-    ensures nets { IfOk result (λ made. ArePathNets builder.new (declared_sink sink.now) made) }
+    ensures nets { IfOk result (λ made. ArePathNets builder.new (declared sink.now) made) }
 
     // In each run of each longer netlist, as long as the source is legal, the stream is served.
-    ensures serves { IfOk result (λ made. ServesInLonger (declared_source source.now) (declared_sink sink.now) depth from.now ready made builder.new) }
+    ensures serves { IfOk result (λ made. ServesInLonger (declared source.now) (declared sink.now) depth from.now ready made builder.new) }
     ensures grows { GrowsBy most_nets builder.old builder.new }
 
     // Where a delay of ready is enough, nothing else is made.
-    ensures few { IsDelayEnough (declared_source source.now) (declared_sink sink.now) depth → GrowsBy (most_delay_nets + 2) builder.old builder.new }
+    ensures few { IsDelayEnough (declared source.now) (declared sink.now) depth → GrowsBy (most_delay_nets + 2) builder.old builder.new }
     ensures waits { StillWait builder.old builder.new }
     ensures no_more_wait { OnOk result (StillWait builder.new builder.old) }
 

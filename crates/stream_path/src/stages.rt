@@ -9,7 +9,7 @@ ghost use Rattle.stage_core.specs.Beats.{widths_of, IsBit, AreBeatNets};
 ghost use Rattle.stage_core.specs.Growth.{GrowsBy, StillWait};
 ghost use Rattle.st_channel.specs.FilterNets.{IsFilterShape};
 ghost use Rattle.st_channel.specs.Ports.{HasChannels};
-ghost use Rattle.stream_path.specs.Joining.{declared_source, declared_sink, HaveOneForm, CanJoin};
+ghost use Rattle.stream_path.specs.Joining.{declared, HaveOneForm, CanJoin};
 ghost use Rattle.stream_path.specs.Between.{most_stage_nets, most_delay_nets, IsDelayEnough, joined_channel, filtered, timed, with_errors, formed, ordered, joined_test, timed_hold, formed_hold, queued_hold, IsFront, FitSide, GivesNets, AreStageNets, CarriesStream};
 ghost use Rattle.stream_path.specs.Parts.{source_of, sink_of, IsErrorTieOf, IsTurnBack};
 
@@ -30,24 +30,10 @@ pub(crate) struct Joint {
     pub depth: u8,
 }
 
-/// The ready latency of a source: 0 without `ready`.
-fn source_latency(source: &SourcePort) -> u8
-    ensures { result ≡ (pace_of (declared_source source.now)).latency }
-{
-    if source.ready { source.latency } else { 0 }
-}
-
-/// The ready latency of a sink: 0 without `ready`.
-fn sink_latency(sink: &SinkPort) -> u8
-    ensures { result ≡ (pace_of (declared_sink sink.now)).latency }
-{
-    if sink.ready { sink.latency } else { 0 }
-}
-
 /// Whether the beats have one form, and the sink takes each channel of the source.
 fn has_one_form(source: &SourcePort, sink: &SinkPort) -> bool
-    ensures form { IsTrue result → HaveOneForm (declared_source source.now) (declared_sink sink.now) }
-    ensures always { HaveOneForm (declared_source source.now) (declared_sink sink.now) → IsTrue result }
+    ensures form { IsTrue result → HaveOneForm (declared source.now) (declared sink.now) }
+    ensures always { HaveOneForm (declared source.now) (declared sink.now) → IsTrue result }
 {
     source.symbols == sink.symbols
         && source.symbol_bits == sink.symbol_bits
@@ -63,13 +49,13 @@ fn has_one_form(source: &SourcePort, sink: &SinkPort) -> bool
 pub(crate) fn filter_of(source: &SourcePort, sink: &SinkPort) -> ChannelFilter
     requires source { HasChannels source.now.channel_bits source.now.max_channel }
     requires sink { HasChannels sink.now.channel_bits sink.now.max_channel }
-    ensures latency { result.latency ≡ (pace_of (declared_source source.now)).latency }
+    ensures latency { result.latency ≡ (pace_of (declared source.now)).latency }
     ensures source_bits { result.source.bits ≡ max source.now.channel_bits 1 }
     ensures source_largest { result.source.largest ≡ source.now.max_channel }
     ensures sink_bits { result.sink.bits ≡ max sink.now.channel_bits 1 }
-    ensures sink_largest { result.sink.largest ≡ joined_channel (declared_source source.now) (declared_sink sink.now) }
-    ensures leads { (side : Side) → side.pace.latency ≡ (pace_of (declared_source source.now)).latency → side.max_channel ≤ source.now.max_channel → 0 < side.symbols
-        → IsFilterShape result (wire_shape (joined_test (declared_source source.now) (declared_sink sink.now)) side (record side { max_channel = joined_channel (declared_source source.now) (declared_sink sink.now) }) side.pace.latency false) }
+    ensures sink_largest { result.sink.largest ≡ joined_channel (declared source.now) (declared sink.now) }
+    ensures leads { (side : Side) → side.pace.latency ≡ (pace_of (declared source.now)).latency → side.max_channel ≤ source.now.max_channel → 0 < side.symbols
+        → IsFilterShape result (wire_shape (joined_test (declared source.now) (declared sink.now)) side (record side { max_channel = joined_channel (declared source.now) (declared sink.now) }) side.pace.latency false) }
 {
     let max_channel = source.max_channel.min(sink.max_channel);
     ChannelFilter::new(
@@ -97,8 +83,8 @@ fn error_tie_of(source: &SourcePort, sink: &SinkPort) -> Maybe<ErrorTie>
 /// What turns the symbols of each beat to the low-order bits, where the sink has the first there and the source, or what changed
 /// the symbols of a beat, has not.
 fn turn_back_of(source: &SourcePort, sink: &SinkPort) -> Maybe<Reorder>
-    requires joined { CanJoin (declared_source source.now) (declared_sink sink.now) }
-    ensures { IsTurnBack (declared_source source.now) (declared_sink sink.now) result.stage }
+    requires joined { CanJoin (declared source.now) (declared sink.now) }
+    ensures { IsTurnBack (declared source.now) (declared sink.now) result.stage }
 {
     if sink.first_high || !(source.first_high || source.symbols != sink.symbols) {
         return Maybe { stage: None };
@@ -129,7 +115,7 @@ fn behind_order<S: Stage + Copy>(
     ensures no_more_wait { OnOk result (StillWait builder.new builder.old) }
     ensures full { result ≡ Err NetFault.TooManyNets → 2 ^ 20 < length builder.old.lines + most_stage_nets }
 {
-    let delay = ReadyDelay::new(0, sink_latency(&joint.sink));
+    let delay = ReadyDelay::new(0, joint.sink.ready_latency());
     let stages = Chain {
         first: front,
         second: delay,
@@ -296,8 +282,8 @@ fn emit_delay(
     ensures full { result ≡ Err NetFault.TooManyNets → 2 ^ 20 < length builder.old.lines + most_delay_nets }
     ensures same_widths { IfOk result (λ made. widths_of made.beat ≡ widths_of from) }
 {
-    let latency = source_latency(&joint.source);
-    let cycles = sink_latency(&joint.sink) - latency;
+    let latency = joint.source.ready_latency();
+    let cycles = joint.sink.ready_latency() - latency;
     emit_stream(&ReadyDelay::new(latency, cycles), builder, from, ready)
 }
 
@@ -323,7 +309,7 @@ pub(crate) fn emit_stages(
     ensures same_widths { IsDelayEnough (source_of joint.now) (sink_of joint.now) joint.now.depth → IfOk result (λ made. widths_of made.beat ≡ widths_of from) }
 {
     let one_form = has_one_form(&joint.source, &joint.sink);
-    let sooner = source_latency(&joint.source) <= sink_latency(&joint.sink);
+    let sooner = joint.source.ready_latency() <= joint.sink.ready_latency();
     if one_form && joint.sink.ready && joint.depth == 0 && sooner {
         emit_delay(joint, builder, from, ready)
     } else {

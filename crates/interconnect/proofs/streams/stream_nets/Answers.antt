@@ -1,11 +1,10 @@
 use Rattle.std.proofs.Common.{◌≡◌, Option, None, Result, Ok, Err, sym, subst, ◌∙◌}
 use Rattle.std.specs.Result.{IfOk, OnOk}
 use Rattle.iface_roles.specs.declared.records.Finished.TheVariants.{Source, Sink}
-use Rattle.iface_roles.specs.declared.records.SourcePort.{SourcePort}
-use Rattle.iface_roles.specs.declared.records.SinkPort.{SinkPort}
+use Rattle.iface_roles.specs.declared.records.StreamPort.{StreamPort}
 use Rattle.address_map.specs.Footprints.{known_at}
 use Rattle.netlist.specs.Nets.{NetValue}
-use Rattle.stream_path.specs.Joining.{declared_source, declared_sink}
+use Rattle.stream_path.specs.Joining.{declared}
 use Rattle.stream_path.specs.Ends.{ArePathNets}
 use Rattle.stream_path.specs.Serving.{ServesInLonger}
 use Rattle.interconnect.specs.Joins.{AddsStream}
@@ -66,9 +65,9 @@ returns-in-None c =
     let e = ends_of_stream system c.args.number c.args.connection c.in-Source.source c.in-Sink.sink (planned c.args.plan.now c.well_made.ensures) c.requires.at c.in-Source.ensures c.in-Sink.ensures in
     let known = source_known system c.args.number c.args.connection c.in-Source.source c.in-Sink.sink e in
     let here = ready_input system c.args.number c.args.connection c.in-Source.source c.in-Sink.sink e in
-    ok_three (λ made. ArePathNets c.path_nets.new.builder (declared_sink c.in-Sink.sink) made)
-    (λ made. ServesInLonger (declared_source c.in-Source.source) (declared_sink c.in-Sink.sink) c.args.connection.fifo c.source_nets-from.result c.input_of-ready.result made c.path_nets.new.builder)
-    (λ made. (source : SourcePort) (sink : SinkPort) → known_at system c.args.connection.start ≡ Source source → known_at system c.args.connection.end ≡ Sink sink
+    ok_three (λ made. ArePathNets c.path_nets.new.builder (declared c.in-Sink.sink) made)
+    (λ made. ServesInLonger (declared c.in-Source.source) (declared c.in-Sink.sink) c.args.connection.fifo c.source_nets-from.result c.input_of-ready.result made c.path_nets.new.builder)
+    (λ made. (source : StreamPort) (sink : StreamPort) → known_at system c.args.connection.start ≡ Source source → known_at system c.args.connection.end ≡ Sink sink
     → AddsStream system c.args.connection source sink c.args.low c.args.builder.now c.path_nets.new.builder made)
     c.path_nets.result c.path_nets.ensures.nets c.path_nets.ensures.serves c.path_nets.ensures.no_more_wait
     (λ made nets serves waits source sink f g. subst (λ (low : Option NetValue). AddsStream system c.args.connection source sink low c.args.builder.now c.path_nets.new.builder made) (sym c.in-None.is)

@@ -3,9 +3,7 @@ use Rattle.stream_runs.specs.View.{Side}
 use Rattle.stream_machines.specs.Stage.{pass_shape}
 use Rattle.stream_machines.specs.Buffers.{buffer_shape, direct_side}
 use Rattle.stream_machines.specs.Wires.{wire_shape}
-use Rattle.st_timing.specs.TimingNets.{latency_of}
 use Rattle.st_timing.proofs.timing.timing_of.Goals as goal
-use Rattle.st_timing.proofs.timing.timing_of.Goals.{else-source-via-then-source+else-source-gt0, else-source-via-else-source}
 
 pub returns-then-sink-source-eq0-clause-leads : goal.returns-then-sink-source-eq0-clause-leads
 returns-then-sink-source-eq0-clause-leads c passes side same strict some all = record {
@@ -16,12 +14,11 @@ returns-then-sink-source-eq0-clause-leads c passes side same strict some all = r
   test = refl;
 }
 
-pub returns-then-source-gt0-clause-leads : goal.returns-then-source-gt0-clause-leads
-returns-then-source-gt0-clause-leads c passes side same strict some all =
-    let is : latency_of c.args.source.now ≡ c.args.source.now.latency = rw c.if-source.true refl in
+pub returns-then-latency-gt0-clause-leads : goal.returns-then-latency-gt0-clause-leads
+returns-then-latency-gt0-clause-leads c passes side same strict some all =
     record {
       shape = buffer_shape passes (side.pace.latency + 1) side;
-      has = record { is = refl; behind = same ∙ is ∙ sym c.new-then-source-gt0.ensures; strict = strict; some = some; passes = all };
+      has = record { is = refl; behind = same ∙ sym c.ready_latency-latency.ensures ∙ sym c.new-then-latency-gt0.ensures; strict = strict; some = some; passes = all };
       up = refl;
       down = refl;
       test = refl;
@@ -32,16 +29,11 @@ direct side none strict = let zero : side.pace.allowance ≡ 0 = strict ∙ none
 
 pub returns-clause-leads : goal.returns-clause-leads
 returns-clause-leads c passes side same strict some all =
-    let none : latency_of c.args.source.now ≡ 0 =
-    elim c.else-source.branch [
-      | else-source-via-then-source+else-source-gt0 w ↦ rw w.if-source.true (let zero = w.if-source-gt0.false in omega (arith, zero))
-      | else-source-via-else-source w ↦ rw w.if-source.false refl
-    ]
-    in
+    let none : side.pace.latency ≡ 0 = same ∙ sym c.ready_latency-latency.ensures ∙ omega arith in
     record {
       shape = pass_shape passes side;
       has = record { is = refl; some = some; passes = all };
       up = refl;
-      down = direct side (same ∙ none) strict;
+      down = direct side none strict;
       test = refl;
     }

@@ -2,7 +2,7 @@ use Rattle.std.proofs.Common.{refl, arith}
 use Rattle.stream_path.specs.Parts.{source_of, sink_of}
 use Rattle.stream_runs.specs.Ends.{side_of}
 use Rattle.stream_path.specs.Between.{filtered, joined_test}
-use Rattle.stream_path.proofs.Fronts.{side_channel, joined_all, source_pace, begun}
+use Rattle.stream_path.proofs.Fronts.{side_channel, joined_all, pace_is, begun}
 use Rattle.stream_path.proofs.stages.emit_chain.Goals as goal
 
 pub behind_timing-requires-clause-leads : goal.behind_timing-requires-clause-leads
@@ -12,5 +12,5 @@ behind_timing-requires-clause-leads c =
     let sink = sink_of c.args.joint.now in
     let channel = side_channel source c.requires.joined.source_fits in
     let gate = c.filter_of.ensures.leads (side_of source) refl (omega (arith, channel)) c.requires.joined.source_fits.some in
-    let leads = c.timing_of.ensures.leads (joined_test source sink) (filtered source sink) (source_pace from) c.requires.joined.source_fits.pace.strict c.requires.joined.source_fits.some (joined_all source sink (filtered source sink) refl) in
+    let leads = c.timing_of.ensures.leads (joined_test source sink) (filtered source sink) (pace_is from) c.requires.joined.source_fits.pace.strict c.requires.joined.source_fits.some (joined_all source sink (filtered source sink) refl) in
     begun from c.args.joint.now.sink c.filter_of.result c.timing_of.result c.requires.joined c.timing_of.ensures.timing c.filter_of.ensures.latency gate leads

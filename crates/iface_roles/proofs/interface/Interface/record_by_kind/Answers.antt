@@ -8,8 +8,8 @@ host-requires c = FitsMm-from_rules c.args.self.now (sym c.kind.ensures ∙ c.in
 pub agent-requires : goal.agent-requires
 agent-requires c = FitsMm-from_rules c.args.self.now (sym c.kind.ensures ∙ c.in-Mm-End.is-0) c.requires
 
-pub source-requires : goal.source-requires
-source-requires c = FitsStream-from_rules c.args.self.now (sym c.kind.ensures ∙ c.in-Stream-Start.is-0) c.requires
+pub stream-requires : goal.stream-requires
+stream-requires c = FitsStream-from_rules c.args.self.now (sym c.kind.ensures ∙ c.in-Stream-Start.is-0) c.requires
 
-pub sink-requires : goal.sink-requires
-sink-requires c = FitsStream-from_rules c.args.self.now (sym c.kind.ensures ∙ c.in-Stream-End.is-0) c.requires
+pub stream-requires-in-Stream-End : goal.stream-requires-in-Stream-End
+stream-requires-in-Stream-End c = FitsStream-from_rules c.args.self.now (sym c.kind.ensures ∙ c.in-Stream-End.is-0) c.requires
