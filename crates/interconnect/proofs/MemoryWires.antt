@@ -18,7 +18,7 @@ use Rattle.mm_runs.specs.Plan.{IsPlan}
 use Rattle.mm_runs.specs.Order.{ActsAsMemory, ReadsFromMemory, ReturnsInCommandOrder}
 use Rattle.mm_runs.specs.Whole.{IsLegalRun, IsSafe}
 use Rattle.mm_runs.specs.Moment.{Moment, AgentSees, HaveAlikeInputs, IgnoresReaddata}
-use Rattle.mm_runs.specs.BoundedWire.{WireForm as BoundedForm, IsWireForm, IsBoundedWire, wire_system, wire_run}
+use Rattle.mm_machines.specs.BoundedWire.{WireForm as BoundedForm, IsWireForm, IsBoundedWire, wire_system, wire_run}
 use Rattle.mm_wire.specs.declared.nets.HostNets.{HostNets}
 use Rattle.mm_wire.specs.declared.nets.AgentNets.{AgentNets}
 use Rattle.mm_wire.specs.declared.nets.WireNets.{WireNets}

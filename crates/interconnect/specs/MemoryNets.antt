@@ -9,7 +9,7 @@ use Rattle.mm_wire.specs.Wires.{AreWireNets, RunsAsWire, IgnoresWord}
 use Rattle.mm_wire.specs.declared.nets.HostNets.{HostNets}
 use Rattle.mm_wire.specs.declared.nets.AgentNets.{AgentNets}
 use Rattle.mm_wire.specs.declared.nets.WireNets.{WireNets}
-use Rattle.mm_runs.specs.BoundedWire.{WireForm}
+use Rattle.mm_machines.specs.BoundedWire.{WireForm}
 use Rattle.iface_roles.specs.declared.records.HostPort.{HostPort}
 use Rattle.iface_roles.specs.declared.records.AgentPort.{AgentPort}
 use Rattle.iface_roles.specs.declared.records.Finished.TheVariants.{Host, Agent}

@@ -1,7 +1,7 @@
 ghost use Rattle.std.specs.Prelude.{◌≡◌, ◌≢◌, ℕ, ◌+◌, ◌^◌, ◌≤◌, [], None, length, option_map, IfOk, IfSome};
 ghost use Rattle.netlist.specs.Nets.{net_of};
 ghost use Rattle.netlist.specs.Netlists.{IsInputPort, input_net};
-ghost use Rattle.mm_runs.specs.BoundedWire.{IsWireForm};
+ghost use Rattle.mm_machines.specs.BoundedWire.{IsWireForm};
 ghost use Rattle.mm_wire.specs.Nets.{IsNetOfWidth};
 ghost use Rattle.mm_wire.specs.Wires.{AreHostNets, AreAgentNets};
 ghost use Rattle.address_map.specs.Maps.{hosts_of};
@@ -257,7 +257,7 @@ pub(crate) fn build_memory(alloc: Global, plan: &Plan, ports: &PortMap) -> Resul
     ensures { IfOk result (λ whole. IsInterconnect plan.now.system whole) }
 {
     // the laws of such a wire, which the contract rests on
-    mm_runs::bounded_wire_is_safe();
+    mm_machines::wires::bounded_wire_is_safe();
     mm_runs::memory_is_read_back();
 
     plan.well_made();

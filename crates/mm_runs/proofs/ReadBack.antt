@@ -5,7 +5,7 @@ use Rattle.std.proofs.lemmas.List.Elements.{filter-append}
 use Rattle.std.proofs.lemmas.Bool.{eqb-true}
 use Rattle.histories.specs.History.{before, IsPrefix, numbers}
 use Rattle.histories.specs.Laws.{prefix_refl}
-use Rattle.mm_runs.proofs.ChainAnswers.{taken_ahead}
+use Rattle.mm_runs.specs.Laws.{taken_ahead}
 use Rattle.mm_runs.specs.Views.{Shape, Kind, System, Run}
 use Rattle.mm_runs.specs.Views.Kind.{Reads, Writes}
 use Rattle.mm_runs.specs.Operations.{Operation, own_operations, operation_of_kind, is_enabled, is_read, bytes_read, byte_at, filled_lanes, written}

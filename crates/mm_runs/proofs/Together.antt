@@ -2,7 +2,7 @@
 use Rattle.std.proofs.Common.{ℕ, zero, suc, ◌<◌, ◌≡◌, ◌*◌, [], ◌∷◌, List, Bool, true, false, not, arith, refl, sym, ap, ◌∙◌, subst, Some, slice_get, nat_eq, eqb-true, if◌then◌else◌, append-nil, min, filter, map, flat_map, zero-mul}
 use Rattle.std.proofs.lemmas.Bool.{and_parts, not-true, both_ways}
 use Rattle.std.specs.List.{list_all}
-use Rattle.mm_runs.proofs.Wire.{same_pieces}
+use Rattle.mm_runs.specs.Laws.{same_pieces}
 use Rattle.histories.specs.History.{numbers}
 use Rattle.mm_runs.specs.Views.{Shape}
 use Rattle.mm_runs.specs.Operations.{Beat, operation_at, operations_of, own_operations, filled_of_piece, is_enabled}

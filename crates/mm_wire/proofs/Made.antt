@@ -5,7 +5,7 @@ use Rattle.netlist.specs.Nets.{NetValue}
 use Rattle.netlist.specs.Netlists.{Netlist}
 use Rattle.netlist.specs.Runs.{Run, cycle_of, IsValuation, IsRun, Always}
 use Rattle.netlist.specs.Longer.{Extends}
-use Rattle.mm_runs.specs.BoundedWire.{FitsHostPorts}
+use Rattle.mm_machines.specs.BoundedWire.{FitsHostPorts}
 use Rattle.mm_wire.specs.declared.nets.HostNets.{HostNets}
 use Rattle.mm_wire.specs.declared.nets.AgentNets.{AgentNets}
 use Rattle.mm_wire.specs.declared.nets.WireNets.{WireNets}

@@ -4,7 +4,7 @@ use Rattle.netlist.specs.Nets.{NetValue}
 use Rattle.netlist.specs.Netlists.{Netlist}
 use Rattle.netlist.specs.Runs.{Cycle, Run, IsRun, IsValuation}
 use Rattle.mm_runs.specs.Views.{HostView, AgentView}
-use Rattle.mm_runs.specs.BoundedWire.{WireForm, IsBoundedWire}
+use Rattle.mm_machines.specs.BoundedWire.{WireForm, IsBoundedWire}
 use Rattle.mm_wire.specs.declared.nets.HostNets.{HostNets}
 use Rattle.mm_wire.specs.declared.nets.AgentNets.{AgentNets}
 use Rattle.mm_wire.specs.declared.nets.WireNets.{WireNets}

@@ -1,4 +1,4 @@
-use Rattle.mm_runs.specs.ShorterRuns.{legal_run_before, safe_before, awake_before, fair_before}
+use Rattle.mm_runs.specs.Shorter.{legal_run_before, safe_before, awake_before, fair_before}
 use Rattle.mm_runs.proofs.shorter_runs.Goals as goal
 
 pub returns-clause-legal : goal.returns-clause-legal

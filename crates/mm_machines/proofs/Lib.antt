@@ -1,0 +1,53 @@
+pub mod Laws
+pub mod Wire
+pub mod Held
+pub mod Between
+pub mod ChainAnswers
+pub mod Lag
+pub mod Greatest
+pub mod ChainCodes
+pub mod Rising
+pub mod LinkCodes
+pub mod Path
+pub mod Pipes
+pub mod Settle
+pub mod Flows
+pub mod Parts
+pub mod Headline
+pub mod Back
+pub mod Limits
+pub mod Whole
+pub mod TurnOrder
+pub mod Gathered
+pub mod Safe
+pub mod Responses
+pub mod RegisterBeats
+pub mod RegisterLegal
+pub mod OnePipe
+pub mod PipeRow
+pub mod TagOrder
+pub mod GateLine
+mod Lasting
+mod Flow
+mod Chained
+mod WireRank
+mod OnePlace
+pub mod Stage
+pub mod StageLink
+pub mod Pieces
+pub mod Expander
+pub mod ExpanderLink
+pub mod Joined
+pub mod Split
+pub mod StageRank
+pub mod Select
+pub mod SelectLink
+mod WireStraight
+mod WireMoves
+mod FairTurns
+pub mod BoundedWireCommands
+pub mod BoundedWireCount
+pub mod BoundedWireLegal
+pub mod BoundedWireOrder
+pub mod BoundedWireAnswers
+pub mod BoundedWire

@@ -1,0 +1,10 @@
+use Rattle.mm_machines.proofs.FairTurns.{turn_rule_is_fair}
+use Rattle.mm_machines.proofs.progress.turn_rule_is_fair.Goals as goal
+
+pub returns : goal.returns
+returns c = turn_rule_is_fair (record {
+  few = c.asking_is_passed_by_few.ensures;
+  within = c.passes_within_shares.ensures;
+  seats = c.turns_keep_seats.ensures.seats;
+  asked = c.turns_keep_seats.ensures.asked;
+})

@@ -1,0 +1,13 @@
+pub mod Paths
+pub mod Link
+pub mod Blocks
+pub mod Rank
+pub mod Lines
+pub mod Straight
+pub mod PartRanks
+pub mod Turns
+pub mod Register
+pub mod Gate
+pub mod BoundedWire
+pub mod Machines
+pub mod Shorter
