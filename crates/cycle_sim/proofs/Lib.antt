@@ -7,4 +7,3 @@ pub mod Words
 pub mod Access
 pub mod Next
 pub mod Runs
-mod TestPorts

@@ -5,8 +5,6 @@ mod cells;
 mod laws;
 mod nets;
 mod sim;
-#[cfg(test)]
-mod tests;
 
 pub use laws::{follow, one_run};
 pub use sim::Sim;

@@ -5,5 +5,4 @@ pub mod Memories
 pub mod Valuations
 pub mod Existence
 pub mod Ports
-mod TestPorts
 pub mod EndlessRuns

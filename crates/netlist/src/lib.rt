@@ -6,8 +6,6 @@ mod fault;
 mod laws;
 mod line;
 mod module;
-#[cfg(test)]
-mod tests;
 
 pub use builder::Builder;
 pub use fault::NetFault;
