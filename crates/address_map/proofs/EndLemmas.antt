@@ -1,8 +1,8 @@
 -- What is known at an end of a system.
 use Rattle.std.proofs.Common.{◌≡◌, sym, ◌∙◌}
 use Rattle.iface_roles.specs.declared.records.Finished.{Finished}
-use Rattle.av_scripts.specs.declared.tables.EndId.{EndId}
-use Rattle.av_scripts.specs.Tables.{SystemTable, IsEnd}
+use Rattle.system_tables.specs.declared.tables.EndId.{EndId}
+use Rattle.system_tables.specs.Tables.{SystemTable, IsEnd}
 use Rattle.address_map.specs.Footprints.{known_at}
 
 pub known_at-end : (system : SystemTable) (end : EndId) (known : Finished) → IsEnd system end known → known_at system end ≡ known

@@ -5,8 +5,8 @@ use Rattle.std.proofs.lemmas.List.{map-append, append-nil}
 use Rattle.std.proofs.lemmas.List.Elements.{filter_more}
 use Rattle.iface_roles.specs.declared.kinds.Kind.TheVariants.{Clock}
 use Rattle.iface_roles.specs.declared.kinds.Side.{Side}
-use Rattle.av_scripts.specs.declared.tables.Connection.{Connection}
-use Rattle.av_scripts.specs.declared.tables.EndId.{EndId}
+use Rattle.system_tables.specs.declared.tables.Connection.{Connection}
+use Rattle.system_tables.specs.declared.tables.EndId.{EndId}
 use Rattle.address_map.specs.Ends.{each_once, with_end}
 use Rattle.address_map.specs.Maps.{is_mm, end_at}
 use Rattle.address_map.proofs.EndsLemmas.{each_once-push}

@@ -4,9 +4,9 @@ use Rattle.std.specs.Prelude.{filter}
 use Rattle.std.specs.Option.{option_map}
 use Rattle.std.proofs.lemmas.Option.{slice_get-map, same_Some, none-some}
 use Rattle.iface_roles.specs.declared.kinds.Side.{Side}
-use Rattle.av_scripts.specs.declared.tables.Connection.{Connection}
-use Rattle.av_scripts.specs.declared.tables.EndId.{EndId}
-use Rattle.av_scripts.specs.Tables.{SystemTable}
+use Rattle.system_tables.specs.declared.tables.Connection.{Connection}
+use Rattle.system_tables.specs.declared.tables.EndId.{EndId}
+use Rattle.system_tables.specs.Tables.{SystemTable}
 use Rattle.address_map.specs.Ends.{is_same_end, each_once}
 use Rattle.address_map.specs.Footprints.{Footprint, known_at, footprint_of, footprints}
 use Rattle.address_map.specs.Maps.{MapEntry, is_mm, end_at, mm_connections, mm_ends, hosts_of, entry_of, AreMapsOf, IsJoined, IsEntryOf}

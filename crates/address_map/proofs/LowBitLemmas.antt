@@ -14,9 +14,9 @@ use Rattle.iface_roles.specs.declared.records.Finished.{Finished}
 use Rattle.iface_roles.specs.declared.records.Finished.TheVariants.{Host, Agent, Source, Sink, Other}
 use Rattle.iface_roles.specs.declared.records.HostPort.{HostPort}
 use Rattle.iface_roles.specs.Proper.{IsProper, IsBoundedHost, IsBoundedAgent, span_of}
-use Rattle.av_scripts.specs.declared.tables.Connection.{Connection}
-use Rattle.av_scripts.specs.declared.tables.EndId.{EndId}
-use Rattle.av_scripts.specs.Tables.{SystemTable, IsEnd, IsSystem}
+use Rattle.system_tables.specs.declared.tables.Connection.{Connection}
+use Rattle.system_tables.specs.declared.tables.EndId.{EndId}
+use Rattle.system_tables.specs.Tables.{SystemTable, IsEnd, IsSystem}
 use Rattle.address_map.specs.Footprints.{Footprint, footprint_as, footprint_of, footprints, footprint_bytes, known_at}
 use Rattle.address_map.specs.MapRules.{breaks_after, is_misplaced}
 use Rattle.address_map.specs.Maps.{MapEntry, holds, connection_at, entries_of, hosts_of, AreMapsOf}

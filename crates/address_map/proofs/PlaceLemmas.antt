@@ -6,8 +6,8 @@ use Rattle.std.proofs.lemmas.Bool.{cases_lt}
 use Rattle.std.proofs.lemmas.Bool.Decides.{nat_tests}
 use Rattle.std.proofs.lemmas.List.Sorted.{Contains-permutation, IsPermutation-sym}
 use Rattle.std.proofs.lemmas.Option.{slice_get-get_or, slice_get_within, get_or_from_slice_get, same_Some, none-some}
-use Rattle.av_scripts.specs.declared.tables.EndId.{EndId}
-use Rattle.av_scripts.specs.Tables.{SystemTable}
+use Rattle.system_tables.specs.declared.tables.EndId.{EndId}
+use Rattle.system_tables.specs.Tables.{SystemTable}
 use Rattle.address_map.specs.Ends.{is_same_end}
 use Rattle.address_map.specs.Footprints.{Footprint, footprints}
 use Rattle.address_map.specs.Maps.{MapEntry, Access, entry_of, entry_at, entries_of, holds, serves, place_of, hosts_of, IsRising, IsMapOf, AreMapsOf, IsPlace}

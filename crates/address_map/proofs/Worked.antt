@@ -5,7 +5,7 @@ use Rattle.iface_roles.specs.declared.kinds.Kind.TheVariants.{Mm}
 use Rattle.iface_roles.specs.declared.records.AgentPort.{AgentPort}
 use Rattle.iface_roles.specs.declared.records.Finished.TheVariants.{Host, Agent}
 use Rattle.iface_roles.specs.declared.records.HostPort.{HostPort}
-use Rattle.av_scripts.specs.declared.tables.EndId.{EndId}
+use Rattle.system_tables.specs.declared.tables.EndId.{EndId}
 use Rattle.address_map.specs.Footprints.{Footprint, footprint_as}
 use Rattle.address_map.specs.MapRules.{breaks, other_of, tests}
 use Rattle.address_map.specs.Maps.{entries_of, connection_at}

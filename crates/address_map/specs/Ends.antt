@@ -4,7 +4,7 @@ use Rattle.std.specs.List.{list_any}
 use Rattle.std.specs.HashMap.{get, HashMap}
 use Rattle.std.specs.declared.hash.FoldHasher.{FoldHasher}
 use Rattle.std.specs.declared.hash.BuildHasherDefault.{BuildHasherDefault}
-use Rattle.av_scripts.specs.declared.tables.EndId.{EndId}
+use Rattle.system_tables.specs.declared.tables.EndId.{EndId}
 
 abbrev pub is_same_end : EndId → EndId → Bool
 is_same_end a b = a.instance == b.instance && a.interface == b.interface

@@ -7,9 +7,9 @@ use Rattle.iface_roles.specs.declared.kinds.Kind.{Kind}
 use Rattle.iface_roles.specs.declared.kinds.Kind.TheVariants.{Mm}
 use Rattle.iface_roles.specs.declared.kinds.Side.{Side}
 use Rattle.iface_roles.specs.declared.kinds.Side.TheVariants.{Start, End}
-use Rattle.av_scripts.specs.declared.tables.Connection.{Connection}
-use Rattle.av_scripts.specs.declared.tables.EndId.{EndId}
-use Rattle.av_scripts.specs.Tables.{SystemTable}
+use Rattle.system_tables.specs.declared.tables.Connection.{Connection}
+use Rattle.system_tables.specs.declared.tables.EndId.{EndId}
+use Rattle.system_tables.specs.Tables.{SystemTable}
 use Rattle.address_map.specs.Ends.{is_same_end, each_once}
 use Rattle.address_map.specs.Footprints.{Footprint, IsFit, footprint_of, footprints}
 use Rattle.address_map.specs.MapRules.{KeepsMapRules}

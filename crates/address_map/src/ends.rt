@@ -2,10 +2,10 @@ ghost use Rattle.std.specs.Prelude.{◌≡◌, [], length, OnOk, IfOk, OnErr};
 ghost use Rattle.address_map.specs.Ends.{place_in, with_end};
 
 use av_base::NoMemory;
-use av_scripts::EndId;
 use std::alloc::Global;
 use std::collections::HashMap;
 use std::marker::Model;
+use system_tables::EndId;
 
 /// Ends of connections, each once, in the order in which they come first.
 #[derive(Drop)]
@@ -16,7 +16,7 @@ pub struct Ends {
 
 impl Model for Ends {
     ghost use Rattle.std.specs.Prelude.{List};
-    ghost use Rattle.av_scripts.specs.declared.tables.EndId.{EndId as Id};
+    ghost use Rattle.system_tables.specs.declared.tables.EndId.{EndId as Id};
     ghost use Rattle.address_map.specs.Ends.{ArePlacesIn};
 
     ghost Value = { List Id };

@@ -1,12 +1,12 @@
 ghost use Rattle.std.specs.Prelude.{◌≡◌, ◌+◌, ◌^◌, ◌<◌, ◌≤◌, length, take, position, IfSome, is_some};
 ghost use Rattle.iface_roles.specs.Proper.{range_of, span_of, IsBoundedHost, IsBoundedAgent};
-ghost use Rattle.av_scripts.specs.Tables.{IsLogic};
+ghost use Rattle.system_tables.specs.Tables.{IsLogic};
 ghost use Rattle.address_map.specs.Footprints.{footprint_of, footprint_bytes, footprints, IsFit};
 ghost use Rattle.address_map.specs.Maps.{is_mm};
 ghost use Rattle.address_map.specs.MapRules.{is_misplaced, overlaps, ends_past_range, overlaps_at};
 
-use av_scripts::{Connection, EndId, System};
 use iface_roles::{AgentPort, Finished, HostPort, proper_records_are_bounded};
+use system_tables::{Connection, EndId, System};
 
 /// The bytes that an agent takes in the map of a host.
 #[derive(Clone, Copy, Debug, PartialEq, Eq)]

@@ -3,9 +3,9 @@ ghost use Rattle.address_map.specs.Maps.{is_mm, end_at, mm_ends};
 
 use crate::ends::Ends;
 use av_base::NoMemory;
-use av_scripts::{Connection, EndId, System};
 use iface_roles::{Kind, Side};
 use std::alloc::Global;
+use system_tables::{Connection, EndId, System};
 
 fn end_at(side: Side, connection: &Connection) -> EndId
     ensures { result ≡ end_at side connection.now }

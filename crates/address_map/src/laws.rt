@@ -1,10 +1,10 @@
 ghost use Rattle.std.specs.Prelude.{List, ℕ, ◌↔◌, ◌≡◌, ◌-◌, ◌%◌, slice_get, Some, true};
 ghost use Rattle.iface_roles.specs.declared.kinds.Side.{Side};
-ghost use Rattle.av_scripts.specs.declared.tables.Connection.{Connection};
-ghost use Rattle.av_scripts.specs.declared.tables.EndId.{EndId};
+ghost use Rattle.system_tables.specs.declared.tables.Connection.{Connection};
+ghost use Rattle.system_tables.specs.declared.tables.EndId.{EndId};
 ghost use Rattle.iface_roles.specs.declared.records.Finished.TheVariants.{Host};
 ghost use Rattle.iface_roles.specs.declared.records.HostPort.{HostPort};
-ghost use Rattle.av_scripts.specs.Tables.{SystemTable, IsSystem, IsEnd};
+ghost use Rattle.system_tables.specs.Tables.{SystemTable, IsSystem, IsEnd};
 ghost use Rattle.address_map.specs.Footprints.{footprints};
 ghost use Rattle.address_map.specs.Maps.{MapEntry, Access, AreMapsOf, IsPlace, IsJoined, IsEntryOf, hosts_of, place_of, is_mm, end_at, mm_ends, connection_at};
 

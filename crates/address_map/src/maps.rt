@@ -20,10 +20,10 @@ use crate::footprint::{Footprint, footprint_at};
 use crate::host_map::{HostMap, MapEntry};
 use crate::hosts::mm_ends;
 use av_base::NoMemory;
-use av_scripts::System;
 use iface_roles::Side;
 use std::alloc::Global;
 use std::marker::Model;
+use system_tables::System;
 
 /// The maps of a system's hosts, by the numbers of the hosts.
 #[derive(Debug, Drop)]

@@ -14,6 +14,3 @@ pub use lists::{Bytes, List, Text};
 pub use memory::{MemShelf, MemSink};
 pub use outside::{ReadStep, Shelf, Sink, WriteStep, load_all, put_all};
 pub use value::Val;
-
-#[cfg(test)]
-mod tests;

@@ -1,7 +1,7 @@
 -- the one answer that files call for
 use Rattle.std.proofs.Common.{◌≡◌, ℕ, List, length, Option, Some, None, ◌⊎◌, inl, inr, ⊎_elim, subst, refl, sym, ap, ◌∙◌, arith}
 use Rattle.std.specs.Prelude.{Result, Ok, Err, OnOk, IfOk, IfErr}
-use Rattle.av_scripts.specs.Tables.{SystemTable}
+use Rattle.system_tables.specs.Tables.{SystemTable}
 use Rattle.link_rules.specs.declared.faults.LinkRule.{LinkRule}
 use Rattle.link_rules.specs.declared.faults.LinkRule.TheVariants as link
 use Rattle.link_rules.specs.Plans.{PlanTable}

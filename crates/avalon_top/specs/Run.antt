@@ -4,7 +4,7 @@ use Rattle.av_base.specs.Outside.{Rose, with_more, WhereTold}
 use Rattle.link_rules.specs.declared.faults.LinkRule.{LinkRule}
 use Rattle.link_rules.specs.declared.faults.LinkRule.TheVariants as link
 use Rattle.link_rules.specs.Plans.{PlanTable}
-use Rattle.av_scripts.specs.Tables.{SystemTable}
+use Rattle.system_tables.specs.Tables.{SystemTable}
 use Rattle.system_plan.specs.declared.faults.Refusal.TheVariants as refusal
 use Rattle.system_plan.specs.Plans.{IsPlanned, IsAccepted, IsRefusedBy}
 use Rattle.map_text.specs.Text.{map_text}

@@ -7,7 +7,7 @@ mod line;
 mod words;
 
 pub use answer::run;
-pub use av_scripts::ScriptRule;
+pub use component_scripts::ScriptRule;
 pub use exit::Exit;
 pub use line::Line;
 pub use link_rules::LinkRule;

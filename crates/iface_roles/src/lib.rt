@@ -8,8 +8,6 @@ mod properties;
 mod records;
 mod roles;
 mod rules;
-#[cfg(test)]
-mod tests;
 
 pub use interface::Interface;
 pub use kinds::{Kind, PortDirection, Side};

@@ -4,8 +4,8 @@ use Rattle.std.specs.List.{filter, filter_map, cons_option, enumerate_from}
 use Rattle.iface_roles.specs.declared.kinds.Kind.{Kind}
 use Rattle.iface_roles.specs.declared.kinds.Kind.TheVariants.{Clock, Reset, Mm, Stream, Conduit, Interrupt}
 use Rattle.iface_roles.specs.declared.records.Finished.{Finished}
-use Rattle.av_scripts.specs.declared.tables.Connection.{Connection}
-use Rattle.av_scripts.specs.Tables.{SystemTable, Joins}
+use Rattle.system_tables.specs.declared.tables.Connection.{Connection}
+use Rattle.system_tables.specs.Tables.{SystemTable, Joins}
 use Rattle.address_map.specs.Maps.{is_mm, mm_connections}
 use Rattle.link_rules.specs.Links.{is_stream}
 use Rattle.interconnect.proofs.EndFacts.{IsPlanned}

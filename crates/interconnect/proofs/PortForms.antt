@@ -6,7 +6,7 @@ use Rattle.std.proofs.lemmas.Bool.{and_from, and_parts, or_left, or_right, false
 use Rattle.std.proofs.lemmas.Bool.Decides.{Decides-eqb}
 use Rattle.std.proofs.lemmas.List.Folds.{list_all-append}
 use Rattle.std.proofs.lemmas.Slice.Eq.{ends_is}
-use Rattle.av_scripts.specs.Names.{is_name, begins_with_letter}
+use Rattle.system_tables.specs.Names.{is_name, begins_with_letter}
 use Rattle.netlist.specs.Names.{IsModuleName, IsPortName, is_name_byte, is_dollar}
 use Rattle.interconnect.specs.declared.roles.Role.{Role}
 use Rattle.interconnect.specs.declared.roles.Role.TheVariants as role

@@ -10,9 +10,9 @@ use Rattle.std.proofs.lemmas.Simd.{map-map}
 use Rattle.std.proofs.lemmas.Slice.Eq.{bytes_eq-Decides}
 use Rattle.iface_roles.specs.declared.records.Finished.{Finished}
 use Rattle.iface_roles.specs.declared.records.Finished.TheVariants.{Agent, Sink}
-use Rattle.av_scripts.specs.declared.tables.EndId.{EndId}
-use Rattle.av_scripts.specs.declared.tables.Connection.{Connection}
-use Rattle.av_scripts.specs.Tables.{SystemTable, IsEnd}
+use Rattle.system_tables.specs.declared.tables.EndId.{EndId}
+use Rattle.system_tables.specs.declared.tables.Connection.{Connection}
+use Rattle.system_tables.specs.Tables.{SystemTable, IsEnd}
 use Rattle.address_map.specs.Footprints.{known_at}
 use Rattle.address_map.specs.Maps.{hosts_of, agents_of}
 use Rattle.link_rules.specs.Links.{streams_of}

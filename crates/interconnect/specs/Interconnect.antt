@@ -1,10 +1,10 @@
 -- What the interconnect of an accepted system must be: its name, its ports, and what every run of it does.
 use Rattle.std.specs.Prelude.{ℕ, ◌≡◌, ◌+◌, ◌≤◌, length, IsTrue}
-use Rattle.av_scripts.specs.declared.tables.Connection.{Connection}
+use Rattle.system_tables.specs.declared.tables.Connection.{Connection}
 use Rattle.iface_roles.specs.declared.records.HostPort.{HostPort}
 use Rattle.iface_roles.specs.declared.records.AgentPort.{AgentPort}
 use Rattle.iface_roles.specs.declared.records.StreamPort.{StreamPort}
-use Rattle.av_scripts.specs.Tables.{SystemTable}
+use Rattle.system_tables.specs.Tables.{SystemTable}
 use Rattle.link_rules.specs.Links.{weight_of}
 use Rattle.netlist.specs.Netlists.{Netlist, input_count}
 use Rattle.stream_path.specs.Joining.{declared}

@@ -1,10 +1,10 @@
 -- What a host joined to one agent must be in a module, and what every run of it does.
 use Rattle.std.specs.Prelude.{ℕ, ◌≡◌, ◌==◌, if◌then◌else◌, List, Some, codes, slice_get}
-use Rattle.av_scripts.specs.declared.tables.Connection.{Connection}
+use Rattle.system_tables.specs.declared.tables.Connection.{Connection}
 use Rattle.iface_roles.specs.declared.records.HostPort.{HostPort}
 use Rattle.iface_roles.specs.declared.records.AgentPort.{AgentPort}
 use Rattle.iface_roles.specs.declared.records.Finished.TheVariants.{Host, Agent}
-use Rattle.av_scripts.specs.Tables.{SystemTable}
+use Rattle.system_tables.specs.Tables.{SystemTable}
 use Rattle.address_map.specs.Footprints.{known_at}
 use Rattle.netlist.specs.Netlists.{Netlist}
 use Rattle.netlist.specs.Runs.{Cycle, Run, IsValuation, SameState, IsRun}

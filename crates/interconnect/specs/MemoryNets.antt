@@ -13,8 +13,8 @@ use Rattle.mm_machines.specs.BoundedWire.{WireForm}
 use Rattle.iface_roles.specs.declared.records.HostPort.{HostPort}
 use Rattle.iface_roles.specs.declared.records.AgentPort.{AgentPort}
 use Rattle.iface_roles.specs.declared.records.Finished.TheVariants.{Host, Agent}
-use Rattle.av_scripts.specs.declared.tables.Connection.{Connection}
-use Rattle.av_scripts.specs.Tables.{SystemTable}
+use Rattle.system_tables.specs.declared.tables.Connection.{Connection}
+use Rattle.system_tables.specs.Tables.{SystemTable}
 use Rattle.address_map.specs.Footprints.{known_at}
 use Rattle.interconnect.specs.Wires.{is_wire_memory}
 use Rattle.interconnect.specs.Memory.{form_of}

@@ -3,9 +3,9 @@ use Rattle.std.specs.Prelude.{◌≡◌, ◌<◌, ℕ, Bool, List, map, flat_map
 use Rattle.iface_roles.specs.declared.roles.Role.{Role as InterfaceRole}
 use Rattle.iface_roles.specs.declared.roles.Role.TheVariants as of_interface
 use Rattle.iface_roles.specs.declared.records.Finished.{Finished}
-use Rattle.av_scripts.specs.declared.tables.EndId.{EndId}
-use Rattle.av_scripts.specs.declared.tables.Connection.{Connection}
-use Rattle.av_scripts.specs.Tables.{SystemTable}
+use Rattle.system_tables.specs.declared.tables.EndId.{EndId}
+use Rattle.system_tables.specs.declared.tables.Connection.{Connection}
+use Rattle.system_tables.specs.Tables.{SystemTable}
 use Rattle.address_map.specs.Footprints.{known_at}
 use Rattle.address_map.specs.Maps.{agents_of}
 use Rattle.link_rules.specs.Links.{streams_of}

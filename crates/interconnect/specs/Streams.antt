@@ -1,10 +1,10 @@
 -- What a stream that is a wire must be in a module, and what every run of it does.
 use Rattle.std.specs.Prelude.{ℕ, ◌≡◌, Bool, true, false, List, Some, codes, filter, slice_get}
 use Rattle.av_base.specs.Word.{word}
-use Rattle.av_scripts.specs.declared.tables.Connection.{Connection}
+use Rattle.system_tables.specs.declared.tables.Connection.{Connection}
 use Rattle.iface_roles.specs.declared.records.StreamPort.{StreamPort}
 use Rattle.iface_roles.specs.declared.records.Finished.TheVariants.{Source, Sink}
-use Rattle.av_scripts.specs.Tables.{SystemTable}
+use Rattle.system_tables.specs.Tables.{SystemTable}
 use Rattle.address_map.specs.Footprints.{known_at}
 use Rattle.link_rules.specs.Links.{streams_of}
 use Rattle.netlist.specs.declared.line.Line.{Line}

@@ -6,8 +6,8 @@ use Rattle.iface_roles.specs.declared.records.HostPort.{HostPort}
 use Rattle.iface_roles.specs.declared.records.AgentPort.{AgentPort}
 use Rattle.iface_roles.specs.declared.records.Finished.{Finished}
 use Rattle.iface_roles.specs.declared.records.Finished.TheVariants.{Host, Agent, Source, Sink}
-use Rattle.av_scripts.specs.declared.tables.Connection.{Connection}
-use Rattle.av_scripts.specs.Tables.{SystemTable}
+use Rattle.system_tables.specs.declared.tables.Connection.{Connection}
+use Rattle.system_tables.specs.Tables.{SystemTable}
 use Rattle.address_map.specs.Footprints.{known_at}
 use Rattle.link_rules.specs.Links.{streams_of}
 use Rattle.stream_runs.specs.Ends.{Declared}

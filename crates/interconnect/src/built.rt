@@ -1,12 +1,12 @@
 ghost use Rattle.std.specs.Prelude.{◌≡◌, length};
-ghost use Rattle.av_scripts.specs.Tables.{IsLogic};
+ghost use Rattle.system_tables.specs.Tables.{IsLogic};
 ghost use Rattle.stream_path.specs.Joining.{declared};
 ghost use Rattle.interconnect.specs.Wires.{has_same_beats, has_plain_ready, is_wire_stream, is_wire, is_wire_host, is_wire_agent, fills_range, is_wire_memory, is_alone, is_built, pending_of};
 ghost use Rattle.interconnect.specs.Ends.{IsPlanEnd};
 
-use av_scripts::Connection;
 use iface_roles::{AgentPort, Finished, HostPort, SinkPort, SourcePort};
 use link_rules::Plan;
+use system_tables::Connection;
 
 fn has_same_beats(source: &SourcePort, sink: &SinkPort) -> bool
     ensures { result ≡ has_same_beats (declared source.now) (declared sink.now) }

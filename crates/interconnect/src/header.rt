@@ -1,5 +1,5 @@
 ghost use Rattle.std.specs.Prelude.{◌≡◌, ℕ, ◌<◌, ◌^◌, ◌++◌, length, None, flat_map, map, filter, IfOk, OnOk};
-ghost use Rattle.av_scripts.specs.Tables.{IsEnd};
+ghost use Rattle.system_tables.specs.Tables.{IsEnd};
 ghost use Rattle.iface_roles.specs.declared.records.Finished.{Finished};
 ghost use Rattle.netlist.specs.Netlists.{IsWellMade, IsClocked, IsWritten, driver_of, started};
 ghost use Rattle.link_rules.specs.Links.{streams_of};
@@ -11,11 +11,11 @@ ghost use Rattle.interconnect.specs.PortMaps.{entry_of, end_entries, entries_of,
 use crate::port_table::{PortEntry, PortMap};
 use crate::roles::{Role, RolePort, agent_ports, host_ports, port, sink_ports, source_ports};
 use av_base::{List, NoMemory, Text};
-use av_scripts::{Connection, EndId};
 use iface_roles::{Finished, proper_records_are_bounded};
 use link_rules::Plan;
 use netlist::{Builder, NetFault, PortLine};
 use std::alloc::Global;
+use system_tables::{Connection, EndId};
 
 fn name_of_port(alloc: Global, plan: &Plan, end: EndId, word: &str) -> Result<Text, NoMemory>
     requires { (known : Finished) × IsEnd plan.now.system end known }

@@ -4,8 +4,8 @@ ghost use Rattle.interconnect.specs.declared.roles.Role.TheVariants.{Grant, Drop
 
 use crate::port_table::{PortEntry, PortMap};
 use crate::roles::{Role, RolePort};
-use av_scripts::EndId;
 use iface_roles::Role as InterfaceRole;
+use system_tables::EndId;
 
 impl PortEntry {
     pub(crate) fn new(end: EndId, starts: bool, port: RolePort) -> PortEntry

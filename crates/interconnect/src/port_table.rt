@@ -2,7 +2,7 @@ ghost use Rattle.std.specs.Prelude.{length, ◌^◌, ◌<◌};
 
 use crate::roles::RolePort;
 use av_base::List;
-use av_scripts::EndId;
+use system_tables::EndId;
 
 /// A port of the module.
 #[derive(Clone, Copy, Debug)]

@@ -25,13 +25,13 @@ use crate::header::{start, stream_at};
 use crate::port_table::PortMap;
 use crate::roles::Role;
 use av_base::{List, NoMemory, Val};
-use av_scripts::{Connection, EndId};
 use iface_roles::{Finished, SinkPort, SourcePort, proper_records_are_bounded};
 use link_rules::Plan;
 use netlist::{Builder, Module, Net, NetFault};
 use stage_core::BeatNets;
 use std::alloc::Global;
 use stream_path::{PathNets, SourceNets, emit_path};
+use system_tables::{Connection, EndId};
 
 /// The port of a role at an end.
 fn port_of(plan: &Plan, ports: &PortMap, end: EndId, role: Role) -> Option<u32>

@@ -7,7 +7,6 @@ use crate::bench::{Bench, Seen, Shown, Tally};
 use crate::row::Row;
 use crate::scripts::files_of;
 use av_base::{NoMemory, Val};
-use av_scripts::EndId;
 use cycle_sim::Sim;
 use iface_roles::Role;
 use interconnect::{Built, PortMap, build, pending};
@@ -15,6 +14,7 @@ use link_rules::Plan;
 use netlist::{Module, PortLine};
 use std::alloc::{AllocError, Global};
 use system_plan::plan_of;
+use system_tables::EndId;
 
 /// The numbers of the ports of an end, in the header of the module; None where it has no such port.
 #[derive(Clone, Copy)]

@@ -1,5 +1,5 @@
 ghost use Rattle.std.specs.Prelude.{◌≡◌, ◌^◌, ◌<◌, ◌≤◌, ◌+◌, ◌∷◌, [], ◌++◌, ◌⊎◌, All, length, OnOk, IfOk, IfErr, MatchResult};
-ghost use Rattle.av_scripts.specs.Tables.{ComponentTable};
+ghost use Rattle.component_scripts.specs.Tables.{ComponentTable};
 ghost use Rattle.link_rules.specs.Plans.{IsPlan};
 ghost use Rattle.system_plan.specs.declared.faults.Refusal.{Refusal as Answer};
 ghost use Rattle.system_plan.specs.Scripts.{States, IsRefused};
@@ -9,9 +9,11 @@ ghost use Rattle.system_plan.specs.Plans.{IsPlanned, IsAccepted, IsRefusedBy, Is
 use crate::faults::Refusal;
 use address_map::Maps;
 use av_base::Bytes;
-use av_scripts::{Catalog, Component, System};
+use component_scripts::{Catalog, Component};
 use link_rules::Plan;
 use std::alloc::Global;
+use system_scripts::read_system;
+use system_tables::System;
 use tcl_words::{Commands, no_two_readings, spelled_or_faulty};
 
 /// Adds the component that a file states.
@@ -52,7 +54,7 @@ fn system_of(alloc: Global, bytes: &[u8], components: &Catalog) -> Result<System
     ensures refused { IfErr result (IsScriptCause (IsRefused (RefusesSystem components.now) 1 bytes.now)) }
 {
     let commands = Commands::read(alloc, 1, bytes)?;
-    Ok(System::read(alloc, &commands, components)?)
+    Ok(read_system(alloc, &commands, components)?)
 }
 
 /// The plan of a system.

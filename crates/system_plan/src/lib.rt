@@ -6,6 +6,3 @@ mod files;
 
 pub use faults::Refusal;
 pub use files::plan_of;
-
-#[cfg(test)]
-mod tests;

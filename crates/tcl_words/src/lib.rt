@@ -10,6 +10,3 @@ mod words;
 pub use laws::{no_two_readings, spelled_or_faulty};
 pub use rule::{Rule, WordsFault};
 pub use words::{Commands, Word};
-
-#[cfg(test)]
-mod tests;

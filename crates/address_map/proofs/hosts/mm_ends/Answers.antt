@@ -1,5 +1,5 @@
 use Rattle.std.proofs.Common.{Bool, List, cond, get_or, arith, sym, ap, ◌∙◌}
-use Rattle.av_scripts.specs.declared.tables.EndId.{EndId}
+use Rattle.system_tables.specs.declared.tables.EndId.{EndId}
 use Rattle.address_map.specs.Ends.{with_end}
 use Rattle.address_map.specs.Maps.{end_at}
 use Rattle.address_map.proofs.HostLemmas.{zeros, ends_before, ends_before-next}

@@ -1,8 +1,8 @@
 use Rattle.std.proofs.Common.{◌≡◌, ℕ, List, [], IfOk, Option, Some, None, slice_get, ◌∙◌, subst}
 use Rattle.std.specs.Prelude.{option_map}
 use Rattle.std.specs.Option.{option_map_or}
-use Rattle.av_scripts.specs.declared.tables.EndId.{EndId}
-use Rattle.av_scripts.specs.Tables.{SystemTable, InstanceTable}
+use Rattle.system_tables.specs.declared.tables.EndId.{EndId}
+use Rattle.system_tables.specs.Tables.{SystemTable, InstanceTable}
 use Rattle.link_rules.specs.Plans.{interface_name_of as kept_name_of}
 use Rattle.interconnect.specs.Ports.{interface_name_of, name_at}
 use Rattle.interconnect.proofs.Names.{port_name-is}

@@ -1,5 +1,5 @@
 use Rattle.std.proofs.Common.{sym, subst, List}
-use Rattle.av_scripts.specs.declared.tables.EndId.{EndId}
+use Rattle.system_tables.specs.declared.tables.EndId.{EndId}
 use Rattle.interconnect.specs.Ends.{ArePlanEnds}
 use Rattle.interconnect.proofs.EndFacts.{planned}
 use Rattle.interconnect.proofs.Numbering.{are_hosts, are_agents}

@@ -1,6 +1,6 @@
 use Rattle.std.proofs.Common.{◌≡◌, ℕ, List, Some, ◌<◌, slice_get, get_or, length, arith, ap, sym, ◌∙◌}
 use Rattle.std.proofs.lemmas.Option.{slice_get-get_or}
-use Rattle.av_scripts.specs.declared.tables.EndId.{EndId}
+use Rattle.system_tables.specs.declared.tables.EndId.{EndId}
 use Rattle.interconnect.specs.declared.roles.Role.{Role}
 use Rattle.interconnect.specs.declared.roles.Role.TheVariants as role
 use Rattle.interconnect.specs.PortMaps.{port_at}

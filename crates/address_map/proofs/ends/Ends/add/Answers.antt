@@ -1,7 +1,7 @@
 use Rattle.std.proofs.Common.{◌≡◌, ◌++◌, ◌∷◌, [], ℕ, List, Option, Some, length, true, false, cond, ap, sym, subst, ◌∙◌, rules}
 use Rattle.std.specs.Prelude.{is_some}
 use Rattle.std.specs.List.{list_any}
-use Rattle.av_scripts.specs.declared.tables.EndId.{EndId}
+use Rattle.system_tables.specs.declared.tables.EndId.{EndId}
 use Rattle.address_map.specs.Ends.{is_same_end, place_in, with_end}
 use Rattle.address_map.proofs.EndsLemmas.{is_some-position, place_in-push, with_end-there, with_end-fresh}
 use Rattle.address_map.proofs.ends.Ends.add.Goals as goal

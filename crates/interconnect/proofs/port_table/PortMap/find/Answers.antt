@@ -1,7 +1,7 @@
 use Rattle.std.proofs.Common.{◌≡◌, inl, inr, ℕ, List, Some, slice_get, get_or, length, arith, ap, sym, subst, ◌∙◌}
 use Rattle.std.proofs.lemmas.Bool.{false≢true}
 use Rattle.std.proofs.lemmas.Option.{slice_get_within, slice_get-get_or}
-use Rattle.av_scripts.specs.declared.tables.EndId.{EndId}
+use Rattle.system_tables.specs.declared.tables.EndId.{EndId}
 use Rattle.interconnect.specs.declared.roles.Role.{Role}
 use Rattle.interconnect.specs.declared.port_table.PortEntry.{PortEntry}
 use Rattle.interconnect.specs.PortMaps.{IsEntryAt}

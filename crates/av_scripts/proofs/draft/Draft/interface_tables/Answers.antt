@@ -1,5 +1,0 @@
-use Rattle.av_scripts.proofs.DraftLemmas.{are_named}
-use Rattle.av_scripts.proofs.draft.Draft.interface_tables.Goals as goal
-
-pub tables_of-requires : goal.tables_of-requires
-tables_of-requires c = rw c.as_slice.ensures.value (are_named _ _ _ c.self.invariant)

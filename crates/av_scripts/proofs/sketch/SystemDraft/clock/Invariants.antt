@@ -1,7 +1,0 @@
-use Rattle.std.proofs.Common.{◌≡◌, drop}
-use Rattle.av_scripts.specs.Clocks.{system_clock}
-use Rattle.av_scripts.proofs.ClockLemmas.{first_root}
-use Rattle.av_scripts.proofs.sketch.SystemDraft.clock.Given as goal
-
-abbrev pub invariant-loop-joint : goal.invariant-loop-joint
-invariant-loop-joint l = system_clock l.library l.self ≡ first_root l.library l.self (drop l.joint-index l.joint-items)

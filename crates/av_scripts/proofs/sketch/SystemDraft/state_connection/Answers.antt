@@ -1,6 +1,0 @@
-use Rattle.av_scripts.proofs.SketchLemmas.{connection_is_new}
-use Rattle.av_scripts.proofs.sketch.SystemDraft.state_connection.Goals as goal
-
-pub join-requires : goal.join-requires
-join-requires c =
-    connection_is_new c.args.library.now c.args.self.now c.args.words.now c.in-Some.joint.start c.in-Some.joint.end c.requires c.in-Some.ensures.start c.in-Some.ensures.end

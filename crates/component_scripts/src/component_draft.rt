@@ -1,0 +1,420 @@
+ghost use Rattle.std.specs.Prelude.{◌≡◌, IfOk, IsTrue};
+ghost use Rattle.iface_roles.specs.Proper.{IsProper};
+ghost use Rattle.iface_roles.specs.Records.{finished};
+ghost use Rattle.component_scripts.specs.Component.{interface_table};
+ghost use Rattle.system_tables.specs.Names.{is_name};
+ghost use Rattle.component_scripts.specs.Tables.{IsSound};
+
+use crate::component::{Component, ComponentCommand, DeclaredInterface};
+use crate::component_words::{
+    component_command, has_role, is_misdirected, judge_port_property, kind_and_side, lacks_role,
+    names_type, takes,
+};
+use crate::faults::{ScriptFault, ScriptRule};
+use crate::judge::Refusal;
+use crate::names::Names;
+use crate::package::judge_package;
+use crate::settings::{is_misread, is_not_known, is_outside, set_as, with_role};
+use crate::values::{direction_named, is_name, kind_named, number_of, property_named, same_kind};
+use crate::words::{check, place, refusal_of, refused_at, text};
+use av_base::{NoMemory, Place, Text};
+use iface_roles::{Finished, Interface, Kind, Property};
+use std::alloc::Global;
+use std::marker::Model;
+use system_tables::InterfaceTable;
+use tcl_words::Word;
+
+/// What the commands of a component file state so far.
+#[derive(Drop)]
+pub(crate) struct ComponentDraft {
+    type_name: Option<Word>,
+    names: Names,
+    interfaces: Vec<DeclaredInterface>,
+    ports: Names,
+}
+
+impl Model for ComponentDraft {
+    ghost use Rattle.component_scripts.specs.Component.{DraftedComponent, IsComponentDraft};
+
+    ghost Value = { DraftedComponent };
+
+    ghost view = { λ d. record { type_name = d.type_name; interfaces = d.interfaces.items; ports = d.ports } };
+
+    ghost invariant = { λ d. IsComponentDraft d.names d.type_name d.interfaces.items };
+}
+
+impl ComponentDraft {
+    ghost use Rattle.std.specs.Prelude.{◌≡◌, ◌<◌, ◌≤◌, ◌||◌, ◌-◌, IsTrue, Some, length, OnOk, IfOk, IfErr, None};
+    ghost use Rattle.component_scripts.specs.Component.{
+      DraftedComponent,
+      empty_component_draft,
+      held_named,
+      names_type,
+      is_misdirected,
+      kind_and_side,
+      property_at,
+      has_role,
+      lacks_role,
+      port_stated,
+      module_checks,
+      interface_checks,
+      property_checks,
+      port_checks,
+      port_property_checks,
+      component_checks,
+      component_effect,
+      component_refusal,
+      component_after,
+      names_clock,
+      lacks_clock,
+      interface_refusal,
+      interface_table,
+      first_some,
+      ended,
+      IsFaultOf,
+      module_effect,
+      interface_effect,
+      property_effect,
+      port_effect,
+    };
+    ghost use Rattle.std.specs.Prelude.{map, All, Ok};
+    ghost use Rattle.system_tables.specs.Names.{is_name};
+    ghost use Rattle.component_scripts.specs.Tables.{IsSound};
+    ghost use Rattle.component_scripts.specs.Words.{refusal_of, IsRefusal};
+    ghost use Rattle.iface_roles.specs.Proper.{IsProper};
+    ghost use Rattle.iface_roles.specs.Records.{finished};
+
+    pub fn new(alloc: Global) -> ComponentDraft
+        ensures { result ≡ empty_component_draft }
+    {
+        ComponentDraft {
+            type_name: None,
+            names: Names::new(alloc),
+            interfaces: Vec::new(alloc),
+            ports: Names::new(alloc),
+        }
+    }
+
+    /// The interface of this name.
+    fn held_named(&self, name: &str) -> Option<Interface>
+        ensures { result ≡ held_named self.now.interfaces name.now }
+    {
+        let k = self.names.find(name)?;
+        Some(self.interfaces[k].interface)
+    }
+
+    #[tactic(auto, unfolding(crate::specs::Component::module_checks))]
+    fn judge_module_property(&self, words: &[Word]) -> Option<Refusal>
+        ensures { result ≡ refusal_of words.now (module_checks self.now words.now) }
+    {
+        let value = text(words, 2);
+        refusal_of(
+            words,
+            &[
+                check(3, 2, names_type(words) && !is_name(value)),
+                check(14, 1, names_type(words) && self.type_name.is_some()),
+            ],
+        )
+    }
+
+    #[tactic(auto, unfolding(crate::specs::Component::interface_checks))]
+    fn judge_interface(&self, words: &[Word]) -> Option<Refusal>
+        ensures { result ≡ refusal_of words.now (interface_checks self.now words.now) }
+    {
+        let name = text(words, 1);
+        refusal_of(
+            words,
+            &[
+                check(3, 1, !is_name(name)),
+                check(4, 1, self.held_named(name).is_some()),
+                check(6, 2, kind_named(text(words, 2)).is_none()),
+                check(7, 3, is_misdirected(words)),
+            ],
+        )
+    }
+
+    #[tactic(auto, unfolding(crate::specs::Component::property_at))]
+    fn property_at(&self, words: &[Word]) -> Option<Property>
+        ensures { result ≡ property_at self.now words.now }
+    {
+        let interface = self.held_named(text(words, 1))?;
+        Some(property_named(interface.kind(), text(words, 2)))
+    }
+
+    #[tactic(auto, unfolding(crate::specs::Component::property_checks))]
+    fn judge_property(&self, words: &[Word]) -> Option<Refusal>
+        ensures { result ≡ refusal_of words.now (property_checks self.now words.now) }
+    {
+        let property = self.property_at(words);
+        let value = text(words, 3);
+        refusal_of(
+            words,
+            &[
+                check(5, 1, property.is_none()),
+                check(9, 2, property.map_or(false, is_not_known)),
+                check(
+                    10,
+                    3,
+                    property.map_or(false, |known| is_misread(known, value)),
+                ),
+                check(
+                    11,
+                    3,
+                    property.map_or(false, |known| is_outside(known, value)),
+                ),
+            ],
+        )
+    }
+
+    #[tactic(auto, unfolding(crate::specs::Component::port_checks))]
+    fn judge_port(&self, words: &[Word]) -> Option<Refusal>
+        ensures { result ≡ refusal_of words.now (port_checks self.now words.now) }
+    {
+        let interface = self.held_named(text(words, 1));
+        let role = text(words, 3);
+        let width = number_of(text(words, 5));
+        refusal_of(
+            words,
+            &[
+                check(3, 2, !is_name(text(words, 2))),
+                check(4, 2, self.ports.find(text(words, 2)).is_some()),
+                check(4, 3, interface.map_or(false, |held| has_role(role, held))),
+                check(5, 1, interface.is_none()),
+                check(7, 4, direction_named(text(words, 4)).is_none()),
+                check(8, 3, interface.map_or(false, |held| lacks_role(role, held))),
+                check(10, 5, width.is_none()),
+                check(11, 5, width.map_or(false, |bits| bits == 0)),
+            ],
+        )
+    }
+
+    /// What refuses a command by its words, whose number is right.
+    fn judge(&self, command: ComponentCommand, words: &[Word]) -> Option<Refusal>
+        ensures { result ≡ refusal_of words.now (component_checks command self.now words.now) }
+    {
+        match command {
+            ComponentCommand::Package => judge_package(words),
+            ComponentCommand::SetModuleProperty => self.judge_module_property(words),
+            ComponentCommand::AddInterface => self.judge_interface(words),
+            ComponentCommand::SetInterfaceProperty => self.judge_property(words),
+            ComponentCommand::AddInterfacePort => self.judge_port(words),
+            ComponentCommand::SetPortProperty => judge_port_property(words),
+            ComponentCommand::PassedOver => refusal_of(words, &[]),
+        }
+    }
+
+    #[tactic(auto, unfolding(crate::specs::Component::module_effect))]
+    fn state_module_property(&mut self, alloc: Global, words: &[Word]) -> Result<(), NoMemory>
+        requires { refusal_of words.now (module_checks self.old words.now) ≡ None }
+        ensures { OnOk result (self.new ≡ module_effect self.old words.now) }
+    {
+        if names_type(words) {
+            self.type_name = Some(Word {
+                text: Text::copy(alloc, text(words, 2))?,
+                place: place(words, 2),
+            });
+        }
+        Ok(())
+    }
+
+    #[tactic(auto, unfolding(crate::specs::Component::interface_effect))]
+    fn state_interface(&mut self, alloc: Global, words: &[Word]) -> Result<(), NoMemory>
+        requires { refusal_of words.now (interface_checks self.old words.now) ≡ None }
+        ensures { OnOk result (self.new ≡ interface_effect self.old words.now) }
+    {
+        if let Some((kind, side)) = kind_and_side(words) {
+            let name = text(words, 1);
+            let declared = DeclaredInterface {
+                name: Text::copy(alloc, name)?,
+                place: place(words, 1),
+                clock: Text::copy(alloc, "")?,
+                interface: Interface::new(kind, side),
+            };
+            self.interfaces.reserve(1)?;
+            self.names.add(alloc, name)?;
+            self.interfaces.push(declared).unwrap();
+        }
+        Ok(())
+    }
+
+    #[tactic(auto, unfolding(crate::specs::Component::property_effect))]
+    fn state_property(&mut self, alloc: Global, words: &[Word]) -> Result<(), NoMemory>
+        requires { refusal_of words.now (property_checks self.old words.now) ≡ None }
+        ensures { OnOk result (self.new ≡ property_effect self.old words.now) }
+    {
+        if let Some(k) = self.names.find(text(words, 1)) {
+            set_as(
+                alloc,
+                &mut self.interfaces[k],
+                text(words, 2),
+                text(words, 3),
+            )?;
+        }
+        Ok(())
+    }
+
+    #[tactic(auto, unfolding(crate::specs::Component::port_effect))]
+    fn state_port(&mut self, alloc: Global, words: &[Word]) -> Result<(), NoMemory>
+        requires { refusal_of words.now (port_checks self.old words.now) ≡ None }
+        ensures { OnOk result (self.new ≡ port_effect self.old words.now) }
+    {
+        self.ports.add(alloc, text(words, 2))?;
+        if let Some(k) = self.names.find(text(words, 1)) {
+            with_role(&mut self.interfaces[k], words);
+        }
+        Ok(())
+    }
+
+    /// What a command states, once nothing refuses it.
+    fn state(
+        &mut self,
+        alloc: Global,
+        command: ComponentCommand,
+        words: &[Word],
+    ) -> Result<(), NoMemory>
+        requires { refusal_of words.now (component_checks command self.old words.now) ≡ None }
+        ensures { OnOk result (self.new ≡ component_effect command self.old words.now) }
+    {
+        match command {
+            ComponentCommand::SetModuleProperty => self.state_module_property(alloc, words),
+            ComponentCommand::AddInterface => self.state_interface(alloc, words),
+            ComponentCommand::SetInterfaceProperty => self.state_property(alloc, words),
+            ComponentCommand::AddInterfacePort => self.state_port(alloc, words),
+            ComponentCommand::Package
+            | ComponentCommand::SetPortProperty
+            | ComponentCommand::PassedOver => Ok(()),
+        }
+    }
+
+    /// Takes the next command, which a rule may refuse.
+    #[tactic(auto, unfolding(crate::specs::Component::component_refusal, crate::specs::Component::component_after))]
+    pub fn take(&mut self, alloc: Global, words: &[Word]) -> Result<(), ScriptFault>
+        ensures accepted { OnOk result (component_refusal self.old words.now ≡ None) }
+        ensures stated { OnOk result (self.new ≡ component_after self.old words.now) }
+        ensures refused { IfErr result (λ fault. IsRefusal fault (component_refusal self.old words.now)) }
+    {
+        let Some(command) = component_command(text(words, 0)) else {
+            return Err(refused_at(words, 1, 0).into());
+        };
+        if !takes(command, words.len().saturating_sub(1)) {
+            return Err(refused_at(words, 2, 0).into());
+        }
+        if let Some(refusal) = self.judge(command, words) {
+            return Err(refusal.into());
+        }
+        self.state(alloc, command, words)?;
+        Ok(())
+    }
+
+    fn names_clock(&self, name: &str) -> bool
+        ensures { result ≡ names_clock self.now.interfaces name.now }
+    {
+        match self.held_named(name) {
+            Some(held) => same_kind(held.kind(), Kind::Clock),
+            None => false,
+        }
+    }
+
+    /// Whether the interface's `associatedClock` names no clock interface of the component.
+    fn lacks_clock(&self, declared: &DeclaredInterface) -> bool
+        ensures { result ≡ lacks_clock self.now.interfaces declared.now }
+    {
+        let clock = declared.clock.as_str();
+        declared.interface.kind().is_avalon() && !clock.is_empty() && !self.names_clock(clock)
+    }
+
+    /// What is known of the interface, unless a rule refuses it.
+    fn finished(&self, declared: &DeclaredInterface) -> Result<Finished, Refusal>
+        ensures accepted { IfOk result (λ known. (interface_refusal self.now.interfaces declared.now ≡ None)
+            × (known ≡ finished declared.now.interface)) }
+        ensures proper { IfOk result IsProper }
+        ensures refused { IfErr result (λ refusal. interface_refusal self.now.interfaces declared.now ≡ Some refusal) }
+    {
+        let rule = match declared.interface.finish() {
+            Ok(known) if !self.lacks_clock(declared) => return Ok(known),
+            Ok(_) => 14,
+            Err(rule) => rule,
+        };
+        Err(Refusal {
+            place: declared.place,
+            rule: ScriptRule::Interface(rule),
+        })
+    }
+
+    /// The tables of these interfaces in order, unless a rule refuses one.
+    fn tables_of(
+        &self,
+        alloc: Global,
+        interfaces: &[DeclaredInterface],
+    ) -> Result<Vec<InterfaceTable>, ScriptFault>
+        requires { All (λ declared. IsTrue (is_name declared.name)) interfaces.now }
+        ensures accepted { OnOk result (first_some (interface_refusal self.now.interfaces) interfaces.now ≡ None) }
+        ensures tables { IfOk result (λ tables. tables.items ≡ map interface_table interfaces.now) }
+        ensures sound { IfOk result (λ tables. All IsSound tables.items) }
+        ensures refused { IfErr result
+            (λ fault. IsRefusal fault (first_some (interface_refusal self.now.interfaces) interfaces.now)) }
+    {
+        let mut tables = Vec::new(alloc);
+        for declared in interfaces {
+            let finished = self.finished(declared)?;
+            tables.push(table_of(alloc, declared, finished)?)?;
+        }
+        Ok(tables)
+    }
+
+    /// The tables of the interfaces in order, unless a rule refuses one.
+    fn interface_tables(&self, alloc: Global) -> Result<Vec<InterfaceTable>, ScriptFault>
+        ensures accepted { OnOk result (first_some (interface_refusal self.now.interfaces) self.now.interfaces ≡ None) }
+        ensures tables { IfOk result (λ tables. tables.items ≡ map interface_table self.now.interfaces) }
+        ensures sound { IfOk result (λ tables. All IsSound tables.items) }
+        ensures refused { IfErr result
+            (λ fault. IsRefusal fault (first_some (interface_refusal self.now.interfaces) self.now.interfaces)) }
+    {
+        self.tables_of(alloc, self.interfaces.as_slice())
+    }
+
+    /// What the commands state, once they end here.
+    #[tactic(auto, unfolding(crate::specs::Component::ended))]
+    pub fn finish(self, alloc: Global, end: Place) -> Result<Component, ScriptFault>
+        ensures accepted { IfOk result (λ component. ended end self ≡ Ok component) }
+        ensures refused { IfErr result (λ fault. IsFaultOf fault (ended end self)) }
+    {
+        if self.type_name.is_none() {
+            return Err(ScriptFault::Refused {
+                place: end,
+                rule: ScriptRule::Command(14),
+            });
+        }
+        let interfaces = self.interface_tables(alloc)?;
+        let ComponentDraft {
+            type_name,
+            names,
+            interfaces: _,
+            ports: _,
+        } = self;
+        let name = type_name.unwrap();
+        names.distinct();
+        Ok(Component::new(name.text, name.place, names, interfaces))
+    }
+}
+
+#[tactic(auto, unfolding(crate::specs::Component::interface_table))]
+fn table_of(
+    alloc: Global,
+    declared: &DeclaredInterface,
+    known: Finished,
+) -> Result<InterfaceTable, NoMemory>
+    requires known { known ≡ finished declared.now.interface }
+    requires proper { IsProper known }
+    requires name { IsTrue (is_name declared.now.name) }
+    ensures table { IfOk result (λ table. table ≡ interface_table declared.now) }
+    ensures sound { IfOk result IsSound }
+{
+    Ok(InterfaceTable {
+        name: Text::copy(alloc, declared.name.as_str())?,
+        kind: declared.interface.kind(),
+        side: declared.interface.side(),
+        clock: Text::copy(alloc, declared.clock.as_str())?,
+        finished: known,
+    })
+}

@@ -1,0 +1,142 @@
+ghost use Rattle.std.specs.Prelude.{◌≡◌};
+ghost use Rattle.std.specs.List.{list_any};
+ghost use Rattle.std.specs.Str.{bytes_eq};
+ghost use Rattle.iface_roles.specs.Held.{Held};
+ghost use Rattle.component_scripts.specs.Component.{
+  component_command,
+  passed_over,
+  takes,
+  names_type,
+  is_misdirected,
+  kind_and_side,
+  has_role,
+  lacks_role,
+  port_property_checks,
+};
+ghost use Rattle.component_scripts.specs.Words.{refusal_of};
+
+use crate::component::ComponentCommand;
+use crate::judge::Refusal;
+use crate::values::{is_among, kind_named, role_named, same_name, side_named};
+use crate::words::{check, refusal_of, text};
+use iface_roles::{Interface, Kind, Side};
+use tcl_words::Word;
+
+/// Commands that state nothing here.
+const PASSED_OVER: [&str; 10] = [
+    "add_fileset",
+    "set_fileset_property",
+    "add_fileset_file",
+    "set_module_assignment",
+    "set_interface_assignment",
+    "add_documentation_link",
+    "add_parameter",
+    "set_parameter_property",
+    "add_display_item",
+    "set_display_item_property",
+];
+
+fn is_passed_over(name: &str) -> bool
+    ensures { result ≡ list_any (bytes_eq name.now) passed_over }
+{
+    is_among(name, &PASSED_OVER)
+}
+
+/// The command of this name in a component file.
+#[tactic(auto, unfolding(crate::specs::Component::component_command))]
+pub(crate) fn component_command(name: &str) -> Option<ComponentCommand>
+    ensures { result ≡ component_command name.now }
+{
+    if name == "package" {
+        return Some(ComponentCommand::Package);
+    }
+    if name == "set_module_property" {
+        return Some(ComponentCommand::SetModuleProperty);
+    }
+    if name == "add_interface" {
+        return Some(ComponentCommand::AddInterface);
+    }
+    if name == "set_interface_property" {
+        return Some(ComponentCommand::SetInterfaceProperty);
+    }
+    if name == "add_interface_port" {
+        return Some(ComponentCommand::AddInterfacePort);
+    }
+    if name == "set_port_property" {
+        return Some(ComponentCommand::SetPortProperty);
+    }
+    if is_passed_over(name) {
+        return Some(ComponentCommand::PassedOver);
+    }
+    None
+}
+
+/// Whether the command may have so many words behind its name.
+#[tactic(auto, unfolding(crate::specs::Component::takes))]
+pub(crate) fn takes(command: ComponentCommand, count: usize) -> bool
+    ensures { result ≡ takes command count }
+{
+    match command {
+        ComponentCommand::Package => 2 <= count && count <= 4,
+        ComponentCommand::SetModuleProperty => count == 2,
+        ComponentCommand::AddInterface => count == 3,
+        ComponentCommand::SetInterfaceProperty => count == 3,
+        ComponentCommand::AddInterfacePort => count == 5,
+        ComponentCommand::SetPortProperty => count == 3,
+        ComponentCommand::PassedOver => true,
+    }
+}
+
+pub(crate) fn names_type(words: &[Word]) -> bool
+    ensures { result ≡ names_type words.now }
+{
+    same_name("NAME", text(words, 1))
+}
+
+/// Whether the direction in the words `KIND DIRECTION` of `add_interface` isn't one of the kind.
+#[tactic(auto, unfolding(crate::specs::Component::is_misdirected))]
+pub fn is_misdirected(words: &[Word]) -> bool
+    ensures { result ≡ is_misdirected words.now }
+{
+    match kind_named(text(words, 2)) {
+        Some(kind) => side_named(kind, text(words, 3)).is_none(),
+        None => false,
+    }
+}
+
+/// The kind and the side that the words of `add_interface` name.
+#[tactic(auto, unfolding(crate::specs::Component::kind_and_side))]
+pub(crate) fn kind_and_side(words: &[Word]) -> Option<(Kind, Side)>
+    ensures { result ≡ kind_and_side words.now }
+{
+    let kind = kind_named(text(words, 2))?;
+    let side = side_named(kind, text(words, 3))?;
+    Some((kind, side))
+}
+
+/// Whether the interface has the role already.
+pub(crate) fn has_role(role: &str, held: Interface) -> bool
+    ensures { result ≡ has_role role.now held }
+{
+    match role_named(held.kind(), role) {
+        Some(role) => held.has(role),
+        None => false,
+    }
+}
+
+/// Whether the interface ought to have roles, and has no such role.
+pub(crate) fn lacks_role(role: &str, held: Interface) -> bool
+    ensures { result ≡ lacks_role role.now held }
+{
+    held.kind().is_avalon() && role_named(held.kind(), role).is_none()
+}
+
+#[tactic(auto, unfolding(crate::specs::Component::port_property_checks))]
+pub(crate) fn judge_port_property(words: &[Word]) -> Option<Refusal>
+    ensures { result ≡ refusal_of words.now (port_property_checks words.now) }
+{
+    refusal_of(
+        words,
+        &[check(19, 2, !same_name("VHDL_TYPE", text(words, 2)))],
+    )
+}

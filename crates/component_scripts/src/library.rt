@@ -1,0 +1,132 @@
+ghost use Rattle.std.specs.Prelude.{◌≡◌, ◌∷◌, ◌++◌, [], Some, IsNone, slice_get, All, OnOk, IfOk};
+ghost use Rattle.std.specs.Option.{option_copied};
+ghost use Rattle.component_scripts.specs.Catalog.{type_place};
+ghost use Rattle.component_scripts.specs.Library.{built_in, clock_source_table, interfaces_of};
+ghost use Rattle.component_scripts.specs.Names.{place_of};
+ghost use Rattle.component_scripts.specs.Tables.{IsComponent};
+
+use crate::catalog::Catalog;
+use crate::component::Component;
+use crate::names::Names;
+use av_base::{List, NoMemory, Place, Text};
+use iface_roles::{Finished, Kind, Side};
+use std::alloc::Global;
+use std::marker::Model;
+use system_tables::{InterfaceTable, copy_interfaces};
+
+/// The components that a system file may name: those of a catalog, and the clock source behind them.
+#[derive(Drop)]
+pub struct Library<'a> {
+    catalog: &'a Catalog,
+    clock_source: Component,
+}
+
+impl<'a> Model for Library<'a> {
+    ghost use Rattle.std.specs.Prelude.{◌≡◌, ◌∷◌, ◌++◌, [], List};
+    ghost use Rattle.component_scripts.specs.Tables.{ComponentTable};
+    ghost use Rattle.component_scripts.specs.Library.{clock_source_table};
+
+    ghost Value = { List ComponentTable };
+
+    ghost view = { λ l. l.catalog.now ++ l.clock_source ∷ [] };
+
+    ghost invariant = { λ l. l.clock_source ≡ clock_source_table };
+}
+
+impl<'a> Library<'a> {
+    pub fn new(alloc: Global, catalog: &'a Catalog) -> Result<Library<'a>, NoMemory>
+        ensures { IfOk result (λ library. library ≡ catalog.now ++ clock_source_table ∷ []) }
+    {
+        Ok(Library {
+            catalog,
+            clock_source: clock_source(alloc)?,
+        })
+    }
+
+    /// The place of a type.
+    pub fn find(&self, name: &str) -> Option<usize>
+        ensures { result ≡ type_place self.now name.now }
+    {
+        if let Some(k) = self.catalog.find(name) {
+            return Some(k);
+        }
+        if name == "clock_source" {
+            return Some(self.catalog.len());
+        }
+        None
+    }
+
+    /// The component at a place.
+    pub fn component(&self, k: usize) -> Option<&Component>
+        ensures { option_copied result ≡ slice_get self.now k }
+    {
+        if k == self.catalog.len() {
+            return Some(&self.clock_source);
+        }
+        self.catalog.component(k)
+    }
+
+    /// The interfaces of each component.
+    pub fn interfaces(&self, alloc: Global) -> Result<List<List<InterfaceTable>>, NoMemory>
+        ensures interfaces { IfOk result (λ copy. copy ≡ interfaces_of self.now) }
+        ensures made { OnOk result (All IsComponent self.now) }
+    {
+        let mut copy = List::new(alloc);
+        for component in self.catalog.components() {
+            component.well_made();
+            copy.push(copy_interfaces(alloc, component.interfaces())?)?;
+        }
+        self.clock_source.well_made();
+        copy.push(copy_interfaces(alloc, self.clock_source.interfaces())?)?;
+        Ok(copy)
+    }
+}
+
+/// Interfaces of a component that no file states.
+#[derive(Drop)]
+struct BuiltIn {
+    names: Names,
+    interfaces: Vec<InterfaceTable>,
+}
+
+impl BuiltIn {
+    /// Adds an interface with no clock of its own and no roles.
+    fn add(&mut self, alloc: Global, name: &str, kind: Kind, side: Side) -> Result<(), NoMemory>
+        requires { IsNone (place_of self.old.names name.now) }
+        ensures names { OnOk result (self.new.names ≡ self.old.names ++ name.now ∷ []) }
+        ensures interfaces { OnOk result
+            (self.new.interfaces.items ≡ self.old.interfaces.items ++ built_in name.now kind side ∷ []) }
+    {
+        self.names.add(alloc, name)?;
+        self.interfaces.push(InterfaceTable {
+            name: Text::copy(alloc, name)?,
+            kind,
+            side,
+            clock: Text::copy(alloc, "")?,
+            finished: Finished::Other,
+        })?;
+        Ok(())
+    }
+}
+
+/// The built-in source of a clock and of its reset.
+fn clock_source(alloc: Global) -> Result<Component, NoMemory>
+    ensures { IfOk result (λ component. component ≡ clock_source_table) }
+{
+    let mut source = BuiltIn {
+        names: Names::new(alloc),
+        interfaces: Vec::new(alloc),
+    };
+    source.add(alloc, "clk_in", Kind::Clock, Side::End)?;
+    source.add(alloc, "clk_in_reset", Kind::Reset, Side::End)?;
+    source.add(alloc, "clk", Kind::Clock, Side::Start)?;
+    source.add(alloc, "clk_reset", Kind::Reset, Side::Start)?;
+    let name = Text::copy(alloc, "clock_source")?;
+    let place = Place {
+        file: 0,
+        line: 0,
+        byte: 0,
+    };
+    let BuiltIn { names, interfaces } = source;
+    Ok(Component::new(name, place, names, interfaces))
+}

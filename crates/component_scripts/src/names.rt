@@ -1,0 +1,57 @@
+ghost use Rattle.std.specs.Prelude.{◌≡◌, ◌++◌, ◌∷◌, [], length, OnOk, OnErr, IsNone};
+ghost use Rattle.std.specs.List.{IsDistinct};
+ghost use Rattle.std.specs.Str.{bytes_eq};
+ghost use Rattle.component_scripts.specs.Names.{place_of};
+
+use av_base::NoMemory;
+use indexmap::IndexSet;
+use std::alloc::Global;
+use std::marker::Model;
+
+/// Names by number, in the order in which they were added.
+#[derive(Drop)]
+pub struct Names {
+    names: IndexSet<String>,
+}
+
+impl Model for Names {
+    ghost use Rattle.std.specs.Prelude.{ℕ, List, map, string_bytes};
+
+    ghost Value = { List (List ℕ) };
+
+    ghost view = { λ n. map string_bytes n.names.keys };
+}
+
+impl Names {
+    pub fn new(alloc: Global) -> Names
+        ensures { result ≡ [] }
+    {
+        Names {
+            names: IndexSet::new(alloc),
+        }
+    }
+
+    /// The number of a name.
+    pub fn find(&self, name: &str) -> Option<usize>
+        ensures { result ≡ place_of self.now name.now }
+    {
+        self.names.get_index_of(name)
+    }
+
+    /// No two names are the same.
+    pub fn distinct(&self)
+        ensures { IsDistinct bytes_eq self.now }
+    {
+        let _ = self.names.len();
+    }
+
+    /// Adds a name that isn't there yet.
+    pub fn add(&mut self, alloc: Global, name: &str) -> Result<(), NoMemory>
+        requires { IsNone (place_of self.old name.now) }
+        ensures ok { OnOk result (self.new ≡ self.old ++ name.now ∷ []) }
+        ensures err { OnErr result (self.new ≡ self.old) }
+    {
+        self.names.insert(String::from_str(alloc, name)?)?;
+        Ok(())
+    }
+}

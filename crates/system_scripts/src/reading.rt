@@ -1,0 +1,23 @@
+ghost use Rattle.std.specs.Prelude.{◌≡◌, Ok, IfOk, IfErr};
+ghost use Rattle.component_scripts.specs.Component.{IsFaultOf};
+ghost use Rattle.system_scripts.specs.Clocks.{system_of};
+
+use crate::system_draft::SystemDraft;
+use component_scripts::{Catalog, Library, ScriptFault};
+use std::alloc::Global;
+use system_tables::System;
+use tcl_words::Commands;
+
+/// The system that a file states over the components of a catalog, or the first rule that refuses it.
+pub fn read_system(
+    alloc: Global,
+    commands: &Commands,
+    catalog: &Catalog,
+) -> Result<System, ScriptFault>
+    ensures accepted { IfOk result (λ system. system_of catalog.now commands.now ≡ Ok system) }
+    ensures refused { IfErr result (λ fault. IsFaultOf fault (system_of catalog.now commands.now)) }
+{
+    let library = Library::new(alloc, catalog)?;
+    let draft = SystemDraft::read(alloc, commands, &library)?;
+    draft.finish(alloc, &library, commands.end())
+}

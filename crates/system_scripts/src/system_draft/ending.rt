@@ -1,0 +1,193 @@
+ghost use Rattle.std.specs.Prelude.{◌≡◌, IfOk};
+ghost use Rattle.system_scripts.specs.Clocks.{fits_clock, end_id};
+
+use super::SystemDraft;
+use crate::joints::{Joint, Terminal};
+use crate::roots::Roots;
+use av_base::{List, NoMemory, Place};
+use component_scripts::{Library, ScriptFault, ScriptRule};
+use std::alloc::Global;
+use system_tables::{Connection, EndId, System};
+
+/// The number of an end, where there is room for it.
+fn number(k: usize) -> Result<u32, NoMemory>
+    ensures { IfOk result (λ number. number ≡ k) }
+{
+    u32::try_from(k).map_err(|_| NoMemory)
+}
+
+fn end_id(end: Terminal) -> Result<EndId, NoMemory>
+    ensures { IfOk result (λ id. id ≡ end_id end) }
+{
+    Ok(EndId {
+        instance: number(end.instance)?,
+        interface: number(end.interface)?,
+    })
+}
+
+/// Whether an end of this root is not on another clock than the system's.
+fn fits_clock(clock: Option<Terminal>, root: Option<Terminal>) -> bool
+    ensures { result ≡ fits_clock clock root }
+{
+    match (clock, root) {
+        (Some(clock), Some(root)) => root == clock,
+        _ => true,
+    }
+}
+
+impl SystemDraft {
+    ghost use Rattle.std.specs.Prelude.{map, IfErr, IsSome, OnErr, OnOk, None, Ok};
+    ghost use Rattle.std.specs.Option.{option_or};
+    ghost use Rattle.system_scripts.specs.Clocks.{
+      clock_of,
+      AreRootsOf,
+      root_of,
+      system_clock,
+      logic_joints,
+      connection_of,
+      no_system,
+      ended_system,
+    };
+    ghost use Rattle.component_scripts.specs.Component.{IsFaultOf};
+    ghost use Rattle.system_scripts.specs.Sound.{IsSoundSystemDraft};
+
+    /// The end of the clock that the interface at an end names.
+    #[tactic(auto, unfolding(crate::specs::Clocks::clock_of))]
+    fn clock_of(&self, library: &Library<'_>, end: Terminal) -> Option<Terminal>
+        ensures { result ≡ clock_of library.now self.now.instances end }
+    {
+        let component = self.component_at(library, end.instance)?;
+        let interface = component.interfaces().get(end.interface)?;
+        let clock = interface.clock.as_str();
+        if clock.is_empty() {
+            return None;
+        }
+        let place = component.find(clock)?;
+        Some(Terminal {
+            instance: end.instance,
+            interface: place,
+        })
+    }
+
+    /// Where the clock of the interface at an end comes from.
+    #[tactic(auto, unfolding(crate::specs::Clocks::root_of))]
+    fn root_of(&self, library: &Library<'_>, roots: &Roots, end: Terminal) -> Option<Terminal>
+        requires { AreRootsOf self.now.joints roots.now }
+        ensures { result ≡ root_of library.now self.now end }
+    {
+        roots.source(self.clock_of(library, end)?)
+    }
+
+    /// The root of a connection: its start's, or else its end's.
+    fn root_at(&self, library: &Library<'_>, roots: &Roots, joint: &Joint) -> Option<Terminal>
+        requires { AreRootsOf self.now.joints roots.now }
+        ensures { result ≡ option_or (root_of library.now self.now joint.now.start) (root_of library.now self.now joint.now.end) }
+    {
+        match self.root_of(library, roots, joint.start) {
+            Some(root) => Some(root),
+            None => self.root_of(library, roots, joint.end),
+        }
+    }
+
+    /// The system's clock: the first root of a connection of hosts or streams.
+    #[tactic(auto, unfolding(crate::specs::Clocks::system_clock))]
+    fn clock(&self, library: &Library<'_>, roots: &Roots) -> Option<Terminal>
+        requires { AreRootsOf self.now.joints roots.now }
+        ensures { result ≡ system_clock library.now self.now }
+    {
+        for joint in self.joints.as_slice() {
+            if joint.kind.is_avalon() {
+                if let Some(root) = self.root_at(library, roots, joint) {
+                    return Some(root);
+                }
+            }
+        }
+        None
+    }
+
+    #[tactic(auto, unfolding(crate::specs::Clocks::connection_of))]
+    fn connection(
+        &self,
+        library: &Library<'_>,
+        roots: &Roots,
+        clock: Option<Terminal>,
+        joint: &Joint,
+    ) -> Result<Connection, NoMemory>
+        requires { AreRootsOf self.now.joints roots.now }
+        ensures { IfOk result (λ connection. connection ≡ connection_of library.now self.now clock joint.now) }
+    {
+        let start_fits = fits_clock(clock, self.root_of(library, roots, joint.start));
+        let end_fits = fits_clock(clock, self.root_of(library, roots, joint.end));
+        Ok(Connection {
+            start: end_id(joint.start)?,
+            end: end_id(joint.end)?,
+            kind: joint.kind,
+            base: joint.base,
+            shares: joint.shares,
+            fifo: joint.fifo,
+            clock_fits: start_fits && end_fits,
+        })
+    }
+
+    /// The connections of hosts to agents and of sources to sinks.
+    fn connections(
+        &self,
+        alloc: Global,
+        library: &Library<'_>,
+    ) -> Result<List<Connection>, NoMemory>
+        ensures { IfOk result (λ connections. connections
+            ≡ map (connection_of library.now self.now (system_clock library.now self.now)) (logic_joints self.now.joints)) }
+    {
+        let roots = Roots::of(alloc, self.joints.as_slice())?;
+        let clock = self.clock(library, &roots);
+        let mut connections = List::new(alloc);
+        for joint in self.joints.as_slice() {
+            if joint.kind.is_avalon() {
+                connections.push(self.connection(library, &roots, clock, joint)?)?;
+            }
+        }
+        Ok(connections)
+    }
+
+    /// Whether a system was created, by the end of its file.
+    fn check_created(&self, end: Place) -> Result<(), ScriptFault>
+        ensures accepted { OnOk result (IsSome self.now.name) }
+        ensures refused { IfErr result (λ fault. IsFaultOf fault (no_system end)) }
+        ensures missing { OnErr result (self.now.name ≡ None) }
+    {
+        if self.name.is_none() {
+            return Err(ScriptFault::Refused {
+                place: end,
+                rule: ScriptRule::Command(13),
+            });
+        }
+        Ok(())
+    }
+
+    /// The system that the commands state, once they end here.
+    pub fn finish(
+        self,
+        alloc: Global,
+        library: &Library<'_>,
+        end: Place,
+    ) -> Result<System, ScriptFault>
+        requires { IsSoundSystemDraft library.now self }
+        ensures accepted { IfOk result (λ system. ended_system end library.now self self.name ≡ Ok system) }
+        ensures refused { IfErr result (λ fault. IsFaultOf fault (ended_system end library.now self self.name)) }
+    {
+        self.check_created(end)?;
+        let components = library.interfaces(alloc)?;
+        let connections = self.connections(alloc, library)?;
+        let SystemDraft {
+            name,
+            stages,
+            names: _,
+            instances,
+            exported: _,
+            links: _,
+            joints: _,
+            taken: _,
+        } = self;
+        Ok(System::new(name.unwrap(), stages, components, instances, connections))
+    }
+}
