@@ -10,6 +10,7 @@ use Rattle.system_tables.specs.Tables.{InstanceTable, SystemTable}
 use Rattle.address_map.specs.Footprints.{known_at}
 use Rattle.address_map.specs.Maps.{hosts_of, agents_of}
 use Rattle.link_rules.specs.Links.{streams_of}
+use Rattle.link_rules.specs.Plans.{instance_name_at, interface_name_at}
 use Rattle.netlist.specs.declared.line.PortLine.{PortLine}
 use Rattle.stream_runs.specs.Ends.{Declared}
 use Rattle.stream_path.specs.Joining.{declared}
@@ -145,16 +146,6 @@ starts Other = false
 pub record EndName : Type 0 where
   pub instance : List ℕ
   pub interface : List ℕ
-
-abbrev pub instance_name_at : SystemTable → EndId → List ℕ
-instance_name_at system end = option_map_or (λ instance. instance.name) (slice_get system.instances end.instance) []
-
-abbrev pub interface_name_of : Option InstanceTable → ℕ → List ℕ
-interface_name_of None interface = []
-interface_name_of (Some instance) interface = option_map_or (λ table. table.name) (slice_get instance.interfaces interface) []
-
-abbrev pub interface_name_at : SystemTable → EndId → List ℕ
-interface_name_at system end = interface_name_of (slice_get system.instances end.instance) end.interface
 
 abbrev pub name_at : SystemTable → EndId → EndName
 name_at system end = record { instance = instance_name_at system end; interface = interface_name_at system end }

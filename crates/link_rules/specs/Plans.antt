@@ -1,20 +1,27 @@
 -- A plan: a system that no rule and no limit refuses, and the maps of its hosts.
-use Rattle.std.specs.Prelude.{◌≡◌, ℕ, List, Option, Some, None, slice_get}
-use Rattle.std.specs.Option.{option_map}
+use Rattle.std.specs.Prelude.{◌≡◌, ℕ, List, [], Option, Some, None, slice_get}
+use Rattle.std.specs.Option.{option_map_or}
 use Rattle.system_tables.specs.declared.tables.EndId.{EndId}
 use Rattle.system_tables.specs.Tables.{SystemTable, InstanceTable, IsSystem}
 use Rattle.address_map.specs.declared.host_map.MapEntry.{MapEntry}
 use Rattle.address_map.specs.Maps.{AreMapsOf, hosts_of, agents_of}
 use Rattle.link_rules.specs.Links.{KeepsLinkRules, limit_tests, streams_of}
 use Rattle.link_rules.specs.Pairs.{KeepsAll}
+use Rattle.link_rules.specs.PlanLinks.{stream_links, memory_links}
+use Rattle.link_rules.specs.declared.plan_links.MemoryLink.{MemoryLink}
+use Rattle.link_rules.specs.declared.plan_links.StreamLink.{StreamLink}
+
+-- the name of the instance at an end; empty where there is none
+abbrev pub instance_name_at : SystemTable → EndId → List ℕ
+instance_name_at system end = option_map_or (λ instance. instance.name) (slice_get system.instances end.instance) []
 
 -- the name of an interface of the instance
-abbrev pub interface_name_of : Option InstanceTable → ℕ → Option (List ℕ)
-interface_name_of None interface = None
-interface_name_of (Some instance) interface = option_map (λ table. table.name) (slice_get instance.interfaces interface)
+abbrev pub interface_name_of : Option InstanceTable → ℕ → List ℕ
+interface_name_of None interface = []
+interface_name_of (Some instance) interface = option_map_or (λ table. table.name) (slice_get instance.interfaces interface) []
 
--- the name of the interface at an end
-abbrev pub interface_name_at : SystemTable → EndId → Option (List ℕ)
+-- the name of the interface at an end; empty where there is none
+abbrev pub interface_name_at : SystemTable → EndId → List ℕ
 interface_name_at system end = interface_name_of (slice_get system.instances end.instance) end.interface
 
 pub record PlanTable : Type 0 where
@@ -29,8 +36,10 @@ pub record IsPlan (plan : PlanTable) : Type 0 where
   pub limits : KeepsAll (limit_tests plan.system)
 
 -- what is kept beside a plan
-pub record AreNumbered (plan : PlanTable) (hosts agents : List EndId) (streams : List ℕ) : Type 0 where
+pub record AreNumbered (plan : PlanTable) (hosts agents : List EndId) (streams : List ℕ) (stream_list : List StreamLink) (memory_list : List MemoryLink) : Type 0 where
   pub is_plan : IsPlan plan
   pub hosts_are : hosts ≡ hosts_of plan.system
   pub agents_are : agents ≡ agents_of plan.system
   pub streams_are : streams ≡ streams_of plan.system
+  pub stream_links_are : stream_list ≡ stream_links plan.system
+  pub memory_links_are : memory_list ≡ memory_links plan.system

@@ -2,10 +2,14 @@
 #![tactic(auto)]
 
 mod faults;
+mod laws;
 mod links;
 mod pairs;
 mod plan;
+mod plan_links;
 
 pub use faults::{LinkRule, PlanFault};
+pub use laws::{ends_are_known, links_keep_rules, memory_links_are_numbered, streams_are_numbered};
 pub use pairs::{check_mm, check_st};
 pub use plan::Plan;
+pub use plan_links::{MemoryLink, StreamLink};
