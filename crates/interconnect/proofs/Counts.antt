@@ -8,8 +8,8 @@ use Rattle.system_tables.specs.declared.tables.Connection.{Connection}
 use Rattle.system_tables.specs.Tables.{SystemTable, Joins}
 use Rattle.address_map.specs.Maps.{is_mm, mm_connections}
 use Rattle.link_rules.specs.Links.{is_stream}
-use Rattle.interconnect.proofs.EndFacts.{IsPlanned}
-use Rattle.interconnect.proofs.Numbering.{number_of}
+use Rattle.port_tables.specs.EndFacts.{IsPlanned}
+use Rattle.port_tables.specs.Numbering.{number_of}
 
 -- a connection is of one kind or the other
 abbrev IsOfKind : Connection → Type 0

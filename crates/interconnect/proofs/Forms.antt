@@ -1,22 +1,22 @@
 -- What is built: that the ends of each stream keep what a path rests on, and which of them are joined by a wire.
-use Rattle.std.proofs.Common.{◌≡◌, ℕ, zero, suc, ◌+◌, ◌*◌, ◌<◌, ◌≤◌, Bool, true, false, ◌&&◌, ◌||◌, not, cond, List, [], ◌∷◌, slice_get, Option, Some, None, refl, sym, subst, ◌∙◌, arith}
+use Rattle.std.proofs.Common.{◌≡◌, ℕ, zero, suc, ◌+◌, ◌*◌, ◌≤◌, Bool, true, false, ◌&&◌, ◌||◌, not, cond, List, [], ◌∷◌, slice_get, Some, None, refl, sym, subst, arith}
 use Rattle.std.specs.Prelude.{nat_le, nat_lt, ◌%◌, if◌then◌else◌, ◌==◌}
 use Rattle.std.specs.List.{position_from}
 use Rattle.std.proofs.lemmas.Bool.{and_parts, or_parts, eqb-true, leb-true, ltb-false, lt-ltb, false≢true}
 use Rattle.iface_roles.specs.declared.records.Finished.{Finished}
 use Rattle.iface_roles.specs.declared.records.Finished.TheVariants.{Source, Sink}
-use Rattle.iface_roles.specs.declared.records.StreamPort.{StreamPort}
 use Rattle.iface_roles.specs.Proper.{IsBoundedStream}
 use Rattle.system_tables.specs.declared.tables.Connection.{Connection}
 use Rattle.system_tables.specs.Tables.{SystemTable}
+use Rattle.iface_roles.specs.declared.records.StreamPort.{StreamPort}
 use Rattle.address_map.specs.Footprints.{known_at}
 use Rattle.link_rules.specs.Pairs.{KeepsAll, stream_tests, is_multiple}
 use Rattle.link_rules.specs.Links.{tests_as}
 use Rattle.stream_runs.specs.Ends.{Declared, AreAlike, pace_of}
 use Rattle.stream_path.specs.Joining.{declared, IsStrict, FitsPorts, CanJoin}
 use Rattle.interconnect.specs.Wires.{both_or_neither, has_same_beats, has_plain_ready, is_wire_stream, is_built, pending_of}
-use Rattle.interconnect.specs.Ends.{IsStreamPlace}
-use Rattle.interconnect.proofs.EndFacts.{IsPlanned}
+use Rattle.port_tables.specs.Ends.{IsStreamPlace}
+use Rattle.port_tables.specs.EndFacts.{IsPlanned}
 
 -- ---- what is built
 

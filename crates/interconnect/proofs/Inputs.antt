@@ -1,5 +1,5 @@
 -- The nets at the inputs of a stream.
-use Rattle.std.proofs.Common.{◌≡◌, ℕ, zero, suc, ◌+◌, ◌*◌, ◌<◌, ◌≤◌, ◌^◌, Bool, true, false, List, Option, Some, None, slice_get, length, inl, inr, refl, sym, ap, subst, ◌∙◌, arith}
+use Rattle.std.proofs.Common.{◌≡◌, ℕ, ◌+◌, ◌*◌, ◌<◌, ◌≤◌, ◌^◌, Bool, true, false, List, Option, Some, None, slice_get, length, inl, inr, refl, sym, ap, subst, ◌∙◌, arith}
 use Rattle.std.specs.Prelude.{IfSome, IsSome, is_some, option_map, nat_lt, if◌then◌else◌}
 use Rattle.std.proofs.lemmas.Bool.Decides.{Decides-ltb}
 use Rattle.iface_roles.specs.declared.records.Finished.{Finished}
@@ -21,24 +21,24 @@ use Rattle.stream_path.specs.Ends.{IsNetIf, AreSourceNets, ArePathNets}
 use Rattle.stream_path.specs.Serving.{most_nets, ServesInLonger}
 use Rattle.stream_path.specs.declared.ends.SourceNets.{SourceNets}
 use Rattle.stream_path.specs.declared.ends.PathNets.{PathNets}
-use Rattle.interconnect.specs.declared.roles.Role.{Role}
-use Rattle.interconnect.specs.declared.roles.Role.TheVariants as role
-use Rattle.interconnect.specs.declared.roles.RolePort.{RolePort}
-use Rattle.interconnect.specs.Ports.{is_output, bits_if, port_of, stream_ports, ends_of, ports_of}
-use Rattle.interconnect.specs.PortMaps.{port_at}
-use Rattle.interconnect.specs.Ends.{IsStreamPlace}
+use Rattle.port_tables.specs.declared.roles.Role.{Role}
+use Rattle.port_tables.specs.declared.roles.Role.TheVariants as role
+use Rattle.port_tables.specs.declared.roles.RolePort.{RolePort}
+use Rattle.port_tables.specs.Ports.{is_output, bits_if, port_of, stream_ports, ends_of, ports_of}
+use Rattle.port_tables.specs.PortMaps.{port_at, IsPortIf}
+use Rattle.port_tables.specs.Ends.{IsStreamPlace}
+use Rattle.port_tables.proofs.Headers.{inputs-few}
+use Rattle.port_tables.proofs.PortPlaces.{port_known}
 use Rattle.interconnect.specs.Wires.{is_wire, is_wire_as, is_wire_at, is_wire_stream, wires_before}
 use Rattle.interconnect.specs.Streams.{low_line}
 use Rattle.interconnect.specs.Joins.{IsInputIf, input_at, AreInputs, wire_nets, low_at, AddsStream, IsJoinedUpTo}
-use Rattle.interconnect.proofs.EndFacts.{IsPlanned, known_is, known_proper}
+use Rattle.port_tables.specs.EndFacts.{IsPlanned, known_is, known_proper}
 use Rattle.interconnect.proofs.Forms.{wire_is, can_join}
-use Rattle.interconnect.proofs.Headers.{inputs-few}
-use Rattle.interconnect.proofs.Numbering.{plan_end}
-use Rattle.interconnect.proofs.PortPlaces.{IsPortIf, port_known}
+use Rattle.port_tables.specs.Numbering.{plan_end}
 use Rattle.interconnect.proofs.Joining.{finish_among}
 use Rattle.interconnect.proofs.WireNets.{WiresAreServed, wire_serves, wire_path, low_bit, grows-none}
 use Rattle.interconnect.proofs.StreamModules.{mul_some, wire_below}
-use Rattle.interconnect.proofs.Lists.{Among}
+use Rattle.port_tables.specs.Lists.{Among}
 
 -- ---- one input
 

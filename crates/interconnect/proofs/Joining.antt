@@ -24,16 +24,17 @@ use Rattle.stage_core.specs.Beats.{IsNetOfWidth, IsBit}
 use Rattle.stream_path.specs.Joining.{declared}
 use Rattle.stream_path.specs.Ends.{IsNetWhere, ArePathNets}
 use Rattle.stream_path.specs.declared.ends.PathNets.{PathNets}
-use Rattle.interconnect.specs.declared.roles.Role.{Role}
-use Rattle.interconnect.specs.declared.roles.Role.TheVariants as role
-use Rattle.interconnect.specs.Ports.{bits_if, port_of, is_forward, connection_ends, ends_of, ports_of}
-use Rattle.interconnect.specs.Ends.{IsStreamPlace}
+use Rattle.port_tables.specs.declared.roles.Role.{Role}
+use Rattle.port_tables.specs.declared.roles.Role.TheVariants as role
+use Rattle.port_tables.specs.Ports.{bits_if, port_of, is_forward, connection_ends, ends_of, ports_of}
+use Rattle.port_tables.specs.Ends.{IsAnEnd, IsStreamPlace}
+use Rattle.port_tables.specs.PortMaps.{IsPortIf}
+use Rattle.port_tables.proofs.PortPlaces.{port_known, one_role}
 use Rattle.interconnect.specs.Streams.{IsStream, low_line}
-use Rattle.interconnect.specs.Joins.{IsAnEnd, output_roles, output_end, output_at, net_for, HasSameNets, MayDrive, MayDriveAll, AreDrivenBelow, AreDriven, IsNoOutput, AreUndriven, low_at, AddsStream, IsJoinedStream, IsJoinedUpTo}
-use Rattle.interconnect.proofs.EndFacts.{IsPlanned}
-use Rattle.interconnect.proofs.Numbering.{ends_at, stream_number, distinct_streams}
-use Rattle.interconnect.proofs.PortPlaces.{IsPortIf, port_known, one_end_of, one_role_of, among_flat}
-use Rattle.interconnect.proofs.Lists.{Among, among_at, at_among, among_back, Distinct}
+use Rattle.interconnect.specs.Joins.{output_roles, output_end, output_at, net_for, HasSameNets, MayDrive, MayDriveAll, AreDrivenBelow, AreDriven, IsNoOutput, AreUndriven, low_at, AddsStream, IsJoinedStream, IsJoinedUpTo}
+use Rattle.port_tables.specs.EndFacts.{IsPlanned}
+use Rattle.port_tables.specs.Numbering.{ends_at, stream_number, distinct_streams}
+use Rattle.port_tables.specs.Lists.{Among, among_at, at_among, among_back, Distinct, among_flat}
 
 -- ---- numbers
 
@@ -195,7 +196,7 @@ pub record AreEnds (system : SystemTable) (connection : Connection) : Type 0 whe
 -- a port that is this output is none of the earlier ones
 no_earlier : (system : SystemTable) (connection : Connection) (i k : ℕ) (r : Role) → AreEnds system connection → slice_get output_roles i ≡ Some r → output_at system connection r ≡ Some k → IsNoOutput i system connection k
 no_earlier system connection i k r h e here n s below f there =
-    let same = one_role_of system (output_end connection s) (output_end connection r) s r k h.planned (output_among system connection s h.start h.end) (output_among system connection r h.start h.end) there here in
+    let same = (one_role system (output_end connection s) (output_end connection r) s r k h.planned (output_among system connection s h.start h.end) (output_among system connection r h.start h.end) there here).role in
     let one = place_is n s f in
     let other = place_is i r e in
     let places = ap place_of same in
@@ -409,8 +410,8 @@ other_output system m n k a b source sink r h at is less here i s below f there 
     let ends = place_of_stream system n b source sink is in
     let mine = output_among system a s (start_among system m a at) (finish_among system m a at) in
     let other = output_among system b r ends.0 ends.1 in
-    let roles = one_role_of system (output_end a s) (output_end b r) s r k h mine other there here in
-    let same = one_end_of system (output_end a s) (output_end b r) s r k h mine other there here in
+    let roles = (one_role system (output_end a s) (output_end b r) s r k h mine other there here).role in
+    let same = (one_role system (output_end a s) (output_end b r) s r k h mine other there here).end in
     let shared : output_end a r ≡ output_end b r = ap (output_end a) (sym roles) ∙ same in
     let one = one_stream_by system m n a b source sink h at is (shared_end a b r shared) in
     absurd (omega (arith, one, less))

@@ -1,13 +1,4 @@
-pub mod Lists
-pub mod Names
-pub mod EndFacts
-pub mod Numbering
-pub mod Words
-pub mod PortForms
-pub mod Headers
 pub mod Counts
-pub mod Signals
-pub mod PortPlaces
 pub mod Forms
 pub mod Joining
 pub mod WireNets

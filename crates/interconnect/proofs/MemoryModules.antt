@@ -23,24 +23,24 @@ use Rattle.netlist.specs.declared.line.Line.{Line}
 use Rattle.netlist.specs.declared.line.PortLine.{PortLine}
 use Rattle.netlist.specs.Netlists.{Netlist, started}
 use Rattle.mm_machines.specs.BoundedWire.{WireForm, IsWireForm}
-use Rattle.interconnect.specs.declared.roles.Role.TheVariants as role
-use Rattle.interconnect.specs.declared.roles.RolePort.{RolePort}
+use Rattle.port_tables.specs.declared.roles.Role.TheVariants as role
+use Rattle.port_tables.specs.declared.roles.RolePort.{RolePort}
+use Rattle.port_tables.proofs.Headers.{inputs-few, inputs-ends, end_named, one_end}
 use Rattle.interconnect.specs.declared.memory.MemoryForm.{MemoryForm}
-use Rattle.interconnect.specs.Ports.{EndName, bits_if, port_of, host_ports, agent_ports, has_bits, role_ports, name_at, port_line, known_ports, end_ports, connection_ends, ends_of, ports_of, module_name}
+use Rattle.port_tables.specs.Ports.{EndName, bits_if, port_of, host_ports, agent_ports, has_bits, role_ports, name_at, port_line, known_ports, end_ports, connection_ends, ends_of, ports_of, module_name}
 use Rattle.interconnect.specs.Wires.{is_wire_host, is_wire_agent, fills_range, is_wire_memory, is_alone, is_built_as, is_built, pending_of}
 use Rattle.interconnect.specs.Streams.{IsStream}
 use Rattle.interconnect.specs.Memory.{IsMemory, form_of, ServesMemory}
 use Rattle.interconnect.specs.MemoryNets.{Wire, bounded_form, memory_ports, header, wire_places, IsOnlyMemory}
 use Rattle.interconnect.specs.declared.memory.WirePlaces.{WirePlaces}
 use Rattle.interconnect.specs.Interconnect.{IsInterconnect}
-use Rattle.interconnect.proofs.EndFacts.{IsPlanned, known_is}
-use Rattle.interconnect.proofs.Numbering.{JoinsMm, mm_among, among_once, number_of}
+use Rattle.port_tables.specs.EndFacts.{IsPlanned, known_is}
+use Rattle.port_tables.specs.Numbering.{JoinsMm, mm_among, among_once, number_of}
 use Rattle.interconnect.proofs.Forms.{all_built, same_flag}
-use Rattle.interconnect.proofs.Headers.{end_named, one_end, inputs-few, inputs-ends}
 use Rattle.interconnect.proofs.MemoryNames.{AreApart}
 use Rattle.interconnect.proofs.MemoryWires.{IsBegun, IsMemoryModule}
 use Rattle.interconnect.proofs.StreamModules.{length-input_lines}
-use Rattle.interconnect.proofs.Lists.{Among, at_among, among_map, among_filter}
+use Rattle.port_tables.specs.Lists.{Among, at_among, among_map, among_filter}
 
 -- ---- the only connection
 

@@ -7,9 +7,9 @@ use Rattle.std.proofs.lemmas.List.{map-append}
 use Rattle.std.proofs.lemmas.Slice.Eq.{bytes_eq-Decides}
 use Rattle.netlist.specs.declared.line.PortLine.{PortLine}
 use Rattle.netlist.specs.Signals.{port_named}
-use Rattle.interconnect.specs.declared.roles.RolePort.{RolePort}
-use Rattle.interconnect.specs.Ports.{EndName, role_word, port_name, port_line}
-use Rattle.interconnect.proofs.Names.{IsNamed, one_name}
+use Rattle.port_tables.specs.declared.roles.RolePort.{RolePort}
+use Rattle.port_tables.specs.Ports.{EndName, role_word, port_name, port_line}
+use Rattle.port_tables.proofs.Names.{IsNamed, one_name}
 
 abbrev pub same : List ℕ → List ℕ → Bool
 same = bytes_eq

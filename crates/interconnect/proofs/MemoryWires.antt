@@ -25,10 +25,10 @@ use Rattle.mm_wire.specs.declared.nets.WireNets.{WireNets}
 use Rattle.mm_wire.specs.Nets.{IsNetOfWidth, IsRegister}
 use Rattle.mm_wire.specs.Wires.{AreHostNets, AreAgentNets, AreWireNets, RunsAsWire, IgnoresWord}
 use Rattle.mm_wire.specs.Wires as wires
-use Rattle.interconnect.specs.Ports.{EndName, port_of}
+use Rattle.port_tables.specs.Ports.{EndName, port_of}
 use Rattle.interconnect.specs.Memory.{host_view, agent_view, shown_run, moment_in, standing_still, CanShow, plan_of, ServesMemory}
 use Rattle.interconnect.specs.MemoryNets.{Wire, bounded_form, memory_ports, header, wire_places, AreHostInputs, AreAgentInputs, host_nets_at, agent_nets_at, AddsWire, CanDrive, driven_by, wire_drivers}
-use Rattle.interconnect.specs.declared.roles.Role.TheVariants.{Grant}
+use Rattle.port_tables.specs.declared.roles.Role.TheVariants.{Grant}
 use Rattle.interconnect.specs.declared.memory.MemoryForm.{MemoryForm}
 use Rattle.interconnect.specs.declared.memory.Driver.{Driver}
 use Rattle.interconnect.specs.declared.memory.WirePlaces.{WirePlaces}

@@ -22,21 +22,21 @@ use Rattle.stream_runs.specs.Ends.{Declared, Signals, side_of, view_of, signal_o
 use Rattle.stream_path.specs.Joining.{declared}
 use Rattle.stream_path.specs.Ends.{signal_on, signal_of, signal_where, source_signals, sink_signals}
 use Rattle.stream_path.specs.declared.ends.PathNets.{PathNets}
-use Rattle.interconnect.specs.declared.roles.Role.{Role}
-use Rattle.interconnect.specs.declared.roles.Role.TheVariants as role
-use Rattle.interconnect.specs.declared.roles.RolePort.{RolePort}
-use Rattle.interconnect.specs.Ports.{role_word, is_forward, is_output, bits_if, port_of, port_name, stream_ports, has_bits, name_at, ports_of}
-use Rattle.interconnect.specs.PortMaps.{port_at}
-use Rattle.interconnect.specs.Ends.{IsStreamPlace}
+use Rattle.port_tables.specs.declared.roles.Role.{Role}
+use Rattle.port_tables.specs.declared.roles.Role.TheVariants as role
+use Rattle.port_tables.specs.declared.roles.RolePort.{RolePort}
+use Rattle.port_tables.specs.Ports.{role_word, is_forward, is_output, bits_if, port_of, port_name, stream_ports, has_bits, name_at, ports_of}
+use Rattle.port_tables.specs.PortMaps.{port_at, IsPortIf}
+use Rattle.port_tables.specs.Ends.{IsStreamPlace}
+use Rattle.port_tables.proofs.PortPlaces.{port_known}
 use Rattle.interconnect.specs.Wires.{is_wire_stream, is_wire_as, is_wire_at, wires_before}
 use Rattle.interconnect.specs.Streams.{end_signals, dropped_signal, ServesStream, IsDrivenBy, IsJoined, IsWired, low_line}
 use Rattle.interconnect.specs.Joins.{input_at, wire_nets, output_roles, output_at, net_for, low_at, IsJoinedStream}
-use Rattle.interconnect.proofs.EndFacts.{IsPlanned}
+use Rattle.port_tables.specs.EndFacts.{IsPlanned}
 use Rattle.interconnect.proofs.Forms.{IsWire, wire_is}
-use Rattle.interconnect.proofs.PortPlaces.{IsPortIf, port_known}
 use Rattle.interconnect.proofs.Joining.{start_among, finish_among, extends-refl, output_width, outputs_are}
 use Rattle.interconnect.proofs.WireNets.{same_signals}
-use Rattle.interconnect.proofs.Lists.{Among, among_at, among_filter}
+use Rattle.port_tables.specs.Lists.{Among, among_at, among_filter}
 
 -- a stream in a finished netlist
 pub record IsJoinedIn (system : SystemTable) (number : ℕ) (connection : Connection) (netlist : Netlist) : Type 0 where

@@ -25,23 +25,23 @@ use Rattle.netlist.specs.Nets.{NetValue, net_of}
 use Rattle.netlist.specs.Netlists.{Netlist, IsDriven, IsClocked, IsWritten, IsWellMade, driver_of, input_count, input_lines, line_of, started, appended}
 use Rattle.stage_core.specs.Growth.{StillWait}
 use Rattle.stream_path.specs.Joining.{declared}
-use Rattle.interconnect.specs.declared.roles.Role.TheVariants as role
-use Rattle.interconnect.specs.declared.roles.RolePort.{RolePort}
-use Rattle.interconnect.specs.Ports.{is_output, port_of, port_line, stream_ports, may_have, has_bits, connection_ends, end_ports, ends_of, ports_of, module_name, role_ports, starts, name_at}
-use Rattle.interconnect.specs.PortMaps.{port_at}
-use Rattle.interconnect.specs.Ends.{IsStreamPlace}
+use Rattle.port_tables.specs.declared.roles.Role.TheVariants as role
+use Rattle.port_tables.specs.declared.roles.RolePort.{RolePort}
+use Rattle.port_tables.specs.Ports.{is_output, port_of, port_line, stream_ports, may_have, has_bits, connection_ends, end_ports, ends_of, ports_of, module_name, role_ports, starts, name_at}
+use Rattle.port_tables.specs.PortMaps.{port_at}
+use Rattle.port_tables.specs.Ends.{IsStreamPlace}
+use Rattle.port_tables.proofs.Headers.{inputs-few, stream_inputs-few, distinct_ports}
 use Rattle.interconnect.specs.Wires.{is_wire, is_wire_at, wires_before, is_wire_stream}
 use Rattle.interconnect.specs.Streams.{IsStream, low_line}
 use Rattle.interconnect.specs.Memory.{IsMemory}
 use Rattle.interconnect.specs.Joins.{output_at, low_at, low_lines, with_lows, AddsLow, AreLows, IsJoinedUpTo}
 use Rattle.interconnect.specs.Interconnect.{IsInterconnect}
-use Rattle.interconnect.proofs.EndFacts.{IsPlanned, known_is, known_proper}
-use Rattle.interconnect.proofs.Numbering.{stream_number, stream_at, of_stream, stream_kind, ends_at}
-use Rattle.interconnect.proofs.Headers.{inputs-few, stream_inputs-few, distinct_ports}
-use Rattle.interconnect.proofs.Signals.{named_at}
+use Rattle.port_tables.specs.EndFacts.{IsPlanned, known_is, known_proper}
+use Rattle.port_tables.specs.Numbering.{stream_number, stream_at, of_stream, stream_kind, ends_at}
+use Rattle.port_tables.proofs.Signals.{named_at}
 use Rattle.interconnect.proofs.Served.{IsJoinedIn, is_served, is_wired, source_driven, sink_driven}
 use Rattle.interconnect.proofs.Counts.{of_kind}
-use Rattle.interconnect.proofs.Lists.{Among, among_at, at_among, among_append, among_map, among_flat_map, among_filter, among_kept, slice_get-append, slice_get-front, take_one_more, nat_less}
+use Rattle.port_tables.specs.Lists.{Among, among_at, at_among, among_append, among_map, among_flat_map, among_filter, among_kept, slice_get-append, slice_get-front, take_one_more, nat_less}
 
 -- ---- a system without hosts has no agents
 

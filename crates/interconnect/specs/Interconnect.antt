@@ -8,7 +8,7 @@ use Rattle.system_tables.specs.Tables.{SystemTable}
 use Rattle.link_rules.specs.Links.{weight_of}
 use Rattle.netlist.specs.Netlists.{Netlist, input_count}
 use Rattle.stream_path.specs.Joining.{declared}
-use Rattle.interconnect.specs.Ports.{name_at, ports_of, module_name}
+use Rattle.port_tables.specs.Ports.{name_at, ports_of, module_name}
 use Rattle.interconnect.specs.Wires.{is_wire_stream, wires_before}
 use Rattle.interconnect.specs.Streams.{IsStream, ServesStream, IsWired}
 use Rattle.interconnect.specs.Memory.{IsMemory, form_of, ServesMemory}

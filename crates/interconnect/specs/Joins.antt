@@ -15,16 +15,12 @@ use Rattle.stream_path.specs.Ends.{ArePathNets}
 use Rattle.stream_path.specs.Serving.{most_nets, ServesInLonger}
 use Rattle.stream_path.specs.declared.ends.SourceNets.{SourceNets}
 use Rattle.stream_path.specs.declared.ends.PathNets.{PathNets}
-use Rattle.interconnect.specs.declared.roles.Role.{Role}
-use Rattle.interconnect.specs.declared.roles.Role.TheVariants as role
-use Rattle.interconnect.specs.Ports.{is_forward, ends_of, ports_of, module_name}
-use Rattle.interconnect.specs.PortMaps.{port_at}
+use Rattle.port_tables.specs.declared.roles.Role.{Role}
+use Rattle.port_tables.specs.declared.roles.Role.TheVariants as role
+use Rattle.port_tables.specs.Ports.{is_forward, ports_of, module_name}
+use Rattle.port_tables.specs.PortMaps.{port_at}
 use Rattle.interconnect.specs.Wires.{is_wire_at, wires_before}
 use Rattle.interconnect.specs.Streams.{IsStream, low_line}
-
--- one of the ends of a system
-abbrev pub IsAnEnd : SystemTable → EndId → Type 0
-IsAnEnd system end = (n : ℕ) × (slice_get (ends_of system) n ≡ Some end)
 
 -- ---- the nets of a stream
 

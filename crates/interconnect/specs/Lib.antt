@@ -1,6 +1,3 @@
-pub mod Ports
-pub mod Ends
-pub mod PortMaps
 pub mod Wires
 pub mod Streams
 pub mod Joins

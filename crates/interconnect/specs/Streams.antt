@@ -15,9 +15,9 @@ use Rattle.netlist.specs.Signals.{signal, port_named}
 use Rattle.stream_runs.specs.Source.{IsLegalSource}
 use Rattle.stream_runs.specs.Delivery.{IsServed}
 use Rattle.stream_runs.specs.Ends.{Declared, Signals, side_of, view_of, signal_or, stream_of, run_of}
-use Rattle.interconnect.specs.declared.roles.Role.{Role}
-use Rattle.interconnect.specs.declared.roles.RolePort.{RolePort}
-use Rattle.interconnect.specs.Ports.{role_word, is_forward, has_bits, stream_ports, EndName, port_name}
+use Rattle.port_tables.specs.declared.roles.Role.{Role}
+use Rattle.port_tables.specs.declared.roles.RolePort.{RolePort}
+use Rattle.port_tables.specs.Ports.{role_word, is_forward, has_bits, stream_ports, EndName, port_name}
 
 -- the stream of this number, its connection and its two ends
 pub record IsStream (system : SystemTable) (number : ℕ) (connection : Connection) (source : StreamPort) (sink : StreamPort) : Type 0 where

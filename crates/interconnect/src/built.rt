@@ -2,7 +2,7 @@ ghost use Rattle.std.specs.Prelude.{◌≡◌, length};
 ghost use Rattle.system_tables.specs.Tables.{IsLogic};
 ghost use Rattle.stream_path.specs.Joining.{declared};
 ghost use Rattle.interconnect.specs.Wires.{has_same_beats, has_plain_ready, is_wire_stream, is_wire, is_wire_host, is_wire_agent, fills_range, is_wire_memory, is_alone, is_built, pending_of};
-ghost use Rattle.interconnect.specs.Ends.{IsPlanEnd};
+ghost use Rattle.port_tables.specs.Ends.{IsPlanEnd};
 
 use iface_roles::{AgentPort, Finished, HostPort, SinkPort, SourcePort};
 use link_rules::Plan;

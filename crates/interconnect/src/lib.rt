@@ -2,14 +2,10 @@
 #![tactic(auto)]
 
 mod built;
-mod header;
 mod memory;
-mod port_map;
-mod port_table;
-mod roles;
 mod streams;
 mod whole;
 
 pub use built::pending;
-pub use port_table::PortMap;
+pub use port_tables::PortMap;
 pub use whole::{Built, build};

@@ -13,35 +13,23 @@ ghost use Rattle.stream_path.specs.Joining.{declared, CanJoin};
 ghost use Rattle.stream_path.specs.Ends.{IsNetIf, AreSourceNets, ArePathNets};
 ghost use Rattle.stream_path.specs.Serving.{most_nets, ServesInLonger};
 ghost use Rattle.interconnect.specs.Interconnect.{IsInterconnect};
-ghost use Rattle.interconnect.specs.Ends.{IsPlanEnd, IsStreamPlace};
-ghost use Rattle.interconnect.specs.Ports.{ends_of, ports_of, module_name};
-ghost use Rattle.interconnect.specs.PortMaps.{entries_of, port_at};
+ghost use Rattle.port_tables.specs.Ends.{IsAnEnd, IsPlanEnd, IsStreamPlace};
+ghost use Rattle.port_tables.specs.Ports.{ends_of, ports_of, module_name};
+ghost use Rattle.port_tables.specs.PortMaps.{entries_of};
 ghost use Rattle.interconnect.specs.Wires.{is_wire, wires_before};
 ghost use Rattle.interconnect.specs.Streams.{low_line};
-ghost use Rattle.interconnect.specs.Joins.{IsAnEnd, IsInputIf, input_at, AreInputs, wire_nets, output_roles, output_end, net_for, HasSameNets, MayDrive, MayDriveAll, AreDriven, IsNoOutput, low_at, AddsLow, AddsStream, with_lows, AreLows, IsJoinedUpTo};
+ghost use Rattle.interconnect.specs.Joins.{IsInputIf, input_at, AreInputs, wire_nets, output_roles, output_end, net_for, HasSameNets, MayDrive, MayDriveAll, AreDriven, IsNoOutput, low_at, AddsLow, AddsStream, with_lows, AreLows, IsJoinedUpTo};
 
 use crate::built::is_wire;
-use crate::header::{start, stream_at};
-use crate::port_table::PortMap;
-use crate::roles::Role;
 use av_base::{List, NoMemory, Val};
 use iface_roles::{Finished, SinkPort, SourcePort, proper_records_are_bounded};
 use link_rules::Plan;
 use netlist::{Builder, Module, Net, NetFault};
+use port_tables::{PortMap, Role, start, stream_at};
 use stage_core::BeatNets;
 use std::alloc::Global;
 use stream_path::{PathNets, SourceNets, emit_path};
 use system_tables::{Connection, EndId};
-
-/// The port of a role at an end.
-fn port_of(plan: &Plan, ports: &PortMap, end: EndId, role: Role) -> Option<u32>
-    requires map { ports.now.entries ≡ entries_of plan.now.system }
-    requires end { IsAnEnd plan.now.system end }
-    ensures { result ≡ port_at plan.now.system end role }
-{
-    plan.well_made();
-    ports.find(end, role)
-}
 
 /// The net of the input port of a role at an end.
 fn input_of(builder: &Builder, plan: &Plan, ports: &PortMap, end: EndId, role: Role) -> Option<Net>
@@ -52,7 +40,7 @@ fn input_of(builder: &Builder, plan: &Plan, ports: &PortMap, end: EndId, role: R
     ensures net { (width : ℕ) → IsInputIf plan.now.system end role width → result ≡ input_at plan.now.system end role width }
     ensures is { (width : ℕ) → IsInputIf plan.now.system end role width → IfSome result (λ net. IsNetOfWidth builder.now net width) }
 {
-    match port_of(plan, ports, end, role) {
+    match ports.port_at(plan, end, role) {
         Some(port) => Some(builder.input(port)),
         None => None,
     }
@@ -304,7 +292,7 @@ fn drive_outputs(
         let end = output_end(connection, *role);
         drive(
             builder,
-            port_of(plan, ports, end, *role),
+            ports.port_at(plan, end, *role),
             net_for(made, *role),
         );
     }

@@ -1,15 +1,14 @@
 ghost use Rattle.std.specs.Prelude.{◌≡◌, None, IfOk};
 ghost use Rattle.interconnect.specs.Wires.{pending_of};
 ghost use Rattle.interconnect.specs.Interconnect.{IsInterconnect};
-ghost use Rattle.interconnect.specs.PortMaps.{AreTold};
+ghost use Rattle.port_tables.specs.PortMaps.{AreTold};
 
-use crate::header::port_map;
 use crate::memory::build_memory;
-use crate::port_table::PortMap;
 use crate::streams::build_streams;
 use av_base::NoMemory;
 use link_rules::Plan;
 use netlist::Module;
+use port_tables::PortMap;
 use std::alloc::Global;
 
 /// The interconnect of a plan, and where its ports stand.
@@ -25,7 +24,7 @@ pub fn build(alloc: Global, plan: &Plan) -> Result<Built, NoMemory>
     ensures module { IfOk result (λ built. IsInterconnect plan.now.system built.module) }
     ensures ports { IfOk result (λ built. AreTold plan.now.system built.ports) }
 {
-    let ports = port_map(alloc, plan)?;
+    let ports = PortMap::make(alloc, plan)?;
     let module = if plan.hosts().is_empty() {
         build_streams(alloc, plan, &ports)?
     } else {

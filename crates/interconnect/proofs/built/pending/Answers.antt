@@ -1,11 +1,11 @@
-use Rattle.std.proofs.Common.{◌≡◌, ◌<◌, ◌≤◌, ℕ, ◌+◌, true, false, not, Option, Some, None, ◌∙◌, sym, ap, subst, length, get_or, drop, List, slice_get, arith, refl}
+use Rattle.std.proofs.Common.{◌≡◌, ◌<◌, ◌≤◌, ℕ, ◌+◌, true, false, not, Option, Some, None, ◌∙◌, sym, ap, subst, length, get_or, drop, List, slice_get, arith}
 use Rattle.std.specs.List.{position_from}
 use Rattle.std.proofs.lemmas.Option.{slice_get-get_or}
 use Rattle.system_tables.specs.declared.tables.Connection.{Connection}
 use Rattle.system_tables.specs.Tables.{SystemTable}
 use Rattle.interconnect.specs.Wires.{is_built, pending_of}
-use Rattle.interconnect.proofs.Lists.{position_at, position_past}
-use Rattle.interconnect.proofs.EndFacts.{planned}
+use Rattle.port_tables.specs.Lists.{position_at, position_past}
+use Rattle.port_tables.specs.EndFacts.{planned}
 use Rattle.interconnect.proofs.Counts.{connections-few}
 use Rattle.interconnect.proofs.built.pending.Goals as goal
 

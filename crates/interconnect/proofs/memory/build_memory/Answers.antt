@@ -1,5 +1,5 @@
 use Rattle.std.proofs.Common.{◌∙◌}
-use Rattle.interconnect.proofs.EndFacts.{planned}
+use Rattle.port_tables.specs.EndFacts.{planned}
 use Rattle.interconnect.proofs.MemoryWires.{host_inputs, agent_inputs, IsAdded, can_drive, final_is, is_driven, is_clocked, is_written, lines_final, is_module}
 use Rattle.interconnect.proofs.MemoryModules.{only, wire_of, begun_of, form_known, form_limits, room, ends_apart, memory_few, memory_interconnect}
 use Rattle.interconnect.proofs.memory.build_memory.Goals as goal

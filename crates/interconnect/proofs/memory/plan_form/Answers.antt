@@ -1,7 +1,7 @@
 use Rattle.std.proofs.Common.{◌∙◌, ap, length, List, arith}
 use Rattle.iface_roles.specs.declared.records.Finished.TheVariants.{Agent}
 use Rattle.system_tables.specs.declared.tables.Connection.{Connection}
-use Rattle.interconnect.proofs.EndFacts.{planned, same_known}
+use Rattle.port_tables.specs.EndFacts.{planned, same_known}
 use Rattle.interconnect.proofs.MemoryModules.{only, form_of_only, end_known, end_is}
 use Rattle.interconnect.proofs.memory.plan_form.Goals as goal
 

@@ -4,7 +4,7 @@ use Rattle.link_rules.specs.Links.{streams_of}
 use Rattle.netlist.specs.Nets.{NetValue}
 use Rattle.interconnect.specs.Joins.{low_at, IsJoinedUpTo}
 use Rattle.interconnect.specs.Interconnect.{IsInterconnect}
-use Rattle.interconnect.proofs.EndFacts.{planned}
+use Rattle.port_tables.specs.EndFacts.{planned}
 use Rattle.interconnect.proofs.StreamModules.{begins, all_driven, stream_interconnect}
 use Rattle.interconnect.proofs.streams.build_streams.Goals as goal
 

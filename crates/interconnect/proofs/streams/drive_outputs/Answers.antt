@@ -1,11 +1,11 @@
 use Rattle.std.proofs.Common.{◌≡◌, ℕ, List, Some, ◌<◌, slice_get, get_or, length, arith, ap, sym, ◌∙◌}
 use Rattle.std.proofs.lemmas.Option.{slice_get-get_or}
 use Rattle.system_tables.specs.declared.tables.EndId.{EndId}
-use Rattle.interconnect.specs.declared.roles.Role.{Role}
-use Rattle.interconnect.specs.declared.roles.Role.TheVariants as role
-use Rattle.interconnect.specs.PortMaps.{port_at}
+use Rattle.port_tables.specs.declared.roles.Role.{Role}
+use Rattle.port_tables.specs.declared.roles.Role.TheVariants as role
+use Rattle.port_tables.specs.PortMaps.{port_at}
 use Rattle.interconnect.specs.Joins.{output_roles, output_at, net_for}
-use Rattle.interconnect.proofs.EndFacts.{planned}
+use Rattle.port_tables.specs.EndFacts.{planned}
 use Rattle.interconnect.proofs.Joining.{AreEnds, is_among, output_an_end, may_drive, can_as, step_as, one_more_driven}
 use Rattle.interconnect.proofs.streams.drive_outputs.Goals as goal
 
@@ -14,8 +14,8 @@ role_at roles k d e inside =
     let long : k < length roles = omega (arith, ap (λ (rs : List Role). length rs) e, inside) in
     ap (λ (rs : List Role). slice_get rs k) (sym e) ∙ slice_get-get_or roles k d long
 
-pub port_of-requires-clause-end : goal.port_of-requires-clause-end
-port_of-requires-clause-end c =
+pub port_at-requires-clause-end : goal.port_at-requires-clause-end
+port_at-requires-clause-end c =
     let r = get_or c.output_roles-roles.result c.loop-role.role-index role.Address in
     let an_end = output_an_end c.args.plan.now.system c.args.connection r c.requires.start c.requires.end in
     (an_end.0, an_end.1 ∙ ap Some (sym c.output_end-end.ensures))
@@ -30,7 +30,7 @@ drive-requires c =
       start = is_among system c.args.connection.start c.requires.start;
       end = is_among system c.args.connection.end c.requires.end;
     } in
-    can_as c.loop-role.builder c.port_of.result (output_at system c.args.connection r) c.net_for.result (net_for c.args.made.now r) (c.port_of.ensures ∙ ap (λ (e : EndId). port_at system e r) c.output_end-end.ensures) c.net_for.ensures
+    can_as c.loop-role.builder c.port_at.result (output_at system c.args.connection r) c.net_for.result (net_for c.args.made.now r) (c.port_at.ensures ∙ ap (λ (e : EndId). port_at system e r) c.output_end-end.ensures) c.net_for.ensures
     (may_drive system c.args.connection c.args.made.now c.args.builder.now c.loop-role.builder c.loop-role.role-index r ends there c.requires.can c.loop-role.invariant)
 
 pub loop-role-preserved : goal.loop-role-preserved
@@ -39,8 +39,8 @@ loop-role-preserved c =
     let r = get_or c.output_roles-roles.result c.loop-role.role-index role.Address in
     let there = role_at c.output_roles-roles.result c.loop-role.role-index role.Address c.output_roles-roles.ensures c.loop-role-test.true in
     one_more_driven c.keeps.ensures.chain system c.args.connection c.args.made.now c.args.builder.now c.loop-role.builder c.drive.new.builder c.loop-role.role-index r there c.loop-role.invariant
-    (step_as c.loop-role.builder c.drive.new.builder c.port_of.result (output_at system c.args.connection r) c.net_for.result (net_for c.args.made.now r)
-    (c.port_of.ensures ∙ ap (λ (e : EndId). port_at system e r) c.output_end-end.ensures) c.net_for.ensures c.drive.ensures.same c.drive.ensures.extends c.drive.ensures.driver c.drive.ensures.others)
+    (step_as c.loop-role.builder c.drive.new.builder c.port_at.result (output_at system c.args.connection r) c.net_for.result (net_for c.args.made.now r)
+    (c.port_at.ensures ∙ ap (λ (e : EndId). port_at system e r) c.output_end-end.ensures) c.net_for.ensures c.drive.ensures.same c.drive.ensures.extends c.drive.ensures.driver c.drive.ensures.others)
 
 pub returns-clause-driven : goal.returns-clause-driven
 returns-clause-driven c n r below e = c.loop-role.invariant.driven n r (omega (arith, below, ap (λ (rs : List Role). length rs) c.output_roles-roles.ensures, c.loop-role-test.false)) e

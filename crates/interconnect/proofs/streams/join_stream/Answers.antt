@@ -1,7 +1,7 @@
 use Rattle.std.proofs.Common.{Option, subst}
 use Rattle.netlist.specs.Nets.{NetValue}
 use Rattle.interconnect.specs.Joins.{AddsStream}
-use Rattle.interconnect.proofs.EndFacts.{planned}
+use Rattle.port_tables.specs.EndFacts.{planned}
 use Rattle.interconnect.proofs.Joining.{start_among, finish_among, is_an_end, may_drive_now, one_more_joined}
 use Rattle.interconnect.proofs.streams.join_stream.Goals as goal
 

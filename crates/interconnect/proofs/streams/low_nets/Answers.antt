@@ -1,4 +1,4 @@
-use Rattle.interconnect.proofs.EndFacts.{planned}
+use Rattle.port_tables.specs.EndFacts.{planned}
 use Rattle.interconnect.proofs.StreamModules.{low_room, low_more}
 use Rattle.interconnect.proofs.streams.low_nets.Goals as goal
 

@@ -1,5 +1,5 @@
 use Rattle.std.proofs.Common.{◌*◌}
-use Rattle.interconnect.proofs.EndFacts.{planned}
+use Rattle.port_tables.specs.EndFacts.{planned}
 use Rattle.interconnect.proofs.Joining.{is_among}
 use Rattle.interconnect.proofs.Inputs.{source_at, valid_input, data_input, channel_input, error_input, start_input, end_input, empty_input, valid_some, data_some, bounded_at, are_inputs, are_nets}
 use Rattle.interconnect.proofs.streams.source_nets.Goals as goal

@@ -10,7 +10,7 @@ use Rattle.stream_path.specs.Serving.{ServesInLonger}
 use Rattle.interconnect.specs.Joins.{AddsStream}
 use Rattle.std.proofs.lemmas.Option.{slice_get_within}
 use Rattle.link_rules.specs.Links.{streams_of}
-use Rattle.interconnect.proofs.EndFacts.{planned}
+use Rattle.port_tables.specs.EndFacts.{planned}
 use Rattle.interconnect.proofs.Joining.{start_among, finish_among, is_an_end}
 use Rattle.interconnect.proofs.Inputs.{ends_of_stream, source_known, ready_input, ready_if, joins, is_shallow, path_room, adds_path, adds_wire}
 use Rattle.interconnect.proofs.streams.stream_nets.Goals as goal

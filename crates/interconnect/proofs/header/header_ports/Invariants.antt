@@ -1,6 +1,0 @@
-use Rattle.std.proofs.Common.{◌≡◌, take, map}
-use Rattle.interconnect.specs.PortMaps.{line_of_entry}
-use Rattle.interconnect.proofs.header.header_ports.Given as goal
-
-abbrev pub invariant-loop-entry : goal.invariant-loop-entry
-invariant-loop-entry l = l.lines ≡ map (line_of_entry l.plan.system) (take l.entry-index l.ports.entries)

@@ -1,0 +1,11 @@
+//! The ports of a plan's module: which there are, in which order, and where each stands.
+#![tactic(auto)]
+
+mod header;
+mod port_map;
+mod port_table;
+mod roles;
+
+pub use header::{start, stream_at};
+pub use port_table::PortMap;
+pub use roles::Role;

@@ -1,0 +1,116 @@
+ghost use Rattle.std.specs.Prelude.{◌≡◌, ◌↔◌, ℕ, IsTrue};
+ghost use Rattle.port_tables.specs.Ends.{IsAnEnd};
+ghost use Rattle.port_tables.specs.PortMaps.{entry_of, entries_of, port_at, module_role, IsPlaceOf, IsPlaceFor, IsAt};
+ghost use Rattle.port_tables.specs.declared.roles.Role.TheVariants.{Grant, Dropped};
+
+use crate::port_table::{PortEntry, PortMap};
+use crate::roles::{Role, RolePort};
+use iface_roles::Role as InterfaceRole;
+use link_rules::Plan;
+use system_tables::EndId;
+
+impl PortEntry {
+    pub(crate) fn new(end: EndId, starts: bool, port: RolePort) -> PortEntry
+        ensures { result ≡ entry_of end starts port }
+    {
+        PortEntry {
+            end,
+            port,
+            output: port.role.is_output(starts),
+        }
+    }
+
+    fn is_of(&self, end: EndId, role: Role) -> bool
+        ensures { IsTrue result ↔ ((self.now.end ≡ end) × (self.now.port.role ≡ role)) }
+    {
+        self.end == end && self.port.role == role
+    }
+}
+
+impl PortMap {
+    /// The port of a role at an end; None where it has none.
+    fn find(&self, end: EndId, role: Role) -> Option<u32>
+        ensures { IsPlaceOf self.now.entries end role result }
+    {
+        for (place, entry) in self.entries.as_slice().iter().enumerate() {
+            if entry.is_of(end, role) {
+                return Some(place as u32);
+            }
+        }
+        None
+    }
+
+    /// The port of a role at an end, by its name in the header; None where the end has none.
+    pub fn port_at(&self, plan: &Plan, end: EndId, role: Role) -> Option<u32>
+        requires map { self.now.entries ≡ entries_of plan.now.system }
+        requires end { IsAnEnd plan.now.system end }
+        ensures { result ≡ port_at plan.now.system end role }
+    {
+        plan.well_made();
+        self.find(end, role)
+    }
+
+    /// The port of a role at an end of the plan; None where its interface has no such port.
+    pub fn port(&self, end: EndId, role: InterfaceRole) -> Option<u32>
+        ensures { IsPlaceFor self.now.entries end (module_role role) result }
+    {
+        self.find(end, role_of_interface(role)?)
+    }
+
+    /// The port `grant` of an agent, by the agent's number in the plan.
+    pub fn grant(&self, agent: u32) -> u32
+        requires { (place : ℕ) × IsAt self.now.agents self.now.entries agent Grant place }
+        ensures { IsAt self.now.agents self.now.entries agent Grant result }
+    {
+        self.at(self.agents.as_slice(), agent, Role::Grant)
+    }
+
+    /// The port `dropped` of a stream, by the stream's number in the plan.
+    pub fn dropped(&self, stream: u32) -> u32
+        requires { (place : ℕ) × IsAt self.now.sinks self.now.entries stream Dropped place }
+        ensures { IsAt self.now.sinks self.now.entries stream Dropped result }
+    {
+        self.at(self.sinks.as_slice(), stream, Role::Dropped)
+    }
+
+    /// The port of a role at the end of this number.
+    fn at(&self, ends: &[EndId], number: u32, role: Role) -> u32
+        requires { (place : ℕ) × IsAt ends.now self.now.entries number role place }
+        ensures { IsAt ends.now self.now.entries number role result }
+    {
+        match self.find(ends[number as usize], role) {
+            Some(port) => port,
+            None => unreachable!(),
+        }
+    }
+}
+
+/// The role of the module's port for a role of an interface; None for those that no module has.
+fn role_of_interface(role: InterfaceRole) -> Option<Role>
+    ensures { result ≡ module_role role }
+{
+    match role {
+        InterfaceRole::Address => Some(Role::Address),
+        InterfaceRole::Read => Some(Role::Read),
+        InterfaceRole::Write => Some(Role::Write),
+        InterfaceRole::WriteData => Some(Role::WriteData),
+        InterfaceRole::ByteEnable => Some(Role::ByteEnable),
+        InterfaceRole::BurstCount => Some(Role::BurstCount),
+        InterfaceRole::WaitRequest => Some(Role::WaitRequest),
+        InterfaceRole::ReadData => Some(Role::ReadData),
+        InterfaceRole::ReadDataValid => Some(Role::ReadDataValid),
+        InterfaceRole::Response => Some(Role::Response),
+        InterfaceRole::WriteResponseValid
+        | InterfaceRole::Lock
+        | InterfaceRole::DebugAccess
+        | InterfaceRole::BeginBurstTransfer => None,
+        InterfaceRole::Ready => Some(Role::Ready),
+        InterfaceRole::Valid => Some(Role::Valid),
+        InterfaceRole::Data => Some(Role::Data),
+        InterfaceRole::Channel => Some(Role::Channel),
+        InterfaceRole::Error => Some(Role::Error),
+        InterfaceRole::StartOfPacket => Some(Role::StartOfPacket),
+        InterfaceRole::EndOfPacket => Some(Role::EndOfPacket),
+        InterfaceRole::Empty => Some(Role::Empty),
+    }
+}
