@@ -5,7 +5,6 @@ use Rattle.port_tables.specs.declared.roles.Role.{Role}
 use Rattle.port_tables.specs.declared.port_table.PortEntry.{PortEntry}
 use Rattle.port_tables.specs.PortMaps.{IsEntryAt, IsAt}
 use Rattle.port_tables.proofs.port_table.PortMap.at.Goals as goal
-use Rattle.interconnect.proofs.port_table.PortMap.at.Goals as goal
 
 -- the end that was read
 read : (ends : List EndId) (entries : List PortEntry) (number : ℕ) (role : Role) (place : ℕ) (d : EndId) (h : IsAt ends entries number role place) → get_or ends number d ≡ h.end

@@ -7,7 +7,6 @@ use Rattle.port_tables.specs.declared.port_table.PortEntry.{PortEntry}
 use Rattle.port_tables.specs.PortMaps.{IsEntryAt}
 use Rattle.port_tables.specs.Lists.{nat_less}
 use Rattle.port_tables.proofs.port_table.PortMap.find.Goals as goal
-use Rattle.interconnect.proofs.port_table.PortMap.find.Goals as goal
 
 -- an entry that isn't of the end and the role
 not_at : (entries items : List PortEntry) (k : ℕ) (d : PortEntry) (end : EndId) (role : Role) → items ≡ entries → ((get_or items k d).end ≡ end × (get_or items k d).port.role ≡ role → ⊥) → IsEntryAt entries k end role → ⊥
