@@ -1,10 +1,1 @@
-pub mod Growing
-pub mod Between
-pub mod Bits
-pub mod RegisterLaw
-pub mod RowLemmas
-pub mod RowNets
-pub mod QueueLaw
-pub mod RowSteps
-pub mod RowHolds
 pub mod TestPorts

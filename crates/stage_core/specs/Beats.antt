@@ -4,16 +4,8 @@ use Rattle.netlist.specs.Nets.{NetValue}
 use Rattle.netlist.specs.Netlists.{Netlist, IsNet}
 use Rattle.netlist.specs.Runs.{Cycle, Run}
 use Rattle.stream_runs.specs.View.{Beat, EndView}
+use Rattle.net_parts.specs.Nets.{IsBit}
 use Rattle.stage_core.specs.declared.beat.BeatNets.{BeatNets}
-
--- the net is one of this netlist, of this width
-pub record IsNetOfWidth (netlist : Netlist) (net : NetValue) (width : ℕ) : Type 0 where
-  pub is_net : IsNet netlist net
-  pub has_width : net.width ≡ width
-
--- a net of one bit
-abbrev pub IsBit : Netlist → NetValue → Type 0
-IsBit netlist net = IsNetOfWidth netlist net 1
 
 -- the widths of the nets of a beat that don't always have one bit
 pub record Widths : Type 0 where

@@ -1,6 +1,5 @@
 -- Registers and choices of all nets of a beat at once.
 use Rattle.std.specs.Prelude.{◌≡◌, ℕ, ◌+◌, ◌<◌, ◌≤◌, ◌==◌, if◌then◌else◌}
-use Rattle.netlist.specs.Nets.{NetValue}
 use Rattle.netlist.specs.Netlists.{Netlist, IsWaiting}
 use Rattle.netlist.specs.Runs.{Cycle, Run, cycle_of, IsRun}
 use Rattle.stream_runs.specs.View.{Beat}
@@ -18,14 +17,6 @@ shown_in cycle nets = record { valid = cycle.net nets.valid.number; beat = beat_
 -- no beat, and all signals low
 abbrev pub nothing_shown : Shown
 nothing_shown = record { valid = 0; beat = record { word = 0; channel = 0; error = 0; first = 0; last = 0; empty = 0 } }
-
--- in each run the net begins at 0
-abbrev pub StartsLow : Netlist → NetValue → Type 0
-StartsLow netlist net = (run : Run) (cycles : ℕ) → IsRun netlist run cycles → 0 < cycles → run.net 0 net.number ≡ 0
-
--- in each run the net takes what the other one was in the cycle before
-abbrev pub TakesNext : Netlist → NetValue → NetValue → Type 0
-TakesNext netlist register next = (run : Run) (cycles : ℕ) → IsRun netlist run cycles → (c : ℕ) → c + 1 < cycles → run.net (c + 1) register.number ≡ run.net c next.number
 
 -- the nets have seven numbers in a row, from this one on
 pub record AreNumbered (nets : BeatNets) (from : ℕ) : Type 0 where

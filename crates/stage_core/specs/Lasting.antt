@@ -1,23 +1,20 @@
 -- What is said of nets lasts in longer netlists. No contract reads a proof of theirs; the laws of stages cite them.
 use Rattle.std.specs.Prelude.{ℕ}
-use Rattle.netlist.specs.Nets.{NetValue}
 use Rattle.netlist.specs.Netlists.{Netlist, IsWaiting}
 use Rattle.netlist.specs.Longer.{Extends}
 use Rattle.stage_core.specs.declared.beat.BeatNets.{BeatNets}
-use Rattle.stage_core.specs.Beats.{IsNetOfWidth, AreBeatNets}
+use Rattle.net_parts.specs.Laws.{net_lasts}
+use Rattle.stage_core.specs.Beats.{AreBeatNets}
 use Rattle.stage_core.specs.Groups.{IsOfBeat, AreRegisters}
-
-pub bit_lasts : (a b : Netlist) (net : NetValue) (w : ℕ) → Extends a b → IsNetOfWidth a net w → IsNetOfWidth b net w
-bit_lasts a b net w e h = record { is_net = e.nets net.number net.width h.is_net; has_width = h.has_width }
 
 pub beat_lasts : (a b : Netlist) (beat : BeatNets) → Extends a b → AreBeatNets a beat → AreBeatNets b beat
 beat_lasts a b beat e h = record {
-  valid = bit_lasts a b beat.valid 1 e h.valid;
+  valid = net_lasts a b beat.valid 1 e h.valid;
   word = e.nets beat.word.number beat.word.width h.word;
   channel = e.nets beat.channel.number beat.channel.width h.channel;
   error = e.nets beat.error.number beat.error.width h.error;
-  first = bit_lasts a b beat.first 1 e h.first;
-  last = bit_lasts a b beat.last 1 e h.last;
+  first = net_lasts a b beat.first 1 e h.first;
+  last = net_lasts a b beat.last 1 e h.last;
   empty = e.nets beat.empty.number beat.empty.width h.empty;
 }
 

@@ -1,7 +1,7 @@
 pub mod Beats
 pub mod Groups
-pub mod Growth
 pub mod Lasting
+pub mod BeatLaws
 pub mod Law
 pub mod PassNets
 pub mod ChainNets
@@ -10,3 +10,10 @@ pub mod RegisterNets
 pub mod Rows
 pub mod QueueBits
 pub mod QueueNets
+pub mod Between
+pub mod QueueLaw
+pub mod RowHolds
+pub mod RowLemmas
+pub mod RowNets
+pub mod RegisterLaw
+pub mod RowSteps

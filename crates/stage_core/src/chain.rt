@@ -44,6 +44,7 @@ impl<A: Stage, B: Stage> Stage for Chain<A, B> {
 
     ghost backward_in = { λ s kept ready up netlist. HasMiddle (λ middle. A.backward_in s.first kept.0 middle up netlist) (λ middle. B.backward_in s.second kept.1 ready middle netlist) };
 
+    #[tactic(auto, using(net_parts::specs::Laws::growing))]
     fn emit_forward(
         &self,
         builder: &mut Builder,
@@ -54,6 +55,7 @@ impl<A: Stage, B: Stage> Stage for Chain<A, B> {
         Ok((to, (first, second)))
     }
 
+    #[tactic(auto, using(net_parts::specs::Laws::growing))]
     fn emit_backward(
         &self,
         builder: &mut Builder,

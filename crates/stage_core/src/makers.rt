@@ -3,44 +3,14 @@
 ghost use Rattle.std.specs.Prelude.{◌≡◌, ℕ, ◌+◌, ◌^◌, ◌<◌, ◌≤◌, ◌==◌, if◌then◌else◌, length, IfOk, OnOk};
 ghost use Rattle.netlist.specs.Netlists.{IsNet, IsWaiting};
 ghost use Rattle.netlist.specs.Runs.{Always};
-ghost use Rattle.stage_core.specs.Beats.{IsBit, IsNetOfWidth, AreBeatNets, HaveSameWidths};
-ghost use Rattle.stage_core.specs.Groups.{StartsLow, AreRegisters, IsOfBeat, StartsEmpty, TakeNextBeat, Chooses};
-ghost use Rattle.stage_core.specs.Growth.{GrowsBy, AddsNets, StillWait, WaitsBeside, WaitsWithout};
+ghost use Rattle.net_parts.specs.Nets.{IsBit, IsNetOfWidth, StartsLow};
+ghost use Rattle.stage_core.specs.Beats.{AreBeatNets, HaveSameWidths};
+ghost use Rattle.stage_core.specs.Groups.{AreRegisters, IsOfBeat, StartsEmpty, TakeNextBeat, Chooses};
+ghost use Rattle.net_parts.specs.Growth.{GrowsBy, AddsNets, StillWait, WaitsBeside, WaitsWithout};
 
 use crate::beat::BeatNets;
-use av_base::Val;
+use net_parts::{choose, low_register};
 use netlist::{Builder, Net, NetFault};
-
-/// A register of the width of a net, that begins at 0.
-fn low_register(builder: &mut Builder, like: Net) -> Result<Net, NetFault>
-    requires { IsNet builder.old like }
-    ensures net { IfOk result (λ n. IsNetOfWidth builder.new n like.width) }
-    ensures number { IfOk result (λ n. n.number ≡ length builder.old.lines) }
-    ensures count { OnOk result (length builder.new.lines ≡ length builder.old.lines + 1) }
-    ensures starts { IfOk result (λ n. StartsLow builder.new n) }
-    ensures waits { IfOk result (λ n. IsWaiting builder.new n.number) }
-    ensures grows { GrowsBy 1 builder.old builder.new }
-    ensures still_wait { StillWait builder.old builder.new }
-    ensures newly { WaitsBeside (λ n. n ≡ length builder.old.lines) builder.old builder.new }
-    ensures full { result ≡ Err NetFault.TooManyNets → 2 ^ 20 < length builder.old.lines + 1 }
-{
-    let width = builder.width(like);
-    builder.reg(Val::new(width, 0).unwrap())
-}
-
-/// One of two nets of one width: the first where the bit is set.
-fn choose(builder: &mut Builder, bit: Net, one: Net, other: Net) -> Result<Net, NetFault>
-    requires bit { IsBit builder.old bit }
-    requires one { IsNet builder.old one }
-    requires other { IsNet builder.old other }
-    requires widths { one.width ≡ other.width }
-    ensures net { IfOk result (λ n. IsNetOfWidth builder.new n one.width) }
-    ensures value { IfOk result (λ n. Always builder.new (λ cycle. cycle.net n.number ≡ (if cycle.net bit.number == 0 then cycle.net other.number else cycle.net one.number))) }
-    ensures adds { AddsNets 1 builder.old builder.new }
-    ensures full { result ≡ Err NetFault.TooManyNets → 2 ^ 20 < length builder.old.lines + 1 }
-{
-    builder.mux(bit, one, other)
-}
 
 /// Registers of the widths of a beat's nets, that begin at 0.
 pub fn reg_beat(builder: &mut Builder, like: &BeatNets) -> Result<BeatNets, NetFault>

@@ -6,8 +6,9 @@
 ghost use Rattle.std.specs.Prelude.{◌≡◌, ℕ, ◌+◌, ◌*◌, ◌^◌, ◌<◌, ◌∷◌, ◌==◌, length, IfOk, OnOk};
 ghost use Rattle.netlist.specs.Netlists.{IsWaiting};
 ghost use Rattle.netlist.specs.Runs.{Always};
-ghost use Rattle.stage_core.specs.Beats.{IsBit, AreBeatNets};
-ghost use Rattle.stage_core.specs.Growth.{GrowsBy, AddsNets, WaitsWithout};
+ghost use Rattle.net_parts.specs.Nets.{IsBit};
+ghost use Rattle.stage_core.specs.Beats.{AreBeatNets};
+ghost use Rattle.net_parts.specs.Growth.{GrowsBy, AddsNets, WaitsWithout};
 ghost use Rattle.stage_core.specs.RegisterNets.{IsBufferShape};
 ghost use Rattle.stage_core.specs.Rows.{AreInRow, InRow};
 ghost use Rattle.stage_core.specs.QueueBits.{AreQueueBits, SetsQueue};
@@ -54,6 +55,7 @@ struct QueueBits {
 }
 
 /// The bits of a queue from `valid` of its last place and `valid` upstream.
+#[tactic(auto, using(net_parts::specs::Laws::growing))]
 fn queue_bits(builder: &mut Builder, last: Net, shown: Net) -> Result<QueueBits, NetFault>
     requires last { IsBit builder.old last }
     requires shown { IsBit builder.old shown }
@@ -69,6 +71,7 @@ fn queue_bits(builder: &mut Builder, last: Net, shown: Net) -> Result<QueueBits,
 }
 
 /// Gives the places of a queue, which has one at least, their next nets.
+#[tactic(auto, using(net_parts::specs::Laws::growing))]
 fn set_queue(
     builder: &mut Builder,
     row: &[BeatNets],
@@ -119,6 +122,7 @@ impl Stage for Fifo {
 
     ghost backward_in = { λ s kept ready up netlist. QueueBackward netlist kept.from ready up kept.places.items };
 
+    #[tactic(auto, using(net_parts::specs::Laws::growing))]
     fn emit_forward(
         &self,
         builder: &mut Builder,
@@ -129,6 +133,7 @@ impl Stage for Fifo {
         Ok((to, FifoKept { places, from }))
     }
 
+    #[tactic(auto, using(net_parts::specs::Laws::growing))]
     fn emit_backward(
         &self,
         builder: &mut Builder,

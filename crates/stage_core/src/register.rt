@@ -3,9 +3,9 @@
 
 ghost use Rattle.std.specs.Prelude.{◌≡◌, ◌+◌, ◌^◌, ◌<◌, length, not, ◌||◌, ◌==◌, IfOk};
 ghost use Rattle.netlist.specs.Runs.{Always};
-ghost use Rattle.stage_core.specs.Beats.{IsBit};
+ghost use Rattle.net_parts.specs.Nets.{IsBit};
 ghost use Rattle.stage_core.specs.Groups.{IsOfBeat};
-ghost use Rattle.stage_core.specs.Growth.{AddsNets};
+ghost use Rattle.net_parts.specs.Growth.{AddsNets};
 ghost use Rattle.stage_core.specs.RegisterNets.{IsBufferShape, RegisterKeeps, RegisterForward, RegisterBackward, keeps_lasts, forward_lasts, backward_lasts};
 
 use crate::beat::BeatNets;
@@ -26,6 +26,7 @@ pub struct RegisterKept {
 }
 
 /// Whether there is room for a beat: none is held, or the one that is held goes.
+#[tactic(auto, using(net_parts::specs::Laws::growing))]
 fn has_room(builder: &mut Builder, held: Net, ready: Net) -> Result<Net, NetFault>
     requires held { IsBit builder.old held }
     requires ready { IsBit builder.old ready }
@@ -73,6 +74,7 @@ impl Stage for PipeReg {
         Ok((to, RegisterKept { registers, from }))
     }
 
+    #[tactic(auto, using(net_parts::specs::Laws::growing))]
     fn emit_backward(
         &self,
         builder: &mut Builder,

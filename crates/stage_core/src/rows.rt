@@ -3,9 +3,10 @@
 ghost use Rattle.std.specs.Prelude.{◌≡◌, ℕ, ◌+◌, ◌*◌, ◌^◌, ◌<◌, ◌≤◌, ◌&&◌, ◌||◌, ◌==◌, false, length, IfOk, OnOk};
 ghost use Rattle.netlist.specs.Netlists.{IsWaiting};
 ghost use Rattle.netlist.specs.Runs.{Always};
-ghost use Rattle.stage_core.specs.Beats.{IsBit, AreBeatNets, HaveSameWidths, beat_in};
+ghost use Rattle.net_parts.specs.Nets.{IsBit};
+ghost use Rattle.stage_core.specs.Beats.{AreBeatNets, HaveSameWidths, beat_in};
 ghost use Rattle.stage_core.specs.Groups.{shown_in};
-ghost use Rattle.stage_core.specs.Growth.{GrowsBy, AddsNets, StillWait, WaitsBeside, WaitsWithout, AreMadeBetween};
+ghost use Rattle.net_parts.specs.Growth.{GrowsBy, AddsNets, StillWait, WaitsBeside, WaitsWithout, AreMadeBetween};
 ghost use Rattle.stage_core.specs.Rows.{place_in, row_in, first_or, filled, fill_row, AreInRow, InRow, StartsAllEmpty, RowMoves, StepsRow, shown_first, last_valid};
 
 use crate::beat::BeatNets;
@@ -39,6 +40,7 @@ fn fill_place(
 }
 
 /// What stands behind a place: the first of the rest as it is once a beat has come, or what ends the row.
+#[tactic(auto, using(net_parts::specs::Laws::growing))]
 fn fill_next(
     builder: &mut Builder,
     rest: &[BeatNets],
@@ -69,6 +71,7 @@ fn fill_next(
 }
 
 /// Gives the places their next nets, from the oldest on. `first` is the first of them as it is once a beat has come.
+#[tactic(auto, using(net_parts::specs::Laws::growing))]
 fn set_row(
     builder: &mut Builder,
     row: &[BeatNets],
@@ -121,6 +124,7 @@ fn end_place(builder: &mut Builder, from: &BeatNets) -> Result<BeatNets, NetFaul
 }
 
 /// A beat goes where one is held in the first place or shown upstream, and ready is high.
+#[tactic(auto, using(net_parts::specs::Laws::growing))]
 fn gives_beat(builder: &mut Builder, first: Net, shown: Net, ready: Net) -> Result<Net, NetFault>
     requires first { IsBit builder.old first }
     requires shown { IsBit builder.old shown }
@@ -135,6 +139,7 @@ fn gives_beat(builder: &mut Builder, first: Net, shown: Net, ready: Net) -> Resu
 }
 
 /// Gives the places of a row their next nets, where `comes` says whether a beat comes.
+#[tactic(auto, using(net_parts::specs::Laws::growing))]
 pub fn set_places(
     builder: &mut Builder,
     row: &[BeatNets],
@@ -194,6 +199,7 @@ pub(crate) fn last_valid(first: &BeatNets, rest: &[BeatNets]) -> Net
 }
 
 /// Makes each of the places a register, all empty.
+#[tactic(auto, using(net_parts::specs::Laws::growing))]
 pub fn fill_places(
     builder: &mut Builder,
     like: &BeatNets,
@@ -215,6 +221,7 @@ pub fn fill_places(
 }
 
 /// So many places, all empty.
+#[tactic(auto, using(net_parts::specs::Laws::growing))]
 pub(crate) fn make_places(
     alloc: Global,
     builder: &mut Builder,

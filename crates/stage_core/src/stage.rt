@@ -8,8 +8,9 @@ ghost use Rattle.netlist.specs.Longer.{Extends};
 ghost use Rattle.stream_runs.specs.View.{is_high};
 ghost use Rattle.stream_machines.specs.Stage.{Shape};
 ghost use Rattle.stage_core.specs.declared.beat.BeatNets.{BeatNets};
-ghost use Rattle.stage_core.specs.Beats.{Widths, widths_of, IsBit, AreBeatNets, ShowSame, view_of};
-ghost use Rattle.stage_core.specs.Growth.{GrowsBy, StillWait, WaitsBeside, WaitsWithout, AreMadeBetween};
+ghost use Rattle.stage_core.specs.Beats.{Widths, widths_of, AreBeatNets, ShowSame, view_of};
+ghost use Rattle.net_parts.specs.Nets.{IsBit};
+ghost use Rattle.net_parts.specs.Growth.{GrowsBy, StillWait, WaitsBeside, WaitsWithout, AreMadeBetween};
 ghost use Rattle.stage_core.specs.Law.{KeepsShape, ReadyPasses};
 
 use crate::beat::BeatNets;

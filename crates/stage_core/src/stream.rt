@@ -2,8 +2,9 @@
 
 ghost use Rattle.std.specs.Prelude.{◌≡◌, ◌+◌, ◌^◌, ◌<◌, ◌≤◌, length, IfOk, OnOk};
 ghost use Rattle.stream_machines.specs.Stage.{Shape};
-ghost use Rattle.stage_core.specs.Beats.{widths_of, IsBit, AreBeatNets};
-ghost use Rattle.stage_core.specs.Growth.{GrowsBy, StillWait};
+ghost use Rattle.stage_core.specs.Beats.{widths_of, AreBeatNets};
+ghost use Rattle.net_parts.specs.Nets.{IsBit};
+ghost use Rattle.net_parts.specs.Growth.{GrowsBy, StillWait};
 ghost use Rattle.stage_core.specs.Law.{KeepsInLonger, PassesInLonger, IgnoresInLonger};
 
 use crate::beat::BeatNets;
@@ -20,6 +21,7 @@ pub struct StreamNets {
 }
 
 /// Makes a stage from the beat of a source and the ready of a sink. After an error the builder is to be dropped.
+#[tactic(auto, using(net_parts::specs::Laws::growing))]
 pub fn emit_stream<S: Stage>(
     stage: &S,
     builder: &mut Builder,

@@ -1,8 +1,9 @@
 ghost use Rattle.std.specs.Prelude.{◌≡◌, ℕ, ◌+◌, ◌*◌, ◌^◌, ◌<◌, ◌≤◌, length, IfOk, OnOk};
 ghost use Rattle.av_base.specs.Word.{word};
 ghost use Rattle.netlist.specs.Netlists.{IsOutputPort, IsClocked, IsWritten};
-ghost use Rattle.stage_core.specs.Beats.{IsBit, AreBeatNets};
-ghost use Rattle.stage_core.specs.Growth.{GrowsBy, StillWait};
+ghost use Rattle.net_parts.specs.Nets.{IsBit};
+ghost use Rattle.stage_core.specs.Beats.{AreBeatNets};
+ghost use Rattle.net_parts.specs.Growth.{GrowsBy, StillWait};
 
 use crate::{BeatNets, Chain, Fifo, PipeReg, StreamNets, emit_stream};
 use av_base::{List, Text, Val};

@@ -1,8 +1,8 @@
 use Rattle.std.proofs.Common.{◌==◌, ◌∙◌, arith}
 use Rattle.stage_core.specs.Groups.{shown_in}
-use Rattle.stage_core.specs.Lasting.{bit_lasts}
-use Rattle.stage_core.proofs.Growing.{extends_twice, adds_twice, adds_fewer, shown_chosen, bit_fits}
-use Rattle.stage_core.proofs.Bits.{chosen_high}
+use Rattle.net_parts.specs.Laws.{net_lasts, extends_twice, adds_twice, adds_fewer, bit_fits}
+use Rattle.stage_core.specs.BeatLaws.{shown_chosen}
+use Rattle.net_parts.specs.Bits.{chosen_high}
 use Rattle.stage_core.proofs.makers.mux_beat.Goals as goal
 
 pub returns-in_err-word-clause-adds : goal.returns-in_err-word-clause-adds
@@ -56,7 +56,7 @@ returns-clause-value c cycle v7 =
     chosen ∙ chosen_high (cycle.net c.args.bit.number) _ _ (bit_fits _ _ c.requires.bit cycle (c.choose.ensures.adds.grows.extends.valuations cycle v1))
 
 pub choose-requires-4-clause-bit : goal.choose-requires-4-clause-bit
-choose-requires-4-clause-bit c = bit_lasts _ _ _ _ (extends_twice _ _ _ c.choose.ensures.adds.grows.extends (extends_twice _ _ _ c.choose-2.ensures.adds.grows.extends (c.choose-3.ensures.adds.grows.extends))) c.requires.bit
+choose-requires-4-clause-bit c = net_lasts _ _ _ _ (extends_twice _ _ _ c.choose.ensures.adds.grows.extends (extends_twice _ _ _ c.choose-2.ensures.adds.grows.extends (c.choose-3.ensures.adds.grows.extends))) c.requires.bit
 
 pub choose-requires-4-clause-one : goal.choose-requires-4-clause-one
 choose-requires-4-clause-one c = (extends_twice _ _ _ c.choose.ensures.adds.grows.extends (extends_twice _ _ _ c.choose-2.ensures.adds.grows.extends (c.choose-3.ensures.adds.grows.extends))).nets _ _ c.requires.one.error
@@ -65,7 +65,7 @@ pub choose-requires-4-clause-other : goal.choose-requires-4-clause-other
 choose-requires-4-clause-other c = (extends_twice _ _ _ c.choose.ensures.adds.grows.extends (extends_twice _ _ _ c.choose-2.ensures.adds.grows.extends (c.choose-3.ensures.adds.grows.extends))).nets _ _ c.requires.other.error
 
 pub choose-requires-5-clause-bit : goal.choose-requires-5-clause-bit
-choose-requires-5-clause-bit c = bit_lasts _ _ _ _ (extends_twice _ _ _ c.choose.ensures.adds.grows.extends (extends_twice _ _ _ c.choose-2.ensures.adds.grows.extends (extends_twice _ _ _ c.choose-3.ensures.adds.grows.extends (c.choose-4.ensures.adds.grows.extends)))) c.requires.bit
+choose-requires-5-clause-bit c = net_lasts _ _ _ _ (extends_twice _ _ _ c.choose.ensures.adds.grows.extends (extends_twice _ _ _ c.choose-2.ensures.adds.grows.extends (extends_twice _ _ _ c.choose-3.ensures.adds.grows.extends (c.choose-4.ensures.adds.grows.extends)))) c.requires.bit
 
 pub choose-requires-5-clause-one : goal.choose-requires-5-clause-one
 choose-requires-5-clause-one c = (extends_twice _ _ _ c.choose.ensures.adds.grows.extends (extends_twice _ _ _ c.choose-2.ensures.adds.grows.extends (extends_twice _ _ _ c.choose-3.ensures.adds.grows.extends (c.choose-4.ensures.adds.grows.extends)))).nets _ _ c.requires.one.first.is_net
@@ -74,7 +74,7 @@ pub choose-requires-5-clause-other : goal.choose-requires-5-clause-other
 choose-requires-5-clause-other c = (extends_twice _ _ _ c.choose.ensures.adds.grows.extends (extends_twice _ _ _ c.choose-2.ensures.adds.grows.extends (extends_twice _ _ _ c.choose-3.ensures.adds.grows.extends (c.choose-4.ensures.adds.grows.extends)))).nets _ _ c.requires.other.first.is_net
 
 pub choose-requires-6-clause-bit : goal.choose-requires-6-clause-bit
-choose-requires-6-clause-bit c = bit_lasts _ _ _ _ (extends_twice _ _ _ c.choose.ensures.adds.grows.extends (extends_twice _ _ _ c.choose-2.ensures.adds.grows.extends (extends_twice _ _ _ c.choose-3.ensures.adds.grows.extends (extends_twice _ _ _ c.choose-4.ensures.adds.grows.extends (c.choose-5.ensures.adds.grows.extends))))) c.requires.bit
+choose-requires-6-clause-bit c = net_lasts _ _ _ _ (extends_twice _ _ _ c.choose.ensures.adds.grows.extends (extends_twice _ _ _ c.choose-2.ensures.adds.grows.extends (extends_twice _ _ _ c.choose-3.ensures.adds.grows.extends (extends_twice _ _ _ c.choose-4.ensures.adds.grows.extends (c.choose-5.ensures.adds.grows.extends))))) c.requires.bit
 
 pub choose-requires-6-clause-one : goal.choose-requires-6-clause-one
 choose-requires-6-clause-one c = (extends_twice _ _ _ c.choose.ensures.adds.grows.extends (extends_twice _ _ _ c.choose-2.ensures.adds.grows.extends (extends_twice _ _ _ c.choose-3.ensures.adds.grows.extends (extends_twice _ _ _ c.choose-4.ensures.adds.grows.extends (c.choose-5.ensures.adds.grows.extends))))).nets _ _ c.requires.one.last.is_net
@@ -83,7 +83,7 @@ pub choose-requires-6-clause-other : goal.choose-requires-6-clause-other
 choose-requires-6-clause-other c = (extends_twice _ _ _ c.choose.ensures.adds.grows.extends (extends_twice _ _ _ c.choose-2.ensures.adds.grows.extends (extends_twice _ _ _ c.choose-3.ensures.adds.grows.extends (extends_twice _ _ _ c.choose-4.ensures.adds.grows.extends (c.choose-5.ensures.adds.grows.extends))))).nets _ _ c.requires.other.last.is_net
 
 pub choose-requires-7-clause-bit : goal.choose-requires-7-clause-bit
-choose-requires-7-clause-bit c = bit_lasts _ _ _ _ (extends_twice _ _ _ c.choose.ensures.adds.grows.extends (extends_twice _ _ _ c.choose-2.ensures.adds.grows.extends (extends_twice _ _ _ c.choose-3.ensures.adds.grows.extends (extends_twice _ _ _ c.choose-4.ensures.adds.grows.extends (extends_twice _ _ _ c.choose-5.ensures.adds.grows.extends (c.choose-6.ensures.adds.grows.extends)))))) c.requires.bit
+choose-requires-7-clause-bit c = net_lasts _ _ _ _ (extends_twice _ _ _ c.choose.ensures.adds.grows.extends (extends_twice _ _ _ c.choose-2.ensures.adds.grows.extends (extends_twice _ _ _ c.choose-3.ensures.adds.grows.extends (extends_twice _ _ _ c.choose-4.ensures.adds.grows.extends (extends_twice _ _ _ c.choose-5.ensures.adds.grows.extends (c.choose-6.ensures.adds.grows.extends)))))) c.requires.bit
 
 pub choose-requires-7-clause-one : goal.choose-requires-7-clause-one
 choose-requires-7-clause-one c = (extends_twice _ _ _ c.choose.ensures.adds.grows.extends (extends_twice _ _ _ c.choose-2.ensures.adds.grows.extends (extends_twice _ _ _ c.choose-3.ensures.adds.grows.extends (extends_twice _ _ _ c.choose-4.ensures.adds.grows.extends (extends_twice _ _ _ c.choose-5.ensures.adds.grows.extends (c.choose-6.ensures.adds.grows.extends)))))).nets _ _ c.requires.one.empty

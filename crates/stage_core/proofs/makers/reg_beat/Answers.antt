@@ -2,7 +2,8 @@ use Rattle.std.proofs.Common.{◌≡◌, ◌+◌, length, ◌∙◌, arith, inl,
 use Rattle.netlist.specs.Netlists.{IsWaiting}
 use Rattle.stage_core.specs.declared.beat.BeatNets.{BeatNets}
 use Rattle.stage_core.specs.Groups.{AreNumbered}
-use Rattle.stage_core.proofs.Growing.{extends_twice, grows_twice, grows_fewer, made_more, made_none, of_each, shown_same}
+use Rattle.net_parts.specs.Laws.{extends_twice, grows_twice, grows_fewer, made_more, made_none}
+use Rattle.stage_core.specs.BeatLaws.{of_each, shown_same}
 use Rattle.stage_core.proofs.makers.reg_beat.Goals as goal
 
 pub returns-in_err-word-clause-grows : goal.returns-in_err-word-clause-grows

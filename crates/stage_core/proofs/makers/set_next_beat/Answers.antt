@@ -1,7 +1,8 @@
 use Rattle.std.proofs.Common.{◌≡◌, ◌+◌, length, refl, arith}
 use Rattle.netlist.specs.Runs.{cycle_of}
 use Rattle.stage_core.specs.Groups.{shown_in}
-use Rattle.stage_core.proofs.Growing.{extends_twice, of_each, shown_same}
+use Rattle.net_parts.specs.Laws.{extends_twice}
+use Rattle.stage_core.specs.BeatLaws.{of_each, shown_same}
 use Rattle.stage_core.proofs.makers.set_next_beat.Goals as goal
 
 pub set_next-requires-2-clause-register_is : goal.set_next-requires-2-clause-register_is

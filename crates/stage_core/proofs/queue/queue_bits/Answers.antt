@@ -1,14 +1,8 @@
 use Rattle.std.proofs.Common.{◌∙◌}
-use Rattle.stage_core.specs.Beats.{IsBit}
-use Rattle.stage_core.proofs.Growing.{grows_once, adds_twice, bit_fits}
-use Rattle.stage_core.proofs.Bits.{high_turned, high_and}
+use Rattle.net_parts.specs.Nets.{IsBit}
+use Rattle.net_parts.specs.Laws.{bit_fits}
+use Rattle.net_parts.specs.Bits.{high_turned, high_and}
 use Rattle.stage_core.proofs.queue.queue_bits.Goals as goal
-
-pub returns-in_err-comes-clause-adds : goal.returns-in_err-comes-clause-adds
-returns-in_err-comes-clause-adds c = adds_twice _ _ _ _ _ (grows_once _ _ c.not.ensures.extends c.not.ensures.grows) (grows_once _ _ c.and.ensures.extends c.and.ensures.grows)
-
-pub returns-clause-adds : goal.returns-clause-adds
-returns-clause-adds c = adds_twice _ _ _ _ _ (grows_once _ _ c.not.ensures.extends c.not.ensures.grows) (grows_once _ _ c.and.ensures.extends c.and.ensures.grows)
 
 pub returns-clause-value : goal.returns-clause-value
 returns-clause-value c cycle v2 =

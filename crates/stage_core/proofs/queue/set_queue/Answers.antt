@@ -2,10 +2,10 @@ use Rattle.std.proofs.Common.{◌+◌, not, ◌==◌, List, ◌∷◌, subst, ap
 use Rattle.netlist.specs.Nets.{NetValue}
 use Rattle.netlist.specs.Runs.{cycle_of}
 use Rattle.stage_core.specs.declared.beat.BeatNets.{BeatNets}
-use Rattle.stage_core.specs.Lasting.{bit_lasts, beat_lasts}
+use Rattle.net_parts.specs.Laws.{net_lasts}
+use Rattle.stage_core.specs.Lasting.{beat_lasts}
 use Rattle.stage_core.specs.Rows.{IsRow, RowSteps}
-use Rattle.stage_core.proofs.Growing.{grows_twice, grows_fewer}
-use Rattle.stage_core.proofs.RowNets.{row_here, last_bit}
+use Rattle.stage_core.specs.RowNets.{row_here, last_bit}
 use Rattle.stage_core.proofs.queue.set_queue.Goals as goal
 
 pub queue_bits-requires-clause-last : goal.queue_bits-requires-clause-last
@@ -14,33 +14,27 @@ queue_bits-requires-clause-last c =
     rw c.last_valid-last.ensures (last_bit c.args.builder.now c.args.from.now c.requires.row.start c.args.first.now c.args.rest.now h)
 
 pub set_places-requires-clause-row : goal.set_places-requires-clause-row
-set_places-requires-clause-row c = row_here _ _ _ _ c.queue_bits.ensures.adds.grows.extends (λ n o. c.queue_bits.ensures.adds.waits n) c.requires.row
+set_places-requires-clause-row c = row_here _ _ _ _ c.queue_bits.ensures.adds.grows.extends (λ n o. c.queue_bits.ensures.adds.grows.waits n) c.requires.row
 
 pub set_places-requires-clause-from : goal.set_places-requires-clause-from
 set_places-requires-clause-from c = beat_lasts _ _ _ c.queue_bits.ensures.adds.grows.extends c.requires.from
 
 pub set_places-requires-clause-ready : goal.set_places-requires-clause-ready
-set_places-requires-clause-ready c = bit_lasts _ _ _ _ c.queue_bits.ensures.adds.grows.extends c.requires.ready
-
-pub returns-in_err-set_places-clause-grows : goal.returns-in_err-set_places-clause-grows
-returns-in_err-set_places-clause-grows c = grows_fewer _ _ _ _ (omega arith) (grows_twice _ _ _ _ _ c.queue_bits.ensures.adds.grows c.set_places.ensures.grows)
-
-pub returns-clause-grows : goal.returns-clause-grows
-returns-clause-grows c = grows_fewer _ _ _ _ (omega arith) (grows_twice _ _ _ _ _ c.queue_bits.ensures.adds.grows c.set_places.ensures.grows)
+set_places-requires-clause-ready c = net_lasts _ _ _ _ c.queue_bits.ensures.adds.grows.extends c.requires.ready
 
 pub returns-in_err-set_places-clause-waits : goal.returns-in_err-set_places-clause-waits
-returns-in_err-set_places-clause-waits c n apart w = c.set_places.ensures.waits n apart (c.queue_bits.ensures.adds.waits n w)
+returns-in_err-set_places-clause-waits c n apart w = c.set_places.ensures.waits n apart (c.queue_bits.ensures.adds.grows.waits n w)
 
 pub returns-clause-waits : goal.returns-clause-waits
-returns-clause-waits c n apart w = c.set_places.ensures.waits n apart (c.queue_bits.ensures.adds.waits n w)
+returns-clause-waits c n apart w = c.set_places.ensures.waits n apart (c.queue_bits.ensures.adds.grows.waits n w)
 
 pub returns-clause-no_more_wait : goal.returns-clause-no_more_wait
 returns-clause-no_more_wait c n w =
     let set = c.in_ok-set_places.ensures.no_more_wait n w in
-    (c.queue_bits.ensures.adds.no_more_wait n set.0, set.1)
+    (c.queue_bits.ensures.adds.grows.no_more_wait n set.0, set.1)
 
 pub returns-clause-net : goal.returns-clause-net
-returns-clause-net c = bit_lasts _ _ _ _ c.set_places.ensures.grows.extends c.in_ok-bits.ensures.room
+returns-clause-net c = net_lasts _ _ _ _ c.set_places.ensures.grows.extends c.in_ok-bits.ensures.room
 
 pub returns-clause-sets : goal.returns-clause-sets
 returns-clause-sets c =

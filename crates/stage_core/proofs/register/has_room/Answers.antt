@@ -1,11 +1,8 @@
 use Rattle.std.proofs.Common.{◌≡◌, ◌==◌, not, ◌||◌}
 use Rattle.netlist.specs.Runs.{Always}
-use Rattle.stage_core.proofs.Growing.{grows_once, adds_twice, bit_fits, if_ok}
-use Rattle.stage_core.proofs.Bits.{high_room}
+use Rattle.net_parts.specs.Laws.{bit_fits, if_ok}
+use Rattle.net_parts.specs.Bits.{high_room}
 use Rattle.stage_core.proofs.register.has_room.Goals as goal
-
-pub returns-clause-adds : goal.returns-clause-adds
-returns-clause-adds c = adds_twice _ _ _ _ _ (grows_once _ _ c.not.ensures.extends c.not.ensures.grows) (grows_once _ _ c.or.ensures.extends c.or.ensures.grows)
 
 pub returns-clause-value : goal.returns-clause-value
 returns-clause-value c =

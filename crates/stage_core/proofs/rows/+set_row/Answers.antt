@@ -1,23 +1,18 @@
 use Rattle.std.proofs.Common.{◌≡◌, ◌+◌, List, ◌∷◌, length, sym, subst, ap, arith}
 use Rattle.netlist.specs.Runs.{cycle_of}
 use Rattle.stage_core.specs.declared.beat.BeatNets.{BeatNets}
-use Rattle.stage_core.specs.Lasting.{bit_lasts, beat_lasts, registers_last}
+use Rattle.net_parts.specs.Laws.{net_lasts, extends_twice}
+use Rattle.stage_core.specs.Lasting.{beat_lasts, registers_last}
 use Rattle.stage_core.specs.Groups.{AreRegisters}
 use Rattle.stage_core.specs.Rows.{IsRow, RowMoves}
-use Rattle.stage_core.proofs.Growing.{extends_twice, grows_twice, grows_fewer}
-use Rattle.stage_core.proofs.RowNets.{row_here, place_apart, row_moves}
+use Rattle.stage_core.specs.RowNets.{row_here, place_apart, row_moves}
 use Rattle.stage_core.proofs.rows.+set_row.Goals as goal
 
 pub mux_beat-requires-clause-bit : goal.mux_beat-requires-clause-bit
-mux_beat-requires-clause-bit t c = bit_lasts _ _ _ _ c.fill_next.ensures.adds.grows.extends c.requires.shift
+mux_beat-requires-clause-bit t c = net_lasts _ _ _ _ c.fill_next.ensures.adds.grows.extends c.requires.shift
 
 pub mux_beat-requires-clause-other : goal.mux_beat-requires-clause-other
 mux_beat-requires-clause-other t c = beat_lasts _ _ _ c.fill_next.ensures.adds.grows.extends c.requires.first
-
-pub returns-in_err-next-in-Some-clause-grows : goal.returns-in_err-next-in-Some-clause-grows
-returns-in_err-next-in-Some-clause-grows t c =
-    let count : length c.args.row.now ≡ length (c.in-Some.place.now ∷ c.in-Some.rest.now) = ap length c.in-Some.ensures.cases.0 in
-    grows_fewer _ _ _ _ (omega arith) (grows_twice _ _ _ _ _ c.fill_next.ensures.adds.grows c.mux_beat.ensures.adds.grows)
 
 pub set_row-requires : goal.set_row-requires
 set_row-requires t c =
@@ -27,21 +22,16 @@ set_row-requires t c =
     let d = c.decreases in (
       omega (arith, count, d),
       (
-        row_here _ _ _ _ more (λ n o w. c.mux_beat.ensures.adds.waits n (c.fill_next.ensures.adds.waits n w)) (record { start = c.requires.row.start + 7; is_row = h.1 }),
+        row_here _ _ _ _ more (λ n o w. c.mux_beat.ensures.adds.grows.waits n (c.fill_next.ensures.adds.grows.waits n w)) (record { start = c.requires.row.start + 7; is_row = h.1 }),
         (
           beat_lasts _ _ _ c.mux_beat.ensures.adds.grows.extends c.in_ok-behind-in-Some.ensures.beat,
           (
             c.in_ok-behind-in-Some.ensures.widths,
-            (bit_lasts _ _ _ _ more c.requires.comes, (bit_lasts _ _ _ _ more c.requires.shift, (beat_lasts _ _ _ more c.requires.from, (beat_lasts _ _ _ more c.requires.end, c.requires.end_widths)))),
+            (net_lasts _ _ _ _ more c.requires.comes, (net_lasts _ _ _ _ more c.requires.shift, (beat_lasts _ _ _ more c.requires.from, (beat_lasts _ _ _ more c.requires.end, c.requires.end_widths)))),
           ),
         ),
       ),
     )
-
-pub returns-in_err-set_row-in-Some-clause-grows : goal.returns-in_err-set_row-in-Some-clause-grows
-returns-in_err-set_row-in-Some-clause-grows t c =
-    let count : length c.args.row.now ≡ length (c.in-Some.place.now ∷ c.in-Some.rest.now) = ap length c.in-Some.ensures.cases.0 in
-    grows_fewer _ _ _ _ (omega arith) (grows_twice _ _ _ _ _ (grows_twice _ _ _ _ _ c.fill_next.ensures.adds.grows c.mux_beat.ensures.adds.grows) c.set_row.ensures.grows)
 
 pub set_next_beat-requires-clause-registers : goal.set_next_beat-requires-clause-registers
 set_next_beat-requires-clause-registers t c =
@@ -52,7 +42,7 @@ pub set_next_beat-requires-clause-wait : goal.set_next_beat-requires-clause-wait
 set_next_beat-requires-clause-wait t c =
     let h = subst (λ (row : List BeatNets). IsRow c.args.builder.now c.args.from.now c.requires.row.start row) c.in-Some.ensures.cases.0 c.requires.row.is_row in
     registers_last c.args.builder.now c.set_row.new.builder c.in-Some.place.now c.in-Some.place.now.valid.number
-    (λ n o w. c.set_row.ensures.waits n (place_apart c.args.builder.now c.args.from.now c.requires.row.start c.in-Some.place.now c.in-Some.rest.now h n o) (c.mux_beat.ensures.adds.waits n (c.fill_next.ensures.adds.waits n w)))
+    (λ n o w. c.set_row.ensures.waits n (place_apart c.args.builder.now c.args.from.now c.requires.row.start c.in-Some.place.now c.in-Some.rest.now h n o) (c.mux_beat.ensures.adds.grows.waits n (c.fill_next.ensures.adds.grows.waits n w)))
     (subst (AreRegisters c.args.builder.now c.in-Some.place.now) (sym h.0.registers.numbers.valid) h.0.registers)
 
 pub set_next_beat-requires-clause-next : goal.set_next_beat-requires-clause-next
@@ -69,8 +59,3 @@ returns-in_ok-set_row-in-Some-clause-moves t c =
     (λ run cycles r n lt. c.in_ok-next-in-Some.ensures.value (cycle_of run n) ((from2.runs run cycles r).valuations n (omega arith)))
     (λ run cycles r. c.in_ok-set_row-in-Some.ensures.moves run cycles (from3.runs run cycles r))
     c.set_next_beat.ensures.value)
-
-pub returns-in_ok-set_row-in-Some-clause-grows : goal.returns-in_ok-set_row-in-Some-clause-grows
-returns-in_ok-set_row-in-Some-clause-grows t c =
-    let count : length c.args.row.now ≡ length (c.in-Some.place.now ∷ c.in-Some.rest.now) = ap length c.in-Some.ensures.cases.0 in
-    grows_fewer _ _ _ _ (omega arith) (grows_twice _ _ _ _ _ (grows_twice _ _ _ _ _ (grows_twice _ _ _ _ _ c.fill_next.ensures.adds.grows c.mux_beat.ensures.adds.grows) c.set_row.ensures.grows) c.set_next_beat.ensures.grows)

@@ -3,8 +3,8 @@ use Rattle.netlist.specs.Runs.{Always}
 use Rattle.stage_core.specs.declared.beat.BeatNets.{BeatNets}
 use Rattle.stage_core.specs.Beats.{beat_in}
 use Rattle.stage_core.specs.Rows.{place_in, row_in, first_or, filled, fill_row}
-use Rattle.stage_core.proofs.Growing.{grows_once, adds_twice, bit_fits, if_ok}
-use Rattle.stage_core.proofs.Bits.{high_and}
+use Rattle.net_parts.specs.Laws.{bit_fits, if_ok}
+use Rattle.net_parts.specs.Bits.{high_and}
 use Rattle.stage_core.proofs.rows.fill_next.Goals as goal
 
 pub returns-in_ok-here-in-Some-clause-value : goal.returns-in_ok-here-in-Some-clause-value
@@ -18,6 +18,3 @@ returns-in_ok-here-in-Some-clause-value c =
     ∙ ap (λ t. filled t (beat_in cycle c.args.from.now) (place_in cycle c.in-Some.place.now)) here
     ∙ sym (ap (λ (row : List BeatNets). first_or (fill_row ((cycle.net c.args.comes.number == 1) && (cycle.net c.args.before.number == 1)) (cycle.net c.args.comes.number == 1) (beat_in cycle c.args.from.now) (row_in cycle row)) (place_in cycle c.args.end.now)) c.in-Some.ensures.cases.0)))
     c.fill_place.ensures.value
-
-pub returns-in_ok-here-in-Some-clause-adds : goal.returns-in_ok-here-in-Some-clause-adds
-returns-in_ok-here-in-Some-clause-adds c = adds_twice _ _ _ _ _ (grows_once _ _ c.and.ensures.extends c.and.ensures.grows) c.fill_place.ensures.adds

@@ -1,9 +1,8 @@
-use Rattle.std.proofs.Common.{◌≡◌, ◌+◌, ◌<◌, ◌≤◌, List, length, take, subst, sym, ◌∙◌, arith}
+use Rattle.std.proofs.Common.{◌≡◌, ◌+◌, ◌<◌, ◌≤◌, List, length, take, subst, sym, arith}
 use Rattle.std.proofs.lemmas.List.{take_all, take_more_set}
 use Rattle.stage_core.specs.declared.beat.BeatNets.{BeatNets}
 use Rattle.stage_core.specs.Rows.{IsRow}
-use Rattle.stage_core.proofs.Growing.{extends_twice}
-use Rattle.stage_core.proofs.RowNets.{AreMade, made_more, row_numbers}
+use Rattle.stage_core.specs.RowNets.{AreMade, made_more, row_numbers}
 use Rattle.stage_core.proofs.rows.fill_places.Goals as goal
 
 pub loop-place-preserved : goal.loop-place-preserved
@@ -12,14 +11,6 @@ loop-place-preserved c =
     subst (λ (row : List BeatNets). AreMade c.args.builder.now c.reg_beat.new.builder c.args.like.now row (c.loop-place.place-index + 1)) (sym (take_more_set c.loop-place.places c.loop-place.place-index c.in_ok-place.field-0 below))
     (made_more c.args.builder.now c.loop-place.builder c.reg_beat.new.builder c.args.like.now c.in_ok-place.field-0 (take c.loop-place.place-index c.loop-place.places) c.loop-place.place-index c.loop-place.invariant
     c.reg_beat.ensures.grows c.reg_beat.ensures.still_wait c.in_ok-place.ensures.newly c.in_ok-place.ensures.beat c.in_ok-place.ensures.widths c.in_ok-place.ensures.registers c.in_ok-place.ensures.count c.in_ok-place.ensures.starts)
-
-pub returns-in_err-place-clause-grows : goal.returns-in_err-place-clause-grows
-returns-in_err-place-clause-grows c = record {
-  extends = extends_twice _ _ _ c.loop-place.invariant.extends c.reg_beat.ensures.grows.extends;
-  most = (let lines = c.loop-place.invariant.lines in let more = c.reg_beat.ensures.grows.most in let below : c.loop-place.place-index < length c.loop-place.places = omega arith in omega arith);
-  drivers = c.reg_beat.ensures.grows.drivers ∙ c.loop-place.invariant.drivers;
-  memories = c.reg_beat.ensures.grows.memories ∙ c.loop-place.invariant.memories;
-}
 
 pub returns-clause-made : goal.returns-clause-made
 returns-clause-made c n o =

@@ -1,5 +1,5 @@
 use Rattle.std.proofs.Common.{take}
-use Rattle.stage_core.proofs.RowNets.{AreMade}
+use Rattle.stage_core.specs.RowNets.{AreMade}
 use Rattle.stage_core.proofs.rows.fill_places.Given as goal
 
 abbrev pub invariant-loop-place : goal.invariant-loop-place

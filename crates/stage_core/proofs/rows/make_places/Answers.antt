@@ -1,7 +1,7 @@
-use Rattle.std.proofs.Common.{◌+◌, List, length, sym, subst, ◌∙◌, arith}
+use Rattle.std.proofs.Common.{◌+◌, List, length, sym, subst, arith}
 use Rattle.stage_core.specs.declared.beat.BeatNets.{BeatNets}
-use Rattle.stage_core.proofs.Growing.{extends_none, extends_twice}
-use Rattle.stage_core.proofs.RowNets.{AreMade, made_none, made_more, row_numbers}
+use Rattle.net_parts.specs.Laws.{extends_none}
+use Rattle.stage_core.specs.RowNets.{AreMade, made_none, made_more, row_numbers}
 use Rattle.stage_core.proofs.rows.make_places.Goals as goal
 
 pub loop-place-init : goal.loop-place-init
@@ -13,22 +13,6 @@ loop-place-preserved c =
     subst (λ (row : List BeatNets). AreMade c.args.builder.now c.reg_beat.new.builder c.args.like.now row (c.loop-place._place + 1)) (sym c.in_ok-push.ensures.items)
     (made_more c.args.builder.now c.loop-place.builder c.reg_beat.new.builder c.args.like.now c.in_ok-place.place c.loop-place.places.items c.loop-place._place c.loop-place.invariant
     c.reg_beat.ensures.grows c.reg_beat.ensures.still_wait c.in_ok-place.ensures.newly c.in_ok-place.ensures.beat c.in_ok-place.ensures.widths c.in_ok-place.ensures.registers c.in_ok-place.ensures.count c.in_ok-place.ensures.starts)
-
-pub returns-in_err-place-clause-grows : goal.returns-in_err-place-clause-grows
-returns-in_err-place-clause-grows c = record {
-  extends = extends_twice _ _ _ c.loop-place.invariant.extends c.reg_beat.ensures.grows.extends;
-  most = (let lines = c.loop-place.invariant.lines in let more = c.reg_beat.ensures.grows.most in omega arith);
-  drivers = c.reg_beat.ensures.grows.drivers ∙ c.loop-place.invariant.drivers;
-  memories = c.reg_beat.ensures.grows.memories ∙ c.loop-place.invariant.memories;
-}
-
-pub returns-in_err-push-clause-grows : goal.returns-in_err-push-clause-grows
-returns-in_err-push-clause-grows c = record {
-  extends = extends_twice _ _ _ c.loop-place.invariant.extends c.reg_beat.ensures.grows.extends;
-  most = (let lines = c.loop-place.invariant.lines in let more = c.reg_beat.ensures.grows.most in omega arith);
-  drivers = c.reg_beat.ensures.grows.drivers ∙ c.loop-place.invariant.drivers;
-  memories = c.reg_beat.ensures.grows.memories ∙ c.loop-place.invariant.memories;
-}
 
 pub returns-in_err-place-clause-still_wait : goal.returns-in_err-place-clause-still_wait
 returns-in_err-place-clause-still_wait c n w = c.reg_beat.ensures.still_wait n (c.loop-place.invariant.still_wait n w)
@@ -48,14 +32,6 @@ returns-clause-made c n o =
 
 pub returns-clause-starts : goal.returns-clause-starts
 returns-clause-starts c = c.loop-place.invariant.starts
-
-pub returns-clause-grows : goal.returns-clause-grows
-returns-clause-grows c = record {
-  extends = c.loop-place.invariant.extends;
-  most = (let lines = c.loop-place.invariant.lines in omega arith);
-  drivers = c.loop-place.invariant.drivers;
-  memories = c.loop-place.invariant.memories;
-}
 
 pub returns-clause-still_wait : goal.returns-clause-still_wait
 returns-clause-still_wait c = c.loop-place.invariant.still_wait

@@ -1,4 +1,4 @@
-use Rattle.stage_core.proofs.RowNets.{AreMade}
+use Rattle.stage_core.specs.RowNets.{AreMade}
 use Rattle.stage_core.proofs.rows.make_places.Given as goal
 
 abbrev pub invariant-loop-place : goal.invariant-loop-place

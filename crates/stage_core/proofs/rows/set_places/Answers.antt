@@ -2,19 +2,16 @@ use Rattle.std.proofs.Common.{◌+◌, List, false, refl, sym, subst, arith}
 use Rattle.netlist.specs.Runs.{cycle_of}
 use Rattle.std.proofs.lemmas.List.{nil_from_length}
 use Rattle.stage_core.specs.declared.beat.BeatNets.{BeatNets}
-use Rattle.stage_core.specs.Lasting.{bit_lasts, beat_lasts}
+use Rattle.net_parts.specs.Laws.{net_lasts, extends_twice, on_ok}
+use Rattle.stage_core.specs.Lasting.{beat_lasts}
 use Rattle.stage_core.specs.Beats.{beat_in}
-use Rattle.stage_core.specs.Growth.{WaitsWithout}
+use Rattle.net_parts.specs.Growth.{WaitsWithout}
 use Rattle.stage_core.specs.Rows.{IsRow, InRow, RowMoves, StepsRow}
-use Rattle.stage_core.proofs.Growing.{extends_none, extends_twice, grows_twice, grows_fewer, on_ok}
-use Rattle.stage_core.proofs.RowNets.{row_here}
-use Rattle.stage_core.proofs.RowSteps.{row_steps}
+use Rattle.stage_core.specs.RowNets.{row_here}
+use Rattle.stage_core.specs.RowSteps.{row_steps}
 use Rattle.stage_core.proofs.rows.set_places.Goals as goal
 
 -- ---- no places
-
-pub returns-in-None-clause-grows : goal.returns-in-None-clause-grows
-returns-in-None-clause-grows c = record { extends = extends_none _; most = omega arith; drivers = refl; memories = refl }
 
 pub returns-in-None-clause-steps : goal.returns-in-None-clause-steps
 returns-in-None-clause-steps c =
@@ -40,7 +37,7 @@ fill_place-requires-clause-place c =
     beat_lasts _ _ _ (extends_twice _ _ _ c.gives_beat.ensures.adds.grows.extends c.end_place.ensures.adds.grows.extends) h.0.nets_are
 
 pub fill_place-requires-clause-here : goal.fill_place-requires-clause-here
-fill_place-requires-clause-here c = bit_lasts _ _ _ _ (extends_twice _ _ _ c.gives_beat.ensures.adds.grows.extends c.end_place.ensures.adds.grows.extends) c.requires.comes
+fill_place-requires-clause-here c = net_lasts _ _ _ _ (extends_twice _ _ _ c.gives_beat.ensures.adds.grows.extends c.end_place.ensures.adds.grows.extends) c.requires.comes
 
 pub fill_place-requires-clause-from : goal.fill_place-requires-clause-from
 fill_place-requires-clause-from c = beat_lasts _ _ _ (extends_twice _ _ _ c.gives_beat.ensures.adds.grows.extends c.end_place.ensures.adds.grows.extends) c.requires.from
@@ -51,13 +48,13 @@ fill_place-requires-clause-widths c =
     h.0.widths
 
 pub set_row-requires-clause-row : goal.set_row-requires-clause-row
-set_row-requires-clause-row c = row_here _ _ _ _ (extends_twice _ _ _ (extends_twice _ _ _ c.gives_beat.ensures.adds.grows.extends c.end_place.ensures.adds.grows.extends) c.fill_place.ensures.adds.grows.extends) (λ n o w. c.fill_place.ensures.adds.waits n (c.end_place.ensures.adds.waits n (c.gives_beat.ensures.adds.waits n w))) c.requires.row
+set_row-requires-clause-row c = row_here _ _ _ _ (extends_twice _ _ _ (extends_twice _ _ _ c.gives_beat.ensures.adds.grows.extends c.end_place.ensures.adds.grows.extends) c.fill_place.ensures.adds.grows.extends) (λ n o w. c.fill_place.ensures.adds.grows.waits n (c.end_place.ensures.adds.grows.waits n (c.gives_beat.ensures.adds.grows.waits n w))) c.requires.row
 
 pub set_row-requires-clause-comes : goal.set_row-requires-clause-comes
-set_row-requires-clause-comes c = bit_lasts _ _ _ _ (extends_twice _ _ _ (extends_twice _ _ _ c.gives_beat.ensures.adds.grows.extends c.end_place.ensures.adds.grows.extends) c.fill_place.ensures.adds.grows.extends) c.requires.comes
+set_row-requires-clause-comes c = net_lasts _ _ _ _ (extends_twice _ _ _ (extends_twice _ _ _ c.gives_beat.ensures.adds.grows.extends c.end_place.ensures.adds.grows.extends) c.fill_place.ensures.adds.grows.extends) c.requires.comes
 
 pub set_row-requires-clause-shift : goal.set_row-requires-clause-shift
-set_row-requires-clause-shift c = bit_lasts _ _ _ _ (extends_twice _ _ _ c.end_place.ensures.adds.grows.extends c.fill_place.ensures.adds.grows.extends) c.in_ok-shift-in-Some.ensures.net
+set_row-requires-clause-shift c = net_lasts _ _ _ _ (extends_twice _ _ _ c.end_place.ensures.adds.grows.extends c.fill_place.ensures.adds.grows.extends) c.in_ok-shift-in-Some.ensures.net
 
 pub set_row-requires-clause-from : goal.set_row-requires-clause-from
 set_row-requires-clause-from c = beat_lasts _ _ _ (extends_twice _ _ _ (extends_twice _ _ _ c.gives_beat.ensures.adds.grows.extends c.end_place.ensures.adds.grows.extends) c.fill_place.ensures.adds.grows.extends) c.requires.from
@@ -65,27 +62,15 @@ set_row-requires-clause-from c = beat_lasts _ _ _ (extends_twice _ _ _ (extends_
 pub set_row-requires-clause-end : goal.set_row-requires-clause-end
 set_row-requires-clause-end c = beat_lasts _ _ _ c.fill_place.ensures.adds.grows.extends c.in_ok-end-in-Some.ensures.beat
 
-pub returns-in_err-shift-in-Some-clause-grows : goal.returns-in_err-shift-in-Some-clause-grows
-returns-in_err-shift-in-Some-clause-grows c = grows_fewer _ _ _ _ (omega arith) c.gives_beat.ensures.adds.grows
-
-pub returns-in_err-end-in-Some-clause-grows : goal.returns-in_err-end-in-Some-clause-grows
-returns-in_err-end-in-Some-clause-grows c = grows_fewer _ _ _ _ (omega arith) (grows_twice _ _ _ _ _ c.gives_beat.ensures.adds.grows c.end_place.ensures.adds.grows)
-
-pub returns-in_err-filled-in-Some-clause-grows : goal.returns-in_err-filled-in-Some-clause-grows
-returns-in_err-filled-in-Some-clause-grows c = grows_fewer _ _ _ _ (omega arith) (grows_twice _ _ _ _ _ (grows_twice _ _ _ _ _ c.gives_beat.ensures.adds.grows c.end_place.ensures.adds.grows) c.fill_place.ensures.adds.grows)
-
-pub returns-in_ok-filled-in-Some-clause-grows : goal.returns-in_ok-filled-in-Some-clause-grows
-returns-in_ok-filled-in-Some-clause-grows c = grows_fewer _ _ _ _ (omega arith) (grows_twice _ _ _ _ _ (grows_twice _ _ _ _ _ (grows_twice _ _ _ _ _ c.gives_beat.ensures.adds.grows c.end_place.ensures.adds.grows) c.fill_place.ensures.adds.grows) c.set_row.ensures.grows)
-
 pub returns-in_ok-filled-in-Some-clause-waits : goal.returns-in_ok-filled-in-Some-clause-waits
-returns-in_ok-filled-in-Some-clause-waits c n apart w = c.set_row.ensures.waits n apart (c.fill_place.ensures.adds.waits n (c.end_place.ensures.adds.waits n (c.gives_beat.ensures.adds.waits n w)))
+returns-in_ok-filled-in-Some-clause-waits c n apart w = c.set_row.ensures.waits n apart (c.fill_place.ensures.adds.grows.waits n (c.end_place.ensures.adds.grows.waits n (c.gives_beat.ensures.adds.grows.waits n w)))
 
 pub returns-in_ok-filled-in-Some-clause-no_more_wait : goal.returns-in_ok-filled-in-Some-clause-no_more_wait
 returns-in_ok-filled-in-Some-clause-no_more_wait c =
     on_ok c.set_row.result _ (WaitsWithout (InRow c.args.row.now) c.args.builder.now c.set_row.new.builder)
     (λ out n w. (
     let set = out n w in
-    (c.gives_beat.ensures.adds.no_more_wait n (c.end_place.ensures.adds.no_more_wait n (c.fill_place.ensures.adds.no_more_wait n set.0)), set.1)))
+    (c.gives_beat.ensures.adds.grows.no_more_wait n (c.end_place.ensures.adds.grows.no_more_wait n (c.fill_place.ensures.adds.grows.no_more_wait n set.0)), set.1)))
     c.set_row.ensures.no_more_wait
 
 pub returns-in_ok-filled-in-Some-clause-steps : goal.returns-in_ok-filled-in-Some-clause-steps

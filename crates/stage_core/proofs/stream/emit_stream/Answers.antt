@@ -1,13 +1,7 @@
 use Rattle.std.proofs.Common.{arith}
 use Rattle.stage_core.specs.Lasting.{beat_lasts}
-use Rattle.stage_core.proofs.Growing.{extends_twice, grows_twice, owned_same, waiting_within}
+use Rattle.net_parts.specs.Laws.{extends_twice, owned_same, waiting_within}
 use Rattle.stage_core.proofs.stream.emit_stream.Goals as goal
-
-pub returns-in_err-ready-clause-grows : goal.returns-in_err-ready-clause-grows
-returns-in_err-ready-clause-grows g c = grows_twice _ _ _ _ _ c.emit_forward.ensures.grows c.emit_backward.ensures.grows
-
-pub returns-clause-grows : goal.returns-clause-grows
-returns-clause-grows g c = grows_twice _ _ _ _ _ c.emit_forward.ensures.grows c.emit_backward.ensures.grows
 
 pub returns-clause-keeps : goal.returns-clause-keeps
 returns-clause-keeps g c shape has longer e run endless =

@@ -2,7 +2,7 @@ use Rattle.std.proofs.Common.{List, subst, ap, ◌∙◌}
 use Rattle.av_base.specs.Word.{Word}
 use Rattle.netlist.specs.declared.line.PortLine.{PortLine}
 use Rattle.netlist.specs.Netlists.{IsOutputPort}
-use Rattle.stage_core.proofs.Growing.{extends_twice}
+use Rattle.net_parts.specs.Laws.{extends_twice}
 use Rattle.stage_core.proofs.TestPorts.{still_written}
 use Rattle.stage_core.proofs.tests.made.Goals as goal
 

@@ -1,10 +1,7 @@
-use Rattle.std.proofs.Common.{◌⊎◌, inl, inr, arith}
-use Rattle.stage_core.specs.Growth.{WaitsWithout}
-use Rattle.stage_core.proofs.Growing.{grows_twice, grows_fewer, on_ok}
+use Rattle.std.proofs.Common.{◌⊎◌, inl, inr}
+use Rattle.net_parts.specs.Growth.{WaitsWithout}
+use Rattle.net_parts.specs.Laws.{on_ok}
 use Rattle.stage_core.proofs.chain.ChainStage.emit_backward.Goals as goal
-
-pub returns-clause-grows : goal.returns-clause-grows
-returns-clause-grows g c = grows_fewer _ _ _ _ (omega arith) (grows_twice _ _ _ _ _ c.emit_backward.ensures.grows c.emit_backward-2.ensures.grows)
 
 pub returns-clause-no_more_wait : goal.returns-clause-no_more_wait
 returns-clause-no_more_wait g c =

@@ -1,12 +1,5 @@
 use Rattle.std.proofs.Common.{inl, inr, arith}
-use Rattle.stage_core.proofs.Growing.{grows_twice}
 use Rattle.stage_core.proofs.chain.ChainStage.emit_forward.Goals as goal
-
-pub returns-in_err-to-clause-grows : goal.returns-in_err-to-clause-grows
-returns-in_err-to-clause-grows g c = grows_twice _ _ _ _ _ c.emit_forward.ensures.grows c.emit_forward-2.ensures.grows
-
-pub returns-clause-grows : goal.returns-clause-grows
-returns-clause-grows g c = grows_twice _ _ _ _ _ c.emit_forward.ensures.grows c.emit_forward-2.ensures.grows
 
 pub returns-clause-kept : goal.returns-clause-kept
 returns-clause-kept g c = record {

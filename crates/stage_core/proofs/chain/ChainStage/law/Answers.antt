@@ -1,6 +1,6 @@
 use Rattle.std.proofs.Common.{inl, inr, ◌∙◌}
 use Rattle.stage_core.specs.Beats.{view_of}
-use Rattle.stage_core.proofs.Between.{chain_between, chain_ready_between}
+use Rattle.stage_core.specs.Between.{chain_between, chain_ready_between}
 use Rattle.stage_core.proofs.chain.ChainStage.law.Goals as goal
 
 pub returns-clause-keeps : goal.returns-clause-keeps

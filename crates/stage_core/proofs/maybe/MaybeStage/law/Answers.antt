@@ -1,6 +1,6 @@
 use Rattle.std.proofs.Common.{subst}
 use Rattle.stage_core.specs.MaybeNets.{shape_of, forward_of, backward_of}
-use Rattle.stage_core.proofs.Between.{pass_between, kept_ignores}
+use Rattle.stage_core.specs.Between.{pass_between, kept_ignores}
 use Rattle.stage_core.proofs.maybe.MaybeStage.law.Goals as goal
 
 pub returns-in-None-clause-keeps : goal.returns-in-None-clause-keeps

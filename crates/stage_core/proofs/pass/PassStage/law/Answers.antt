@@ -1,4 +1,4 @@
-use Rattle.stage_core.proofs.Between.{pass_between}
+use Rattle.stage_core.specs.Between.{pass_between}
 use Rattle.stage_core.proofs.pass.PassStage.law.Goals as goal
 
 pub returns-clause-keeps : goal.returns-clause-keeps

@@ -1,11 +1,10 @@
-use Rattle.std.proofs.Common.{◌≡◌, List, length, refl, sym, subst, ap, ◌∙◌, arith}
+use Rattle.std.proofs.Common.{List, length, refl, sym, subst, ap, ◌∙◌}
 use Rattle.std.specs.Prelude.{IfOk, OnOk}
 use Rattle.std.proofs.lemmas.List.{nil_from_length}
 use Rattle.stage_core.specs.declared.beat.BeatNets.{BeatNets}
-use Rattle.stage_core.specs.Growth.{WaitsWithout}
+use Rattle.net_parts.specs.Growth.{WaitsWithout}
 use Rattle.stage_core.specs.Rows.{AreInRow, InRow}
 use Rattle.stage_core.specs.QueueNets.{QueueBackward}
-use Rattle.stage_core.proofs.Growing.{extends_none, grows_fewer}
 use Rattle.stage_core.proofs.queue.FifoStage.emit_backward.Goals as goal
 
 pub set_queue-requires-clause-row : goal.set_queue-requires-clause-row
@@ -15,21 +14,12 @@ pub returns-clause-made : goal.returns-clause-made
 returns-clause-made c =
     subst (λ (row : List BeatNets). IfOk c.set_queue.result (λ up. QueueBackward c.set_queue.new.builder c.args.kept.from c.args.ready up row)) (sym c.in-Some.ensures.cases.0 ∙ c.as_slice-row.ensures.value) c.set_queue.ensures.sets
 
-pub returns-clause-grows : goal.returns-clause-grows
-returns-clause-grows c =
-    let here : length c.as_slice-row.result.now ≡ length c.args.kept.places.items = ap length c.as_slice-row.ensures.value in
-    let count = c.requires.kept.count in
-    grows_fewer _ _ _ _ (omega arith) c.set_queue.ensures.grows
-
 pub returns-clause-waits : goal.returns-clause-waits
 returns-clause-waits c n apart w = c.set_queue.ensures.waits n (λ o. apart (subst (λ (row : List BeatNets). InRow row n) c.as_slice-row.ensures.value o)) w
 
 pub returns-clause-no_more_wait : goal.returns-clause-no_more_wait
 returns-clause-no_more_wait c =
     subst (λ (row : List BeatNets). OnOk c.set_queue.result (WaitsWithout (InRow row) c.args.builder.now c.set_queue.new.builder)) c.as_slice-row.ensures.value c.set_queue.ensures.no_more_wait
-
-pub returns-in-None-clause-grows : goal.returns-in-None-clause-grows
-returns-in-None-clause-grows c = record { extends = extends_none _; most = omega arith; drivers = refl; memories = refl }
 
 pub returns-in-None-clause-made : goal.returns-in-None-clause-made
 returns-in-None-clause-made c =

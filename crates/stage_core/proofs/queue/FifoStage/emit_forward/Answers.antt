@@ -3,8 +3,9 @@ use Rattle.stage_core.specs.declared.beat.BeatNets.{BeatNets}
 use Rattle.stage_core.specs.Lasting.{beat_lasts}
 use Rattle.stage_core.specs.Groups.{shown_in}
 use Rattle.stage_core.specs.Rows.{AreInRow, shown_first}
-use Rattle.stage_core.proofs.Growing.{extends_twice, grows_twice, widths_alike}
-use Rattle.stage_core.proofs.RowNets.{row_here, row_waits, first_numbered}
+use Rattle.net_parts.specs.Laws.{extends_twice}
+use Rattle.stage_core.specs.BeatLaws.{widths_alike}
+use Rattle.stage_core.specs.RowNets.{row_here, row_waits, first_numbered}
 use Rattle.stage_core.proofs.queue.FifoStage.emit_forward.Goals as goal
 
 pub show_first-requires-clause-row : goal.show_first-requires-clause-row
@@ -13,19 +14,13 @@ show_first-requires-clause-row c = subst (λ (row : List BeatNets). AreInRow c.m
 pub show_first-requires-clause-coming : goal.show_first-requires-clause-coming
 show_first-requires-clause-coming c = beat_lasts _ _ _ c.make_places.ensures.grows.extends c.requires.from
 
-pub returns-in_err-to-clause-grows : goal.returns-in_err-to-clause-grows
-returns-in_err-to-clause-grows c = grows_twice _ _ _ _ _ c.make_places.ensures.grows c.show_first.ensures.adds.grows
-
-pub returns-clause-grows : goal.returns-clause-grows
-returns-clause-grows c = grows_twice _ _ _ _ _ c.make_places.ensures.grows c.show_first.ensures.adds.grows
-
 pub returns-clause-widths : goal.returns-clause-widths
 returns-clause-widths c = widths_alike _ _ c.in_ok-to.ensures.widths
 
 pub returns-clause-kept : goal.returns-clause-kept
 returns-clause-kept c = record {
   from = beat_lasts _ _ _ (extends_twice _ _ _ c.make_places.ensures.grows.extends c.show_first.ensures.adds.grows.extends) c.requires.from;
-  row = row_here _ _ _ _ c.show_first.ensures.adds.grows.extends (λ n o. c.show_first.ensures.adds.waits n) c.in_ok-places.ensures.row;
+  row = row_here _ _ _ _ c.show_first.ensures.adds.grows.extends (λ n o. c.show_first.ensures.adds.grows.waits n) c.in_ok-places.ensures.row;
   count = c.in_ok-places.ensures.count;
 }
 
@@ -45,7 +40,7 @@ returns-clause-made c = record {
 }
 
 pub returns-clause-own_wait : goal.returns-clause-own_wait
-returns-clause-own_wait c n o = c.show_first.ensures.adds.waits n (row_waits _ _ _ _ c.in_ok-places.ensures.row.is_row n o)
+returns-clause-own_wait c n o = c.show_first.ensures.adds.grows.waits n (row_waits _ _ _ _ c.in_ok-places.ensures.row.is_row n o)
 
 pub returns-clause-newly : goal.returns-clause-newly
-returns-clause-newly c n w = c.in_ok-places.ensures.newly n (c.show_first.ensures.adds.no_more_wait n w)
+returns-clause-newly c n w = c.in_ok-places.ensures.newly n (c.show_first.ensures.adds.grows.no_more_wait n w)

@@ -1,4 +1,4 @@
-use Rattle.stage_core.proofs.QueueLaw.{queue_between, queue_ready, queue_ignores}
+use Rattle.stage_core.specs.QueueLaw.{queue_between, queue_ready, queue_ignores}
 use Rattle.stage_core.proofs.queue.FifoStage.law.Goals as goal
 
 pub returns-clause-keeps : goal.returns-clause-keeps

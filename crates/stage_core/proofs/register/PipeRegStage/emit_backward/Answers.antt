@@ -1,7 +1,8 @@
 use Rattle.std.proofs.Common.{◌∙◌, arith}
 use Rattle.netlist.specs.Runs.{cycle_of}
-use Rattle.stage_core.specs.Lasting.{bit_lasts, beat_lasts, registers_last}
-use Rattle.stage_core.proofs.Growing.{extends_twice, grows_twice, widths_turned, widths_twice}
+use Rattle.net_parts.specs.Laws.{net_lasts, extends_twice}
+use Rattle.stage_core.specs.Lasting.{beat_lasts, registers_last}
+use Rattle.stage_core.specs.BeatLaws.{widths_turned, widths_twice}
 use Rattle.stage_core.proofs.register.PipeRegStage.emit_backward.Goals as goal
 
 pub mux_beat-requires-clause-one : goal.mux_beat-requires-clause-one
@@ -18,19 +19,13 @@ set_next_beat-requires-clause-registers c = beat_lasts _ _ _ c.mux_beat.ensures.
 
 pub set_next_beat-requires-clause-wait : goal.set_next_beat-requires-clause-wait
 set_next_beat-requires-clause-wait c =
-    registers_last _ _ _ _ (λ n o. c.mux_beat.ensures.adds.waits n) (registers_last _ _ _ _ (λ n o. c.has_room.ensures.adds.waits n) c.requires.kept.registers)
+    registers_last _ _ _ _ (λ n o. c.mux_beat.ensures.adds.grows.waits n) (registers_last _ _ _ _ (λ n o. c.has_room.ensures.adds.grows.waits n) c.requires.kept.registers)
 
 pub set_next_beat-requires-clause-widths : goal.set_next_beat-requires-clause-widths
 set_next_beat-requires-clause-widths c = widths_twice _ _ _ c.requires.kept.widths (widths_turned _ _ c.in_ok-next.ensures.widths)
 
-pub returns-in_err-next-clause-grows : goal.returns-in_err-next-clause-grows
-returns-in_err-next-clause-grows c = grows_twice _ _ _ _ _ c.has_room.ensures.adds.grows c.mux_beat.ensures.adds.grows
-
-pub returns-clause-grows : goal.returns-clause-grows
-returns-clause-grows c = grows_twice _ _ _ _ _ (grows_twice _ _ _ _ _ c.has_room.ensures.adds.grows c.mux_beat.ensures.adds.grows) c.set_next_beat.ensures.grows
-
 pub returns-clause-net : goal.returns-clause-net
-returns-clause-net c = bit_lasts _ _ _ _ (extends_twice _ _ _ c.mux_beat.ensures.adds.grows.extends c.set_next_beat.ensures.grows.extends) c.in_ok-room.ensures.net
+returns-clause-net c = net_lasts _ _ _ _ (extends_twice _ _ _ c.mux_beat.ensures.adds.grows.extends c.set_next_beat.ensures.grows.extends) c.in_ok-room.ensures.net
 
 pub returns-clause-made : goal.returns-clause-made
 returns-clause-made c =
@@ -43,9 +38,9 @@ returns-clause-made c =
     }
 
 pub returns-clause-waits : goal.returns-clause-waits
-returns-clause-waits c n apart w = c.set_next_beat.ensures.still_wait n apart (c.mux_beat.ensures.adds.waits n (c.has_room.ensures.adds.waits n w))
+returns-clause-waits c n apart w = c.set_next_beat.ensures.still_wait n apart (c.mux_beat.ensures.adds.grows.waits n (c.has_room.ensures.adds.grows.waits n w))
 
 pub returns-clause-no_more_wait : goal.returns-clause-no_more_wait
 returns-clause-no_more_wait c n w =
     let set = c.set_next_beat.ensures.no_more_wait n w in
-    (c.has_room.ensures.adds.no_more_wait n (c.mux_beat.ensures.adds.no_more_wait n set.0), set.1)
+    (c.has_room.ensures.adds.grows.no_more_wait n (c.mux_beat.ensures.adds.grows.no_more_wait n set.0), set.1)

@@ -1,7 +1,7 @@
 use Rattle.std.proofs.Common.{refl, ap, ◌∙◌, arith}
 use Rattle.stage_core.specs.Beats.{widths_of}
 use Rattle.stage_core.specs.Lasting.{beat_lasts}
-use Rattle.stage_core.proofs.Growing.{numbered_here, widths_alike}
+use Rattle.stage_core.specs.BeatLaws.{numbered_here, widths_alike}
 use Rattle.stage_core.proofs.register.PipeRegStage.emit_forward.Goals as goal
 
 pub returns-clause-widths : goal.returns-clause-widths

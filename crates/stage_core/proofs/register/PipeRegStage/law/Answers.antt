@@ -1,4 +1,4 @@
-use Rattle.stage_core.proofs.RegisterLaw.{register_between, register_ready, register_ignores}
+use Rattle.stage_core.specs.RegisterLaw.{register_between, register_ready, register_ignores}
 use Rattle.stage_core.proofs.register.PipeRegStage.law.Goals as goal
 
 pub returns-clause-keeps : goal.returns-clause-keeps

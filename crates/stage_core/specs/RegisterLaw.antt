@@ -13,8 +13,8 @@ use Rattle.stage_core.specs.Beats.{view_of, ShowSame}
 use Rattle.stage_core.specs.Groups.{Shown, shown_in, nothing_shown, IsOfBeat}
 use Rattle.stage_core.specs.Law.{KeepsShape, ReadyPasses}
 use Rattle.stage_core.specs.RegisterNets.{IsBufferShape, RegisterForward, RegisterBackward}
-use Rattle.stage_core.proofs.Growing.{same_state, show_same}
-use Rattle.stage_core.proofs.Bits.{of_chosen}
+use Rattle.stage_core.specs.BeatLaws.{same_state, show_same}
+use Rattle.net_parts.specs.Bits.{of_chosen}
 
 -- ---- the machine
 

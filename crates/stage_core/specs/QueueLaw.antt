@@ -17,9 +17,9 @@ use Rattle.stage_core.specs.RegisterNets.{IsBufferShape}
 use Rattle.stage_core.specs.Rows.{Place, place_in, row_in, held_of, RowSteps, last_valid, shown_first, InRow, AllEmpty, StartsAllEmpty}
 use Rattle.stage_core.specs.QueueBits.{SetsQueue}
 use Rattle.stage_core.specs.QueueNets.{QueueForward, QueueBackward, FirstNumbered}
-use Rattle.stage_core.proofs.Growing.{same_state, show_same, all_same}
-use Rattle.stage_core.proofs.RowLemmas.{has_room, last_full, room_last}
-use Rattle.stage_core.proofs.RowHolds.{packed, room_now, row_holds}
+use Rattle.stage_core.specs.BeatLaws.{same_state, show_same, all_same}
+use Rattle.stage_core.specs.RowLemmas.{has_room, last_full, room_last}
+use Rattle.stage_core.specs.RowHolds.{packed, room_now, row_holds}
 
 last_same : (cycle : Cycle) (first : BeatNets) (rest : List BeatNets) → last_full (place_in cycle first) (row_in cycle rest) ≡ (cycle.net (last_valid first rest).number == 1)
 last_same cycle first [] = refl

@@ -6,13 +6,15 @@ use Rattle.netlist.specs.Runs.{Run, cycle_of, IsRun}
 use Rattle.netlist.specs.Longer.{Extends}
 use Rattle.stream_runs.specs.View.{Beat}
 use Rattle.stage_core.specs.declared.beat.BeatNets.{BeatNets}
-use Rattle.stage_core.specs.Beats.{IsBit, AreBeatNets, HaveSameWidths, beat_in}
+use Rattle.net_parts.specs.Nets.{IsBit}
+use Rattle.stage_core.specs.Beats.{AreBeatNets, HaveSameWidths, beat_in}
 use Rattle.stage_core.specs.Groups.{Shown, shown_in, IsOfBeat, AreRegisters, StartsEmpty, TakeNextBeat, Chooses}
-use Rattle.stage_core.specs.Growth.{GrowsBy, StillWait, WaitsBeside}
+use Rattle.net_parts.specs.Growth.{GrowsBy, StillWait, WaitsBeside}
 use Rattle.stage_core.specs.Rows.{Place, place_of, place_in, row_in, first_or, fill_row, shift_row, refilled, IsPlace, IsRow, AreInRow, InRow, AllEmpty, StartsAllEmpty, RowMoves, last_valid, row_lasts}
 use Rattle.stage_core.specs.QueueNets.{FirstNumbered}
-use Rattle.stage_core.proofs.Growing.{extends_twice, numbered_here}
-use Rattle.stage_core.proofs.Bits.{of_chosen}
+use Rattle.net_parts.specs.Laws.{extends_twice}
+use Rattle.stage_core.specs.BeatLaws.{numbered_here}
+use Rattle.net_parts.specs.Bits.{of_chosen}
 
 -- the numbers of a row
 pub row_numbers : (netlist : Netlist) (like : BeatNets) (from : ℕ) (row : List BeatNets) → IsRow netlist like from row → (n : ℕ) → InRow row n → (from ≤ n) × (n < from + 7 * length row)

@@ -9,8 +9,8 @@ use Rattle.stage_core.specs.declared.beat.BeatNets.{BeatNets}
 use Rattle.stage_core.specs.Beats.{view_of, beat_in}
 use Rattle.stage_core.specs.Groups.{Shown, shown_in}
 use Rattle.stage_core.specs.Rows.{Place, row_in, held_of, fill_row, shift_row, is_first_full, gives_beat, RowSteps, shown_first, AllEmpty, IsPacked}
-use Rattle.stage_core.proofs.Bits.{of_chosen}
-use Rattle.stage_core.proofs.RowLemmas.{has_room, fill_none, fill_packed, held_filled, held_empty, not_shifted, held_shifted, shift_packed, room_count}
+use Rattle.net_parts.specs.Bits.{of_chosen}
+use Rattle.stage_core.specs.RowLemmas.{has_room, fill_none, fill_packed, held_filled, held_empty, not_shifted, held_shifted, shift_packed, room_count}
 
 empty_packed : (row : List Place) → AllEmpty row → IsPacked row
 empty_packed [] h = tt
