@@ -13,8 +13,14 @@ ghost use Rattle.mm_examples.specs.WireRows.{one_read, one_read_system, held_bac
 ghost use Rattle.mm_examples.specs.TurnRows.{seats, askers, granted, by_shares, one_share_each, first_host_first};
 ghost use Rattle.mm_runs.specs.Packed.{operations_touched, beats_between, ReadsEachTouchedWordOnce};
 ghost use Rattle.mm_machines.specs.Link.Item.{Acts, Ends};
-ghost use Rattle.mm_examples.specs.MoreExamples.{waiting_agent, held_writes, late_read, two_reads, agent_with_bound, two_agents, limited_run, unlimited_run, default_run, byte_system, byte_reads, shared_system, turn_run, fair_tags, unfair_tags, owners_by, byte_target, wide_side, byte_side, loose_side, stuck_run, slow_run, packed_run, unpacked_run, twice_read_run, plain_pair, held_read_run, staged_system, taken_after, early_word, fickle_host, hasty_host, eager_agent, memory_run, coded_system, coded_run, burst_side, held_back_side, too_early_side, plain_system, one_by_one_run, joined_side, stuck_at_default_run};
-ghost use Rattle.mm_examples.specs.Hung.{hung_top, hung_middle, hung_bottom, hung_system, hung_run, owing_top, owing_middle, owing_bottom, owing_run, starving_top, starving_bottom, starving_system, starving_run, debt_top, debt_bottom, debt_system, debt_run};
+ghost use Rattle.mm_examples.specs.MoreExamples.{waiting_agent, held_writes, late_read, two_reads, agent_with_bound, two_agents, limited_run};
+ghost use Rattle.mm_examples.specs.MoreExamples.{unlimited_run, default_run, byte_system, byte_reads, shared_system, turn_run, fair_tags, unfair_tags};
+ghost use Rattle.mm_examples.specs.MoreExamples.{owners_by, byte_target, wide_side, byte_side, loose_side, stuck_run, slow_run, packed_run};
+ghost use Rattle.mm_examples.specs.MoreExamples.{unpacked_run, twice_read_run, plain_pair, held_read_run, staged_system, taken_after, early_word};
+ghost use Rattle.mm_examples.specs.MoreExamples.{fickle_host, hasty_host, eager_agent, memory_run, coded_system, coded_run, burst_side, held_back_side};
+ghost use Rattle.mm_examples.specs.MoreExamples.{too_early_side, plain_system, one_by_one_run, joined_side, stuck_at_default_run};
+ghost use Rattle.mm_examples.specs.Hung.{hung_top, hung_middle, hung_bottom, hung_system, hung_run, owing_top, owing_middle, owing_bottom, owing_run};
+ghost use Rattle.mm_examples.specs.Hung.{starving_top, starving_bottom, starving_system, starving_run, debt_top, debt_bottom, debt_system, debt_run};
 ghost use Rattle.mm_examples.specs.Laxer.{FallsLax, FallsHalf, FallsByWords};
 ghost use Rattle.mm_machines.specs.Rank.{AnswersPromptly};
 ghost use Rattle.mm_machines.specs.Machines.{idle, IsExpanderRun, split_parts, parts_sent};
@@ -22,7 +28,8 @@ ghost use Rattle.mm_examples.specs.MachineExamples.{second_piece};
 ghost use Rattle.mm_runs.specs.Operations.{pieces, bytes_read, filled_lanes};
 ghost use Rattle.mm_runs.specs.Operations.Operation.{Write, Read};
 ghost use Rattle.mm_runs.specs.Legal.{given, IsLegalHost, IsProperAtAgent, IsProperAtHost, IsLegalAgent, IsWithinPendingBound, unanswered};
-ghost use Rattle.mm_runs.specs.Order.{asked, issued, taken, of_host, owners_taken, are_together, answers, ServesInGrantedOrder, ReturnsInCommandOrder, KeepsReadOrder, words_given_in, beats_taken, ActsAsMemory, untaken, HasResponses};
+ghost use Rattle.mm_runs.specs.Order.{asked, issued, taken, of_host, owners_taken, are_together, answers, ServesInGrantedOrder, ReturnsInCommandOrder};
+ghost use Rattle.mm_runs.specs.Order.{KeepsReadOrder, words_given_in, beats_taken, ActsAsMemory, untaken, HasResponses};
 ghost use Rattle.mm_machines.specs.Link.{items, CarriesCommands, shown_at, taken_at};
 ghost use Rattle.mm_examples.specs.Faults.{laneless_system, laneless_run, laneless_port, split_system, split_run, split_port};
 ghost use Rattle.mm_examples.specs.Joint.{joint_system, joint_run, joint_inside, joint_holds};
@@ -31,13 +38,15 @@ ghost use Rattle.mm_runs.specs.Views.Responses.{AreZero};
 ghost use Rattle.mm_machines.specs.Lines.{target_of, Wired};
 ghost use Rattle.mm_machines.specs.BoundedWire.{IsBoundedWire, IsWireForm, agent_side};
 ghost use Rattle.mm_runs.specs.Whole.{IsLegalRun, IsSafe};
-ghost use Rattle.mm_examples.specs.Examples.{host_of, shape_of, system_of, run_of, no_host, narrow_system, narrow_run, narrow_host, all_lanes_run, stray_run, busy_run, wide_system, wrap_run, whole_bursts_run, mixed_bursts_run, packed_system, read_run};
+ghost use Rattle.mm_examples.specs.Examples.{host_of, shape_of, system_of, run_of, no_host, narrow_system, narrow_run, narrow_host, all_lanes_run};
+ghost use Rattle.mm_examples.specs.Examples.{stray_run, busy_run, wide_system, wrap_run, whole_bursts_run, mixed_bursts_run, packed_system, read_run};
+ghost use Rattle.mm_examples.specs.Examples.{byte_write};
 
 /// A 32-bit host writes aabbccdd at 4 with the lanes 6 to an 8-bit agent: two operations.
 pub fn narrow_write()
     ensures issued { issued narrow_system narrow_run 0 0 2 ≡ Write 5 0xcc ∷ Write 6 0xbb ∷ [] }
     ensures taken { of_host 0 (taken narrow_system narrow_run 0 2) ≡ Write 5 0xcc ∷ Write 6 0xbb ∷ [] }
-    ensures beats { beats_taken narrow_system narrow_run 0 2 ≡ record { tag = 0; beat = record { kind = Writes; address = 5; word = 0xcc; enables = 1 } } ∷ record { tag = 0; beat = record { kind = Writes; address = 6; word = 0xbb; enables = 1 } } ∷ [] }
+    ensures beats { beats_taken narrow_system narrow_run 0 2 ≡ byte_write 5 0xcc ∷ byte_write 6 0xbb ∷ [] }
     ensures together { are_together (owners_taken narrow_system narrow_run 0 2) ≡ true }
 {}
 

@@ -1,6 +1,6 @@
 -- Two links in a row bring answers back as one link.
 use Rattle.std.proofs.Common.{ℕ, zero, suc, ◌<◌, ◌≤◌, ◌≡◌, ◌+◌, ◌-◌, [], ◌∷◌, ◌++◌, List, true, false, IsTrue, arith, refl, sym, ap, ap₂, ◌∙◌, subst, append_assoc, append-nil, length, map, flat_map, take, drop, zip, MatchOption, inl, inr, take-append-drop, length-append, length-drop}
-use Rattle.std.proofs.lemmas.List.{map-append, length-map, drop_at, take-map, drop-map, take-append-le}
+use Rattle.std.proofs.lemmas.List.{map-append, length-map, drop_at, take-map, drop-map}
 use Rattle.std.proofs.lemmas.Bool.{cases_Bool}
 use Rattle.mm_machines.proofs.Laws.{middle_legal, middle_owed, chain_owed}
 use Rattle.histories.specs.Laws.{prefix_trans, prefix_map, prefix_flat_map, before_extends}

@@ -1,9 +1,5 @@
 -- Laws of histories, of legality and of links.
 use Rattle.std.proofs.Common.{ℕ, zero, suc, ◌≤◌, ◌≡◌, ◌-◌, arith, refl, nat_eq, true, eq-eqb}
-use Rattle.histories.specs.History.{IsPrefix}
-use Rattle.histories.specs.Laws.{before_prefix, prefix_filter, prefix_flat_map}
-use Rattle.mm_runs.specs.Views.{System, Run}
-use Rattle.mm_runs.specs.Order.{issued, taken}
 use Rattle.mm_machines.specs.Shorter.{legal_at_before}
 use Rattle.mm_machines.specs.Link.{Target, Port, KeepsLinkLaw, AreLegalAt, AnswersAreOwed}
 

@@ -1,5 +1,5 @@
 -- A wire keeps the law of a link, with hold 0.
-use Rattle.std.proofs.Common.{ℕ, zero, suc, ◌<◌, ◌≤◌, ◌≡◌, ◌+◌, ◌-◌, ◌/◌, [], ◌∷◌, ◌++◌, List, Bool, true, false, IsTrue, arith, refl, sym, ap, ◌∙◌, append_assoc, append-nil, subst, ap₂, length, map, flat_map, take, drop, zip, Some, slice_get, MatchOption, min, le_refl, max, fold, nat_lt, length-append, one-mul, mul-div_cancel}
+use Rattle.std.proofs.Common.{ℕ, zero, suc, ◌<◌, ◌≤◌, ◌≡◌, ◌+◌, ◌-◌, [], ◌∷◌, ◌++◌, List, Bool, true, false, IsTrue, arith, refl, sym, ap, ◌∙◌, append_assoc, append-nil, subst, ap₂, length, map, flat_map, take, drop, zip, Some, slice_get, MatchOption, le_refl, max, fold, nat_lt, length-append}
 use Rattle.std.proofs.lemmas.List.{take-append-le}
 use Rattle.std.proofs.Common.{le_of_eq, get_or}
 use Rattle.std.proofs.lemmas.Option.{slice_get-get_or}
@@ -12,7 +12,7 @@ use Rattle.mm_runs.specs.Laws.{same_pieces, accepts_shows, legal_keeps}
 use Rattle.histories.specs.History.{KeepsItems, before, only_if, is_high, unreached, total, AreWithin, IsPrefix}
 use Rattle.histories.specs.History.AreWithin.{all_placed, placed, next_room}
 use Rattle.mm_runs.specs.Views.{Shape}
-use Rattle.mm_runs.specs.Operations.{Beat, filled_lanes, pieces, byte_at}
+use Rattle.mm_runs.specs.Operations.{Beat, filled_lanes, byte_at}
 use Rattle.mm_runs.specs.Commands.{shows}
 use Rattle.mm_runs.specs.Legal.{Word}
 use Rattle.mm_runs.specs.Order.{Answer, HoldsAnswers, greatest_code}

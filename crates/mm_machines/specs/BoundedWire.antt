@@ -3,7 +3,9 @@
 use Rattle.std.specs.Prelude.{◌≡◌, ℕ, suc, ◌+◌, ◌*◌, ◌/◌, ◌^◌, ◌<◌, ◌≤◌, Bool, true, false, ◌&&◌, ◌||◌, [], ◌∷◌, if◌then◌else◌, nat_eq, nat_lt, Option, Some, None, IsFalse}
 use Rattle.histories.specs.History.{is_high, one_if}
 use Rattle.mm_runs.specs.Views.{Shape, HostSide, AgentSide, HostView, AgentView, System, Run, Kind}
+use Rattle.mm_runs.specs.Views.Responses.{AreZero}
 use Rattle.mm_runs.specs.Legal.{host_accepts}
+use Rattle.mm_runs.specs.Whole.{IsLegalRun, IsSafe}
 
 -- what differs among such wires
 pub record WireForm : Type 0 where
@@ -100,3 +102,10 @@ pub record IsBoundedWire (form : WireForm) (host : HostView) (agent : AgentView)
   pub starts : 0 < end → count 0 ≡ 0
   pub counts : (c : ℕ) → suc c < end → count c + one_if (takes_read host c) < 32 → one_if (is_high (agent.answer_valid c)) ≤ count c + one_if (takes_read host c) →
       count (suc c) + one_if (is_high (agent.answer_valid c)) ≡ count c + one_if (takes_read host c)
+
+-- the host and the agent of a wire are legal, and what it promises them
+abbrev pub IsLegalWireRun : WireForm → HostView → AgentView → ℕ → Type 0
+IsLegalWireRun form host agent end = IsLegalRun (wire_system form) (wire_run host agent) end
+
+abbrev pub IsSafeWireRun : WireForm → HostView → AgentView → ℕ → Type 0
+IsSafeWireRun form host agent end = IsSafe AreZero (wire_system form) (wire_run host agent) end

@@ -1,7 +1,7 @@
 -- The command path of the part next to a host: wires, and a gate that hides a read.
 use Rattle.std.specs.Prelude.{◌≡◌, ℕ, suc, Bool, not, ◌&&◌, ◌||◌, if◌then◌else◌, IsTrue, IsFalse}
 use Rattle.histories.specs.History.{one_if, is_high}
-use Rattle.mm_runs.specs.Views.{Levels, levels_at, HostSide, HostView}
+use Rattle.mm_runs.specs.Views.{Levels, levels_at, HostSide, HostView, System, Run}
 use Rattle.mm_runs.specs.Commands.{is_held, transfer_at}
 use Rattle.mm_machines.specs.Link.{Port, takes}
 
@@ -20,3 +20,7 @@ pub record IsGate (side : HostSide) (view : HostView) (down : Port) (shut : ℕ 
   pub tag : (c : ℕ) → down.commands.tag c ≡ 0
   -- the gate doesn't shut on a read that has been let through and waits
   pub opens : (c : ℕ) → IsTrue (is_held down.commands.signals (takes down) c) → IsFalse (shut (suc c))
+
+-- the gate behind a host of a system
+abbrev pub HasGate : System → Run → ℕ → Port → (ℕ → Bool) → Type 0
+HasGate system run host down shut = IsGate (system.host host) (run.at_host host) down shut

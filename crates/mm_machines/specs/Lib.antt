@@ -1,5 +1,6 @@
 pub mod Paths
 pub mod Link
+pub mod LinkPair
 pub mod Blocks
 pub mod Rank
 pub mod Lines

@@ -318,6 +318,18 @@ pub record IsPipeLine (system : System) (agent hold stages : ℕ) (up down : Tag
   pub commands : (c : ℕ) → c ≤ end → AreLegalAt up.port c → AreOwedByTag system down (c - 1) → PipeCarriesCommands system agent hold stages up down c
   pub answers : (c : ℕ) → c ≤ end → AreLegalAt up.port c → AreOwedByTag system down c → AreDelayed system stages up down c
 
+-- what a pipe holds, and how many stages it has
+pub record Pipe : Type 0 where
+  pub hold : ℕ
+  pub stages : ℕ
+
+abbrev pub KeepsPipeLine : System → ℕ → Pipe → TaggedPort → TaggedPort → ℕ → Type 0
+KeepsPipeLine system agent pipe up down end = IsPipeLine system agent pipe.hold pipe.stages up down end
+
+-- two pipes in a row
+abbrev pub joined_pipe : Pipe → Pipe → Pipe
+joined_pipe first second = record { hold = first.hold + second.hold; stages = first.stages + second.stages }
+
 -- ---- mm_agent
 
 abbrev pub tagged_operations : List Group → List Tagged

@@ -1,12 +1,12 @@
 -- Machines of links over views: what a side takes, as a list of beats; a stage with a queue; machines that send each beat in parts.
-use Rattle.std.specs.Prelude.{◌≡◌, ℕ, zero, suc, ◌≤◌, ◌<◌, ◌+◌, ◌-◌, ◌*◌, ◌/◌, ◌%◌, ◌^◌, Bool, true, false, not, ◌&&◌, ◌||◌, List, [], ◌∷◌, ◌++◌, length, drop, if◌then◌else◌, nat_lt, nat_eq, filter, map, IsTrue, IsFalse}
+use Rattle.std.specs.Prelude.{◌≡◌, ℕ, zero, suc, ◌≤◌, ◌<◌, ◌+◌, ◌-◌, ◌*◌, ◌/◌, ◌%◌, ◌^◌, Bool, true, false, not, ◌&&◌, ◌||◌, List, [], ◌∷◌, ◌++◌, length, drop, if◌then◌else◌, nat_lt, nat_eq, filter, map, flat_map, IsTrue, IsFalse}
 use Rattle.histories.specs.History.{one_if, only_if, is_high, all_accepted, numbers}
 use Rattle.mm_runs.specs.Views.{Shape, Levels, levels_at}
 use Rattle.mm_machines.specs.Paths.{CommandView, AnswerView}
-use Rattle.mm_runs.specs.Operations.{Beat, pieces}
+use Rattle.mm_runs.specs.Operations.{Beat, Operation, operations_of, pieces}
 use Rattle.mm_runs.specs.Views.Kind.{Reads, Writes}
 use Rattle.mm_runs.specs.Commands.{Burst, burst_after, burst_before, transfer_of, shows, is_held, is_of_reads, byte_address}
-use Rattle.mm_machines.specs.Link.{Target, Port, Marked, takes, items_from, items_of, acted_after, operations_among, operations_in, beats_with, words_at, words_owed}
+use Rattle.mm_machines.specs.Link.{Target, Port, Marked, AreLegalAt, CarriesCommands, takes, items_from, items_of, acted_after, operations_among, operations_in, beats_with, words_at, words_owed}
 
 -- a beat as a cycle shows it
 pub record Raw : Type 0 where
@@ -187,3 +187,81 @@ select_parts narrow wide burst raw = single raw.tag raw.more (select_of wide.wor
 abbrev pub parts_sent : Port → Port → ℕ → List Raw
 parts_sent up down zero = []
 parts_sent up down (suc c) = if takes up c then [] else parts_sent up down c ++ only_if (takes down c) (raw_at down c)
+
+-- ---- what the laws of these machines ask
+
+-- the paths above and below a machine
+pub record Sides : Type 0 where
+  pub commands_above : CommandView
+  pub answers_above : AnswerView
+  pub commands_below : CommandView
+  pub answers_below : AnswerView
+
+-- a stage, with its queue as each cycle begins
+pub record Stage : Type 0 where
+  pub depth : ℕ
+  pub shape : Shape
+  pub sides : Sides
+  pub queue : ℕ → List Raw
+
+abbrev pub above : Stage → Port
+above stage = port_of stage.shape stage.sides.commands_above stage.sides.answers_above
+
+abbrev pub below : Stage → Port
+below stage = port_of stage.shape stage.sides.commands_below stage.sides.answers_below
+
+abbrev pub RunsAsStage : Stage → Type 0
+RunsAsStage stage = IsStageRun stage.depth (above stage) (below stage) stage.queue
+
+-- waitrequest is low above wherever there is room
+abbrev pub WaitsOnlyWhenFull : Stage → Type 0
+WaitsOnlyWhenFull stage = (c : ℕ) → length (stage.queue c) < stage.depth → is_high (stage.sides.commands_above.wait c) ≡ false
+
+-- in these states of the burst the parts of a beat are right, and they are the states that a legal host leads to
+pub record ExpandsWhile (target : Target) (wide narrow : Shape) (parts : Burst → Raw → List Raw) (stands : Burst → Bool) : Type 0 where
+  pub begins : IsTrue (stands idle)
+  pub lasts : (burst : Burst) (raw : Raw) → IsFitBeat wide burst raw → IsTrue (stands burst) → IsTrue (stands (burst_past wide burst raw))
+  pub expands : (burst : Burst) (raw : Raw) (below : Burst) → IsFitBeat wide burst raw → IsTrue (stands burst) → below.left ≡ 0 → Expands target wide narrow parts burst raw below
+
+-- every machine that sends these parts carries commands and holds nothing
+abbrev pub PartsCarryCommands : Target → Shape → Shape → (Burst → Raw → List Raw) → Type 0
+PartsCarryCommands target wide narrow parts =
+    (sides : Sides) (sent rest : ℕ → List Raw) (end : ℕ) →
+    let up = port_of wide sides.commands_above sides.answers_above in
+    let down = port_of narrow sides.commands_below sides.answers_below in
+    IsExpanderRun parts up down sent rest end → AreLegalAt up end → CarriesCommands target 0 up down end
+
+-- narrow words of the agent's size, `count` of which make a wide one, whose commands are of one beat
+pub record MaySplit (target : Target) (wide narrow : Shape) (count : ℕ) : Type 0 where
+  pub bytes : narrow.unit_bytes ≡ 1
+  pub some : 0 < narrow.word_bytes
+  pub same : narrow.word_bytes ≡ target.shape.word_bytes
+  pub one : 0 < count
+  pub whole : wide.word_bytes ≡ count * narrow.word_bytes
+  pub one_beat : wide.burst_bits ≡ 1
+
+-- the operations of the pieces of a wide beat, in order
+abbrev pub operations_of_pieces : Shape → Shape → Shape → ℕ → Beat → List Operation
+operations_of_pieces wide narrow target span beat =
+    flat_map (λ piece. operations_of narrow target span (piece_of target.word_bytes beat piece)) (numbers 0 (pieces wide target))
+
+-- wide words of the agent's size, which has byte enables
+pub record MaySelect (narrow wide target : Shape) : Type 0 where
+  pub some : 0 < narrow.word_bytes
+  pub same : wide.word_bytes ≡ target.word_bytes
+  pub enables : target.has_enables ≡ true
+
+-- the lanes of a narrow beat lie in one word of the agent, and its byte enables fit their port
+pub record LiesInOneWord (narrow target : Shape) (address enables : ℕ) : Type 0 where
+  pub lanes : address % target.word_bytes + narrow.word_bytes ≤ target.word_bytes
+  pub few : enables < 2 ^ narrow.word_bytes
+
+-- a beat that a lane selector passes on: of a command of one beat, with no burst under way above or below
+pub record MaySelectBeat (target : Target) (narrow wide : Shape) (burst : Burst) (raw : Raw) (below : Burst) : Type 0 where
+  pub bytes : wide.unit_bytes ≡ 1
+  pub words : MaySelect narrow wide target.shape
+  pub smaller : narrow.word_bytes ≤ target.shape.word_bytes
+  pub one_beat : raw.levels.count ≡ 1
+  pub free_above : burst.left ≡ 0
+  pub free_below : below.left ≡ 0
+  pub in_word : LiesInOneWord narrow target.shape (byte_address narrow raw.levels.address) raw.levels.enables

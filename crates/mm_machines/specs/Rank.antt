@@ -116,3 +116,19 @@ pub record HoldsOneBeat (up down : Port) (end : ℕ) : Type 0 where
   pub next : (c : ℕ) → IsFalse (full c) → full (suc c) ≡ takes up c
   pub holds : (c : ℕ) → c ≤ end → taken_at up c ≡ taken_at down c ++ only_if (full c) (marked_at down c)
   pub words : (c : ℕ) → c ≤ end → words_at up c ≡ words_at down c
+
+-- link `i` of a chain has a rank that falls
+pub record PartRankFalls (target : Target) (ports : ℕ → Port) (i : ℕ) (rank : ℕ → ℕ) (largest end : ℕ) : Type 0 where
+  pub legal : AreLegalAt (ports (suc i)) (end + 1)
+  pub falls : LinkRankFalls target (ports (suc i)) (ports i) rank largest end
+
+-- a chain whose ranks fall stands in a window in which nothing below hinders it
+pub record IsStuckChain (target : Target) (ports : ℕ → Port) (rank : ℕ → ℕ → ℕ) (largest few : ℕ → ℕ) (n from size : ℕ) : Type 0 where
+  pub ranks : KeepLinkRanks target ports rank largest few n from size
+  pub unhindered : IsUnhindered target ports n from size
+
+-- the operations shown above a link aren't all asked below it, or their words have come, or a word is owed below
+abbrev pub is_on_its_way : Target → Port → Port → ℕ → Bool
+is_on_its_way target up down c =
+    nat_lt (length (operations_among target down.shape (taken_at down (suc c)))) (length (operations_among target up.shape (shown_at up (suc c))))
+    || has_word_ready target up down (suc c) || is_owed down c

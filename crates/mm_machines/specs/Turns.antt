@@ -4,7 +4,7 @@ use Rattle.histories.specs.History.{one_if}
 use Rattle.mm_runs.specs.Views.{System}
 use Rattle.mm_runs.specs.Commands.{shows}
 use Rattle.mm_machines.specs.Link.{Port, takes, marked_at, closes}
-use Rattle.ranks.specs.Turns.{Round, Seat, Turn, turn_of}
+use Rattle.ranks.specs.Turns.{Round, Seat, Turn, turn_of, AllShare, is_seated}
 use Rattle.ranks.specs.Turns.Turn.{Nobody, Begins}
 
 -- the host whose beat is shown in a cycle, if any, and the round after it
@@ -77,3 +77,19 @@ others_begun seats up down host from (suc size) =
 abbrev pub IsKeptAsking : List Seat → (ℕ → Port) → Port → ℕ → ℕ → ℕ → Type 0
 IsKeptAsking seats up down host from size =
     (c : ℕ) → from ≤ c → c < from + size → IsTrue (asks_at up c host) × IsFalse (begins_at seats up down (nat_eq host) c)
+
+-- a host that asks bears its number as its tag
+abbrev pub BearOwnTags : (ℕ → Port) → Type 0
+BearOwnTags up = (host c : ℕ) → IsTrue (asks_at up c host) → (up host).commands.tag c ≡ host
+
+-- an arbiter that keeps the turn rule, among hosts that each have a share
+pub record IsFairArbiter (seats : List Seat) (up : ℕ → Port) (down : Port) (end : ℕ) : Type 0 where
+  pub rule : TakesTurnsByRule seats up down end
+  pub tags : BearOwnTags up
+  pub shares : AllShare seats
+
+-- a host with a seat asks throughout a window before `end`, and none of its commands begins in it
+pub record AsksInVain (seats : List Seat) (up : ℕ → Port) (down : Port) (end host from size : ℕ) : Type 0 where
+  pub seated : IsTrue (is_seated host seats)
+  pub within : from + size ≤ end
+  pub asks : IsKeptAsking seats up down host from size

@@ -1,32 +1,41 @@
 //! The lines that the parts of a module keep, and what they give together.
 
-ghost use Rattle.std.specs.Prelude.{◌+◌, ℕ, Bool};
+ghost use Rattle.std.specs.Prelude.{ℕ, Bool};
 ghost use Rattle.mm_runs.specs.Views.{Responses, System, Run};
 ghost use Rattle.mm_runs.specs.Legal.{IsLegalHost};
 ghost use Rattle.mm_machines.specs.Link.{Port};
-ghost use Rattle.mm_machines.specs.Gate.{IsGate};
+ghost use Rattle.mm_machines.specs.Gate.{HasGate};
 ghost use Rattle.mm_machines.specs.Register.{AreRegisters};
-ghost use Rattle.mm_machines.specs.Lines.{HostCarriesCommands, AreTaggedInOrder, AreOwedByTag, Inside, Holds, Wired, TaggedPort, IsPipeLine};
+ghost use Rattle.mm_machines.specs.Lines.{HostCarriesCommands, AreTaggedInOrder, AreOwedByTag, Inside, Holds, Wired, TaggedPort, IsPipeLine, Pipe, KeepsPipeLine, joined_pipe};
 ghost use Rattle.mm_runs.specs.Whole.{IsLegalRun, IsSafe};
 
 /// The lines of the parts give what is promised at the ports, for any number of hosts, agents and stages.
 pub fn the_lines_give_the_headline()
-    ensures { (responses : Responses) (system : System) (run : Run) (inside : Inside) (holds : Holds) (end : ℕ) → Wired responses system run inside holds end → IsLegalRun system run end → IsSafe responses system run end }
+    ensures { (responses : Responses) (system : System) (run : Run) (inside : Inside) (holds : Holds) (end : ℕ)
+        → Wired responses system run inside holds end → IsLegalRun system run end
+        → IsSafe responses system run end }
 {}
 
 /// A register for commands and one for answers keep the line of a pipe of one stage, and pipes in a row are one pipe.
 pub fn registers_are_a_pipe()
-    ensures one { (system : System) (agent : ℕ) (up down : TaggedPort) → AreRegisters up down → (end : ℕ) → IsPipeLine system agent 1 1 up down end }
-    ensures none { (system : System) (agent : ℕ) (port : TaggedPort) (end : ℕ) → IsPipeLine system agent 0 0 port port end }
-    ensures two { (system : System) (agent first_hold second_hold first_stages second_stages : ℕ) (up middle down : TaggedPort) (end : ℕ) → IsPipeLine system agent first_hold first_stages up middle end → IsPipeLine system agent second_hold second_stages middle down end → IsPipeLine system agent (first_hold + second_hold) (first_stages + second_stages) up down end }
+    ensures one { (system : System) (agent : ℕ) (up down : TaggedPort) → AreRegisters up down → (end : ℕ)
+        → IsPipeLine system agent 1 1 up down end }
+    ensures none { (system : System) (agent : ℕ) (port : TaggedPort) (end : ℕ)
+        → IsPipeLine system agent 0 0 port port end }
+    ensures two { (system : System) (agent : ℕ) (first second : Pipe) (up middle down : TaggedPort) (end : ℕ)
+        → KeepsPipeLine system agent first up middle end → KeepsPipeLine system agent second middle down end
+        → KeepsPipeLine system agent (joined_pipe first second) up down end }
 {}
 
 /// Words that bear the tags of their commands in order are owed for each tag by itself.
 pub fn tags_in_order()
-    ensures { (system : System) (tagged : TaggedPort) (end : ℕ) → AreTaggedInOrder tagged end → AreOwedByTag system tagged end }
+    ensures { (system : System) (tagged : TaggedPort) (end : ℕ) → AreTaggedInOrder tagged end
+        → AreOwedByTag system tagged end }
 {}
 
 /// Wires and a gate on reads keep the commands of the line next to a host.
 pub fn gate_is_a_host_part()
-    ensures { (system : System) (run : Run) (host : ℕ) (down : Port) (shut : ℕ → Bool) (end : ℕ) → IsGate (system.host host) (run.at_host host) down shut → IsLegalHost (system.host host) (run.at_host host) end → HostCarriesCommands system run host 0 down end }
+    ensures { (system : System) (run : Run) (host : ℕ) (down : Port) (shut : ℕ → Bool) (end : ℕ)
+        → HasGate system run host down shut → IsLegalHost (system.host host) (run.at_host host) end
+        → HostCarriesCommands system run host 0 down end }
 {}

@@ -1,39 +1,48 @@
 //! What must go on: ranks that fall, and turns.
 
-ghost use Rattle.std.specs.Prelude.{suc, ◌||◌, nat_lt, ◌≡◌, ◌≤◌, ◌+◌, ℕ, List, length, IsTrue};
+ghost use Rattle.std.specs.Prelude.{suc, ◌≤◌, ◌+◌, ℕ, List, IsTrue};
 ghost use Rattle.histories.specs.History.{IsPrefix};
-ghost use Rattle.mm_machines.specs.Rank.{HoldsOneBeat, LinkRankFalls, link_part, link_budget, is_owed, IsUnhindered, KeepLinkRanks};
-ghost use Rattle.mm_machines.specs.Turns.{TakesTurnsByRule, asks_at, IsKeptAsking, others_begun};
+ghost use Rattle.mm_machines.specs.Rank.{HoldsOneBeat, LinkRankFalls, link_part, link_budget, is_owed, is_on_its_way, PartRankFalls, IsStuckChain};
+ghost use Rattle.mm_machines.specs.Turns.{IsFairArbiter, AsksInVain, others_begun};
 ghost use Rattle.ranks.specs.Junction.{budgets};
-ghost use Rattle.ranks.specs.Turns.{Seat, AllShare, is_seated, shares_of_others};
+ghost use Rattle.ranks.specs.Turns.{Seat, shares_of_others};
 ghost use Rattle.ranks.specs.Window.{KeepsRank, allowances};
-ghost use Rattle.mm_machines.specs.Link.{Target, Port, AreLegalAt, items, shown_at, taken_at, operations_among, has_word_ready};
+ghost use Rattle.mm_machines.specs.Link.{Target, Port, AreLegalAt, items};
 
 /// A link whose rank falls is a part of the law of windows.
 pub fn link_keeps_rank()
-    ensures { (target : Target) (ports : ℕ → Port) (i : ℕ) (rank : ℕ → ℕ) (largest from size : ℕ) → AreLegalAt (ports (suc i)) (from + size + 1) → LinkRankFalls target (ports (suc i)) (ports i) rank largest (from + size) → KeepsRank (link_part target ports i rank largest from) size }
+    ensures { (target : Target) (ports : ℕ → Port) (i : ℕ) (rank : ℕ → ℕ) (largest from size : ℕ)
+        → PartRankFalls target ports i rank largest (from + size)
+        → KeepsRank (link_part target ports i rank largest from) size }
 {}
 
 /// By the order of the operations, a word that is owed above a link isn't wholly asked below it, or has come, or is owed below.
 pub fn owed_words_flow()
-    ensures { (target : Target) (up down : Port) (end c : ℕ) → AreLegalAt up end → AreLegalAt down end → suc c ≤ end → IsPrefix (items target down (suc c)) (items target up (suc c)) → IsTrue (is_owed up c) → IsTrue (nat_lt (length (operations_among target down.shape (taken_at down (suc c)))) (length (operations_among target up.shape (shown_at up (suc c)))) || has_word_ready target up down (suc c) || is_owed down c) }
+    ensures { (target : Target) (up down : Port) (end c : ℕ) → AreLegalAt up end → AreLegalAt down end
+        → suc c ≤ end → IsPrefix (items target down (suc c)) (items target up (suc c))
+        → IsTrue (is_owed up c) → IsTrue (is_on_its_way target up down c) }
 {}
 
 /// A chain of links whose ranks fall isn't stuck for longer than the ranks allow, before an agent that neither waits nor owes a word.
 pub fn chain_is_short()
-    ensures { (target : Target) (ports : ℕ → Port) (rank : ℕ → ℕ → ℕ) (largest few : ℕ → ℕ) (n from size : ℕ) → KeepLinkRanks target ports rank largest few n from size → IsUnhindered target ports n from size → size ≤ allowances (budgets (link_budget target ports rank largest few from) n) }
+    ensures { (target : Target) (ports : ℕ → Port) (rank : ℕ → ℕ → ℕ) (largest few : ℕ → ℕ) (n from size : ℕ)
+        → IsStuckChain target ports rank largest few n from size
+        → size ≤ allowances (budgets (link_budget target ports rank largest few from) n) }
 {
     ranks::path_is_short()
 }
 
 /// A register of one place keeps the clause for commands with a rank that is always 0.
 pub fn register_falls()
-    ensures { (target : Target) (up down : Port) (end : ℕ) → AreLegalAt up end → HoldsOneBeat up down end → LinkRankFalls target up down (λ c. 0) 0 end }
+    ensures { (target : Target) (up down : Port) (end : ℕ) → AreLegalAt up end → HoldsOneBeat up down end
+        → LinkRankFalls target up down (λ c. 0) 0 end }
 {}
 
 /// Where an arbiter keeps the turn rule, a host that asks, and none of whose commands begins, is passed by at most as many commands of others as they have shares together.
 pub fn turn_rule_is_fair()
-    ensures { (seats : List Seat) (up : ℕ → Port) (down : Port) (end : ℕ) → TakesTurnsByRule seats up down end → ((h c : ℕ) → IsTrue (asks_at up c h) → (up h).commands.tag c ≡ h) → AllShare seats → (host from size : ℕ) → IsTrue (is_seated host seats) → from + size ≤ end → IsKeptAsking seats up down host from size → others_begun seats up down host from size ≤ shares_of_others host seats }
+    ensures { (seats : List Seat) (up : ℕ → Port) (down : Port) (end : ℕ) → IsFairArbiter seats up down end
+        → (host from size : ℕ) → AsksInVain seats up down end host from size
+        → others_begun seats up down host from size ≤ shares_of_others host seats }
 {
     ranks::asking_is_passed_by_few();
     ranks::passes_within_shares();

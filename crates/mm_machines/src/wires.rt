@@ -4,36 +4,41 @@ ghost use Rattle.std.specs.Prelude.{◌<◌, ℕ, Bool};
 ghost use Rattle.mm_machines.specs.Rank.{LinkRankFalls};
 ghost use Rattle.mm_machines.specs.PartRanks.{KeepsMoving};
 ghost use Rattle.mm_runs.specs.Views.{HostView, AgentView};
-ghost use Rattle.mm_runs.specs.Views.Responses.{AreZero};
 ghost use Rattle.mm_machines.specs.Link.{Target, Port, KeepsLinkLaw, AreLegalAt};
 ghost use Rattle.mm_machines.specs.Straight.{GoesStraightThrough, IsShownPromptly};
 ghost use Rattle.mm_runs.specs.Plan.{IsPlan};
-ghost use Rattle.mm_machines.specs.BoundedWire.{WireForm, IsWireForm, IsBoundedWire, wire_system, wire_run};
-ghost use Rattle.mm_runs.specs.Whole.{IsLegalRun, IsSafe};
+ghost use Rattle.mm_machines.specs.BoundedWire.{WireForm, IsWireForm, IsBoundedWire, IsLegalWireRun, IsSafeWireRun, wire_system};
 
 /// A wire is a link that holds nothing.
 pub fn wire_is_a_link()
-    ensures { (target : Target) (port : Port) (end : ℕ) → 0 < port.shape.word_bytes → KeepsLinkLaw target 0 port port end }
+    ensures { (target : Target) (port : Port) (end : ℕ) → 0 < port.shape.word_bytes
+        → KeepsLinkLaw target 0 port port end }
 {}
 
 /// A wire is straight and prompt.
 pub fn wire_is_straight()
-    ensures straight { (ahead : ℕ → Bool) (target : Target) (port : Port) (end : ℕ) → GoesStraightThrough ahead target port port end }
-    ensures prompt { (may_burst : Bool) (target : Target) (port : Port) (end : ℕ) → IsShownPromptly may_burst target port port end }
+    ensures straight { (ahead : ℕ → Bool) (target : Target) (port : Port) (end : ℕ)
+        → GoesStraightThrough ahead target port port end }
+    ensures prompt { (may_burst : Bool) (target : Target) (port : Port) (end : ℕ)
+        → IsShownPromptly may_burst target port port end }
 {}
 
 /// A wire keeps the clause for commands with a rank that is always 0.
 pub fn wire_falls()
-    ensures { (target : Target) (port : Port) (end : ℕ) → AreLegalAt port end → LinkRankFalls target port port (λ c. 0) 0 end }
+    ensures { (target : Target) (port : Port) (end : ℕ) → AreLegalAt port end
+        → LinkRankFalls target port port (λ c. 0) 0 end }
 {}
 
 /// A wire keeps moving: its rank is always 0, its words are answered at once, and nothing waits in it.
 pub fn wire_keeps_moving()
-    ensures { (target : Target) (port : Port) (end : ℕ) → AreLegalAt port end → KeepsMoving 0 target port port (λ c. 0) 0 end }
+    ensures { (target : Target) (port : Port) (end : ℕ) → AreLegalAt port end
+        → KeepsMoving 0 target port port (λ c. 0) 0 end }
 {}
 
 /// A wire that holds reads back at the agent's bound keeps all that is promised, and its plan is one.
 pub fn bounded_wire_is_safe()
-    ensures safe { (form : WireForm) (host : HostView) (agent : AgentView) (count : ℕ → ℕ) (end : ℕ) → IsWireForm form → IsBoundedWire form host agent count end → IsLegalRun (wire_system form) (wire_run host agent) end → IsSafe AreZero (wire_system form) (wire_run host agent) end }
+    ensures safe { (form : WireForm) (host : HostView) (agent : AgentView) (count : ℕ → ℕ) (end : ℕ)
+        → IsWireForm form → IsBoundedWire form host agent count end → IsLegalWireRun form host agent end
+        → IsSafeWireRun form host agent end }
     ensures plan { (form : WireForm) → IsWireForm form → IsPlan (wire_system form) }
 {}

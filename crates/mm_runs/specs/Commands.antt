@@ -1,5 +1,5 @@
 -- What a cycle shows, presents and accepts at a side that carries commands.
-use Rattle.std.specs.Prelude.{ℕ, zero, suc, ◌+◌, ◌-◌, ◌*◌, ◌%◌, ◌^◌, Bool, true, false, not, ◌&&◌, ◌||◌, List, [], ◌∷◌, length, map, if◌then◌else◌, nat_eq, filter, flat_map}
+use Rattle.std.specs.Prelude.{◌≡◌, ℕ, zero, suc, ◌+◌, ◌-◌, ◌*◌, ◌%◌, ◌^◌, Bool, true, false, not, ◌&&◌, ◌||◌, List, [], ◌∷◌, length, map, if◌then◌else◌, nat_eq, filter, flat_map}
 use Rattle.histories.specs.History.{before, only_if, is_high, numbers, stands_on, is_first, first_shown, all_accepted}
 use Rattle.mm_runs.specs.Views.{Signals, Levels, levels_at, Shape, AgentSide, AgentView, Kind}
 use Rattle.mm_runs.specs.Views.Kind.{Reads, Writes}
@@ -15,6 +15,9 @@ longest_burst bits = 2 ^ (bits - 1)
 -- where there is waitrequest
 abbrev pub accepts_by : Signals → (ℕ → ℕ) → ℕ → Bool
 accepts_by signals wait cycle = shows signals cycle && not (is_high (wait cycle))
+
+abbrev pub AcceptsOnlyShown : Signals → (ℕ → Bool) → Type 0
+AcceptsOnlyShown signals accepts = (c : ℕ) → accepts c ≡ true → shows signals c ≡ true
 
 -- a beat is shown and stands on
 abbrev pub is_held : Signals → (ℕ → Bool) → ℕ → Bool

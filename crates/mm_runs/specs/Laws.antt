@@ -6,12 +6,12 @@ use Rattle.histories.specs.History.{is_high, IsPrefix, KeepsItems}
 use Rattle.histories.specs.Laws.{accepted_prefix, before_prefix, prefix_filter, prefix_flat_map}
 use Rattle.mm_runs.specs.Views.{Signals, Shape, System, Run}
 use Rattle.mm_runs.specs.Operations.{pieces}
-use Rattle.mm_runs.specs.Commands.{shows, accepts_by, transfer_at, transfer_of, burst_before, accepted, presented}
+use Rattle.mm_runs.specs.Commands.{AcceptsOnlyShown, shows, accepts_by, transfer_at, transfer_of, burst_before, accepted, presented}
 use Rattle.mm_runs.specs.Legal.{AreLegal}
 use Rattle.mm_runs.specs.Order.{issued, taken}
 
 -- a legal side keeps what it shows
-pub legal_keeps : (shape : Shape) (signals : Signals) (accepts : ℕ → Bool) (end : ℕ) → ((c : ℕ) → accepts c ≡ true → shows signals c ≡ true) →
+pub legal_keeps : (shape : Shape) (signals : Signals) (accepts : ℕ → Bool) (end : ℕ) → AcceptsOnlyShown signals accepts →
     AreLegal shape signals accepts end → KeepsItems (shows signals) accepts (transfer_at shape signals accepts) end
 legal_keeps shape signals accepts end accepted legal = record {
   accepted = accepted;
@@ -28,7 +28,7 @@ pub accepts_shows : (signals : Signals) (wait : ℕ → ℕ) (c : ℕ) → accep
 accepts_shows signals wait c h = (and_parts (shows signals c) (not (is_high (wait c))) h).0
 
 -- a legal side has presented all that it has accepted, and at most the beat that stands besides
-pub accepted_of_legal : (shape : Shape) (signals : Signals) (accepts : ℕ → Bool) (end : ℕ) → ((c : ℕ) → accepts c ≡ true → shows signals c ≡ true) →
+pub accepted_of_legal : (shape : Shape) (signals : Signals) (accepts : ℕ → Bool) (end : ℕ) → AcceptsOnlyShown signals accepts →
     AreLegal shape signals accepts end → IsPrefix (accepted shape signals accepts end) (presented shape signals accepts end)
 accepted_of_legal shape signals accepts end shown legal = accepted_prefix _ _ _ end end (legal_keeps shape signals accepts end shown legal) (omega arith)
 

@@ -131,6 +131,14 @@ abbrev pub are_together : List Owner → Bool
 are_together [] = true
 are_together (owner ∷ later) = stays_together owner later && are_together later
 
+-- one owner stands between two others
+pub record StandsBetween (owners : List Owner) (i j k : ℕ) (owner between other : Owner) : Type 0 where
+  pub before : i < j
+  pub behind : j < k
+  pub first : slice_get owners i ≡ Some owner
+  pub second : slice_get owners j ≡ Some between
+  pub third : slice_get owners k ≡ Some other
+
 -- the words of an agent that a host's presented beats for it cover
 abbrev pub words_covered : System → Run → ℕ → ℕ → ℕ → ℕ
 words_covered system run host agent cycle =

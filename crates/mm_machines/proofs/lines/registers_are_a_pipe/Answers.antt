@@ -6,7 +6,7 @@ pub returns-clause-one : goal.returns-clause-one
 returns-clause-one c = one_pipe
 
 pub returns-clause-two : goal.returns-clause-two
-returns-clause-two c = two_pipes
+returns-clause-two c = λ system agent first second. two_pipes system agent first.hold second.hold first.stages second.stages
 
 pub returns-clause-none : goal.returns-clause-none
 returns-clause-none c = no_pipe
