@@ -305,9 +305,9 @@ host_at netlist run place =
         enables = found netlist run 15 (place (codes "byteenable"));
         count = found netlist run 1 (place (codes "burstcount"));
       };
-      wait = found netlist run 0 (place (codes "waitrequest"));
-      answer_word = found netlist run 0 (place (codes "readdata"));
-      answer_valid = found netlist run 0 (place (codes "readdatavalid"));
+      waitrequest = found netlist run 0 (place (codes "waitrequest"));
+      readdata = found netlist run 0 (place (codes "readdata"));
+      readdatavalid = found netlist run 0 (place (codes "readdatavalid"));
       response = found netlist run 0 (place (codes "response"));
     }
 
@@ -322,9 +322,9 @@ agent_at netlist run place =
         enables = found netlist run 15 (place (codes "byteenable"));
         count = found netlist run 1 (place (codes "burstcount"));
       };
-      wait = found netlist run 0 (place (codes "waitrequest"));
-      answer_word = found netlist run 0 (place (codes "readdata"));
-      answer_valid = found netlist run 0 (place (codes "readdatavalid"));
+      waitrequest = found netlist run 0 (place (codes "waitrequest"));
+      readdata = found netlist run 0 (place (codes "readdata"));
+      readdatavalid = found netlist run 0 (place (codes "readdatavalid"));
       response = found netlist run 0 (place (codes "response"));
       grant = found netlist run 0 (place (codes "grant"));
     }

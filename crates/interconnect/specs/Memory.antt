@@ -56,9 +56,9 @@ abbrev pub host_view : Netlist → Run → EndName → HostView
 host_view netlist run name =
     record {
       signals = command_signals netlist run name;
-      wait = level netlist run name 0 (codes "waitrequest");
-      answer_word = level netlist run name 0 (codes "readdata");
-      answer_valid = level netlist run name 0 (codes "readdatavalid");
+      waitrequest = level netlist run name 0 (codes "waitrequest");
+      readdata = level netlist run name 0 (codes "readdata");
+      readdatavalid = level netlist run name 0 (codes "readdatavalid");
       response = level netlist run name 0 (codes "response");
     }
 
@@ -66,9 +66,9 @@ abbrev pub agent_view : Netlist → Run → EndName → AgentView
 agent_view netlist run name =
     record {
       signals = command_signals netlist run name;
-      wait = level netlist run name 0 (codes "waitrequest");
-      answer_word = level netlist run name 0 (codes "readdata");
-      answer_valid = level netlist run name 0 (codes "readdatavalid");
+      waitrequest = level netlist run name 0 (codes "waitrequest");
+      readdata = level netlist run name 0 (codes "readdata");
+      readdatavalid = level netlist run name 0 (codes "readdatavalid");
       response = level netlist run name 0 (codes "response");
       grant = level netlist run name 0 (codes "grant");
     }
@@ -83,9 +83,9 @@ moment_in run cycle =
     record {
       from_host = λ h. levels_at (run.at_host h).signals cycle;
       from_agent = λ a. record {
-        wait = (run.at_agent a).wait cycle;
-        answer_valid = (run.at_agent a).answer_valid cycle;
-        answer_word = (run.at_agent a).answer_word cycle;
+        waitrequest = (run.at_agent a).waitrequest cycle;
+        readdatavalid = (run.at_agent a).readdatavalid cycle;
+        readdata = (run.at_agent a).readdata cycle;
         response = (run.at_agent a).response cycle;
       };
       to_agent = λ a. record { levels = levels_at (run.at_agent a).signals cycle; grant = (run.at_agent a).grant cycle };

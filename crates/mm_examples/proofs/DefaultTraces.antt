@@ -42,7 +42,7 @@ abbrev IsRightIn : Run → ℕ → Type 0
 IsRightIn run c =
     IsTrue (gives_word (two_agents.host 0) (run.at_host 0) c) →
     IsWordOf two_agents run 0 c (length (given (two_agents.host 0) (run.at_host 0) c))
-    (record { word = (run.at_host 0).answer_word c; code = (run.at_host 0).response c })
+    (record { word = (run.at_host 0).readdata c; code = (run.at_host 0).response c })
     (slice_get (asked two_agents run 0 (suc c)) (length (given (two_agents.host 0) (run.at_host 0) c)))
 
 pub default_is_returned : ReturnsInCommandOrder two_agents default_run 0 2

@@ -148,8 +148,8 @@ host0_bounded c h = each_below (λ c. unanswered (joint_system.host 0).shape (jo
 host0_owed : (c : ℕ) → c < 6 → words_before (host_port 0).answers.valid (suc c) ≤ words_owed (host_port 0) c
 host0_owed c h = each_below (λ c. words_before (host_port 0).answers.valid (suc c) ≤ words_owed (host_port 0) c) 6 c ((((((tt, omega arith), omega arith), omega arith), omega arith), omega arith), omega arith) h
 
-host0_later : (c : ℕ) → c < 6 → words_before (joint_run.at_host 0).answer_valid (suc c) ≤ words_asked (joint_system.host 0).shape (joint_run.at_host 0).signals (host_accepts (joint_run.at_host 0)) c
-host0_later c h = each_below (λ c. words_before (joint_run.at_host 0).answer_valid (suc c) ≤ words_asked (joint_system.host 0).shape (joint_run.at_host 0).signals (host_accepts (joint_run.at_host 0)) c) 6 c ((((((tt, omega arith), omega arith), omega arith), omega arith), omega arith), omega arith) h
+host0_later : (c : ℕ) → c < 6 → words_before (joint_run.at_host 0).readdatavalid (suc c) ≤ words_asked (joint_system.host 0).shape (joint_run.at_host 0).signals (host_accepts (joint_run.at_host 0)) c
+host0_later c h = each_below (λ c. words_before (joint_run.at_host 0).readdatavalid (suc c) ≤ words_asked (joint_system.host 0).shape (joint_run.at_host 0).signals (host_accepts (joint_run.at_host 0)) c) 6 c ((((((tt, omega arith), omega arith), omega arith), omega arith), omega arith), omega arith) h
 
 host0_line : IsHostLine AreZero joint_system joint_run 0 0 (host_port 0) 6
 host0_line = record {
@@ -283,8 +283,8 @@ host1_bounded c h = each_below (λ c. unanswered (joint_system.host 1).shape (jo
 host1_owed : (c : ℕ) → c < 6 → words_before (host_port 1).answers.valid (suc c) ≤ words_owed (host_port 1) c
 host1_owed c h = each_below (λ c. words_before (host_port 1).answers.valid (suc c) ≤ words_owed (host_port 1) c) 6 c ((((((tt, omega arith), omega arith), omega arith), omega arith), omega arith), omega arith) h
 
-host1_later : (c : ℕ) → c < 6 → words_before (joint_run.at_host 1).answer_valid (suc c) ≤ words_asked (joint_system.host 1).shape (joint_run.at_host 1).signals (host_accepts (joint_run.at_host 1)) c
-host1_later c h = each_below (λ c. words_before (joint_run.at_host 1).answer_valid (suc c) ≤ words_asked (joint_system.host 1).shape (joint_run.at_host 1).signals (host_accepts (joint_run.at_host 1)) c) 6 c ((((((tt, omega arith), omega arith), omega arith), omega arith), omega arith), omega arith) h
+host1_later : (c : ℕ) → c < 6 → words_before (joint_run.at_host 1).readdatavalid (suc c) ≤ words_asked (joint_system.host 1).shape (joint_run.at_host 1).signals (host_accepts (joint_run.at_host 1)) c
+host1_later c h = each_below (λ c. words_before (joint_run.at_host 1).readdatavalid (suc c) ≤ words_asked (joint_system.host 1).shape (joint_run.at_host 1).signals (host_accepts (joint_run.at_host 1)) c) 6 c ((((((tt, omega arith), omega arith), omega arith), omega arith), omega arith), omega arith) h
 
 host1_line : IsHostLine AreZero joint_system joint_run 1 0 (host_port 1) 6
 host1_line = record {
@@ -424,11 +424,11 @@ agent_order c h = each_below (λ c. IsPrefix (taken joint_system joint_run 0 c) 
 agent_tags : (c : ℕ) → c < 6 → IsTrue (agent_accepts (joint_system.agent 0) (joint_run.at_agent 0) c) → IsTrue (is_joined joint_system 0 ((joint_run.at_agent 0).grant c))
 agent_tags c h = each_below (λ c. IsTrue (agent_accepts (joint_system.agent 0) (joint_run.at_agent 0) c) → IsTrue (is_joined joint_system 0 ((joint_run.at_agent 0).grant c))) 6 c ((((((tt, λ a. refl), λ a. refl), λ a. refl), λ a. refl), λ a. refl), λ a. refl) h
 
-agent_bounded : (c : ℕ) → c < 6 → unanswered (joint_system.agent 0).shape (joint_run.at_agent 0).signals (agent_accepts (joint_system.agent 0) (joint_run.at_agent 0)) (words_before (joint_run.at_agent 0).answer_valid (suc c)) (suc c) ≤ 4
-agent_bounded c h = each_below (λ c. unanswered (joint_system.agent 0).shape (joint_run.at_agent 0).signals (agent_accepts (joint_system.agent 0) (joint_run.at_agent 0)) (words_before (joint_run.at_agent 0).answer_valid (suc c)) (suc c) ≤ 4) 6 c ((((((tt, omega arith), omega arith), omega arith), omega arith), omega arith), omega arith) h
+agent_bounded : (c : ℕ) → c < 6 → unanswered (joint_system.agent 0).shape (joint_run.at_agent 0).signals (agent_accepts (joint_system.agent 0) (joint_run.at_agent 0)) (words_before (joint_run.at_agent 0).readdatavalid (suc c)) (suc c) ≤ 4
+agent_bounded c h = each_below (λ c. unanswered (joint_system.agent 0).shape (joint_run.at_agent 0).signals (agent_accepts (joint_system.agent 0) (joint_run.at_agent 0)) (words_before (joint_run.at_agent 0).readdatavalid (suc c)) (suc c) ≤ 4) 6 c ((((((tt, omega arith), omega arith), omega arith), omega arith), omega arith), omega arith) h
 
-agent_owed : (c : ℕ) → c < 6 → words_before (joint_run.at_agent 0).answer_valid (suc c) ≤ words_asked (joint_system.agent 0).shape (joint_run.at_agent 0).signals (agent_accepts (joint_system.agent 0) (joint_run.at_agent 0)) c
-agent_owed c h = each_below (λ c. words_before (joint_run.at_agent 0).answer_valid (suc c) ≤ words_asked (joint_system.agent 0).shape (joint_run.at_agent 0).signals (agent_accepts (joint_system.agent 0) (joint_run.at_agent 0)) c) 6 c ((((((tt, omega arith), omega arith), omega arith), omega arith), omega arith), omega arith) h
+agent_owed : (c : ℕ) → c < 6 → words_before (joint_run.at_agent 0).readdatavalid (suc c) ≤ words_asked (joint_system.agent 0).shape (joint_run.at_agent 0).signals (agent_accepts (joint_system.agent 0) (joint_run.at_agent 0)) c
+agent_owed c h = each_below (λ c. words_before (joint_run.at_agent 0).readdatavalid (suc c) ≤ words_asked (joint_system.agent 0).shape (joint_run.at_agent 0).signals (agent_accepts (joint_system.agent 0) (joint_run.at_agent 0)) c) 6 c ((((((tt, omega arith), omega arith), omega arith), omega arith), omega arith), omega arith) h
 
 arbiter_line : IsArbiterLine joint_system 0 0 (λ h. host_port h) (joint_inside.after_arbiter 0) 6
 arbiter_line = record {

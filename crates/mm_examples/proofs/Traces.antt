@@ -70,7 +70,7 @@ narrow_is_legal = record {
 -- the read of byte 5 brings it back
 pub read_is_returned : ReturnsInCommandOrder packed_system read_run 0 2
 read_is_returned c h = each_below (λ c. IsTrue (gives_word (packed_system.host 0) (read_run.at_host 0) c) → IsWordOf packed_system read_run 0 c (length (given (packed_system.host 0) (read_run.at_host 0) c))
-    (record { word = (read_run.at_host 0).answer_word c; code = (read_run.at_host 0).response c })
+    (record { word = (read_run.at_host 0).readdata c; code = (read_run.at_host 0).response c })
     (slice_get (asked packed_system read_run 0 (suc c)) (length (given (packed_system.host 0) (read_run.at_host 0) c)))) 2 c ((tt, λ h. cc), λ h. record { enough = omega arith; bytes = refl }) h
 
 -- turns of one command each break shares of 3 and 1, in a whole run
@@ -167,5 +167,5 @@ two_reads_are = record {
     finished = λ c h under. absurd (each_below (λ c. IsTrue (is_under_way (agent_with_bound 2).shape two_reads.signals (agent_accepts (agent_with_bound 2) two_reads) c) → ⊥) 2 c ((tt, λ h. cc), λ h. cc) h under);
   };
   aligned = λ c h _. refl;
-  bounded = λ c h _. each_below (λ c. unanswered (agent_with_bound 2).shape two_reads.signals (agent_accepts (agent_with_bound 2) two_reads) (words_before two_reads.answer_valid (suc c)) (suc c) ≤ 2) 2 c ((tt, omega arith), omega arith) h;
+  bounded = λ c h _. each_below (λ c. unanswered (agent_with_bound 2).shape two_reads.signals (agent_accepts (agent_with_bound 2) two_reads) (words_before two_reads.readdatavalid (suc c)) (suc c) ≤ 2) 2 c ((tt, omega arith), omega arith) h;
 }

@@ -23,7 +23,7 @@ host_is_legal = record {
 
 agent_is_legal : IsLegalAgent (agent_side one_read) held_back_agent 4
 agent_is_legal = record {
-  owed = λ _ c h. each_below (λ c. words_before held_back_agent.answer_valid (suc c) ≤ words_asked (agent_side one_read).shape held_back_agent.signals (agent_accepts (agent_side one_read) held_back_agent) c) 4 c
+  owed = λ _ c h. each_below (λ c. words_before held_back_agent.readdatavalid (suc c) ≤ words_asked (agent_side one_read).shape held_back_agent.signals (agent_accepts (agent_side one_read) held_back_agent) c) 4 c
       ((((tt, omega arith), omega arith), omega arith), omega arith) h;
 }
 
@@ -46,12 +46,12 @@ held_back_is_wire = record {
   enables = λ c h. refl;
   one_beat = λ c h. refl;
   grant = λ c h. refl;
-  wait = λ c h. each_below (λ c. is_high (held_back_host.wait c) ≡ ((is_full one_read held_back_count c && is_high (held_back_host.read c)) || is_high (held_back_agent.wait c))) 4 c ((((tt, refl), refl), refl), refl) h;
-  answer_valid = λ c h. refl;
-  answer_word = λ c h. refl;
+  waitrequest = λ c h. each_below (λ c. is_high (held_back_host.waitrequest c) ≡ ((is_full one_read held_back_count c && is_high (held_back_host.read c)) || is_high (held_back_agent.waitrequest c))) 4 c ((((tt, refl), refl), refl), refl) h;
+  readdatavalid = λ c h. refl;
+  readdata = λ c h. refl;
   no_response = λ c h. refl;
   starts = λ h. refl;
-  counts = λ c h _ _. each_below (λ c. held_back_count (suc c) + one_if (is_high (held_back_agent.answer_valid c)) ≡ held_back_count c + one_if (takes_read held_back_host c)) 3 c (((tt, refl), refl), refl) (omega arith);
+  counts = λ c h _ _. each_below (λ c. held_back_count (suc c) + one_if (is_high (held_back_agent.readdatavalid c)) ≡ held_back_count c + one_if (takes_read held_back_host c)) 3 c (((tt, refl), refl), refl) (omega arith);
 }
 
 pub let_through_is_not : IsWithinPendingBound (agent_side one_read) let_through_agent 2 → ⊥

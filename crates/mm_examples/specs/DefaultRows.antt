@@ -8,9 +8,9 @@ use Rattle.mm_examples.specs.MoreExamples.{read_once, two_agent_run}
 abbrev pub reads_at : List ℕ → List ℕ → List ℕ → List ℕ → List ℕ → HostView
 reads_at read address wait valid word = record {
   signals = record { read = signal read; write = always 0; address = signal address; word = always 0; enables = always 15; count = always 1 };
-  wait = signal wait;
-  answer_word = signal word;
-  answer_valid = signal valid;
+  waitrequest = signal wait;
+  readdata = signal word;
+  readdatavalid = signal valid;
   response = always 0;
 }
 

@@ -14,12 +14,12 @@ laneless_system = system_of (host_of 1 true) (agent_of 1 false 256) (0 ∷ [])
 
 abbrev pub laneless_run : Run
 laneless_run = record {
-  at_host = λ h. record { signals = laneless_signals 0; wait = always 0; answer_word = always 0; answer_valid = always 0; response = always 0 };
-  at_agent = λ a. record { signals = laneless_signals 1; wait = always 0; answer_word = always 0; answer_valid = always 0; response = always 0; grant = always 0 };
+  at_host = λ h. record { signals = laneless_signals 0; waitrequest = always 0; readdata = always 0; readdatavalid = always 0; response = always 0 };
+  at_agent = λ a. record { signals = laneless_signals 1; waitrequest = always 0; readdata = always 0; readdatavalid = always 0; response = always 0; grant = always 0 };
 }
 
 abbrev pub laneless_port : Port
-laneless_port = record { shape = shape_of 1 1 true; commands = record { signals = laneless_signals 0; more = always 0; tag = always 0; wait = always 0 }; answers = no_answers }
+laneless_port = record { shape = shape_of 1 1 true; commands = record { signals = laneless_signals 0; more = always 0; tag = always 0; waitrequest = always 0 }; answers = no_answers }
 
 -- a read of two bytes that goes on in two pieces while a read for another agent isn't answered
 abbrev pub split_system : System
@@ -39,16 +39,16 @@ abbrev pub split_run : Run
 split_run = record {
   at_host = λ h. record {
     signals = record { read = signal (1 ∷ 1 ∷ 1 ∷ []); write = always 0; address = signal (256 ∷ 0 ∷ 0 ∷ []); word = always 0; enables = always 3; count = always 1 };
-    wait = signal (0 ∷ 1 ∷ 0 ∷ []);
-    answer_word = always 0;
-    answer_valid = always 0;
+    waitrequest = signal (0 ∷ 1 ∷ 0 ∷ []);
+    readdata = always 0;
+    readdatavalid = always 0;
     response = always 0;
   };
   at_agent = λ a. record {
     signals = record { read = if nat_eq a 0 then signal (0 ∷ 1 ∷ 1 ∷ []) else signal (1 ∷ 1 ∷ []); write = always 0; address = signal (0 ∷ 0 ∷ 1 ∷ []); word = always 0; enables = always 1; count = always 1 };
-    wait = always 0;
-    answer_word = always 0;
-    answer_valid = always 0;
+    waitrequest = always 0;
+    readdata = always 0;
+    readdatavalid = always 0;
     response = always 0;
     grant = always 0;
   };
@@ -62,7 +62,7 @@ split_port = record {
     signals = record { read = signal (0 ∷ 1 ∷ 1 ∷ []); write = always 0; address = always 0; word = always 0; enables = always 3; count = always 1 };
     more = always 0;
     tag = always 0;
-    wait = signal (0 ∷ 1 ∷ 0 ∷ []);
+    waitrequest = signal (0 ∷ 1 ∷ 0 ∷ []);
   };
   answers = no_answers;
 }

@@ -17,7 +17,7 @@ two_beats later = record { read = always 0; write = first_then 1 later; address 
 abbrev pub burst_port : ℕ → ℕ → Port
 burst_port later wait = record {
   shape = shape_of 1 1 false;
-  commands = record { signals = two_beats later; more = first_then 1 0; tag = always 0; wait = first_then 0 wait };
+  commands = record { signals = two_beats later; more = first_then 1 0; tag = always 0; waitrequest = first_then 0 wait };
   answers = record { valid = always 0; word = always 0; code = always 0 };
 }
 
@@ -25,7 +25,7 @@ burst_port later wait = record {
 abbrev pub hung_top : Port
 hung_top = burst_port 1 1
 
--- between the links nothing is shown, and `wait` is high
+-- between the links nothing is shown, and `waitrequest` is high
 abbrev pub hung_middle : Port
 hung_middle = burst_port 0 1
 
@@ -38,9 +38,9 @@ hung_system = system_of (host_of 1 false) (agent_of 1 false 16) (0 ∷ [])
 
 abbrev pub hung_run : Run
 hung_run = run_of
-    (record { signals = two_beats 1; wait = first_then 0 1; answer_word = always 0; answer_valid = always 0; response = always 0 })
+    (record { signals = two_beats 1; waitrequest = first_then 0 1; readdata = always 0; readdatavalid = always 0; response = always 0 })
     no_host
-    (record { signals = two_beats 0; wait = always 0; answer_word = always 0; answer_valid = always 0; response = always 0; grant = always 0 })
+    (record { signals = two_beats 0; waitrequest = always 0; readdata = always 0; readdatavalid = always 0; response = always 0; grant = always 0 })
 
 -- levels in cycles 0, 1 and from 2 on
 abbrev pub two_then : ℕ → ℕ → ℕ → ℕ → ℕ
@@ -55,7 +55,7 @@ read_and_burst later = record { read = two_then 1 0 0; write = two_then 0 1 late
 abbrev pub read_and_burst_port : ℕ → ℕ → ℕ → Port
 read_and_burst_port later wait valid = record {
   shape = shape_of 1 1 false;
-  commands = record { signals = read_and_burst later; more = two_then 0 1 0; tag = always 0; wait = two_then 0 0 wait };
+  commands = record { signals = read_and_burst later; more = two_then 0 1 0; tag = always 0; waitrequest = two_then 0 0 wait };
   answers = record { valid = two_then 0 valid 0; word = always 0x77; code = always 0 };
 }
 
@@ -73,9 +73,9 @@ owing_bottom = read_and_burst_port 0 0 1
 
 abbrev pub owing_run : Run
 owing_run = run_of
-    (record { signals = read_and_burst 1; wait = two_then 0 0 1; answer_word = always 0; answer_valid = always 0; response = always 0 })
+    (record { signals = read_and_burst 1; waitrequest = two_then 0 0 1; readdata = always 0; readdatavalid = always 0; response = always 0 })
     no_host
-    (record { signals = read_and_burst 0; wait = always 0; answer_word = always 0x77; answer_valid = two_then 0 1 0; response = always 0; grant = always 0 })
+    (record { signals = read_and_burst 0; waitrequest = always 0; readdata = always 0x77; readdatavalid = two_then 0 1 0; response = always 0; grant = always 0 })
 
 -- a read of agent 0, whose word is never given, and then a write of one beat to agent 1 in each cycle
 abbrev pub read_and_writes : Signals
@@ -84,7 +84,7 @@ read_and_writes = record { read = first_then 1 0; write = first_then 0 1; addres
 abbrev pub starving_port : ℕ → Port
 starving_port valid = record {
   shape = shape_of 1 1 false;
-  commands = record { signals = read_and_writes; more = always 0; tag = always 0; wait = always 0 };
+  commands = record { signals = read_and_writes; more = always 0; tag = always 0; waitrequest = always 0 };
   answers = record { valid = two_then 0 valid 0; word = always 0x77; code = always 0 };
 }
 
@@ -99,12 +99,12 @@ starving_system = record hung_system { agents = 2; place = λ h kind address. if
 
 abbrev pub starving_run : Run
 starving_run = record (run_of
-    (record { signals = read_and_writes; wait = always 0; answer_word = always 0; answer_valid = always 0; response = always 0 })
+    (record { signals = read_and_writes; waitrequest = always 0; readdata = always 0; readdatavalid = always 0; response = always 0 })
     no_host
-    (record { signals = quiet; wait = always 0; answer_word = always 0; answer_valid = always 0; response = always 0; grant = always 0 })) {
+    (record { signals = quiet; waitrequest = always 0; readdata = always 0; readdatavalid = always 0; response = always 0; grant = always 0 })) {
       at_agent = λ a. if nat_eq a 0
-          then record { signals = record { read = first_then 1 0; write = always 0; address = always 0; word = always 0; enables = always 1; count = always 1 }; wait = always 0; answer_word = always 0x77; answer_valid = two_then 0 1 0; response = always 0; grant = always 0 }
-          else record { signals = record { read = always 0; write = first_then 0 1; address = always 0; word = always 5; enables = always 1; count = always 1 }; wait = always 0; answer_word = always 0; answer_valid = always 0; response = always 0; grant = always 0 };
+          then record { signals = record { read = first_then 1 0; write = always 0; address = always 0; word = always 0; enables = always 1; count = always 1 }; waitrequest = always 0; readdata = always 0x77; readdatavalid = two_then 0 1 0; response = always 0; grant = always 0 }
+          else record { signals = record { read = always 0; write = first_then 0 1; address = always 0; word = always 5; enables = always 1; count = always 1 }; waitrequest = always 0; readdata = always 0; readdatavalid = always 0; response = always 0; grant = always 0 };
     }
 
 -- host 0 reads agent 1, which never answers, and then begins a burst of two writes to agent 0
@@ -114,7 +114,7 @@ debt_burst later = record { read = two_then 1 0 0; write = two_then 0 1 later; a
 abbrev pub debt_port : ℕ → ℕ → Port
 debt_port later wait = record {
   shape = shape_of 1 1 false;
-  commands = record { signals = debt_burst later; more = two_then 0 1 0; tag = always 0; wait = two_then 0 0 wait };
+  commands = record { signals = debt_burst later; more = two_then 0 1 0; tag = always 0; waitrequest = two_then 0 0 wait };
   answers = record { valid = always 0; word = always 0; code = always 0 };
 }
 
@@ -128,11 +128,11 @@ debt_bottom = debt_port 0 0
 abbrev pub debt_run : Run
 debt_run = record {
   at_host = λ h. if nat_eq h 0
-      then record { signals = debt_burst 1; wait = two_then 0 0 1; answer_word = always 0; answer_valid = always 0; response = always 0 }
-      else record { signals = record { read = always 0; write = two_then 0 0 1; address = always 0; word = always 7; enables = always 1; count = always 1 }; wait = always 1; answer_word = always 0; answer_valid = always 0; response = always 0 };
+      then record { signals = debt_burst 1; waitrequest = two_then 0 0 1; readdata = always 0; readdatavalid = always 0; response = always 0 }
+      else record { signals = record { read = always 0; write = two_then 0 0 1; address = always 0; word = always 7; enables = always 1; count = always 1 }; waitrequest = always 1; readdata = always 0; readdatavalid = always 0; response = always 0 };
   at_agent = λ a. if nat_eq a 0
-      then record { signals = record { read = always 0; write = two_then 0 1 0; address = always 0; word = always 0xaa; enables = always 1; count = always 2 }; wait = always 0; answer_word = always 0; answer_valid = always 0; response = always 0; grant = always 0 }
-      else record { signals = record { read = two_then 1 0 0; write = always 0; address = always 0; word = always 0; enables = always 1; count = always 1 }; wait = always 0; answer_word = always 0; answer_valid = always 0; response = always 0; grant = always 0 };
+      then record { signals = record { read = always 0; write = two_then 0 1 0; address = always 0; word = always 0xaa; enables = always 1; count = always 2 }; waitrequest = always 0; readdata = always 0; readdatavalid = always 0; response = always 0; grant = always 0 }
+      else record { signals = record { read = two_then 1 0 0; write = always 0; address = always 0; word = always 0; enables = always 1; count = always 1 }; waitrequest = always 0; readdata = always 0; readdatavalid = always 0; response = always 0; grant = always 0 };
 }
 
 abbrev pub debt_system : System

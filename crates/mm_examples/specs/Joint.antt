@@ -42,15 +42,15 @@ sooner_answers = record { valid = signal (0 ∷ 0 ∷ 0 ∷ 1 ∷ []); word = si
 
 abbrev pub joint_run : Run
 joint_run = record {
-  at_host = λ h. if nat_eq h 0 then record { signals = writing; wait = always 0; answer_word = no_answers.word; answer_valid = no_answers.valid; response = always 0 }
-      else record { signals = reading; wait = signal (1 ∷ []); answer_word = last_answers.word; answer_valid = last_answers.valid; response = always 0 };
-  at_agent = λ a. record { signals = later; wait = always 0; answer_word = sooner_answers.word; answer_valid = sooner_answers.valid; response = always 0; grant = signal (0 ∷ 0 ∷ 1 ∷ []) };
+  at_host = λ h. if nat_eq h 0 then record { signals = writing; waitrequest = always 0; readdata = no_answers.word; readdatavalid = no_answers.valid; response = always 0 }
+      else record { signals = reading; waitrequest = signal (1 ∷ []); readdata = last_answers.word; readdatavalid = last_answers.valid; response = always 0 };
+  at_agent = λ a. record { signals = later; waitrequest = always 0; readdata = sooner_answers.word; readdatavalid = sooner_answers.valid; response = always 0; grant = signal (0 ∷ 0 ∷ 1 ∷ []) };
 }
 
 abbrev pub host_port : ℕ → Port
 host_port h =
-    if nat_eq h 0 then record { shape = shape_of 1 1 true; commands = record { signals = writing; more = always 0; tag = always h; wait = always 0 }; answers = no_answers }
-    else record { shape = shape_of 1 1 true; commands = record { signals = reading; more = always 0; tag = always h; wait = signal (1 ∷ []) }; answers = last_answers }
+    if nat_eq h 0 then record { shape = shape_of 1 1 true; commands = record { signals = writing; more = always 0; tag = always h; waitrequest = always 0 }; answers = no_answers }
+    else record { shape = shape_of 1 1 true; commands = record { signals = reading; more = always 0; tag = always h; waitrequest = signal (1 ∷ []) }; answers = last_answers }
 
 abbrev pub joint_inside : Inside
 joint_inside = record {
@@ -58,11 +58,11 @@ joint_inside = record {
   after_route = λ h a. host_port h;
   before_arbiter = λ h a. host_port h;
   after_arbiter = λ a. record {
-    port = record { shape = shape_of 1 1 true; commands = record { signals = both; more = always 0; tag = signal (0 ∷ 1 ∷ []); wait = always 0 }; answers = last_answers };
+    port = record { shape = shape_of 1 1 true; commands = record { signals = both; more = always 0; tag = signal (0 ∷ 1 ∷ []); waitrequest = always 0 }; answers = last_answers };
     answer_tag = signal (0 ∷ 0 ∷ 0 ∷ 0 ∷ 1 ∷ []);
   };
   before_agent = λ a. record {
-    port = record { shape = shape_of 1 1 true; commands = record { signals = later; more = always 0; tag = signal (0 ∷ 0 ∷ 1 ∷ []); wait = always 0 }; answers = sooner_answers };
+    port = record { shape = shape_of 1 1 true; commands = record { signals = later; more = always 0; tag = signal (0 ∷ 0 ∷ 1 ∷ []); waitrequest = always 0 }; answers = sooner_answers };
     answer_tag = signal (0 ∷ 0 ∷ 0 ∷ 1 ∷ []);
   };
 }

@@ -17,7 +17,7 @@ moves up down c = takes down c || is_high (up.answers.valid c) || (takes up c &&
 -- the wait below excuses also where nothing is shown there, an owed word always, and a burst under way whatever is owed
 abbrev pub is_excused_lax : Port → Port → ℕ → Bool
 is_excused_lax up down c =
-    is_high (down.commands.wait c)
+    is_high (down.commands.waitrequest c)
     || nat_lt (length (words_at down (suc c))) (words_owed down (suc c))
     || (is_under_way up.shape up.commands.signals (takes up) c && not (shows up.commands.signals c))
 

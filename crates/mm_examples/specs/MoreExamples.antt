@@ -15,8 +15,8 @@ waiting_agent = record {
   has_read = true;
   has_write = true;
   has_burst = true;
-  has_wait = false;
-  has_valid = false;
+  has_waitrequest = false;
+  has_readdatavalid = false;
   has_response = false;
   read_latency = 2;
   read_wait = 0;
@@ -33,9 +33,9 @@ held_writes = written_to (1 ∷ 1 ∷ 1 ∷ 1 ∷ 1 ∷ 1 ∷ []) (0 ∷ 0 ∷ 0
 abbrev pub late_read : AgentView
 late_read = record {
   signals = record { read = signal (1 ∷ []); write = always 0; address = always 0; word = always 0; enables = always 15; count = always 1 };
-  wait = always 0;
-  answer_word = signal (10 ∷ 11 ∷ 12 ∷ 13 ∷ []);
-  answer_valid = always 0;
+  waitrequest = always 0;
+  readdata = signal (10 ∷ 11 ∷ 12 ∷ 13 ∷ []);
+  readdatavalid = always 0;
   response = always 0;
   grant = always 0;
 }
@@ -44,9 +44,9 @@ late_read = record {
 abbrev pub two_reads : AgentView
 two_reads = record {
   signals = record { read = signal (1 ∷ 1 ∷ []); write = always 0; address = always 0; word = always 0; enables = always 15; count = always 1 };
-  wait = always 0;
-  answer_word = always 0;
-  answer_valid = always 0;
+  waitrequest = always 0;
+  readdata = always 0;
+  readdatavalid = always 0;
   response = always 0;
   grant = always 0;
 }
@@ -57,8 +57,8 @@ agent_with_bound bound = record {
   has_read = true;
   has_write = true;
   has_burst = true;
-  has_wait = true;
-  has_valid = true;
+  has_waitrequest = true;
+  has_readdatavalid = true;
   has_response = false;
   read_latency = 0;
   read_wait = 0;
@@ -84,18 +84,18 @@ two_agents = record {
 abbrev pub reads_both : List ℕ → List ℕ → List ℕ → HostView
 reads_both wait valid word = record {
   signals = record { read = signal (1 ∷ 1 ∷ 1 ∷ 0 ∷ []); write = always 0; address = signal (0 ∷ 256 ∷ 256 ∷ []); word = always 0; enables = always 15; count = always 1 };
-  wait = signal wait;
-  answer_word = signal word;
-  answer_valid = signal valid;
+  waitrequest = signal wait;
+  readdata = signal word;
+  readdatavalid = signal valid;
   response = always 0;
 }
 
 abbrev pub read_once : List ℕ → List ℕ → List ℕ → AgentView
 read_once read valid word = record {
   signals = record { read = signal read; write = always 0; address = always 0; word = always 0; enables = always 15; count = always 1 };
-  wait = always 0;
-  answer_word = signal word;
-  answer_valid = signal valid;
+  waitrequest = always 0;
+  readdata = signal word;
+  readdatavalid = signal valid;
   response = always 0;
   grant = always 0;
 }
@@ -167,7 +167,7 @@ write_port word_bytes write address word enables more wait = record {
     signals = record { read = always 0; write = signal write; address = signal address; word = signal word; enables = always enables; count = always 1 };
     more = signal more;
     tag = always 0;
-    wait = signal wait;
+    waitrequest = signal wait;
   };
   answers = record { valid = always 0; word = always 0; code = always 0 };
 }
@@ -190,18 +190,18 @@ loose_side = write_port 1 (1 ∷ 1 ∷ []) (5 ∷ 6 ∷ []) (0xcc ∷ 0xbb ∷ [
 abbrev pub reads_eight : HostView
 reads_eight = record {
   signals = record { read = signal (1 ∷ []); write = always 0; address = signal (0 ∷ []); word = always 0; enables = always 1; count = always 8 };
-  wait = always 0;
-  answer_word = always 0;
-  answer_valid = always 0;
+  waitrequest = always 0;
+  readdata = always 0;
+  readdatavalid = always 0;
   response = always 0;
 }
 
 abbrev pub asked_by : List ℕ → List ℕ → AgentView
 asked_by read enables = record {
   signals = record { read = signal read; write = always 0; address = always 0; word = always 0; enables = signal enables; count = always 1 };
-  wait = always 0;
-  answer_word = always 0;
-  answer_valid = always 0;
+  waitrequest = always 0;
+  readdata = always 0;
+  readdatavalid = always 0;
   response = always 0;
   grant = always 0;
 }
@@ -232,9 +232,9 @@ taken_after write = run_of (writer (1 ∷ []) [] (7 ∷ []) 1 1 []) no_host (wri
 abbrev pub early_word : HostView
 early_word = record {
   signals = record { read = signal (1 ∷ []); write = always 0; address = always 0; word = always 0; enables = always 15; count = always 1 };
-  wait = always 0;
-  answer_word = always 0;
-  answer_valid = signal (1 ∷ []);
+  waitrequest = always 0;
+  readdata = always 0;
+  readdatavalid = signal (1 ∷ []);
   response = always 0;
 }
 
@@ -255,25 +255,25 @@ eager_agent = read_once (1 ∷ []) (1 ∷ []) (9 ∷ [])
 abbrev pub memory_run : ℕ → Run
 memory_run byte = run_of no_host no_host (record {
   signals = record { read = signal (0 ∷ 1 ∷ []); write = signal (1 ∷ []); address = always 0; word = signal (5 ∷ []); enables = always 1; count = always 1 };
-  wait = always 0;
-  answer_word = signal (0 ∷ 0 ∷ byte ∷ []);
-  answer_valid = signal (0 ∷ 0 ∷ 1 ∷ []);
+  waitrequest = always 0;
+  readdata = signal (0 ∷ 0 ∷ byte ∷ []);
+  readdatavalid = signal (0 ∷ 0 ∷ 1 ∷ []);
   response = always 0;
   grant = always 0;
 })
 
 -- a 32-bit host with response reads the word at 0 of an 8-bit agent, whose byte 2 has code 2
 abbrev pub coded_system : System
-coded_system = record (system_of (record { shape = shape_of 4 1 true; has_burst = true; has_valid = true; has_response = true }) (agent_of 1 false 16) (0 ∷ [])) {
+coded_system = record (system_of (record { shape = shape_of 4 1 true; has_burst = true; has_readdatavalid = true; has_response = true }) (agent_of 1 false 16) (0 ∷ [])) {
   place = λ h kind address. if nat_lt address 16 then Some 0 else None;
 }
 
 abbrev pub coded_host : ℕ → ℕ → ℕ → HostView
 coded_host enables word code = record {
   signals = record { read = signal (1 ∷ []); write = always 0; address = always 0; word = always 0; enables = always enables; count = always 1 };
-  wait = always 0;
-  answer_word = signal (0 ∷ 0 ∷ 0 ∷ 0 ∷ 0 ∷ word ∷ []);
-  answer_valid = signal (0 ∷ 0 ∷ 0 ∷ 0 ∷ 0 ∷ 1 ∷ []);
+  waitrequest = always 0;
+  readdata = signal (0 ∷ 0 ∷ 0 ∷ 0 ∷ 0 ∷ word ∷ []);
+  readdatavalid = signal (0 ∷ 0 ∷ 0 ∷ 0 ∷ 0 ∷ 1 ∷ []);
   response = signal (0 ∷ 0 ∷ 0 ∷ 0 ∷ 0 ∷ code ∷ []);
 }
 
@@ -281,9 +281,9 @@ coded_host enables word code = record {
 abbrev pub coded_agent : ℕ → AgentView
 coded_agent bytes = record {
   signals = record { read = signal (replicate bytes 1); write = always 0; address = signal (0 ∷ 1 ∷ 2 ∷ 3 ∷ []); word = always 0; enables = always 1; count = always 1 };
-  wait = always 0;
-  answer_word = signal (0 ∷ 0x11 ∷ 0x22 ∷ 0x33 ∷ 0x44 ∷ []);
-  answer_valid = signal (0 ∷ replicate bytes 1);
+  waitrequest = always 0;
+  readdata = signal (0 ∷ 0x11 ∷ 0x22 ∷ 0x33 ∷ 0x44 ∷ []);
+  readdatavalid = signal (0 ∷ replicate bytes 1);
   response = signal (0 ∷ 0 ∷ 0 ∷ 2 ∷ 0 ∷ []);
   grant = always 0;
 }
@@ -300,7 +300,7 @@ burst_side = record {
     signals = record { read = always 0; write = signal (1 ∷ 1 ∷ []); address = always 0; word = always 9; enables = signal (1 ∷ 0 ∷ []); count = always 2 };
     more = always 0;
     tag = always 0;
-    wait = always 0;
+    waitrequest = always 0;
   };
   answers = record { valid = always 0; word = always 0; code = always 0 };
 }
@@ -313,15 +313,15 @@ too_early_side = write_port 1 (1 ∷ []) [] (9 ∷ []) 1 [] []
 
 -- one host and one agent of one word size without bursts
 abbrev pub plain_system : System
-plain_system = record (system_of (record { shape = record { word_bytes = 4; unit_bytes = 1; burst_bits = 1; has_enables = true }; has_burst = false; has_valid = true; has_response = false }) (agent_of 4 true 256) (0 ∷ [])) { hosts = 1 }
+plain_system = record (system_of (record { shape = record { word_bytes = 4; unit_bytes = 1; burst_bits = 1; has_enables = true }; has_burst = false; has_readdatavalid = true; has_response = false }) (agent_of 4 true 256) (0 ∷ [])) { hosts = 1 }
 
 -- the second read waits although the agent has room for it
 abbrev pub one_by_one_run : Run
 one_by_one_run = run_of (record {
   signals = record { read = signal (1 ∷ 1 ∷ 1 ∷ 1 ∷ []); write = always 0; address = signal (0 ∷ 4 ∷ 4 ∷ 4 ∷ []); word = always 0; enables = always 15; count = always 1 };
-  wait = signal (0 ∷ 1 ∷ 1 ∷ 1 ∷ []);
-  answer_word = always 0;
-  answer_valid = always 0;
+  waitrequest = signal (0 ∷ 1 ∷ 1 ∷ 1 ∷ []);
+  readdata = always 0;
+  readdatavalid = always 0;
   response = always 0;
 }) no_host (read_once (1 ∷ []) [] [])
 
@@ -333,9 +333,9 @@ joined_side = write_port 1 (1 ∷ []) [] (9 ∷ []) 1 (1 ∷ []) []
 abbrev pub stuck_at_default_run : Run
 stuck_at_default_run = two_agent_run (record {
   signals = record { read = signal (replicate 9 1); write = always 0; address = always 1024; word = always 0; enables = always 15; count = always 1 };
-  wait = signal (replicate 9 1);
-  answer_word = always 0;
-  answer_valid = always 0;
+  waitrequest = signal (replicate 9 1);
+  readdata = always 0;
+  readdatavalid = always 0;
   response = always 0;
 }) (read_once [] [] []) (read_once [] [] [])
 
@@ -347,9 +347,9 @@ plain_pair = record two_agents { host = plain_system.host }
 abbrev pub held_read_run : Run
 held_read_run = two_agent_run (record {
   signals = record { read = signal (1 ∷ 0 ∷ 1 ∷ 1 ∷ 1 ∷ []); write = signal (0 ∷ 1 ∷ []); address = signal (0 ∷ 256 ∷ 4 ∷ 4 ∷ 4 ∷ []); word = always 7; enables = always 15; count = always 1 };
-  wait = signal (0 ∷ 0 ∷ 1 ∷ 1 ∷ 1 ∷ []);
-  answer_word = always 0;
-  answer_valid = always 0;
+  waitrequest = signal (0 ∷ 0 ∷ 1 ∷ 1 ∷ 1 ∷ []);
+  readdata = always 0;
+  readdatavalid = always 0;
   response = always 0;
 }) (read_once (1 ∷ []) [] []) (written_to (0 ∷ 1 ∷ []) [] (0 ∷ 7 ∷ []) 15 [])
 

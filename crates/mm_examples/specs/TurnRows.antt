@@ -15,7 +15,7 @@ writes write wait tag = record {
     signals = record { read = always 0; write = signal write; address = always 0; word = always 7; enables = always 15; count = always 1 };
     more = always 0;
     tag = tag;
-    wait = signal wait;
+    waitrequest = signal wait;
   };
   answers = record { valid = always 0; word = always 0; code = always 0 };
 }

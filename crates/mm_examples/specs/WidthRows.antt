@@ -14,9 +14,9 @@ short_system = system_of (host_of 4 true) short_agent (0 ∷ [])
 abbrev pub bursts_read : List ℕ → List ℕ → AgentView
 bursts_read word count = record {
   signals = record { read = signal (1 ∷ 1 ∷ []); write = always 0; address = signal word; word = always 0; enables = always 15; count = signal count };
-  wait = always 0;
-  answer_word = always 0;
-  answer_valid = always 0;
+  waitrequest = always 0;
+  readdata = always 0;
+  readdatavalid = always 0;
   response = always 0;
   grant = always 0;
 }

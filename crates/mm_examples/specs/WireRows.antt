@@ -24,18 +24,18 @@ two_reads_and_write read address = record {
 abbrev pub wire_host : List ℕ → List ℕ → HostView
 wire_host wait valid = record {
   signals = two_reads_and_write (1 ∷ 1 ∷ 1 ∷ 0 ∷ []) (8 ∷ 12 ∷ 12 ∷ 4 ∷ []);
-  wait = signal wait;
-  answer_word = signal (0 ∷ 0x11 ∷ 0 ∷ 0x22 ∷ []);
-  answer_valid = signal valid;
+  waitrequest = signal wait;
+  readdata = signal (0 ∷ 0x11 ∷ 0 ∷ 0x22 ∷ []);
+  readdatavalid = signal valid;
   response = always 0;
 }
 
 abbrev pub wire_agent : List ℕ → List ℕ → AgentView
 wire_agent read valid = record {
   signals = two_reads_and_write read (2 ∷ 3 ∷ 3 ∷ 1 ∷ []);
-  wait = always 0;
-  answer_word = signal (0 ∷ 0x11 ∷ 0 ∷ 0x22 ∷ []);
-  answer_valid = signal valid;
+  waitrequest = always 0;
+  readdata = signal (0 ∷ 0x11 ∷ 0 ∷ 0x22 ∷ []);
+  readdatavalid = signal valid;
   response = always 0;
   grant = always 0;
 }

@@ -175,9 +175,9 @@ module _ (responses : Responses) (system : System) (run : Run) (inside : Inside)
       let valid : is_high ((inside.after_host h).answers.valid c) ≡ true = sym ((host_answers h is).gives c low) ∙ gives in
       let number = given_count responses system run h (inside.after_host h) end c (host_answers h is) (omega arith) in
       let word = (host_answers h is).word c low valid in
-      subst (λ n. IsWordOf system run h c n (record { word = (run.at_host h).answer_word c; code = (run.at_host h).response c }) (slice_get (asked system run h (suc c)) n)) (sym number)
+      subst (λ n. IsWordOf system run h c n (record { word = (run.at_host h).readdata c; code = (run.at_host h).response c }) (slice_get (asked system run h (suc c)) n)) (sym number)
       (routed_word system run h c (length (words_at (inside.after_host h) c)) (inside.after_host h) (inside.after_route h)
-      (record { word = (inside.after_host h).answers.word c; code = (inside.after_host h).answers.code c }) (record { word = (run.at_host h).answer_word c; code = (run.at_host h).response c }) (sym word)
+      (record { word = (inside.after_host h).answers.word c; code = (inside.after_host h).answers.code c }) (record { word = (run.at_host h).readdata c; code = (run.at_host h).response c }) (sym word)
       wired.placed (asked_front system run h holds.host (inside.after_host h) end (suc c) (host_commands h is) (omega arith))
       (λ a there. answers_back h a (suc c) is there (omega arith))
       ((route_answers h is).answered c low valid))

@@ -80,13 +80,13 @@ module _ (form : WireForm) (host : HostView) (agent : AgentView) (count : ℕ �
   shown_reads c = reads (shown_beats host c)
 
   abbrev word_at : ℕ → Word
-  word_at c = record { word = agent.answer_word c; code = agent.response c }
+  word_at c = record { word = agent.readdata c; code = agent.response c }
 
   abbrev words : ℕ → List Word
-  words c = before (λ c. only_if (is_high (agent.answer_valid c)) (word_at c)) c
+  words c = before (λ c. only_if (is_high (agent.readdatavalid c)) (word_at c)) c
 
-  words_length : (c : ℕ) → length (words c) ≡ words_before agent.answer_valid c
-  words_length c = same_counts (λ c. is_high (agent.answer_valid c)) word_at (λ c. c) c
+  words_length : (c : ℕ) → length (words c) ≡ words_before agent.readdatavalid c
+  words_length c = same_counts (λ c. is_high (agent.readdatavalid c)) word_at (λ c. c) c
 
   shown_fit : (c : ℕ) → c ≤ end → All (Fit form) (shown_reads c)
   shown_fit c low = All-filter (λ (b : Beat). is_of_reads b.kind) (Fit form) (shown_beats host c) (all_fit form host agent count end wire legal c low)
@@ -111,7 +111,7 @@ module _ (form : WireForm) (host : HostView) (agent : AgentView) (count : ℕ �
     got : slice_get (taken_reads c) (length (words c)) ≡ Some beat
     word : words (suc c) ≡ words c ++ word_at c ∷ []
 
-  asks : (c : ℕ) → c < end → is_high (agent.answer_valid c) ≡ true → Asks c
+  asks : (c : ℕ) → c < end → is_high (agent.readdatavalid c) ≡ true → Asks c
   asks c low valid =
       let now : words (suc c) ≡ words c ++ word_at c ∷ [] = rw valid in
       let few = words_few form host agent count end wire legal is proper c low in
@@ -160,17 +160,17 @@ module _ (form : WireForm) (host : HostView) (agent : AgentView) (count : ℕ �
       (All-get_or (Fit form) (shown_reads (suc c)) (length (words c)) a.beat (slice_get_within (shown_reads (suc c)) (length (words c)) a.beat got) (shown_fit (suc c) (omega arith)))
 
   holds : (c : ℕ) → c < end → (b : Beat) → Fit form b →
-      HoldsAnswers (filled_lanes (host_side form).shape (agent_side form).shape b.enables) (gives (b, word_at c)) (record { word = host.answer_word c; code = host.response c })
+      HoldsAnswers (filled_lanes (host_side form).shape (agent_side form).shape b.enables) (gives (b, word_at c)) (record { word = host.readdata c; code = host.response c })
   holds c low b fit =
       let lanes = filter (is_enabled b.enables) (numbers 0 4) in
-      let direct : HoldsAnswers lanes (gives (b, word_at c)) (record { word = host.answer_word c; code = host.response c }) =
-      record { enough = le_of_eq (sym (length-map lanes (answer_of (word_at c)))); bytes = ap (λ w. map (byte_at w) lanes) (wire.answer_word c low) ∙ own_bytes (word_at c) lanes } in
-      subst (λ l. HoldsAnswers l (gives (b, word_at c)) (record { word = host.answer_word c; code = host.response c })) (sym (lanes_are form.has_enables b.enables fit.whole)) direct
+      let direct : HoldsAnswers lanes (gives (b, word_at c)) (record { word = host.readdata c; code = host.response c }) =
+      record { enough = le_of_eq (sym (length-map lanes (answer_of (word_at c)))); bytes = ap (λ w. map (byte_at w) lanes) (wire.readdata c low) ∙ own_bytes (word_at c) lanes } in
+      subst (λ l. HoldsAnswers l (gives (b, word_at c)) (record { word = host.readdata c; code = host.response c })) (sym (lanes_are form.has_enables b.enables fit.whole)) direct
 
   pub returned : ReturnsInCommandOrder (wire_system form) (wire_run host agent) 0 end
   returned c low valid =
-      let a = asks c low (ap is_high (sym (wire.answer_valid c low)) ∙ valid) in
-      let w : Word = record { word = host.answer_word c; code = host.response c } in
+      let a = asks c low (ap is_high (sym (wire.readdatavalid c low)) ∙ valid) in
+      let w : Word = record { word = host.readdata c; code = host.response c } in
       let number : length (given (host_side form) host c) ≡ length (words c) = words_given form host agent count end wire legal is proper c (omega arith) ∙ sym (words_length c) in
       let got : slice_get (asked (wire_system form) (wire_run host agent) 0 (suc c)) (length (words c)) ≡ Some (question a.beat) =
       ap (λ l. slice_get l (length (words c))) (asked_is (suc c) (omega arith)) ∙ slice_get-map question (shown_reads (suc c)) (length (words c)) ∙ ap (option_map question) (prefix_get (above c low) (length (words c)) a.beat a.got) in

@@ -98,9 +98,9 @@ module _ (form : WireForm) (host : HostView) (agent : AgentView) (count : ℕ �
 
   pub same_accepts : (c : ℕ) → c < end → agent_accepts (agent_side form) agent c ≡ host_accepts host c
   same_accepts c low =
-      ap₂ (λ r w. (r || is_high w) && not (is_high (agent.wait c))) (agent_read c low) (wire.write c low)
-      ∙ accepts_agree (is_full form count c) (is_high (host.read c)) (is_high (host.write c)) (is_high (agent.wait c)) (legal.one_kind c low)
-      ∙ ap (λ w. shows host.signals c && not w) (sym (wire.wait c low))
+      ap₂ (λ r w. (r || is_high w) && not (is_high (agent.waitrequest c))) (agent_read c low) (wire.write c low)
+      ∙ accepts_agree (is_full form count c) (is_high (host.read c)) (is_high (host.write c)) (is_high (agent.waitrequest c)) (legal.one_kind c low)
+      ∙ ap (λ w. shows host.signals c && not w) (sym (wire.waitrequest c low))
 
   host_single : (c : ℕ) → c < end → host.count c ≡ 1
   host_single c low = (wire.fits c low).one_beat
@@ -141,7 +141,7 @@ module _ (form : WireForm) (host : HostView) (agent : AgentView) (count : ℕ �
 
   pub host_keeps : KeepsItems (shows host.signals) (host_accepts host) (beat_at host) end
   host_keeps = record {
-    accepted = accepts_shows host.signals host.wait;
+    accepted = accepts_shows host.signals host.waitrequest;
     held = λ c low held.
         let same = legal.held c low held in (
           ap (λ (l : Levels). is_high l.read || is_high l.write) (sym same) ∙ (and_parts (shows host.signals c) (not (host_accepts host c)) held).0,

@@ -73,13 +73,13 @@ module _ (form : WireForm) (host : HostView) (agent : AgentView) (count : ℕ �
   reads_taken c = length (reads (taken_beats host c))
 
   abbrev words : ℕ → ℕ
-  words c = words_before agent.answer_valid c
+  words c = words_before agent.readdatavalid c
 
   pub read_more : (c : ℕ) → c < end → reads_taken (suc c) ≡ reads_taken c + one_if (takes_read host c)
   read_more c low =
       ap length (filter-append (λ (b : Beat). is_of_reads b.kind) (taken_beats host c) (only_if (host_accepts host c) (beat_at host c)))
       ∙ length-append (reads (taken_beats host c)) _
-      ∙ ap (λ n. reads_taken c + n) (one_read_more (is_high (host.read c)) (is_high (host.write c)) (is_high (host.wait c)) (host.address c - host.address c % 4) (host.word c) (host.enables c) (legal.one_kind c low))
+      ∙ ap (λ n. reads_taken c + n) (one_read_more (is_high (host.read c)) (is_high (host.write c)) (is_high (host.waitrequest c)) (host.address c - host.address c % 4) (host.word c) (host.enables c) (legal.one_kind c low))
 
   pub asked_of_agent : (c : ℕ) → c ≤ end → words_asked (agent_side form).shape agent.signals (agent_accepts (agent_side form) agent) c ≡ reads_taken c
   asked_of_agent c low = ap (λ l. length (read_beats l)) (agent_accepted form host agent count end wire legal c low) ∙ ap length (read_beats_of_ones (taken_beats host c))
@@ -97,8 +97,8 @@ module _ (form : WireForm) (host : HostView) (agent : AgentView) (count : ℕ �
       by_full : (b : Bool) → is_full form count c ≡ b → count c + one_if (takes_read host c) ≤ form.pending
       by_full true full =
           let none : takes_read host c ≡ false =
-          ap (λ w. is_high (host.read c) && (shows host.signals c && not w)) (wire.wait c low ∙ ap (λ b. (b && is_high (host.read c)) || is_high (agent.wait c)) full)
-          ∙ none_when_full (is_high (host.read c)) (is_high (host.write c)) (is_high (agent.wait c)) in
+          ap (λ w. is_high (host.read c) && (shows host.signals c && not w)) (wire.waitrequest c low ∙ ap (λ b. (b && is_high (host.read c)) || is_high (agent.waitrequest c)) full)
+          ∙ none_when_full (is_high (host.read c)) (is_high (host.write c)) (is_high (agent.waitrequest c)) in
           let zero_more : one_if (takes_read host c) ≡ 0 = ap one_if none in
           omega arith
       by_full false free =
@@ -117,7 +117,7 @@ module _ (form : WireForm) (host : HostView) (agent : AgentView) (count : ℕ �
       let earlier = count_is c (omega arith) in
       let bound = room c (omega arith) earlier.1 in
       let few = words_few c (omega arith) in
-      let word = word_more agent.answer_valid c in
+      let word = word_more agent.readdatavalid c in
       let read = read_more c (omega arith) in
       let most = is.few_reads in
       let next = wire.counts c low (omega (arith, bound, most)) (omega (arith, few, word, earlier.0)) in
@@ -128,24 +128,24 @@ module _ (form : WireForm) (host : HostView) (agent : AgentView) (count : ℕ �
   few_unanswered c low =
       let now = count_is c low in
       let bound = room c low now.1 in
-      let word = word_more agent.answer_valid c in
+      let word = word_more agent.readdatavalid c in
       let read = read_more c low in
       omega (arith, now.0, bound, word, read)
 
   pub unanswered_at_agent : (c : ℕ) → c < end →
-      unanswered (agent_side form).shape agent.signals (agent_accepts (agent_side form) agent) (words_before agent.answer_valid (suc c)) (suc c) ≤ form.pending
+      unanswered (agent_side form).shape agent.signals (agent_accepts (agent_side form) agent) (words_before agent.readdatavalid (suc c)) (suc c) ≤ form.pending
   unanswered_at_agent c low =
       let same = unanswered_ones _ (taken_beats host (suc c)) (words (suc c)) (agent_accepted form host agent count end wire legal (suc c) (omega arith)) in
       let few = few_unanswered c low in
       omega (arith, same, few)
 
-  pub same_words : (c : ℕ) → c ≤ end → words_before host.answer_valid c ≡ words c
+  pub same_words : (c : ℕ) → c ≤ end → words_before host.readdatavalid c ≡ words c
   same_words zero low = refl
   same_words (suc c) low =
-      word_more host.answer_valid c ∙ ap₂ (λ n v. n + one_if (is_high v)) (same_words c (omega arith)) (wire.answer_valid c (omega arith)) ∙ sym (word_more agent.answer_valid c)
+      word_more host.readdatavalid c ∙ ap₂ (λ n v. n + one_if (is_high v)) (same_words c (omega arith)) (wire.readdatavalid c (omega arith)) ∙ sym (word_more agent.readdatavalid c)
 
   pub words_given : (c : ℕ) → c ≤ end → length (given (host_side form) host c) ≡ words c
-  words_given c low = same_counts (λ c. is_high (host.answer_valid c)) (λ c. record { word = host.answer_word c; code = host.response c }) (λ c. c) c ∙ same_words c low
+  words_given c low = same_counts (λ c. is_high (host.readdatavalid c)) (λ c. record { word = host.readdata c; code = host.response c }) (λ c. c) c ∙ same_words c low
 
   pub proper_at_host : IsProperAtHost (host_side form) host end
   proper_at_host = record {

@@ -65,7 +65,7 @@ module _ (form : WireForm) (host : HostView) (agent : AgentView) (count : ℕ �
       let apart = eqb-false (count c) form.pending free in
       let zero_more : one_if (takes_read host c) ≡ 0 = ap one_if (and_right (is_high (host.read c)) (host_accepts host c) none) in
       let read = read_more form host agent count end wire legal is proper c (omega arith) in
-      let word = word_more agent.answer_valid c in
+      let word = word_more agent.readdatavalid c in
       ne_eqb (count (suc c)) form.pending (λ same. omega (arith, now.0, now.1, next.0, apart, zero_more, read, word, same))
 
   same_read : (c : ℕ) → suc c < end → Waits c → host.read c ≡ host.read (suc c) → agent.read c ≡ agent.read (suc c)

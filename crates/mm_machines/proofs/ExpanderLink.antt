@@ -82,7 +82,7 @@ module _ (target : Target) (wide narrow : Shape) (parts : Burst → Raw → List
   module _ (legal : AreLegalAt (port_of wide uc ua) end) where
     keeps_above : KeepsItems (shows uc.signals) (takes (port_of wide uc ua)) (raw_at (port_of wide uc ua)) end
     keeps_above =
-        let keeps = legal_keeps wide uc.signals (takes (port_of wide uc ua)) end (accepts_shows uc.signals uc.wait) legal.legal in
+        let keeps = legal_keeps wide uc.signals (takes (port_of wide uc ua)) end (accepts_shows uc.signals uc.waitrequest) legal.legal in
         record {
           accepted = keeps.accepted;
           held = λ c h stands. ((keeps.held c h stands).0, same c (legal.legal.held c h stands) (legal.tag c h stands) (legal.more c h stands));
@@ -120,10 +120,10 @@ module _ (target : Target) (wide narrow : Shape) (parts : Burst → Raw → List
           where
             grown : (d : Bool) → takes (port_of narrow dc da) c ≡ d → IsPrefix (sent c) (parts_at parts (port_of wide uc ua) c) → IsPrefix (sent c ++ only_if d (raw_at (port_of narrow dc da) c)) (parts_at parts (port_of wide uc ua) c)
             grown true taken p =
-                let below = accepts_shows dc.signals dc.wait c taken in
+                let below = accepts_shows dc.signals dc.waitrequest c taken in
                 record { rest = rest c; joins = append_assoc (sent c) (raw_at (port_of narrow dc da) c ∷ []) (rest c) ∙ sym (run.part c (omega arith) below) }
             grown false taken p = subst (λ l. IsPrefix l (parts_at parts (port_of wide uc ua) c)) (sym (append-nil (sent c))) p
-        by_taken false t false shown true taken earlier next = let bad = run.stands c (omega arith) (accepts_shows dc.signals dc.wait c taken) in cc
+        by_taken false t false shown true taken earlier next = let bad = run.stands c (omega arith) (accepts_shows dc.signals dc.waitrequest c taken) in cc
         by_taken false t false shown false taken earlier next =
             let none : sent (suc c) ≡ [] = next ∙ ap₂ (λ a b. if a then [] else sent c ++ only_if b (raw_at (port_of narrow dc da) c)) t taken ∙ append-nil (sent c) ∙ earlier.1 shown in
             (λ shown. subst (λ l. IsPrefix l (parts_at parts (port_of wide uc ua) (suc c))) (sym none) (record { rest = _; joins = refl }), λ quiet. none)
@@ -165,7 +165,7 @@ module _ (target : Target) (wide narrow : Shape) (parts : Burst → Raw → List
     or_stands : (c : ℕ) → c < end → shows uc.signals c ≡ true → (d s : Bool) → shows dc.signals c ≡ s → takes (port_of narrow dc da) c ≡ d →
         IsPrefix ((sent c ++ only_if d (raw_at (port_of narrow dc da) c)) ++ only_if (s && not d) (raw_at (port_of narrow dc da) c)) (parts_at parts (port_of wide uc ua) c)
     or_stands c h above true true shown taken = record { rest = rest c; joins = ap (λ l. l ++ rest c) (append-nil _) ∙ append_assoc (sent c) (raw_at (port_of narrow dc da) c ∷ []) (rest c) ∙ sym (run.part c (omega arith) shown) }
-    or_stands c h above true false shown taken = let bad = accepts_shows dc.signals dc.wait c taken in cc
+    or_stands c h above true false shown taken = let bad = accepts_shows dc.signals dc.waitrequest c taken in cc
     or_stands c h above false true shown taken = record { rest = rest c; joins = ap (λ l. (l ++ raw_at (port_of narrow dc da) c ∷ []) ++ rest c) (append-nil (sent c)) ∙ append_assoc (sent c) (raw_at (port_of narrow dc da) c ∷ []) (rest c) ∙ sym (run.part c (omega arith) shown) }
     or_stands c h above false false shown taken = subst (λ l. IsPrefix l (parts_at parts (port_of wide uc ua) c)) (sym (append-nil (sent c ++ []) ∙ append-nil (sent c))) ((front c h).0 above)
 
@@ -209,7 +209,7 @@ module _ (target : Target) (wide narrow : Shape) (parts : Burst → Raw → List
         by_taken false t false shown false held = by_below (takes (port_of narrow dc da) c) refl
           where
             by_below : (d : Bool) → takes (port_of narrow dc da) c ≡ d → IsPrefix (shown_raws (port_of narrow dc da) (suc c)) (expand wide parts idle (shown_raws (port_of wide uc ua) (suc c)))
-            by_below true d = let bad = run.stands c (omega arith) (accepts_shows dc.signals dc.wait c d) in cc
+            by_below true d = let bad = run.stands c (omega arith) (accepts_shows dc.signals dc.waitrequest c d) in cc
             by_below false d =
                 nothing_more c h (run.next c ∙ ap₂ (λ a b. if a then [] else sent c ++ only_if b (raw_at (port_of narrow dc da) c)) t d ∙ append-nil (sent c) ∙ (front c h).1 shown) held (ap₂ (λ s t. s && not t) shown t)
 

@@ -44,16 +44,16 @@ module _ (side : HostSide) (view : HostView) (down : Port) (shut : ℕ → Bool)
       ap shown_by (levels_when c true e) ∙ blocked_values (is_high (view.read c)) (is_high (view.write c)) parts.1 (legal.one_kind c low)
 
   refused : (c : ℕ) → blocked c ≡ true → host_accepts view c ≡ false
-  refused c e = ap (λ w. shows view.signals c && not w) (gate.wait c ∙ ap (λ b. b || is_high (down.commands.wait c)) e) ∙ and_right (shows view.signals c) (not true) refl
+  refused c e = ap (λ w. shows view.signals c && not w) (gate.waitrequest c ∙ ap (λ b. b || is_high (down.commands.waitrequest c)) e) ∙ and_right (shows view.signals c) (not true) refl
 
   same_takes : (c : ℕ) → c < end → takes down c ≡ host_accepts view c
   same_takes c low = by_block (blocked c) refl
     where
       by_block : (b : Bool) → blocked c ≡ b → takes down c ≡ host_accepts view c
-      by_block true e = ap (λ s. s && not (is_high (down.commands.wait c))) (hidden c low e) ∙ sym (refused c e)
+      by_block true e = ap (λ s. s && not (is_high (down.commands.waitrequest c))) (hidden c low e) ∙ sym (refused c e)
       by_block false e =
-          ap (λ s. s && not (is_high (down.commands.wait c))) (ap shown_by (levels_when c false e))
-          ∙ ap (λ w. shows view.signals c && not w) (sym (gate.wait c ∙ ap (λ b. b || is_high (down.commands.wait c)) e))
+          ap (λ s. s && not (is_high (down.commands.waitrequest c))) (ap shown_by (levels_when c false e))
+          ∙ ap (λ w. shows view.signals c && not w) (sym (gate.waitrequest c ∙ ap (λ b. b || is_high (down.commands.waitrequest c)) e))
 
   same_burst : (c : ℕ) → c ≤ end → burst_before down.shape down.commands.signals (takes down) c ≡ burst_before side.shape view.signals (host_accepts view) c
   same_burst zero low = refl
@@ -126,7 +126,7 @@ module _ (side : HostSide) (view : HostView) (down : Port) (shut : ℕ → Bool)
 
   keeps : KeepsItems (shows down.commands.signals) (takes down) (marked_at down) end
   keeps = record {
-    accepted = accepts_shows down.commands.signals down.commands.wait;
+    accepted = accepts_shows down.commands.signals down.commands.waitrequest;
     held = λ c low held.
         let levels = held_levels c low held in
         let parts = and_parts (shows down.commands.signals c) (not (takes down c)) held in
@@ -143,7 +143,7 @@ module _ (side : HostSide) (view : HostView) (down : Port) (shut : ℕ → Bool)
   gate_in_order zero low = prefix_refl []
   gate_in_order (suc c) low =
       let below = shown_is_accepted_and_standing _ _ _ end (suc c) keeps low in
-      let above = shown_is_accepted_and_standing _ _ _ end (suc c) (legal_keeps side.shape view.signals (host_accepts view) end (accepts_shows view.signals view.wait) legal) low in
+      let above = shown_is_accepted_and_standing _ _ _ end (suc c) (legal_keeps side.shape view.signals (host_accepts view) end (accepts_shows view.signals view.waitrequest) legal) low in
       let left : sent_of (shown_at down (suc c)) ≡ sent_of (taken_at down (suc c)) ++ map from_port (only_if (is_held down.commands.signals (takes down) c) (marked_at down c)) =
       ap sent_of below ∙ map-append from_port (taken_at down (suc c)) (only_if (is_held down.commands.signals (takes down) c) (marked_at down c)) in
       let right : sent_by (presented side.shape view.signals (host_accepts view) (suc c)) ≡ sent_by (accepted side.shape view.signals (host_accepts view) (suc c)) ++ map from_host (only_if (is_held view.signals (host_accepts view) c) (own c)) =
@@ -178,7 +178,7 @@ module _ (side : HostSide) (view : HostView) (down : Port) (shut : ℕ → Bool)
   host_side_legal = record {
     legal = legal;
     tag = λ c low held. refl;
-    more = λ c low held. ap (λ (t : Transfer). one_if (not t.ends)) ((legal_keeps side.shape view.signals (host_accepts view) end (accepts_shows view.signals view.wait) legal).held c low held).1;
+    more = λ c low held. ap (λ (t : Transfer). one_if (not t.ends)) ((legal_keeps side.shape view.signals (host_accepts view) end (accepts_shows view.signals view.waitrequest) legal).held c low held).1;
     joined = λ c low shown. ends_or_joins (own c).ends;
   }
 

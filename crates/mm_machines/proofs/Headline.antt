@@ -167,7 +167,7 @@ module _ (responses : Responses) (system : System) (run : Run) (inside : Inside)
       let view = run.at_host h in
       let left : List Transfer = standing (shows view.signals) (host_accepts view) (transfer_at (system.host h).shape view.signals (host_accepts view)) c in
       let split : host_transfers system run h c ≡ host_accepted system run h c ++ left =
-      shown_is_accepted_and_standing _ _ _ end c (legal_keeps _ _ _ end (accepts_shows view.signals view.wait) (legal.hosts h is)) low in
+      shown_is_accepted_and_standing _ _ _ end c (legal_keeps _ _ _ end (accepts_shows view.signals view.waitrequest) (legal.hosts h is)) low in
       let sizes = λ (ts : List Transfer). placed_sizes system h a ts in
       let one : length left ≤ 1 = few_stand _ _ _ c in
       let kept = kept_length (λ (t : Transfer). length (transfer_operations system h a t)) (λ (t : Transfer). is_agent a (place_of system h t)) left in

@@ -30,7 +30,7 @@ placed_fronts system host agent port end legal c low = prefix_map _ (prefix_filt
 pub host_front : (system : System) (run : Run) (host end c : ℕ) → IsLegalHost (system.host host) (run.at_host host) end → c ≤ end →
     IsPrefix (host_accepted system run host c) (host_transfers system run host c)
 host_front system run host end c legal low =
-    accepted_prefix _ _ _ end c (legal_keeps _ _ _ end (accepts_shows (run.at_host host).signals (run.at_host host).wait) legal) low
+    accepted_prefix _ _ _ end c (legal_keeps _ _ _ end (accepts_shows (run.at_host host).signals (run.at_host host).waitrequest) legal) low
 
 pub host_fronts : (system : System) (run : Run) (host agent end : ℕ) → IsLegalHost (system.host host) (run.at_host host) end → AreFronts (host_flow system run host agent) end
 host_fronts system run host agent end legal c low = prefix_map _ (prefix_filter _ (prefix_map _ (host_front system run host end c legal low)))

@@ -39,7 +39,7 @@ module _ (up down : Port) (register : IsRegister up down) where
       × (burst_before up.shape up.commands.signals (takes up) c ≡ burst_after down.shape (levels_at down.commands.signals c) (s c) (burst_before down.shape down.commands.signals (takes down) c))
 
   pub takes_below : (c : ℕ) → stalls c ≡ false → takes down c ≡ s c
-  takes_below c e = by_test (s c) (is_high (down.commands.wait c)) e
+  takes_below c e = by_test (s c) (is_high (down.commands.waitrequest c)) e
     where
       by_test : (s w : Bool) → (s && not (s && not w)) ≡ false → (s && not w) ≡ s
       by_test true true e = sym e
@@ -47,7 +47,7 @@ module _ (up down : Port) (register : IsRegister up down) where
       by_test false w e = refl
 
   pub takes_none : (c : ℕ) → stalls c ≡ true → takes down c ≡ false
-  takes_none c e = by_test (s c) (is_high (down.commands.wait c)) e
+  takes_none c e = by_test (s c) (is_high (down.commands.waitrequest c)) e
     where
       by_test : (s w : Bool) → (s && not (s && not w)) ≡ true → (s && not w) ≡ false
       by_test true true e = refl
@@ -55,7 +55,7 @@ module _ (up down : Port) (register : IsRegister up down) where
       by_test false w e = refl
 
   takes_above : (c : ℕ) (b : Bool) → stalls c ≡ b → takes up c ≡ (shows up.commands.signals c && not b)
-  takes_above c b e = ap (λ x. shows up.commands.signals c && not x) (register.wait c ∙ e)
+  takes_above c b e = ap (λ x. shows up.commands.signals c && not x) (register.waitrequest c ∙ e)
 
   pub next_levels : (c : ℕ) (b : Bool) → stalls c ≡ b → levels_at down.commands.signals (suc c) ≡ (if b then levels_at down.commands.signals c else levels_at up.commands.signals c)
   next_levels c b e = register.levels c ∙ ap (λ b. if b then levels_at down.commands.signals c else levels_at up.commands.signals c) e
@@ -105,7 +105,7 @@ module _ (up down : Port) (register : IsRegister up down) where
 
   -- what was taken below by the end of a cycle was taken above before it
   pub taken_later : (c : ℕ) → IsPrefix (taken_at down (suc c)) (taken_at up c)
-  taken_later c = subst (λ l. IsPrefix (taken_at down (suc c)) l) (sym (is_ahead c).0) (by_test (s c) (is_high (down.commands.wait c)))
+  taken_later c = subst (λ l. IsPrefix (taken_at down (suc c)) l) (sym (is_ahead c).0) (by_test (s c) (is_high (down.commands.waitrequest c)))
     where
       by_test : (s w : Bool) → IsPrefix (taken_at down c ++ only_if (s && not w) (marked_at down c)) (taken_at down c ++ only_if s (marked_at down c))
       by_test true true = record { rest = marked_at down c ∷ []; joins = ap (λ l. l ++ marked_at down c ∷ []) (append-nil (taken_at down c)) }
@@ -114,7 +114,7 @@ module _ (up down : Port) (register : IsRegister up down) where
 
   keeps : (end : ℕ) → KeepsItems (shows down.commands.signals) (takes down) (marked_at down) end
   keeps end = record {
-    accepted = accepts_shows down.commands.signals down.commands.wait;
+    accepted = accepts_shows down.commands.signals down.commands.waitrequest;
     held = λ c low held.
         let levels = next_levels c true held in
         let none : takes down c ≡ false = takes_none c held in
@@ -131,7 +131,7 @@ module _ (up down : Port) (register : IsRegister up down) where
   pub shown_later : (end c : ℕ) → AreLegalAt up end → c ≤ end → IsPrefix (shown_at down (suc c)) (shown_at up c)
   shown_later end c legal low =
       let all : shown_at down (suc c) ≡ taken_at down (suc c) ++ only_if (stalls c) (marked_at down c) = shown_is_accepted_and_standing _ _ _ (suc c) (suc c) (keeps (suc c)) (omega arith) in
-      let whole : shown_at down (suc c) ≡ taken_at up c = all ∙ by_test (s c) (is_high (down.commands.wait c)) ∙ sym (is_ahead c).0 in
+      let whole : shown_at down (suc c) ≡ taken_at up c = all ∙ by_test (s c) (is_high (down.commands.waitrequest c)) ∙ sym (is_ahead c).0 in
       subst (λ l. IsPrefix l (shown_at up c)) (sym whole) (taken_is_shown up end c legal low)
     where
       by_test : (s w : Bool) → (taken_at down c ++ only_if (s && not w) (marked_at down c)) ++ only_if (s && not (s && not w)) (marked_at down c) ≡ taken_at down c ++ only_if s (marked_at down c)

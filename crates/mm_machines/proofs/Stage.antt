@@ -92,7 +92,7 @@ fits port end (suc c) legal h =
   where
     by_test : (b : Bool) → takes port c ≡ b → AreFit port.shape idle (raws port c) → AreFit port.shape idle (raws port c ++ only_if b (raw_at port c))
     by_test true taken earlier =
-        let fit = fit_when_shown port end c legal (omega arith) (and_parts (shows port.commands.signals c) (not (is_high (port.commands.wait c))) taken).0 in
+        let fit = fit_when_shown port end c legal (omega arith) (and_parts (shows port.commands.signals c) (not (is_high (port.commands.waitrequest c))) taken).0 in
         fit_push port.shape idle (raws port c) (raw_at port c) earlier (subst (λ b. IsFitBeat port.shape b (raw_at port c)) (burst_is port c) fit)
     by_test false taken earlier = subst (AreFit port.shape idle) (sym (append-nil (raws port c))) earlier
 
@@ -101,7 +101,7 @@ prefix_behind xs {some} p = record { rest = p.rest; joins = append_assoc xs some
 
 module _ (depth : ℕ) (up down : Port) (queue : ℕ → List Raw) (run : IsStageRun depth up down queue) where
   step : (c : ℕ) (t : Bool) (q : List Raw) → takes down c ≡ t → ShowsHead down c q → q ≡ only_if t (raw_at down c) ++ drop (if t then 1 else 0) q
-  step c true [] taken head = let bad = (and_parts (shows down.commands.signals c) (not (is_high (down.commands.wait c))) taken).0 in cc
+  step c true [] taken head = let bad = (and_parts (shows down.commands.signals c) (not (is_high (down.commands.waitrequest c))) taken).0 in cc
   step c true (raw ∷ later) taken head = ap (λ r. r ∷ later) (sym head.1)
   step c false q taken head = refl
 
@@ -241,4 +241,4 @@ module _ (depth : ℕ) (shape : Shape) (uc dc : CommandView) (ua da : AnswerView
       (subst (λ l. IsPrefix ((taken_at (port_of shape dc da) c ++ only_if (takes (port_of shape dc da) c) (marked_at (port_of shape dc da) c)) ++ only_if (is_held dc.signals (takes (port_of shape dc da)) c) (marked_at (port_of shape dc da) c)) l)
       (sym (taken_split depth shape uc dc ua da queue run c))
       (front_of (taken_at (port_of shape dc da) c) (marked shape (burst_of shape idle (raws (port_of shape dc da) c)) (queue c)) (marked_at (port_of shape dc da) c) (shows dc.signals c) (takes (port_of shape dc da) c)
-      (λ taken. (and_parts (shows dc.signals c) (not (is_high (dc.wait c))) taken).0) (λ shown. head_of c (queue c) (run.heads c) shown)))
+      (λ taken. (and_parts (shows dc.signals c) (not (is_high (dc.waitrequest c))) taken).0) (λ shown. head_of c (queue c) (run.heads c) shown)))

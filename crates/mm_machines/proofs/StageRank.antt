@@ -49,7 +49,7 @@ at_most_one true = le_refl 1
 at_most_one false = omega arith
 
 module _ (depth : ℕ) (shape : Shape) (uc dc : CommandView) (ua da : AnswerView) (queue : ℕ → List Raw) (run : IsStageRun depth (port_of shape uc ua) (port_of shape dc da) queue)
-    (some : 0 < depth) (opens : (c : ℕ) → length (queue c) < depth → is_high (uc.wait c) ≡ false) (target : Target) (end : ℕ) (legal : AreLegalAt (port_of shape uc ua) end) where
+    (some : 0 < depth) (opens : (c : ℕ) → length (queue c) < depth → is_high (uc.waitrequest c) ≡ false) (target : Target) (end : ℕ) (legal : AreLegalAt (port_of shape uc ua) end) where
   abbrev up : Port
   up = port_of shape uc ua
 
@@ -73,7 +73,7 @@ module _ (depth : ℕ) (shape : Shape) (uc dc : CommandView) (ua da : AnswerView
   quiet_above : (c : ℕ) → queue c ≡ [] → takes up c ≡ false → shows uc.signals c ≡ false
   quiet_above c none taken =
       let room : length (queue c) < depth = subst (λ q. length q < depth) (sym none) some in
-      not_shown (shows uc.signals c) (is_high (uc.wait c)) (opens c room) taken
+      not_shown (shows uc.signals c) (is_high (uc.waitrequest c)) (opens c room) taken
 
   none_held : (c : ℕ) → shows uc.signals c ≡ false → is_held uc.signals (takes up) c ≡ false
   none_held c quiet = ap (λ s. s && not (takes up c)) quiet

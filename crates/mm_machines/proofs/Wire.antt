@@ -20,7 +20,7 @@ use Rattle.mm_machines.specs.Link.{Target, Port, Marked, KeepsLinkLaw, AreLegalA
 
 pub marked_keeps : (port : Port) (end : ℕ) → AreLegalAt port end → KeepsItems (shows port.commands.signals) (takes port) (marked_at port) end
 marked_keeps port end legal =
-    let keeps = legal_keeps port.shape port.commands.signals (takes port) end (accepts_shows port.commands.signals port.commands.wait) legal.legal in
+    let keeps = legal_keeps port.shape port.commands.signals (takes port) end (accepts_shows port.commands.signals port.commands.waitrequest) legal.legal in
     record {
       accepted = keeps.accepted;
       held = λ c h stands.

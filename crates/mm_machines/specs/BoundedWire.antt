@@ -21,7 +21,7 @@ abbrev pub span_of : WireForm → ℕ
 span_of form = 4 * 2 ^ form.address_bits
 
 abbrev pub host_side : WireForm → HostSide
-host_side form = record { shape = word_shape 1 form.has_enables; has_burst = false; has_valid = true; has_response = false }
+host_side form = record { shape = word_shape 1 form.has_enables; has_burst = false; has_readdatavalid = true; has_response = false }
 
 abbrev pub agent_side : WireForm → AgentSide
 agent_side form = record {
@@ -29,8 +29,8 @@ agent_side form = record {
   has_read = true;
   has_write = true;
   has_burst = false;
-  has_wait = true;
-  has_valid = true;
+  has_waitrequest = true;
+  has_readdatavalid = true;
   has_response = false;
   read_latency = 0;
   read_wait = 1;
@@ -93,15 +93,15 @@ pub record IsBoundedWire (form : WireForm) (host : HostView) (agent : AgentView)
   pub enables : (c : ℕ) → c < end → agent.enables c ≡ host.enables c
   pub one_beat : (c : ℕ) → c < end → agent.count c ≡ 1
   pub grant : (c : ℕ) → c < end → agent.grant c ≡ 0
-  pub wait : (c : ℕ) → c < end → is_high (host.wait c) ≡ (is_full form count c && is_high (host.read c)) || is_high (agent.wait c)
+  pub waitrequest : (c : ℕ) → c < end → is_high (host.waitrequest c) ≡ (is_full form count c && is_high (host.read c)) || is_high (agent.waitrequest c)
   -- the answers
-  pub answer_valid : (c : ℕ) → c < end → host.answer_valid c ≡ agent.answer_valid c
-  pub answer_word : (c : ℕ) → c < end → host.answer_word c ≡ agent.answer_word c
+  pub readdatavalid : (c : ℕ) → c < end → host.readdatavalid c ≡ agent.readdatavalid c
+  pub readdata : (c : ℕ) → c < end → host.readdata c ≡ agent.readdata c
   pub no_response : (c : ℕ) → c < end → host.response c ≡ 0
   -- the count, in five bits
   pub starts : 0 < end → count 0 ≡ 0
-  pub counts : (c : ℕ) → suc c < end → count c + one_if (takes_read host c) < 32 → one_if (is_high (agent.answer_valid c)) ≤ count c + one_if (takes_read host c) →
-      count (suc c) + one_if (is_high (agent.answer_valid c)) ≡ count c + one_if (takes_read host c)
+  pub counts : (c : ℕ) → suc c < end → count c + one_if (takes_read host c) < 32 → one_if (is_high (agent.readdatavalid c)) ≤ count c + one_if (takes_read host c) →
+      count (suc c) + one_if (is_high (agent.readdatavalid c)) ≡ count c + one_if (takes_read host c)
 
 -- the host and the agent of a wire are legal, and what it promises them
 abbrev pub IsLegalWireRun : WireForm → HostView → AgentView → ℕ → Type 0

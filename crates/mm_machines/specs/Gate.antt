@@ -15,7 +15,7 @@ is_blocked view shut cycle = shut cycle && is_high (view.read cycle)
 pub record IsGate (side : HostSide) (view : HostView) (down : Port) (shut : ℕ → Bool) : Type 0 where
   pub shape : down.shape ≡ side.shape
   pub levels : (c : ℕ) → levels_at down.commands.signals c ≡ (if is_blocked view shut c then silent (levels_at view.signals c) else levels_at view.signals c)
-  pub wait : (c : ℕ) → is_high (view.wait c) ≡ (is_blocked view shut c || is_high (down.commands.wait c))
+  pub waitrequest : (c : ℕ) → is_high (view.waitrequest c) ≡ (is_blocked view shut c || is_high (down.commands.waitrequest c))
   pub more : (c : ℕ) → down.commands.more c ≡ one_if (not (transfer_at down.shape down.commands.signals (takes down) c).ends)
   pub tag : (c : ℕ) → down.commands.tag c ≡ 0
   -- the gate doesn't shut on a read that has been let through and waits

@@ -140,7 +140,7 @@ HostResponds AreCodes system run host down end = HasHostCodes system run host do
 
 pub record HostCarriesAnswers (responses : Responses) (system : System) (run : Run) (host : ℕ) (down : Port) (end : ℕ) : Type 0 where
   pub gives : (c : ℕ) → c < end → gives_word (system.host host) (run.at_host host) c ≡ is_high (down.answers.valid c)
-  pub word : (c : ℕ) → c < end → IsTrue (is_high (down.answers.valid c)) → (run.at_host host).answer_word c ≡ down.answers.word c
+  pub word : (c : ℕ) → c < end → IsTrue (is_high (down.answers.valid c)) → (run.at_host host).readdata c ≡ down.answers.word c
   pub proper : IsProperAtHost (system.host host) (run.at_host host) end
   pub responds : HostResponds responses system run host down end
 

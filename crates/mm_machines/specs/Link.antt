@@ -26,7 +26,7 @@ pub record Marked : Type 0 where
   pub transfer : Transfer
 
 abbrev pub takes : Port → ℕ → Bool
-takes port = accepts_by port.commands.signals port.commands.wait
+takes port = accepts_by port.commands.signals port.commands.waitrequest
 
 abbrev pub marked_at : Port → ℕ → Marked
 marked_at port cycle = record {

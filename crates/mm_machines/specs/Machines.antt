@@ -215,7 +215,7 @@ RunsAsStage stage = IsStageRun stage.depth (above stage) (below stage) stage.que
 
 -- waitrequest is low above wherever there is room
 abbrev pub WaitsOnlyWhenFull : Stage → Type 0
-WaitsOnlyWhenFull stage = (c : ℕ) → length (stage.queue c) < stage.depth → is_high (stage.sides.commands_above.wait c) ≡ false
+WaitsOnlyWhenFull stage = (c : ℕ) → length (stage.queue c) < stage.depth → is_high (stage.sides.commands_above.waitrequest c) ≡ false
 
 -- in these states of the burst the parts of a beat are right, and they are the states that a legal host leads to
 pub record ExpandsWhile (target : Target) (wide narrow : Shape) (parts : Burst → Raw → List Raw) (stands : Burst → Bool) : Type 0 where

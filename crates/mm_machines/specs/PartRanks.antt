@@ -138,7 +138,7 @@ abbrev pub is_agent_excused : System → Run → ℕ → TaggedPort → ℕ → 
 is_agent_excused system run agent up c =
     let side = system.agent agent in
     let view = run.at_agent agent in
-    (side.has_wait && is_held view.signals (agent_accepts side view) c)
+    (side.has_waitrequest && is_held view.signals (agent_accepts side view) c)
     || (owes system run agent c && not (is_under_way side.shape view.signals (agent_accepts side view) (suc c)))
     || may_rest up.port c
 

@@ -8,7 +8,7 @@ pub record CommandView : Type 0 where
   pub open signals use *
   pub more : ℕ → ℕ
   pub tag : ℕ → ℕ
-  pub wait : ℕ → ℕ
+  pub waitrequest : ℕ → ℕ
 
 -- an answer path
 pub record AnswerView : Type 0 where

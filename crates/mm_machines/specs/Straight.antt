@@ -101,11 +101,11 @@ port_of_host side view host = record {
   shape = side.shape;
   commands = record {
     signals = view.signals;
-    more = λ c. one_if (not (transfer_at side.shape view.signals (λ k. shows view.signals k && not (is_high (view.wait k))) c).ends);
+    more = λ c. one_if (not (transfer_at side.shape view.signals (λ k. shows view.signals k && not (is_high (view.waitrequest k))) c).ends);
     tag = λ c. host;
-    wait = view.wait;
+    waitrequest = view.waitrequest;
   };
-  answers = record { valid = λ c. one_if (gives_word side view c); word = view.answer_word; code = view.response };
+  answers = record { valid = λ c. one_if (gives_word side view c); word = view.readdata; code = view.response };
 }
 
 -- fewer than 16 reads were under way at the end of the cycle before
@@ -125,7 +125,7 @@ pub record HostGoesStraightThrough (side : HostSide) (view : HostView) (host : �
   pub shown : (c : ℕ) → c < end → IsTrue (shows_plain (port_of_host side view host) c) → IsTrue (host_may_go_on (port_of_host side view host) down c) →
       IsTrue (shows down.commands.signals c) × ((marked_at down c).transfer ≡ (marked_at (port_of_host side view host) c).transfer)
   pub accepted : (c : ℕ) → c < end → IsTrue (shows_plain (port_of_host side view host) c) → IsTrue (host_may_go_on (port_of_host side view host) down c) →
-      IsTrue (side.has_valid || is_high (view.write c)) → takes (port_of_host side view host) c ≡ takes down c
+      IsTrue (side.has_readdatavalid || is_high (view.write c)) → takes (port_of_host side view host) c ≡ takes down c
 
 pub record HostIsPrompt (side : HostSide) (view : HostView) (host : ℕ) (down : Port) (end : ℕ) : Type 0 where
   pub shown : (c number : ℕ) (m : Marked) → c + 3 < end → slice_get (shown_at (port_of_host side view host) (suc c)) number ≡ Some m →
@@ -192,11 +192,11 @@ abbrev pub has_room_at_agent : System → Run → ℕ → ℕ → Bool
 has_room_at_agent system run agent c =
     let side = system.agent agent in
     let view = run.at_agent agent in
-    nat_lt (unanswered side.shape view.signals (agent_accepts side view) (words_before view.answer_valid c) c) side.pending
+    nat_lt (unanswered side.shape view.signals (agent_accepts side view) (words_before view.readdatavalid c) c) side.pending
 
 -- before an agent with readdatavalid the command that is asked for is shown in each cycle in which it is a write, or the agent has room for a read
 pub record ShowsWhatItIsAsked (system : System) (run : Run) (agent : ℕ) (up : TaggedPort) (end : ℕ) : Type 0 where
-  pub shown : (c : ℕ) → c < end → IsTrue (system.agent agent).has_valid →
+  pub shown : (c : ℕ) → c < end → IsTrue (system.agent agent).has_readdatavalid →
       IsTrue (shows up.commands.signals c && (not (is_of_reads (marked_at up.port c).transfer.kind) || has_room_at_agent system run agent c)) →
       IsTrue (shows (run.at_agent agent).signals c)
       × (flat_map (own_operations (system.agent agent).shape (system.agent agent).span) (transfer_at (system.agent agent).shape (run.at_agent agent).signals (agent_accepts (system.agent agent) (run.at_agent agent)) c).beats

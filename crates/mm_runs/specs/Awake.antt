@@ -103,7 +103,7 @@ is_written_to system run place cycle host =
 
 -- the larger wait time of an agent without waitrequest
 abbrev pub longest_wait : AgentSide → ℕ
-longest_wait side = if side.has_wait then 0 else max side.read_wait side.write_wait
+longest_wait side = if side.has_waitrequest then 0 else max side.read_wait side.write_wait
 
 -- the number of cycles within which a wanted agent is served: generous, so that ranks that add up over the parts fit in it
 abbrev pub window_of : System → ℕ → ℕ
@@ -124,7 +124,7 @@ Sometime from size Holds = (c : ℕ) × (from ≤ c) × (c < from + size) × Hol
 pub record IsWanted (system : System) (run : Run) (agent host number cycle : ℕ) : Type 0 where
   pub oldest : IsTrue (is_oldest system run host number cycle)
   pub for_agent : IsTrue (is_for system run host (Some agent) number (suc cycle))
-  pub ready : IsFalse (is_high ((run.at_agent agent).wait cycle))
+  pub ready : IsFalse (is_high ((run.at_agent agent).waitrequest cycle))
   pub answered : IsFalse (owes system run agent cycle)
   pub bursts : IsTrue (list_all (shows_its_burst system run (Some agent) cycle) (numbers 0 system.hosts))
 
@@ -172,8 +172,8 @@ asks_only system run host agent cycle =
     (numbers 1 (commands_begun system run host (suc cycle)))
 
 pub record IsAsked (system : System) (run : Run) (agent host cycle : ℕ) : Type 0 where
-  pub ready : IsFalse (is_high ((run.at_agent agent).wait cycle))
-  pub room : unanswered (system.agent agent).shape (run.at_agent agent).signals (agent_accepts (system.agent agent) (run.at_agent agent)) (words_before (run.at_agent agent).answer_valid cycle) cycle < (system.agent agent).pending
+  pub ready : IsFalse (is_high ((run.at_agent agent).waitrequest cycle))
+  pub room : unanswered (system.agent agent).shape (run.at_agent agent).signals (agent_accepts (system.agent agent) (run.at_agent agent)) (words_before (run.at_agent agent).readdatavalid cycle) cycle < (system.agent agent).pending
   pub untaken : length (of_host host (taken system run agent cycle)) < length (issued system run host agent (suc cycle))
   pub few : unanswered (system.host host).shape (run.at_host host).signals (host_accepts (run.at_host host)) (length (given (system.host host) (run.at_host host) cycle)) cycle < 16
   pub only : IsTrue (asks_only system run host agent cycle)
@@ -181,7 +181,7 @@ pub record IsAsked (system : System) (run : Run) (agent host cycle : ℕ) : Type
 -- reads travel while others are owed
 abbrev pub ReadsAheadWithin : ℕ → System → Run → ℕ → ℕ → Type 0
 ReadsAheadWithin size system run agent end =
-    IsTrue (system.agent agent).has_valid →
+    IsTrue (system.agent agent).has_readdatavalid →
     IsTrue (list_all (λ host. is_alike (system.host host) (system.agent agent)) (system.joined agent)) →
     (from host : ℕ) → from + size ≤ end → host < system.hosts →
     Throughout from size (IsAsked system run agent host) →

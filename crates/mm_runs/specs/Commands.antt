@@ -41,7 +41,7 @@ stood_before side view (suc cycle) = stood_after side view cycle (stood_before s
 
 abbrev pub agent_accepts : AgentSide → AgentView → ℕ → Bool
 agent_accepts side view cycle =
-    if side.has_wait then accepts_by view.signals view.wait cycle
+    if side.has_waitrequest then accepts_by view.signals view.waitrequest cycle
     else shows view.signals cycle && nat_eq (stood_before side view cycle) (wait_time side view cycle)
 
 -- the write burst under way: how many beats aren't accepted yet, how many are, and the byte address of the first

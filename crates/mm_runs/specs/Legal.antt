@@ -22,7 +22,7 @@ abbrev pub AreOwed : (ℕ → ℕ) → (ℕ → ℕ) → ℕ → Type 0
 AreOwed valid asked end = (c : ℕ) → c < end → words_before valid (suc c) ≤ asked c
 
 abbrev pub host_accepts : HostView → ℕ → Bool
-host_accepts view = accepts_by view.signals view.wait
+host_accepts view = accepts_by view.signals view.waitrequest
 
 abbrev pub IsLegalHost : HostSide → HostView → ℕ → Type 0
 IsLegalHost side view end = AreLegal side.shape view.signals (host_accepts view) end
@@ -33,7 +33,7 @@ words_asked shape signals accepts cycle = length (read_beats (accepted shape sig
 
 -- an agent with readdatavalid gives no word before a read that asks for it. Nothing else is asked of an agent
 pub record IsLegalAgent (side : AgentSide) (view : AgentView) (end : ℕ) : Type 0 where
-  pub owed : IsTrue side.has_valid → AreOwed view.answer_valid (words_asked side.shape view.signals (agent_accepts side view)) end
+  pub owed : IsTrue side.has_readdatavalid → AreOwed view.readdatavalid (words_asked side.shape view.signals (agent_accepts side view)) end
 
 -- read commands accepted before a cycle that are not fully answered by so many words
 abbrev pub unanswered : Shape → Signals → (ℕ → Bool) → ℕ → ℕ → ℕ
@@ -43,8 +43,8 @@ unanswered shape signals accepts words cycle =
 -- after each cycle no more read commands are unanswered than the agent bears
 abbrev pub IsWithinPendingBound : AgentSide → AgentView → ℕ → Type 0
 IsWithinPendingBound side view end =
-    (c : ℕ) → c < end → IsTrue side.has_valid →
-    unanswered side.shape view.signals (agent_accepts side view) (words_before view.answer_valid (suc c)) (suc c) ≤ side.pending
+    (c : ℕ) → c < end → IsTrue side.has_readdatavalid →
+    unanswered side.shape view.signals (agent_accepts side view) (words_before view.readdatavalid (suc c)) (suc c) ≤ side.pending
 
 -- the module's own side at an agent: the commands of a legal host, at addresses of whole words, within the bound
 pub record IsProperAtAgent (side : AgentSide) (view : AgentView) (end : ℕ) : Type 0 where
@@ -55,8 +55,8 @@ pub record IsProperAtAgent (side : AgentSide) (view : AgentView) (end : ℕ) : T
 -- whether a host is given a word in a cycle
 abbrev pub gives_word : HostSide → HostView → ℕ → Bool
 gives_word side view cycle =
-    if side.has_valid then is_high (view.answer_valid cycle)
-    else is_high (view.read cycle) && not (is_high (view.wait cycle))
+    if side.has_readdatavalid then is_high (view.readdatavalid cycle)
+    else is_high (view.read cycle) && not (is_high (view.waitrequest cycle))
 
 -- a word and its response
 pub record Word : Type 0 where
@@ -65,9 +65,9 @@ pub record Word : Type 0 where
 
 abbrev pub given : HostSide → HostView → ℕ → List Word
 given side view cycle =
-    before (λ c. only_if (gives_word side view c) (record { word = view.answer_word c; code = view.response c })) cycle
+    before (λ c. only_if (gives_word side view c) (record { word = view.readdata c; code = view.response c })) cycle
 
 -- the module's own side at a host: at most 16 reads under way, and no word before its read. What `response` carries is said apart
 pub record IsProperAtHost (side : HostSide) (view : HostView) (end : ℕ) : Type 0 where
   pub bounded : (c : ℕ) → c < end → unanswered side.shape view.signals (host_accepts view) (length (given side view (suc c))) (suc c) ≤ 16
-  pub later : IsTrue side.has_valid → AreOwed view.answer_valid (words_asked side.shape view.signals (host_accepts view)) end
+  pub later : IsTrue side.has_readdatavalid → AreOwed view.readdatavalid (words_asked side.shape view.signals (host_accepts view)) end

@@ -5,9 +5,9 @@ use Rattle.mm_runs.specs.Views.Responses.{AreZero, AreCodes}
 
 -- what an agent gives in a cycle
 pub record AgentGives : Type 0 where
-  pub wait : ℕ
-  pub answer_valid : ℕ
-  pub answer_word : ℕ
+  pub waitrequest : ℕ
+  pub readdatavalid : ℕ
+  pub readdata : ℕ
   pub response : ℕ
 
 -- what the module shows to an agent in a cycle
@@ -22,8 +22,8 @@ pub record Moment : Type 0 where
 
 -- an agent gives the same but for its word; once its code is read, also but for that
 abbrev pub GivesAlike : Responses → AgentGives → AgentGives → Type 0
-GivesAlike AreZero one other = (one.wait ≡ other.wait) × (one.answer_valid ≡ other.answer_valid) × (one.response ≡ other.response)
-GivesAlike AreCodes one other = (one.wait ≡ other.wait) × (one.answer_valid ≡ other.answer_valid)
+GivesAlike AreZero one other = (one.waitrequest ≡ other.waitrequest) × (one.readdatavalid ≡ other.readdatavalid) × (one.response ≡ other.response)
+GivesAlike AreCodes one other = (one.waitrequest ≡ other.waitrequest) × (one.readdatavalid ≡ other.readdatavalid)
 
 pub record HaveAlikeInputs (responses : Responses) (system : System) (one other : Moment) : Type 0 where
   pub hosts : (h : ℕ) → h < system.hosts → one.from_host h ≡ other.from_host h

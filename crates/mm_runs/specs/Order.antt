@@ -162,9 +162,9 @@ words_given_in system run agent cycle =
     let side = system.agent agent in
     let view = run.at_agent agent in
     only_if
-    (if side.has_valid then is_high (view.answer_valid cycle)
+    (if side.has_readdatavalid then is_high (view.readdatavalid cycle)
     else nat_le side.read_latency cycle && is_high (view.read (cycle - side.read_latency)) && agent_accepts side view (cycle - side.read_latency))
-    (record { word = view.answer_word cycle; code = view.response cycle })
+    (record { word = view.readdata cycle; code = view.response cycle })
 
 -- the byte that answers a read operation, with the tag of the operation and the code of its word
 pub record Answer : Type 0 where
@@ -233,7 +233,7 @@ abbrev pub ReturnsInCommandOrder : System → Run → ℕ → ℕ → Type 0
 ReturnsInCommandOrder system run host end =
     (c : ℕ) → c < end → IsTrue (gives_word (system.host host) (run.at_host host) c) →
     IsWordOf system run host c (length (given (system.host host) (run.at_host host) c))
-    (record { word = (run.at_host host).answer_word c; code = (run.at_host host).response c })
+    (record { word = (run.at_host host).readdata c; code = (run.at_host host).response c })
     (slice_get (asked system run host (suc c)) (length (given (system.host host) (run.at_host host) c)))
 
 -- the code of a word: of the default agent 3, of an agent the greatest of the codes of its answers
@@ -305,5 +305,5 @@ abbrev pub ReadsFromMemory : System → Run → ℕ → ℕ → (ℕ → ℕ) �
 ReadsFromMemory system run host agent contents end =
     (c : ℕ) → c < end → IsTrue (gives_word (system.host host) (run.at_host host) c) →
     IsWordFromMemory system run host agent contents c (length (given (system.host host) (run.at_host host) c))
-    (record { word = (run.at_host host).answer_word c; code = (run.at_host host).response c })
+    (record { word = (run.at_host host).readdata c; code = (run.at_host host).response c })
     (slice_get (asked system run host (suc c)) (length (given (system.host host) (run.at_host host) c)))

@@ -31,7 +31,7 @@ pub record IsPlan (system : System) : Type 0 where
   -- the bound on unanswered reads: an absent property and 0 count as 1
   pub pending : (a : ℕ) → a < system.agents → 1 ≤ (system.agent a).pending
   -- an agent with a fixed latency has no bursts, so a read command asks for one word
-  pub fixed : (a : ℕ) → a < system.agents → IsFalse (system.agent a).has_valid → IsFalse (system.agent a).has_burst
+  pub fixed : (a : ℕ) → a < system.agents → IsFalse (system.agent a).has_readdatavalid → IsFalse (system.agent a).has_burst
   -- a span is a power of two words or units, at least one word
   pub span : (a : ℕ) → a < system.agents → (bits : ℕ) × ((system.agent a).span ≡ 2 ^ bits) × ((system.agent a).word_bytes ≤ (system.agent a).span)
   pub joined : (a h : ℕ) → IsTrue (is_joined system a h) → h < system.hosts
@@ -54,5 +54,5 @@ pub record AreViews (system : System) (run : Run) : Type 0 where
   pub hosts : (h : ℕ) → h < system.hosts → FitsPorts (system.host h).shape (system.host h).has_burst (run.at_host h).signals
   pub no_response : (h c : ℕ) → h < system.hosts → IsFalse (system.host h).has_response → (run.at_host h).response c ≡ 0
   pub agents : (a : ℕ) → a < system.agents → FitsPorts (system.agent a).shape (system.agent a).has_burst (run.at_agent a).signals
-  pub no_wait : (a c : ℕ) → a < system.agents → IsFalse (system.agent a).has_wait → (run.at_agent a).wait c ≡ 0
+  pub no_waitrequest : (a c : ℕ) → a < system.agents → IsFalse (system.agent a).has_waitrequest → (run.at_agent a).waitrequest c ≡ 0
   pub no_code : (a c : ℕ) → a < system.agents → IsFalse (system.agent a).has_response → (run.at_agent a).response c ≡ 0

@@ -52,9 +52,9 @@ host_view run host agent made = record {
     enables = enables_of run host.byteenable;
     count = λ _. 1;
   };
-  wait = signal_of run made.waitrequest;
-  answer_word = signal_of run agent.readdata;
-  answer_valid = signal_of run agent.readdatavalid;
+  waitrequest = signal_of run made.waitrequest;
+  readdata = signal_of run agent.readdata;
+  readdatavalid = signal_of run agent.readdatavalid;
   response = λ _. 0;
 }
 
@@ -69,9 +69,9 @@ agent_view run host agent made = record {
     enables = enables_of run host.byteenable;
     count = λ _. 1;
   };
-  wait = signal_of run agent.waitrequest;
-  answer_word = signal_of run agent.readdata;
-  answer_valid = signal_of run agent.readdatavalid;
+  waitrequest = signal_of run agent.waitrequest;
+  readdata = signal_of run agent.readdata;
+  readdatavalid = signal_of run agent.readdatavalid;
   response = λ _. 0;
   grant = signal_of run made.grant;
 }
