@@ -22,7 +22,7 @@ use Rattle.mm_machines.specs.BoundedWire.{WireForm as BoundedForm, IsWireForm, I
 use Rattle.mm_wire.specs.declared.nets.HostNets.{HostNets}
 use Rattle.mm_wire.specs.declared.nets.AgentNets.{AgentNets}
 use Rattle.mm_wire.specs.declared.nets.WireNets.{WireNets}
-use Rattle.mm_wire.specs.Nets.{IsNetOfWidth, IsRegister}
+use Rattle.net_parts.specs.Nets.{IsNetOfWidth, IsRegister}
 use Rattle.mm_wire.specs.Wires.{AreHostNets, AreAgentNets, AreWireNets, RunsAsWire, IgnoresWord}
 use Rattle.mm_wire.specs.Wires as wires
 use Rattle.port_tables.specs.Ports.{EndName, port_of}

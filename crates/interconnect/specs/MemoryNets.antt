@@ -4,7 +4,7 @@ use Rattle.netlist.specs.Nets.{NetValue, net_of}
 use Rattle.netlist.specs.Netlists.{Netlist, IsInputPort, IsOutputPort, IsNet, IsWaiting, driver_of, input_net, with_driver}
 use Rattle.netlist.specs.Longer.{Extends}
 use Rattle.netlist.specs.declared.line.PortLine.{PortLine}
-use Rattle.mm_wire.specs.Nets.{IsRegister}
+use Rattle.net_parts.specs.Nets.{IsRegister}
 use Rattle.mm_wire.specs.Wires.{AreWireNets, RunsAsWire, IgnoresWord}
 use Rattle.mm_wire.specs.declared.nets.HostNets.{HostNets}
 use Rattle.mm_wire.specs.declared.nets.AgentNets.{AgentNets}

@@ -2,7 +2,7 @@ ghost use Rattle.std.specs.Prelude.{◌≡◌, ◌≢◌, ℕ, ◌+◌, ◌^◌,
 ghost use Rattle.netlist.specs.Nets.{net_of};
 ghost use Rattle.netlist.specs.Netlists.{IsInputPort, input_net};
 ghost use Rattle.mm_machines.specs.BoundedWire.{IsWireForm};
-ghost use Rattle.mm_wire.specs.Nets.{IsNetOfWidth};
+ghost use Rattle.net_parts.specs.Nets.{IsNetOfWidth};
 ghost use Rattle.mm_wire.specs.Wires.{AreHostNets, AreAgentNets};
 ghost use Rattle.address_map.specs.Maps.{hosts_of};
 ghost use Rattle.interconnect.specs.Wires.{pending_of};

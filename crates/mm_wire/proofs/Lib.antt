@@ -1,4 +1,2 @@
-pub mod Growth
 pub mod Bits
 pub mod Made
-mod TestPorts

@@ -9,10 +9,10 @@ use Rattle.mm_machines.specs.BoundedWire.{FitsHostPorts}
 use Rattle.mm_wire.specs.declared.nets.HostNets.{HostNets}
 use Rattle.mm_wire.specs.declared.nets.AgentNets.{AgentNets}
 use Rattle.mm_wire.specs.declared.nets.WireNets.{WireNets}
-use Rattle.mm_wire.specs.Nets.{IsNetOfWidth}
-use Rattle.mm_wire.specs.Parts.{IsGated, IsNextCount}
+use Rattle.net_parts.specs.Nets.{IsNetOfWidth, StartsLow, TakesNext}
+use Rattle.net_parts.specs.Laws.{extends_twice, width_fits, net_lasts}
+use Rattle.mm_wire.specs.Parts.{IsNextCount, GatesReads, CountsReads}
 use Rattle.mm_wire.specs.Wires.{AreHostNets, enables_of, host_view, form_of, RunsAsWire, IgnoresWord}
-use Rattle.mm_wire.proofs.Growth.{extends_twice, net_fits, net_lasts}
 use Rattle.mm_wire.proofs.Bits.{taken_alike, word_address, address_below}
 
 -- the count goes on from each cycle to the next
@@ -23,10 +23,10 @@ Counts netlist agent made =
 
 pub record IsMade (netlist : Netlist) (host : HostNets) (agent : AgentNets) (made : WireNets) (address_bits pending : ℕ) : Type 0 where
   pub nets : AreHostNets netlist host address_bits
-  pub gate : Always netlist (λ cycle. IsGated pending (cycle.net made.unanswered.number) (cycle.net host.read.number) (cycle.net agent.waitrequest.number) (cycle.net made.read.number) (cycle.net made.waitrequest.number))
+  pub gate : GatesReads netlist pending made.unanswered host.read agent.waitrequest made.read made.waitrequest
   pub grant : Always netlist (λ cycle. cycle.net made.grant.number ≡ 0)
   pub address : Always netlist (λ cycle. cycle.net made.address.number ≡ cycle.net host.address.number / 4)
-  pub starts : (run : Run) (cycles : ℕ) → IsRun netlist run cycles → 0 < cycles → run.net 0 made.unanswered.number ≡ 0
+  pub starts : StartsLow netlist made.unanswered
   pub counts : Counts netlist agent made
 
 maybe_lasts : (a b : Netlist) (o : Option NetValue) → Extends a b → IfSome o (λ net. IsNetOfWidth a net 4) → IfSome o (λ net. IsNetOfWidth b net 4)
@@ -44,27 +44,27 @@ host_lasts a b host address_bits e h = record {
 }
 
 -- the netlists that the wire's parts leave, one after the other, and what each part says of its own
-pub record IsBuilt (b1 b2 b3 b4 b5 b6 : Netlist) (host : HostNets) (agent : AgentNets) (made : WireNets) (next address_bits pending : ℕ) : Type 0 where
+pub record IsBuilt (b1 b2 b3 b4 b5 b6 : Netlist) (host : HostNets) (agent : AgentNets) (made : WireNets) (next : NetValue) (address_bits pending : ℕ) : Type 0 where
   pub nets : AreHostNets b1 host address_bits
   pub gated : Extends b1 b2
   pub granted : Extends b2 b3
   pub counted : Extends b3 b4
   pub set : Extends b4 b5
   pub sliced : Extends b5 b6
-  pub starts : (run : Run) (cycles : ℕ) → IsRun b1 run cycles → 0 < cycles → run.net 0 made.unanswered.number ≡ 0
-  pub gate : Always b2 (λ cycle. IsGated pending (cycle.net made.unanswered.number) (cycle.net host.read.number) (cycle.net agent.waitrequest.number) (cycle.net made.read.number) (cycle.net made.waitrequest.number))
+  pub starts : StartsLow b1 made.unanswered
+  pub gate : GatesReads b2 pending made.unanswered host.read agent.waitrequest made.read made.waitrequest
   pub grant : Always b3 (λ cycle. cycle.net made.grant.number ≡ 0)
-  pub count : Always b4 (λ cycle. IsNextCount (cycle.net made.unanswered.number) (cycle.net made.read.number) (cycle.net agent.waitrequest.number) (cycle.net agent.readdatavalid.number) (cycle.net next))
-  pub steps : (run : Run) (cycles : ℕ) → IsRun b5 run cycles → (c : ℕ) → c + 1 < cycles → run.net (c + 1) made.unanswered.number ≡ run.net c next
+  pub count : CountsReads b4 made.unanswered made.read agent.waitrequest agent.readdatavalid next
+  pub steps : TakesNext b5 made.unanswered next
   pub slice : Always b6 (λ cycle. cycle.net made.address.number ≡ cycle.net host.address.number / 2 ^ 2 % 2 ^ ((address_bits + 1) - 2 + 1))
 
-pub made_of : (b1 b2 b3 b4 b5 b6 : Netlist) (host : HostNets) (agent : AgentNets) (made : WireNets) (next address_bits pending : ℕ) → 1 ≤ address_bits →
+pub made_of : (b1 b2 b3 b4 b5 b6 : Netlist) (host : HostNets) (agent : AgentNets) (made : WireNets) (next : NetValue) (address_bits pending : ℕ) → 1 ≤ address_bits →
     IsBuilt b1 b2 b3 b4 b5 b6 host agent made next address_bits pending → IsMade b6 host agent made address_bits pending
 made_of b1 b2 b3 b4 b5 b6 host agent made next address_bits pending some b = record {
   nets = nets;
   gate = λ cycle v. b.gate cycle (last2.valuations cycle v);
   grant = λ cycle v. b.grant cycle (last3.valuations cycle v);
-  address = λ cycle v. b.slice cycle v ∙ word_address (cycle.net host.address.number) address_bits (net_fits b6 host.address (address_bits + 2) nets.address cycle v) some;
+  address = λ cycle v. b.slice cycle v ∙ word_address (cycle.net host.address.number) address_bits (width_fits b6 host.address (address_bits + 2) nets.address cycle v) some;
   starts = λ run cycles r. b.starts run cycles (last1.runs run cycles r);
   counts = λ run cycles r n lt.
       (let r5 = b.sliced.runs run cycles r in
@@ -86,7 +86,7 @@ made_of b1 b2 b3 b4 b5 b6 host agent made next address_bits pending some b = rec
 
 enables_fit : (netlist : Netlist) (o : Option NetValue) → IfSome o (λ net. IsNetOfWidth netlist net 4) → (run : Run) (c : ℕ) → IsValuation netlist (cycle_of run c) → enables_of run o c < 2 ^ 4
 enables_fit netlist None h run c v = omega arith
-enables_fit netlist (Some net) h run c v = net_fits netlist net 4 h (cycle_of run c) v
+enables_fit netlist (Some net) h run c v = width_fits netlist net 4 h (cycle_of run c) v
 
 all_ones : (o : Option NetValue) (run : Run) (c : ℕ) → IsFalse (is_some o) → enables_of run o c ≡ 15
 all_ones None run c e = refl
@@ -95,8 +95,8 @@ all_ones (Some net) run c e = cc
 fits_ports : (netlist : Netlist) (host : HostNets) (agent : AgentNets) (made : WireNets) (address_bits pending : ℕ) → AreHostNets netlist host address_bits → (run : Run) (c : ℕ) →
     IsValuation netlist (cycle_of run c) → FitsHostPorts (form_of host address_bits pending) (host_view run host agent made) c
 fits_ports netlist host agent made address_bits pending h run c v = record {
-  address = address_below (run.net c host.address.number) address_bits (net_fits netlist host.address (address_bits + 2) h.address (cycle_of run c) v);
-  word = net_fits netlist host.writedata 32 h.writedata (cycle_of run c) v;
+  address = address_below (run.net c host.address.number) address_bits (width_fits netlist host.address (address_bits + 2) h.address (cycle_of run c) v);
+  word = width_fits netlist host.writedata 32 h.writedata (cycle_of run c) v;
   enables = enables_fit netlist host.byteenable h.byteenable run c v;
   all_lanes = λ e. all_ones host.byteenable run c e;
   one_beat = refl;

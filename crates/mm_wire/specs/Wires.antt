@@ -8,7 +8,7 @@ use Rattle.mm_machines.specs.BoundedWire.{WireForm, IsBoundedWire}
 use Rattle.mm_wire.specs.declared.nets.HostNets.{HostNets}
 use Rattle.mm_wire.specs.declared.nets.AgentNets.{AgentNets}
 use Rattle.mm_wire.specs.declared.nets.WireNets.{WireNets}
-use Rattle.mm_wire.specs.Nets.{IsNetOfWidth}
+use Rattle.net_parts.specs.Nets.{IsNetOfWidth}
 
 -- what a host gives: an address that counts bytes, with two bits more than the agent's
 pub record AreHostNets (netlist : Netlist) (host : HostNets) (address_bits : ℕ) : Type 0 where

@@ -3,8 +3,6 @@
 
 mod nets;
 mod parts;
-#[cfg(test)]
-mod tests;
 mod wire;
 
 pub use nets::{AgentNets, HostNets, WireNets};

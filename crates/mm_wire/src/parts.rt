@@ -1,9 +1,9 @@
 ghost use Rattle.std.specs.Prelude.{◌≡◌, ℕ, ◌+◌, ◌^◌, ◌<◌, ◌≤◌, length, IfOk, OnOk};
 ghost use Rattle.av_base.specs.Word.{word};
 ghost use Rattle.netlist.specs.Runs.{Always};
-ghost use Rattle.netlist.specs.Longer.{Extends};
-ghost use Rattle.mm_wire.specs.Nets.{IsNetOfWidth, GrowsBy};
-ghost use Rattle.mm_wire.specs.Parts.{IsGated, IsNextCount};
+ghost use Rattle.net_parts.specs.Nets.{IsNetOfWidth};
+ghost use Rattle.net_parts.specs.Growth.{AddsNets};
+ghost use Rattle.mm_wire.specs.Parts.{GatesReads, CountsReads};
 
 use av_base::Val;
 use netlist::{Builder, Net, NetFault};
@@ -26,6 +26,7 @@ pub(crate) struct GateNets {
 }
 
 /// Shows a host's read to the agent while fewer reads are unanswered than the agent bears, and lets the host wait else.
+#[tactic(auto, using(net_parts::specs::Laws::growing))]
 pub(crate) fn gate_reads(
     builder: &mut Builder,
     unanswered: Net,
@@ -39,10 +40,9 @@ pub(crate) fn gate_reads(
     requires waitrequest { IsNetOfWidth builder.old waitrequest 1 }
     ensures read { IfOk result (λ gate. IsNetOfWidth builder.new gate.read 1) }
     ensures waitrequest { IfOk result (λ gate. IsNetOfWidth builder.new gate.waitrequest 1) }
-    ensures value { IfOk result (λ gate. Always builder.new (λ cycle. IsGated pending (cycle.net unanswered.number) (cycle.net read.number) (cycle.net waitrequest.number) (cycle.net gate.read.number) (cycle.net gate.waitrequest.number))) }
-    ensures extends { Extends builder.old builder.new }
+    ensures value { IfOk result (λ gate. GatesReads builder.new pending unanswered read waitrequest gate.read gate.waitrequest) }
     ensures count { OnOk result (length builder.new.lines ≡ length builder.old.lines + 6) }
-    ensures grows { GrowsBy 6 builder.old builder.new }
+    ensures adds { AddsNets 6 builder.old builder.new }
     ensures full { result ≡ Err NetFault.TooManyNets → 2 ^ 20 < length builder.old.lines + 6 }
 {
     let bound = builder.constant(count_of(pending))?;
@@ -59,6 +59,7 @@ pub(crate) fn gate_reads(
 
 /// The count of unanswered reads after a cycle, from the count before it, the read that the agent sees, its `waitrequest` and its
 /// `readdatavalid`. `zero` has four bits, all low.
+#[tactic(auto, using(net_parts::specs::Laws::growing))]
 pub(crate) fn next_count(
     builder: &mut Builder,
     unanswered: Net,
@@ -74,10 +75,9 @@ pub(crate) fn next_count(
     requires waitrequest { IsNetOfWidth builder.old waitrequest 1 }
     requires readdatavalid { IsNetOfWidth builder.old readdatavalid 1 }
     ensures net { IfOk result (λ next. IsNetOfWidth builder.new next 5) }
-    ensures value { IfOk result (λ next. Always builder.new (λ cycle. IsNextCount (cycle.net unanswered.number) (cycle.net read.number) (cycle.net waitrequest.number) (cycle.net readdatavalid.number) (cycle.net next.number))) }
-    ensures extends { Extends builder.old builder.new }
+    ensures value { IfOk result (λ next. CountsReads builder.new unanswered read waitrequest readdatavalid next) }
     ensures count { OnOk result (length builder.new.lines ≡ length builder.old.lines + 6) }
-    ensures grows { GrowsBy 6 builder.old builder.new }
+    ensures adds { AddsNets 6 builder.old builder.new }
     ensures full { result ≡ Err NetFault.TooManyNets → 2 ^ 20 < length builder.old.lines + 6 }
 {
     let ready = builder.not(waitrequest)?;

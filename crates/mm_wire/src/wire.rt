@@ -1,7 +1,7 @@
 ghost use Rattle.std.specs.Prelude.{◌≡◌, ℕ, ◌+◌, ◌^◌, ◌<◌, ◌≤◌, length, IfOk, OnOk};
 ghost use Rattle.netlist.specs.Netlists.{IsWaiting};
 ghost use Rattle.netlist.specs.Longer.{Extends};
-ghost use Rattle.mm_wire.specs.Nets.{IsRegister};
+ghost use Rattle.net_parts.specs.Nets.{IsRegister};
 ghost use Rattle.mm_wire.specs.Wires.{AreHostNets, AreAgentNets, AreWireNets, RunsAsWire, IgnoresWord};
 
 use crate::nets::{AgentNets, HostNets, WireNets};
@@ -12,6 +12,7 @@ use netlist::{Builder, NetFault};
 /// Wires a host to an agent whose address has so many bits and that bears so many unanswered reads.
 ///
 /// After an error the builder is to be dropped: a register may stand in it that waits.
+#[tactic(auto, using(net_parts::specs::Laws::growing))]
 pub fn emit(
     builder: &mut Builder,
     host: &HostNets,

@@ -1,23 +1,8 @@
 use Rattle.std.proofs.Common.{◌≡◌, ap, ◌∙◌, arith}
 use Rattle.av_base.specs.Word.{Word}
-use Rattle.mm_wire.proofs.Growth.{extends_twice, grows_once, grows_more, net_fits, one_more}
+use Rattle.net_parts.specs.Laws.{grows_once, adds_twice, bit_fits, one_more}
 use Rattle.mm_wire.proofs.Bits.{gated}
 use Rattle.mm_wire.proofs.parts.gate_reads.Goals as goal
-
-pub returns-in_err-room-clause-extends : goal.returns-in_err-room-clause-extends
-returns-in_err-room-clause-extends c = extends_twice _ _ _ c.constant.ensures.extends (extends_twice _ _ _ c.eq.ensures.extends c.not.ensures.extends)
-
-pub returns-in_err-shown-clause-extends : goal.returns-in_err-shown-clause-extends
-returns-in_err-shown-clause-extends c = extends_twice _ _ _ c.constant.ensures.extends (extends_twice _ _ _ c.eq.ensures.extends (extends_twice _ _ _ c.not.ensures.extends c.and.ensures.extends))
-
-pub returns-in_err-held-clause-extends : goal.returns-in_err-held-clause-extends
-returns-in_err-held-clause-extends c = extends_twice _ _ _ c.constant.ensures.extends (extends_twice _ _ _ c.eq.ensures.extends (extends_twice _ _ _ c.not.ensures.extends (extends_twice _ _ _ c.and.ensures.extends c.and-2.ensures.extends)))
-
-pub returns-in_err-told-clause-extends : goal.returns-in_err-told-clause-extends
-returns-in_err-told-clause-extends c = extends_twice _ _ _ c.constant.ensures.extends (extends_twice _ _ _ c.eq.ensures.extends (extends_twice _ _ _ c.not.ensures.extends (extends_twice _ _ _ c.and.ensures.extends (extends_twice _ _ _ c.and-2.ensures.extends c.or.ensures.extends))))
-
-pub returns-in_err-told-clause-grows : goal.returns-in_err-told-clause-grows
-returns-in_err-told-clause-grows c = grows_more 1 5 _ _ _ (grows_once _ _ c.constant.ensures.grows) (grows_more 1 4 _ _ _ (grows_once _ _ c.eq.ensures.grows) (grows_more 1 3 _ _ _ (grows_once _ _ c.not.ensures.grows) (grows_more 1 2 _ _ _ (grows_once _ _ c.and.ensures.grows) (grows_more 1 1 _ _ _ (grows_once _ _ c.and-2.ensures.grows) (grows_once _ _ c.or.ensures.grows)))))
 
 pub returns-clause-value : goal.returns-clause-value
 returns-clause-value c cycle v6 =
@@ -32,13 +17,7 @@ returns-clause-value c cycle v6 =
     let room = (c.in_ok-room.ensures.value cycle v3).1 in
     let one : c.in_ok-full.full.width ≡ 1 = c.in_ok-full.ensures.net.1 in
     gated _ _ _ _ _ _ _ _ _ _ bound full (rw one at room) (c.in_ok-shown.ensures.value cycle v4).1 (c.in_ok-held.ensures.value cycle v5).1 (c.in_ok-told.ensures.value cycle v6).1
-    (net_fits _ _ 1 c.requires.read cycle v0) (net_fits _ _ 1 c.requires.waitrequest cycle v0)
-
-pub returns-clause-extends : goal.returns-clause-extends
-returns-clause-extends c = extends_twice _ _ _ c.constant.ensures.extends (extends_twice _ _ _ c.eq.ensures.extends (extends_twice _ _ _ c.not.ensures.extends (extends_twice _ _ _ c.and.ensures.extends (extends_twice _ _ _ c.and-2.ensures.extends c.or.ensures.extends))))
-
-pub returns-clause-grows : goal.returns-clause-grows
-returns-clause-grows c = grows_more 1 5 _ _ _ (grows_once _ _ c.constant.ensures.grows) (grows_more 1 4 _ _ _ (grows_once _ _ c.eq.ensures.grows) (grows_more 1 3 _ _ _ (grows_once _ _ c.not.ensures.grows) (grows_more 1 2 _ _ _ (grows_once _ _ c.and.ensures.grows) (grows_more 1 1 _ _ _ (grows_once _ _ c.and-2.ensures.grows) (grows_once _ _ c.or.ensures.grows)))))
+    (bit_fits _ _ c.requires.read cycle v0) (bit_fits _ _ c.requires.waitrequest cycle v0)
 
 pub returns-clause-count : goal.returns-clause-count
 returns-clause-count c =
@@ -49,3 +28,9 @@ returns-clause-count c =
     let e4 = one_more _ _ _ c.in_ok-held.ensures.line.0 in
     let e5 = one_more _ _ _ c.in_ok-told.ensures.line.0 in
     omega arith
+
+pub returns-in_err-told-clause-adds : goal.returns-in_err-told-clause-adds
+returns-in_err-told-clause-adds c = adds_twice 1 5 _ _ _ (grows_once _ _ c.constant.ensures.extends c.constant.ensures.grows) (adds_twice 1 4 _ _ _ (grows_once _ _ c.eq.ensures.extends c.eq.ensures.grows) (adds_twice 1 3 _ _ _ (grows_once _ _ c.not.ensures.extends c.not.ensures.grows) (adds_twice 1 2 _ _ _ (grows_once _ _ c.and.ensures.extends c.and.ensures.grows) (adds_twice 1 1 _ _ _ (grows_once _ _ c.and-2.ensures.extends c.and-2.ensures.grows) (grows_once _ _ c.or.ensures.extends c.or.ensures.grows)))))
+
+pub returns-clause-adds : goal.returns-clause-adds
+returns-clause-adds c = adds_twice 1 5 _ _ _ (grows_once _ _ c.constant.ensures.extends c.constant.ensures.grows) (adds_twice 1 4 _ _ _ (grows_once _ _ c.eq.ensures.extends c.eq.ensures.grows) (adds_twice 1 3 _ _ _ (grows_once _ _ c.not.ensures.extends c.not.ensures.grows) (adds_twice 1 2 _ _ _ (grows_once _ _ c.and.ensures.extends c.and.ensures.grows) (adds_twice 1 1 _ _ _ (grows_once _ _ c.and-2.ensures.extends c.and-2.ensures.grows) (grows_once _ _ c.or.ensures.extends c.or.ensures.grows)))))

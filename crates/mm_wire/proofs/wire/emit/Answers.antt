@@ -3,36 +3,24 @@ use Rattle.std.specs.Prelude.{IfSome}
 use Rattle.av_base.specs.Word.{Word, word}
 use Rattle.netlist.specs.Nets.{NetValue}
 use Rattle.mm_wire.specs.declared.nets.WireNets.{WireNets}
-use Rattle.mm_wire.proofs.Growth.{extends_twice, net_lasts, waiting_within, one_more, new_register, register_lasts}
+use Rattle.net_parts.specs.Laws.{extends_twice, net_lasts, waiting_within, one_more, new_register, register_lasts}
 use Rattle.mm_wire.proofs.Made.{IsBuilt, made_of, host_lasts, runs_as_wire, ignores_word}
 use Rattle.mm_wire.proofs.wire.emit.Goals as goal
-
-pub returns-in_err-gate-clause-extends : goal.returns-in_err-gate-clause-extends
-returns-in_err-gate-clause-extends c = extends_twice _ _ _ c.reg.ensures.extends c.gate_reads.ensures.extends
-
-pub returns-in_err-grant-clause-extends : goal.returns-in_err-grant-clause-extends
-returns-in_err-grant-clause-extends c = extends_twice _ _ _ c.reg.ensures.extends (extends_twice _ _ _ c.gate_reads.ensures.extends c.constant.ensures.extends)
-
-pub returns-in_err-next-clause-extends : goal.returns-in_err-next-clause-extends
-returns-in_err-next-clause-extends c = extends_twice _ _ _ c.reg.ensures.extends (extends_twice _ _ _ c.gate_reads.ensures.extends (extends_twice _ _ _ c.constant.ensures.extends c.next_count.ensures.extends))
-
-pub returns-in_err-address-clause-extends : goal.returns-in_err-address-clause-extends
-returns-in_err-address-clause-extends c = extends_twice _ _ _ c.reg.ensures.extends (extends_twice _ _ _ c.gate_reads.ensures.extends (extends_twice _ _ _ c.constant.ensures.extends (extends_twice _ _ _ c.next_count.ensures.extends (extends_twice _ _ _ c.set_next.ensures.extends c.slice.ensures.extends))))
 
 pub returns-in_err-address-clause-waits : goal.returns-in_err-address-clause-waits
 returns-in_err-address-clause-waits c n w =
     let number : c.in_ok-unanswered.unanswered.number ≡ length c.args.builder.now.lines = ap (λ (net : NetValue). net.number) c.in_ok-unanswered.ensures.line.1 in
     let below = waiting_within c.args.builder.now n w in
     c.slice.ensures.grows.waits n (c.set_next.ensures.still_wait n (λ same. absurd (omega (arith, same)))
-    (c.next_count.ensures.grows.waits n (c.constant.ensures.grows.waits n (c.gate_reads.ensures.grows.waits n (c.reg.ensures.still_wait n w)))))
+    (c.next_count.ensures.adds.grows.waits n (c.constant.ensures.grows.waits n (c.gate_reads.ensures.adds.grows.waits n (c.reg.ensures.still_wait n w)))))
 
 pub returns-clause-nets : goal.returns-clause-nets
 returns-clause-nets c =
     let zero : c.unwrap.result ≡ word 4 0 = subst (λ (o : Option Word). IfSome o (λ v. v ≡ word 4 0)) c.unwrap.ensures c.new.ensures.value in
     let last2 = extends_twice _ _ _ c.set_next.ensures.extends c.slice.ensures.extends in
-    let last3 = extends_twice _ _ _ c.next_count.ensures.extends last2 in
+    let last3 = extends_twice _ _ _ c.next_count.ensures.adds.grows.extends last2 in
     let last4 = extends_twice _ _ _ c.constant.ensures.extends last3 in
-    let last5 = extends_twice _ _ _ c.gate_reads.ensures.extends last4 in
+    let last5 = extends_twice _ _ _ c.gate_reads.ensures.adds.grows.extends last4 in
     let bits : (c.args.address_bits + 1) - 2 + 1 ≡ c.args.address_bits = omega arith in
     record {
       address = record { is_net = c.in_ok-address.ensures.net.0; has_width = c.in_ok-address.ensures.net.1 ∙ bits };
@@ -46,11 +34,11 @@ pub returns-clause-value : goal.returns-clause-value
 returns-clause-value c =
     let zero : c.unwrap.result ≡ word 4 0 = subst (λ (o : Option Word). IfSome o (λ v. v ≡ word 4 0)) c.unwrap.ensures c.new.ensures.value in
     let made : WireNets = record { address = c.in_ok-address.address; read = c.in_ok-gate.gate.read; grant = c.in_ok-grant.grant; waitrequest = c.in_ok-gate.gate.waitrequest; unanswered = c.in_ok-unanswered.unanswered } in
-    let built : IsBuilt c.reg.new.self c.gate_reads.new.builder c.constant.new.self c.next_count.new.builder c.set_next.new.self c.slice.new.self c.args.host.now c.args.agent.now made c.in_ok-next.next.number c.args.address_bits c.args.pending = record {
+    let built : IsBuilt c.reg.new.self c.gate_reads.new.builder c.constant.new.self c.next_count.new.builder c.set_next.new.self c.slice.new.self c.args.host.now c.args.agent.now made c.in_ok-next.next c.args.address_bits c.args.pending = record {
       nets = host_lasts _ _ c.args.host.now c.args.address_bits c.reg.ensures.extends c.requires.host;
-      gated = c.gate_reads.ensures.extends;
+      gated = c.gate_reads.ensures.adds.grows.extends;
       granted = c.constant.ensures.extends;
-      counted = c.next_count.ensures.extends;
+      counted = c.next_count.ensures.adds.grows.extends;
       set = c.set_next.ensures.extends;
       sliced = c.slice.ensures.extends;
       starts = λ run cycles r lt. c.in_ok-unanswered.ensures.value run cycles r lt ∙ ap (λ (w : Word). w.bits) c.count_of.ensures;
@@ -61,22 +49,22 @@ returns-clause-value c =
       slice = λ cycle v. (c.in_ok-address.ensures.value cycle v).1;
     } in
     runs_as_wire c.slice.new.self c.args.host.now c.args.agent.now made c.args.address_bits c.args.pending
-    (made_of c.reg.new.self c.gate_reads.new.builder c.constant.new.self c.next_count.new.builder c.set_next.new.self c.slice.new.self c.args.host.now c.args.agent.now made c.in_ok-next.next.number c.args.address_bits c.args.pending c.requires.some_bit built)
+    (made_of c.reg.new.self c.gate_reads.new.builder c.constant.new.self c.next_count.new.builder c.set_next.new.self c.slice.new.self c.args.host.now c.args.agent.now made c.in_ok-next.next c.args.address_bits c.args.pending c.requires.some_bit built)
 
 pub returns-clause-register : goal.returns-clause-register
 returns-clause-register c =
-    let rest = extends_twice _ _ _ c.gate_reads.ensures.extends (extends_twice _ _ _ c.constant.ensures.extends (extends_twice _ _ _ c.next_count.ensures.extends (extends_twice _ _ _ c.set_next.ensures.extends c.slice.ensures.extends))) in
+    let rest = extends_twice _ _ _ c.gate_reads.ensures.adds.grows.extends (extends_twice _ _ _ c.constant.ensures.extends (extends_twice _ _ _ c.next_count.ensures.adds.grows.extends (extends_twice _ _ _ c.set_next.ensures.extends c.slice.ensures.extends))) in
     register_lasts _ _ _ rest (new_register _ _ _ _ c.in_ok-unanswered.ensures.line.0 (ap (λ (net : NetValue). net.number) c.in_ok-unanswered.ensures.line.1) refl)
 
 pub returns-clause-ignores : goal.returns-clause-ignores
 returns-clause-ignores c =
     let zero : c.unwrap.result ≡ word 4 0 = subst (λ (o : Option Word). IfSome o (λ v. v ≡ word 4 0)) c.unwrap.ensures c.new.ensures.value in
     let made : WireNets = record { address = c.in_ok-address.address; read = c.in_ok-gate.gate.read; grant = c.in_ok-grant.grant; waitrequest = c.in_ok-gate.gate.waitrequest; unanswered = c.in_ok-unanswered.unanswered } in
-    let built : IsBuilt c.reg.new.self c.gate_reads.new.builder c.constant.new.self c.next_count.new.builder c.set_next.new.self c.slice.new.self c.args.host.now c.args.agent.now made c.in_ok-next.next.number c.args.address_bits c.args.pending = record {
+    let built : IsBuilt c.reg.new.self c.gate_reads.new.builder c.constant.new.self c.next_count.new.builder c.set_next.new.self c.slice.new.self c.args.host.now c.args.agent.now made c.in_ok-next.next c.args.address_bits c.args.pending = record {
       nets = host_lasts _ _ c.args.host.now c.args.address_bits c.reg.ensures.extends c.requires.host;
-      gated = c.gate_reads.ensures.extends;
+      gated = c.gate_reads.ensures.adds.grows.extends;
       granted = c.constant.ensures.extends;
-      counted = c.next_count.ensures.extends;
+      counted = c.next_count.ensures.adds.grows.extends;
       set = c.set_next.ensures.extends;
       sliced = c.slice.ensures.extends;
       starts = λ run cycles r lt. c.in_ok-unanswered.ensures.value run cycles r lt ∙ ap (λ (w : Word). w.bits) c.count_of.ensures;
@@ -87,23 +75,20 @@ returns-clause-ignores c =
       slice = λ cycle v. (c.in_ok-address.ensures.value cycle v).1;
     } in
     ignores_word c.slice.new.self c.args.host.now c.args.agent.now made c.args.address_bits c.args.pending
-    (made_of c.reg.new.self c.gate_reads.new.builder c.constant.new.self c.next_count.new.builder c.set_next.new.self c.slice.new.self c.args.host.now c.args.agent.now made c.in_ok-next.next.number c.args.address_bits c.args.pending c.requires.some_bit built)
-
-pub returns-clause-extends : goal.returns-clause-extends
-returns-clause-extends c = extends_twice _ _ _ c.reg.ensures.extends (extends_twice _ _ _ c.gate_reads.ensures.extends (extends_twice _ _ _ c.constant.ensures.extends (extends_twice _ _ _ c.next_count.ensures.extends (extends_twice _ _ _ c.set_next.ensures.extends c.slice.ensures.extends))))
+    (made_of c.reg.new.self c.gate_reads.new.builder c.constant.new.self c.next_count.new.builder c.set_next.new.self c.slice.new.self c.args.host.now c.args.agent.now made c.in_ok-next.next c.args.address_bits c.args.pending c.requires.some_bit built)
 
 pub returns-clause-waits : goal.returns-clause-waits
 returns-clause-waits c n w =
     let number : c.in_ok-unanswered.unanswered.number ≡ length c.args.builder.now.lines = ap (λ (net : NetValue). net.number) c.in_ok-unanswered.ensures.line.1 in
     let below = waiting_within c.args.builder.now n w in
     c.slice.ensures.grows.waits n (c.set_next.ensures.still_wait n (λ same. absurd (omega (arith, same)))
-    (c.next_count.ensures.grows.waits n (c.constant.ensures.grows.waits n (c.gate_reads.ensures.grows.waits n (c.reg.ensures.still_wait n w)))))
+    (c.next_count.ensures.adds.grows.waits n (c.constant.ensures.grows.waits n (c.gate_reads.ensures.adds.grows.waits n (c.reg.ensures.still_wait n w)))))
 
 pub returns-clause-no_more_wait : goal.returns-clause-no_more_wait
 returns-clause-no_more_wait c n w =
     let number : c.in_ok-unanswered.unanswered.number ≡ length c.args.builder.now.lines = ap (λ (net : NetValue). net.number) c.in_ok-unanswered.ensures.line.1 in
     let set = c.set_next.ensures.no_more_wait n (c.slice.ensures.grows.no_more_wait n w) in
-    let first = c.gate_reads.ensures.grows.no_more_wait n (c.constant.ensures.grows.no_more_wait n (c.next_count.ensures.grows.no_more_wait n set.0)) in
+    let first = c.gate_reads.ensures.adds.grows.no_more_wait n (c.constant.ensures.grows.no_more_wait n (c.next_count.ensures.adds.grows.no_more_wait n set.0)) in
     elim (c.reg.ensures.newly n first) [ inl old ↦ old | inr same ↦ absurd (set.1 (same ∙ sym number)) ]
 
 pub returns-clause-count : goal.returns-clause-count
@@ -112,3 +97,9 @@ returns-clause-count c =
     let e1 = one_more _ _ _ c.in_ok-grant.ensures.line.0 in
     let e2 = one_more _ _ _ c.in_ok-address.ensures.line.0 in
     omega (arith, c.in_ok-gate.ensures.count, c.in_ok-next.ensures.count, c.set_next.ensures.same_count)
+
+pub returns-in_err-address-clause-extends : goal.returns-in_err-address-clause-extends
+returns-in_err-address-clause-extends c = extends_twice _ _ _ c.reg.ensures.extends (extends_twice _ _ _ c.gate_reads.ensures.adds.grows.extends (extends_twice _ _ _ c.constant.ensures.extends (extends_twice _ _ _ c.next_count.ensures.adds.grows.extends (extends_twice _ _ _ c.set_next.ensures.extends c.slice.ensures.extends))))
+
+pub returns-clause-extends : goal.returns-clause-extends
+returns-clause-extends c = extends_twice _ _ _ c.reg.ensures.extends (extends_twice _ _ _ c.gate_reads.ensures.adds.grows.extends (extends_twice _ _ _ c.constant.ensures.extends (extends_twice _ _ _ c.next_count.ensures.adds.grows.extends (extends_twice _ _ _ c.set_next.ensures.extends c.slice.ensures.extends))))
