@@ -8,7 +8,7 @@ use Rattle.stream_runs.specs.Laws.{shorter_delivery, length_in, length_in_order}
 use Rattle.stream_runs.specs.View.{EndView, Side, is_high, is_transfer, is_ready_cycle}
 use Rattle.stream_runs.specs.Symbols.{transferred_symbols, symbols_in, shown_symbols, kept_symbols, Symbol}
 use Rattle.stream_runs.specs.Source.{IsLegalSource}
-use Rattle.stream_machines.proofs.PassLaw.{strict_shows}
+use Rattle.stream_machines.specs.ReadyCycles.{strict_shows}
 use Rattle.stream_runs.specs.Awake.{Throughout, Sometime, makes_beat, undelivered}
 use Rattle.stream_machines.specs.Stage.{Shape, StageRun, inside, is_at_rest, gives, StageLaw}
 

@@ -4,7 +4,7 @@ use Rattle.std.proofs.Math.Nat.{mul-le-mul_left}
 use Rattle.std.specs.List.{flat_map}
 use Rattle.std.proofs.lemmas.List.{append-nil}
 use Rattle.std.proofs.lemmas.List.Concat.{flat_map-append}
-use Rattle.std.proofs.lemmas.Bool.{cases_Bool, cases_lt, or_cases, eq-eqb, and_parts, and_from, and_left, and_right, or_left, or_right, cond-true, cond-false, eqb-true, both_ways, lt-ltb, le-ltb, le-leb, leb-true, ltb-true, ne_eqb}
+use Rattle.std.proofs.lemmas.Bool.{cases_Bool, cases_lt, or_cases, eq-eqb, and_parts, and_from, and_left, and_right, or_left, or_right, cond-true, cond-false, eqb-true, both_ways, lt-ltb, le-ltb, leb-true, ltb-true, ne_eqb}
 use Rattle.stream_runs.specs.Laws.{shown_holds, joined_error_of_beat}
 use Rattle.stream_runs.specs.View.{Pace, EndView, Side, Beat, beat_at, is_high, is_transfer, is_ready_cycle}
 use Rattle.stream_runs.specs.Symbols.{Symbol, without_error, symbols_of, symbol_count, shown_symbols}
@@ -14,11 +14,11 @@ use Rattle.stream_machines.specs.Stage.{KeepsStageLaw, PassesReady, inside, is_a
 use Rattle.stream_machines.specs.Flow.{IsFlow, PassesOn, ShowsNext, kept_in, kept_shown}
 use Rattle.stream_machines.specs.Parts.{plain_run}
 use Rattle.stream_machines.specs.Buffers.{zero_pace, ShowsHeld, taken_now, HoldsBeats, buffer_shape, IsBufferRun, IsAllowanceRun, IsRegisterRun, IsQueueRun}
+use Rattle.stream_machines.specs.ReadyCycles.{one_if, ready_cycles_le, room}
 use Rattle.stream_machines.proofs.FlowLaw.{no_rank, balance_of, inside_of}
 use Rattle.stream_machines.proofs.FlowKeeps.{flow_keeps}
 use Rattle.stream_machines.proofs.Direct.{direct_transfer, direct_ready, rests_with, kept_in_all, kept_shown_all}
 use Rattle.stream_machines.proofs.BeatCounts.{AllHold, hold-append, hold-drop, length_of_beats, beats_begun-all}
-use Rattle.stream_machines.proofs.PassLaw.{one_if, ready_cycles_step, ready_cycles_le, strict_shows}
 
 -- it holds at most one more for a beat that comes in
 held_grows : (through : Bool) (side : Side) (up down : EndView) (held : ℕ → List Beat) → HoldsBeats through side up down held
@@ -223,62 +223,6 @@ module _ (through : Bool) (passes : ℕ → Bool) (places : ℕ) (side : Side) (
   buffer_keeps = flow_keeps (buffer_shape passes places side) (plain_run up down) store buffer_flow positive refl (λ none. none) (λ channel h _. h)
 
 -- ---- the buffer behind a source of some ready latency
-
--- a beat comes in a ready cycle
-pub comes_in_ready : (side : Side) (up : EndView) (c : ℕ) → side.pace.allowance ≡ side.pace.latency → IsLegalAt side up c → is_transfer side.pace up c ≡ true → is_ready_cycle side.pace up c ≡ true
-comes_in_ready side up c strict legal moves = by_latency (cases_lt 0 side.pace.latency)
-  where
-    parts : (is_high up.valid c ≡ true) × ((nat_lt 0 side.pace.latency || is_high up.ready c) ≡ true)
-    parts = and_parts (is_high up.valid c) (nat_lt 0 side.pace.latency || is_high up.ready c) moves
-
-    by_latency : (0 < side.pace.latency) ⊎ (side.pace.latency ≤ 0) → is_ready_cycle side.pace up c ≡ true
-    by_latency (inl delayed) = strict_shows side.pace up c strict (lt-ltb 0 side.pace.latency delayed) (legal.paced.allowed parts.0)
-    by_latency (inr direct) =
-        let none : side.pace.latency ≡ 0 = omega arith in
-        let ready : is_high up.ready c ≡ true = (and_parts (is_high up.valid c) (is_high up.ready c) (sym (direct_transfer side.pace up c none) ∙ moves)).1 in
-        let same : c - side.pace.latency ≡ c = omega arith in
-        and_from _ _ (le-leb side.pace.latency c (omega arith)) (subst (λ n. is_high up.ready n ≡ true) (sym same) ready)
-
--- what holds one more at most where a beat comes, and shows ready where what it holds leaves a place
-module _ (side : Side) (up : EndView) (held : ℕ → List Beat) (strict : side.pace.allowance ≡ side.pace.latency) (starts : held 0 ≡ [])
-    (grows : (c : ℕ) → IsLegalSource side up (suc c) → length (held (suc c)) ≤ length (held c) + one_if (is_transfer side.pace up c))
-    (asks : (c : ℕ) → is_high up.ready c ≡ nat_lt (length (held c) + ready_cycles side.pace.latency up c) (side.pace.latency + 1)) where
-  -- the beats that are held and those that may still come have their places
-  pub room : (c : ℕ) → IsLegalSource side up c → length (held c) + ready_cycles side.pace.latency up c ≤ side.pace.latency + 1
-  room zero legal = omega (arith, ap length starts, ready_cycles_le side.pace.latency up 0)
-  room (suc c) legal = by_transfer (room c (λ b h. legal b (omega arith))) (ready_cycles_step side.pace.latency up c) (is_transfer side.pace up c) refl (grows c legal)
-    where
-      one_at_most : (b : Bool) → one_if b ≤ 1
-      one_at_most true = omega arith
-      one_at_most false = omega arith
-
-      by_ready : (a b : Bool) → length (held c) + ready_cycles side.pace.latency up c ≤ side.pace.latency + 1 → ready_cycles side.pace.latency up (suc c) + one_if b ≤ ready_cycles side.pace.latency up c + one_if a
-          → is_high up.ready c ≡ a → length (held (suc c)) ≤ length (held c) + one_if b → length (held (suc c)) + ready_cycles side.pace.latency up (suc c) ≤ side.pace.latency + 1
-      by_ready true b r s e n = let below : length (held c) + ready_cycles side.pace.latency up c < side.pace.latency + 1 = ltb-true _ _ (sym (asks c) ∙ e) in omega (arith, below, s, n)
-      by_ready false b r s e n = omega (arith, r, s, n)
-
-      by_transfer : length (held c) + ready_cycles side.pace.latency up c ≤ side.pace.latency + 1
-          → ready_cycles side.pace.latency up (suc c) + one_if (is_ready_cycle side.pace up c) ≡ ready_cycles side.pace.latency up c + one_if (is_high up.ready c)
-          → (b : Bool) → is_transfer side.pace up c ≡ b → length (held (suc c)) ≤ length (held c) + one_if b → length (held (suc c)) + ready_cycles side.pace.latency up (suc c) ≤ side.pace.latency + 1
-      by_transfer r s true moves n =
-          let ready : is_ready_cycle side.pace up c ≡ true = comes_in_ready side up c strict (legal c (omega arith)) moves in
-          let s' : ready_cycles side.pace.latency up (suc c) + 1 ≡ ready_cycles side.pace.latency up c + one_if (is_high up.ready c) =
-          subst (λ b. ready_cycles side.pace.latency up (suc c) + one_if b ≡ ready_cycles side.pace.latency up c + one_if (is_high up.ready c)) ready s in
-          by_ready (is_high up.ready c) true r (omega (arith, s')) refl n
-      by_transfer r s false stays n = by_ready (is_high up.ready c) false r (omega (arith, s)) refl n
-
-  -- a beat that comes finds a place
-  pub has_place : (c : ℕ) → IsLegalSource side up (suc c) → is_transfer side.pace up c ≡ true → length (held c) ≤ side.pace.latency
-  has_place c legal moves = by_ready (room c (λ b h. legal b (omega arith))) (ready_cycles_step side.pace.latency up c) (is_high up.ready c) refl
-    where
-      ready : is_ready_cycle side.pace up c ≡ true
-      ready = comes_in_ready side up c strict (legal c (omega arith)) moves
-
-      by_ready : length (held c) + ready_cycles side.pace.latency up c ≤ side.pace.latency + 1
-          → ready_cycles side.pace.latency up (suc c) + one_if (is_ready_cycle side.pace up c) ≡ ready_cycles side.pace.latency up c + one_if (is_high up.ready c)
-          → (b : Bool) → is_high up.ready c ≡ b → length (held c) ≤ side.pace.latency
-      by_ready r s true e = let below : length (held c) + ready_cycles side.pace.latency up c < side.pace.latency + 1 = ltb-true _ _ (sym (asks c) ∙ e) in omega (arith, below)
-      by_ready r s false e = omega (arith, r, s, ap one_if ready, ap one_if e)
 
 module _ (side : Side) (up down : EndView) (held : ℕ → List Beat) (run : IsBufferRun side up down held) (strict : side.pace.allowance ≡ side.pace.latency) where
   asks_idle : (c : ℕ) → held c ≡ [] → is_high up.ready c ≡ true

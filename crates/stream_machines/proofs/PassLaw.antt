@@ -1,57 +1,16 @@
 -- A stage that passes each beat as it is keeps the law of a stage.
-use Rattle.std.proofs.Common.{◌≡◌, ◌⊎◌, ℕ, zero, suc, ◌+◌, ◌-◌, ◌≤◌, ◌<◌, Bool, true, false, cond, not, IsTrue, ◌||◌, ◌&&◌, List, [], ◌++◌, map, length, take, drop, refl, ap, sym, ◌∙◌, subst, inl, inr, arith, nat_lt, nat_le, eqb}
+use Rattle.std.proofs.Common.{◌≡◌, ◌⊎◌, ℕ, zero, suc, ◌+◌, ◌≤◌, ◌<◌, Bool, true, false, cond, not, IsTrue, ◌||◌, ◌&&◌, List, [], ◌++◌, map, length, take, drop, refl, ap, sym, ◌∙◌, subst, inl, inr, arith, nat_lt, nat_le}
 use Rattle.std.specs.List.{list_any}
 use Rattle.std.proofs.lemmas.List.{take_all, drop_at, drop_all}
-use Rattle.std.proofs.lemmas.Bool.{cases_Bool, and_parts, and_from, cond-true, ltb-false, ltb-true, le-leb, lt-leb, leb-true, leb-false, ne_eqb, both_ways, cond-false, le-ltb}
-use Rattle.stream_runs.specs.View.{Pace, EndView, Side, beat_at, is_high, is_transfer, is_ready_cycle}
+use Rattle.std.proofs.lemmas.Bool.{cases_Bool, and_parts, and_from, cond-true, ltb-false, both_ways}
+use Rattle.stream_runs.specs.View.{EndView, Side, beat_at, is_high, is_transfer, is_ready_cycle}
 use Rattle.stream_runs.specs.Symbols.{transferred_symbols, shown_symbols, kept_symbols, Symbol, without_error, shown_count, joined_error}
-use Rattle.stream_runs.specs.Source.{IsLegalSource, may_show, is_allowed_late}
+use Rattle.stream_runs.specs.Source.{IsLegalSource}
 use Rattle.stream_runs.specs.Delivery.{matched_symbols}
 use Rattle.stream_machines.specs.Stage.{inside, is_at_rest, is_exempt, RankMoves, StageLaw, KeepsStageLaw, PassesReady, pass_shape, pass_run, ready_cycles}
 use Rattle.stream_runs.specs.Laws.{prefix_of_same, kept_more, legal_holds_data, length_in, joined_error_of_beat}
+use Rattle.stream_machines.specs.ReadyCycles.{one_if, ready_cycles_step, ready_cycles_le}
 use Rattle.stream_machines.proofs.Fills.{HoldsData}
-
--- a high signal counts as one
-abbrev pub one_if : Bool → ℕ
-one_if b = cond b 1 0
-
-suc_le : (a b : ℕ) → nat_le (suc a) (suc b) ≡ nat_le a b
-suc_le a b = by_test (cases_Bool (nat_le a b))
-  where
-    by_test : (nat_le a b ≡ true) ⊎ (nat_le a b ≡ false) → nat_le (suc a) (suc b) ≡ nat_le a b
-    by_test (inl below) = le-leb (suc a) (suc b) (omega (arith, leb-true a b below)) ∙ sym below
-    by_test (inr above) = lt-leb (suc a) (suc b) (omega (arith, leb-false a b above)) ∙ sym above
-
-pub ready_cycles_step : (length : ℕ) (view : EndView) (c : ℕ) → ready_cycles length view (suc c) + one_if (nat_le length c && is_high view.ready (c - length)) ≡ ready_cycles length view c + one_if (is_high view.ready c)
-ready_cycles_step zero view c = let same : c - 0 ≡ c = omega arith in let low : nat_le 0 c ≡ true = le-leb 0 c (omega arith) in rw (low, same) refl
-ready_cycles_step (suc length) view zero = by_length length
-  where
-    by_length : (n : ℕ) → one_if (is_high view.ready 0) + ready_cycles n view 0 + one_if (nat_le (suc n) 0 && is_high view.ready (0 - suc n)) ≡ 0 + one_if (is_high view.ready 0)
-    by_length zero = omega arith
-    by_length (suc n) = rw (lt-leb (suc (suc n)) 0 (omega arith)) (omega arith)
-ready_cycles_step (suc length) view (suc c) =
-    let same : suc c - suc length ≡ c - length = omega arith in
-    let test : (nat_le (suc length) (suc c) && is_high view.ready (suc c - suc length)) ≡ (nat_le length c && is_high view.ready (c - length)) =
-    ap (λ b. b && is_high view.ready (suc c - suc length)) (suc_le length c) ∙ ap (λ n. nat_le length c && is_high view.ready n) same in
-    let earlier = ready_cycles_step length view c in
-    omega (arith, earlier, ap one_if test)
-
-pub ready_cycles_le : (length : ℕ) (view : EndView) (c : ℕ) → ready_cycles length view c ≤ length
-ready_cycles_le zero view c = omega arith
-ready_cycles_le (suc length) view zero = omega arith
-ready_cycles_le (suc length) view (suc c) = let earlier = ready_cycles_le length view c in by_ready (is_high view.ready c) earlier
-  where
-    by_ready : (b : Bool) → ready_cycles length view c ≤ length → one_if b + ready_cycles length view c ≤ suc length
-    by_ready true h = omega arith
-    by_ready false h = omega arith
-
--- where the allowance is the latency, above 0, a beat is shown in ready cycles alone
-pub strict_shows : (pace : Pace) (view : EndView) (c : ℕ) → pace.allowance ≡ pace.latency → nat_lt 0 pace.latency ≡ true → may_show pace view c ≡ true → is_ready_cycle pace view c ≡ true
-strict_shows pace view c strict delayed allowed =
-    let above : 0 < pace.latency = ltb-true 0 pace.latency delayed in
-    let some_latency : eqb pace.latency 0 ≡ false = ne_eqb pace.latency 0 (λ e. omega arith) in
-    let second = subst (λ b. (b || cond (nat_lt pace.latency pace.allowance) (is_allowed_late pace view c) (is_ready_cycle pace view c)) ≡ true) some_latency allowed in
-    sym (cond-false (nat_lt pace.latency pace.allowance) (is_allowed_late pace view c) (is_ready_cycle pace view c) (le-ltb pace.latency pace.allowance (omega arith))) ∙ second
 
 module _ (passes : ℕ → Bool) (side : Side) (view : EndView) (positive : 0 < side.symbols)
     (all_pass : (channel : ℕ) → channel ≤ side.max_channel → IsTrue (passes channel)) (count : ℕ) (legal : IsLegalSource side view count) where

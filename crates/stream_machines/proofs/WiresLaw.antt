@@ -18,8 +18,7 @@ use Rattle.stream_machines.proofs.WordLemmas.{cleared_kept, cleared_empty}
 use Rattle.stream_machines.proofs.FlowLaw.{no_rank}
 use Rattle.stream_machines.proofs.FlowKeeps.{flow_keeps}
 use Rattle.stream_machines.proofs.Direct.{direct_transfer, rests_with}
-use Rattle.stream_machines.proofs.PassLaw.{one_if, ready_cycles_step, ready_cycles_le}
-use Rattle.stream_machines.proofs.BuffersLaw.{comes_in_ready}
+use Rattle.stream_machines.specs.ReadyCycles.{one_if, ready_cycles_step, ready_cycles_le, comes_in_ready}
 
 -- what a machine that holds nothing keeps to in a cycle
 pub record IsWire (shape : Shape) (run : StageRun) (c : ℕ) : Type 0 where

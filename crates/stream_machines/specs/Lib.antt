@@ -1,4 +1,5 @@
 pub mod Stage
+pub mod ReadyCycles
 pub mod Flow
 pub mod Parts
 pub mod Buffers
