@@ -3,4 +3,3 @@ pub mod Comparing
 pub mod Raising
 pub mod FilterLaw
 pub mod ErrorLaw
-pub mod TestPorts

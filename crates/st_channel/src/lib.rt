@@ -5,8 +5,6 @@ pub mod channel;
 pub mod channels;
 pub mod error_tie;
 pub mod filter;
-#[cfg(test)]
-mod tests;
 
 pub use channel::fit_bits;
 pub use channels::Channels;

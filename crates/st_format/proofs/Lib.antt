@@ -17,4 +17,3 @@ pub mod ClearNarrow
 pub mod ClearWiden
 pub mod ClearFull
 pub mod ClearFormat
-pub mod TestPorts

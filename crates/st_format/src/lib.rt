@@ -8,8 +8,6 @@ pub mod laws;
 pub mod narrow;
 pub mod reorder;
 pub mod sizes;
-#[cfg(test)]
-mod tests;
 pub mod widen;
 mod words;
 

@@ -6,4 +6,3 @@ pub mod Counting
 pub mod BufferRows
 pub mod BufferLaw
 pub mod TimingLaw
-pub mod TestPorts

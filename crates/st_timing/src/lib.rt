@@ -6,8 +6,6 @@ mod buffer_nets;
 mod count;
 pub mod delay;
 mod history;
-#[cfg(test)]
-mod tests;
 pub mod tie;
 pub mod timing;
 mod transfer;

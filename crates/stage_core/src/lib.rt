@@ -11,8 +11,6 @@ pub mod register;
 pub mod rows;
 pub mod stage;
 pub mod stream;
-#[cfg(test)]
-mod tests;
 
 pub use beat::BeatNets;
 pub use chain::Chain;

@@ -4,8 +4,6 @@
 pub mod ends;
 mod path;
 mod stages;
-#[cfg(test)]
-mod tests;
 
 pub use ends::{PathNets, SourceNets};
 pub use path::emit_path;
