@@ -6,10 +6,26 @@ ghost use Rattle.netlist.specs.Netlists.{IsOutputPort, IsClocked, IsWritten};
 ghost use Rattle.stage_core.specs.Beats.{Widths};
 
 use av_base::{List, Text, Val};
+use iface_roles::StreamPort;
 use netlist::{Builder, Module};
 use stage_core::{BeatNets, Stage, emit_stream};
 use std::alloc::Global;
 use std::test::Fail;
+
+/// An end of one symbol of eight bits, with ready and without ready latency, packets, channels and errors.
+pub(crate) const BYTES: StreamPort = StreamPort {
+    symbols: 1,
+    symbol_bits: 8,
+    first_high: true,
+    ready: true,
+    latency: 0,
+    allowance: 0,
+    channel_bits: 0,
+    max_channel: 0,
+    error_bits: 0,
+    packets: false,
+    empty_bits: 0,
+};
 
 pub(crate) fn value(width: u8, bits: u128) -> Result<Val, Fail>
     ensures { IfOk result (λ v. v ≡ word width bits) }

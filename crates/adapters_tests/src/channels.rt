@@ -3,8 +3,8 @@
 ghost use Rattle.std.specs.Prelude.{◌≡◌};
 ghost use Rattle.st_channel.specs.Ports.{HasChannels};
 
-use crate::builders::{empty_builder, value};
-use iface_roles::{SinkPort, SourcePort};
+use crate::builders::{BYTES, empty_builder, value};
+use iface_roles::StreamPort;
 use netlist::{Equation, Module};
 use st_channel::{ChannelFilter, ErrorTie};
 use stage_core::{BeatNets, Maybe, emit_stream};
@@ -12,47 +12,32 @@ use std::alloc::Global;
 use std::test::Fail;
 
 /// A source at ready latency 0 with eight channels.
-fn source() -> SourcePort
+fn source() -> StreamPort
     ensures bits { result.channel_bits ≡ 3 }
     ensures largest { result.max_channel ≡ 7 }
 {
-    SourcePort {
-        symbols: 1,
-        symbol_bits: 8,
-        first_high: true,
-        ready: true,
-        latency: 0,
-        allowance: 0,
+    StreamPort {
         channel_bits: 3,
         max_channel: 7,
-        error_bits: 0,
-        packets: false,
-        empty_bits: 0,
+        ..BYTES
     }
 }
 
-fn sink(channel_bits: u8, max_channel: u32) -> SinkPort
+fn sink(channel_bits: u8, max_channel: u32) -> StreamPort
     ensures bits { result.channel_bits ≡ channel_bits }
     ensures largest { result.max_channel ≡ max_channel }
 {
-    SinkPort {
-        symbols: 1,
-        symbol_bits: 8,
-        first_high: true,
-        ready: true,
-        latency: 0,
-        allowance: 0,
+    StreamPort {
         channel_bits,
         max_channel,
         error_bits: 1,
-        packets: false,
-        empty_bits: 0,
+        ..BYTES
     }
 }
 
 /// A module with the filter between the two, behind a beat of net 0 on channel 5, net 1, and before a ready that is net 0; and
 /// the numbers of the `valid`, the channel, the ready and the `dropped` that it makes.
-fn filtered(alloc: Global, sink: &SinkPort) -> Result<(Module, [u32; 4]), Fail>
+fn filtered(alloc: Global, sink: &StreamPort) -> Result<(Module, [u32; 4]), Fail>
     requires { HasChannels sink.now.channel_bits sink.now.max_channel }
 {
     let filter = ChannelFilter::new(&source(), sink);

@@ -3,8 +3,8 @@
 ghost use Rattle.std.specs.Prelude.{◌*◌, ◌≡◌, ◌≤◌, ℕ};
 ghost use Rattle.stage_core.specs.Beats.{Widths};
 
-use crate::builders::made_by;
-use iface_roles::{SinkPort, SourcePort};
+use crate::builders::{BYTES, made_by};
+use iface_roles::StreamPort;
 use st_format::{Clear, Narrow, Reorder, Sizes, Widen, format_of};
 use stage_core::Stage;
 use std::alloc::Global;
@@ -46,45 +46,34 @@ fn parts_of_four_symbols(rt: HostRuntime) -> Result<(), Fail> {
 }
 
 /// A source of four symbols of eight bits, with packets.
-fn source(first_high: bool) -> SourcePort
+fn source(first_high: bool) -> StreamPort
     ensures symbols { result.symbols ≡ 4 }
     ensures bits { result.symbol_bits ≡ 8 }
 {
-    SourcePort {
+    StreamPort {
         symbols: 4,
-        symbol_bits: 8,
         first_high,
-        ready: true,
-        latency: 0,
-        allowance: 0,
-        channel_bits: 0,
-        max_channel: 0,
         error_bits: 1,
         packets: true,
         empty_bits: 2,
+        ..BYTES
     }
 }
 
-fn sink(symbols: u8) -> SinkPort
+fn sink(symbols: u8) -> StreamPort
     ensures { result.symbols ≡ symbols }
 {
-    SinkPort {
+    StreamPort {
         symbols,
-        symbol_bits: 8,
-        first_high: true,
-        ready: true,
-        latency: 0,
-        allowance: 0,
-        channel_bits: 0,
-        max_channel: 0,
         error_bits: 1,
         packets: true,
         empty_bits: 3,
+        ..BYTES
     }
 }
 
 /// The same count for what stands between the source and a sink of so many symbols.
-fn nets_between(alloc: Global, source: &SourcePort, sink: &SinkPort) -> Result<u32, Fail>
+fn nets_between(alloc: Global, source: &StreamPort, sink: &StreamPort) -> Result<u32, Fail>
     requires symbols { source.now.symbols ≡ 4 }
     requires bits { source.now.symbol_bits ≡ 8 }
     requires some { 1 ≤ sink.now.symbols }

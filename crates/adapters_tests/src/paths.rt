@@ -1,37 +1,9 @@
 //! Whole paths between a source and a sink, by the nets that they make.
 
-use crate::builders::{empty_builder, value};
-use iface_roles::{SinkPort, SourcePort};
+use crate::builders::{BYTES, empty_builder, value};
+use iface_roles::StreamPort;
 use std::test::Fail;
 use stream_path::{SourceNets, emit_path};
-
-const SOURCE: SourcePort = SourcePort {
-    symbols: 1,
-    symbol_bits: 8,
-    first_high: true,
-    ready: true,
-    latency: 2,
-    allowance: 2,
-    channel_bits: 0,
-    max_channel: 0,
-    error_bits: 0,
-    packets: false,
-    empty_bits: 0,
-};
-
-const SINK: SinkPort = SinkPort {
-    symbols: 1,
-    symbol_bits: 8,
-    first_high: true,
-    ready: true,
-    latency: 0,
-    allowance: 0,
-    channel_bits: 0,
-    max_channel: 0,
-    error_bits: 0,
-    packets: false,
-    empty_bits: 0,
-};
 
 /// A source of ready latency 2, a queue of three beats, and a sink of ready latency 0. A row of k places has a register and two
 /// choices for each of its seven nets in each place, and k more bits that say where a beat goes, with two choices and three
@@ -51,11 +23,16 @@ fn nets_of_a_path(rt: HostRuntime) -> Result<(), Fail> {
         endofpacket: None,
         empty: None,
     };
+    let source = StreamPort {
+        latency: 2,
+        allowance: 2,
+        ..BYTES
+    };
     let path = emit_path(
         rt.alloc(),
         &mut builder,
-        &SOURCE,
-        &SINK,
+        &source,
+        &BYTES,
         3,
         &from,
         Some(bit),
@@ -72,11 +49,9 @@ fn nets_to_fewer_symbols(rt: HostRuntime) -> Result<(), Fail> {
     let mut builder = empty_builder(rt.alloc())?;
     let bit = builder.constant(value(1, 1)?)?;
     let word = builder.constant(value(32, 0xa5)?)?;
-    let source = SourcePort {
+    let source = StreamPort {
         symbols: 4,
-        latency: 0,
-        allowance: 0,
-        ..SOURCE
+        ..BYTES
     };
     let from = SourceNets {
         valid: bit,
@@ -91,7 +66,7 @@ fn nets_to_fewer_symbols(rt: HostRuntime) -> Result<(), Fail> {
         rt.alloc(),
         &mut builder,
         &source,
-        &SINK,
+        &BYTES,
         0,
         &from,
         Some(bit),

@@ -2,8 +2,8 @@
 
 ghost use Rattle.std.specs.Prelude.{◌≡◌, ◌≤◌};
 
-use crate::builders::{made_by, value};
-use iface_roles::{SinkPort, SourcePort};
+use crate::builders::{BYTES, made_by, value};
+use iface_roles::StreamPort;
 use netlist::Equation;
 use st_timing::{ReadyBuffer, ReadyDelay, TieReady, timing_of};
 use std::alloc::Global;
@@ -69,43 +69,29 @@ fn two_places_behind_latency_1(rt: HostRuntime) -> Result<(), Fail> {
 }
 
 /// A source of two symbols a beat.
-fn source(ready: bool, latency: u8) -> SourcePort
+fn source(ready: bool, latency: u8) -> StreamPort
     ensures symbols { result.symbols ≡ 2 }
     ensures latency { result.latency ≡ latency }
 {
-    SourcePort {
+    StreamPort {
         symbols: 2,
-        symbol_bits: 8,
-        first_high: true,
         ready,
         latency,
         allowance: latency,
-        channel_bits: 0,
-        max_channel: 0,
-        error_bits: 0,
-        packets: false,
-        empty_bits: 0,
+        ..BYTES
     }
 }
 
-fn sink(ready: bool, symbols: u8) -> SinkPort {
-    SinkPort {
+fn sink(ready: bool, symbols: u8) -> StreamPort {
+    StreamPort {
         symbols,
-        symbol_bits: 8,
-        first_high: true,
         ready,
-        latency: 0,
-        allowance: 0,
-        channel_bits: 0,
-        max_channel: 0,
-        error_bits: 0,
-        packets: false,
-        empty_bits: 0,
+        ..BYTES
     }
 }
 
 /// How many nets a module has with the timing of these ends, its three constants among them.
-fn nets_of(alloc: Global, source: &SourcePort, sink: &SinkPort) -> Result<u32, Fail>
+fn nets_of(alloc: Global, source: &StreamPort, sink: &StreamPort) -> Result<u32, Fail>
     requires symbols { source.now.symbols ≡ 2 }
     requires latency { source.now.latency ≤ 8 }
 {
