@@ -6,3 +6,4 @@ pub mod Counts
 pub mod Histories
 pub mod HistoryLaw
 pub mod Fitting
+pub mod Groups

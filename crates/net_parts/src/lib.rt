@@ -2,9 +2,11 @@
 #![tactic(auto)]
 
 mod counts;
+mod groups;
 mod histories;
 mod makers;
 
 pub use counts::{add_bit, count_high};
+pub use groups::{choose_all, low_registers, set_all_next};
 pub use histories::{bit_before, make_history, set_history};
 pub use makers::{choose, constant, fit_bits, is_above, level, low_register};
