@@ -14,7 +14,8 @@ use Rattle.stage_core.specs.Law.{KeepsShape, ReadyPasses}
 use Rattle.st_channel.specs.declared.filter.ChannelFilter.{ChannelFilter}
 use Rattle.st_channel.specs.declared.filter.FilterKept.{FilterKept}
 use Rattle.st_channel.specs.FilterNets.{compares, lets_through, is_ready_wire, IsFilterShape, FilterForward, FilterBackward}
-use Rattle.st_channel.proofs.Numbers.{fits_more, shown_where, or_none}
+use Rattle.net_parts.specs.Fitting.{fits_more}
+use Rattle.st_channel.proofs.Numbers.{shown_where, or_none}
 use Rattle.st_channel.proofs.Raising.{raised}
 
 module _ (filter : ChannelFilter) (shape : Shape) (from to : BeatNets) (kept : FilterKept) (ready up : NetValue) (netlist : Netlist) (run : Run) (p : IsFilterShape filter shape) (f : FilterForward filter from to kept netlist) (b : FilterBackward filter kept ready up netlist) (endless : IsEndlessRun netlist run) where

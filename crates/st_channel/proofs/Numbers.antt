@@ -3,17 +3,7 @@ use Rattle.std.proofs.Common.{◌≡◌, ℕ, zero, suc, ◌+◌, ◌-◌, ◌*�
 use Rattle.std.proofs.lemmas.Bool.{ltb-true, ltb-false, le-leb, lt-leb, ne_eqb}
 use Rattle.std.proofs.Math.Nat.{mod-eq_of_lt}
 use Rattle.std.proofs.Math.Pow.{pow_mono}
-use Rattle.st_channel.specs.Ports.{fit_nets}
-
--- a number of fewer bits is not cut
-pub fits_more : (n bits wanted : ℕ) → n < 2 ^ bits → bits ≤ wanted → n % 2 ^ wanted ≡ n
-fits_more n bits wanted h le = mod-eq_of_lt (let more = pow_mono le in omega (arith, h, more))
-
--- zeros above a channel
-pub widened : (high channel net width bits wanted : ℕ) → net ≡ high * 2 ^ width + channel → high ≡ 0 → width ≡ bits → channel < 2 ^ width → bits ≤ wanted → net ≡ channel % 2 ^ wanted
-widened high channel net width bits wanted is none same h le =
-    let low : 0 * 2 ^ width + channel ≡ channel = omega arith in
-    is ∙ ap (λ z. z * 2 ^ width + channel) none ∙ low ∙ sym (fits_more channel width wanted h (omega (arith, same, le)))
+use Rattle.net_parts.specs.Growth.{fit_nets}
 
 -- valid where a test lets it through
 pub shown_where : (t : Bool) (v : ℕ) → ((if t then v else 0) == 1) ≡ ((v == 1) && t)
@@ -54,6 +44,3 @@ gated valid above within shown width false a w is e h = e ∙ ap (bit_and valid)
 pub bit_of_test : (t : Bool) → ((if t then 1 else 0) == 1) ≡ t
 bit_of_test true = refl
 bit_of_test false = refl
-
-pub two_nets : (bits wanted : ℕ) → (bits ≡ wanted → ⊥) → 2 ≡ fit_nets bits wanted
-two_nets bits wanted other = rw (ne_eqb bits wanted other) refl

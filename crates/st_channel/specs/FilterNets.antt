@@ -9,7 +9,7 @@ use Rattle.stream_machines.specs.Wires.{wire_shape, filtered_side}
 use Rattle.stage_core.specs.declared.beat.BeatNets.{BeatNets}
 use Rattle.st_channel.specs.declared.filter.ChannelFilter.{ChannelFilter}
 use Rattle.st_channel.specs.declared.filter.FilterKept.{FilterKept}
-use Rattle.st_channel.specs.Ports.{fit_nets}
+use Rattle.net_parts.specs.Growth.{fit_nets}
 
 -- ---- what the filter does
 

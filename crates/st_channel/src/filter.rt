@@ -9,16 +9,16 @@ ghost use Rattle.netlist.specs.Runs.{Always};
 ghost use Rattle.stream_runs.specs.View.{Side};
 ghost use Rattle.stream_runs.specs.Delivery.{reaches};
 ghost use Rattle.stream_machines.specs.Wires.{wire_shape, filtered_side};
-ghost use Rattle.stage_core.specs.Beats.{IsNetOfWidth, IsBit, AreBeatNets};
-ghost use Rattle.stage_core.specs.Growth.{AddsNets};
+ghost use Rattle.net_parts.specs.Nets.{IsNetOfWidth, IsBit};
+ghost use Rattle.stage_core.specs.Beats.{AreBeatNets};
+ghost use Rattle.net_parts.specs.Growth.{AddsNets};
 ghost use Rattle.st_channel.specs.Ports.{HasChannels};
 ghost use Rattle.st_channel.specs.FilterNets.{compares, lets_through, is_ready_wire, drops, takes_beat, shown_nets, forward_nets, backward_nets, dropped_nets, IsFilterShape, FilterForward, FilterBackward, forward_lasts, backward_lasts};
-ghost use Rattle.stage_core.specs.Lasting.{bit_lasts};
+ghost use Rattle.net_parts.specs.Laws.{net_lasts};
 
-use crate::channel::{fit_bits, is_above};
 use crate::channels::Channels;
-use av_base::Val;
 use iface_roles::{SinkPort, SourcePort};
+use net_parts::{fit_bits, is_above, level};
 use netlist::{Builder, Net, NetFault};
 use stage_core::{BeatNets, Stage};
 use stream_machines::machines::filter_is_a_stage;
@@ -63,6 +63,7 @@ impl ChannelFilter {
     }
 
     /// `valid` downstream.
+    #[tactic(auto, using(net_parts::specs::Laws::growing))]
     fn shown(&self, builder: &mut Builder, valid: Net, channel: Net) -> Result<Net, NetFault>
         requires valid { IsBit builder.old valid }
         requires channel { IsNetOfWidth builder.old channel self.now.source.bits }
@@ -80,6 +81,7 @@ impl ChannelFilter {
     }
 
     /// Shows that a beat was dropped, one bit, from the upstream beat and the upstream ready of the filter.
+    #[tactic(auto, using(net_parts::specs::Laws::growing))]
     pub fn emit_dropped(
         &self,
         builder: &mut Builder,
@@ -101,7 +103,7 @@ impl ChannelFilter {
         ensures full { result ≡ Err NetFault.TooManyNets → 2 ^ 20 < length builder.old.lines + dropped_nets self.now }
     {
         if !self.compares() {
-            return builder.constant(Val::new(1, 0).unwrap());
+            return level(builder, false);
         }
         let above = is_above(builder, from.channel, self.source.bits, self.sink.largest)?;
         let over = builder.and(from.valid, above)?;
@@ -113,6 +115,7 @@ impl ChannelFilter {
 }
 
 /// Ready, or no beat is shown.
+#[tactic(auto, using(net_parts::specs::Laws::growing))]
 fn ready_or_idle(builder: &mut Builder, ready: Net, shown: Net) -> Result<Net, NetFault>
     requires ready { IsBit builder.old ready }
     requires shown { IsBit builder.old shown }
@@ -157,6 +160,7 @@ impl Stage for ChannelFilter {
 
     ghost backward_in = { λ s kept ready up netlist. FilterBackward s kept ready up netlist };
 
+    #[tactic(auto, using(net_parts::specs::Laws::growing))]
     fn emit_forward(
         &self,
         builder: &mut Builder,
@@ -172,6 +176,7 @@ impl Stage for ChannelFilter {
         Ok((to, FilterKept { valid }))
     }
 
+    #[tactic(auto, using(net_parts::specs::Laws::growing))]
     fn emit_backward(
         &self,
         builder: &mut Builder,
@@ -189,7 +194,7 @@ impl Stage for ChannelFilter {
         pass_is_a_stage();
     }
 
-    ghost kept_lasts = { λ s kept old new h e w. bit_lasts old new kept.valid 1 e h };
+    ghost kept_lasts = { λ s kept old new h e w. net_lasts old new kept.valid 1 e h };
 
     ghost forward_lasts = { λ s from to kept old new h e. forward_lasts s from to kept old new h e };
 

@@ -11,22 +11,23 @@ use Rattle.stream_runs.specs.Source.{IsLegalSource}
 use Rattle.stream_machines.specs.Stage.{Shape, KeepsStageLaw, PassesReady, PassesAll, ready_cycles}
 use Rattle.stream_machines.specs.Parts.{plain_run}
 use Rattle.stream_machines.specs.Buffers.{IsBufferRun, buffer_shape}
-use Rattle.stream_machines.proofs.BuffersLaw.{has_place}
+use Rattle.stream_machines.specs.ReadyCycles.{has_place}
 use Rattle.stage_core.specs.declared.beat.BeatNets.{BeatNets}
 use Rattle.stage_core.specs.Beats.{view_of, ShowSame}
 use Rattle.stage_core.specs.Groups.{shown_in}
 use Rattle.stage_core.specs.Law.{KeepsShape, ReadyPasses}
 use Rattle.stage_core.specs.Rows.{row_in, held_of, RowSteps, shown_first, AllEmpty, IsPacked}
-use Rattle.stage_core.proofs.Growing.{show_same, all_same}
-use Rattle.stage_core.proofs.RowLemmas.{has_room}
-use Rattle.stage_core.proofs.RowHolds.{packed, room_now, row_starts, row_grows, row_holds}
-use Rattle.stage_core.proofs.QueueLaw.{first_same}
+use Rattle.stage_core.specs.BeatLaws.{show_same, all_same}
+use Rattle.stage_core.specs.RowLemmas.{has_room}
+use Rattle.stage_core.specs.RowHolds.{packed, room_now, row_starts, row_grows, row_holds}
+use Rattle.stage_core.specs.QueueLaw.{first_same}
 use Rattle.st_timing.specs.declared.buffer.BufferKept.{BufferKept}
 use Rattle.st_timing.specs.TransferNets.{moving}
-use Rattle.st_timing.specs.HistoryNets.{earlier}
-use Rattle.st_timing.specs.CountNets.{full_count, high_bits}
+use Rattle.net_parts.specs.Histories.{earlier}
+use Rattle.st_timing.specs.CountNets.{full_count}
+use Rattle.net_parts.specs.Counts.{high_bits}
 use Rattle.st_timing.specs.BufferNets.{IsReadyBufferShape, row_of, buffer_owns, BufferForward, BufferBackward}
-use Rattle.st_timing.proofs.HistoryLaw.{history_bits, earlier_none, earlier_one, earlier_more}
+use Rattle.net_parts.specs.HistoryLaw.{history_bits, earlier_none, earlier_one, earlier_more}
 use Rattle.st_timing.proofs.Moving.{moving_high}
 use Rattle.st_timing.proofs.Counting.{one_if_high, bit_high}
 

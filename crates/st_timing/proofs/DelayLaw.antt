@@ -14,9 +14,9 @@ use Rattle.stage_core.specs.Law.{KeepsShape, ReadyPasses}
 use Rattle.st_timing.specs.declared.delay.DelayKept.{DelayKept}
 use Rattle.st_timing.specs.declared.delay.DelayKept.TheVariants.{Wire, Register}
 use Rattle.st_timing.specs.TransferNets.{moving}
-use Rattle.st_timing.specs.HistoryNets.{earlier, TakesReady}
+use Rattle.net_parts.specs.Histories.{earlier, TakesBit}
 use Rattle.st_timing.specs.DelayNets.{IsDelayShape, GatesBeat, DelayForward, DelayBackward, delay_owns}
-use Rattle.st_timing.proofs.HistoryLaw.{history_bits}
+use Rattle.net_parts.specs.HistoryLaw.{history_bits}
 use Rattle.st_timing.proofs.Moving.{moving_high}
 
 -- a signal of some cycles before is high
@@ -48,7 +48,7 @@ module _ (from to : BeatNets) (ready up : NetValue) (netlist : Netlist) (run : R
     both false true = refl
     both false false = refl
 
-  gated_delay : (history shown : NetValue) → GatesBeat latency cycles from to history shown netlist → up ≡ shown → TakesReady netlist history ready → IsDelayRun cycles side (view_of run from up) (view_of run to ready)
+  gated_delay : (history shown : NetValue) → GatesBeat latency cycles from to history shown netlist → up ≡ shown → TakesBit netlist history ready → IsDelayRun cycles side (view_of run from up) (view_of run to ready)
   gated_delay history shown gates same takes = record {
     asks = asked;
     valid = λ c.

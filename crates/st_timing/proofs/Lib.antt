@@ -1,6 +1,5 @@
 pub mod TieLaw
 pub mod Moving
-pub mod HistoryLaw
 pub mod DelayLaw
 pub mod Counting
 pub mod BufferRows

@@ -11,7 +11,7 @@ use Rattle.stream_machines.specs.Wires.{wire_shape, IsTieRun}
 use Rattle.stage_core.specs.declared.beat.BeatNets.{BeatNets}
 use Rattle.stage_core.specs.Beats.{view_of, ShowSame}
 use Rattle.stage_core.specs.Law.{KeepsShape, ReadyPasses}
-use Rattle.stage_core.proofs.Between.{pass_between}
+use Rattle.stage_core.specs.Between.{pass_between}
 use Rattle.st_timing.specs.declared.timing.Timing.{Timing}
 use Rattle.st_timing.specs.declared.timing.Timing.TheVariants.{Tie, Buffer, Wire}
 use Rattle.st_timing.specs.declared.timing.TimingKept.{TimingKept}

@@ -9,14 +9,16 @@ use Rattle.stream_machines.specs.Stage.{Shape, PassesAll}
 use Rattle.stream_machines.specs.Buffers.{buffer_shape}
 use Rattle.stage_core.specs.declared.beat.BeatNets.{BeatNets}
 use Rattle.stage_core.specs.Beats.{AreBeatNets}
-use Rattle.stage_core.specs.Groups.{StartsLow, shown_in}
+use Rattle.net_parts.specs.Nets.{StartsLow}
+use Rattle.stage_core.specs.Groups.{shown_in}
 use Rattle.stage_core.specs.Lasting.{beat_lasts}
 use Rattle.stage_core.specs.Rows.{AreInRow, InRow, StartsAllEmpty, RowSteps, shown_first, row_lasts}
 use Rattle.stage_core.specs.QueueNets.{FirstNumbered}
 use Rattle.st_timing.specs.declared.buffer.BufferKept.{BufferKept}
 use Rattle.st_timing.specs.TransferNets.{moving}
-use Rattle.st_timing.specs.HistoryNets.{IsHistory, TakesReady, history_lasts, takes_lasts}
-use Rattle.st_timing.specs.CountNets.{full_count, high_bits}
+use Rattle.net_parts.specs.Histories.{IsHistory, TakesBit, history_lasts, takes_lasts}
+use Rattle.st_timing.specs.CountNets.{full_count}
+use Rattle.net_parts.specs.Counts.{high_bits}
 
 -- a side of this ready latency upstream, and downstream the same with ready latency 0, with a test that all channels pass; a
 -- place more than the latency says holds beats
@@ -60,7 +62,7 @@ pub record BufferForward (from to : BeatNets) (kept : BufferKept) (latency : ℕ
 -- takes what is shown, and the beats that transfer come
 pub record BufferBackward (kept : BufferKept) (ready up : NetValue) (netlist : Netlist) : Type 0 where
   pub asks : Always netlist (λ cycle. (cycle.net up.number == 1) ≡ nat_lt (full_count cycle (row_of kept) + high_bits kept.latency (cycle.net kept.history.number)) (kept.latency + 1))
-  pub takes : TakesReady netlist kept.history up
+  pub takes : TakesBit netlist kept.history up
   pub steps : (run : Run) (cycles : ℕ) → IsRun netlist run cycles → (c : ℕ) → c + 1 < cycles
       → RowSteps (cycle_of run c) (cycle_of run (c + 1)) (row_of kept) kept.from (moving kept.latency (run.net c kept.from.valid.number) (run.net c up.number) == 1) ready
 

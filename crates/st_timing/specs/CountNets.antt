@@ -1,16 +1,11 @@
--- How many bits are high.
+-- How many places of a row are full.
 use Rattle.std.specs.Prelude.{◌≡◌, ℕ, zero, suc, ◌+◌, ◌==◌, if◌then◌else◌, List, [], ◌∷◌}
 use Rattle.std.specs.Int.{bit_at}
 use Rattle.netlist.specs.Nets.{NetValue}
 use Rattle.netlist.specs.Netlists.{Netlist}
 use Rattle.netlist.specs.Runs.{Cycle, Always}
 use Rattle.stage_core.specs.declared.beat.BeatNets.{BeatNets}
-use Rattle.stage_core.specs.Beats.{IsBit, IsNetOfWidth}
-
--- how many of a number's lowest bits are high
-abbrev pub high_bits : ℕ → ℕ → ℕ
-high_bits zero x = 0
-high_bits (suc n) x = high_bits n x + bit_at x n
+use Rattle.net_parts.specs.Nets.{IsBit, IsNetOfWidth}
 
 -- how many of the places are full
 abbrev pub full_count : Cycle → List BeatNets → ℕ
@@ -21,8 +16,3 @@ full_count cycle (nets ∷ row) = (if cycle.net nets.valid.number == 1 then 1 el
 abbrev pub HaveValid : Netlist → List BeatNets → Type 0
 HaveValid netlist [] = Unit {0}
 HaveValid netlist (nets ∷ row) = IsBit netlist nets.valid × HaveValid netlist row
-
--- the four zeros that stand above a bit in a summand
-pub record AreZeros (netlist : Netlist) (zeros : NetValue) : Type 0 where
-  pub net : IsNetOfWidth netlist zeros 4
-  pub value : Always netlist (λ cycle. cycle.net zeros.number ≡ 0)

@@ -9,13 +9,13 @@ use Rattle.netlist.specs.Longer.{Extends}
 use Rattle.stream_machines.specs.Stage.{Shape, PassesAll}
 use Rattle.stream_machines.specs.Wires.{wire_shape, delayed_side}
 use Rattle.stage_core.specs.declared.beat.BeatNets.{BeatNets}
-use Rattle.stage_core.specs.Beats.{IsBit, beat_in}
-use Rattle.stage_core.specs.Groups.{StartsLow}
-use Rattle.stage_core.specs.Lasting.{bit_lasts}
+use Rattle.net_parts.specs.Nets.{IsBit, StartsLow}
+use Rattle.stage_core.specs.Beats.{beat_in}
+use Rattle.net_parts.specs.Laws.{net_lasts}
 use Rattle.st_timing.specs.declared.delay.DelayKept.{DelayKept}
 use Rattle.st_timing.specs.declared.delay.DelayKept.TheVariants.{Wire, Register}
 use Rattle.st_timing.specs.TransferNets.{moving}
-use Rattle.st_timing.specs.HistoryNets.{IsHistory, TakesReady, history_lasts, takes_lasts}
+use Rattle.net_parts.specs.Histories.{IsHistory, TakesBit, history_lasts, takes_lasts}
 
 -- a side of this ready latency upstream, and downstream the same with one that is larger by so many cycles, with a test that
 -- all channels pass
@@ -61,7 +61,7 @@ DelayForward latency cycles from to (Register history ready) netlist = GatesBeat
 pub record SetsRegister (cycles : ℕ) (history shown ready up : NetValue) (netlist : Netlist) : Type 0 where
   pub some : 0 < cycles
   pub up_is : up ≡ shown
-  pub takes : TakesReady netlist history ready
+  pub takes : TakesBit netlist history ready
 
 -- after the second call
 abbrev pub DelayBackward : ℕ → DelayKept → NetValue → NetValue → Netlist → Type 0
@@ -75,7 +75,7 @@ keeps_lasts cycles Wire old new h e w = tt
 keeps_lasts cycles (Register history ready) old new h e w = record {
   some = h.some;
   waits = history_lasts old new history history.width e (w history.number refl) h.waits;
-  shown = bit_lasts old new ready 1 e h.shown;
+  shown = net_lasts old new ready 1 e h.shown;
 }
 
 pub forward_lasts : (latency cycles : ℕ) (from to : BeatNets) (kept : DelayKept) (old new : Netlist) → DelayForward latency cycles from to kept old → Extends old new → DelayForward latency cycles from to kept new

@@ -1,6 +1,5 @@
 pub mod TieNets
 pub mod TransferNets
-pub mod HistoryNets
 pub mod DelayNets
 pub mod CountNets
 pub mod BufferNets

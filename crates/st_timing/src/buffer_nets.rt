@@ -3,22 +3,46 @@
 ghost use Rattle.std.specs.Prelude.{◌≡◌, ◌+◌, ◌*◌, ◌^◌, ◌<◌, ◌≤◌, ◌==◌, nat_lt, length, IfOk};
 ghost use Rattle.netlist.specs.Netlists.{IsNet};
 ghost use Rattle.netlist.specs.Runs.{Always};
-ghost use Rattle.stage_core.specs.Beats.{IsBit};
-ghost use Rattle.stage_core.specs.Growth.{AddsNets};
-ghost use Rattle.st_timing.specs.CountNets.{full_count, high_bits, HaveValid};
+ghost use Rattle.net_parts.specs.Nets.{IsBit, IsNetOfWidth};
+ghost use Rattle.net_parts.specs.Growth.{AddsNets};
+ghost use Rattle.st_timing.specs.CountNets.{full_count, HaveValid};
+ghost use Rattle.net_parts.specs.Counts.{high_bits};
 ghost use Rattle.st_timing.specs.BufferNets.{IsReadyBufferShape, buffer_owns, BufferKeeps, BufferForward, BufferBackward, keeps_lasts, forward_lasts, backward_lasts};
 
 use crate::buffer::{BufferKept, ReadyBuffer};
-use crate::count::{count_full, count_high};
-use crate::history::{make_history, set_history};
+use crate::count::count_full;
 use crate::transfer::transfers;
-use av_base::Val;
+use net_parts::{constant, count_high, make_history, set_history};
 use netlist::{Builder, Net, NetFault};
 use stage_core::rows::{fill_places, set_places, show_first};
 use stage_core::{BeatNets, Stage};
 use stream_machines::machines::buffer_is_a_stage;
 
-/// Whether the beats that are held, and those that may still come of the ready that was shown, leave a place.
+/// How many places are taken: by the beats that are held, and by those that may still come of the ready that was shown.
+#[tactic(auto, using(net_parts::specs::Laws::growing))]
+fn count_taken(
+    builder: &mut Builder,
+    row: &[BeatNets],
+    history: Net,
+    latency: u8,
+) -> Result<Net, NetFault>
+    requires row { HaveValid builder.old row.now }
+    requires count { length row.now ≡ latency + 1 }
+    requires few { latency ≤ 8 }
+    requires history { IsNet builder.old history }
+    requires wide { latency ≤ history.width }
+    ensures net { IfOk result (λ taken. IsNetOfWidth builder.new taken 5) }
+    ensures value { IfOk result (λ taken. Always builder.new (λ cycle. cycle.net taken.number ≡ full_count cycle row.now + high_bits latency (cycle.net history.number))) }
+    ensures adds { AddsNets (5 * latency + 4) builder.old builder.new }
+    ensures full { result ≡ Err NetFault.TooManyNets → 2 ^ 20 < length builder.old.lines + (5 * latency + 4) }
+{
+    let zeros = constant(builder, 4, 0)?;
+    let held = count_full(builder, zeros, row)?;
+    count_high(builder, zeros, held, history, latency)
+}
+
+/// Whether a place is left.
+#[tactic(auto, using(net_parts::specs::Laws::growing))]
 fn has_room(
     builder: &mut Builder,
     row: &[BeatNets],
@@ -35,12 +59,9 @@ fn has_room(
     ensures adds { AddsNets (5 * latency + 6) builder.old builder.new }
     ensures full { result ≡ Err NetFault.TooManyNets → 2 ^ 20 < length builder.old.lines + (5 * latency + 6) }
 {
-    let zeros = builder.constant(Val::new(4, 0).unwrap())?;
-    let none = builder.constant(Val::new(5, 0).unwrap())?;
-    let held = count_full(builder, zeros, none, row)?;
-    let owed = count_high(builder, zeros, held, history, latency)?;
-    let places = builder.constant(Val::new(5, u128::from(latency) + 1).unwrap())?;
-    builder.less(owed, places)
+    let taken = count_taken(builder, row, history, latency)?;
+    let places = constant(builder, 5, latency + 1)?;
+    builder.less(taken, places)
 }
 
 impl Stage for ReadyBuffer {
@@ -68,6 +89,7 @@ impl Stage for ReadyBuffer {
 
     ghost backward_in = { λ s kept ready up netlist. BufferBackward kept ready up netlist };
 
+    #[tactic(auto, using(net_parts::specs::Laws::growing))]
     fn emit_forward(
         &self,
         builder: &mut Builder,
@@ -90,6 +112,7 @@ impl Stage for ReadyBuffer {
         ))
     }
 
+    #[tactic(auto, using(net_parts::specs::Laws::growing))]
     fn emit_backward(
         &self,
         builder: &mut Builder,

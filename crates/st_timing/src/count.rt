@@ -1,32 +1,20 @@
-//! How many bits are high: full places of a row, and cycles with ready.
+//! How many places of a row are full.
 
 ghost use Rattle.std.specs.Prelude.{◌≡◌, ◌+◌, ◌*◌, ◌^◌, ◌<◌, ◌≤◌, ◌==◌, if◌then◌else◌, length, IfOk};
 ghost use Rattle.netlist.specs.Netlists.{IsNet};
 ghost use Rattle.netlist.specs.Runs.{Always};
-ghost use Rattle.stage_core.specs.Beats.{IsBit, IsNetOfWidth};
-ghost use Rattle.stage_core.specs.Growth.{AddsNets};
-ghost use Rattle.st_timing.specs.CountNets.{high_bits, full_count, HaveValid, AreZeros};
+ghost use Rattle.net_parts.specs.Nets.{IsBit, IsNetOfWidth};
+ghost use Rattle.net_parts.specs.Growth.{AddsNets};
+ghost use Rattle.net_parts.specs.Counts.{high_bits, AreZeros};
+ghost use Rattle.st_timing.specs.CountNets.{full_count, HaveValid};
 
+use net_parts::{add_bit, constant};
 use netlist::{Builder, Net, NetFault};
 use stage_core::BeatNets;
 
-/// One more where the bit is high.
-fn add_bit(builder: &mut Builder, zeros: Net, sum: Net, bit: Net) -> Result<Net, NetFault>
-    requires zeros { AreZeros builder.old zeros }
-    requires sum { IsNetOfWidth builder.old sum 5 }
-    requires small { Always builder.old (λ cycle. cycle.net sum.number < 31) }
-    requires bit { IsBit builder.old bit }
-    ensures net { IfOk result (λ more. IsNetOfWidth builder.new more 5) }
-    ensures value { IfOk result (λ more. Always builder.new (λ cycle. cycle.net more.number ≡ cycle.net sum.number + cycle.net bit.number)) }
-    ensures adds { AddsNets 2 builder.old builder.new }
-    ensures full { result ≡ Err NetFault.TooManyNets → 2 ^ 20 < length builder.old.lines + 2 }
-{
-    let summand = builder.concat(zeros, bit)?;
-    builder.add(sum, summand)
-}
-
 /// The sum, and one more for each full place.
-pub(crate) fn count_full(
+#[tactic(auto, using(net_parts::specs::Laws::growing))]
+fn add_full(
     builder: &mut Builder,
     zeros: Net,
     sum: Net,
@@ -45,33 +33,26 @@ pub(crate) fn count_full(
         None => Ok(sum),
         Some((place, rest)) => {
             let more = add_bit(builder, zeros, sum, place.valid)?;
-            count_full(builder, zeros, more, rest)
+            add_full(builder, zeros, more, rest)
         }
     }
 }
 
-/// The sum, and one more for each of the lowest bits that is high.
-pub(crate) fn count_high(
+/// How many places are full.
+#[tactic(auto, using(net_parts::specs::Laws::growing))]
+pub(crate) fn count_full(
     builder: &mut Builder,
     zeros: Net,
-    sum: Net,
-    bits: Net,
-    count: u8,
+    row: &[BeatNets],
 ) -> Result<Net, NetFault>
     requires zeros { AreZeros builder.old zeros }
-    requires sum { IsNetOfWidth builder.old sum 5 }
-    requires small { Always builder.old (λ cycle. cycle.net sum.number + count < 32) }
-    requires bits { IsNet builder.old bits }
-    requires count { count ≤ bits.width }
+    requires few { length row.now < 32 }
+    requires row { HaveValid builder.old row.now }
     ensures net { IfOk result (λ total. IsNetOfWidth builder.new total 5) }
-    ensures value { IfOk result (λ total. Always builder.new (λ cycle. cycle.net total.number ≡ cycle.net sum.number + high_bits count (cycle.net bits.number))) }
-    ensures adds { AddsNets (3 * count) builder.old builder.new }
-    ensures full { result ≡ Err NetFault.TooManyNets → 2 ^ 20 < length builder.old.lines + 3 * count }
+    ensures value { IfOk result (λ total. Always builder.new (λ cycle. cycle.net total.number ≡ full_count cycle row.now)) }
+    ensures adds { AddsNets (2 * length row.now + 1) builder.old builder.new }
+    ensures full { result ≡ Err NetFault.TooManyNets → 2 ^ 20 < length builder.old.lines + (2 * length row.now + 1) }
 {
-    if count == 0 {
-        return Ok(sum);
-    }
-    let highest = builder.slice(bits, count - 1, count - 1)?;
-    let more = add_bit(builder, zeros, sum, highest)?;
-    count_high(builder, zeros, more, bits, count - 1)
+    let none = constant(builder, 5, 0)?;
+    add_full(builder, zeros, none, row)
 }

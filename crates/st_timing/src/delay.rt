@@ -5,8 +5,8 @@
 ghost use Rattle.std.specs.Prelude.{◌≡◌, ◌+◌, ◌≤◌};
 ghost use Rattle.st_timing.specs.DelayNets.{IsDelayShape, delay_owns, DelayKeeps, DelayForward, DelayBackward, keeps_lasts, forward_lasts, backward_lasts};
 
-use crate::history::{make_history, ready_before, set_history};
 use crate::transfer::transfers;
+use net_parts::{bit_before, make_history, set_history};
 use netlist::{Builder, Net, NetFault};
 use stage_core::{BeatNets, Stage};
 use stream_machines::machines::delay_is_a_stage;
@@ -66,6 +66,7 @@ impl Stage for ReadyDelay {
 
     ghost backward_in = { λ s kept ready up netlist. DelayBackward s.cycles kept ready up netlist };
 
+    #[tactic(auto, using(net_parts::specs::Laws::growing))]
     fn emit_forward(
         &self,
         builder: &mut Builder,
@@ -75,7 +76,7 @@ impl Stage for ReadyDelay {
             return Ok((from, DelayKept::Wire));
         }
         let history = make_history(builder, self.cycles)?;
-        let ready = ready_before(builder, history, self.cycles)?;
+        let ready = bit_before(builder, history, self.cycles)?;
         let valid = transfers(builder, self.up, from.valid, ready)?;
         let to = BeatNets {
             valid,
@@ -84,6 +85,7 @@ impl Stage for ReadyDelay {
         Ok((to, DelayKept::Register { history, ready }))
     }
 
+    #[tactic(auto, using(net_parts::specs::Laws::growing))]
     fn emit_backward(
         &self,
         builder: &mut Builder,

@@ -5,7 +5,6 @@ pub mod buffer;
 mod buffer_nets;
 mod count;
 pub mod delay;
-mod history;
 pub mod tie;
 pub mod timing;
 mod transfer;

@@ -4,7 +4,7 @@
 ghost use Rattle.std.specs.Prelude.{◌≡◌};
 ghost use Rattle.st_timing.specs.TieNets.{IsTieShape, IsTied};
 
-use av_base::Val;
+use net_parts::level;
 use netlist::{Builder, Net, NetFault};
 use stage_core::pass::Nothing;
 use stage_core::{BeatNets, Stage};
@@ -53,13 +53,14 @@ impl Stage for TieReady {
         Ok((from, Nothing))
     }
 
+    #[tactic(auto, using(net_parts::specs::Laws::growing))]
     fn emit_backward(
         &self,
         builder: &mut Builder,
         kept: Nothing,
         ready: Net,
     ) -> Result<Net, NetFault> {
-        builder.constant(Val::new(1, 1).unwrap())
+        level(builder, true)
     }
 
     fn law(&self) {

@@ -78,6 +78,7 @@ impl Stage for Timing {
 
     ghost backward_in = { λ s kept ready up netlist. TimingBackward kept ready up netlist };
 
+    #[tactic(auto, using(net_parts::specs::Laws::growing))]
     fn emit_forward(
         &self,
         builder: &mut Builder,
@@ -93,6 +94,7 @@ impl Stage for Timing {
         }
     }
 
+    #[tactic(auto, using(net_parts::specs::Laws::growing))]
     fn emit_backward(
         &self,
         builder: &mut Builder,

@@ -2,13 +2,14 @@
 
 ghost use Rattle.std.specs.Prelude.{◌≡◌, ◌+◌, ◌^◌, ◌<◌, length, IfOk};
 ghost use Rattle.netlist.specs.Runs.{Always};
-ghost use Rattle.stage_core.specs.Beats.{IsBit};
-ghost use Rattle.stage_core.specs.Growth.{AddsNets};
+ghost use Rattle.net_parts.specs.Nets.{IsBit};
+ghost use Rattle.net_parts.specs.Growth.{AddsNets};
 ghost use Rattle.st_timing.specs.TransferNets.{moving};
 
 use netlist::{Builder, Net, NetFault};
 
 /// `valid` where a beat transfers, at an end of this ready latency, and else low.
+#[tactic(auto, using(net_parts::specs::Laws::growing))]
 pub(crate) fn transfers(
     builder: &mut Builder,
     latency: u8,

@@ -1,12 +1,9 @@
 use Rattle.std.proofs.Common.{◌≡◌, ◌==◌, not, ◌||◌, ◌∙◌, ap}
 use Rattle.netlist.specs.Runs.{Always}
-use Rattle.stage_core.specs.Beats.{IsBit}
-use Rattle.stage_core.proofs.Growing.{grows_once, adds_twice, bit_fits, if_ok}
-use Rattle.stage_core.proofs.Bits.{high_or, high_turned}
+use Rattle.net_parts.specs.Nets.{IsBit}
+use Rattle.net_parts.specs.Laws.{grows_once, adds_twice, bit_fits, if_ok}
+use Rattle.net_parts.specs.Bits.{high_or, high_turned}
 use Rattle.st_channel.proofs.filter.ready_or_idle.Goals as goal
-
-pub returns-clause-adds : goal.returns-clause-adds
-returns-clause-adds c = adds_twice _ _ _ _ _ (grows_once _ _ c.not.ensures.extends c.not.ensures.grows) (grows_once _ _ c.or.ensures.extends c.or.ensures.grows)
 
 pub returns-clause-value : goal.returns-clause-value
 returns-clause-value c =

@@ -1,6 +1,6 @@
 use Rattle.std.proofs.Common.{◌≡◌, arith}
 use Rattle.netlist.specs.Runs.{Always}
-use Rattle.stage_core.proofs.Growing.{bit_fits, if_ok}
+use Rattle.net_parts.specs.Laws.{bit_fits, if_ok}
 use Rattle.st_timing.specs.TransferNets.{moving}
 use Rattle.st_timing.proofs.Moving.{moving_and}
 use Rattle.st_timing.proofs.transfer.transfers.Goals as goal

@@ -1,10 +1,10 @@
 use Rattle.std.proofs.Common.{◌≡◌, ◌≤◌, true, ◌&&◌, ◌==◌, nat_lt, IsTrue, sym, subst, ◌∙◌, ap, arith}
 use Rattle.std.proofs.lemmas.Bool.{lt-ltb, le-ltb}
 use Rattle.netlist.specs.Runs.{Always}
-use Rattle.stage_core.specs.Beats.{IsBit}
-use Rattle.stage_core.specs.Growth.{AddsNets}
-use Rattle.stage_core.proofs.Growing.{grows_once, adds_twice, adds_fewer, bit_fits, if_ok}
-use Rattle.stage_core.proofs.Bits.{high_and}
+use Rattle.net_parts.specs.Nets.{IsBit}
+use Rattle.net_parts.specs.Growth.{AddsNets}
+use Rattle.net_parts.specs.Laws.{grows_once, adds_twice, adds_fewer, bit_fits, if_ok}
+use Rattle.net_parts.specs.Bits.{high_and}
 use Rattle.st_channel.specs.FilterNets.{compares, takes_beat, drops}
 use Rattle.st_channel.proofs.Numbers.{bit_of_test}
 use Rattle.st_channel.proofs.Comparing.{sink_fits, four_dropped, drops_late, drops_now, drops_legal}
@@ -12,16 +12,6 @@ use Rattle.st_channel.proofs.filter.ChannelFilter.emit_dropped.Goals as goal
 
 pub is_above-requires-clause-fits : goal.is_above-requires-clause-fits
 is_above-requires-clause-fits c = sink_fits c.args.self.now (sym c.compares.ensures ∙ c.if-not-compares.false)
-
-pub returns-then-self-gt0-clause-adds : goal.returns-then-self-gt0-clause-adds
-returns-then-self-gt0-clause-adds c =
-    subst (λ n. AddsNets n c.args.builder.now c.and.new.self) (four_dropped c.args.self.now (sym c.compares.ensures ∙ c.if-not-compares.false))
-    (adds_fewer _ _ _ _ (omega arith) (adds_twice _ _ _ _ _ c.is_above.ensures.adds (grows_once _ _ c.and.ensures.extends c.and.ensures.grows)))
-
-pub returns-clause-adds : goal.returns-clause-adds
-returns-clause-adds c =
-    subst (λ n. AddsNets n c.args.builder.now c.and-2.new.self) (four_dropped c.args.self.now (sym c.compares.ensures ∙ c.if-not-compares.false))
-    (adds_twice _ _ _ _ _ (adds_twice _ _ _ _ _ c.is_above.ensures.adds (grows_once _ _ c.and.ensures.extends c.and.ensures.grows)) (grows_once _ _ c.and-2.ensures.extends c.and-2.ensures.grows))
 
 pub returns-then-self-gt0-clause-drops : goal.returns-then-self-gt0-clause-drops
 returns-then-self-gt0-clause-drops c cycle v2 =

@@ -1,7 +1,7 @@
 use Rattle.std.proofs.Common.{◌≡◌, true, if◌then◌else◌, nat_lt, sym, subst, ◌∙◌, ap}
 use Rattle.netlist.specs.Runs.{Always}
-use Rattle.stage_core.specs.Growth.{AddsNets}
-use Rattle.stage_core.proofs.Growing.{grows_once, adds_twice, bit_fits, if_ok}
+use Rattle.net_parts.specs.Growth.{AddsNets}
+use Rattle.net_parts.specs.Laws.{grows_once, adds_twice, bit_fits, if_ok}
 use Rattle.st_channel.specs.FilterNets.{compares, lets_through}
 use Rattle.st_channel.proofs.Numbers.{gated}
 use Rattle.st_channel.proofs.Comparing.{sink_fits, four_shown, lets_within}
@@ -9,11 +9,6 @@ use Rattle.st_channel.proofs.filter.ChannelFilter.shown.Goals as goal
 
 pub is_above-requires-clause-fits : goal.is_above-requires-clause-fits
 is_above-requires-clause-fits c = sink_fits c.args.self.now (sym c.compares.ensures ∙ c.if-not-compares.false)
-
-pub returns-clause-adds : goal.returns-clause-adds
-returns-clause-adds c =
-    subst (λ n. AddsNets n c.args.builder.now c.and.new.self) (four_shown c.args.self.now (sym c.compares.ensures ∙ c.if-not-compares.false))
-    (adds_twice _ _ _ _ _ (adds_twice _ _ _ _ _ c.is_above.ensures.adds (grows_once _ _ c.not.ensures.extends c.not.ensures.grows)) (grows_once _ _ c.and.ensures.extends c.and.ensures.grows))
 
 pub returns-clause-value : goal.returns-clause-value
 returns-clause-value c =

@@ -2,19 +2,13 @@ use Rattle.std.proofs.Common.{◌<◌, ◌^◌, refl, sym, subst, ap}
 use Rattle.stage_core.specs.declared.beat.BeatNets.{BeatNets}
 use Rattle.stage_core.specs.Beats.{AreBeatNets}
 use Rattle.stage_core.specs.Lasting.{beat_lasts}
-use Rattle.stage_core.proofs.Growing.{grows_twice, net_fits}
+use Rattle.net_parts.specs.Laws.{extends_twice, net_fits}
 use Rattle.st_channel.proofs.filter.ChannelFilterStage.emit_forward.Goals as goal
-
-pub returns-in_err-valid-clause-grows : goal.returns-in_err-valid-clause-grows
-returns-in_err-valid-clause-grows c = grows_twice _ _ _ _ _ c.fit_bits.ensures.adds.grows c.shown.ensures.adds.grows
-
-pub returns-clause-grows : goal.returns-clause-grows
-returns-clause-grows c = grows_twice _ _ _ _ _ c.fit_bits.ensures.adds.grows c.shown.ensures.adds.grows
 
 pub returns-clause-beat : goal.returns-clause-beat
 returns-clause-beat c =
-    let grown = grows_twice _ _ _ _ _ c.fit_bits.ensures.adds.grows c.shown.ensures.adds.grows in
-    let copied : AreBeatNets c.shown.new.builder c.copied.result = subst (AreBeatNets c.shown.new.builder) (sym c.copied.ensures) (beat_lasts _ _ _ grown.extends c.requires.from) in
+    let more = extends_twice _ _ _ c.fit_bits.ensures.adds.grows.extends c.shown.ensures.adds.grows.extends in
+    let copied : AreBeatNets c.shown.new.builder c.copied.result = subst (AreBeatNets c.shown.new.builder) (sym c.copied.ensures) (beat_lasts _ _ _ more c.requires.from) in
     record {
       valid = c.in_ok-valid.ensures.net;
       word = copied.word;
@@ -30,8 +24,8 @@ returns-clause-made c = record {
   kept_is = refl;
   same = ap (λ (n : BeatNets). record n { valid = c.in_ok-valid.valid; channel = c.in_ok-channel.channel }) c.copied.ensures;
   fits = λ cycle v.
-      (let grown = grows_twice _ _ _ _ _ c.fit_bits.ensures.adds.grows c.shown.ensures.adds.grows in
-      subst (λ n. cycle.net c.args.from.channel.number < 2 ^ n) c.requires.widths (net_fits _ _ c.requires.from.channel cycle (grown.extends.valuations cycle v)));
+      (let more = extends_twice _ _ _ c.fit_bits.ensures.adds.grows.extends c.shown.ensures.adds.grows.extends in
+      subst (λ n. cycle.net c.args.from.channel.number < 2 ^ n) c.requires.widths (net_fits _ _ c.requires.from.channel cycle (more.valuations cycle v)));
   channel = λ cycle v. c.in_ok-channel.ensures.value cycle (c.shown.ensures.adds.grows.extends.valuations cycle v);
   valid = c.in_ok-valid.ensures.value;
 }

@@ -4,34 +4,10 @@ use Rattle.stage_core.specs.declared.beat.BeatNets.{BeatNets}
 use Rattle.stage_core.specs.Lasting.{beat_lasts}
 use Rattle.stage_core.specs.Rows.{AreInRow, InRow, StartsAllEmpty, shown_first}
 use Rattle.stage_core.specs.QueueNets.{FirstNumbered}
-use Rattle.stage_core.proofs.Growing.{extends_twice, grows_twice, grows_fewer, waiting_within}
-use Rattle.stage_core.proofs.RowNets.{row_here, row_waits, first_numbered}
+use Rattle.net_parts.specs.Laws.{extends_twice, grows_twice, grows_fewer, waiting_within, adds_grow}
+use Rattle.stage_core.specs.RowNets.{row_here, row_waits, first_numbered}
 use Rattle.st_timing.proofs.BufferRows.{front, front_count}
 use Rattle.st_timing.proofs.buffer_nets.ReadyBufferStage.emit_forward.Goals as goal
-
-pub returns-in_err-to-clause-grows : goal.returns-in_err-to-clause-grows
-returns-in_err-to-clause-grows c =
-    let few = c.args.self.now.few in
-    let same = c.from-count.ensures in
-    let old = c.fill_places.auto.places in
-    let count = front_count c.fill_places.new.places _ (c.from-count.result + 1) old (omega (arith, few, same)) in
-    grows_fewer _ _ _ _ (omega (arith, old, count, same)) (grows_twice _ _ _ _ _ c.fill_places.ensures.grows c.show_first.ensures.adds.grows)
-
-pub returns-in_err-history-clause-grows : goal.returns-in_err-history-clause-grows
-returns-in_err-history-clause-grows c =
-    let few = c.args.self.now.few in
-    let same = c.from-count.ensures in
-    let old = c.fill_places.auto.places in
-    let count = front_count c.fill_places.new.places _ (c.from-count.result + 1) old (omega (arith, few, same)) in
-    grows_fewer _ _ _ _ (omega (arith, old, count, same)) (grows_twice _ _ _ _ _ (grows_twice _ _ _ _ _ c.fill_places.ensures.grows c.show_first.ensures.adds.grows) c.make_history.ensures.grows)
-
-pub returns-clause-grows : goal.returns-clause-grows
-returns-clause-grows c =
-    let few = c.args.self.now.few in
-    let same = c.from-count.ensures in
-    let old = c.fill_places.auto.places in
-    let count = front_count c.fill_places.new.places _ (c.from-count.result + 1) old (omega (arith, few, same)) in
-    grows_fewer _ _ _ _ (omega (arith, old, count, same)) (grows_twice _ _ _ _ _ (grows_twice _ _ _ _ _ c.fill_places.ensures.grows c.show_first.ensures.adds.grows) c.make_history.ensures.grows)
 
 pub returns-clause-beat : goal.returns-clause-beat
 returns-clause-beat c = beat_lasts _ _ _ c.make_history.ensures.grows.extends c.in_ok-to.ensures.beat
@@ -48,7 +24,7 @@ returns-clause-kept c =
       latency_is = refl;
       from = beat_lasts _ _ _ (extends_twice _ _ _ c.fill_places.ensures.grows.extends more) c.requires.from;
       row = subst (λ (row : List BeatNets). AreInRow c.make_history.new.builder c.args.from row) (sym (front _ _ _ _ here count))
-          (row_here _ _ _ _ more (λ n o w. c.make_history.ensures.still_wait n (c.show_first.ensures.adds.waits n w)) c.in_ok-fill_places.ensures.row);
+          (row_here _ _ _ _ more (λ n o w. c.make_history.ensures.still_wait n (c.show_first.ensures.adds.grows.waits n w)) c.in_ok-fill_places.ensures.row);
       count = ap length (front _ _ _ _ here count) ∙ count ∙ sym here;
       history = record { net = record { is_net = net.is_net; has_width = refl }; waits = c.in_ok-history.ensures.history.waits };
       wide = (let width = net.has_width in let most = c.max.ensures in omega (arith, width, most));
@@ -101,7 +77,7 @@ returns-clause-own_wait c n o =
     let count = front_count c.fill_places.new.places _ (c.from-count.result + 1) c.fill_places.auto.places (omega (arith, few, same)) in
     let here : c.args.self.now.latency + 1 ≡ c.from-count.result + 1 = ap (λ n. n + 1) (sym same) in
     elim o [
-      | inl p ↦ c.make_history.ensures.still_wait n (c.show_first.ensures.adds.waits n (row_waits _ _ _ _ c.in_ok-fill_places.ensures.row.is_row n (subst (λ (row : List BeatNets). InRow row n) (front _ _ _ _ here count) p)))
+      | inl p ↦ c.make_history.ensures.still_wait n (c.show_first.ensures.adds.grows.waits n (row_waits _ _ _ _ c.in_ok-fill_places.ensures.row.is_row n (subst (λ (row : List BeatNets). InRow row n) (front _ _ _ _ here count) p)))
       | inr p ↦ subst (λ m. IsWaiting c.make_history.new.builder m) (sym p) c.in_ok-history.ensures.history.waits
     ]
 
@@ -112,7 +88,7 @@ returns-clause-newly c n w =
     let count = front_count c.fill_places.new.places _ (c.from-count.result + 1) c.fill_places.auto.places (omega (arith, few, same)) in
     let here : c.args.self.now.latency + 1 ≡ c.from-count.result + 1 = ap (λ n. n + 1) (sym same) in
     elim (c.make_history.ensures.newly n w) [
-      | inl before ↦ elim (c.in_ok-fill_places.ensures.newly n (c.show_first.ensures.adds.no_more_wait n before)) [
+      | inl before ↦ elim (c.in_ok-fill_places.ensures.newly n (c.show_first.ensures.adds.grows.no_more_wait n before)) [
         | inl old ↦ inl old
         | inr made ↦ inr (inl (subst (λ (row : List BeatNets). InRow row n) (sym (front _ _ _ _ here count)) made))
       ]

@@ -2,35 +2,26 @@ use Rattle.std.proofs.Common.{ap, arith}
 use Rattle.stage_core.specs.declared.beat.BeatNets.{BeatNets}
 use Rattle.stage_core.specs.Beats.{beat_in}
 use Rattle.stage_core.specs.Lasting.{beat_lasts}
-use Rattle.stage_core.proofs.Growing.{extends_twice, grows_twice, grows_fewer, waiting_within}
+use Rattle.net_parts.specs.Laws.{extends_twice, grows_twice, grows_fewer, waiting_within, adds_grow}
 use Rattle.st_timing.proofs.delay.ReadyDelayStage.emit_forward.Goals as goal
-
-pub returns-in_err-ready-clause-grows : goal.returns-in_err-ready-clause-grows
-returns-in_err-ready-clause-grows c = grows_fewer _ _ _ _ (omega arith) (grows_twice _ _ _ _ _ c.make_history.ensures.grows c.ready_before.ensures.adds.grows)
-
-pub returns-in_err-valid-clause-grows : goal.returns-in_err-valid-clause-grows
-returns-in_err-valid-clause-grows c = grows_twice _ _ _ _ _ (grows_twice _ _ _ _ _ c.make_history.ensures.grows c.ready_before.ensures.adds.grows) c.transfers.ensures.adds.grows
-
-pub returns-clause-grows : goal.returns-clause-grows
-returns-clause-grows c = grows_twice _ _ _ _ _ (grows_twice _ _ _ _ _ c.make_history.ensures.grows c.ready_before.ensures.adds.grows) c.transfers.ensures.adds.grows
 
 pub returns-clause-owned : goal.returns-clause-owned
 returns-clause-owned c n o =
     let number = c.in_ok-history.ensures.number in
     let within = waiting_within _ _ c.in_ok-history.ensures.history.waits in
-    let one = c.ready_before.ensures.adds.grows.extends.count in
+    let one = c.bit_before.ensures.adds.grows.extends.count in
     let two = c.transfers.ensures.adds.grows.extends.count in
     (omega (arith, o, number), omega (arith, o, within, one, two))
 
 pub returns-clause-beat : goal.returns-clause-beat
 returns-clause-beat c =
-    let more = extends_twice _ _ _ c.make_history.ensures.grows.extends (extends_twice _ _ _ c.ready_before.ensures.adds.grows.extends c.transfers.ensures.adds.grows.extends) in
+    let more = extends_twice _ _ _ c.make_history.ensures.grows.extends (extends_twice _ _ _ c.bit_before.ensures.adds.grows.extends c.transfers.ensures.adds.grows.extends) in
     let from = beat_lasts _ _ _ more c.requires.from in
     rw c.copied.ensures (record { valid = c.in_ok-valid.ensures.net; word = from.word; channel = from.channel; error = from.error; first = from.first; last = from.last; empty = from.empty })
 
 pub returns-clause-made : goal.returns-clause-made
 returns-clause-made c =
-    let more = extends_twice _ _ _ c.ready_before.ensures.adds.grows.extends c.transfers.ensures.adds.grows.extends in
+    let more = extends_twice _ _ _ c.bit_before.ensures.adds.grows.extends c.transfers.ensures.adds.grows.extends in
     let some = c.if-self-eq0.false in
     record {
       some = omega (arith, some);

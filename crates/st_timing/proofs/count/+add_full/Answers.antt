@@ -2,10 +2,11 @@ use Rattle.std.proofs.Common.{◌≡◌, ◌+◌, List, ◌∷◌, length, sym, 
 use Rattle.std.proofs.lemmas.List.{nil_from_length}
 use Rattle.netlist.specs.Runs.{Always}
 use Rattle.stage_core.specs.declared.beat.BeatNets.{BeatNets}
-use Rattle.stage_core.proofs.Growing.{adds_twice, adds_fewer, bit_fits, if_ok}
+use Rattle.net_parts.specs.Laws.{adds_twice, adds_fewer, bit_fits, if_ok}
 use Rattle.st_timing.specs.CountNets.{full_count, HaveValid}
-use Rattle.st_timing.proofs.Counting.{bit_high, zeros_last, valid_last}
-use Rattle.st_timing.proofs.count.+count_full.Goals as goal
+use Rattle.st_timing.proofs.Counting.{bit_high, valid_last}
+use Rattle.net_parts.specs.Counts.{zeros_last}
+use Rattle.st_timing.proofs.count.+add_full.Goals as goal
 
 pub returns-in-None-clause-value : goal.returns-in-None-clause-value
 returns-in-None-clause-value t c cycle v =
@@ -20,8 +21,8 @@ add_bit-requires-clause-small t c cycle v =
 pub add_bit-requires-clause-bit : goal.add_bit-requires-clause-bit
 add_bit-requires-clause-bit t c = (subst (HaveValid c.args.builder.now) c.in-Some.ensures.cases.0 c.requires.row).0
 
-pub count_full-requires : goal.count_full-requires
-count_full-requires t c =
+pub add_full-requires : goal.add_full-requires
+add_full-requires t c =
     let count : length c.args.row.now ≡ length (c.in-Some.place.now ∷ c.in-Some.rest.now) = ap length c.in-Some.ensures.cases.0 in
     let row = subst (HaveValid c.args.builder.now) c.in-Some.ensures.cases.0 c.requires.row in
     let more = c.add_bit.ensures.adds.grows.extends in
@@ -47,23 +48,13 @@ count_full-requires t c =
 pub returns-in_ok-more-in-Some-clause-value : goal.returns-in_ok-more-in-Some-clause-value
 returns-in_ok-more-in-Some-clause-value t c =
     let row = subst (HaveValid c.args.builder.now) c.in-Some.ensures.cases.0 c.requires.row in
-    if_ok c.count_full.result _ (λ total. Always c.count_full.new.builder (λ cycle. cycle.net total.number ≡ cycle.net c.args.sum.number + full_count cycle c.args.row.now))
+    if_ok c.add_full.result _ (λ total. Always c.add_full.new.builder (λ cycle. cycle.net total.number ≡ cycle.net c.args.sum.number + full_count cycle c.args.row.now))
     (λ total value cycle v2. (
-    let v1 = c.count_full.ensures.adds.grows.extends.valuations cycle v2 in
+    let v1 = c.add_full.ensures.adds.grows.extends.valuations cycle v2 in
     let v0 = c.add_bit.ensures.adds.grows.extends.valuations cycle v1 in
     let one = bit_high (cycle.net c.in-Some.place.now.valid.number) (bit_fits _ _ row.0 cycle v0) in
     let more = c.in_ok-more-in-Some.ensures.value cycle v1 in
     let all = value cycle v2 in
     let places = ap (full_count cycle) c.in-Some.ensures.cases.0 in
     omega (arith, one, more, all, places)))
-    c.count_full.ensures.value
-
-pub returns-in_ok-more-in-Some-clause-adds : goal.returns-in_ok-more-in-Some-clause-adds
-returns-in_ok-more-in-Some-clause-adds t c =
-    let count : length c.args.row.now ≡ length (c.in-Some.place.now ∷ c.in-Some.rest.now) = ap length c.in-Some.ensures.cases.0 in
-    adds_fewer _ _ _ _ (omega (arith, count)) (adds_twice _ _ _ _ _ c.add_bit.ensures.adds c.count_full.ensures.adds)
-
-pub returns-in_err-more-in-Some-clause-adds : goal.returns-in_err-more-in-Some-clause-adds
-returns-in_err-more-in-Some-clause-adds t c =
-    let count : length c.args.row.now ≡ length (c.in-Some.place.now ∷ c.in-Some.rest.now) = ap length c.in-Some.ensures.cases.0 in
-    adds_fewer _ _ _ _ (omega (arith, count)) c.add_bit.ensures.adds
+    c.add_full.ensures.value
