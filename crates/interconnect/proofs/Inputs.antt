@@ -14,8 +14,8 @@ use Rattle.link_rules.specs.Links.{streams_of}
 use Rattle.netlist.specs.declared.line.PortLine.{PortLine}
 use Rattle.netlist.specs.Nets.{NetValue, net_of}
 use Rattle.netlist.specs.Netlists.{Netlist, IsInputPort, input_count, input_net}
-use Rattle.stage_core.specs.Beats.{IsNetOfWidth}
-use Rattle.stage_core.specs.Growth.{GrowsBy, StillWait}
+use Rattle.net_parts.specs.Nets.{IsNetOfWidth}
+use Rattle.net_parts.specs.Growth.{GrowsBy, StillWait}
 use Rattle.stream_path.specs.Joining.{declared, CanJoin}
 use Rattle.stream_path.specs.Ends.{IsNetIf, AreSourceNets, ArePathNets}
 use Rattle.stream_path.specs.Serving.{most_nets, ServesInLonger}

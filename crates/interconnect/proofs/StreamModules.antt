@@ -23,7 +23,7 @@ use Rattle.netlist.specs.declared.line.Memory.{Memory}
 use Rattle.netlist.specs.declared.line.Equation.TheVariants.{Input}
 use Rattle.netlist.specs.Nets.{NetValue, net_of}
 use Rattle.netlist.specs.Netlists.{Netlist, IsDriven, IsClocked, IsWritten, IsWellMade, driver_of, input_count, input_lines, line_of, started, appended}
-use Rattle.stage_core.specs.Growth.{StillWait}
+use Rattle.net_parts.specs.Growth.{StillWait}
 use Rattle.stream_path.specs.Joining.{declared}
 use Rattle.port_tables.specs.declared.roles.Role.TheVariants as role
 use Rattle.port_tables.specs.declared.roles.RolePort.{RolePort}

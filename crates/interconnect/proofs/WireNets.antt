@@ -9,8 +9,8 @@ use Rattle.netlist.specs.Runs.{Run}
 use Rattle.stream_runs.specs.Source.{IsLegalSource}
 use Rattle.stream_runs.specs.Delivery.{IsServed}
 use Rattle.stream_runs.specs.Ends.{Declared, Signals, AreAlike, IsWire as IsWireRun, side_of, view_of, stream_of, run_of}
-use Rattle.stage_core.specs.Beats.{IsNetOfWidth, IsBit}
-use Rattle.stage_core.specs.Growth.{GrowsBy}
+use Rattle.net_parts.specs.Nets.{IsNetOfWidth, IsBit}
+use Rattle.net_parts.specs.Growth.{GrowsBy}
 use Rattle.stream_path.specs.Ends.{IsNetIf, IsNetWhere, AreSourceNets, ArePathNets, signal_on, signal_of, signal_where, source_signals, sink_signals}
 use Rattle.stream_path.specs.Serving.{ServesInLonger}
 use Rattle.stream_path.specs.declared.ends.SourceNets.{SourceNets}

@@ -9,7 +9,7 @@ use Rattle.netlist.specs.declared.line.Line.{Line}
 use Rattle.netlist.specs.Nets.{NetValue, net_of}
 use Rattle.netlist.specs.Netlists.{Netlist, IsNet, IsInputPort, IsOutputPort, IsClocked, IsWritten, driver_of, input_count, input_net, appended}
 use Rattle.stream_runs.specs.Ends.{Declared}
-use Rattle.stage_core.specs.Growth.{GrowsBy, StillWait}
+use Rattle.net_parts.specs.Growth.{GrowsBy, StillWait}
 use Rattle.stream_path.specs.Joining.{declared}
 use Rattle.stream_path.specs.Ends.{ArePathNets}
 use Rattle.stream_path.specs.Serving.{most_nets, ServesInLonger}

@@ -7,14 +7,13 @@ use Rattle.netlist.specs.Netlists.{Netlist, IsNet}
 use Rattle.netlist.specs.Longer.{Extends}
 use Rattle.stream_runs.specs.Ends.{Declared, side_of}
 use Rattle.stage_core.specs.declared.stream.StreamNets.{StreamNets}
-use Rattle.stage_core.specs.Beats.{widths_of, IsBit, AreBeatNets}
+use Rattle.stage_core.specs.Beats.{widths_of, AreBeatNets}
+use Rattle.net_parts.specs.Nets.{IsBit}
+use Rattle.net_parts.specs.Laws.{net_lasts}
 use Rattle.stream_path.specs.declared.ends.SourceNets.{SourceNets}
 use Rattle.stream_path.specs.Joining.{FitsPorts}
 use Rattle.stream_path.specs.Ends.{IsNetIf, AreSourceNets, IsNetWhere, ArePathNets}
 use Rattle.stream_path.specs.Between.{beat_of, IsReadyOf, FitSide, AreStageNets}
-
-pub bit_lasts : (old new : Netlist) (net : NetValue) → Extends old new → IsBit old net → IsBit new net
-bit_lasts old new net e h = record { is_net = e.nets net.number net.width h.is_net; has_width = h.has_width }
 
 port_net : (present : Bool) (width : ℕ) (old new : Netlist) (port : Option NetValue) (low : NetValue) → Extends old new → IsBit new low → IsNetIf present width old port → IsNet new (unwrap_or port low)
 port_net true width old new (Some net) low e bit h = e.nets net.number net.width h.is_net
@@ -22,13 +21,13 @@ port_net true width old new None low e bit h = absurd h
 port_net false width old new port low e bit h = subst (λ o. IsNet new (unwrap_or o low)) (sym h) bit.is_net
 
 port_bit : (present : Bool) (old new : Netlist) (port : Option NetValue) (low : NetValue) → Extends old new → IsBit new low → IsNetIf present 1 old port → IsBit new (unwrap_or port low)
-port_bit true old new (Some net) low e bit h = bit_lasts old new net e h
+port_bit true old new (Some net) low e bit h = net_lasts old new net 1 e h
 port_bit true old new None low e bit h = absurd h
 port_bit false old new port low e bit h = subst (λ o. IsBit new (unwrap_or o low)) (sym h) bit
 
 pub beat_nets : (old new : Netlist) (source : Declared) (from : SourceNets) (low : NetValue) → Extends old new → IsBit new low → AreSourceNets old source from → AreBeatNets new (beat_of from low)
 beat_nets old new source from low e bit h = record {
-  valid = bit_lasts old new from.valid e h.valid;
+  valid = net_lasts old new from.valid 1 e h.valid;
   word = e.nets from.word.number from.word.width h.word.is_net;
   channel = port_net (nat_lt 0 source.channel_bits) source.channel_bits old new from.channel low e bit h.channel;
   error = port_net (nat_lt 0 source.error_bits) source.error_bits old new from.error low e bit h.error;
@@ -74,13 +73,13 @@ where_lasts false bits old new net e h = tt
 pub path_nets : (old middle new : Netlist) (source sink : Declared) (made : StreamNets) (fitted dropped : NetValue) → Extends old new → Extends middle new → AreStageNets old source sink made
     → IsNetWhere (nat_lt 0 sink.empty_bits) sink.empty_bits middle fitted → IsBit new dropped → ArePathNets new sink (record { ready = made.ready; beat = record made.beat { empty = fitted }; dropped = dropped })
 path_nets old middle new source sink made fitted dropped e more stage fits bit = record {
-  ready = bit_lasts old new made.ready e stage.ready;
-  valid = bit_lasts old new made.beat.valid e stage.beat.valid;
+  ready = net_lasts old new made.ready 1 e stage.ready;
+  valid = net_lasts old new made.beat.valid 1 e stage.beat.valid;
   word = record { is_net = e.nets _ _ stage.beat.word; has_width = stage.widths.word };
   channel = driven_net sink.channel_bits new made.beat.channel (λ some. (let wide = stage.widths.channel in omega (arith, wide, some))) (e.nets _ _ stage.beat.channel);
   error = driven_net sink.error_bits new made.beat.error stage.widths.error (e.nets _ _ stage.beat.error);
-  startofpacket = bit_lasts old new made.beat.first e stage.beat.first;
-  endofpacket = bit_lasts old new made.beat.last e stage.beat.last;
+  startofpacket = net_lasts old new made.beat.first 1 e stage.beat.first;
+  endofpacket = net_lasts old new made.beat.last 1 e stage.beat.last;
   empty = where_lasts (nat_lt 0 sink.empty_bits) sink.empty_bits middle new fitted more fits;
   dropped = bit;
 }

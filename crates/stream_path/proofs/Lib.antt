@@ -1,4 +1,3 @@
-pub mod Growing
 pub mod AlwaysReady
 pub mod Fronts
 pub mod Formats

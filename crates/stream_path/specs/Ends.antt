@@ -4,7 +4,7 @@ use Rattle.netlist.specs.Nets.{NetValue}
 use Rattle.netlist.specs.Netlists.{Netlist}
 use Rattle.netlist.specs.Runs.{Run}
 use Rattle.stream_runs.specs.Ends.{Declared, Signals}
-use Rattle.stage_core.specs.Beats.{IsNetOfWidth, IsBit}
+use Rattle.net_parts.specs.Nets.{IsNetOfWidth, IsBit}
 use Rattle.stream_path.specs.declared.ends.SourceNets.{SourceNets}
 use Rattle.stream_path.specs.declared.ends.PathNets.{PathNets}
 

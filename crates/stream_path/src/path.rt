@@ -1,8 +1,9 @@
 ghost use Rattle.std.specs.Prelude.{◌≡◌, ◌+◌, ◌%◌, ◌^◌, ◌<◌, ◌≤◌, ◌==◌, ◌||◌, nat_lt, max, length, IfOk, OnOk, IfSome, IsTrue, if◌then◌else◌};
 ghost use Rattle.netlist.specs.Netlists.{IsNet};
 ghost use Rattle.netlist.specs.Runs.{Always};
-ghost use Rattle.stage_core.specs.Beats.{IsBit, AreBeatNets};
-ghost use Rattle.stage_core.specs.Growth.{GrowsBy, StillWait, AddsNets};
+ghost use Rattle.net_parts.specs.Nets.{IsBit};
+ghost use Rattle.stage_core.specs.Beats.{AreBeatNets};
+ghost use Rattle.net_parts.specs.Growth.{GrowsBy, StillWait, AddsNets};
 ghost use Rattle.stream_path.specs.Joining.{declared, CanJoin};
 ghost use Rattle.stream_path.specs.Ends.{IsNetIf, AreSourceNets, IsNetWhere, ArePathNets};
 ghost use Rattle.stream_path.specs.Serving.{most_nets, ServesInLonger};
@@ -10,10 +11,9 @@ ghost use Rattle.stream_path.specs.Between.{most_delay_nets, beat_of, IsReadyOf,
 
 use crate::ends::{PathNets, SourceNets};
 use crate::stages::{Joint, emit_stages, filter_of};
-use av_base::Val;
 use iface_roles::{SinkPort, SourcePort};
-use netlist::{Builder, Net, NetFault, goes_on, keeps};
-use st_channel::fit_bits;
+use net_parts::{fit_bits, level};
+use netlist::{Builder, Net, NetFault, goes_on};
 use stage_core::BeatNets;
 use std::alloc::Global;
 use stream_machines::machines::tie_is_a_stage;
@@ -34,17 +34,8 @@ fn beat_of(from: &SourceNets, low: Net) -> BeatNets
     }
 }
 
-/// A net of one bit that always has this level.
-fn level(builder: &mut Builder, high: bool) -> Result<Net, NetFault>
-    ensures net { IfOk result (λ net. IsBit builder.new net) }
-    ensures value { IfOk result (λ net. Always builder.new (λ cycle. cycle.net net.number ≡ (if high then 1 else 0))) }
-    ensures adds { AddsNets 1 builder.old builder.new }
-    ensures full { result ≡ Err NetFault.TooManyNets → 2 ^ 20 < length builder.old.lines + 1 }
-{
-    builder.constant(Val::new(1, u128::from(high)).unwrap())
-}
-
 /// The ready of a sink: always high where it has no such port.
+#[tactic(auto, using(net_parts::specs::Laws::growing))]
 fn ready_or_high(builder: &mut Builder, ready: Option<Net>) -> Result<Net, NetFault>
     requires port { IfSome ready (IsBit builder.old) }
     ensures net { IfOk result (λ net. IsBit builder.new net) }
@@ -59,6 +50,7 @@ fn ready_or_high(builder: &mut Builder, ready: Option<Net>) -> Result<Net, NetFa
 }
 
 /// Shows in one bit that a beat on a channel above the sink's is accepted; never where the source has none.
+#[tactic(auto, using(net_parts::specs::Laws::growing))]
 fn emit_dropped(
     builder: &mut Builder,
     source: &SourcePort,
@@ -85,6 +77,7 @@ fn emit_dropped(
 }
 
 /// `empty` with the bits of the sink's port, cut or with zeros above it; as it is without that port.
+#[tactic(auto, using(net_parts::specs::Laws::growing))]
 fn fit_empty(builder: &mut Builder, empty: Net, bits: u8) -> Result<Net, NetFault>
     requires empty { IsNet builder.old empty }
     requires few { bits ≤ 8 }
@@ -101,6 +94,7 @@ fn fit_empty(builder: &mut Builder, empty: Net, bits: u8) -> Result<Net, NetFaul
 }
 
 /// The beat with an `empty` of the sink's bits.
+#[tactic(auto, using(net_parts::specs::Laws::growing))]
 fn fit_beat(builder: &mut Builder, beat: &BeatNets, bits: u8) -> Result<BeatNets, NetFault>
     requires empty { IsNet builder.old beat.now.empty }
     requires few { bits ≤ 8 }
@@ -119,6 +113,7 @@ fn fit_beat(builder: &mut Builder, beat: &BeatNets, bits: u8) -> Result<BeatNets
 
 /// Makes what stands between a source and a sink, with a queue of so many beats before the sink.
 /// `ready` is the net of the sink's port, None where it has none. After an error the builder is to be dropped.
+#[tactic(auto, using(net_parts::specs::Laws::growing))]
 pub fn emit_path(
     alloc: Global,
     builder: &mut Builder,
@@ -146,7 +141,6 @@ pub fn emit_path(
     // Memory may run out at any net.
     ensures full { result ≡ Err NetFault.TooManyNets → 2 ^ 20 < length builder.old.lines + most_nets }
 {
-    keeps();
     goes_on();
     same_beginnings();
     tie_is_a_stage();

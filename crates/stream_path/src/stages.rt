@@ -5,8 +5,9 @@ ghost use Rattle.std.specs.Prelude.{◌≡◌, ◌+◌, ◌*◌, ◌^◌, ◌<�
 ghost use Rattle.stream_runs.specs.View.{Side};
 ghost use Rattle.stream_runs.specs.Ends.{pace_of, side_of};
 ghost use Rattle.stream_machines.specs.Wires.{wire_shape};
-ghost use Rattle.stage_core.specs.Beats.{widths_of, IsBit, AreBeatNets};
-ghost use Rattle.stage_core.specs.Growth.{GrowsBy, StillWait};
+ghost use Rattle.stage_core.specs.Beats.{widths_of, AreBeatNets};
+ghost use Rattle.net_parts.specs.Nets.{IsBit};
+ghost use Rattle.net_parts.specs.Growth.{GrowsBy, StillWait};
 ghost use Rattle.st_channel.specs.FilterNets.{IsFilterShape};
 ghost use Rattle.st_channel.specs.Ports.{HasChannels};
 ghost use Rattle.stream_path.specs.Joining.{declared, HaveOneForm, CanJoin};

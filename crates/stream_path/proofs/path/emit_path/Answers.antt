@@ -5,78 +5,78 @@ use Rattle.stream_path.specs.Ends.{ArePathNets}
 use Rattle.stream_path.specs.Serving.{ServesInLonger}
 use Rattle.stream_path.specs.Joining.{declared}
 use Rattle.stream_path.specs.Between.{CarriesStream, ShowsUnreached}
-use Rattle.stream_path.proofs.Growing.{extends_self, extends_twice, at_most, grows_more}
-use Rattle.stream_path.proofs.EndNets.{bit_lasts, beat_nets, path_nets, ready_lasts, empty_width, fits_few, fits_none, drops_few, drops_none}
+use Rattle.net_parts.specs.Laws.{extends_none, extends_twice, grows_fewer, grows_within, adds_grow, net_lasts}
+use Rattle.stream_path.proofs.EndNets.{beat_nets, path_nets, ready_lasts, empty_width, fits_few, fits_none, drops_few, drops_none}
 use Rattle.stream_path.proofs.Runs.{serves_in_longer, carries_longer}
 use Rattle.stream_path.proofs.path.emit_path.Goals as goal
 
 pub returns-in_err-high-clause-grows : goal.returns-in_err-high-clause-grows
-returns-in_err-high-clause-grows c = grows_more c.keeps.ensures.chain 1 1 8000 _ _ _ (omega arith) c.level.ensures.adds.grows c.ready_or_high.ensures.adds.grows
+returns-in_err-high-clause-grows c = grows_within 1 1 8000 _ _ _ (omega arith) (adds_grow _ _ _ c.level.ensures.adds) (adds_grow _ _ _ c.ready_or_high.ensures.adds)
 
 pub returns-in_err-high-clause-few : goal.returns-in_err-high-clause-few
-returns-in_err-high-clause-few c enough = grows_more c.keeps.ensures.chain 1 1 7 _ _ _ (omega arith) c.level.ensures.adds.grows c.ready_or_high.ensures.adds.grows
+returns-in_err-high-clause-few c enough = grows_within 1 1 7 _ _ _ (omega arith) (adds_grow _ _ _ c.level.ensures.adds) (adds_grow _ _ _ c.ready_or_high.ensures.adds)
 
 pub emit_stages-requires-clause-from : goal.emit_stages-requires-clause-from
 emit_stages-requires-clause-from c =
-    let longer = (grows_more c.keeps.ensures.chain 1 1 2 _ _ _ (omega arith) c.level.ensures.adds.grows c.ready_or_high.ensures.adds.grows) in
-    let low = bit_lasts _ _ c.in_ok-low.low c.ready_or_high.ensures.adds.grows.extends c.in_ok-low.ensures.net in
+    let longer = (grows_within 1 1 2 _ _ _ (omega arith) (adds_grow _ _ _ c.level.ensures.adds) (adds_grow _ _ _ c.ready_or_high.ensures.adds)) in
+    let low = net_lasts _ _ c.in_ok-low.low 1 c.ready_or_high.ensures.adds.grows.extends c.in_ok-low.ensures.net in
     subst (λ (beat : BeatNets). AreBeatNets c.ready_or_high.new.builder beat) (sym (c.copied.ensures ∙ c.beat_of-start.ensures))
     (beat_nets c.args.builder.now c.ready_or_high.new.builder (declared c.args.source.now) c.args.from.now c.in_ok-low.low longer.extends low c.requires.from)
 
 pub returns-in_err-made-clause-grows : goal.returns-in_err-made-clause-grows
-returns-in_err-made-clause-grows c = grows_more c.keeps.ensures.chain 2 7992 8000 _ _ _ (omega arith) (grows_more c.keeps.ensures.chain 1 1 2 _ _ _ (omega arith) c.level.ensures.adds.grows c.ready_or_high.ensures.adds.grows) c.emit_stages.ensures.grows
+returns-in_err-made-clause-grows c = grows_within 2 7992 8000 _ _ _ (omega arith) (grows_within 1 1 2 _ _ _ (omega arith) (adds_grow _ _ _ c.level.ensures.adds) (adds_grow _ _ _ c.ready_or_high.ensures.adds)) c.emit_stages.ensures.grows
 
 pub returns-in_err-made-clause-few : goal.returns-in_err-made-clause-few
-returns-in_err-made-clause-few c enough = grows_more c.keeps.ensures.chain 2 5 7 _ _ _ (omega arith) (grows_more c.keeps.ensures.chain 1 1 2 _ _ _ (omega arith) c.level.ensures.adds.grows c.ready_or_high.ensures.adds.grows) (c.emit_stages.ensures.few enough)
+returns-in_err-made-clause-few c enough = grows_within 2 5 7 _ _ _ (omega arith) (grows_within 1 1 2 _ _ _ (omega arith) (adds_grow _ _ _ c.level.ensures.adds) (adds_grow _ _ _ c.ready_or_high.ensures.adds)) (c.emit_stages.ensures.few enough)
 
 pub returns-in_err-beat-clause-grows : goal.returns-in_err-beat-clause-grows
-returns-in_err-beat-clause-grows c = grows_more c.keeps.ensures.chain 7994 _ 8000 _ _ _ (let few = fits_few c.args.sink.now.empty_bits c.in_ok-made.made.beat.empty.width in omega (arith, few)) (grows_more c.keeps.ensures.chain 2 7992 7994 _ _ _ (omega arith) (grows_more c.keeps.ensures.chain 1 1 2 _ _ _ (omega arith) c.level.ensures.adds.grows c.ready_or_high.ensures.adds.grows) c.emit_stages.ensures.grows) c.fit_beat.ensures.adds.grows
+returns-in_err-beat-clause-grows c = grows_within 7994 _ 8000 _ _ _ (let few = fits_few c.args.sink.now.empty_bits c.in_ok-made.made.beat.empty.width in omega (arith, few)) (grows_within 2 7992 7994 _ _ _ (omega arith) (grows_within 1 1 2 _ _ _ (omega arith) (adds_grow _ _ _ c.level.ensures.adds) (adds_grow _ _ _ c.ready_or_high.ensures.adds)) c.emit_stages.ensures.grows) (adds_grow _ _ _ c.fit_beat.ensures.adds)
 
 pub returns-in_err-beat-clause-few : goal.returns-in_err-beat-clause-few
-returns-in_err-beat-clause-few c enough = grows_more c.keeps.ensures.chain 7 _ 7 _ _ _ (let none = fits_none c.args.sink.now.empty_bits c.in_ok-made.made.beat.empty.width (λ some. ap (λ (w : Widths). w.empty) (c.in_ok-made.ensures.same_widths enough) ∙ ap (λ (beat : BeatNets). beat.empty.width) (c.copied.ensures ∙ c.beat_of-start.ensures) ∙ (let bits = enough.form.empty_bits in let wide = empty_width c.args.builder.now (declared c.args.source.now) c.args.from.now c.in_ok-low.low c.in_ok-low.ensures.net.has_width c.requires.from (omega (arith, some, bits)) in wide ∙ bits)) in omega (arith, none)) (grows_more c.keeps.ensures.chain 2 5 7 _ _ _ (omega arith) (grows_more c.keeps.ensures.chain 1 1 2 _ _ _ (omega arith) c.level.ensures.adds.grows c.ready_or_high.ensures.adds.grows) (c.emit_stages.ensures.few enough)) c.fit_beat.ensures.adds.grows
+returns-in_err-beat-clause-few c enough = grows_within 7 _ 7 _ _ _ (let none = fits_none c.args.sink.now.empty_bits c.in_ok-made.made.beat.empty.width (λ some. ap (λ (w : Widths). w.empty) (c.in_ok-made.ensures.same_widths enough) ∙ ap (λ (beat : BeatNets). beat.empty.width) (c.copied.ensures ∙ c.beat_of-start.ensures) ∙ (let bits = enough.form.empty_bits in let wide = empty_width c.args.builder.now (declared c.args.source.now) c.args.from.now c.in_ok-low.low c.in_ok-low.ensures.net.has_width c.requires.from (omega (arith, some, bits)) in wide ∙ bits)) in omega (arith, none)) (grows_within 2 5 7 _ _ _ (omega arith) (grows_within 1 1 2 _ _ _ (omega arith) (adds_grow _ _ _ c.level.ensures.adds) (adds_grow _ _ _ c.ready_or_high.ensures.adds)) (c.emit_stages.ensures.few enough)) (adds_grow _ _ _ c.fit_beat.ensures.adds)
 
 pub returns-in_err-beat-clause-waits : goal.returns-in_err-beat-clause-waits
-returns-in_err-beat-clause-waits c n w = c.fit_beat.ensures.adds.waits n (c.emit_stages.ensures.waits n (c.ready_or_high.ensures.adds.waits n (c.level.ensures.adds.waits n w)))
+returns-in_err-beat-clause-waits c n w = c.fit_beat.ensures.adds.grows.waits n (c.emit_stages.ensures.waits n (c.ready_or_high.ensures.adds.grows.waits n (c.level.ensures.adds.grows.waits n w)))
 
 pub emit_dropped-requires-clause-from : goal.emit_dropped-requires-clause-from
 emit_dropped-requires-clause-from c =
-    let longer = (grows_more c.keeps.ensures.chain 7994 _ 7996 _ _ _ (let few = fits_few c.args.sink.now.empty_bits c.in_ok-made.made.beat.empty.width in omega (arith, few)) (grows_more c.keeps.ensures.chain 2 7992 7994 _ _ _ (omega arith) (grows_more c.keeps.ensures.chain 1 1 2 _ _ _ (omega arith) c.level.ensures.adds.grows c.ready_or_high.ensures.adds.grows) c.emit_stages.ensures.grows) c.fit_beat.ensures.adds.grows) in
+    let longer = (grows_within 7994 _ 7996 _ _ _ (let few = fits_few c.args.sink.now.empty_bits c.in_ok-made.made.beat.empty.width in omega (arith, few)) (grows_within 2 7992 7994 _ _ _ (omega arith) (grows_within 1 1 2 _ _ _ (omega arith) (adds_grow _ _ _ c.level.ensures.adds) (adds_grow _ _ _ c.ready_or_high.ensures.adds)) c.emit_stages.ensures.grows) (adds_grow _ _ _ c.fit_beat.ensures.adds)) in
     subst (λ (beat : BeatNets). AreBeatNets c.fit_beat.new.builder beat) (sym c.beat_of-start.ensures)
-    (beat_nets c.args.builder.now c.fit_beat.new.builder (declared c.args.source.now) c.args.from.now c.in_ok-low.low longer.extends (bit_lasts _ _ c.in_ok-low.low c.fit_beat.ensures.adds.grows.extends (bit_lasts _ _ c.in_ok-low.low c.emit_stages.ensures.grows.extends (bit_lasts _ _ c.in_ok-low.low c.ready_or_high.ensures.adds.grows.extends c.in_ok-low.ensures.net))) c.requires.from)
+    (beat_nets c.args.builder.now c.fit_beat.new.builder (declared c.args.source.now) c.args.from.now c.in_ok-low.low longer.extends (net_lasts _ _ c.in_ok-low.low 1 c.fit_beat.ensures.adds.grows.extends (net_lasts _ _ c.in_ok-low.low 1 c.emit_stages.ensures.grows.extends (net_lasts _ _ c.in_ok-low.low 1 c.ready_or_high.ensures.adds.grows.extends c.in_ok-low.ensures.net))) c.requires.from)
 
 pub emit_dropped-requires-clause-ready : goal.emit_dropped-requires-clause-ready
-emit_dropped-requires-clause-ready c = bit_lasts _ _ c.in_ok-made.made.ready c.fit_beat.ensures.adds.grows.extends c.in_ok-made.ensures.nets.ready
+emit_dropped-requires-clause-ready c = net_lasts _ _ c.in_ok-made.made.ready 1 c.fit_beat.ensures.adds.grows.extends c.in_ok-made.ensures.nets.ready
 
 pub emit_dropped-requires-clause-low : goal.emit_dropped-requires-clause-low
-emit_dropped-requires-clause-low c = bit_lasts _ _ c.in_ok-low.low c.fit_beat.ensures.adds.grows.extends (bit_lasts _ _ c.in_ok-low.low c.emit_stages.ensures.grows.extends (bit_lasts _ _ c.in_ok-low.low c.ready_or_high.ensures.adds.grows.extends c.in_ok-low.ensures.net))
+emit_dropped-requires-clause-low c = net_lasts _ _ c.in_ok-low.low 1 c.fit_beat.ensures.adds.grows.extends (net_lasts _ _ c.in_ok-low.low 1 c.emit_stages.ensures.grows.extends (net_lasts _ _ c.in_ok-low.low 1 c.ready_or_high.ensures.adds.grows.extends c.in_ok-low.ensures.net))
 
 pub emit_dropped-requires-clause-is_low : goal.emit_dropped-requires-clause-is_low
 emit_dropped-requires-clause-is_low c cycle v = c.in_ok-low.ensures.value cycle (c.ready_or_high.ensures.adds.grows.extends.valuations cycle (c.emit_stages.ensures.grows.extends.valuations cycle (c.fit_beat.ensures.adds.grows.extends.valuations cycle v)))
 
 pub returns-in_err-dropped-clause-grows : goal.returns-in_err-dropped-clause-grows
-returns-in_err-dropped-clause-grows c = grows_more c.keeps.ensures.chain 7996 _ 8000 _ _ _ (let few = drops_few c.args.sink.now.max_channel c.args.source.now.max_channel in omega (arith, few)) (grows_more c.keeps.ensures.chain 7994 _ 7996 _ _ _ (let few = fits_few c.args.sink.now.empty_bits c.in_ok-made.made.beat.empty.width in omega (arith, few)) (grows_more c.keeps.ensures.chain 2 7992 7994 _ _ _ (omega arith) (grows_more c.keeps.ensures.chain 1 1 2 _ _ _ (omega arith) c.level.ensures.adds.grows c.ready_or_high.ensures.adds.grows) c.emit_stages.ensures.grows) c.fit_beat.ensures.adds.grows) c.emit_dropped.ensures.adds.grows
+returns-in_err-dropped-clause-grows c = grows_within 7996 _ 8000 _ _ _ (let few = drops_few c.args.sink.now.max_channel c.args.source.now.max_channel in omega (arith, few)) (grows_within 7994 _ 7996 _ _ _ (let few = fits_few c.args.sink.now.empty_bits c.in_ok-made.made.beat.empty.width in omega (arith, few)) (grows_within 2 7992 7994 _ _ _ (omega arith) (grows_within 1 1 2 _ _ _ (omega arith) (adds_grow _ _ _ c.level.ensures.adds) (adds_grow _ _ _ c.ready_or_high.ensures.adds)) c.emit_stages.ensures.grows) (adds_grow _ _ _ c.fit_beat.ensures.adds)) (adds_grow _ _ _ c.emit_dropped.ensures.adds)
 
 pub returns-in_err-dropped-clause-few : goal.returns-in_err-dropped-clause-few
-returns-in_err-dropped-clause-few c enough = grows_more c.keeps.ensures.chain 7 _ 7 _ _ _ (let none = drops_none c.args.sink.now.max_channel c.args.source.now.max_channel enough.form.max_channel in omega (arith, none)) (grows_more c.keeps.ensures.chain 7 _ 7 _ _ _ (let none = fits_none c.args.sink.now.empty_bits c.in_ok-made.made.beat.empty.width (λ some. ap (λ (w : Widths). w.empty) (c.in_ok-made.ensures.same_widths enough) ∙ ap (λ (beat : BeatNets). beat.empty.width) (c.copied.ensures ∙ c.beat_of-start.ensures) ∙ (let bits = enough.form.empty_bits in let wide = empty_width c.args.builder.now (declared c.args.source.now) c.args.from.now c.in_ok-low.low c.in_ok-low.ensures.net.has_width c.requires.from (omega (arith, some, bits)) in wide ∙ bits)) in omega (arith, none)) (grows_more c.keeps.ensures.chain 2 5 7 _ _ _ (omega arith) (grows_more c.keeps.ensures.chain 1 1 2 _ _ _ (omega arith) c.level.ensures.adds.grows c.ready_or_high.ensures.adds.grows) (c.emit_stages.ensures.few enough)) c.fit_beat.ensures.adds.grows) c.emit_dropped.ensures.adds.grows
+returns-in_err-dropped-clause-few c enough = grows_within 7 _ 7 _ _ _ (let none = drops_none c.args.sink.now.max_channel c.args.source.now.max_channel enough.form.max_channel in omega (arith, none)) (grows_within 7 _ 7 _ _ _ (let none = fits_none c.args.sink.now.empty_bits c.in_ok-made.made.beat.empty.width (λ some. ap (λ (w : Widths). w.empty) (c.in_ok-made.ensures.same_widths enough) ∙ ap (λ (beat : BeatNets). beat.empty.width) (c.copied.ensures ∙ c.beat_of-start.ensures) ∙ (let bits = enough.form.empty_bits in let wide = empty_width c.args.builder.now (declared c.args.source.now) c.args.from.now c.in_ok-low.low c.in_ok-low.ensures.net.has_width c.requires.from (omega (arith, some, bits)) in wide ∙ bits)) in omega (arith, none)) (grows_within 2 5 7 _ _ _ (omega arith) (grows_within 1 1 2 _ _ _ (omega arith) (adds_grow _ _ _ c.level.ensures.adds) (adds_grow _ _ _ c.ready_or_high.ensures.adds)) (c.emit_stages.ensures.few enough)) (adds_grow _ _ _ c.fit_beat.ensures.adds)) (adds_grow _ _ _ c.emit_dropped.ensures.adds)
 
 pub returns-in_err-dropped-clause-waits : goal.returns-in_err-dropped-clause-waits
-returns-in_err-dropped-clause-waits c n w = c.emit_dropped.ensures.adds.waits n (c.fit_beat.ensures.adds.waits n (c.emit_stages.ensures.waits n (c.ready_or_high.ensures.adds.waits n (c.level.ensures.adds.waits n w))))
+returns-in_err-dropped-clause-waits c n w = c.emit_dropped.ensures.adds.grows.waits n (c.fit_beat.ensures.adds.grows.waits n (c.emit_stages.ensures.waits n (c.ready_or_high.ensures.adds.grows.waits n (c.level.ensures.adds.grows.waits n w))))
 
 pub returns-clause-grows : goal.returns-clause-grows
-returns-clause-grows c = grows_more c.keeps.ensures.chain 7996 _ 8000 _ _ _ (let few = drops_few c.args.sink.now.max_channel c.args.source.now.max_channel in omega (arith, few)) (grows_more c.keeps.ensures.chain 7994 _ 7996 _ _ _ (let few = fits_few c.args.sink.now.empty_bits c.in_ok-made.made.beat.empty.width in omega (arith, few)) (grows_more c.keeps.ensures.chain 2 7992 7994 _ _ _ (omega arith) (grows_more c.keeps.ensures.chain 1 1 2 _ _ _ (omega arith) c.level.ensures.adds.grows c.ready_or_high.ensures.adds.grows) c.emit_stages.ensures.grows) c.fit_beat.ensures.adds.grows) c.emit_dropped.ensures.adds.grows
+returns-clause-grows c = grows_within 7996 _ 8000 _ _ _ (let few = drops_few c.args.sink.now.max_channel c.args.source.now.max_channel in omega (arith, few)) (grows_within 7994 _ 7996 _ _ _ (let few = fits_few c.args.sink.now.empty_bits c.in_ok-made.made.beat.empty.width in omega (arith, few)) (grows_within 2 7992 7994 _ _ _ (omega arith) (grows_within 1 1 2 _ _ _ (omega arith) (adds_grow _ _ _ c.level.ensures.adds) (adds_grow _ _ _ c.ready_or_high.ensures.adds)) c.emit_stages.ensures.grows) (adds_grow _ _ _ c.fit_beat.ensures.adds)) (adds_grow _ _ _ c.emit_dropped.ensures.adds)
 
 pub returns-clause-few : goal.returns-clause-few
-returns-clause-few c enough = grows_more c.keeps.ensures.chain 7 _ 7 _ _ _ (let none = drops_none c.args.sink.now.max_channel c.args.source.now.max_channel enough.form.max_channel in omega (arith, none)) (grows_more c.keeps.ensures.chain 7 _ 7 _ _ _ (let none = fits_none c.args.sink.now.empty_bits c.in_ok-made.made.beat.empty.width (λ some. ap (λ (w : Widths). w.empty) (c.in_ok-made.ensures.same_widths enough) ∙ ap (λ (beat : BeatNets). beat.empty.width) (c.copied.ensures ∙ c.beat_of-start.ensures) ∙ (let bits = enough.form.empty_bits in let wide = empty_width c.args.builder.now (declared c.args.source.now) c.args.from.now c.in_ok-low.low c.in_ok-low.ensures.net.has_width c.requires.from (omega (arith, some, bits)) in wide ∙ bits)) in omega (arith, none)) (grows_more c.keeps.ensures.chain 2 5 7 _ _ _ (omega arith) (grows_more c.keeps.ensures.chain 1 1 2 _ _ _ (omega arith) c.level.ensures.adds.grows c.ready_or_high.ensures.adds.grows) (c.emit_stages.ensures.few enough)) c.fit_beat.ensures.adds.grows) c.emit_dropped.ensures.adds.grows
+returns-clause-few c enough = grows_within 7 _ 7 _ _ _ (let none = drops_none c.args.sink.now.max_channel c.args.source.now.max_channel enough.form.max_channel in omega (arith, none)) (grows_within 7 _ 7 _ _ _ (let none = fits_none c.args.sink.now.empty_bits c.in_ok-made.made.beat.empty.width (λ some. ap (λ (w : Widths). w.empty) (c.in_ok-made.ensures.same_widths enough) ∙ ap (λ (beat : BeatNets). beat.empty.width) (c.copied.ensures ∙ c.beat_of-start.ensures) ∙ (let bits = enough.form.empty_bits in let wide = empty_width c.args.builder.now (declared c.args.source.now) c.args.from.now c.in_ok-low.low c.in_ok-low.ensures.net.has_width c.requires.from (omega (arith, some, bits)) in wide ∙ bits)) in omega (arith, none)) (grows_within 2 5 7 _ _ _ (omega arith) (grows_within 1 1 2 _ _ _ (omega arith) (adds_grow _ _ _ c.level.ensures.adds) (adds_grow _ _ _ c.ready_or_high.ensures.adds)) (c.emit_stages.ensures.few enough)) (adds_grow _ _ _ c.fit_beat.ensures.adds)) (adds_grow _ _ _ c.emit_dropped.ensures.adds)
 
 pub returns-clause-waits : goal.returns-clause-waits
-returns-clause-waits c n w = c.emit_dropped.ensures.adds.waits n (c.fit_beat.ensures.adds.waits n (c.emit_stages.ensures.waits n (c.ready_or_high.ensures.adds.waits n (c.level.ensures.adds.waits n w))))
+returns-clause-waits c n w = c.emit_dropped.ensures.adds.grows.waits n (c.fit_beat.ensures.adds.grows.waits n (c.emit_stages.ensures.waits n (c.ready_or_high.ensures.adds.grows.waits n (c.level.ensures.adds.grows.waits n w))))
 
 pub returns-clause-no_more_wait : goal.returns-clause-no_more_wait
-returns-clause-no_more_wait c n w = c.level.ensures.adds.no_more_wait n (c.ready_or_high.ensures.adds.no_more_wait n (c.in_ok-made.ensures.no_more_wait n (c.fit_beat.ensures.adds.no_more_wait n (c.emit_dropped.ensures.adds.no_more_wait n w))))
+returns-clause-no_more_wait c n w = c.level.ensures.adds.grows.no_more_wait n (c.ready_or_high.ensures.adds.grows.no_more_wait n (c.in_ok-made.ensures.no_more_wait n (c.fit_beat.ensures.adds.grows.no_more_wait n (c.emit_dropped.ensures.adds.grows.no_more_wait n w))))
 
 pub returns-clause-nets : goal.returns-clause-nets
 returns-clause-nets c =
-    let longer = grows_more c.keeps.ensures.chain 2 4 6 _ _ _ (omega arith) (at_most _ 2 _ _ (fits_few c.args.sink.now.empty_bits c.in_ok-made.made.beat.empty.width) c.fit_beat.ensures.adds.grows) (at_most _ 4 _ _ (drops_few c.args.sink.now.max_channel c.args.source.now.max_channel) c.emit_dropped.ensures.adds.grows) in
+    let longer = grows_within 2 4 6 _ _ _ (omega arith) (grows_fewer _ 2 _ _ (fits_few c.args.sink.now.empty_bits c.in_ok-made.made.beat.empty.width) (adds_grow _ _ _ c.fit_beat.ensures.adds)) (grows_fewer _ 4 _ _ (drops_few c.args.sink.now.max_channel c.args.source.now.max_channel) (adds_grow _ _ _ c.emit_dropped.ensures.adds)) in
     subst (λ (beat : BeatNets). ArePathNets c.emit_dropped.new.builder (declared c.args.sink.now) (record { ready = c.in_ok-made.made.ready; beat = beat; dropped = c.in_ok-dropped.dropped })) (sym c.in_ok-beat.ensures.others)
     (path_nets c.emit_stages.new.builder c.fit_beat.new.builder c.emit_dropped.new.builder (declared c.args.source.now) (declared c.args.sink.now) c.in_ok-made.made c.in_ok-beat.beat.empty c.in_ok-dropped.dropped
     longer.extends c.emit_dropped.ensures.adds.grows.extends c.in_ok-made.ensures.nets c.in_ok-beat.ensures.net c.in_ok-dropped.ensures.net)
@@ -85,7 +85,7 @@ pub returns-clause-serves : goal.returns-clause-serves
 returns-clause-serves c =
     let source = declared c.args.source.now in
     let sink = declared c.args.sink.now in
-    let longer = grows_more c.keeps.ensures.chain 2 4 6 _ _ _ (omega arith) (at_most _ 2 _ _ (fits_few c.args.sink.now.empty_bits c.in_ok-made.made.beat.empty.width) c.fit_beat.ensures.adds.grows) (at_most _ 4 _ _ (drops_few c.args.sink.now.max_channel c.args.source.now.max_channel) c.emit_dropped.ensures.adds.grows) in
+    let longer = grows_within 2 4 6 _ _ _ (omega arith) (grows_fewer _ 2 _ _ (fits_few c.args.sink.now.empty_bits c.in_ok-made.made.beat.empty.width) (adds_grow _ _ _ c.fit_beat.ensures.adds)) (grows_fewer _ 4 _ _ (drops_few c.args.sink.now.max_channel c.args.source.now.max_channel) (adds_grow _ _ _ c.emit_dropped.ensures.adds)) in
     subst (λ (beat : BeatNets). ServesInLonger source sink c.args.depth c.args.from.now c.args.ready (record { ready = c.in_ok-made.made.ready; beat = beat; dropped = c.in_ok-dropped.dropped }) c.emit_dropped.new.builder) (sym c.in_ok-beat.ensures.others)
     (serves_in_longer source sink c.args.depth c.args.from.now c.args.ready c.emit_dropped.new.builder c.args.builder.now c.in_ok-low.low c.in_ok-high.high c.in_ok-beat.beat.empty c.in_ok-dropped.dropped c.in_ok-made.made
     c.requires.joined c.requires.ready
@@ -95,10 +95,10 @@ returns-clause-serves c =
       goes_on = λ run cycles r. c.goes_on.ensures c.emit_dropped.new.builder c.well_made.ensures run cycles r;
       tied = c.tie_is_a_stage.ensures.keeps;
     })
-    (carries_longer source sink c.args.depth c.emit_stages.new.builder c.emit_dropped.new.builder _ c.in_ok-made.made c.in_ok-high.high (λ longer' e. extends_twice c.keeps.ensures.chain _ _ _ longer.extends e)
+    (carries_longer source sink c.args.depth c.emit_stages.new.builder c.emit_dropped.new.builder _ c.in_ok-made.made c.in_ok-high.high (λ longer' e. extends_twice _ _ _ longer.extends e)
     (subst (λ (beat : BeatNets). CarriesStream source sink c.args.depth c.emit_stages.new.builder beat c.in_ok-made.made c.in_ok-high.high) (c.copied.ensures ∙ c.beat_of-start.ensures) c.in_ok-made.ensures.carries))
     (λ cycle v. c.in_ok-low.ensures.value cycle (c.ready_or_high.ensures.adds.grows.extends.valuations cycle (c.emit_stages.ensures.grows.extends.valuations cycle (longer.extends.valuations cycle v))))
     (ready_lasts _ _ c.args.ready c.in_ok-high.high longer.extends (ready_lasts _ _ c.args.ready c.in_ok-high.high c.emit_stages.ensures.grows.extends c.in_ok-high.ensures.ready))
-    (extends_self c.emit_dropped.new.builder)
+    (extends_none c.emit_dropped.new.builder)
     (λ some cycle v. c.in_ok-beat.ensures.value some cycle (c.emit_dropped.ensures.adds.grows.extends.valuations cycle v))
     (subst (λ (beat : BeatNets). ShowsUnreached source sink c.emit_dropped.new.builder beat c.in_ok-made.made.ready c.in_ok-dropped.dropped) c.beat_of-start.ensures c.in_ok-dropped.ensures.shows))
