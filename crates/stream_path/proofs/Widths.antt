@@ -4,7 +4,7 @@ use Rattle.stream_runs.specs.Ends.{Declared}
 use Rattle.stage_core.specs.Beats.{Widths}
 use Rattle.st_format.specs.FormatNets.{Stages, TakesTo, front_takes, front_gives, back_takes, format_gives, forward_nets, backward_nets, format_nets}
 use Rattle.stream_path.specs.Joining.{CanJoin}
-use Rattle.stream_path.specs.Between.{with_errors, formed, FitSide, GivesNets}
+use Rattle.stream_path.specs.Between.{with_errors, formed, GivesNets}
 
 pub format_given : (source sink : Declared) (format : Stages) (widths : Widths) (accepts : Type 0) (f b : ℕ) → CanJoin source sink → GivesNets (with_errors source sink) sink 310 accepts widths (f + b)
     → ((w : Widths) → w.word ≡ source.symbol_bits * source.symbols → w.empty ≤ 8 → TakesTo format w (source.symbol_bits * sink.symbols)) → format_nets format ≤ 1800

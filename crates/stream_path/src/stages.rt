@@ -1,5 +1,5 @@
 //! The stages between a source and a sink, one behind the other, and the law of the whole. The delay of ready stands last, since
-//! nothing may stand behind it, and the chain is nested to the left: each function here adds a stage, and calls the next.
+//! nothing may stand behind it, and the chain is nested to the left: each step returns the chain with one more stage.
 
 ghost use Rattle.std.specs.Prelude.{◌≡◌, ◌+◌, ◌*◌, ◌^◌, ◌<◌, ◌≤◌, length, max, false, Option, IfOk, OnOk, IsTrue, if◌then◌else◌};
 ghost use Rattle.stream_runs.specs.View.{Side};
@@ -11,14 +11,14 @@ ghost use Rattle.net_parts.specs.Growth.{GrowsBy, StillWait};
 ghost use Rattle.st_channel.specs.FilterNets.{IsFilterShape};
 ghost use Rattle.st_channel.specs.Ports.{HasChannels};
 ghost use Rattle.stream_path.specs.Joining.{declared, HaveOneForm, CanJoin};
-ghost use Rattle.stream_path.specs.Between.{most_stage_nets, most_delay_nets, IsDelayEnough, joined_channel, filtered, timed, with_errors, formed, ordered, joined_test, timed_hold, formed_hold, queued_hold, IsFront, FitSide, GivesNets, AreStageNets, CarriesStream};
-ghost use Rattle.stream_path.specs.Parts.{source_of, sink_of, IsErrorTieOf, IsTurnBack};
+ghost use Rattle.stream_path.specs.Between.{most_stage_nets, most_delay_nets, IsDelayEnough, joined_channel, joined_test, FitSide, AreStageNets, CarriesStream};
+ghost use Rattle.stream_path.specs.Parts.{source_of, sink_of, IsErrorTieOf, IsTurnBack, Reaches, timed_reach, errors_reach, formed_reach, queued_reach, ordered_reach, whole_reach};
 
 use iface_roles::{SinkPort, SourcePort};
 use netlist::{Builder, Net, NetFault};
 use st_channel::{ChannelFilter, ErrorTie};
-use st_format::{Reorder, format_of};
-use st_timing::{ReadyDelay, timing_of};
+use st_format::{Format, Reorder, format_of};
+use st_timing::{ReadyDelay, Timing, timing_of};
 use stage_core::{BeatNets, Chain, Fifo, Maybe, Stage, StreamNets, emit_stream};
 use std::alloc::Global;
 
@@ -95,148 +95,86 @@ fn turn_back_of(source: &SourcePort, sink: &SinkPort) -> Maybe<Reorder>
     }
 }
 
-/// Adds the delay of ready, and makes all stages.
-fn behind_order<S: Stage + Copy>(
-    joint: &Joint,
-    builder: &mut Builder,
-    front: S,
-    from: BeatNets,
-    ready: Net,
-) -> Result<StreamNets, NetFault>
-    requires joined { CanJoin (source_of joint.now) (sink_of joint.now) }
-    requires shallow { joint.now.depth ≤ 64 }
-    requires leads { IsFront (source_of joint.now) (sink_of joint.now) (ordered (source_of joint.now) (sink_of joint.now)) (joint.now.depth * joint.now.sink.symbols) (queued_hold (source_of joint.now) (sink_of joint.now) joint.now.depth) (S.has_shape front) (S.passes_ready front) }
-    requires nets { GivesNets (ordered (source_of joint.now) (sink_of joint.now)) (sink_of joint.now) 3700 (S.takes front (widths_of from)) (S.gives front (widths_of from)) (S.forward_nets front + S.backward_nets front) }
-    requires from { AreBeatNets builder.old from }
-    requires ready { IsBit builder.old ready }
-    ensures nets { IfOk result (λ made. AreStageNets builder.new (source_of joint.now) (sink_of joint.now) made) }
-    ensures carries { IfOk result (λ made. CarriesStream (source_of joint.now) (sink_of joint.now) joint.now.depth builder.new from made ready) }
-    ensures grows { GrowsBy most_stage_nets builder.old builder.new }
-    ensures waits { StillWait builder.old builder.new }
-    ensures no_more_wait { OnOk result (StillWait builder.new builder.old) }
-    ensures full { result ≡ Err NetFault.TooManyNets → 2 ^ 20 < length builder.old.lines + most_stage_nets }
+/// The filter on channels, and what leads to ready latency 0.
+fn timed(joint: &Joint) -> Chain<ChannelFilter, Timing>
+    requires { CanJoin (source_of joint.now) (sink_of joint.now) }
+    ensures { let stage = ⟦<Chain<ChannelFilter, Timing> as Stage>⟧ in
+        Reaches joint.now timed_reach (stage.has_shape result) (stage.passes_ready result) (stage.takes result) (stage.gives result) (stage.forward_nets result + stage.backward_nets result) }
 {
-    let delay = ReadyDelay::new(0, joint.sink.ready_latency());
-    let stages = Chain {
-        first: front,
-        second: delay,
-    };
-    emit_stream(&stages, builder, from, ready)
-}
-
-/// Adds the turn to the sink's order.
-fn behind_queue<S: Stage + Copy>(
-    joint: &Joint,
-    builder: &mut Builder,
-    front: S,
-    from: BeatNets,
-    ready: Net,
-) -> Result<StreamNets, NetFault>
-    requires joined { CanJoin (source_of joint.now) (sink_of joint.now) }
-    requires shallow { joint.now.depth ≤ 64 }
-    requires leads { IsFront (source_of joint.now) (sink_of joint.now) (formed (source_of joint.now) (sink_of joint.now)) (joint.now.depth * joint.now.sink.symbols) (queued_hold (source_of joint.now) (sink_of joint.now) joint.now.depth) (S.has_shape front) (S.passes_ready front) }
-    requires nets { GivesNets (formed (source_of joint.now) (sink_of joint.now)) (sink_of joint.now) 3600 (S.takes front (widths_of from)) (S.gives front (widths_of from)) (S.forward_nets front + S.backward_nets front) }
-    requires from { AreBeatNets builder.old from }
-    requires ready { IsBit builder.old ready }
-    ensures nets { IfOk result (λ made. AreStageNets builder.new (source_of joint.now) (sink_of joint.now) made) }
-    ensures carries { IfOk result (λ made. CarriesStream (source_of joint.now) (sink_of joint.now) joint.now.depth builder.new from made ready) }
-    ensures grows { GrowsBy most_stage_nets builder.old builder.new }
-    ensures waits { StillWait builder.old builder.new }
-    ensures no_more_wait { OnOk result (StillWait builder.new builder.old) }
-    ensures full { result ≡ Err NetFault.TooManyNets → 2 ^ 20 < length builder.old.lines + most_stage_nets }
-{
-    let stages = Chain {
-        first: front,
-        second: turn_back_of(&joint.source, &joint.sink),
-    };
-    behind_order(joint, builder, stages, from, ready)
-}
-
-/// Adds the queue.
-fn behind_format<S: Stage + Copy>(
-    joint: &Joint,
-    builder: &mut Builder,
-    front: S,
-    from: BeatNets,
-    ready: Net,
-) -> Result<StreamNets, NetFault>
-    requires joined { CanJoin (source_of joint.now) (sink_of joint.now) }
-    requires shallow { joint.now.depth ≤ 64 }
-    requires leads { IsFront (source_of joint.now) (sink_of joint.now) (formed (source_of joint.now) (sink_of joint.now)) 0 (formed_hold (source_of joint.now) (sink_of joint.now)) (S.has_shape front) (S.passes_ready front) }
-    requires nets { GivesNets (formed (source_of joint.now) (sink_of joint.now)) (sink_of joint.now) 2110 (S.takes front (widths_of from)) (S.gives front (widths_of from)) (S.forward_nets front + S.backward_nets front) }
-    requires from { AreBeatNets builder.old from }
-    requires ready { IsBit builder.old ready }
-    ensures nets { IfOk result (λ made. AreStageNets builder.new (source_of joint.now) (sink_of joint.now) made) }
-    ensures carries { IfOk result (λ made. CarriesStream (source_of joint.now) (sink_of joint.now) joint.now.depth builder.new from made ready) }
-    ensures grows { GrowsBy most_stage_nets builder.old builder.new }
-    ensures waits { StillWait builder.old builder.new }
-    ensures no_more_wait { OnOk result (StillWait builder.new builder.old) }
-    ensures full { result ≡ Err NetFault.TooManyNets → 2 ^ 20 < length builder.old.lines + most_stage_nets }
-{
-    let stages = Chain {
-        first: front,
-        second: Fifo::new(joint.alloc, joint.depth),
-    };
-    behind_queue(joint, builder, stages, from, ready)
-}
-
-/// Adds what brings beats to the sink's symbols.
-fn behind_errors<S: Stage + Copy>(
-    joint: &Joint,
-    builder: &mut Builder,
-    front: S,
-    from: BeatNets,
-    ready: Net,
-) -> Result<StreamNets, NetFault>
-    requires joined { CanJoin (source_of joint.now) (sink_of joint.now) }
-    requires shallow { joint.now.depth ≤ 64 }
-    requires leads { IsFront (source_of joint.now) (sink_of joint.now) (with_errors (source_of joint.now) (sink_of joint.now)) 0 (timed_hold (source_of joint.now)) (S.has_shape front) (S.passes_ready front) }
-    requires nets { GivesNets (with_errors (source_of joint.now) (sink_of joint.now)) (sink_of joint.now) 310 (S.takes front (widths_of from)) (S.gives front (widths_of from)) (S.forward_nets front + S.backward_nets front) }
-    requires from { AreBeatNets builder.old from }
-    requires ready { IsBit builder.old ready }
-    ensures nets { IfOk result (λ made. AreStageNets builder.new (source_of joint.now) (sink_of joint.now) made) }
-    ensures carries { IfOk result (λ made. CarriesStream (source_of joint.now) (sink_of joint.now) joint.now.depth builder.new from made ready) }
-    ensures grows { GrowsBy most_stage_nets builder.old builder.new }
-    ensures waits { StillWait builder.old builder.new }
-    ensures no_more_wait { OnOk result (StillWait builder.new builder.old) }
-    ensures full { result ≡ Err NetFault.TooManyNets → 2 ^ 20 < length builder.old.lines + most_stage_nets }
-{
-    let stages = Chain {
-        first: front,
-        second: format_of(&joint.source, &joint.sink),
-    };
-    behind_format(joint, builder, stages, from, ready)
+    Chain {
+        first: filter_of(&joint.source, &joint.sink),
+        second: timing_of(&joint.source, &joint.sink),
+    }
 }
 
 /// Adds the error where the source has none.
-fn behind_timing<S: Stage + Copy>(
-    joint: &Joint,
-    builder: &mut Builder,
-    front: S,
-    from: BeatNets,
-    ready: Net,
-) -> Result<StreamNets, NetFault>
+fn with_errors<S: Stage>(joint: &Joint, front: S) -> Chain<S, Maybe<ErrorTie>>
     requires joined { CanJoin (source_of joint.now) (sink_of joint.now) }
-    requires shallow { joint.now.depth ≤ 64 }
-    requires leads { IsFront (source_of joint.now) (sink_of joint.now) (timed (source_of joint.now) (sink_of joint.now)) 0 (timed_hold (source_of joint.now)) (S.has_shape front) (S.passes_ready front) }
-    requires nets { GivesNets (timed (source_of joint.now) (sink_of joint.now)) (sink_of joint.now) 300 (S.takes front (widths_of from)) (S.gives front (widths_of from)) (S.forward_nets front + S.backward_nets front) }
-    requires from { AreBeatNets builder.old from }
-    requires ready { IsBit builder.old ready }
-    ensures nets { IfOk result (λ made. AreStageNets builder.new (source_of joint.now) (sink_of joint.now) made) }
-    ensures carries { IfOk result (λ made. CarriesStream (source_of joint.now) (sink_of joint.now) joint.now.depth builder.new from made ready) }
-    ensures grows { GrowsBy most_stage_nets builder.old builder.new }
-    ensures waits { StillWait builder.old builder.new }
-    ensures no_more_wait { OnOk result (StillWait builder.new builder.old) }
-    ensures full { result ≡ Err NetFault.TooManyNets → 2 ^ 20 < length builder.old.lines + most_stage_nets }
+    requires front { Reaches joint.now timed_reach (S.has_shape front) (S.passes_ready front) (S.takes front) (S.gives front) (S.forward_nets front + S.backward_nets front) }
+    ensures { let stage = ⟦<Chain<S, Maybe<ErrorTie>> as Stage>⟧ in
+        Reaches joint.now errors_reach (stage.has_shape result) (stage.passes_ready result) (stage.takes result) (stage.gives result) (stage.forward_nets result + stage.backward_nets result) }
 {
-    let stages = Chain {
+    Chain {
         first: front,
         second: error_tie_of(&joint.source, &joint.sink),
-    };
-    behind_errors(joint, builder, stages, from, ready)
+    }
 }
 
-/// Makes all stages, from the filter on channels and the stage to ready latency 0 on.
+/// Adds what brings beats to the sink's symbols.
+fn with_format<S: Stage>(joint: &Joint, front: S) -> Chain<S, Format>
+    requires joined { CanJoin (source_of joint.now) (sink_of joint.now) }
+    requires front { Reaches joint.now errors_reach (S.has_shape front) (S.passes_ready front) (S.takes front) (S.gives front) (S.forward_nets front + S.backward_nets front) }
+    ensures { let stage = ⟦<Chain<S, Format> as Stage>⟧ in
+        Reaches joint.now formed_reach (stage.has_shape result) (stage.passes_ready result) (stage.takes result) (stage.gives result) (stage.forward_nets result + stage.backward_nets result) }
+{
+    Chain {
+        first: front,
+        second: format_of(&joint.source, &joint.sink),
+    }
+}
+
+/// Adds the queue.
+fn with_queue<S: Stage>(joint: &Joint, front: S) -> Chain<S, Fifo>
+    requires joined { CanJoin (source_of joint.now) (sink_of joint.now) }
+    requires shallow { joint.now.depth ≤ 64 }
+    requires front { Reaches joint.now formed_reach (S.has_shape front) (S.passes_ready front) (S.takes front) (S.gives front) (S.forward_nets front + S.backward_nets front) }
+    ensures { let stage = ⟦<Chain<S, Fifo> as Stage>⟧ in
+        Reaches joint.now queued_reach (stage.has_shape result) (stage.passes_ready result) (stage.takes result) (stage.gives result) (stage.forward_nets result + stage.backward_nets result) }
+{
+    Chain {
+        first: front,
+        second: Fifo::new(joint.alloc, joint.depth),
+    }
+}
+
+/// Adds the turn to the sink's order.
+fn with_turn<S: Stage>(joint: &Joint, front: S) -> Chain<S, Maybe<Reorder>>
+    requires joined { CanJoin (source_of joint.now) (sink_of joint.now) }
+    requires front { Reaches joint.now queued_reach (S.has_shape front) (S.passes_ready front) (S.takes front) (S.gives front) (S.forward_nets front + S.backward_nets front) }
+    ensures { let stage = ⟦<Chain<S, Maybe<Reorder>> as Stage>⟧ in
+        Reaches joint.now ordered_reach (stage.has_shape result) (stage.passes_ready result) (stage.takes result) (stage.gives result) (stage.forward_nets result + stage.backward_nets result) }
+{
+    Chain {
+        first: front,
+        second: turn_back_of(&joint.source, &joint.sink),
+    }
+}
+
+/// Adds the delay of ready.
+fn with_delay<S: Stage>(joint: &Joint, front: S) -> Chain<S, ReadyDelay>
+    requires joined { CanJoin (source_of joint.now) (sink_of joint.now) }
+    requires front { Reaches joint.now ordered_reach (S.has_shape front) (S.passes_ready front) (S.takes front) (S.gives front) (S.forward_nets front + S.backward_nets front) }
+    ensures { let stage = ⟦<Chain<S, ReadyDelay> as Stage>⟧ in
+        Reaches joint.now whole_reach (stage.has_shape result) (stage.passes_ready result) (stage.takes result) (stage.gives result) (stage.forward_nets result + stage.backward_nets result) }
+{
+    let delay = ReadyDelay::new(0, joint.sink.ready_latency());
+    Chain {
+        first: front,
+        second: delay,
+    }
+}
+
+/// Makes all stages, one behind the other.
 fn emit_chain(
     joint: &Joint,
     builder: &mut Builder,
@@ -255,11 +193,13 @@ fn emit_chain(
     ensures no_more_wait { OnOk result (StillWait builder.new builder.old) }
     ensures full { result ≡ Err NetFault.TooManyNets → 2 ^ 20 < length builder.old.lines + most_stage_nets }
 {
-    let front = Chain {
-        first: filter_of(&joint.source, &joint.sink),
-        second: timing_of(&joint.source, &joint.sink),
-    };
-    behind_timing(joint, builder, front, from, ready)
+    let timed = timed(joint);
+    let with_errors = with_errors(joint, timed);
+    let formed = with_format(joint, with_errors);
+    let queued = with_queue(joint, formed);
+    let ordered = with_turn(joint, queued);
+    let stages = with_delay(joint, ordered);
+    emit_stream(&stages, builder, from, ready)
 }
 
 /// Makes what stands between ends of one form of which the sink's ready latency isn't the shorter one, where no queue is needed:

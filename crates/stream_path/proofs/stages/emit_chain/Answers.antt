@@ -1,16 +1,22 @@
-use Rattle.std.proofs.Common.{refl, arith}
+use Rattle.std.proofs.Common.{rules}
+use Rattle.stage_core.specs.Beats.{widths_of}
 use Rattle.stream_path.specs.Parts.{source_of, sink_of}
-use Rattle.stream_runs.specs.Ends.{side_of}
-use Rattle.stream_path.specs.Between.{filtered, joined_test}
-use Rattle.stream_path.proofs.Fronts.{side_channel, joined_all, pace_is, begun}
+use Rattle.stream_path.proofs.Fronts.{carries}
 use Rattle.stream_path.proofs.stages.emit_chain.Goals as goal
 
-pub behind_timing-requires-clause-leads : goal.behind_timing-requires-clause-leads
-behind_timing-requires-clause-leads c =
-    let from = c.args.joint.now.source in
-    let source = source_of c.args.joint.now in
-    let sink = sink_of c.args.joint.now in
-    let channel = side_channel source c.requires.joined.source_fits in
-    let gate = c.filter_of.ensures.leads (side_of source) refl (omega (arith, channel)) c.requires.joined.source_fits.some in
-    let leads = c.timing_of.ensures.leads (joined_test source sink) (filtered source sink) (pace_is from) c.requires.joined.source_fits.pace.strict c.requires.joined.source_fits.some (joined_all source sink (filtered source sink) refl) in
-    begun from c.args.joint.now.sink c.filter_of.result c.timing_of.result c.requires.joined c.timing_of.ensures.timing c.filter_of.ensures.latency gate leads
+pub emit_stream-requires-clause-widths : goal.emit_stream-requires-clause-widths
+emit_stream-requires-clause-widths c = (c.with_delay-stages.ensures.nets (widths_of c.args.from) c.requires.widths).takes
+
+pub returns-clause-nets : goal.returns-clause-nets
+returns-clause-nets c = let nets = c.with_delay-stages.ensures.nets (widths_of c.args.from) c.requires.widths in search rules
+
+pub returns-clause-carries : goal.returns-clause-carries
+returns-clause-carries c =
+    let joint = c.args.joint.now in
+    carries (source_of joint) (sink_of joint) joint.depth _ _ _ _ _ c.emit_stream.result c.requires.joined c.with_delay-stages.ensures.leads c.emit_stream.ensures.keeps c.emit_stream.ensures.passes
+
+pub returns-clause-grows : goal.returns-clause-grows
+returns-clause-grows c = let nets = c.with_delay-stages.ensures.nets (widths_of c.args.from) c.requires.widths in search rules
+
+pub returns-clause-full : goal.returns-clause-full
+returns-clause-full c = let nets = c.with_delay-stages.ensures.nets (widths_of c.args.from) c.requires.widths in search rules

@@ -1,0 +1,14 @@
+use Rattle.std.proofs.Common.{inl, refl, arith, rules}
+use Rattle.stream_path.specs.Parts.{source_of, sink_of}
+use Rattle.stream_path.proofs.Fronts.{behind, error_part}
+use Rattle.stream_path.proofs.stages.with_errors.Goals as goal
+
+pub returns : goal.returns
+returns g c =
+    let joint = c.args.joint.now in
+    let source = source_of joint in
+    let sink = sink_of joint in
+    record {
+      leads = behind source sink _ _ _ _ _ _ 1 _ _ _ _ _ c.requires.front.leads (error_part source sink c.error_tie_of.result.stage c.requires.joined c.error_tie_of.ensures) refl c.requires.joined.source_fits.some (inl (omega arith)) (λ e s. s) _ _ (omega arith) (omega arith);
+      nets = λ widths fit. (let given = c.requires.front.nets widths fit in search rules);
+    }

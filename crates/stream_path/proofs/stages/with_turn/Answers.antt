@@ -1,0 +1,14 @@
+use Rattle.std.proofs.Common.{inr, refl, arith, rules}
+use Rattle.stream_path.specs.Parts.{source_of, sink_of}
+use Rattle.stream_path.proofs.Fronts.{behind, turn_part}
+use Rattle.stream_path.proofs.stages.with_turn.Goals as goal
+
+pub returns : goal.returns
+returns g c =
+    let joint = c.args.joint.now in
+    let source = source_of joint in
+    let sink = sink_of joint in
+    record {
+      leads = behind source sink _ _ _ _ _ _ 1 _ _ _ _ _ c.requires.front.leads (turn_part source sink c.turn_back_of.result.stage c.requires.joined c.turn_back_of.ensures) refl c.requires.joined.source_fits.some (inr (omega arith)) (λ e s. e) _ _ (omega arith) (omega arith);
+      nets = λ widths fit. (let given = c.requires.front.nets widths fit in search rules);
+    }
