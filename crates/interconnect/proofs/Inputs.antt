@@ -25,19 +25,18 @@ use Rattle.port_tables.specs.declared.roles.Role.{Role}
 use Rattle.port_tables.specs.declared.roles.Role.TheVariants as role
 use Rattle.port_tables.specs.declared.roles.RolePort.{RolePort}
 use Rattle.port_tables.specs.Ports.{is_output, bits_if, port_of, stream_ports, ends_of, ports_of}
-use Rattle.port_tables.specs.PortMaps.{port_at, IsPortIf}
+use Rattle.port_tables.specs.PortMaps.{HasKnownPorts, port_at, IsPortIf}
 use Rattle.port_tables.specs.Ends.{IsStreamPlace}
-use Rattle.port_tables.proofs.Headers.{inputs-few}
-use Rattle.port_tables.proofs.PortPlaces.{port_known}
 use Rattle.interconnect.specs.Wires.{is_wire, is_wire_as, is_wire_at, is_wire_stream, wires_before}
 use Rattle.interconnect.specs.Streams.{low_line}
-use Rattle.interconnect.specs.Joins.{IsInputIf, input_at, AreInputs, wire_nets, low_at, AddsStream, IsJoinedUpTo}
+use Rattle.interconnect.specs.Outputs.{IsInputIf, input_at}
+use Rattle.interconnect.specs.Joins.{AreInputs, wire_nets, low_at, AddsStream, IsJoinedUpTo}
 use Rattle.port_tables.specs.EndFacts.{IsPlanned, known_is, known_proper}
 use Rattle.interconnect.proofs.Forms.{wire_is, can_join}
 use Rattle.port_tables.specs.Numbering.{plan_end}
-use Rattle.interconnect.proofs.Joining.{finish_among}
+use Rattle.interconnect.proofs.StreamEnds.{finish_among}
 use Rattle.interconnect.proofs.WireNets.{WiresAreServed, wire_serves, wire_path, low_bit, grows-none}
-use Rattle.interconnect.proofs.StreamModules.{mul_some, wire_below}
+use Rattle.interconnect.proofs.LowNets.{mul_some, wire_below}
 use Rattle.port_tables.specs.Lists.{Among}
 
 -- ---- one input
@@ -58,14 +57,14 @@ bit_port ports false (Some k) p = (let some = p.some in absurd (omega (arith, so
 
 -- the ports of a source, and `ready` of a sink
 pub record IsSourceAt (system : SystemTable) (end : EndId) (source : StreamPort) : Type 0 where
-  pub planned : IsPlanned system
+  pub ports : HasKnownPorts system
   pub among : Among end (ends_of system)
   pub known : known_at system end ≡ Source source
 
 source_port : (system : SystemTable) (end : EndId) (source : StreamPort) (p : RolePort) → IsSourceAt system end source → Among p (stream_ports (declared source)) → is_output true p.role ≡ false
     → IsPortIf (ports_of system) false p.width (port_at system end p.role)
 source_port system end source p h may way =
-    subst (λ (b : Bool). IsPortIf (ports_of system) b p.width (port_at system end p.role)) way (port_known system end (Source source) p h.planned h.among h.known may)
+    subst (λ (b : Bool). IsPortIf (ports_of system) b p.width (port_at system end p.role)) way (h.ports.known end (Source source) p h.among h.known may)
 
 valid_port : (system : SystemTable) (end : EndId) (source : StreamPort) → IsSourceAt system end source → IsPortIf (ports_of system) false 1 (port_at system end role.Valid)
 valid_port system end source h = source_port system end source (port_of role.Valid 1) h (inr (inl refl)) refl
@@ -88,8 +87,8 @@ end_port system end source h = source_port system end source (port_of role.EndOf
 empty_port : (system : SystemTable) (end : EndId) (source : StreamPort) → IsSourceAt system end source → IsPortIf (ports_of system) false source.empty_bits (port_at system end role.Empty)
 empty_port system end source h = source_port system end source (port_of role.Empty source.empty_bits) h (inr (inr (inr (inr (inr (inr (inr (inl refl)))))))) refl
 
-pub source_at : (system : SystemTable) (end : EndId) (source : StreamPort) → IsPlanned system → Among end (ends_of system) → known_at system end ≡ Source source → IsSourceAt system end source
-source_at system end source h a e = record { planned = h; among = a; known = e }
+pub source_at : (system : SystemTable) (end : EndId) (source : StreamPort) → HasKnownPorts system → Among end (ends_of system) → known_at system end ≡ Source source → IsSourceAt system end source
+source_at system end source h a e = record { ports = h; among = a; known = e }
 
 pub valid_input : (system : SystemTable) (end : EndId) (source : StreamPort) → IsSourceAt system end source → IsInputIf system end role.Valid 1
 valid_input system end source h = input_port (ports_of system) 1 (port_at system end role.Valid) (valid_port system end source h)
@@ -151,7 +150,7 @@ data_some system netlist end source net h bounded read =
 
 pub bounded_at : (system : SystemTable) (end : EndId) (source : StreamPort) → IsSourceAt system end source → ((source : StreamPort) → IsProper (Source source) → IsBoundedStream source) → IsBoundedStream source
 bounded_at system end source h law =
-    let at = plan_end system end h.planned h.among in
+    let at = plan_end system end h.ports.planned h.among in
     law source (subst IsProper (sym (known_is system end at.known at.is) ∙ h.known) at.proper)
 
 -- what was read of all inputs of a source
@@ -206,17 +205,17 @@ are_nets system netlist end source valid word v d channel error startofpacket en
 
 -- the records of the ends are those of the stream's place
 pub record AreEndsOf (system : SystemTable) (number : ℕ) (connection : Connection) (source : StreamPort) (sink : StreamPort) : Type 0 where
-  pub planned : IsPlanned system
+  pub ports : HasKnownPorts system
   pub at : IsStreamPlace system number connection
   pub source_is : at.source_port ≡ source
   pub sink_is : at.sink_port ≡ sink
 
-pub ends_of_stream : (system : SystemTable) (number : ℕ) (connection : Connection) (source : StreamPort) (sink : StreamPort) → IsPlanned system → IsStreamPlace system number connection
+pub ends_of_stream : (system : SystemTable) (number : ℕ) (connection : Connection) (source : StreamPort) (sink : StreamPort) → HasKnownPorts system → IsStreamPlace system number connection
     → IsEnd system connection.start (Source source) → IsEnd system connection.end (Sink sink) → AreEndsOf system number connection source sink
 ends_of_stream system number connection source sink h at start end =
     let from : Source at.source_port ≡ Source source = sym at.source_is ∙ known_is system connection.start (Source source) start in
     let to : Sink at.sink_port ≡ Sink sink = sym at.sink_is ∙ known_is system connection.end (Sink sink) end in
-    record { planned = h; at = at; source_is = cc; sink_is = cc }
+    record { ports = h; at = at; source_is = cc; sink_is = cc }
 
 pub source_known : (system : SystemTable) (number : ℕ) (connection : Connection) (source : StreamPort) (sink : StreamPort) → AreEndsOf system number connection source sink → known_at system connection.start ≡ Source source
 source_known system number connection source sink e = e.at.source_is ∙ ap Source e.source_is
@@ -227,7 +226,7 @@ sink_known_as system number connection source sink e = e.at.sink_is ∙ ap Sink 
 ready_port : (system : SystemTable) (number : ℕ) (connection : Connection) (source : StreamPort) (sink : StreamPort) → AreEndsOf system number connection source sink
     → IsPortIf (ports_of system) false (bits_if sink.ready 1) (port_at system connection.end role.Ready)
 ready_port system number connection source sink e =
-    port_known system connection.end (Sink sink) (port_of role.Ready (bits_if sink.ready 1)) e.planned (finish_among system number connection e.at) (sink_known_as system number connection source sink e) (inl refl)
+    e.ports.known connection.end (Sink sink) (port_of role.Ready (bits_if sink.ready 1)) (finish_among system number connection e.at) (sink_known_as system number connection source sink e) (inl refl)
 
 pub ready_input : (system : SystemTable) (number : ℕ) (connection : Connection) (source : StreamPort) (sink : StreamPort) → AreEndsOf system number connection source sink → IsInputIf system connection.end role.Ready 1
 ready_input system number connection source sink e = bit_port (ports_of system) sink.ready (port_at system connection.end role.Ready) (ready_port system number connection source sink e)
@@ -251,16 +250,16 @@ pub joins : (system : SystemTable) (number : ℕ) (connection : Connection) (sou
 joins system number connection source sink e sources sinks =
     subst (λ (t : StreamPort). CanJoin (declared source) (declared t)) e.sink_is
     (subst (λ (s : StreamPort). CanJoin (declared s) (declared e.at.sink_port)) e.source_is
-    (can_join system number connection e.at e.planned (bounded_source system number connection e.at sources) (bounded_sink system number connection e.at sinks)))
+    (can_join system number connection e.at e.ports.planned (bounded_source system number connection e.at sources) (bounded_sink system number connection e.at sinks)))
 
 pub is_shallow : (system : SystemTable) (number : ℕ) (connection : Connection) → IsPlanned system → IsStreamPlace system number connection → connection.fifo ≤ 64
 is_shallow system number connection h at = (h.kept.connections at.place connection at.connection_is).fifo
 
-pub path_room : (system : SystemTable) (number : ℕ) (netlist : Netlist) → IsPlanned system → number < length (streams_of system) → IsJoinedUpTo system number netlist → length netlist.lines + most_nets ≤ 2 ^ 20
+pub path_room : (system : SystemTable) (number : ℕ) (netlist : Netlist) → HasKnownPorts system → number < length (streams_of system) → IsJoinedUpTo system number netlist → length netlist.lines + most_nets ≤ 2 ^ 20
 path_room system number netlist h inside upto =
     let few = upto.few in
-    let inputs = inputs-few system h in
-    let streams = h.few_streams in
+    let inputs = h.few_inputs in
+    let streams = h.planned.few_streams in
     omega (arith, few, inputs, streams, inside)
 
 -- ---- what was added

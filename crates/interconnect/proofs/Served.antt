@@ -2,20 +2,20 @@
 use Rattle.std.proofs.Common.{◌≡◌, ◌⊎◌, inl, inr, ℕ, ◌+◌, ◌*◌, ◌<◌, Bool, true, false, not, List, slice_get, Option, Some, None, codes, refl, sym, ap, subst, ◌∙◌, arith}
 use Rattle.std.specs.Prelude.{IfSome, IsSome, option_map, unwrap_or, nat_lt, if◌then◌else◌}
 use Rattle.std.specs.List.{filter}
-use Rattle.std.proofs.lemmas.Bool.{false≢true, ltb-true}
+use Rattle.std.proofs.lemmas.Bool.{ltb-true}
 use Rattle.std.proofs.lemmas.Bool.Decides.{Decides-ltb}
-use Rattle.iface_roles.specs.declared.records.Finished.{Finished}
 use Rattle.iface_roles.specs.declared.records.Finished.TheVariants.{Source, Sink}
-use Rattle.iface_roles.specs.declared.records.StreamPort.{StreamPort}
 use Rattle.system_tables.specs.declared.tables.EndId.{EndId}
 use Rattle.system_tables.specs.declared.tables.Connection.{Connection}
 use Rattle.system_tables.specs.Tables.{SystemTable}
 use Rattle.address_map.specs.Footprints.{known_at}
+use Rattle.iface_roles.specs.declared.records.Finished.{Finished}
+use Rattle.iface_roles.specs.declared.records.StreamPort.{StreamPort}
 use Rattle.netlist.specs.declared.line.PortLine.{PortLine}
 use Rattle.netlist.specs.Nets.{NetValue, net_of}
-use Rattle.netlist.specs.Netlists.{Netlist, IsInputPort, IsWellMade, driver_of, input_count, input_net}
+use Rattle.netlist.specs.Netlists.{Netlist, IsWellMade, driver_of, input_count, input_net}
 use Rattle.netlist.specs.Runs.{Run}
-use Rattle.netlist.specs.Signals.{port_net, port_value, port_named, signal}
+use Rattle.netlist.specs.Signals.{port_named, signal}
 use Rattle.stream_runs.specs.Source.{IsLegalSource}
 use Rattle.stream_runs.specs.Delivery.{IsServed}
 use Rattle.stream_runs.specs.Ends.{Declared, Signals, side_of, view_of, signal_or, stream_of, run_of}
@@ -25,22 +25,24 @@ use Rattle.stream_path.specs.declared.ends.PathNets.{PathNets}
 use Rattle.port_tables.specs.declared.roles.Role.{Role}
 use Rattle.port_tables.specs.declared.roles.Role.TheVariants as role
 use Rattle.port_tables.specs.declared.roles.RolePort.{RolePort}
+use Rattle.port_tables.specs.Lists.{Among, among_at, among_filter}
 use Rattle.port_tables.specs.Ports.{role_word, is_forward, is_output, bits_if, port_of, port_name, stream_ports, has_bits, name_at, ports_of}
-use Rattle.port_tables.specs.PortMaps.{port_at, IsPortIf}
+use Rattle.port_tables.specs.PortMaps.{IsPortIf, HasKnownPorts, port_at}
 use Rattle.port_tables.specs.Ends.{IsStreamPlace}
-use Rattle.port_tables.proofs.PortPlaces.{port_known}
 use Rattle.interconnect.specs.Wires.{is_wire_stream, is_wire_as, is_wire_at, wires_before}
 use Rattle.interconnect.specs.Streams.{end_signals, dropped_signal, ServesStream, IsDrivenBy, IsJoined, IsWired, low_line}
-use Rattle.interconnect.specs.Joins.{input_at, wire_nets, output_roles, output_at, net_for, low_at, IsJoinedStream}
-use Rattle.port_tables.specs.EndFacts.{IsPlanned}
+use Rattle.interconnect.specs.Outputs.{input_at, output_at}
+use Rattle.interconnect.specs.Joins.{wire_nets, output_roles, net_for, low_at, IsJoinedStream}
 use Rattle.interconnect.proofs.Forms.{IsWire, wire_is}
-use Rattle.interconnect.proofs.Joining.{start_among, finish_among, extends-refl, output_width, outputs_are}
+use Rattle.interconnect.proofs.Driving.{role_driven, extends-refl}
+use Rattle.interconnect.proofs.StreamEnds.{start_among, finish_among}
+use Rattle.interconnect.proofs.Joining.{output_width, outputs_are}
+use Rattle.interconnect.proofs.Shown.{shown, shown_at, output_shown, input_shown, bits_lt, driven_some, no_input}
 use Rattle.interconnect.proofs.WireNets.{same_signals}
-use Rattle.port_tables.specs.Lists.{Among, among_at, among_filter}
 
 -- a stream in a finished netlist
 pub record IsJoinedIn (system : SystemTable) (number : ℕ) (connection : Connection) (netlist : Netlist) : Type 0 where
-  pub planned : IsPlanned system
+  pub known : HasKnownPorts system
   pub at : IsStreamPlace system number connection
   pub well_made : IsWellMade netlist
   pub ports : netlist.ports ≡ ports_of system
@@ -49,58 +51,19 @@ pub record IsJoinedIn (system : SystemTable) (number : ℕ) (connection : Connec
 
 -- ---- signals
 
-no_driver : (netlist : Netlist) (k w : ℕ) → IsWellMade netlist → IsInputPort netlist.ports k w → (o : Option ℕ) → driver_of netlist k ≡ o → o ≡ None
-no_driver netlist k w h i None e = refl
-no_driver netlist k w h i (Some n) e =
-    let d = (h.drivers k n e).port in
-    let p = i.is in
-    let q = d.is in
-    let same : i.port ≡ d.port = cc in
-    let input = i.input in
-    let output = d.output in
-    let both : false ≡ true = sym input ∙ ap (λ (port : PortLine). port.output) same ∙ output in
-    absurd (false≢true both)
-
--- what is shown at the port of this number
-abbrev shown : Netlist → Run → Option ℕ → Option (ℕ → ℕ)
-shown netlist run port = option_map (λ k. λ c. port_value netlist run c k) port
-
-shown_at : (system : SystemTable) (netlist : Netlist) (run : Run) (end : EndId) (r : Role) → netlist.ports ≡ ports_of system
-    → signal netlist run (port_name (name_at system end) (role_word r)) ≡ shown netlist run (port_at system end r)
-shown_at system netlist run end r e = ap (λ (ports : List PortLine). shown netlist run (port_named ports (port_name (name_at system end) (role_word r)))) e
-
-output_shown : (ports : List PortLine) (netlist : Netlist) (run : Run) (present : Bool) (width : ℕ) (net : NetValue) (o : Option ℕ) → nat_lt 0 width ≡ present → IsPortIf ports true width o
-    → IfSome o (λ k. driver_of netlist k ≡ Some net.number) → shown netlist run o ≡ signal_where present run net
-output_shown ports netlist run present width net None e none driven =
-    let is : false ≡ present = ap (nat_lt 0) (sym none) ∙ e in
-    ap (λ (b : Bool). signal_where b run net) is
-output_shown ports netlist run present width net (Some k) e p driven =
-    let is : true ≡ present = sym ((Decides-ltb 0 width).1 p.some) ∙ e in
-    let at : port_net netlist k ≡ net.number = ap (λ (d : Option ℕ). unwrap_or d (input_net netlist.ports k)) driven in
-    ap (λ (n : ℕ). Some (λ (c : ℕ). run.net c n)) at ∙ ap (λ (b : Bool). signal_where b run net) is
-
-input_shown : (ports : List PortLine) (netlist : Netlist) (run : Run) (width : ℕ) (net : Option NetValue) (o : Option ℕ) → IsWellMade netlist → netlist.ports ≡ ports → IsPortIf ports false width o
-    → net ≡ option_map (λ (k : ℕ). net_of (input_net ports k) width) o → shown netlist run o ≡ signal_of run net
-input_shown ports netlist run width net None h e none is = ap (signal_of run) (sym is)
-input_shown ports netlist run width net (Some k) h e p is =
-    let input : IsInputPort netlist.ports k width = subst (λ (ps : List PortLine). IsInputPort ps k width) (sym e) (record { port = p.port; is = p.is; input = p.output_is; width = p.width_is }) in
-    let none = no_driver netlist k width h input (driver_of netlist k) refl in
-    let at : port_net netlist k ≡ input_net ports k = ap (λ (d : Option ℕ). unwrap_or d (input_net netlist.ports k)) none ∙ ap (λ (ps : List PortLine). input_net ps k) e in
-    ap (λ (n : ℕ). Some (λ (c : ℕ). run.net c n)) at ∙ ap (signal_of run) (sym is)
-
-bits_lt : (b : Bool) → nat_lt 0 (bits_if b 1) ≡ b
-bits_lt true = refl
-bits_lt false = refl
+driven_role : (system : SystemTable) (number : ℕ) (connection : Connection) (netlist : Netlist) (j : IsJoinedIn system number connection netlist) (n : ℕ) (r : Role) → slice_get output_roles n ≡ Some r
+    → IfSome (output_at system connection r) (λ port. driver_of netlist port ≡ Some (net_for j.joined.made r).number)
+driven_role system number connection netlist j = role_driven system connection (net_for j.joined.made) output_roles netlist j.joined.driven
 
 -- what stands at an output of a stream, and what at an input
 out : (system : SystemTable) (number : ℕ) (connection : Connection) (netlist : Netlist) (run : Run) (n : ℕ) (r : Role) (end : EndId) (present : Bool) (j : IsJoinedIn system number connection netlist)
-    → n < 9 → slice_get output_roles n ≡ Some r → output_at system connection r ≡ port_at system end r → nat_lt 0 (output_width (declared j.at.source_port) (declared j.at.sink_port) r) ≡ present
+    → slice_get output_roles n ≡ Some r → output_at system connection r ≡ port_at system end r → nat_lt 0 (output_width (declared j.at.source_port) (declared j.at.sink_port) r) ≡ present
     → signal netlist run (port_name (name_at system end) (role_word r)) ≡ signal_where present run (net_for j.joined.made r)
-out system number connection netlist run n r end present j below e is there =
+out system number connection netlist run n r end present j e is there =
     shown_at system netlist run end r j.ports
     ∙ ap (shown netlist run) (sym is)
     ∙ output_shown (ports_of system) netlist run present (output_width (declared j.at.source_port) (declared j.at.sink_port) r) (net_for j.joined.made r) (output_at system connection r) there
-    (outputs_are system number connection j.planned j.at n r e) (j.joined.driven n r below e)
+    (outputs_are system number connection j.known j.at n r e) (driven_role system number connection netlist j n r e)
 
 inp : (system : SystemTable) (number : ℕ) (connection : Connection) (netlist : Netlist) (run : Run) (end : EndId) (p : RolePort) (net : Option NetValue) (j : IsJoinedIn system number connection netlist)
     → IsPortIf (ports_of system) false p.width (port_at system end p.role) → net ≡ input_at system end p.role p.width
@@ -115,7 +78,7 @@ source_input : (system : SystemTable) (number : ℕ) (connection : Connection) (
 source_input system number connection netlist run p net j may way is =
     inp system number connection netlist run connection.start p net j
     (subst (λ (b : Bool). IsPortIf (ports_of system) b p.width (port_at system connection.start p.role)) way
-    (port_known system connection.start (Source j.at.source_port) p j.planned (start_among system number connection j.at) j.at.source_is may)) is
+    (j.known.known connection.start (Source j.at.source_port) p (start_among system number connection j.at) j.at.source_is may)) is
 
 packet_width : (system : SystemTable) (end : EndId) (r : Role) (packets : Bool) (net : Option NetValue) → IsPortIf (ports_of system) false (bits_if packets 1) (port_at system end r) → net ≡ input_at system end r 1
     → net ≡ input_at system end r (bits_if packets 1)
@@ -130,55 +93,55 @@ source_port_of : (system : SystemTable) (number : ℕ) (connection : Connection)
     → Among p (stream_ports (declared j.at.source_port)) → is_output true p.role ≡ false → IsPortIf (ports_of system) false p.width (port_at system connection.start p.role)
 source_port_of system number connection netlist p j may way =
     subst (λ (b : Bool). IsPortIf (ports_of system) b p.width (port_at system connection.start p.role)) way
-    (port_known system connection.start (Source j.at.source_port) p j.planned (start_among system number connection j.at) j.at.source_is may)
+    (j.known.known connection.start (Source j.at.source_port) p (start_among system number connection j.at) j.at.source_is may)
 
 source_shown : (system : SystemTable) (number : ℕ) (connection : Connection) (netlist : Netlist) (run : Run) (j : IsJoinedIn system number connection netlist)
     → end_signals netlist run (name_at system connection.start) ≡ source_signals (declared j.at.source_port) j.joined.from j.joined.made run
 source_shown system number connection netlist run j =
-    let source = declared j.at.source_port in
+    let declared = declared j.at.source_port in
     let input = source_input system number connection netlist run in
     let packets = source_port_of system number connection netlist in
     same_signals _ _
-    (out system number connection netlist run 0 role.Ready connection.start source.ready j (omega arith) refl refl (bits_lt source.ready))
+    (out system number connection netlist run 0 role.Ready connection.start declared.ready j refl refl (bits_lt declared.ready))
     (input (port_of role.Valid 1) (Some j.joined.from.valid) j (inr (inl refl)) refl (sym j.joined.from_are.valid))
-    (input (port_of role.Data (source.symbols * source.symbol_bits)) (Some j.joined.from.word) j (inr (inr (inl refl))) refl (sym j.joined.from_are.word))
-    (input (port_of role.Channel source.channel_bits) j.joined.from.channel j (inr (inr (inr (inl refl)))) refl j.joined.from_are.channel)
-    (input (port_of role.Error source.error_bits) j.joined.from.error j (inr (inr (inr (inr (inl refl))))) refl j.joined.from_are.error)
-    (input (port_of role.StartOfPacket (bits_if source.packets 1)) j.joined.from.startofpacket j (inr (inr (inr (inr (inr (inl refl)))))) refl
-    (packet_width system connection.start role.StartOfPacket source.packets j.joined.from.startofpacket
-    (packets (port_of role.StartOfPacket (bits_if source.packets 1)) j (inr (inr (inr (inr (inr (inl refl)))))) refl) j.joined.from_are.startofpacket))
-    (input (port_of role.EndOfPacket (bits_if source.packets 1)) j.joined.from.endofpacket j (inr (inr (inr (inr (inr (inr (inl refl))))))) refl
-    (packet_width system connection.start role.EndOfPacket source.packets j.joined.from.endofpacket
-    (packets (port_of role.EndOfPacket (bits_if source.packets 1)) j (inr (inr (inr (inr (inr (inr (inl refl))))))) refl) j.joined.from_are.endofpacket))
-    (input (port_of role.Empty source.empty_bits) j.joined.from.empty j (inr (inr (inr (inr (inr (inr (inr (inl refl)))))))) refl j.joined.from_are.empty)
+    (input (port_of role.Data (declared.symbols * declared.symbol_bits)) (Some j.joined.from.word) j (inr (inr (inl refl))) refl (sym j.joined.from_are.word))
+    (input (port_of role.Channel declared.channel_bits) j.joined.from.channel j (inr (inr (inr (inl refl)))) refl j.joined.from_are.channel)
+    (input (port_of role.Error declared.error_bits) j.joined.from.error j (inr (inr (inr (inr (inl refl))))) refl j.joined.from_are.error)
+    (input (port_of role.StartOfPacket (bits_if declared.packets 1)) j.joined.from.startofpacket j (inr (inr (inr (inr (inr (inl refl)))))) refl
+    (packet_width system connection.start role.StartOfPacket declared.packets j.joined.from.startofpacket
+    (packets (port_of role.StartOfPacket (bits_if declared.packets 1)) j (inr (inr (inr (inr (inr (inl refl)))))) refl) j.joined.from_are.startofpacket))
+    (input (port_of role.EndOfPacket (bits_if declared.packets 1)) j.joined.from.endofpacket j (inr (inr (inr (inr (inr (inr (inl refl))))))) refl
+    (packet_width system connection.start role.EndOfPacket declared.packets j.joined.from.endofpacket
+    (packets (port_of role.EndOfPacket (bits_if declared.packets 1)) j (inr (inr (inr (inr (inr (inr (inl refl))))))) refl) j.joined.from_are.endofpacket))
+    (input (port_of role.Empty declared.empty_bits) j.joined.from.empty j (inr (inr (inr (inr (inr (inr (inr (inl refl)))))))) refl j.joined.from_are.empty)
 
 sink_ready_port : (system : SystemTable) (number : ℕ) (connection : Connection) (netlist : Netlist) (j : IsJoinedIn system number connection netlist)
     → IsPortIf (ports_of system) false (bits_if (declared j.at.sink_port).ready 1) (port_at system connection.end role.Ready)
 sink_ready_port system number connection netlist j =
-    port_known system connection.end (Sink j.at.sink_port) (port_of role.Ready (bits_if (declared j.at.sink_port).ready 1)) j.planned (finish_among system number connection j.at) j.at.sink_is (inl refl)
+    j.known.known connection.end (Sink j.at.sink_port) (port_of role.Ready (bits_if (declared j.at.sink_port).ready 1)) (finish_among system number connection j.at) j.at.sink_is (inl refl)
 
 sink_shown : (system : SystemTable) (number : ℕ) (connection : Connection) (netlist : Netlist) (run : Run) (j : IsJoinedIn system number connection netlist)
     → end_signals netlist run (name_at system connection.end) ≡ sink_signals (declared j.at.sink_port) j.joined.ready j.joined.made run
 sink_shown system number connection netlist run j =
-    let sink = declared j.at.sink_port in
+    let declared = declared j.at.sink_port in
     let output = out system number connection netlist run in
     same_signals _ _
-    (inp system number connection netlist run connection.end (port_of role.Ready (bits_if sink.ready 1)) j.joined.ready j (sink_ready_port system number connection netlist j)
-    (packet_width system connection.end role.Ready sink.ready j.joined.ready (sink_ready_port system number connection netlist j) j.joined.ready_is))
-    (output 1 role.Valid connection.end true j (omega arith) refl refl refl)
-    (output 2 role.Data connection.end true j (omega arith) refl refl ((Decides-ltb 0 (sink.symbols * sink.symbol_bits)).1 j.some_bits))
-    (output 3 role.Channel connection.end (nat_lt 0 sink.channel_bits) j (omega arith) refl refl refl)
-    (output 4 role.Error connection.end (nat_lt 0 sink.error_bits) j (omega arith) refl refl refl)
-    (output 5 role.StartOfPacket connection.end sink.packets j (omega arith) refl refl (bits_lt sink.packets))
-    (output 6 role.EndOfPacket connection.end sink.packets j (omega arith) refl refl (bits_lt sink.packets))
-    (output 7 role.Empty connection.end (nat_lt 0 sink.empty_bits) j (omega arith) refl refl refl)
+    (inp system number connection netlist run connection.end (port_of role.Ready (bits_if declared.ready 1)) j.joined.ready j (sink_ready_port system number connection netlist j)
+    (packet_width system connection.end role.Ready declared.ready j.joined.ready (sink_ready_port system number connection netlist j) j.joined.ready_is))
+    (output 1 role.Valid connection.end true j refl refl refl)
+    (output 2 role.Data connection.end true j refl refl ((Decides-ltb 0 (declared.symbols * declared.symbol_bits)).1 j.some_bits))
+    (output 3 role.Channel connection.end (nat_lt 0 declared.channel_bits) j refl refl refl)
+    (output 4 role.Error connection.end (nat_lt 0 declared.error_bits) j refl refl refl)
+    (output 5 role.StartOfPacket connection.end declared.packets j refl refl (bits_lt declared.packets))
+    (output 6 role.EndOfPacket connection.end declared.packets j refl refl (bits_lt declared.packets))
+    (output 7 role.Empty connection.end (nat_lt 0 declared.empty_bits) j refl refl refl)
 
 -- ---- the stream is served
 
 dropped_shown : (system : SystemTable) (number : ℕ) (connection : Connection) (netlist : Netlist) (run : Run) (j : IsJoinedIn system number connection netlist)
     → dropped_signal netlist run (name_at system connection.end) ≡ signal_on run j.joined.made.dropped
 dropped_shown system number connection netlist run j =
-    ap (λ (o : Option (ℕ → ℕ)). signal_or 0 o) (out system number connection netlist run 8 role.Dropped connection.end true j (omega arith) refl refl refl)
+    ap (λ (o : Option (ℕ → ℕ)). signal_or 0 o) (out system number connection netlist run 8 role.Dropped connection.end true j refl refl refl)
 
 pub is_served : (system : SystemTable) (number : ℕ) (connection : Connection) (netlist : Netlist) (j : IsJoinedIn system number connection netlist)
     → ServesStream netlist (name_at system connection.start) (name_at system connection.end) (declared j.at.source_port) (declared j.at.sink_port) connection.fifo
@@ -237,18 +200,18 @@ each_port P d a b c e f g h i p (inr (inr (inr (inr (inr (inr (inr (inr none))))
 
 -- a signal that goes forward
 forward_joined : (system : SystemTable) (number : ℕ) (connection : Connection) (netlist : Netlist) (low : NetValue) (n width : ℕ) (r : Role) (net : Option NetValue) (w : IsWireIn system number connection netlist low)
-    → n < 9 → slice_get output_roles n ≡ Some r → is_forward r ≡ true → Among (port_of r width) (stream_ports (declared w.joined.at.source_port))
+    → slice_get output_roles n ≡ Some r → is_forward r ≡ true → Among (port_of r width) (stream_ports (declared w.joined.at.source_port))
     → output_width (declared w.joined.at.source_port) (declared w.joined.at.sink_port) r ≡ width → net ≡ input_at system connection.start r width
     → net_for w.joined.joined.made r ≡ unwrap_or net low → 0 < width → IsDrivenBy netlist (port_name (name_at system connection.end) (role_word r)) (port_name (name_at system connection.start) (role_word r))
-forward_joined system number connection netlist low n width r net w below e forward may same is made some =
+forward_joined system number connection netlist low n width r net w e forward may same is made some =
     let j = w.joined in
     let here : output_at system connection r ≡ port_at system connection.end r = ap (λ (b : Bool). port_at system (if b then connection.end else connection.start) r) forward in
     let input : is_output true r ≡ false = ap not forward in
     driven_by (ports_of system) netlist _ _ (output_at system connection r) (port_at system connection.start r) width (net_for j.joined.made r) j.ports (sym here) refl
-    (subst (λ (n : ℕ). IsPortIf (ports_of system) true n (output_at system connection r)) same (outputs_are system number connection j.planned j.at n r e))
+    (subst (λ (n : ℕ). IsPortIf (ports_of system) true n (output_at system connection r)) same (outputs_are system number connection j.known j.at n r e))
     (subst (λ (b : Bool). IsPortIf (ports_of system) b width (port_at system connection.start r)) input
-    (port_known system connection.start (Source j.at.source_port) (port_of r width) j.planned (start_among system number connection j.at) j.at.source_is may))
-    some (j.joined.driven n r below e)
+    (j.known.known connection.start (Source j.at.source_port) (port_of r width) (start_among system number connection j.at) j.at.source_is may))
+    some (driven_role system number connection netlist j n r e)
     (subst (λ (x : NetValue). IfSome (port_at system connection.start r) (λ k. x.number ≡ input_net (ports_of system) k)) (sym made) (net_is (ports_of system) width (port_at system connection.start r) net low is))
 
 -- and `ready`
@@ -259,9 +222,9 @@ ready_joined system number connection netlist low w =
     let one : output_width (declared j.at.source_port) (declared j.at.sink_port) role.Ready ≡ 1 = ap (λ (b : Bool). bits_if b 1) w.wire.alike.source_ready in
     let other : bits_if (declared j.at.sink_port).ready 1 ≡ 1 = ap (λ (b : Bool). bits_if b 1) w.wire.alike.sink_ready in
     driven_by (ports_of system) netlist _ _ (output_at system connection role.Ready) (port_at system connection.end role.Ready) 1 (net_for j.joined.made role.Ready) j.ports refl refl
-    (subst (λ (n : ℕ). IsPortIf (ports_of system) true n (output_at system connection role.Ready)) one (outputs_are system number connection j.planned j.at 0 role.Ready refl))
+    (subst (λ (n : ℕ). IsPortIf (ports_of system) true n (output_at system connection role.Ready)) one (outputs_are system number connection j.known j.at 0 role.Ready refl))
     (subst (λ (n : ℕ). IsPortIf (ports_of system) false n (port_at system connection.end role.Ready)) other (sink_ready_port system number connection netlist j))
-    (omega arith) (j.joined.driven 0 role.Ready (omega arith) refl)
+    (omega arith) (driven_role system number connection netlist j 0 role.Ready refl)
     (subst (λ (m : PathNets). IfSome (port_at system connection.end role.Ready) (λ k. (net_for m role.Ready).number ≡ input_net (ports_of system) k)) (sym w.made)
     (net_is (ports_of system) 1 (port_at system connection.end role.Ready) j.joined.ready low j.joined.ready_is))
 
@@ -276,17 +239,17 @@ port_joined system number connection netlist low w =
     let packets = source_port_of system number connection netlist in
     each_port (λ p. 0 < p.width → IsJoined netlist (name_at system connection.start) (name_at system connection.end) p.role) d
     (λ some. ready_joined system number connection netlist low w)
-    (forward 1 1 role.Valid (Some j.joined.from.valid) w (omega arith) refl refl (inr (inl refl)) refl (sym j.joined.from_are.valid) (ap (λ (m : PathNets). m.beat.valid) w.made))
-    (forward 2 (d.symbols * d.symbol_bits) role.Data (Some j.joined.from.word) w (omega arith) refl refl (inr (inr (inl refl))) bits (sym j.joined.from_are.word) (ap (λ (m : PathNets). m.beat.word) w.made))
-    (forward 3 d.channel_bits role.Channel j.joined.from.channel w (omega arith) refl refl (inr (inr (inr (inl refl)))) (sym alike.channel_bits) j.joined.from_are.channel (ap (λ (m : PathNets). m.beat.channel) w.made))
-    (forward 4 d.error_bits role.Error j.joined.from.error w (omega arith) refl refl (inr (inr (inr (inr (inl refl))))) (sym alike.error_bits) j.joined.from_are.error (ap (λ (m : PathNets). m.beat.error) w.made))
-    (forward 5 (bits_if d.packets 1) role.StartOfPacket j.joined.from.startofpacket w (omega arith) refl refl (inr (inr (inr (inr (inr (inl refl)))))) (ap (λ (b : Bool). bits_if b 1) (sym alike.packets))
+    (forward 1 1 role.Valid (Some j.joined.from.valid) w refl refl (inr (inl refl)) refl (sym j.joined.from_are.valid) (ap (λ (m : PathNets). m.beat.valid) w.made))
+    (forward 2 (d.symbols * d.symbol_bits) role.Data (Some j.joined.from.word) w refl refl (inr (inr (inl refl))) bits (sym j.joined.from_are.word) (ap (λ (m : PathNets). m.beat.word) w.made))
+    (forward 3 d.channel_bits role.Channel j.joined.from.channel w refl refl (inr (inr (inr (inl refl)))) (sym alike.channel_bits) j.joined.from_are.channel (ap (λ (m : PathNets). m.beat.channel) w.made))
+    (forward 4 d.error_bits role.Error j.joined.from.error w refl refl (inr (inr (inr (inr (inl refl))))) (sym alike.error_bits) j.joined.from_are.error (ap (λ (m : PathNets). m.beat.error) w.made))
+    (forward 5 (bits_if d.packets 1) role.StartOfPacket j.joined.from.startofpacket w refl refl (inr (inr (inr (inr (inr (inl refl)))))) (ap (λ (b : Bool). bits_if b 1) (sym alike.packets))
     (packet_width system connection.start role.StartOfPacket d.packets j.joined.from.startofpacket
     (packets (port_of role.StartOfPacket (bits_if d.packets 1)) j (inr (inr (inr (inr (inr (inl refl)))))) refl) j.joined.from_are.startofpacket) (ap (λ (m : PathNets). m.beat.first) w.made))
-    (forward 6 (bits_if d.packets 1) role.EndOfPacket j.joined.from.endofpacket w (omega arith) refl refl (inr (inr (inr (inr (inr (inr (inl refl))))))) (ap (λ (b : Bool). bits_if b 1) (sym alike.packets))
+    (forward 6 (bits_if d.packets 1) role.EndOfPacket j.joined.from.endofpacket w refl refl (inr (inr (inr (inr (inr (inr (inl refl))))))) (ap (λ (b : Bool). bits_if b 1) (sym alike.packets))
     (packet_width system connection.start role.EndOfPacket d.packets j.joined.from.endofpacket
     (packets (port_of role.EndOfPacket (bits_if d.packets 1)) j (inr (inr (inr (inr (inr (inr (inl refl))))))) refl) j.joined.from_are.endofpacket) (ap (λ (m : PathNets). m.beat.last) w.made))
-    (forward 7 d.empty_bits role.Empty j.joined.from.empty w (omega arith) refl refl (inr (inr (inr (inr (inr (inr (inr (inl refl)))))))) (sym alike.empty_bits) j.joined.from_are.empty (ap (λ (m : PathNets). m.beat.empty) w.made))
+    (forward 7 d.empty_bits role.Empty j.joined.from.empty w refl refl (inr (inr (inr (inr (inr (inr (inr (inl refl)))))))) (sym alike.empty_bits) j.joined.from_are.empty (ap (λ (m : PathNets). m.beat.empty) w.made))
 
 -- `dropped` stands there and is driven
 record IsDroppedBy (netlist : Netlist) (ports : List PortLine) (name : List ℕ) (net : NetValue) : Type 0 where
@@ -319,7 +282,7 @@ is_wired system number connection netlist j wire line =
     let made = subst (λ (o : Option NetValue). IfSome o (λ net. j.joined.made ≡ wire_nets j.joined.from j.joined.ready net)) is j.joined.wire in
     let w : IsWireIn system number connection netlist low = record { joined = j; wire = wire_is (declared j.at.source_port) (declared j.at.sink_port) connection.fifo wire; made = made } in
     let dropped = dropped_there netlist (ports_of system) (port_name (name_at system connection.end) (role_word role.Dropped)) (net_for j.joined.made role.Dropped) (output_at system connection role.Dropped) refl
-    (outputs_are system number connection j.planned j.at 8 role.Dropped refl) (j.joined.driven 8 role.Dropped (omega arith) refl) in
+    (outputs_are system number connection j.known j.at 8 role.Dropped refl) (driven_role system number connection netlist j 8 role.Dropped refl) in
     subst (λ (n : ℕ). IsWired netlist (name_at system connection.start) (name_at system connection.end) (declared j.at.source_port) (n + wires_before system number)) (ap input_count (sym j.ports))
     (record {
       joined = λ k port e. (let kept = among_filter has_bits (stream_ports (declared j.at.source_port)) port (among_at (filter has_bits (stream_ports (declared j.at.source_port))) k port e) in
@@ -332,23 +295,15 @@ is_wired system number connection netlist j wire line =
 
 -- ---- each output is driven
 
-driven_some : (netlist : Netlist) (k : ℕ) (o : Option ℕ) (net : NetValue) → o ≡ Some k → IfSome o (λ k. driver_of netlist k ≡ Some net.number) → IsSome (driver_of netlist k)
-driven_some netlist k o net e driven =
-    let is : driver_of netlist k ≡ Some net.number = subst (λ (o : Option ℕ). IfSome o (λ k. driver_of netlist k ≡ Some net.number)) e driven in
-    subst IsSome (sym is) refl
-
-output_driven : (system : SystemTable) (number : ℕ) (connection : Connection) (netlist : Netlist) (k n : ℕ) (r : Role) → IsJoinedIn system number connection netlist → n < 9 → slice_get output_roles n ≡ Some r
+output_driven : (system : SystemTable) (number : ℕ) (connection : Connection) (netlist : Netlist) (k n : ℕ) (r : Role) → IsJoinedIn system number connection netlist → slice_get output_roles n ≡ Some r
     → output_at system connection r ≡ Some k → IsSome (driver_of netlist k)
-output_driven system number connection netlist k n r j below e is = driven_some netlist k (output_at system connection r) (net_for j.joined.made r) is (j.joined.driven n r below e)
-
-no_input : (b : Bool) {P : Type 0} → b ≡ true → b ≡ false → P
-no_input b e f = absurd (let both : false ≡ true = sym f ∙ e in false≢true both)
+output_driven system number connection netlist k n r j e is = driven_some netlist k (output_at system connection r) (net_for j.joined.made r) is (driven_role system number connection netlist j n r e)
 
 pub source_driven : (system : SystemTable) (number : ℕ) (connection : Connection) (netlist : Netlist) (k : ℕ) (j : IsJoinedIn system number connection netlist) (p : RolePort)
     → Among p (stream_ports (declared j.at.source_port)) → is_output true p.role ≡ true → port_at system connection.start p.role ≡ Some k → IsSome (driver_of netlist k)
 source_driven system number connection netlist k j =
     each_port (λ p. is_output true p.role ≡ true → port_at system connection.start p.role ≡ Some k → IsSome (driver_of netlist k)) (declared j.at.source_port)
-    (λ way is. output_driven system number connection netlist k 0 role.Ready j (omega arith) refl is)
+    (λ way is. output_driven system number connection netlist k 0 role.Ready j refl is)
     (λ way is. no_input _ way refl)
     (λ way is. no_input _ way refl)
     (λ way is. no_input _ way refl)
@@ -362,13 +317,13 @@ pub sink_driven : (system : SystemTable) (number : ℕ) (connection : Connection
 sink_driven system number connection netlist k j p (inl among) way at =
     each_port (λ p. is_output false p.role ≡ true → port_at system connection.end p.role ≡ Some k → IsSome (driver_of netlist k)) (declared j.at.sink_port)
     (λ way is. no_input _ way refl)
-    (λ way is. output_driven system number connection netlist k 1 role.Valid j (omega arith) refl is)
-    (λ way is. output_driven system number connection netlist k 2 role.Data j (omega arith) refl is)
-    (λ way is. output_driven system number connection netlist k 3 role.Channel j (omega arith) refl is)
-    (λ way is. output_driven system number connection netlist k 4 role.Error j (omega arith) refl is)
-    (λ way is. output_driven system number connection netlist k 5 role.StartOfPacket j (omega arith) refl is)
-    (λ way is. output_driven system number connection netlist k 6 role.EndOfPacket j (omega arith) refl is)
-    (λ way is. output_driven system number connection netlist k 7 role.Empty j (omega arith) refl is)
+    (λ way is. output_driven system number connection netlist k 1 role.Valid j refl is)
+    (λ way is. output_driven system number connection netlist k 2 role.Data j refl is)
+    (λ way is. output_driven system number connection netlist k 3 role.Channel j refl is)
+    (λ way is. output_driven system number connection netlist k 4 role.Error j refl is)
+    (λ way is. output_driven system number connection netlist k 5 role.StartOfPacket j refl is)
+    (λ way is. output_driven system number connection netlist k 6 role.EndOfPacket j refl is)
+    (λ way is. output_driven system number connection netlist k 7 role.Empty j refl is)
     p among way at
 sink_driven system number connection netlist k j p (inr is) way at =
-    output_driven system number connection netlist k 8 role.Dropped j (omega arith) refl (ap (λ (q : RolePort). port_at system connection.end q.role) (sym is) ∙ at)
+    output_driven system number connection netlist k 8 role.Dropped j refl (ap (λ (q : RolePort). port_at system connection.end q.role) (sym is) ∙ at)

@@ -17,7 +17,7 @@ use Rattle.stream_path.specs.declared.ends.SourceNets.{SourceNets}
 use Rattle.interconnect.specs.Streams.{low_line}
 use Rattle.interconnect.specs.Joins.{wire_nets}
 use Rattle.interconnect.proofs.Forms.{IsWire}
-use Rattle.interconnect.proofs.Joining.{low_stays, extends-refl}
+use Rattle.interconnect.proofs.Driving.{low_stays, extends-refl}
 
 -- ---- signals
 

@@ -1,6 +1,7 @@
 pub mod Wires
 pub mod Streams
-pub mod Joins
 pub mod Memory
+pub mod Outputs
 pub mod MemoryNets
+pub mod Joins
 pub mod Interconnect

@@ -1,4 +1,4 @@
--- Which connections are built so far: each stream, and one host joined to one agent that fills its range. Which streams are wires.
+-- Which connections are built so far: each stream, and the only one of a host to an agent, if the agent fills the host's range. Which streams are wires.
 use Rattle.std.specs.Prelude.{ℕ, ◌+◌, Bool, true, false, not, ◌&&◌, ◌==◌, nat_le, length, take, count_by, Option, slice_get}
 use Rattle.std.specs.List.{position_from}
 use Rattle.std.specs.Option.{option_map_or}
@@ -9,6 +9,7 @@ use Rattle.iface_roles.specs.declared.records.Finished.TheVariants.{Host, Agent,
 use Rattle.system_tables.specs.declared.tables.Connection.{Connection}
 use Rattle.system_tables.specs.Tables.{SystemTable}
 use Rattle.address_map.specs.Footprints.{known_at}
+use Rattle.address_map.specs.Maps.{mm_connections}
 use Rattle.link_rules.specs.Links.{streams_of}
 use Rattle.stream_runs.specs.Ends.{Declared}
 use Rattle.stream_path.specs.Joining.{declared}
@@ -51,13 +52,13 @@ fills_range host agent = (host.address_bits == agent.address_bits + 2) && both_o
 abbrev pub is_wire_memory : HostPort → AgentPort → Bool
 is_wire_memory host agent = is_wire_host host && is_wire_agent agent && fills_range host agent
 
--- it is the only connection, its base is 0, and there are no pipeline stages
-abbrev pub is_alone : SystemTable → Connection → Bool
-is_alone system connection = (length system.connections == 1) && (connection.base == 0) && (system.stages == 0)
+-- it is the only connection of a host to an agent, its base is 0, and there are no pipeline stages
+abbrev pub is_only : SystemTable → Connection → Bool
+is_only system connection = (length (mm_connections system) == 1) && (connection.base == 0) && (system.stages == 0)
 
 abbrev pub is_built_as : SystemTable → Connection → Finished → Finished → Bool
 is_built_as system connection (Source source) (Sink sink) = true
-is_built_as system connection (Host host) (Agent agent) = is_alone system connection && is_wire_memory host agent
+is_built_as system connection (Host host) (Agent agent) = is_only system connection && is_wire_memory host agent
 is_built_as system connection _ _ = false
 
 -- the connection is one of those that are built

@@ -1,12 +1,13 @@
 ghost use Rattle.std.specs.Prelude.{◌≡◌, length};
 ghost use Rattle.system_tables.specs.Tables.{IsLogic};
+ghost use Rattle.address_map.specs.Maps.{is_mm, mm_connections};
 ghost use Rattle.stream_path.specs.Joining.{declared};
-ghost use Rattle.interconnect.specs.Wires.{has_same_beats, has_plain_ready, is_wire_stream, is_wire, is_wire_host, is_wire_agent, fills_range, is_wire_memory, is_alone, is_built, pending_of};
+ghost use Rattle.interconnect.specs.Wires.{has_same_beats, has_plain_ready, is_wire_stream, is_wire, is_wire_host, is_wire_agent, fills_range, is_wire_memory, is_only, is_built, pending_of};
 ghost use Rattle.port_tables.specs.Ends.{IsPlanEnd};
 
-use iface_roles::{AgentPort, Finished, HostPort, SinkPort, SourcePort};
-use link_rules::Plan;
 use system_tables::Connection;
+use iface_roles::{AgentPort, Finished, HostPort, Kind, SinkPort, SourcePort};
+use link_rules::Plan;
 
 fn has_same_beats(source: &SourcePort, sink: &SinkPort) -> bool
     ensures { result ≡ has_same_beats (declared source.now) (declared sink.now) }
@@ -96,11 +97,30 @@ fn is_wire_memory(host: &HostPort, agent: &AgentPort) -> bool
     is_wire_host(host) && is_wire_agent(agent) && fills_range(host, agent)
 }
 
-/// Whether it is the only connection, with base 0 and without pipeline stages.
-fn is_alone(plan: &Plan, connection: Connection) -> bool
-    ensures { result ≡ is_alone plan.now.system connection }
+fn is_mm(connection: &Connection) -> bool
+    ensures { result ≡ is_mm connection.now.kind }
 {
-    plan.connections().len() == 1 && connection.base == 0 && plan.stages() == 0
+    matches!(connection.kind, Kind::Mm)
+}
+
+/// How many connections of hosts to agents there are.
+fn mm_count(plan: &Plan) -> usize
+    ensures { result ≡ length (mm_connections plan.now.system) }
+{
+    let mut count = 0;
+    for connection in plan.connections() {
+        if is_mm(connection) {
+            count += 1;
+        }
+    }
+    count
+}
+
+/// Whether it is the only connection of a host to an agent, with base 0 and without pipeline stages.
+fn is_only(plan: &Plan, connection: Connection) -> bool
+    ensures { result ≡ is_only plan.now.system connection }
+{
+    mm_count(plan) == 1 && connection.base == 0 && plan.stages() == 0
 }
 
 /// Whether the connection is one of those that are built so far.
@@ -113,13 +133,13 @@ fn is_built(plan: &Plan, connection: Connection) -> bool
     match (start, end) {
         (Finished::Source(_), Finished::Sink(_)) => true,
         (Finished::Host(host), Finished::Agent(agent)) => {
-            is_alone(plan, connection) && is_wire_memory(&host, &agent)
+            is_only(plan, connection) && is_wire_memory(&host, &agent)
         }
         _ => false,
     }
 }
 
-/// The least connection that isn't built yet: one of a host and an agent.
+/// The least connection that isn't built yet: one of a host to an agent.
 pub fn pending(plan: &Plan) -> Option<u32>
     ensures { result ≡ pending_of plan.now.system }
 {

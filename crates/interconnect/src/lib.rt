@@ -3,6 +3,7 @@
 
 mod built;
 mod memory;
+mod outputs;
 mod streams;
 mod whole;
 

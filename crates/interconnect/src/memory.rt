@@ -1,23 +1,23 @@
-ghost use Rattle.std.specs.Prelude.{◌≡◌, ◌≢◌, ℕ, ◌+◌, ◌^◌, ◌≤◌, [], None, length, option_map, IfOk, IfSome};
-ghost use Rattle.netlist.specs.Nets.{net_of};
-ghost use Rattle.netlist.specs.Netlists.{IsInputPort, input_net};
+ghost use Rattle.std.specs.Prelude.{◌≡◌, ◌+◌, ◌^◌, ◌≤◌, [], None, length, IfOk, OnOk, MatchOption};
+ghost use Rattle.netlist.specs.Netlists.{Netlist};
 ghost use Rattle.mm_machines.specs.BoundedWire.{IsWireForm};
-ghost use Rattle.net_parts.specs.Nets.{IsNetOfWidth};
 ghost use Rattle.mm_wire.specs.Wires.{AreHostNets, AreAgentNets};
-ghost use Rattle.address_map.specs.Maps.{hosts_of};
+ghost use Rattle.address_map.specs.Maps.{mm_connections};
+ghost use Rattle.port_tables.specs.Ports.{ports_of};
+ghost use Rattle.port_tables.specs.PortMaps.{entries_of};
 ghost use Rattle.interconnect.specs.Wires.{pending_of};
 ghost use Rattle.interconnect.specs.Memory.{form_of};
-ghost use Rattle.interconnect.specs.Interconnect.{IsInterconnect};
-ghost use Rattle.port_tables.specs.PortMaps.{entries_of};
-ghost use Rattle.interconnect.specs.MemoryNets.{bounded_form, IsOnlyMemory, wire_places, AreHostInputs, AreAgentInputs, host_nets_at, agent_nets_at, AddsWire, driver, CanDrive, driven_by, enables_driver, wire_drivers};
+ghost use Rattle.interconnect.specs.MemoryNets.{bounded_form, IsMemoryLink, AreHostInputs, AreAgentInputs, AddsWire, wire_outputs};
+ghost use Rattle.interconnect.specs.Joins.{IsBegun, IsJoinedUpTo};
 
+use crate::outputs::{Output, drive_outputs, input_net, input_of};
 use av_base::NoMemory;
+use system_tables::Connection;
 use iface_roles::{AgentPort, Finished};
 use link_rules::Plan;
 use mm_wire::{AgentNets, HostNets, WireNets, emit};
-use netlist::{Builder, Module, Net, NetFault};
-use port_tables::{PortMap, start};
-use std::alloc::Global;
+use netlist::{Builder, NetFault};
+use port_tables::{PortMap, Role, ports_are_known};
 
 /// A host joined to an agent that fills its whole range of addresses.
 #[derive(Clone, Copy)]
@@ -30,118 +30,74 @@ struct MemoryForm {
     pending: u8,
 }
 
-/// The numbers of the ports of an end, in the header.
+/// The connection of a host to an agent.
 #[derive(Clone, Copy)]
-struct EndPlaces {
-    address: u32,
-    read: u32,
-    write: u32,
-    writedata: u32,
-    byteenable: Option<u32>,
-    waitrequest: u32,
-    readdata: u32,
-    readdatavalid: u32,
+struct MemoryLink {
+    connection: Connection,
+    form: MemoryForm,
 }
 
-/// The numbers of all ports.
-#[derive(Clone, Copy)]
-struct WirePlaces {
-    host: EndPlaces,
-    agent: EndPlaces,
-    grant: u32,
-}
-
-fn wire_places(has_enables: bool) -> WirePlaces
-    ensures { result ≡ wire_places has_enables }
+fn form_of(agent: &AgentPort) -> MemoryForm
+    ensures { bounded_form result ≡ form_of agent.now }
 {
-    if has_enables {
-        WirePlaces {
-            host: EndPlaces {
-                address: 0,
-                read: 1,
-                write: 2,
-                writedata: 3,
-                byteenable: Some(4),
-                waitrequest: 5,
-                readdata: 6,
-                readdatavalid: 7,
-            },
-            agent: EndPlaces {
-                address: 8,
-                read: 9,
-                write: 10,
-                writedata: 11,
-                byteenable: Some(12),
-                waitrequest: 13,
-                readdata: 14,
-                readdatavalid: 15,
-            },
-            grant: 16,
-        }
-    } else {
-        WirePlaces {
-            host: EndPlaces {
-                address: 0,
-                read: 1,
-                write: 2,
-                writedata: 3,
-                byteenable: None,
-                waitrequest: 4,
-                readdata: 5,
-                readdatavalid: 6,
-            },
-            agent: EndPlaces {
-                address: 7,
-                read: 8,
-                write: 9,
-                writedata: 10,
-                byteenable: None,
-                waitrequest: 11,
-                readdata: 12,
-                readdatavalid: 13,
-            },
-            grant: 14,
-        }
+    let pending = if agent.pending == 0 { 1 } else { agent.pending };
+    MemoryForm {
+        address_bits: agent.address_bits,
+        has_enables: agent.enables,
+        pending,
     }
 }
 
-/// The net of a port of byte enables, where there is one.
-fn enables_net(builder: &Builder, port: Option<u32>) -> Option<Net>
-    requires { IfSome port (λ k. IsInputPort builder.now.ports k 4) }
-    ensures net { result ≡ option_map (λ k. net_of (input_net builder.now.ports k) 4) port }
-    ensures is { IfSome result (λ net. IsNetOfWidth builder.now net 4) }
+/// The connection of a host to an agent, where there is one.
+fn memory_link(plan: &Plan) -> Option<MemoryLink>
+    requires { pending_of plan.now.system ≡ None }
+    ensures { MatchOption result (mm_connections plan.now.system ≡ []) (IsMemoryLink plan.now.system) }
 {
-    match port {
-        Some(port) => Some(builder.input(port)),
-        None => None,
+    plan.well_made();
+    for connection in plan.connections() {
+        if let Finished::Agent(agent) = plan.interface(connection.end) {
+            return Some(MemoryLink {
+                connection: *connection,
+                form: form_of(&agent),
+            });
+        }
     }
+    None
 }
 
-/// The nets at a host's inputs.
-fn host_nets(builder: &Builder, places: EndPlaces, address_bits: u8) -> HostNets
-    requires { AreHostInputs builder.now.ports places address_bits }
-    ensures nets { result ≡ host_nets_at builder.now.ports places address_bits }
-    ensures are { AreHostNets builder.now result address_bits }
+/// The nets at the host's inputs.
+fn host_nets(builder: &Builder, plan: &Plan, ports: &PortMap, link: MemoryLink) -> HostNets
+    requires builder { builder.now.ports ≡ ports_of plan.now.system }
+    requires map { ports.now.entries ≡ entries_of plan.now.system }
+    requires link { IsMemoryLink plan.now.system link }
+    ensures inputs { AreHostInputs plan.now.system link.connection.start link.form.address_bits result }
+    ensures nets { AreHostNets builder.now result link.form.address_bits }
 {
+    ports_are_known(plan);
+    let end = link.connection.start;
     HostNets {
-        address: builder.input(places.address),
-        read: builder.input(places.read),
-        write: builder.input(places.write),
-        writedata: builder.input(places.writedata),
-        byteenable: enables_net(builder, places.byteenable),
+        address: input_net(builder, plan, ports, end, Role::Address),
+        read: input_net(builder, plan, ports, end, Role::Read),
+        write: input_net(builder, plan, ports, end, Role::Write),
+        writedata: input_net(builder, plan, ports, end, Role::WriteData),
+        byteenable: input_of(builder, plan, ports, end, Role::ByteEnable),
     }
 }
 
-/// The nets at an agent's inputs.
-fn agent_nets(builder: &Builder, places: EndPlaces) -> AgentNets
-    requires { AreAgentInputs builder.now.ports places }
-    ensures nets { result ≡ agent_nets_at builder.now.ports places }
-    ensures are { AreAgentNets builder.now result }
+/// The nets at the agent's inputs.
+fn agent_nets(builder: &Builder, plan: &Plan, ports: &PortMap, link: MemoryLink) -> AgentNets
+    requires builder { builder.now.ports ≡ ports_of plan.now.system }
+    requires map { ports.now.entries ≡ entries_of plan.now.system }
+    requires link { IsMemoryLink plan.now.system link }
+    ensures inputs { AreAgentInputs plan.now.system link.connection.end result }
+    ensures nets { AreAgentNets builder.now result }
 {
+    ports_are_known(plan);
+    let end = link.connection.end;
     AgentNets {
-        waitrequest: builder.input(places.waitrequest),
-        readdata: builder.input(places.readdata),
-        readdatavalid: builder.input(places.readdatavalid),
+        waitrequest: input_net(builder, plan, ports, end, Role::WaitRequest),
+        readdata: input_net(builder, plan, ports, end, Role::ReadData),
+        readdatavalid: input_net(builder, plan, ports, end, Role::ReadDataValid),
     }
 }
 
@@ -156,7 +112,7 @@ fn wire_nets(
     requires agent { AreAgentNets builder.old agent.now }
     requires limits { IsWireForm (bounded_form form) }
     requires room { length builder.old.lines + 15 ≤ 2 ^ 20 }
-    ensures { IfOk result (λ made. AddsWire builder.old builder.new host.now agent.now made form.address_bits form.pending) }
+    ensures { IfOk result (λ made. AddsWire builder.old builder.new host.now agent.now made (bounded_form form)) }
 {
     match emit(builder, host, agent, form.address_bits, form.pending) {
         Ok(made) => Ok(made),
@@ -165,107 +121,60 @@ fn wire_nets(
     }
 }
 
-/// A net that drives an output port.
-#[derive(Clone, Copy)]
-struct Driver {
-    port: u32,
-    net: Net,
-}
-
-fn port_driver(port: u32, net: Net) -> Driver
-    ensures { result ≡ driver port net }
+/// What drives the outputs: the agent's answers go to the host, and the host's commands to the agent, as the wire lets them through.
+fn wire_outputs(host: &HostNets, agent: &AgentNets, made: &WireNets) -> [Output; 9]
+    ensures { result ≡ wire_outputs host.now agent.now made.now }
 {
-    Driver { port, net }
+    [
+        Output::new(Role::WaitRequest, made.waitrequest),
+        Output::new(Role::ReadData, agent.readdata),
+        Output::new(Role::ReadDataValid, agent.readdatavalid),
+        Output::new(Role::Address, made.address),
+        Output::new(Role::Read, made.read),
+        Output::new(Role::Write, host.write),
+        Output::new(Role::WriteData, host.writedata),
+        // where the host has none, the agent has no port for it either
+        Output::new(Role::ByteEnable, host.byteenable.unwrap_or(host.write)),
+        Output::new(Role::Grant, made.grant),
+    ]
 }
 
-fn drive_all(builder: &mut Builder, drivers: &[Driver])
-    requires { CanDrive builder.old drivers.now }
-    ensures { builder.new ≡ driven_by builder.old drivers.now }
-{
-    let Some((first, rest)) = drivers.split_first() else {
-        return;
-    };
-    builder.drive(first.port, first.net);
-    drive_all(builder, rest);
-}
-
-fn drive_enables(builder: &mut Builder, port: Option<u32>, net: Option<Net>)
-    requires { CanDrive builder.old (enables_driver port net) }
-    ensures { builder.new ≡ driven_by builder.old (enables_driver port net) }
-{
-    if let (Some(port), Some(net)) = (port, net) {
-        drive_all(builder, &[port_driver(port, net)]);
-    }
-}
-
-/// Drives all outputs.
-fn drive_ends(
+/// Joins the host to its agent.
+fn join_link(
     builder: &mut Builder,
-    places: WirePlaces,
-    host: &HostNets,
-    agent: &AgentNets,
-    made: &WireNets,
-)
-    requires { CanDrive builder.old (wire_drivers places host.now agent.now made.now) }
-    ensures { builder.new ≡ driven_by builder.old (wire_drivers places host.now agent.now made.now) }
-{
-    let plain = [
-        port_driver(places.host.waitrequest, made.waitrequest),
-        port_driver(places.host.readdata, agent.readdata),
-        port_driver(places.host.readdatavalid, agent.readdatavalid),
-        port_driver(places.agent.address, made.address),
-        port_driver(places.agent.read, made.read),
-        port_driver(places.agent.write, host.write),
-        port_driver(places.agent.writedata, host.writedata),
-    ];
-    drive_all(builder, &plain);
-    drive_enables(builder, places.agent.byteenable, host.byteenable);
-    drive_all(builder, &[port_driver(places.grant, made.grant)]);
-}
-
-fn form_of(agent: &AgentPort) -> MemoryForm
-    ensures { bounded_form result ≡ form_of agent.now }
-{
-    let pending = if agent.pending == 0 { 1 } else { agent.pending };
-    MemoryForm {
-        address_bits: agent.address_bits,
-        has_enables: agent.enables,
-        pending,
-    }
-}
-
-/// The form of the only connection of a system with a host.
-fn plan_form(plan: &Plan) -> MemoryForm
-    requires built { pending_of plan.now.system ≡ None }
-    requires some_host { hosts_of plan.now.system ≢ [] }
-    ensures { IsOnlyMemory plan.now.system result }
-{
-    plan.well_made();
-    let connection = plan.connections()[0];
-    match plan.interface(connection.end) {
-        Finished::Agent(agent) => form_of(&agent),
-        _ => unreachable!(),
-    }
-}
-
-/// The interconnect of a system with a host: one host and one agent.
-pub(crate) fn build_memory(alloc: Global, plan: &Plan, ports: &PortMap) -> Result<Module, NoMemory>
-    requires built { pending_of plan.now.system ≡ None }
-    requires some_host { hosts_of plan.now.system ≢ [] }
+    plan: &Plan,
+    ports: &PortMap,
+    link: MemoryLink,
+) -> Result<(), NoMemory>
     requires map { ports.now.entries ≡ entries_of plan.now.system }
-    ensures { IfOk result (λ whole. IsInterconnect plan.now.system whole) }
+    requires link { IsMemoryLink plan.now.system link }
+    requires begun { IsBegun plan.now.system builder.old }
+    ensures { OnOk result (IsJoinedUpTo plan.now.system 0 builder.new) }
 {
-    // the laws of such a wire, which the contract rests on
-    mm_machines::wires::bounded_wire_is_safe();
-    mm_runs::memory_is_read_back();
+    ports_are_known(plan);
+    netlist::keeps();
+    let host = host_nets(builder, plan, ports, link);
+    let agent = agent_nets(builder, plan, ports, link);
+    let made = wire_nets(builder, &host, &agent, link.form)?;
+    let outputs = wire_outputs(&host, &agent, &made);
+    drive_outputs(builder, plan, ports, link.connection, &outputs);
+    Ok(())
+}
 
-    plan.well_made();
-    let form = plan_form(plan);
-    let places = wire_places(form.has_enables);
-    let mut builder = start(alloc, plan, ports)?;
-    let host = host_nets(&builder, places.host, form.address_bits);
-    let agent = agent_nets(&builder, places.agent);
-    let made = wire_nets(&mut builder, &host, &agent, form)?;
-    drive_ends(&mut builder, places, &host, &agent, &made);
-    Ok(builder.finish())
+/// Joins the host to its agent, where there are any.
+pub(crate) fn join_memory(
+    builder: &mut Builder,
+    plan: &Plan,
+    ports: &PortMap,
+) -> Result<(), NoMemory>
+    requires built { pending_of plan.now.system ≡ None }
+    requires map { ports.now.entries ≡ entries_of plan.now.system }
+    requires begun { IsBegun plan.now.system builder.old }
+    ensures { OnOk result (IsJoinedUpTo plan.now.system 0 builder.new) }
+{
+    ports_are_known(plan);
+    match memory_link(plan) {
+        Some(link) => join_link(builder, plan, ports, link),
+        None => Ok(()),
+    }
 }

@@ -1,50 +1,32 @@
-ghost use Rattle.std.specs.Prelude.{◌≡◌, ◌≢◌, ℕ, ◌+◌, ◌^◌, ◌<◌, ◌≤◌, [], length, slice_get, Some, None, IfOk, IfSome, OnOk};
+ghost use Rattle.std.specs.Prelude.{◌≡◌, ℕ, ◌+◌, ◌^◌, ◌<◌, ◌≤◌, length, IfOk, OnOk};
 ghost use Rattle.iface_roles.specs.declared.records.StreamPort.{StreamPort};
-ghost use Rattle.iface_roles.specs.declared.records.Finished.TheVariants.{Source, Sink};
+ghost use Rattle.iface_roles.specs.declared.records.Finished.TheVariants.{Source};
 ghost use Rattle.address_map.specs.Footprints.{known_at};
-ghost use Rattle.address_map.specs.Maps.{hosts_of};
 ghost use Rattle.link_rules.specs.Links.{streams_of};
 ghost use Rattle.netlist.specs.Nets.{net_of};
-ghost use Rattle.netlist.specs.Netlists.{driver_of, appended, started};
-ghost use Rattle.netlist.specs.Longer.{Extends};
-ghost use Rattle.net_parts.specs.Nets.{IsNetOfWidth};
+ghost use Rattle.netlist.specs.Netlists.{appended, started};
 ghost use Rattle.net_parts.specs.Growth.{GrowsBy, StillWait};
 ghost use Rattle.stream_path.specs.Joining.{declared, CanJoin};
 ghost use Rattle.stream_path.specs.Ends.{IsNetIf, AreSourceNets, ArePathNets};
 ghost use Rattle.stream_path.specs.Serving.{most_nets, ServesInLonger};
-ghost use Rattle.interconnect.specs.Interconnect.{IsInterconnect};
 ghost use Rattle.port_tables.specs.Ends.{IsAnEnd, IsPlanEnd, IsStreamPlace};
-ghost use Rattle.port_tables.specs.Ports.{ends_of, ports_of, module_name};
+ghost use Rattle.port_tables.specs.Ports.{ports_of, module_name};
 ghost use Rattle.port_tables.specs.PortMaps.{entries_of};
 ghost use Rattle.interconnect.specs.Wires.{is_wire, wires_before};
 ghost use Rattle.interconnect.specs.Streams.{low_line};
-ghost use Rattle.interconnect.specs.Joins.{IsInputIf, input_at, AreInputs, wire_nets, output_roles, output_end, net_for, HasSameNets, MayDrive, MayDriveAll, AreDriven, IsNoOutput, low_at, AddsLow, AddsStream, with_lows, AreLows, IsJoinedUpTo};
+ghost use Rattle.interconnect.specs.Joins.{AreInputs, wire_nets, path_outputs, AddsLow, AddsStreamOf, IsLowOf, with_lows, AreLows, IsJoinedUpTo};
 
 use crate::built::is_wire;
+use crate::outputs::{Output, drive_outputs, input_of};
 use av_base::{List, NoMemory, Val};
+use system_tables::{Connection, EndId};
 use iface_roles::{Finished, SinkPort, SourcePort, proper_records_are_bounded};
 use link_rules::Plan;
-use netlist::{Builder, Module, Net, NetFault};
-use port_tables::{PortMap, Role, start, stream_at};
+use netlist::{Builder, Net, NetFault};
+use port_tables::{PortMap, Role, ports_are_known, stream_at};
 use stage_core::BeatNets;
 use std::alloc::Global;
 use stream_path::{PathNets, SourceNets, emit_path};
-use system_tables::{Connection, EndId};
-
-/// The net of the input port of a role at an end.
-fn input_of(builder: &Builder, plan: &Plan, ports: &PortMap, end: EndId, role: Role) -> Option<Net>
-    requires builder { builder.now.ports ≡ ports_of plan.now.system }
-    requires map { ports.now.entries ≡ entries_of plan.now.system }
-    requires end { IsAnEnd plan.now.system end }
-    requires input { (width : ℕ) × IsInputIf plan.now.system end role width }
-    ensures net { (width : ℕ) → IsInputIf plan.now.system end role width → result ≡ input_at plan.now.system end role width }
-    ensures is { (width : ℕ) → IsInputIf plan.now.system end role width → IfSome result (λ net. IsNetOfWidth builder.now net width) }
-{
-    match ports.port_at(plan, end, role) {
-        Some(port) => Some(builder.input(port)),
-        None => None,
-    }
-}
 
 /// The nets of a source.
 fn source_nets(builder: &Builder, plan: &Plan, ports: &PortMap, end: EndId) -> SourceNets
@@ -56,7 +38,7 @@ fn source_nets(builder: &Builder, plan: &Plan, ports: &PortMap, end: EndId) -> S
     ensures nets { (source : StreamPort) → known_at plan.now.system end ≡ Source source → AreSourceNets builder.now (declared source) result }
 {
     proper_records_are_bounded();
-    plan.well_made();
+    ports_are_known(plan);
     SourceNets {
         valid: input_of(builder, plan, ports, end, Role::Valid).unwrap(),
         word: input_of(builder, plan, ports, end, Role::Data).unwrap(),
@@ -120,7 +102,7 @@ fn low_net(
 }
 
 /// For each stream that is a wire a net that is always low, by the stream's number.
-fn low_nets(
+pub(crate) fn low_nets(
     alloc: Global,
     builder: &mut Builder,
     plan: &Plan,
@@ -130,7 +112,7 @@ fn low_nets(
     ensures lines { OnOk result (builder.new ≡ with_lows builder.old (wires_before plan.now.system (length (streams_of plan.now.system)))) }
     ensures no_more_wait { OnOk result (StillWait builder.new builder.old) }
 {
-    plan.well_made();
+    ports_are_known(plan);
     let mut lows = List::new(alloc);
     for number in 0..plan.streams().len() {
         let connection = stream_at(plan, number);
@@ -179,15 +161,14 @@ fn stream_nets(
 ) -> Result<PathNets, NoMemory>
     requires at { IsStreamPlace plan.now.system number connection }
     requires map { ports.now.entries ≡ entries_of plan.now.system }
-    requires low { (place : ℕ) → slice_get (streams_of plan.now.system) number ≡ Some place → low ≡ low_at plan.now.system number place }
+    requires low { IsLowOf plan.now.system number low }
     requires joined { IsJoinedUpTo plan.now.system number builder.old }
-    ensures { IfOk result (λ made. (source : StreamPort) (sink : StreamPort) → known_at plan.now.system connection.start ≡ Source source → known_at plan.now.system connection.end ≡ Sink sink
-        → AddsStream plan.now.system connection source sink low builder.old builder.new made) }
+    ensures { IfOk result (AddsStreamOf plan.now.system connection low builder.old builder.new) }
 {
     // the law of a wire, which the contract rests on
     stream_runs::wire_is_served();
     proper_records_are_bounded();
-    plan.well_made();
+    ports_are_known(plan);
     let Finished::Source(source) = plan.interface(connection.start) else {
         unreachable!()
     };
@@ -210,92 +191,21 @@ fn stream_nets(
     }
 }
 
-/// Lets a net drive an output port, where there is one.
-fn drive(builder: &mut Builder, port: Option<u32>, net: Net)
-    requires { IfSome port (MayDrive builder.old net) }
-    ensures same { HasSameNets builder.old builder.new }
-    ensures extends { Extends builder.old builder.new }
-    ensures driver { IfSome port (λ k. driver_of builder.new k ≡ Some net.number) }
-    ensures others { (k : ℕ) → port ≢ Some k → driver_of builder.new k ≡ driver_of builder.old k }
-{
-    if let Some(port) = port {
-        builder.drive(port, net);
-    }
-}
-
-/// The roles of the outputs of a stream.
-fn output_roles() -> [Role; 9]
-    ensures { result ≡ output_roles }
+/// What drives the outputs of a stream.
+fn path_outputs(made: &PathNets) -> [Output; 9]
+    ensures { result ≡ path_outputs made.now }
 {
     [
-        Role::Ready,
-        Role::Valid,
-        Role::Data,
-        Role::Channel,
-        Role::Error,
-        Role::StartOfPacket,
-        Role::EndOfPacket,
-        Role::Empty,
-        Role::Dropped,
+        Output::new(Role::Ready, made.ready),
+        Output::new(Role::Valid, made.beat.valid),
+        Output::new(Role::Data, made.beat.word),
+        Output::new(Role::Channel, made.beat.channel),
+        Output::new(Role::Error, made.beat.error),
+        Output::new(Role::StartOfPacket, made.beat.first),
+        Output::new(Role::EndOfPacket, made.beat.last),
+        Output::new(Role::Empty, made.beat.empty),
+        Output::new(Role::Dropped, made.dropped),
     ]
-}
-
-/// The end at which an output of a role stands.
-fn output_end(connection: Connection, role: Role) -> EndId
-    ensures { result ≡ output_end connection role }
-{
-    if role.is_forward() {
-        connection.end
-    } else {
-        connection.start
-    }
-}
-
-/// The net that drives the output of a role.
-fn net_for(made: &PathNets, role: Role) -> Net
-    ensures { result ≡ net_for made.now role }
-{
-    match role {
-        Role::Ready => made.ready,
-        Role::Valid => made.beat.valid,
-        Role::Data => made.beat.word,
-        Role::Channel => made.beat.channel,
-        Role::Error => made.beat.error,
-        Role::StartOfPacket => made.beat.first,
-        Role::EndOfPacket => made.beat.last,
-        Role::Empty => made.beat.empty,
-        _ => made.dropped,
-    }
-}
-
-/// Lets the nets of a stream drive its outputs.
-fn drive_outputs(
-    builder: &mut Builder,
-    plan: &Plan,
-    ports: &PortMap,
-    connection: Connection,
-    made: &PathNets,
-)
-    requires start { IsAnEnd plan.now.system connection.start }
-    requires end { IsAnEnd plan.now.system connection.end }
-    requires map { ports.now.entries ≡ entries_of plan.now.system }
-    requires can { MayDriveAll plan.now.system connection made.now builder.old }
-    ensures same { HasSameNets builder.old builder.new }
-    ensures extends { Extends builder.old builder.new }
-    ensures driven { AreDriven plan.now.system connection made.now builder.new }
-    ensures others { (k : ℕ) → IsNoOutput 9 plan.now.system connection k → driver_of builder.new k ≡ driver_of builder.old k }
-{
-    plan.well_made();
-    netlist::keeps();
-    let roles = output_roles();
-    for role in &roles {
-        let end = output_end(connection, *role);
-        drive(
-            builder,
-            ports.port_at(plan, end, *role),
-            net_for(made, *role),
-        );
-    }
 }
 
 /// Joins the ends of a stream; with `low` by a wire.
@@ -309,32 +219,33 @@ fn join_stream(
 ) -> Result<(), NoMemory>
     requires inside { number < length (streams_of plan.now.system) }
     requires map { ports.now.entries ≡ entries_of plan.now.system }
-    requires low { (place : ℕ) → slice_get (streams_of plan.now.system) number ≡ Some place → low ≡ low_at plan.now.system number place }
+    requires low { IsLowOf plan.now.system number low }
     requires joined { IsJoinedUpTo plan.now.system number builder.old }
     ensures { OnOk result (IsJoinedUpTo plan.now.system (number + 1) builder.new) }
 {
-    plan.well_made();
+    ports_are_known(plan);
     netlist::keeps();
     let connection = stream_at(plan, number);
     let made = stream_nets(alloc, builder, plan, ports, number, connection, low)?;
-    drive_outputs(builder, plan, ports, connection, &made);
+    drive_outputs(builder, plan, ports, connection, &path_outputs(&made));
     Ok(())
 }
 
-/// The interconnect of a system without hosts.
-pub(crate) fn build_streams(alloc: Global, plan: &Plan, ports: &PortMap) -> Result<Module, NoMemory>
-    requires no_host { hosts_of plan.now.system ≡ [] }
+/// Joins the ends of all streams, with these low nets.
+pub(crate) fn join_streams(
+    alloc: Global,
+    builder: &mut Builder,
+    plan: &Plan,
+    ports: &PortMap,
+    lows: &[Option<Net>],
+) -> Result<(), NoMemory>
     requires map { ports.now.entries ≡ entries_of plan.now.system }
-    ensures { IfOk result (λ whole. IsInterconnect plan.now.system whole) }
+    requires lows { AreLows plan.now.system (length (streams_of plan.now.system)) lows.now }
+    requires joined { IsJoinedUpTo plan.now.system 0 builder.old }
+    ensures { OnOk result (IsJoinedUpTo plan.now.system (length (streams_of plan.now.system)) builder.new) }
 {
-    proper_records_are_bounded();
-    plan.well_made();
-    let mut builder = start(alloc, plan, ports)?;
-    let lows = low_nets(alloc, &mut builder, plan)?;
     for number in 0..plan.streams().len() {
-        let low = lows.as_slice()[number];
-        join_stream(alloc, &mut builder, plan, ports, number, low)?;
+        join_stream(alloc, builder, plan, ports, number, lows[number])?;
     }
-    builder.well_made();
-    Ok(builder.finish())
+    Ok(())
 }

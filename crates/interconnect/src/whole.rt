@@ -3,12 +3,13 @@ ghost use Rattle.interconnect.specs.Wires.{pending_of};
 ghost use Rattle.interconnect.specs.Interconnect.{IsInterconnect};
 ghost use Rattle.port_tables.specs.PortMaps.{AreTold};
 
-use crate::memory::build_memory;
-use crate::streams::build_streams;
+use crate::memory::join_memory;
+use crate::streams::{join_streams, low_nets};
 use av_base::NoMemory;
+use iface_roles::proper_records_are_bounded;
 use link_rules::Plan;
 use netlist::Module;
-use port_tables::PortMap;
+use port_tables::{PortMap, ports_are_known, start};
 use std::alloc::Global;
 
 /// The interconnect of a plan, and where its ports stand.
@@ -24,11 +25,17 @@ pub fn build(alloc: Global, plan: &Plan) -> Result<Built, NoMemory>
     ensures module { IfOk result (λ built. IsInterconnect plan.now.system built.module) }
     ensures ports { IfOk result (λ built. AreTold plan.now.system built.ports) }
 {
+    // the laws of a host wired to its agent, which the contract rests on
+    mm_runs::bounded_wire_is_safe();
+    mm_runs::memory_is_read_back();
+    proper_records_are_bounded();
+    ports_are_known(plan);
     let ports = PortMap::make(alloc, plan)?;
-    let module = if plan.hosts().is_empty() {
-        build_streams(alloc, plan, &ports)?
-    } else {
-        build_memory(alloc, plan, &ports)?
-    };
+    let mut builder = start(alloc, plan, &ports)?;
+    let lows = low_nets(alloc, &mut builder, plan)?;
+    join_memory(&mut builder, plan, &ports)?;
+    join_streams(alloc, &mut builder, plan, &ports, lows.as_slice())?;
+    builder.well_made();
+    let module = builder.finish();
     Ok(Built { module, ports })
 }

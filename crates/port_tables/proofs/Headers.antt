@@ -1,5 +1,5 @@
 -- The header of a system: its names are names of ports, each stands there once, and its widths are within bounds.
-use Rattle.std.proofs.Common.{◌≡◌, ◌≢◌, inl, inr, ℕ, ◌*◌, ◌<◌, ◌≤◌, Bool, true, false, List, [], ◌∷◌, ◌++◌, length, map, get_or, slice_get, Option, Some, None, refl, sym, ap, subst, ◌∙◌, arith, AllPairs, length-append}
+use Rattle.std.proofs.Common.{◌≡◌, ◌≢◌, inl, inr, ℕ, ◌+◌, ◌*◌, ◌<◌, ◌≤◌, Bool, true, false, List, [], ◌∷◌, ◌++◌, length, map, get_or, slice_get, Option, Some, None, refl, sym, ap, subst, ◌∙◌, arith, AllPairs, length-append}
 use Rattle.std.specs.List.{flat_map}
 use Rattle.std.proofs.lemmas.Bool.{ltb-true}
 use Rattle.std.proofs.lemmas.List.{map-append, length-map, get_or-map}
@@ -281,19 +281,13 @@ ports-few system h =
 pub inputs-few : (system : SystemTable) → IsPlanned system → input_count (ports_of system) ≤ 880
 inputs-few system h = le_trans (count_by-le-length _ (ports_of system)) (ports-few system h)
 
-pub inputs-ends : (system : SystemTable) → input_count (ports_of system) ≤ 11 * length (ends_of system)
-inputs-ends system = le_trans (count_by-le-length _ (ports_of system)) (length-flat (end_ports system) 11 (ends_of system) (end_ports-few system))
-
--- of a system of streams alone
-pub stream_inputs-few : (system : SystemTable) → hosts_of system ≡ [] → agents_of system ≡ [] → input_count (ports_of system) ≤ 22 * length (streams_of system)
-stream_inputs-few system none no_agent =
-    let flat = inputs-ends system in
+pub inputs-ends : (system : SystemTable) → input_count (ports_of system) ≤ 11 * length (hosts_of system) + 11 * length (agents_of system) + 22 * length (streams_of system)
+inputs-ends system =
+    let flat : input_count (ports_of system) ≤ 11 * length (ends_of system) = le_trans (count_by-le-length _ (ports_of system)) (length-flat (end_ports system) 11 (ends_of system) (end_ports-few system)) in
     let streams = length-flat (connection_ends system) 2 (streams_of system) (connection_ends-few system) in
     let first = length-append (hosts_of system) (agents_of system) in
     let all = length-append (hosts_of system ++ agents_of system) (flat_map (connection_ends system) (streams_of system)) in
-    let no_hosts = ap (λ (ends : List EndId). length ends) none in
-    let no_agents = ap (λ (ends : List EndId). length ends) no_agent in
-    omega (arith, flat, streams, first, all, no_hosts, no_agents)
+    omega (arith, flat, streams, first, all)
 
 -- ---- the header
 

@@ -57,7 +57,7 @@ distinct_once (e ∷ ends) = (
 
 -- ---- connections
 
-mm_kind : (kind : Kind) → is_mm kind ≡ true → kind ≡ Mm
+pub mm_kind : (kind : Kind) → is_mm kind ≡ true → kind ≡ Mm
 mm_kind Clock e = absurd (false≢true e)
 mm_kind Reset e = absurd (false≢true e)
 mm_kind Mm e = refl

@@ -1,5 +1,5 @@
 -- Where the ports of a module stand in its header.
-use Rattle.std.specs.Prelude.{◌≡◌, ◌<◌, ℕ, Bool, List, map, flat_map, length, slice_get, Option, Some, None}
+use Rattle.std.specs.Prelude.{◌≡◌, ◌+◌, ◌*◌, ◌<◌, ◌≤◌, ℕ, Bool, List, map, flat_map, length, slice_get, Option, Some, None}
 use Rattle.iface_roles.specs.declared.roles.Role.{Role as InterfaceRole}
 use Rattle.iface_roles.specs.declared.roles.Role.TheVariants as of_interface
 use Rattle.iface_roles.specs.declared.records.Finished.{Finished}
@@ -7,9 +7,10 @@ use Rattle.system_tables.specs.declared.tables.EndId.{EndId}
 use Rattle.system_tables.specs.declared.tables.Connection.{Connection}
 use Rattle.system_tables.specs.Tables.{SystemTable}
 use Rattle.address_map.specs.Footprints.{known_at}
-use Rattle.address_map.specs.Maps.{agents_of}
+use Rattle.address_map.specs.Maps.{hosts_of, agents_of}
 use Rattle.link_rules.specs.Links.{streams_of}
 use Rattle.netlist.specs.declared.line.PortLine.{PortLine}
+use Rattle.netlist.specs.Netlists.{input_count}
 use Rattle.netlist.specs.Signals.{port_named}
 use Rattle.port_tables.specs.declared.roles.Role.{Role}
 use Rattle.port_tables.specs.declared.roles.Role.TheVariants as role
@@ -17,6 +18,7 @@ use Rattle.port_tables.specs.declared.roles.RolePort.{RolePort}
 use Rattle.port_tables.specs.declared.port_table.PortEntry.{PortEntry}
 use Rattle.port_tables.specs.declared.port_table.PortMap.{PortMap}
 use Rattle.port_tables.specs.Lists.{Among}
+use Rattle.port_tables.specs.EndFacts.{IsPlanned}
 use Rattle.port_tables.specs.Ports.{role_word, is_output, may_have, role_ports, starts, name_at, port_name, ends_of, ports_of}
 
 -- ---- what stands in the header
@@ -72,6 +74,18 @@ pub record IsOwned (system : SystemTable) (k : ℕ) (port : PortLine) : Type 0 w
   pub some : 0 < role_port.width
   pub named : port_at system end role_port.role ≡ Some k
   pub output : port.output ≡ is_output (starts (known_at system end)) role_port.role
+
+-- what is known of the ports of a system's module
+pub record HasKnownPorts (system : SystemTable) : Type 0 where
+  pub planned : IsPlanned system
+  -- a port that an end may have stands in the header with its width and direction, or it has no bits and doesn't stand there
+  pub known : (end : EndId) (there : Finished) (p : RolePort) → Among end (ends_of system) → known_at system end ≡ there → Among p (may_have there)
+      → IsPortIf (ports_of system) (is_output (starts there) p.role) p.width (port_at system end p.role)
+  -- it stands for one end and one role
+  pub one_role : (a b : EndId) (r s : Role) (k : ℕ) → Among a (ends_of system) → Among b (ends_of system) → port_at system a r ≡ Some k → port_at system b s ≡ Some k → IsOneRole a b r s
+  pub owner : (k : ℕ) (port : PortLine) → slice_get (ports_of system) k ≡ Some port → IsOwned system k port
+  pub few_inputs : input_count (ports_of system) ≤ 880
+  pub inputs_by_ends : input_count (ports_of system) ≤ 11 * length (hosts_of system) + 11 * length (agents_of system) + 22 * length (streams_of system)
 
 -- ---- what the map tells
 

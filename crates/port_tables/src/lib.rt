@@ -2,10 +2,12 @@
 #![tactic(auto)]
 
 mod header;
+mod laws;
 mod port_map;
 mod port_table;
 mod roles;
 
 pub use header::{start, stream_at};
+pub use laws::ports_are_known;
 pub use port_table::PortMap;
 pub use roles::Role;

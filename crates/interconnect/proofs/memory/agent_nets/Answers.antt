@@ -1,16 +1,41 @@
-use Rattle.interconnect.proofs.MemoryWires.{net_is, agent_nets_are}
+use Rattle.std.proofs.Common.{arith}
+use Rattle.port_tables.specs.declared.roles.Role.TheVariants as role
+use Rattle.interconnect.proofs.Driving.{is_an_end}
+use Rattle.interconnect.proofs.MemoryJoins.{agent_among, link_agent, input_there, wire_net_of}
 use Rattle.interconnect.proofs.memory.agent_nets.Goals as goal
+
+pub input_net-requires-clause-end : goal.input_net-requires-clause-end
+input_net-requires-clause-end c = is_an_end c.args.plan.now.system c.args.link.connection.end (agent_among c.args.plan.now.system c.args.link c.requires.link)
+
+pub input_net-requires-clause-input : goal.input_net-requires-clause-input
+input_net-requires-clause-input c = (1, input_there c.args.plan.now.system c.args.link.connection.end role.WaitRequest 1 (omega arith) (link_agent c.args.plan.now.system c.args.link c.ports_are_known.ensures c.requires.link).waitrequest)
+
+pub input_net-requires-2-clause-end : goal.input_net-requires-2-clause-end
+input_net-requires-2-clause-end c = is_an_end c.args.plan.now.system c.args.link.connection.end (agent_among c.args.plan.now.system c.args.link c.requires.link)
+
+pub input_net-requires-2-clause-input : goal.input_net-requires-2-clause-input
+input_net-requires-2-clause-input c = (32, input_there c.args.plan.now.system c.args.link.connection.end role.ReadData 32 (omega arith) (link_agent c.args.plan.now.system c.args.link c.ports_are_known.ensures c.requires.link).readdata)
+
+pub input_net-requires-3-clause-end : goal.input_net-requires-3-clause-end
+input_net-requires-3-clause-end c = is_an_end c.args.plan.now.system c.args.link.connection.end (agent_among c.args.plan.now.system c.args.link c.requires.link)
+
+pub input_net-requires-3-clause-input : goal.input_net-requires-3-clause-input
+input_net-requires-3-clause-input c = (1, input_there c.args.plan.now.system c.args.link.connection.end role.ReadDataValid 1 (omega arith) (link_agent c.args.plan.now.system c.args.link c.ports_are_known.ensures c.requires.link).readdatavalid)
+
+pub returns-clause-inputs : goal.returns-clause-inputs
+returns-clause-inputs c =
+    let ports = link_agent c.args.plan.now.system c.args.link c.ports_are_known.ensures c.requires.link in
+    record {
+      waitrequest = c.input_net.ensures.net 1 (input_there c.args.plan.now.system c.args.link.connection.end role.WaitRequest 1 (omega arith) ports.waitrequest);
+      readdata = c.input_net-2.ensures.net 32 (input_there c.args.plan.now.system c.args.link.connection.end role.ReadData 32 (omega arith) ports.readdata);
+      readdatavalid = c.input_net-3.ensures.net 1 (input_there c.args.plan.now.system c.args.link.connection.end role.ReadDataValid 1 (omega arith) ports.readdatavalid);
+    }
 
 pub returns-clause-nets : goal.returns-clause-nets
 returns-clause-nets c =
-    agent_nets_are _ _ _ _ _ _
-    (net_is _ _ _ c.input.ensures.number (c.input.ensures.width 1 c.requires.waitrequest))
-    (net_is _ _ _ c.input-2.ensures.number (c.input-2.ensures.width 32 c.requires.readdata))
-    (net_is _ _ _ c.input-3.ensures.number (c.input-3.ensures.width 1 c.requires.readdatavalid))
-
-pub returns-clause-are : goal.returns-clause-are
-returns-clause-are c = record {
-  waitrequest = record { is_net = c.input.ensures.net; has_width = c.input.ensures.width 1 c.requires.waitrequest };
-  readdata = record { is_net = c.input-2.ensures.net; has_width = c.input-2.ensures.width 32 c.requires.readdata };
-  readdatavalid = record { is_net = c.input-3.ensures.net; has_width = c.input-3.ensures.width 1 c.requires.readdatavalid };
-}
+    let ports = link_agent c.args.plan.now.system c.args.link c.ports_are_known.ensures c.requires.link in
+    record {
+      waitrequest = wire_net_of c.args.builder.now c.input_net.result 1 (c.input_net.ensures.is 1 (input_there c.args.plan.now.system c.args.link.connection.end role.WaitRequest 1 (omega arith) ports.waitrequest));
+      readdata = wire_net_of c.args.builder.now c.input_net-2.result 32 (c.input_net-2.ensures.is 32 (input_there c.args.plan.now.system c.args.link.connection.end role.ReadData 32 (omega arith) ports.readdata));
+      readdatavalid = wire_net_of c.args.builder.now c.input_net-3.result 1 (c.input_net-3.ensures.is 1 (input_there c.args.plan.now.system c.args.link.connection.end role.ReadDataValid 1 (omega arith) ports.readdatavalid));
+    }

@@ -1,21 +1,57 @@
-use Rattle.std.proofs.Common.{◌+◌}
-use Rattle.interconnect.proofs.MemoryWires.{net_is, host_nets_are}
+use Rattle.std.proofs.Common.{◌+◌, arith}
+use Rattle.port_tables.specs.declared.roles.Role.TheVariants as role
+use Rattle.interconnect.proofs.Driving.{is_an_end}
+use Rattle.interconnect.proofs.MemoryJoins.{host_among, link_host, input_there, enables_input, wire_net_of, wire_net_if}
 use Rattle.interconnect.proofs.memory.host_nets.Goals as goal
+
+pub input_net-requires-clause-end : goal.input_net-requires-clause-end
+input_net-requires-clause-end c = is_an_end c.args.plan.now.system c.args.link.connection.start (host_among c.args.plan.now.system c.args.link c.requires.link)
+
+pub input_net-requires-clause-input : goal.input_net-requires-clause-input
+input_net-requires-clause-input c = ((c.args.link.form.address_bits + 2), input_there c.args.plan.now.system c.args.link.connection.start role.Address (c.args.link.form.address_bits + 2) (omega arith) (link_host c.args.plan.now.system c.args.link c.ports_are_known.ensures c.requires.link).address)
+
+pub input_net-requires-2-clause-end : goal.input_net-requires-2-clause-end
+input_net-requires-2-clause-end c = is_an_end c.args.plan.now.system c.args.link.connection.start (host_among c.args.plan.now.system c.args.link c.requires.link)
+
+pub input_net-requires-2-clause-input : goal.input_net-requires-2-clause-input
+input_net-requires-2-clause-input c = (1, input_there c.args.plan.now.system c.args.link.connection.start role.Read 1 (omega arith) (link_host c.args.plan.now.system c.args.link c.ports_are_known.ensures c.requires.link).read)
+
+pub input_net-requires-3-clause-end : goal.input_net-requires-3-clause-end
+input_net-requires-3-clause-end c = is_an_end c.args.plan.now.system c.args.link.connection.start (host_among c.args.plan.now.system c.args.link c.requires.link)
+
+pub input_net-requires-3-clause-input : goal.input_net-requires-3-clause-input
+input_net-requires-3-clause-input c = (1, input_there c.args.plan.now.system c.args.link.connection.start role.Write 1 (omega arith) (link_host c.args.plan.now.system c.args.link c.ports_are_known.ensures c.requires.link).write)
+
+pub input_net-requires-4-clause-end : goal.input_net-requires-4-clause-end
+input_net-requires-4-clause-end c = is_an_end c.args.plan.now.system c.args.link.connection.start (host_among c.args.plan.now.system c.args.link c.requires.link)
+
+pub input_net-requires-4-clause-input : goal.input_net-requires-4-clause-input
+input_net-requires-4-clause-input c = (32, input_there c.args.plan.now.system c.args.link.connection.start role.WriteData 32 (omega arith) (link_host c.args.plan.now.system c.args.link c.ports_are_known.ensures c.requires.link).writedata)
+
+pub input_of-requires-clause-end : goal.input_of-requires-clause-end
+input_of-requires-clause-end c = is_an_end c.args.plan.now.system c.args.link.connection.start (host_among c.args.plan.now.system c.args.link c.requires.link)
+
+pub input_of-requires-clause-input : goal.input_of-requires-clause-input
+input_of-requires-clause-input c = (4, enables_input c.args.plan.now.system c.args.link.connection.start c.args.link.form.address_bits c.args.link.form.has_enables (link_host c.args.plan.now.system c.args.link c.ports_are_known.ensures c.requires.link))
+
+pub returns-clause-inputs : goal.returns-clause-inputs
+returns-clause-inputs c =
+    let ports = link_host c.args.plan.now.system c.args.link c.ports_are_known.ensures c.requires.link in
+    record {
+      address = c.input_net.ensures.net (c.args.link.form.address_bits + 2) (input_there c.args.plan.now.system c.args.link.connection.start role.Address (c.args.link.form.address_bits + 2) (omega arith) ports.address);
+      read = c.input_net-2.ensures.net 1 (input_there c.args.plan.now.system c.args.link.connection.start role.Read 1 (omega arith) ports.read);
+      write = c.input_net-3.ensures.net 1 (input_there c.args.plan.now.system c.args.link.connection.start role.Write 1 (omega arith) ports.write);
+      writedata = c.input_net-4.ensures.net 32 (input_there c.args.plan.now.system c.args.link.connection.start role.WriteData 32 (omega arith) ports.writedata);
+      byteenable = c.input_of.ensures.net 4 (enables_input c.args.plan.now.system c.args.link.connection.start c.args.link.form.address_bits c.args.link.form.has_enables ports);
+    }
 
 pub returns-clause-nets : goal.returns-clause-nets
 returns-clause-nets c =
-    host_nets_are _ _ _ _ _ _ _ _ _ _
-    (net_is _ _ _ c.input.ensures.number (c.input.ensures.width (c.args.address_bits + 2) c.requires.address))
-    (net_is _ _ _ c.input-2.ensures.number (c.input-2.ensures.width 1 c.requires.read))
-    (net_is _ _ _ c.input-3.ensures.number (c.input-3.ensures.width 1 c.requires.write))
-    (net_is _ _ _ c.input-4.ensures.number (c.input-4.ensures.width 32 c.requires.writedata))
-    c.enables_net.ensures.net
-
-pub returns-clause-are : goal.returns-clause-are
-returns-clause-are c = record {
-  address = record { is_net = c.input.ensures.net; has_width = c.input.ensures.width (c.args.address_bits + 2) c.requires.address };
-  read = record { is_net = c.input-2.ensures.net; has_width = c.input-2.ensures.width 1 c.requires.read };
-  write = record { is_net = c.input-3.ensures.net; has_width = c.input-3.ensures.width 1 c.requires.write };
-  writedata = record { is_net = c.input-4.ensures.net; has_width = c.input-4.ensures.width 32 c.requires.writedata };
-  byteenable = c.enables_net.ensures.is;
-}
+    let ports = link_host c.args.plan.now.system c.args.link c.ports_are_known.ensures c.requires.link in
+    record {
+      address = wire_net_of c.args.builder.now c.input_net.result (c.args.link.form.address_bits + 2) (c.input_net.ensures.is (c.args.link.form.address_bits + 2) (input_there c.args.plan.now.system c.args.link.connection.start role.Address (c.args.link.form.address_bits + 2) (omega arith) ports.address));
+      read = wire_net_of c.args.builder.now c.input_net-2.result 1 (c.input_net-2.ensures.is 1 (input_there c.args.plan.now.system c.args.link.connection.start role.Read 1 (omega arith) ports.read));
+      write = wire_net_of c.args.builder.now c.input_net-3.result 1 (c.input_net-3.ensures.is 1 (input_there c.args.plan.now.system c.args.link.connection.start role.Write 1 (omega arith) ports.write));
+      writedata = wire_net_of c.args.builder.now c.input_net-4.result 32 (c.input_net-4.ensures.is 32 (input_there c.args.plan.now.system c.args.link.connection.start role.WriteData 32 (omega arith) ports.writedata));
+      byteenable = wire_net_if c.args.builder.now c.input_of.result 4 (c.input_of.ensures.is 4 (enables_input c.args.plan.now.system c.args.link.connection.start c.args.link.form.address_bits c.args.link.form.has_enables ports));
+    }

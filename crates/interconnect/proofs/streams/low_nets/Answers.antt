@@ -1,10 +1,9 @@
-use Rattle.port_tables.specs.EndFacts.{planned}
-use Rattle.interconnect.proofs.StreamModules.{low_room, low_more}
+use Rattle.interconnect.proofs.LowNets.{low_room, low_more}
 use Rattle.interconnect.proofs.streams.low_nets.Goals as goal
 
 pub low_net-requires-clause-room : goal.low_net-requires-clause-room
 low_net-requires-clause-room c =
-    low_room c.args.plan.now.system c.loop-number.number c.args.builder.now c.loop-number.builder c.loop-number.lows (planned c.args.plan.now c.well_made.ensures) c.requires c.loop-number.invariant
+    low_room c.args.plan.now.system c.loop-number.number c.args.builder.now c.loop-number.builder c.loop-number.lows c.ports_are_known.ensures c.requires c.loop-number.invariant
 
 pub loop-number-preserved : goal.loop-number-preserved
 loop-number-preserved c =

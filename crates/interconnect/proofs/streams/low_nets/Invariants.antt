@@ -1,4 +1,4 @@
-use Rattle.interconnect.proofs.StreamModules.{AreLowsTo}
+use Rattle.interconnect.proofs.LowNets.{AreLowsTo}
 use Rattle.interconnect.proofs.streams.low_nets.Given as goal
 
 abbrev pub invariant-loop-number : goal.invariant-loop-number

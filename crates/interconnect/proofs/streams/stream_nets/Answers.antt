@@ -10,8 +10,8 @@ use Rattle.stream_path.specs.Serving.{ServesInLonger}
 use Rattle.interconnect.specs.Joins.{AddsStream}
 use Rattle.std.proofs.lemmas.Option.{slice_get_within}
 use Rattle.link_rules.specs.Links.{streams_of}
-use Rattle.port_tables.specs.EndFacts.{planned}
-use Rattle.interconnect.proofs.Joining.{start_among, finish_among, is_an_end}
+use Rattle.interconnect.proofs.Driving.{is_an_end}
+use Rattle.interconnect.proofs.StreamEnds.{start_among, finish_among}
 use Rattle.interconnect.proofs.Inputs.{ends_of_stream, source_known, ready_input, ready_if, joins, is_shallow, path_room, adds_path, adds_wire}
 use Rattle.interconnect.proofs.streams.stream_nets.Goals as goal
 
@@ -23,25 +23,25 @@ input_of-ready-requires-clause-end c = is_an_end c.args.plan.now.system c.args.c
 
 pub input_of-ready-requires-clause-input : goal.input_of-ready-requires-clause-input
 input_of-ready-requires-clause-input c =
-    let e = ends_of_stream c.args.plan.now.system c.args.number c.args.connection c.in-Source.source c.in-Sink.sink (planned c.args.plan.now c.well_made.ensures) c.requires.at c.in-Source.ensures c.in-Sink.ensures in
+    let e = ends_of_stream c.args.plan.now.system c.args.number c.args.connection c.in-Source.source c.in-Sink.sink c.ports_are_known.ensures c.requires.at c.in-Source.ensures c.in-Sink.ensures in
     (1, ready_input c.args.plan.now.system c.args.number c.args.connection c.in-Source.source c.in-Sink.sink e)
 
 pub path_nets-requires-clause-joined : goal.path_nets-requires-clause-joined
 path_nets-requires-clause-joined c =
-    let e = ends_of_stream c.args.plan.now.system c.args.number c.args.connection c.in-Source.source c.in-Sink.sink (planned c.args.plan.now c.well_made.ensures) c.requires.at c.in-Source.ensures c.in-Sink.ensures in
+    let e = ends_of_stream c.args.plan.now.system c.args.number c.args.connection c.in-Source.source c.in-Sink.sink c.ports_are_known.ensures c.requires.at c.in-Source.ensures c.in-Sink.ensures in
     joins c.args.plan.now.system c.args.number c.args.connection c.in-Source.source c.in-Sink.sink e c.proper_records_are_bounded.ensures.source c.proper_records_are_bounded.ensures.sink
 
 pub path_nets-requires-clause-shallow : goal.path_nets-requires-clause-shallow
-path_nets-requires-clause-shallow c = is_shallow c.args.plan.now.system c.args.number c.args.connection (planned c.args.plan.now c.well_made.ensures) c.requires.at
+path_nets-requires-clause-shallow c = is_shallow c.args.plan.now.system c.args.number c.args.connection c.ports_are_known.ensures.planned c.requires.at
 
 pub path_nets-requires-clause-ready : goal.path_nets-requires-clause-ready
 path_nets-requires-clause-ready c =
-    let e = ends_of_stream c.args.plan.now.system c.args.number c.args.connection c.in-Source.source c.in-Sink.sink (planned c.args.plan.now c.well_made.ensures) c.requires.at c.in-Source.ensures c.in-Sink.ensures in
+    let e = ends_of_stream c.args.plan.now.system c.args.number c.args.connection c.in-Source.source c.in-Sink.sink c.ports_are_known.ensures c.requires.at c.in-Source.ensures c.in-Sink.ensures in
     ready_if c.args.plan.now.system c.args.number c.args.connection c.in-Source.source c.in-Sink.sink c.args.builder.now c.input_of-ready.result e (record { net_is = c.input_of-ready.ensures.net; is = c.input_of-ready.ensures.is })
 
 pub path_nets-requires-clause-room : goal.path_nets-requires-clause-room
 path_nets-requires-clause-room c =
-    path_room c.args.plan.now.system c.args.number c.args.builder.now (planned c.args.plan.now c.well_made.ensures)
+    path_room c.args.plan.now.system c.args.number c.args.builder.now c.ports_are_known.ensures
     (slice_get_within (streams_of c.args.plan.now.system) c.args.number c.requires.at.place c.requires.at.place_is) c.requires.joined
 
 -- what holds of a result that is there
@@ -52,7 +52,7 @@ ok_three P Q R (Err e) p q s f = tt
 pub returns-in-Some : goal.returns-in-Some
 returns-in-Some c source sink f g =
     let system = c.args.plan.now.system in
-    let e = ends_of_stream system c.args.number c.args.connection c.in-Source.source c.in-Sink.sink (planned c.args.plan.now c.well_made.ensures) c.requires.at c.in-Source.ensures c.in-Sink.ensures in
+    let e = ends_of_stream system c.args.number c.args.connection c.in-Source.source c.in-Sink.sink c.ports_are_known.ensures c.requires.at c.in-Source.ensures c.in-Sink.ensures in
     let known = source_known system c.args.number c.args.connection c.in-Source.source c.in-Sink.sink e in
     subst (λ (low : Option NetValue). AddsStream system c.args.connection source sink low c.args.builder.now c.args.builder.now c.wire_nets.result) (sym c.in-Some.is)
     (adds_wire c.wire_is_served.ensures.served system c.args.number c.args.connection c.in-Source.source source c.in-Sink.sink sink c.in-Some.low c.args.builder.now c.source_nets-from.result c.input_of-ready.result c.wire_nets.result
@@ -62,7 +62,7 @@ returns-in-Some c source sink f g =
 pub returns-in-None : goal.returns-in-None
 returns-in-None c =
     let system = c.args.plan.now.system in
-    let e = ends_of_stream system c.args.number c.args.connection c.in-Source.source c.in-Sink.sink (planned c.args.plan.now c.well_made.ensures) c.requires.at c.in-Source.ensures c.in-Sink.ensures in
+    let e = ends_of_stream system c.args.number c.args.connection c.in-Source.source c.in-Sink.sink c.ports_are_known.ensures c.requires.at c.in-Source.ensures c.in-Sink.ensures in
     let known = source_known system c.args.number c.args.connection c.in-Source.source c.in-Sink.sink e in
     let here = ready_input system c.args.number c.args.connection c.in-Source.source c.in-Sink.sink e in
     ok_three (λ made. ArePathNets c.path_nets.new.builder (declared c.in-Sink.sink) made)

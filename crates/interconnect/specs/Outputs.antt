@@ -1,0 +1,94 @@
+-- The ports at the ends of a connection: the nets of those that the module reads, and what drives the others.
+use Rattle.std.specs.Prelude.{◌≡◌, ℕ, ◌<◌, List, map, Option, Some, None, option_map, if◌then◌else◌, IfSome, slice_get}
+use Rattle.system_tables.specs.declared.tables.EndId.{EndId}
+use Rattle.system_tables.specs.declared.tables.Connection.{Connection}
+use Rattle.system_tables.specs.Tables.{SystemTable}
+use Rattle.netlist.specs.Nets.{NetValue, net_of}
+use Rattle.netlist.specs.Netlists.{Netlist, IsNet, IsInputPort, IsOutputPort, driver_of, input_net}
+use Rattle.port_tables.specs.declared.roles.Role.{Role}
+use Rattle.port_tables.specs.Ports.{is_forward, ports_of}
+use Rattle.port_tables.specs.PortMaps.{port_at}
+use Rattle.interconnect.specs.declared.outputs.Output.{Output}
+
+-- ---- inputs
+
+-- the port of a role is an input of this width, where there is one
+abbrev pub IsInputIf : SystemTable → EndId → Role → ℕ → Type 0
+IsInputIf system end role width = IfSome (port_at system end role) (λ port. IsInputPort (ports_of system) port width)
+
+-- there is one
+pub record IsInput (system : SystemTable) (end : EndId) (role : Role) (width : ℕ) : Type 0 where
+  pub place : ℕ
+  pub place_is : port_at system end role ≡ Some place
+  pub port : IsInputPort (ports_of system) place width
+
+-- the net of the input port of a role at an end, where there is one
+abbrev pub input_at : SystemTable → EndId → Role → ℕ → Option NetValue
+input_at system end role width = option_map (λ port. net_of (input_net (ports_of system) port) width) (port_at system end role)
+
+-- ---- outputs
+
+abbrev pub output_of : Role → NetValue → Output
+output_of role net = record { role = role; net = net }
+
+-- for each of these roles its net
+abbrev pub outputs_by : (Role → NetValue) → List Role → List Output
+outputs_by net roles = map (λ role. output_of role (net role)) roles
+
+-- the end at which an output of a role stands
+abbrev pub output_end : Connection → Role → EndId
+output_end connection role = if is_forward role then connection.end else connection.start
+
+-- the output port of a role, where there is one
+abbrev pub output_at : SystemTable → Connection → Role → Option ℕ
+output_at system connection role = port_at system (output_end connection role) role
+
+-- no two are of one role
+abbrev pub HaveOwnRoles : List Output → Type 0
+HaveOwnRoles outputs = (m n : ℕ) (a b : Output) → slice_get outputs m ≡ Some a → slice_get outputs n ≡ Some b → a.role ≡ b.role → m ≡ n
+
+-- ---- drivers
+
+-- the same but for what drives its ports
+pub record HasSameNets (old new : Netlist) : Type 0 where
+  pub name : new.name ≡ old.name
+  pub ports : new.ports ≡ old.ports
+  pub lines : new.lines ≡ old.lines
+  pub memories : new.memories ≡ old.memories
+
+-- the net may drive the port
+pub record MayDrive (netlist : Netlist) (net : NetValue) (port : ℕ) : Type 0 where
+  pub output : IsOutputPort netlist.ports port net.width
+  pub is_net : IsNet netlist net
+  pub undriven : driver_of netlist port ≡ None
+
+-- each net may drive the port of its role, where there is one
+abbrev pub MayDriveAll : SystemTable → Connection → List Output → Netlist → Type 0
+MayDriveAll system connection outputs netlist =
+    (n : ℕ) (o : Output) → slice_get outputs n ≡ Some o → IfSome (output_at system connection o.role) (MayDrive netlist o.net)
+
+-- the port of this role is driven by its net, where there is one
+abbrev pub IsDrivenAs : SystemTable → Connection → Output → Netlist → Type 0
+IsDrivenAs system connection o netlist = IfSome (output_at system connection o.role) (λ port. driver_of netlist port ≡ Some o.net.number)
+
+-- the ports of these roles are driven, each by its net
+abbrev pub AreDriven : SystemTable → Connection → List Output → Netlist → Type 0
+AreDriven system connection outputs netlist = (n : ℕ) (o : Output) → slice_get outputs n ≡ Some o → IsDrivenAs system connection o netlist
+
+-- those of the first ones are
+abbrev pub AreDrivenBelow : ℕ → SystemTable → Connection → List Output → Netlist → Type 0
+AreDrivenBelow count system connection outputs netlist =
+    (n : ℕ) (o : Output) → n < count → slice_get outputs n ≡ Some o → IsDrivenAs system connection o netlist
+
+-- the port is no output of the connection
+abbrev pub IsNoOutput : SystemTable → Connection → ℕ → Type 0
+IsNoOutput system connection port = (role : Role) → ¬ (output_at system connection role ≡ Some port)
+
+-- it is none of the first of these
+abbrev pub IsNoOutputBelow : ℕ → SystemTable → Connection → List Output → ℕ → Type 0
+IsNoOutputBelow count system connection outputs port =
+    (n : ℕ) (o : Output) → n < count → slice_get outputs n ≡ Some o → ¬ (output_at system connection o.role ≡ Some port)
+
+-- no output of the connection is driven
+abbrev pub AreUndriven : SystemTable → Connection → Netlist → Type 0
+AreUndriven system connection netlist = (role : Role) → IfSome (output_at system connection role) (λ port. driver_of netlist port ≡ None)
