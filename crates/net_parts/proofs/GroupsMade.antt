@@ -8,13 +8,13 @@ use Rattle.netlist.specs.Longer.{Extends}
 use Rattle.net_parts.specs.Nets.{IsNetOfWidth, StartsLow}
 use Rattle.net_parts.specs.Growth.{GrowsBy, AddsNets, GrowsAlike, StillWait, WaitsBeside, WaitsWithout}
 use Rattle.net_parts.specs.Laws.{extends_twice, extends_none, alike_twice}
-use Rattle.net_parts.specs.Groups.{AreNets, widths_of, shown_in, AreNumbered, InGroup, IsInRow, all_low, StartAllLow, TakeAllNext, ChooseAll, nets_last, in_row}
+use Rattle.net_parts.specs.Groups.{AreNets, group_widths, values_of, AreNumberedFrom, InGroup, IsInRow, all_low, StartAllLow, TakeAllNext, ChooseAll, nets_last, in_row}
 
 -- so many registers are made
 pub record RegistersMade (old now : Netlist) (like made : List NetValue) (count : ℕ) : Type 0 where
   pub nets : AreNets now made
-  pub widths : widths_of made ≡ widths_of like
-  pub numbers : AreNumbered (length old.lines) made
+  pub widths : group_widths made ≡ group_widths like
+  pub numbers : AreNumberedFrom (length old.lines) made
   pub count_is : length made ≡ count
   pub lines : length now.lines ≡ length old.lines + count
   pub starts : StartAllLow now made
@@ -28,7 +28,7 @@ pub record RegistersMade (old now : Netlist) (like made : List NetValue) (count 
 -- so many choices are made
 pub record ChoicesMade (old now : Netlist) (bit : NetValue) (one other made : List NetValue) (count : ℕ) : Type 0 where
   pub nets : AreNets now made
-  pub widths : widths_of made ≡ widths_of one
+  pub widths : group_widths made ≡ group_widths one
   pub chosen : ChooseAll now bit one other made
   pub grows : GrowsAlike old now
   pub most : length now.lines ≤ length old.lines + count
@@ -50,7 +50,7 @@ net_at netlist [] k d lt h = absurd (omega arith)
 net_at netlist (net ∷ group) zero d lt h = h.0
 net_at netlist (net ∷ group) (suc k) d lt h = net_at netlist group k d (omega arith) h.1
 
-pub width_at : (one other : List NetValue) (k : ℕ) (d e : NetValue) → k < length one → k < length other → widths_of one ≡ widths_of other → (get_or one k d).width ≡ (get_or other k e).width
+pub width_at : (one other : List NetValue) (k : ℕ) (d e : NetValue) → k < length one → k < length other → group_widths one ≡ group_widths other → (get_or one k d).width ≡ (get_or other k e).width
 width_at [] other k d e lt within h = absurd (omega arith)
 width_at (a ∷ one) [] k d e lt within h = absurd (omega arith)
 width_at (a ∷ one) (b ∷ other) zero d e lt within h = cc
@@ -66,7 +66,7 @@ nets_push : (netlist : Netlist) (group : List NetValue) (net : NetValue) → Are
 nets_push netlist [] net h i = (i, tt)
 nets_push netlist (first ∷ group) net h i = (h.0, nets_push netlist group net h.1 i)
 
-numbered_push : (from : ℕ) (group : List NetValue) (net : NetValue) → AreNumbered from group → net.number ≡ from + length group → AreNumbered from (group ++ net ∷ [])
+numbered_push : (from : ℕ) (group : List NetValue) (net : NetValue) → AreNumberedFrom from group → net.number ≡ from + length group → AreNumberedFrom from (group ++ net ∷ [])
 numbered_push from [] net h e = (omega arith, tt)
 numbered_push from (first ∷ group) net h e = (h.0, numbered_push (from + 1) group net h.1 (omega arith))
 
@@ -114,8 +114,8 @@ choices_more old now new bit one other made count x y z h net value adds = recor
   grows = alike_twice old now new h.grows adds.grows;
   most = (let few = h.most in let more = adds.most in omega arith);
 } where
-  by_bit : (cycle : Cycle) (t : Bool) → shown_in cycle made ≡ (if t then shown_in cycle other else shown_in cycle one) → cycle.net z.number ≡ (if t then cycle.net y.number else cycle.net x.number) →
-      shown_in cycle (made ++ z ∷ []) ≡ (if t then shown_in cycle (other ++ y ∷ []) else shown_in cycle (one ++ x ∷ []))
+  by_bit : (cycle : Cycle) (t : Bool) → values_of cycle made ≡ (if t then values_of cycle other else values_of cycle one) → cycle.net z.number ≡ (if t then cycle.net y.number else cycle.net x.number) →
+      values_of cycle (made ++ z ∷ []) ≡ (if t then values_of cycle (other ++ y ∷ []) else values_of cycle (one ++ x ∷ []))
   by_bit cycle true e p = push_same (λ (n : NetValue). cycle.net n.number) (λ (n : NetValue). cycle.net n.number) made other z y e p
   by_bit cycle false e p = push_same (λ (n : NetValue). cycle.net n.number) (λ (n : NetValue). cycle.net n.number) made one z x e p
 
@@ -142,18 +142,18 @@ at_in [] k d lt = absurd (omega arith)
 at_in (net ∷ group) zero d lt = inl refl
 at_in (net ∷ group) (suc k) d lt = inr (at_in group k d (omega arith))
 
-number_at : (from : ℕ) (group : List NetValue) (k : ℕ) (d : NetValue) → k < length group → AreNumbered from group → (get_or group k d).number ≡ from + k
+number_at : (from : ℕ) (group : List NetValue) (k : ℕ) (d : NetValue) → k < length group → AreNumberedFrom from group → (get_or group k d).number ≡ from + k
 number_at from [] k d lt h = absurd (omega arith)
 number_at from (net ∷ group) zero d lt h = (let e = h.0 in omega arith)
 number_at from (net ∷ group) (suc k) d lt h = (let e = number_at (from + 1) group k d (omega arith) h.1 in omega (arith, e))
 
-first_numbered : (from : ℕ) (group : List NetValue) (k : ℕ) → AreNumbered from group → AreNumbered from (take k group)
+first_numbered : (from : ℕ) (group : List NetValue) (k : ℕ) → AreNumberedFrom from group → AreNumberedFrom from (take k group)
 first_numbered from group zero h = tt
 first_numbered from [] (suc k) h = tt
 first_numbered from (net ∷ group) (suc k) h = (h.0, first_numbered (from + 1) group k h.1)
 
 -- it is none of those before it
-pub at_apart : (from : ℕ) (group : List NetValue) (k : ℕ) (d : NetValue) → k < length group → AreNumbered from group → ¬ InGroup (take k group) (get_or group k d).number
+pub at_apart : (from : ℕ) (group : List NetValue) (k : ℕ) (d : NetValue) → k < length group → AreNumberedFrom from group → ¬ InGroup (take k group) (get_or group k d).number
 at_apart from group k d lt h o =
     let row = in_row from (take k group) (first_numbered from group k h) (get_or group k d).number o in
     let at = number_at from group k d lt h in

@@ -4,7 +4,7 @@ ghost use Rattle.std.specs.Prelude.{◌≡◌, ℕ, ◌+◌, ◌^◌, ◌<◌, l
 ghost use Rattle.netlist.specs.Netlists.{IsWaiting};
 ghost use Rattle.net_parts.specs.Nets.{IsBit};
 ghost use Rattle.net_parts.specs.Growth.{GrowsBy, AddsNets, StillWait, WaitsBeside, WaitsWithout};
-ghost use Rattle.net_parts.specs.Groups.{AreNets, AreWaiting, widths_of, AreNumbered, InGroup, IsInRow, StartAllLow, TakeAllNext, ChooseAll};
+ghost use Rattle.net_parts.specs.Groups.{AreNets, AreWaiting, group_widths, AreNumberedFrom, InGroup, IsInRow, StartAllLow, TakeAllNext, ChooseAll};
 
 use crate::makers::{choose, low_register};
 use netlist::{Builder, Net, NetFault};
@@ -16,8 +16,8 @@ pub fn low_registers<const N: usize>(
 ) -> Result<[Net; N], NetFault>
     requires { AreNets builder.old like.now }
     ensures nets { IfOk result (λ made. AreNets builder.new made) }
-    ensures widths { IfOk result (λ made. widths_of made ≡ widths_of like.now) }
-    ensures numbers { IfOk result (AreNumbered (length builder.old.lines)) }
+    ensures widths { IfOk result (λ made. group_widths made ≡ group_widths like.now) }
+    ensures numbers { IfOk result (AreNumberedFrom (length builder.old.lines)) }
     ensures count { OnOk result (length builder.new.lines ≡ length builder.old.lines + N) }
     ensures starts { IfOk result (λ made. StartAllLow builder.new made) }
     ensures waits { OnOk result ((n : ℕ) → IsInRow (length builder.old.lines) N n → IsWaiting builder.new n) }
@@ -43,9 +43,9 @@ pub fn choose_all<const N: usize>(
     requires bit { IsBit builder.old bit }
     requires one { AreNets builder.old one.now }
     requires other { AreNets builder.old other.now }
-    requires widths { widths_of one.now ≡ widths_of other.now }
+    requires widths { group_widths one.now ≡ group_widths other.now }
     ensures nets { IfOk result (λ made. AreNets builder.new made) }
-    ensures widths { IfOk result (λ made. widths_of made ≡ widths_of one.now) }
+    ensures widths { IfOk result (λ made. group_widths made ≡ group_widths one.now) }
     ensures chosen { IfOk result (λ made. ChooseAll builder.new bit one.now other.now made) }
     ensures adds { AddsNets N builder.old builder.new }
     ensures full { result ≡ Err NetFault.TooManyNets → 2 ^ 20 < length builder.old.lines + N }
@@ -62,7 +62,7 @@ pub fn set_all_next<const N: usize>(builder: &mut Builder, group: &[Net; N], nex
     requires group { AreNets builder.old group.now }
     requires wait { AreWaiting builder.old group.now }
     requires next { AreNets builder.old next.now }
-    requires widths { widths_of group.now ≡ widths_of next.now }
+    requires widths { group_widths group.now ≡ group_widths next.now }
     ensures value { TakeAllNext builder.new group.now next.now }
     ensures grows { GrowsBy 0 builder.old builder.new }
     ensures still_wait { (n : ℕ) → ¬ InGroup group.now n → IsWaiting builder.old n → IsWaiting builder.new n }

@@ -1,6 +1,7 @@
 //! The nets of a beat.
 
 ghost use Rattle.std.specs.Prelude.{◌≡◌};
+ghost use Rattle.stage_core.specs.Beats.{group_of};
 
 use netlist::Net;
 
@@ -32,6 +33,37 @@ impl BeatNets {
             first: self.first,
             last: self.last,
             empty: self.empty,
+        }
+    }
+
+    /// The nets as a group, in their order.
+    pub(crate) fn group(&self) -> [Net; 7]
+        ensures { result ≡ group_of self.now }
+    {
+        [
+            self.valid,
+            self.word,
+            self.channel,
+            self.error,
+            self.first,
+            self.last,
+            self.empty,
+        ]
+    }
+
+    /// The beat whose nets are this group.
+    pub(crate) fn of_group(group: [Net; 7]) -> BeatNets
+        ensures { group_of result ≡ group }
+    {
+        let [valid, word, channel, error, first, last, empty] = group;
+        BeatNets {
+            valid,
+            word,
+            channel,
+            error,
+            first,
+            last,
+            empty,
         }
     }
 }

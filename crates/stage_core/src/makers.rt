@@ -1,4 +1,4 @@
-//! Makers of all nets of a beat at once.
+//! Makers of all nets of a beat at once, as a group of seven.
 
 ghost use Rattle.std.specs.Prelude.{◌≡◌, ℕ, ◌+◌, ◌^◌, ◌<◌, ◌≤◌, ◌==◌, if◌then◌else◌, length, IfOk, OnOk};
 ghost use Rattle.netlist.specs.Netlists.{IsNet, IsWaiting};
@@ -9,7 +9,7 @@ ghost use Rattle.stage_core.specs.Groups.{AreRegisters, IsOfBeat, StartsEmpty, T
 ghost use Rattle.net_parts.specs.Growth.{GrowsBy, AddsNets, StillWait, WaitsBeside, WaitsWithout};
 
 use crate::beat::BeatNets;
-use net_parts::{choose, low_register};
+use net_parts::{choose_all, low_registers, set_all_next};
 use netlist::{Builder, Net, NetFault};
 
 /// Registers of the widths of a beat's nets, that begin at 0.
@@ -25,22 +25,8 @@ pub fn reg_beat(builder: &mut Builder, like: &BeatNets) -> Result<BeatNets, NetF
     ensures newly { IfOk result (λ made. WaitsBeside (IsOfBeat made) builder.old builder.new) }
     ensures full { result ≡ Err NetFault.TooManyNets → 2 ^ 20 < length builder.old.lines + 7 }
 {
-    let valid = low_register(builder, like.valid)?;
-    let word = low_register(builder, like.word)?;
-    let channel = low_register(builder, like.channel)?;
-    let error = low_register(builder, like.error)?;
-    let first = low_register(builder, like.first)?;
-    let last = low_register(builder, like.last)?;
-    let empty = low_register(builder, like.empty)?;
-    Ok(BeatNets {
-        valid,
-        word,
-        channel,
-        error,
-        first,
-        last,
-        empty,
-    })
+    let made = low_registers(builder, &like.group())?;
+    Ok(BeatNets::of_group(made))
 }
 
 /// One of two beats of the same widths: the first where the bit is set.
@@ -60,22 +46,8 @@ pub fn mux_beat(
     ensures adds { AddsNets 7 builder.old builder.new }
     ensures full { result ≡ Err NetFault.TooManyNets → 2 ^ 20 < length builder.old.lines + 7 }
 {
-    let valid = choose(builder, bit, one.valid, other.valid)?;
-    let word = choose(builder, bit, one.word, other.word)?;
-    let channel = choose(builder, bit, one.channel, other.channel)?;
-    let error = choose(builder, bit, one.error, other.error)?;
-    let first = choose(builder, bit, one.first, other.first)?;
-    let last = choose(builder, bit, one.last, other.last)?;
-    let empty = choose(builder, bit, one.empty, other.empty)?;
-    Ok(BeatNets {
-        valid,
-        word,
-        channel,
-        error,
-        first,
-        last,
-        empty,
-    })
+    let made = choose_all(builder, bit, &one.group(), &other.group())?;
+    Ok(BeatNets::of_group(made))
 }
 
 /// Gives the registers of a beat their next nets.
@@ -89,11 +61,5 @@ pub fn set_next_beat(builder: &mut Builder, registers: &BeatNets, next: &BeatNet
     ensures still_wait { (n : ℕ) → ¬ IsOfBeat registers.now n → IsWaiting builder.old n → IsWaiting builder.new n }
     ensures no_more_wait { WaitsWithout (IsOfBeat registers.now) builder.old builder.new }
 {
-    builder.set_next(registers.valid, next.valid);
-    builder.set_next(registers.word, next.word);
-    builder.set_next(registers.channel, next.channel);
-    builder.set_next(registers.error, next.error);
-    builder.set_next(registers.first, next.first);
-    builder.set_next(registers.last, next.last);
-    builder.set_next(registers.empty, next.empty);
+    set_all_next(builder, &registers.group(), &next.group());
 }

@@ -2,7 +2,7 @@ use Rattle.std.proofs.Common.{◌≡◌, ◌+◌, ◌<◌, ◌≤◌, List, [], 
 use Rattle.std.proofs.lemmas.List.{take_all, take_more, take_more_set}
 use Rattle.netlist.specs.Nets.{NetValue}
 use Rattle.net_parts.specs.Laws.{net_lasts, alike_twice}
-use Rattle.net_parts.specs.Groups.{AreNets, widths_of, ChooseAll, nets_last}
+use Rattle.net_parts.specs.Groups.{AreNets, group_widths, ChooseAll, nets_last}
 use Rattle.net_parts.proofs.GroupsMade.{ChoicesMade, net_at, width_at, choices_more}
 use Rattle.net_parts.proofs.groups.choose_all.Goals as goal
 
@@ -42,7 +42,7 @@ returns-clause-nets g c = subst (AreNets c.loop-k.builder) (take_all c.loop-k.k 
 
 pub returns-clause-widths : goal.returns-clause-widths
 returns-clause-widths g c =
-    ap widths_of (sym (take_all c.loop-k.k c.loop-k.made (omega arith))) ∙ c.loop-k.invariant.0.widths ∙ ap widths_of (take_all c.loop-k.k c.args.one.now (omega arith))
+    ap group_widths (sym (take_all c.loop-k.k c.loop-k.made (omega arith))) ∙ c.loop-k.invariant.0.widths ∙ ap group_widths (take_all c.loop-k.k c.args.one.now (omega arith))
 
 pub returns-clause-chosen : goal.returns-clause-chosen
 returns-clause-chosen g c =

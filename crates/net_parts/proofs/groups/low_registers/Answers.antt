@@ -3,7 +3,7 @@ use Rattle.std.proofs.lemmas.List.{take_all, take_more, take_more_set}
 use Rattle.netlist.specs.Nets.{NetValue}
 use Rattle.netlist.specs.Runs.{cycle_of}
 use Rattle.net_parts.specs.Laws.{extends_twice}
-use Rattle.net_parts.specs.Groups.{AreNets, widths_of, AreNumbered, shown_in, all_low, StartAllLow, nets_last}
+use Rattle.net_parts.specs.Groups.{AreNets, group_widths, AreNumberedFrom, values_of, all_low, StartAllLow, nets_last}
 use Rattle.net_parts.proofs.GroupsMade.{RegistersMade, net_at, registers_more}
 use Rattle.net_parts.proofs.groups.low_registers.Goals as goal
 
@@ -34,10 +34,10 @@ returns-clause-nets g c = subst (AreNets c.loop-k.builder) (take_all c.loop-k.k 
 
 pub returns-clause-widths : goal.returns-clause-widths
 returns-clause-widths g c =
-    ap widths_of (sym (take_all c.loop-k.k c.loop-k.made (omega arith))) ∙ c.loop-k.invariant.0.widths ∙ ap widths_of (take_all c.loop-k.k c.args.like.now (omega arith))
+    ap group_widths (sym (take_all c.loop-k.k c.loop-k.made (omega arith))) ∙ c.loop-k.invariant.0.widths ∙ ap group_widths (take_all c.loop-k.k c.args.like.now (omega arith))
 
 pub returns-clause-numbers : goal.returns-clause-numbers
-returns-clause-numbers g c = subst (AreNumbered (length c.args.builder.now.lines)) (take_all c.loop-k.k c.loop-k.made (omega arith)) c.loop-k.invariant.0.numbers
+returns-clause-numbers g c = subst (AreNumberedFrom (length c.args.builder.now.lines)) (take_all c.loop-k.k c.loop-k.made (omega arith)) c.loop-k.invariant.0.numbers
 
 pub returns-clause-starts : goal.returns-clause-starts
 returns-clause-starts g c = subst (StartAllLow c.loop-k.builder) (take_all c.loop-k.k c.loop-k.made (omega arith)) c.loop-k.invariant.0.starts
