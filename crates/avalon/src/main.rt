@@ -12,9 +12,6 @@ use std::process::ExitCode;
 use std::rt::{Env, Files};
 use std::{env, io};
 
-#[cfg(test)]
-mod tests;
-
 /// The words after the program's name.
 fn words_given<R: Env + AllocGlobal>(rt: &R) -> io::Result<Vec<String>> {
     Ok(env::args(rt)?.skip(1).collect(rt.alloc())?)

@@ -12,6 +12,3 @@ pub use exit::Exit;
 pub use line::Line;
 pub use link_rules::LinkRule;
 pub use words::{Task, read_words};
-
-#[cfg(test)]
-mod tests;
