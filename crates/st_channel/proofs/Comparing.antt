@@ -6,7 +6,7 @@ use Rattle.netlist.specs.Nets.{NetValue}
 use Rattle.netlist.specs.Runs.{Cycle}
 use Rattle.stage_core.specs.declared.beat.BeatNets.{BeatNets}
 use Rattle.st_channel.specs.declared.filter.ChannelFilter.{ChannelFilter}
-use Rattle.st_channel.specs.FilterNets.{compares, lets_through, takes_beat, drops, shown_nets, dropped_nets}
+use Rattle.st_channel.specs.FilterNets.{compares, lets_through, takes_beat, drops}
 use Rattle.st_channel.proofs.Numbers.{le_not_lt}
 
 -- the sink's largest channel fits the source's bits where channels are compared
@@ -16,12 +16,6 @@ sink_fits filter compared =
       | inl more ↦ (let above = ltb-true filter.sink.largest filter.source.largest more in let fits = filter.source.fits in omega (arith, above, fits))
       | inr cut ↦ (let fewer : filter.sink.bits < filter.source.bits = ltb-true filter.sink.bits filter.source.bits cut in let le : filter.sink.bits ≤ filter.source.bits = omega (arith, fewer) in let fits = filter.sink.fits in let wide = pow_mono le in omega (arith, fits, wide))
     ]
-
-pub four_shown : (filter : ChannelFilter) → compares filter ≡ true → 4 ≡ shown_nets filter
-four_shown filter compared = rw compared refl
-
-pub four_dropped : (filter : ChannelFilter) → compares filter ≡ true → 4 ≡ dropped_nets filter
-four_dropped filter compared = rw compared refl
 
 pub lets_within : (filter : ChannelFilter) (channel : ℕ) → compares filter ≡ true → lets_through filter channel ≡ not (nat_lt filter.sink.largest channel)
 lets_within filter channel compared = rw compared (le_not_lt channel filter.sink.largest)

@@ -3,7 +3,7 @@
 //! through, and between ends of the same channels it makes no net. At ready latency 0 it shows ready also where it shows no beat.
 //! It keeps no state, and makes eight nets at most, and four more for `dropped`. Its law is that of `filter_is_a_stage`.
 
-ghost use Rattle.std.specs.Prelude.{◌≡◌, ℕ, ◌+◌, ◌^◌, ◌<◌, ◌≤◌, ◌==◌, ◌||◌, ◌&&◌, not, max, nat_lt, length, false, if◌then◌else◌, IsTrue, IfOk};
+ghost use Rattle.std.specs.Prelude.{◌≡◌, ◌+◌, ◌^◌, ◌<◌, ◌≤◌, ◌==◌, ◌||◌, ◌&&◌, not, max, nat_lt, length, false, if◌then◌else◌, IsTrue, IfOk};
 ghost use Rattle.iface_roles.specs.Records.{ready_latency};
 ghost use Rattle.netlist.specs.Runs.{Always};
 ghost use Rattle.stream_runs.specs.View.{Side};

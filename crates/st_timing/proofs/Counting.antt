@@ -1,7 +1,5 @@
 -- Sums of bits.
-use Rattle.std.proofs.Common.{◌≡◌, ℕ, zero, suc, ◌+◌, ◌*◌, ◌%◌, ◌^◌, ◌<◌, ◌≤◌, Bool, true, false, List, [], ◌∷◌, length, ◌==◌, if◌then◌else◌, refl, ap, ◌∙◌, arith}
-use Rattle.std.proofs.Math.Nat.{mod-eq_of_lt}
-use Rattle.netlist.specs.Nets.{NetValue}
+use Rattle.std.proofs.Common.{◌≡◌, ℕ, zero, suc, ◌+◌, ◌<◌, ◌≤◌, Bool, true, false, List, [], ◌∷◌, length, ◌==◌, if◌then◌else◌, refl, ap, arith}
 use Rattle.netlist.specs.Netlists.{Netlist}
 use Rattle.netlist.specs.Longer.{Extends}
 use Rattle.stage_core.specs.declared.beat.BeatNets.{BeatNets}
@@ -9,7 +7,6 @@ use Rattle.net_parts.specs.Laws.{net_lasts}
 use Rattle.stage_core.specs.Rows.{IsRow}
 use Rattle.netlist.specs.Runs.{Cycle}
 use Rattle.st_timing.specs.CountNets.{full_count, HaveValid}
-use Rattle.net_parts.specs.Counts.{AreZeros}
 
 -- a bit is one where it is high
 abbrev pub one_if_high : ℕ → ℕ

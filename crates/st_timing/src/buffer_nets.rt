@@ -5,8 +5,8 @@ ghost use Rattle.netlist.specs.Netlists.{IsNet};
 ghost use Rattle.netlist.specs.Runs.{Always};
 ghost use Rattle.net_parts.specs.Nets.{IsBit, IsNetOfWidth};
 ghost use Rattle.net_parts.specs.Growth.{AddsNets};
-ghost use Rattle.st_timing.specs.CountNets.{full_count, HaveValid};
 ghost use Rattle.net_parts.specs.Counts.{high_bits};
+ghost use Rattle.st_timing.specs.CountNets.{full_count, HaveValid};
 ghost use Rattle.st_timing.specs.BufferNets.{IsReadyBufferShape, buffer_owns, BufferKeeps, BufferForward, BufferBackward, keeps_lasts, forward_lasts, backward_lasts};
 
 use crate::buffer::{BufferKept, ReadyBuffer};

@@ -1,11 +1,10 @@
 //! How many places of a row are full.
 
-ghost use Rattle.std.specs.Prelude.{◌≡◌, ◌+◌, ◌*◌, ◌^◌, ◌<◌, ◌≤◌, ◌==◌, if◌then◌else◌, length, IfOk};
-ghost use Rattle.netlist.specs.Netlists.{IsNet};
+ghost use Rattle.std.specs.Prelude.{◌≡◌, ◌+◌, ◌*◌, ◌^◌, ◌<◌, length, IfOk};
 ghost use Rattle.netlist.specs.Runs.{Always};
-ghost use Rattle.net_parts.specs.Nets.{IsBit, IsNetOfWidth};
+ghost use Rattle.net_parts.specs.Nets.{IsNetOfWidth};
 ghost use Rattle.net_parts.specs.Growth.{AddsNets};
-ghost use Rattle.net_parts.specs.Counts.{high_bits, AreZeros};
+ghost use Rattle.net_parts.specs.Counts.{AreZeros};
 ghost use Rattle.st_timing.specs.CountNets.{full_count, HaveValid};
 
 use net_parts::{add_bit, constant};
@@ -14,12 +13,7 @@ use stage_core::BeatNets;
 
 /// The sum, and one more for each full place.
 #[tactic(auto, using(net_parts::specs::Laws::growing))]
-fn add_full(
-    builder: &mut Builder,
-    zeros: Net,
-    sum: Net,
-    row: &[BeatNets],
-) -> Result<Net, NetFault>
+fn add_full(builder: &mut Builder, zeros: Net, sum: Net, row: &[BeatNets]) -> Result<Net, NetFault>
     requires zeros { AreZeros builder.old zeros }
     requires sum { IsNetOfWidth builder.old sum 5 }
     requires small { Always builder.old (λ cycle. cycle.net sum.number + length row.now < 32) }

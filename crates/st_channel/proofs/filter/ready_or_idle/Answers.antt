@@ -1,7 +1,7 @@
 use Rattle.std.proofs.Common.{◌≡◌, ◌==◌, not, ◌||◌, ◌∙◌, ap}
 use Rattle.netlist.specs.Runs.{Always}
 use Rattle.net_parts.specs.Nets.{IsBit}
-use Rattle.net_parts.specs.Laws.{grows_once, adds_twice, bit_fits, if_ok}
+use Rattle.net_parts.specs.Laws.{bit_fits, if_ok}
 use Rattle.net_parts.specs.Bits.{high_or, high_turned}
 use Rattle.st_channel.proofs.filter.ready_or_idle.Goals as goal
 

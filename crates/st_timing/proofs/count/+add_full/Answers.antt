@@ -2,7 +2,7 @@ use Rattle.std.proofs.Common.{◌≡◌, ◌+◌, List, ◌∷◌, length, sym, 
 use Rattle.std.proofs.lemmas.List.{nil_from_length}
 use Rattle.netlist.specs.Runs.{Always}
 use Rattle.stage_core.specs.declared.beat.BeatNets.{BeatNets}
-use Rattle.net_parts.specs.Laws.{adds_twice, adds_fewer, bit_fits, if_ok}
+use Rattle.net_parts.specs.Laws.{bit_fits, if_ok}
 use Rattle.st_timing.specs.CountNets.{full_count, HaveValid}
 use Rattle.st_timing.proofs.Counting.{bit_high, valid_last}
 use Rattle.net_parts.specs.Counts.{zeros_last}

@@ -1,13 +1,12 @@
-use Rattle.std.proofs.Common.{◌≡◌, ◌≤◌, true, ◌&&◌, ◌==◌, nat_lt, IsTrue, sym, subst, ◌∙◌, ap, arith}
+use Rattle.std.proofs.Common.{◌≡◌, ◌≤◌, true, ◌&&◌, ◌==◌, nat_lt, IsTrue, sym, ◌∙◌, ap, arith}
 use Rattle.std.proofs.lemmas.Bool.{lt-ltb, le-ltb}
 use Rattle.netlist.specs.Runs.{Always}
 use Rattle.net_parts.specs.Nets.{IsBit}
-use Rattle.net_parts.specs.Growth.{AddsNets}
-use Rattle.net_parts.specs.Laws.{grows_once, adds_twice, adds_fewer, bit_fits, if_ok}
+use Rattle.net_parts.specs.Laws.{bit_fits, if_ok}
 use Rattle.net_parts.specs.Bits.{high_and}
 use Rattle.st_channel.specs.FilterNets.{compares, takes_beat, drops}
 use Rattle.st_channel.proofs.Numbers.{bit_of_test}
-use Rattle.st_channel.proofs.Comparing.{sink_fits, four_dropped, drops_late, drops_now, drops_legal}
+use Rattle.st_channel.proofs.Comparing.{sink_fits, drops_late, drops_now, drops_legal}
 use Rattle.st_channel.proofs.filter.ChannelFilter.emit_dropped.Goals as goal
 
 pub is_above-requires-clause-fits : goal.is_above-requires-clause-fits

@@ -1,10 +1,9 @@
-use Rattle.std.proofs.Common.{◌≡◌, true, if◌then◌else◌, nat_lt, sym, subst, ◌∙◌, ap}
+use Rattle.std.proofs.Common.{◌≡◌, true, if◌then◌else◌, nat_lt, sym, ◌∙◌, ap}
 use Rattle.netlist.specs.Runs.{Always}
-use Rattle.net_parts.specs.Growth.{AddsNets}
-use Rattle.net_parts.specs.Laws.{grows_once, adds_twice, bit_fits, if_ok}
+use Rattle.net_parts.specs.Laws.{bit_fits, if_ok}
 use Rattle.st_channel.specs.FilterNets.{compares, lets_through}
 use Rattle.st_channel.proofs.Numbers.{gated}
-use Rattle.st_channel.proofs.Comparing.{sink_fits, four_shown, lets_within}
+use Rattle.st_channel.proofs.Comparing.{sink_fits, lets_within}
 use Rattle.st_channel.proofs.filter.ChannelFilter.shown.Goals as goal
 
 pub is_above-requires-clause-fits : goal.is_above-requires-clause-fits

@@ -1,9 +1,9 @@
-use Rattle.std.proofs.Common.{◌≡◌, ◌+◌, ◌==◌, nat_lt, List, length, take, sym, subst, ap, ◌∙◌, inl, inr, arith}
+use Rattle.std.proofs.Common.{◌≡◌, ◌+◌, ◌==◌, nat_lt, List, take, sym, subst, ap, ◌∙◌, inl, inr, arith}
 use Rattle.netlist.specs.Runs.{cycle_of}
 use Rattle.stage_core.specs.declared.beat.BeatNets.{BeatNets}
 use Rattle.stage_core.specs.Lasting.{beat_lasts}
 use Rattle.stage_core.specs.Rows.{AreInRow, InRow, RowSteps}
-use Rattle.net_parts.specs.Laws.{extends_twice, grows_twice, grows_fewer, adds_grow}
+use Rattle.net_parts.specs.Laws.{extends_twice}
 use Rattle.stage_core.specs.RowNets.{row_here}
 use Rattle.st_timing.specs.CountNets.{HaveValid, full_count}
 use Rattle.net_parts.specs.Counts.{high_bits}

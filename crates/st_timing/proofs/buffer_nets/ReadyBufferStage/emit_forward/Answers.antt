@@ -4,7 +4,7 @@ use Rattle.stage_core.specs.declared.beat.BeatNets.{BeatNets}
 use Rattle.stage_core.specs.Lasting.{beat_lasts}
 use Rattle.stage_core.specs.Rows.{AreInRow, InRow, StartsAllEmpty, shown_first}
 use Rattle.stage_core.specs.QueueNets.{FirstNumbered}
-use Rattle.net_parts.specs.Laws.{extends_twice, grows_twice, grows_fewer, waiting_within, adds_grow}
+use Rattle.net_parts.specs.Laws.{extends_twice, waiting_within}
 use Rattle.stage_core.specs.RowNets.{row_here, row_waits, first_numbered}
 use Rattle.st_timing.proofs.BufferRows.{front, front_count}
 use Rattle.st_timing.proofs.buffer_nets.ReadyBufferStage.emit_forward.Goals as goal

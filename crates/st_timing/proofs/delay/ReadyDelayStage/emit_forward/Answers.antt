@@ -2,7 +2,7 @@ use Rattle.std.proofs.Common.{ap, arith}
 use Rattle.stage_core.specs.declared.beat.BeatNets.{BeatNets}
 use Rattle.stage_core.specs.Beats.{beat_in}
 use Rattle.stage_core.specs.Lasting.{beat_lasts}
-use Rattle.net_parts.specs.Laws.{extends_twice, grows_twice, grows_fewer, waiting_within, adds_grow}
+use Rattle.net_parts.specs.Laws.{extends_twice, waiting_within}
 use Rattle.st_timing.proofs.delay.ReadyDelayStage.emit_forward.Goals as goal
 
 pub returns-clause-owned : goal.returns-clause-owned
