@@ -279,15 +279,6 @@ step_as old new o p net e same extends driver others =
       others = λ k none. others k (λ is. none (sym e ∙ is));
     }
 
-pub none_driven : (system : SystemTable) (connection : Connection) (outputs : List Output) (old : Netlist) → AreDrivenTo 0 system connection outputs old old
-none_driven system connection outputs old =
-    record {
-      same = record { name = refl; ports = refl; lines = refl; memories = refl };
-      extends = extends-refl old;
-      driven = λ n o below e. absurd (omega (arith, below));
-      others = λ k none. refl;
-    }
-
 -- ---- what stays
 
 -- all outputs stay driven in a longer netlist

@@ -1,5 +1,5 @@
 -- The nets that are always low, and how a module begins.
-use Rattle.std.proofs.Common.{◌≡◌, inl, inr, ℕ, zero, suc, ◌+◌, ◌*◌, ◌<◌, ◌≤◌, ◌^◌, Bool, true, false, not, cond, List, [], ◌∷◌, ◌++◌, length, take, slice_get, Option, Some, None, refl, sym, ap, subst, ◌∙◌, arith, append-nil, append_assoc, length-append}
+use Rattle.std.proofs.Common.{◌≡◌, inl, inr, ℕ, zero, suc, ◌+◌, ◌*◌, ◌<◌, ◌≤◌, ◌^◌, Bool, true, false, not, cond, List, [], ◌∷◌, ◌++◌, length, take, slice_get, Option, Some, None, refl, sym, ap, subst, ◌∙◌, arith, append_assoc, length-append}
 use Rattle.std.specs.Prelude.{if◌then◌else◌}
 use Rattle.std.specs.List.{count_by}
 use Rattle.std.proofs.lemmas.List.Sums.{sum_by-cons, sum_by-append, count_by-le-length}
@@ -51,9 +51,6 @@ low_lines-at zero n h = absurd (omega arith)
 low_lines-at (suc count) zero h = refl
 low_lines-at (suc count) (suc n) h = low_lines-at count n (omega arith)
 
-pub with_none : (netlist : Netlist) → netlist ≡ with_lows netlist 0
-with_none netlist = ap (λ (lines : List Line). record netlist { lines = lines }) (sym (append-nil netlist.lines))
-
 with_more : (netlist : Netlist) (count : ℕ) → appended (with_lows netlist count) low_line ≡ with_lows netlist (suc count)
 with_more netlist count =
     ap (λ (lines : List Line). record netlist { lines = lines }) (append_assoc netlist.lines (low_lines count) (low_line ∷ []) ∙ ap (λ (lines : List Line). netlist.lines ++ lines) (low_lines-more count))
@@ -75,14 +72,6 @@ pub record AreLowsTo (system : SystemTable) (number : ℕ) (old now : Netlist) (
   pub lows : AreLows system number made
   pub lines : now ≡ with_lows old (wires_before system number)
   pub no_more_wait : StillWait now old
-
-pub no_lows : (system : SystemTable) (old : Netlist) → AreLowsTo system 0 old old []
-no_lows system old =
-    record {
-      lows = record { count = refl; each = λ n place below e. absurd (omega (arith, below)) };
-      lines = with_none old;
-      no_more_wait = λ n w. w;
-    }
 
 pub lows_more : (system : SystemTable) (number place : ℕ) (lows : List (Option NetValue)) (low : Option NetValue) → AreLows system number lows → slice_get (streams_of system) number ≡ Some place
     → low ≡ low_at system number place → AreLows system (number + 1) (lows ++ low ∷ [])

@@ -1,9 +1,9 @@
 -- The hosts, agents and streams of a system: where they come from, and that each end has ports once.
-use Rattle.std.proofs.Common.{eqb, ◌≡◌, ◌⊎◌, inl, inr, ℕ, zero, suc, ◌+◌, ◌<◌, Bool, true, false, not, List, [], ◌∷◌, ◌++◌, length, map, slice_get, get_or, Option, Some, None, refl, sym, ap, subst, ◌∙◌, arith}
+use Rattle.std.proofs.Common.{◌≡◌, ◌⊎◌, inl, inr, ℕ, zero, suc, ◌+◌, ◌<◌, Bool, true, false, not, List, [], ◌∷◌, ◌++◌, length, map, slice_get, get_or, Option, Some, None, refl, sym, ap, subst, ◌∙◌, arith}
 use Rattle.std.specs.Prelude.{if◌then◌else◌}
 use Rattle.std.specs.List.{flat_map, enumerate_from}
 use Rattle.std.proofs.lemmas.Option.{slice_get-get_or, get_or_from_slice_get, slice_get_within}
-use Rattle.std.proofs.lemmas.Bool.{and_parts, and_from, eqb-true, eq-eqb, false≢true}
+use Rattle.std.proofs.lemmas.Bool.{and_from, eq-eqb, false≢true}
 use Rattle.iface_roles.specs.declared.kinds.Kind.{Kind}
 use Rattle.iface_roles.specs.declared.kinds.Kind.TheVariants.{Clock, Reset, Mm, Stream, Conduit, Interrupt}
 use Rattle.iface_roles.specs.declared.records.Finished.{Finished}
@@ -28,14 +28,6 @@ use Rattle.port_tables.specs.Lists.{Among, among_at, at_among, among_append, amo
 
 abbrev pub end_of : ℕ → ℕ → EndId
 end_of instance interface = record { instance = instance; interface = interface }
-
-pub same_end : (a b : EndId) → is_same_end a b ≡ true → a ≡ b
-same_end a b e =
-    let parts = and_parts (eqb a.instance b.instance) (eqb a.interface b.interface) e in
-    let i = eqb-true a.instance b.instance parts.0 in
-    let j = eqb-true a.interface b.interface parts.1 in
-    let whole : end_of a.instance a.interface ≡ end_of b.instance b.interface = cc in
-    whole
 
 pub among_once : (ends : List EndId) (end : EndId) → Among end (each_once ends) → Among end ends
 among_once [] end h = h
