@@ -11,8 +11,9 @@ use Rattle.stream_machines.specs.Stage.{Shape, KeepsStageLaw, PassesReady, Passe
 use Rattle.stream_machines.specs.Wires.{wire_shape, wire_run, IsClearRun}
 use Rattle.stream_machines.specs.Words.{cleared_beat}
 use Rattle.stage_core.specs.declared.beat.BeatNets.{BeatNets}
-use Rattle.stage_core.specs.Beats.{IsNetOfWidth, view_of, beat_in, ShowSame}
-use Rattle.stage_core.specs.Growth.{AddsNets}
+use Rattle.net_parts.specs.Nets.{IsNetOfWidth}
+use Rattle.stage_core.specs.Beats.{view_of, beat_in, ShowSame}
+use Rattle.net_parts.specs.Growth.{AddsNets}
 use Rattle.stage_core.specs.Law.{KeepsShape, ReadyPasses}
 use Rattle.st_format.specs.ClearNets.{IsClearShape, ClearsBeat, without_low, without_empty, cleared}
 use Rattle.st_format.proofs.WidenLemmas.{chosen_by}

@@ -2,7 +2,7 @@
 use Rattle.std.proofs.Common.{◌≡◌, ℕ, ◌+◌, ◌-◌, ◌%◌, ◌^◌, ◌<◌, ◌≤◌, Bool, true, false, ◌==◌, nat_lt, if◌then◌else◌, refl, subst, ap, ◌∙◌, arith}
 use Rattle.std.proofs.lemmas.Bool.{ltb-false}
 use Rattle.stage_core.specs.Groups.{Shown}
-use Rattle.stage_core.proofs.Bits.{chosen_high}
+use Rattle.net_parts.specs.Bits.{chosen_high}
 use Rattle.st_format.specs.Counted.{counted}
 
 -- a bit that says what a test says

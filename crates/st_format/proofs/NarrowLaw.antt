@@ -13,8 +13,8 @@ use Rattle.stage_core.specs.declared.beat.BeatNets.{BeatNets}
 use Rattle.stage_core.specs.Beats.{view_of, ShowSame, beat_in}
 use Rattle.stage_core.specs.Groups.{Shown, shown_in, IsOfBeat}
 use Rattle.stage_core.specs.Law.{KeepsShape}
-use Rattle.stage_core.proofs.Growing.{same_state, show_same, all_same}
-use Rattle.stage_core.proofs.Bits.{of_chosen}
+use Rattle.stage_core.specs.BeatLaws.{same_state, show_same, all_same}
+use Rattle.net_parts.specs.Bits.{of_chosen}
 use Rattle.st_format.specs.declared.sizes.Sizes.{Sizes}
 use Rattle.st_format.specs.declared.narrow.NarrowKept.{NarrowKept}
 use Rattle.st_format.specs.Counted.{counted, counted_beat}

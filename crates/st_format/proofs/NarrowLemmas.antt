@@ -1,9 +1,9 @@
 -- The nets of the first part of a wide beat and of what is left of it.
 use Rattle.std.proofs.Common.{◌≡◌, ℕ, zero, suc, ◌+◌, ◌-◌, ◌*◌, ◌/◌, ◌%◌, ◌^◌, ◌<◌, ◌≤◌, Bool, true, false, not, ◌&&◌, ◌==◌, if◌then◌else◌, bit_and, refl, ap, ◌∙◌, arith}
 use Rattle.stage_core.specs.Groups.{Shown}
-use Rattle.stage_core.proofs.Bits.{high_and, high_turned}
+use Rattle.net_parts.specs.Bits.{high_and, high_turned}
 use Rattle.st_format.specs.declared.sizes.Sizes.{Sizes}
-use Rattle.st_format.specs.NarrowNets.{has_more, piece_of, shown_piece, shown_rest}
+use Rattle.st_format.specs.NarrowNets.{has_more, piece_empty, piece_of, shown_piece, shown_rest}
 
 pub part_bits : (sizes : Sizes) (x low wide : ℕ) → low ≡ sizes.bits * (sizes.symbols * (sizes.parts - 1)) → wide ≡ sizes.bits * sizes.symbols → 1 ≤ wide →
     x / 2 ^ low % 2 ^ (low + wide - 1 - low + 1) ≡ x / 2 ^ (sizes.bits * (sizes.symbols * (sizes.parts - 1))) % 2 ^ (sizes.bits * sizes.symbols)
@@ -14,7 +14,7 @@ part_bits sizes x low wide e f some =
 pub part_shown : (sizes : Sizes) (x y : Shown) (more word last empty : ℕ) → x ≡ y → (more == 1) ≡ has_more sizes y.beat
     → word ≡ y.beat.word / 2 ^ (sizes.bits * (sizes.symbols * (sizes.parts - 1))) % 2 ^ (sizes.bits * sizes.symbols)
     → last ≡ (if more == 1 then 0 else y.beat.last)
-    → empty ≡ (if has_more sizes y.beat then 0 else y.beat.empty - sizes.symbols * (sizes.parts - 1)) →
+    → empty ≡ piece_empty sizes y.beat.empty →
     (record { valid = x.valid; beat = record { word = word; channel = x.beat.channel; error = x.beat.error; first = x.beat.first; last = last; empty = empty } }) ≡ shown_piece sizes y
 part_shown sizes x y more word last empty same follows words lasts empties =
     ap (λ (z : Shown). record { valid = z.valid; beat = record { word = word; channel = z.beat.channel; error = z.beat.error; first = z.beat.first; last = last; empty = empty } }) same

@@ -6,8 +6,8 @@ use Rattle.netlist.specs.Nets.{NetValue}
 use Rattle.netlist.specs.Netlists.{Netlist}
 use Rattle.netlist.specs.Runs.{Always}
 use Rattle.stream_machines.specs.Words.{turned_word}
-use Rattle.stage_core.specs.Beats.{IsNetOfWidth}
-use Rattle.stage_core.specs.Growth.{AddsNets}
+use Rattle.net_parts.specs.Nets.{IsNetOfWidth}
+use Rattle.net_parts.specs.Growth.{AddsNets}
 
 -- the first symbols are turned
 pub record AreTurned (bits done : ℕ) (word turned : NetValue) (old new : Netlist) : Type 0 where

@@ -15,7 +15,7 @@ use Rattle.stage_core.specs.declared.beat.BeatNets.{BeatNets}
 use Rattle.stage_core.specs.Beats.{view_of, ShowSame}
 use Rattle.stage_core.specs.Groups.{Shown, shown_in, nothing_shown, IsOfBeat}
 use Rattle.stage_core.specs.Law.{KeepsShape, ReadyPasses}
-use Rattle.stage_core.proofs.Growing.{same_state, show_same, all_same, shown_same}
+use Rattle.stage_core.specs.BeatLaws.{same_state, show_same, all_same, shown_same}
 use Rattle.st_format.specs.declared.sizes.Sizes.{Sizes}
 use Rattle.st_format.specs.declared.widen.WidenKept.{WidenKept}
 use Rattle.st_format.specs.WidenNets.{IsWidenShape, WidenForward, WidenBackward, laid, is_full, shown_joined, shown_filled}

@@ -9,9 +9,11 @@ use Rattle.stream_machines.specs.Stage.{Shape, PassesAll}
 use Rattle.stream_machines.specs.Parts.{narrow_shape}
 use Rattle.stream_machines.specs.Line.{of_symbols}
 use Rattle.stage_core.specs.declared.beat.BeatNets.{BeatNets}
-use Rattle.stage_core.specs.Beats.{IsBit, AreBeatNets, HaveSameWidths}
+use Rattle.net_parts.specs.Nets.{IsBit}
+use Rattle.stage_core.specs.Beats.{AreBeatNets, HaveSameWidths}
 use Rattle.stage_core.specs.Groups.{Shown, shown_in, AreNumbered, IsOfBeat, AreRegisters, StartsEmpty}
-use Rattle.stage_core.specs.Lasting.{bit_lasts, beat_lasts, registers_last}
+use Rattle.net_parts.specs.Laws.{net_lasts}
+use Rattle.stage_core.specs.Lasting.{beat_lasts, registers_last}
 use Rattle.st_format.specs.declared.sizes.Sizes.{Sizes}
 use Rattle.st_format.specs.declared.narrow.NarrowKept.{NarrowKept}
 use Rattle.st_format.specs.Counted.{counted}
@@ -26,9 +28,17 @@ pub record IsNarrowShape (sizes : Sizes) (shape : Shape) : Type 0 where
   pub at_once : shape.up.pace.latency ≡ 0
   pub passes : PassesAll shape.passes shape.up
 
+-- with so many empty symbols a part follows the first one
+abbrev pub more_follow : Sizes → ℕ → Bool
+more_follow sizes empty = nat_lt empty (sizes.symbols * (sizes.parts - 1))
+
 -- a part follows the first one: there are symbols behind it
 abbrev pub has_more : Sizes → Beat → Bool
-has_more sizes beat = nat_lt beat.empty (sizes.symbols * (sizes.parts - 1))
+has_more sizes beat = more_follow sizes beat.empty
+
+-- the empty symbols of the first part
+abbrev pub piece_empty : Sizes → ℕ → ℕ
+piece_empty sizes empty = if more_follow sizes empty then 0 else empty - sizes.symbols * (sizes.parts - 1)
 
 -- the first part of a wide beat whose empty counts
 abbrev pub piece_of : Sizes → Beat → Beat
@@ -39,7 +49,7 @@ piece_of sizes beat =
       error = beat.error;
       first = beat.first;
       last = if has_more sizes beat then 0 else beat.last;
-      empty = if has_more sizes beat then 0 else beat.empty - sizes.symbols * (sizes.parts - 1);
+      empty = piece_empty sizes beat.empty;
     }
 
 -- what is left behind the first part, as a wide beat
@@ -94,7 +104,7 @@ keeps_lasts kept old new h e w = record {
   rest = beat_lasts old new kept.rest e h.rest;
   widths = h.widths;
   registers = registers_last old new kept.held kept.held.valid.number w h.registers;
-  shown = bit_lasts old new kept.shown 1 e h.shown;
+  shown = net_lasts old new kept.shown 1 e h.shown;
 }
 
 pub forward_lasts : (sizes : Sizes) (from to : BeatNets) (kept : NarrowKept) (old new : Netlist) → NarrowForward sizes from to kept old → Extends old new → NarrowForward sizes from to kept new

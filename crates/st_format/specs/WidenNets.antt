@@ -8,9 +8,11 @@ use Rattle.stream_machines.specs.Stage.{Shape, PassesAll}
 use Rattle.stream_machines.specs.Parts.{widen_shape}
 use Rattle.stream_machines.specs.Line.{of_symbols}
 use Rattle.stage_core.specs.declared.beat.BeatNets.{BeatNets}
-use Rattle.stage_core.specs.Beats.{IsBit, AreBeatNets, HaveSameWidths}
+use Rattle.net_parts.specs.Nets.{IsBit}
+use Rattle.stage_core.specs.Beats.{AreBeatNets, HaveSameWidths}
 use Rattle.stage_core.specs.Groups.{Shown, shown_in, nothing_shown, AreNumbered, IsOfBeat, AreRegisters, StartsEmpty}
-use Rattle.stage_core.specs.Lasting.{bit_lasts, beat_lasts, registers_last}
+use Rattle.net_parts.specs.Laws.{net_lasts}
+use Rattle.stage_core.specs.Lasting.{beat_lasts, registers_last}
 use Rattle.st_format.specs.declared.sizes.Sizes.{Sizes}
 use Rattle.st_format.specs.declared.widen.WidenKept.{WidenKept}
 
@@ -53,6 +55,21 @@ shown_joined sizes held from =
         first = if held.valid == 1 then held.beat.first else from.beat.first;
         last = from.beat.last;
         empty = ((sizes.symbols * (sizes.parts - 1) + (2 ^ 8 - held.beat.empty)) % 2 ^ 8 + from.beat.empty) % 2 ^ 8;
+      };
+    }
+
+-- the joined word with the count of its symbols, and the other marks of a beat of nothing
+abbrev pub shown_gathered : Sizes → ℕ → Shown → Shown → Shown → Shown
+shown_gathered sizes valid held joined none =
+    record {
+      valid = valid;
+      beat = record {
+        word = joined.beat.word;
+        channel = none.beat.channel;
+        error = joined.beat.error;
+        first = joined.beat.first;
+        last = none.beat.last;
+        empty = (held.beat.empty + sizes.symbols) % 2 ^ 8;
       };
     }
 
@@ -110,8 +127,8 @@ keeps_lasts kept old new h e w = record {
   filled = beat_lasts old new kept.filled e h.filled;
   filled_widths = h.filled_widths;
   registers = registers_last old new kept.held kept.held.valid.number w h.registers;
-  coming = bit_lasts old new kept.coming 1 e h.coming;
-  full = bit_lasts old new kept.full 1 e h.full;
+  coming = net_lasts old new kept.coming 1 e h.coming;
+  full = net_lasts old new kept.full 1 e h.full;
 }
 
 pub forward_lasts : (sizes : Sizes) (from to : BeatNets) (kept : WidenKept) (old new : Netlist) → WidenForward sizes from to kept old → Extends old new → WidenForward sizes from to kept new

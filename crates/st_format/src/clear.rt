@@ -4,11 +4,12 @@
 ghost use Rattle.std.specs.Prelude.{◌≡◌, ◌+◌, ◌*◌, ◌^◌, ◌<◌, ◌≤◌, nat_lt, if◌then◌else◌, length, IfOk};
 ghost use Rattle.netlist.specs.Netlists.{IsNet};
 ghost use Rattle.netlist.specs.Runs.{Always};
-ghost use Rattle.stage_core.specs.Beats.{IsNetOfWidth};
-ghost use Rattle.stage_core.specs.Growth.{AddsNets};
+ghost use Rattle.net_parts.specs.Nets.{IsNetOfWidth};
+ghost use Rattle.net_parts.specs.Growth.{AddsNets};
 ghost use Rattle.st_format.specs.ClearNets.{IsClearShape, without_low, without_empty, ClearsBeat, clears_lasts};
 
-use crate::counted::{constant, count_empty};
+use crate::counted::count_empty;
+use net_parts::constant;
 use netlist::{Builder, Net, NetFault};
 use stage_core::pass::Nothing;
 use stage_core::{BeatNets, Stage};
@@ -40,6 +41,7 @@ impl Clear {
 }
 
 /// The word with its lowest bits set to 0.
+#[tactic(auto, using(net_parts::specs::Laws::growing))]
 fn clear_low(builder: &mut Builder, word: Net, low: u8) -> Result<Net, NetFault>
     requires word { IsNet builder.old word }
     requires some { 1 ≤ low }
@@ -60,6 +62,7 @@ fn clear_low(builder: &mut Builder, word: Net, low: u8) -> Result<Net, NetFault>
 }
 
 /// The word with one more symbol cleared where more are empty.
+#[tactic(auto, using(net_parts::specs::Laws::growing))]
 fn clear_more(
     builder: &mut Builder,
     word: Net,
@@ -86,6 +89,7 @@ fn clear_more(
 }
 
 /// The word with its empty symbols cleared.
+#[tactic(auto, using(net_parts::specs::Laws::growing))]
 fn clear_symbols(
     builder: &mut Builder,
     word: Net,
@@ -134,6 +138,7 @@ impl Stage for Clear {
 
     ghost backward_in = { λ s kept ready up netlist. up ≡ ready };
 
+    #[tactic(auto, using(net_parts::specs::Laws::growing))]
     fn emit_forward(
         &self,
         builder: &mut Builder,

@@ -3,29 +3,18 @@
 ghost use Rattle.std.specs.Prelude.{◌≡◌, ◌+◌, ◌-◌, ◌^◌, ◌<◌, ◌≤◌, length, IfOk};
 ghost use Rattle.netlist.specs.Netlists.{IsNet};
 ghost use Rattle.netlist.specs.Runs.{Always};
-ghost use Rattle.stage_core.specs.Beats.{IsNetOfWidth, AreBeatNets};
+ghost use Rattle.net_parts.specs.Nets.{IsNetOfWidth};
+ghost use Rattle.stage_core.specs.Beats.{AreBeatNets};
 ghost use Rattle.stage_core.specs.Groups.{shown_in};
-ghost use Rattle.stage_core.specs.Growth.{AddsNets};
+ghost use Rattle.net_parts.specs.Growth.{AddsNets};
 ghost use Rattle.st_format.specs.Counted.{counted, HaveCountedWidths};
 
-use av_base::Val;
+use net_parts::{constant, fit_bits};
 use netlist::{Builder, Net, NetFault};
 use stage_core::BeatNets;
 
-/// A net that always has this value.
-pub(crate) fn constant(builder: &mut Builder, width: u8, value: u8) -> Result<Net, NetFault>
-    requires some { 1 ≤ width }
-    requires small { width ≤ 128 }
-    requires fits { value < 2 ^ width }
-    ensures net { IfOk result (λ n. IsNetOfWidth builder.new n width) }
-    ensures value { IfOk result (λ n. Always builder.new (λ cycle. cycle.net n.number ≡ value)) }
-    ensures adds { AddsNets 1 builder.old builder.new }
-    ensures full { result ≡ Err NetFault.TooManyNets → 2 ^ 20 < length builder.old.lines + 1 }
-{
-    builder.constant(Val::new(width, u128::from(value)).unwrap())
-}
-
 /// `empty` with 8 bits.
+#[tactic(auto, using(net_parts::specs::Laws::growing))]
 pub(crate) fn widen_empty(builder: &mut Builder, empty: Net) -> Result<Net, NetFault>
     requires empty { IsNet builder.old empty }
     requires small { empty.width ≤ 8 }
@@ -34,15 +23,12 @@ pub(crate) fn widen_empty(builder: &mut Builder, empty: Net) -> Result<Net, NetF
     ensures adds { AddsNets 2 builder.old builder.new }
     ensures full { result ≡ Err NetFault.TooManyNets → 2 ^ 20 < length builder.old.lines + 2 }
 {
-    let width = builder.width(empty);
-    if width == 8 {
-        return Ok(empty);
-    }
-    let zeros = constant(builder, 8 - width, 0)?;
-    builder.concat(zeros, empty)
+    let bits = builder.width(empty);
+    fit_bits(builder, empty, bits, 8)
 }
 
 /// The beat with an `empty` that is 0 where the beat isn't the last of a packet.
+#[tactic(auto, using(net_parts::specs::Laws::growing))]
 pub(crate) fn count_empty(builder: &mut Builder, from: &BeatNets) -> Result<BeatNets, NetFault>
     requires from { AreBeatNets builder.old from.now }
     requires small { from.now.empty.width ≤ 8 }

@@ -5,14 +5,16 @@
 ghost use Rattle.std.specs.Prelude.{◌≡◌, ℕ, ◌+◌, ◌-◌, ◌*◌, ◌%◌, ◌^◌, ◌<◌, ◌≤◌, ◌==◌, ◌&&◌, not, nat_lt, if◌then◌else◌, length, IfOk};
 ghost use Rattle.netlist.specs.Netlists.{IsNet};
 ghost use Rattle.netlist.specs.Runs.{Always};
-ghost use Rattle.stage_core.specs.Beats.{Widths, IsBit, IsNetOfWidth, AreBeatNets, HaveSameWidths, beat_in};
+ghost use Rattle.stage_core.specs.Beats.{Widths, AreBeatNets, HaveSameWidths, beat_in};
+ghost use Rattle.net_parts.specs.Nets.{IsBit, IsNetOfWidth};
 ghost use Rattle.stage_core.specs.Groups.{shown_in, IsOfBeat, AreRegisters, StartsEmpty};
-ghost use Rattle.stage_core.specs.Growth.{GrowsBy, AddsNets, StillWait, WaitsBeside, AreMadeBetween};
+ghost use Rattle.net_parts.specs.Growth.{GrowsBy, AddsNets, StillWait, WaitsBeside, AreMadeBetween};
 ghost use Rattle.st_format.specs.Counted.{HaveCountedWidths};
-ghost use Rattle.st_format.specs.NarrowNets.{IsNarrowShape, has_more, piece_of, rest_of, shown_piece, shown_rest, shown_now, NarrowKeeps, NarrowForward, NarrowBackward, keeps_lasts, forward_lasts, backward_lasts};
+ghost use Rattle.st_format.specs.NarrowNets.{IsNarrowShape, more_follow, has_more, piece_empty, piece_of, rest_of, shown_piece, shown_rest, shown_now, NarrowKeeps, NarrowForward, NarrowBackward, keeps_lasts, forward_lasts, backward_lasts};
 
-use crate::counted::{constant, count_empty};
+use crate::counted::count_empty;
 use crate::sizes::Sizes;
+use net_parts::constant;
 use netlist::{Builder, Net, NetFault};
 use stage_core::makers::{mux_beat, reg_beat, set_next_beat};
 use stage_core::{BeatNets, Stage};
@@ -52,6 +54,7 @@ struct Current {
 }
 
 /// Makes the registers, and the wide beat of the cycle: what is held of one, or else the one that is shown.
+#[tactic(auto, using(net_parts::specs::Laws::growing))]
 fn show_current(builder: &mut Builder, from: &BeatNets) -> Result<Current, NetFault>
     requires from { AreBeatNets builder.old from.now }
     requires small { from.now.empty.width ≤ 8 }
@@ -75,10 +78,11 @@ fn show_current(builder: &mut Builder, from: &BeatNets) -> Result<Current, NetFa
 }
 
 /// Whether a part follows the first one.
+#[tactic(auto, using(net_parts::specs::Laws::growing))]
 fn part_follows(builder: &mut Builder, sizes: &Sizes, empty: Net) -> Result<Net, NetFault>
     requires { IsNetOfWidth builder.old empty 8 }
     ensures net { IfOk result (λ more. IsBit builder.new more) }
-    ensures value { IfOk result (λ more. Always builder.new (λ cycle. (cycle.net more.number == 1) ≡ nat_lt (cycle.net empty.number) (sizes.now.symbols * (sizes.now.parts - 1)))) }
+    ensures value { IfOk result (λ more. Always builder.new (λ cycle. (cycle.net more.number == 1) ≡ more_follow sizes.now (cycle.net empty.number))) }
     ensures adds { AddsNets 2 builder.old builder.new }
     ensures full { result ≡ Err NetFault.TooManyNets → 2 ^ 20 < length builder.old.lines + 2 }
 {
@@ -87,12 +91,13 @@ fn part_follows(builder: &mut Builder, sizes: &Sizes, empty: Net) -> Result<Net,
 }
 
 /// `empty` of the first part.
+#[tactic(auto, using(net_parts::specs::Laws::growing))]
 fn part_empty(builder: &mut Builder, sizes: &Sizes, empty: Net, more: Net) -> Result<Net, NetFault>
     requires empty { IsNetOfWidth builder.old empty 8 }
     requires more { IsBit builder.old more }
-    requires follows { Always builder.old (λ cycle. (cycle.net more.number == 1) ≡ nat_lt (cycle.net empty.number) (sizes.now.symbols * (sizes.now.parts - 1))) }
+    requires follows { Always builder.old (λ cycle. (cycle.net more.number == 1) ≡ more_follow sizes.now (cycle.net empty.number)) }
     ensures net { IfOk result (λ left. IsNetOfWidth builder.new left 8) }
-    ensures value { IfOk result (λ left. Always builder.new (λ cycle. cycle.net left.number ≡ (if nat_lt (cycle.net empty.number) (sizes.now.symbols * (sizes.now.parts - 1)) then 0 else cycle.net empty.number - sizes.now.symbols * (sizes.now.parts - 1)))) }
+    ensures value { IfOk result (λ left. Always builder.new (λ cycle. cycle.net left.number ≡ piece_empty sizes.now (cycle.net empty.number))) }
     ensures adds { AddsNets 4 builder.old builder.new }
     ensures full { result ≡ Err NetFault.TooManyNets → 2 ^ 20 < length builder.old.lines + 4 }
 {
@@ -103,6 +108,7 @@ fn part_empty(builder: &mut Builder, sizes: &Sizes, empty: Net, more: Net) -> Re
 }
 
 /// The last mark of the first part.
+#[tactic(auto, using(net_parts::specs::Laws::growing))]
 fn part_last(builder: &mut Builder, last: Net, more: Net) -> Result<Net, NetFault>
     requires last { IsBit builder.old last }
     requires more { IsBit builder.old more }
@@ -116,6 +122,7 @@ fn part_last(builder: &mut Builder, last: Net, more: Net) -> Result<Net, NetFaul
 }
 
 /// The first part of a wide beat.
+#[tactic(auto, using(net_parts::specs::Laws::growing))]
 fn show_part(
     builder: &mut Builder,
     sizes: &Sizes,
@@ -149,6 +156,7 @@ fn show_part(
 }
 
 /// The word without its first part.
+#[tactic(auto, using(net_parts::specs::Laws::growing))]
 fn rest_word(builder: &mut Builder, sizes: &Sizes, word: Net) -> Result<Net, NetFault>
     requires word { IsNetOfWidth builder.old word (sizes.now.bits * (sizes.now.symbols * sizes.now.parts)) }
     ensures net { IfOk result (λ rest. IsNetOfWidth builder.new rest (sizes.now.bits * (sizes.now.symbols * sizes.now.parts))) }
@@ -162,6 +170,7 @@ fn rest_word(builder: &mut Builder, sizes: &Sizes, word: Net) -> Result<Net, Net
 }
 
 /// What is left of a wide beat behind its first part.
+#[tactic(auto, using(net_parts::specs::Laws::growing))]
 fn leave_rest(
     builder: &mut Builder,
     sizes: &Sizes,
@@ -200,6 +209,7 @@ struct Cut {
 }
 
 /// The first part of a wide beat and what is left behind it.
+#[tactic(auto, using(net_parts::specs::Laws::growing))]
 fn cut_beat(builder: &mut Builder, sizes: &Sizes, beat: &BeatNets) -> Result<Cut, NetFault>
     requires beat { AreBeatNets builder.old beat.now }
     requires word { beat.now.word.width ≡ sizes.now.bits * (sizes.now.symbols * sizes.now.parts) }
@@ -247,6 +257,7 @@ impl Stage for Narrow {
 
     ghost backward_in = { λ s kept ready up netlist. NarrowBackward kept ready up netlist };
 
+    #[tactic(auto, using(net_parts::specs::Laws::growing))]
     fn emit_forward(
         &self,
         builder: &mut Builder,
@@ -262,6 +273,7 @@ impl Stage for Narrow {
         Ok((part, kept))
     }
 
+    #[tactic(auto, using(net_parts::specs::Laws::growing))]
     fn emit_backward(
         &self,
         builder: &mut Builder,

@@ -6,13 +6,15 @@
 ghost use Rattle.std.specs.Prelude.{◌≡◌, ℕ, ◌+◌, ◌-◌, ◌*◌, ◌/◌, ◌%◌, ◌^◌, ◌<◌, ◌≤◌, ◌==◌, ◌||◌, if◌then◌else◌, bit_or, length, IfOk};
 ghost use Rattle.netlist.specs.Netlists.{IsNet};
 ghost use Rattle.netlist.specs.Runs.{Always};
-ghost use Rattle.stage_core.specs.Beats.{Widths, IsBit, IsNetOfWidth, AreBeatNets, HaveSameWidths};
+ghost use Rattle.stage_core.specs.Beats.{Widths, AreBeatNets, HaveSameWidths};
+ghost use Rattle.net_parts.specs.Nets.{IsBit, IsNetOfWidth};
 ghost use Rattle.stage_core.specs.Groups.{shown_in, nothing_shown, IsOfBeat};
-ghost use Rattle.stage_core.specs.Growth.{AddsNets};
-ghost use Rattle.st_format.specs.WidenNets.{IsWidenShape, part_at, laid, is_full, shown_joined, shown_filled, WidenKeeps, WidenForward, WidenBackward, keeps_lasts, forward_lasts, backward_lasts};
+ghost use Rattle.net_parts.specs.Growth.{AddsNets};
+ghost use Rattle.st_format.specs.WidenNets.{IsWidenShape, part_at, laid, is_full, shown_joined, shown_gathered, shown_filled, WidenKeeps, WidenForward, WidenBackward, keeps_lasts, forward_lasts, backward_lasts};
 
-use crate::counted::{constant, widen_empty};
+use crate::counted::widen_empty;
 use crate::sizes::Sizes;
+use net_parts::constant;
 use netlist::{Builder, Net, NetFault};
 use stage_core::makers::{mux_beat, reg_beat, set_next_beat};
 use stage_core::{BeatNets, Stage};
@@ -49,6 +51,7 @@ pub struct WidenKept {
 }
 
 /// The nets of nothing that is gathered, which are all low.
+#[tactic(auto, using(net_parts::specs::Laws::growing))]
 fn gather_none(builder: &mut Builder, sizes: &Sizes, error: Net) -> Result<BeatNets, NetFault>
     requires { IsNet builder.old error }
     ensures none { IfOk result (λ made. AreBeatNets builder.new made) }
@@ -77,6 +80,7 @@ fn gather_none(builder: &mut Builder, sizes: &Sizes, error: Net) -> Result<BeatN
 }
 
 /// A part of the joined word: the coming word in its place, and else what is held there. Part 0 has the lowest-order bits.
+#[tactic(auto, using(net_parts::specs::Laws::growing))]
 fn lay_part(
     builder: &mut Builder,
     sizes: &Sizes,
@@ -102,6 +106,7 @@ fn lay_part(
 }
 
 /// The word that joins what is gathered with the coming word.
+#[tactic(auto, using(net_parts::specs::Laws::growing))]
 fn join_word(
     builder: &mut Builder,
     sizes: &Sizes,
@@ -126,6 +131,7 @@ fn join_word(
 }
 
 /// Whether the beat that is shown ends a packet or takes the last place.
+#[tactic(auto, using(net_parts::specs::Laws::growing))]
 fn fills_up(builder: &mut Builder, sizes: &Sizes, last: Net, gathered: Net) -> Result<Net, NetFault>
     requires last { IsBit builder.old last }
     requires gathered { IsNetOfWidth builder.old gathered 8 }
@@ -140,6 +146,7 @@ fn fills_up(builder: &mut Builder, sizes: &Sizes, last: Net, gathered: Net) -> R
 }
 
 /// `empty` of the joined beat: the symbols that are missing behind the coming ones, and `empty` of these.
+#[tactic(auto, using(net_parts::specs::Laws::growing))]
 fn join_empty(
     builder: &mut Builder,
     sizes: &Sizes,
@@ -161,6 +168,7 @@ fn join_empty(
 }
 
 /// The beat that joins what is gathered with the one that is shown.
+#[tactic(auto, using(net_parts::specs::Laws::growing))]
 fn join_beat(
     builder: &mut Builder,
     sizes: &Sizes,
@@ -200,6 +208,7 @@ fn join_beat(
 }
 
 /// What is gathered once the beat is taken.
+#[tactic(auto, using(net_parts::specs::Laws::growing))]
 fn gather_more(
     builder: &mut Builder,
     sizes: &Sizes,
@@ -218,7 +227,7 @@ fn gather_more(
     requires coming { IsBit builder.old coming }
     ensures filled { IfOk result (λ made. AreBeatNets builder.new made) }
     ensures widths { IfOk result (λ made. HaveSameWidths made none.now) }
-    ensures value { IfOk result (λ made. Always builder.new (λ cycle. shown_in cycle made ≡ record { valid = cycle.net coming.number; beat = record { word = cycle.net joined.now.word.number; channel = cycle.net none.now.channel.number; error = cycle.net joined.now.error.number; first = cycle.net joined.now.first.number; last = cycle.net none.now.last.number; empty = (cycle.net held.now.empty.number + sizes.now.symbols) % 2 ^ 8 } })) }
+    ensures value { IfOk result (λ made. Always builder.new (λ cycle. shown_in cycle made ≡ shown_gathered sizes.now (cycle.net coming.number) (shown_in cycle held.now) (shown_in cycle joined.now) (shown_in cycle none.now))) }
     ensures adds { AddsNets 2 builder.old builder.new }
     ensures full { result ≡ Err NetFault.TooManyNets → 2 ^ 20 < length builder.old.lines + 2 }
 {
@@ -260,6 +269,7 @@ impl Stage for Widen {
 
     ghost backward_in = { λ s kept ready up netlist. WidenBackward kept ready up netlist };
 
+    #[tactic(auto, using(net_parts::specs::Laws::growing))]
     fn emit_forward(
         &self,
         builder: &mut Builder,
@@ -279,6 +289,7 @@ impl Stage for Widen {
         Ok((to, kept))
     }
 
+    #[tactic(auto, using(net_parts::specs::Laws::growing))]
     fn emit_backward(
         &self,
         builder: &mut Builder,

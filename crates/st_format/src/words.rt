@@ -3,8 +3,8 @@
 ghost use Rattle.std.specs.Prelude.{◌≡◌, ◌+◌, ◌*◌, ◌/◌, ◌%◌, ◌^◌, ◌<◌, ◌≤◌, length, IfOk};
 ghost use Rattle.netlist.specs.Netlists.{IsNet};
 ghost use Rattle.netlist.specs.Runs.{Always};
-ghost use Rattle.stage_core.specs.Beats.{IsNetOfWidth};
-ghost use Rattle.stage_core.specs.Growth.{AddsNets};
+ghost use Rattle.net_parts.specs.Nets.{IsNetOfWidth};
+ghost use Rattle.net_parts.specs.Growth.{AddsNets};
 ghost use Rattle.stream_machines.specs.Words.{turned_word};
 
 use netlist::{Builder, Net, NetFault};
@@ -25,6 +25,7 @@ fn take_symbol(builder: &mut Builder, word: Net, bits: u8, place: u8) -> Result<
 }
 
 /// The word with its symbols in the other order.
+#[tactic(auto, using(net_parts::specs::Laws::growing))]
 pub(crate) fn turn_symbols(
     builder: &mut Builder,
     word: Net,

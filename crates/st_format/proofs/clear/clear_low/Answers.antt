@@ -1,17 +1,10 @@
 use Rattle.std.proofs.Common.{◌≡◌, ◌^◌, ◌<◌, subst, ◌∙◌, arith}
 use Rattle.netlist.specs.Runs.{Always}
-use Rattle.netlist.proofs.Valuations.{valued_fits}
-use Rattle.stage_core.specs.Beats.{IsNetOfWidth}
-use Rattle.stage_core.proofs.Growing.{grows_once, adds_twice, adds_fewer, if_ok}
+use Rattle.net_parts.specs.Laws.{valued_fits, grows_once, adds_twice, adds_fewer, if_ok}
+use Rattle.net_parts.specs.Nets.{IsNetOfWidth}
 use Rattle.st_format.specs.ClearNets.{without_low}
 use Rattle.st_format.proofs.ClearLaw.{low_all, low_some}
 use Rattle.st_format.proofs.clear.clear_low.Goals as goal
-
-pub returns-in_err-high-clause-adds : goal.returns-in_err-high-clause-adds
-returns-in_err-high-clause-adds c = adds_fewer _ _ _ _ (omega arith) (adds_twice _ _ _ _ _ c.constant.ensures.adds (grows_once _ _ c.slice.ensures.extends c.slice.ensures.grows))
-
-pub returns-clause-adds : goal.returns-clause-adds
-returns-clause-adds c = adds_fewer _ _ _ _ (omega arith) (adds_twice _ _ _ _ _ (adds_twice _ _ _ _ _ c.constant.ensures.adds (grows_once _ _ c.slice.ensures.extends c.slice.ensures.grows)) (grows_once _ _ c.concat.ensures.extends c.concat.ensures.grows))
 
 pub returns-clause-net : goal.returns-clause-net
 returns-clause-net c =

@@ -1,19 +1,10 @@
 use Rattle.std.proofs.Common.{◌≡◌, ◌+◌, ◌*◌, nat_lt, if◌then◌else◌, ◌∙◌, arith}
 use Rattle.netlist.specs.Runs.{Always}
-use Rattle.stage_core.specs.Beats.{IsNetOfWidth}
-use Rattle.stage_core.proofs.Growing.{extends_twice, grows_once, adds_twice, adds_fewer, if_ok}
+use Rattle.net_parts.specs.Nets.{IsNetOfWidth}
+use Rattle.net_parts.specs.Laws.{extends_twice, grows_once, adds_twice, adds_fewer, if_ok}
 use Rattle.st_format.specs.ClearNets.{without_low}
 use Rattle.st_format.proofs.ClearLaw.{more_cleared}
 use Rattle.st_format.proofs.clear.clear_more.Goals as goal
-
-pub returns-in_err-more-clause-adds : goal.returns-in_err-more-clause-adds
-returns-in_err-more-clause-adds c = adds_fewer _ _ _ _ (omega arith) (adds_twice _ _ _ _ _ c.constant.ensures.adds (grows_once _ _ c.less.ensures.extends c.less.ensures.grows))
-
-pub returns-in_err-shorter-clause-adds : goal.returns-in_err-shorter-clause-adds
-returns-in_err-shorter-clause-adds c = adds_fewer _ _ _ _ (omega arith) (adds_twice _ _ _ _ _ (adds_twice _ _ _ _ _ c.constant.ensures.adds (grows_once _ _ c.less.ensures.extends c.less.ensures.grows)) c.clear_low.ensures.adds)
-
-pub returns-clause-adds : goal.returns-clause-adds
-returns-clause-adds c = adds_fewer _ _ _ _ (omega arith) (adds_twice _ _ _ _ _ (adds_twice _ _ _ _ _ (adds_twice _ _ _ _ _ c.constant.ensures.adds (grows_once _ _ c.less.ensures.extends c.less.ensures.grows)) c.clear_low.ensures.adds) (grows_once _ _ c.mux.ensures.extends c.mux.ensures.grows))
 
 pub returns-clause-net : goal.returns-clause-net
 returns-clause-net c = if_ok c.mux.result _ (λ more. IsNetOfWidth c.mux.new.self more c.args.word.width) (λ more net. record { is_net = net.0; has_width = net.1 ∙ c.in_ok-shorter.ensures.net.has_width }) c.mux.ensures.net
@@ -31,3 +22,6 @@ returns-clause-value c =
     let v0 = c.constant.ensures.adds.grows.extends.valuations cycle v1 in
     more_cleared c.args.count _ (cycle.net c.args.empty.number) _ (cycle.net c.args.cleared.number) _ _ _ (c.in_ok-number.ensures.value cycle v1) (c.in_ok-more.ensures.value cycle v2).1 (c.in_ok-shorter.ensures.value cycle v3) (value cycle v4).1))
     c.mux.ensures.value
+
+pub returns-clause-adds : goal.returns-clause-adds
+returns-clause-adds c = adds_fewer _ _ _ _ (omega arith) (adds_twice _ _ _ _ _ (adds_twice _ _ _ _ _ (adds_twice _ _ _ _ _ c.constant.ensures.adds (grows_once _ _ c.less.ensures.extends c.less.ensures.grows)) c.clear_low.ensures.adds) (grows_once _ _ c.mux.ensures.extends c.mux.ensures.grows))

@@ -1,22 +1,18 @@
 use Rattle.std.proofs.Common.{refl, arith}
-use Rattle.stage_core.proofs.Growing.{adds_twice, adds_fewer}
-use Rattle.stage_core.proofs.Growing.{extends_none}
+use Rattle.net_parts.specs.Laws.{adds_none, adds_twice, adds_fewer}
 use Rattle.st_format.proofs.ClearLaw.{none_cleared, one_cleared}
 use Rattle.st_format.proofs.Turning.{below_width}
 use Rattle.st_format.proofs.clear.clear_symbols.Goals as goal
 
 pub loop-count-init : goal.loop-count-init
 loop-count-init c = record {
-  adds = record { grows = record { extends = extends_none _; most = omega arith; drivers = refl; memories = refl }; waits = λ n w. w; no_more_wait = λ n w. w };
+  adds = adds_none _;
   net = record { is_net = c.requires.word.is_net; has_width = refl };
   value = λ cycle v. none_cleared c.args.bits (cycle.net c.args.empty.number) (cycle.net c.args.word.number);
 }
 
 pub clear_more-requires-clause-inside : goal.clear_more-requires-clause-inside
 clear_more-requires-clause-inside c = let most = below_width c.args.bits c.loop-count.count c.args.symbols (omega arith) in let wide = c.requires.word.has_width in omega (arith, most, wide)
-
-pub returns-in_err-cleared-clause-adds : goal.returns-in_err-cleared-clause-adds
-returns-in_err-cleared-clause-adds c = adds_fewer _ _ _ _ (omega arith) (adds_twice _ _ _ _ _ c.loop-count.invariant.adds c.clear_more.ensures.adds)
 
 pub loop-count-preserved : goal.loop-count-preserved
 loop-count-preserved c = record {

@@ -2,18 +2,9 @@ use Rattle.std.proofs.Common.{sym, subst, ap, arith}
 use Rattle.stage_core.specs.Beats.{AreBeatNets}
 use Rattle.stage_core.specs.Groups.{shown_in}
 use Rattle.stage_core.specs.Lasting.{beat_lasts}
-use Rattle.stage_core.proofs.Growing.{extends_twice, grows_once, adds_twice, adds_fewer, bit_fits}
+use Rattle.net_parts.specs.Laws.{extends_twice, grows_once, adds_twice, adds_fewer, bit_fits}
 use Rattle.st_format.proofs.CountedLemmas.{counted_shown}
 use Rattle.st_format.proofs.counted.count_empty.Goals as goal
-
-pub returns-in_err-none-clause-adds : goal.returns-in_err-none-clause-adds
-returns-in_err-none-clause-adds c = adds_fewer _ _ _ _ (omega arith) (adds_twice _ _ _ _ _ c.widen_empty.ensures.adds c.constant.ensures.adds)
-
-pub returns-in_err-empty-clause-adds : goal.returns-in_err-empty-clause-adds
-returns-in_err-empty-clause-adds c = adds_fewer _ _ _ _ (omega arith) (adds_twice _ _ _ _ _ (adds_twice _ _ _ _ _ c.widen_empty.ensures.adds c.constant.ensures.adds) (grows_once _ _ c.mux.ensures.extends c.mux.ensures.grows))
-
-pub returns-clause-adds : goal.returns-clause-adds
-returns-clause-adds c = adds_fewer _ _ _ _ (omega arith) (adds_twice _ _ _ _ _ (adds_twice _ _ _ _ _ c.widen_empty.ensures.adds c.constant.ensures.adds) (grows_once _ _ c.mux.ensures.extends c.mux.ensures.grows))
 
 pub returns-clause-beat : goal.returns-clause-beat
 returns-clause-beat c =

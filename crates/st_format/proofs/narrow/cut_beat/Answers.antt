@@ -1,16 +1,7 @@
 use Rattle.std.proofs.Common.{arith}
 use Rattle.stage_core.specs.Lasting.{beat_lasts}
-use Rattle.stage_core.proofs.Growing.{extends_twice, adds_twice, adds_fewer}
+use Rattle.net_parts.specs.Laws.{extends_twice, adds_twice, adds_fewer}
 use Rattle.st_format.proofs.narrow.cut_beat.Goals as goal
-
-pub returns-in_err-part-clause-adds : goal.returns-in_err-part-clause-adds
-returns-in_err-part-clause-adds c = adds_fewer _ _ _ _ (omega arith) (adds_twice _ _ _ _ _ c.part_follows.ensures.adds c.show_part.ensures.adds)
-
-pub returns-in_err-rest-clause-adds : goal.returns-in_err-rest-clause-adds
-returns-in_err-rest-clause-adds c = adds_fewer _ _ _ _ (omega arith) (adds_twice _ _ _ _ _ (adds_twice _ _ _ _ _ c.part_follows.ensures.adds c.show_part.ensures.adds) c.leave_rest.ensures.adds)
-
-pub returns-clause-adds : goal.returns-clause-adds
-returns-clause-adds c = adds_fewer _ _ _ _ (omega arith) (adds_twice _ _ _ _ _ (adds_twice _ _ _ _ _ c.part_follows.ensures.adds c.show_part.ensures.adds) c.leave_rest.ensures.adds)
 
 pub leave_rest-requires-clause-beat : goal.leave_rest-requires-clause-beat
 leave_rest-requires-clause-beat c = beat_lasts _ _ _ (extends_twice _ _ _ c.part_follows.ensures.adds.grows.extends c.show_part.ensures.adds.grows.extends) c.requires.beat

@@ -2,28 +2,16 @@ use Rattle.std.proofs.Common.{◌+◌, ◌%◌, ◌^◌, sym, subst, ap, ◌∙�
 use Rattle.stage_core.specs.Beats.{AreBeatNets}
 use Rattle.stage_core.specs.declared.beat.BeatNets.{BeatNets}
 use Rattle.stage_core.specs.Groups.{shown_in}
-use Rattle.stage_core.specs.Lasting.{beat_lasts, bit_lasts}
-use Rattle.stage_core.proofs.Growing.{extends_twice, grows_once, adds_twice, adds_fewer, bit_fits}
+use Rattle.stage_core.specs.Lasting.{beat_lasts}
+use Rattle.net_parts.specs.Laws.{net_lasts, extends_twice, grows_once, adds_twice, adds_fewer, bit_fits}
 use Rattle.st_format.proofs.NarrowLemmas.{rest_shown}
 use Rattle.st_format.proofs.narrow.leave_rest.Goals as goal
-
-pub returns-in_err-first-clause-adds : goal.returns-in_err-first-clause-adds
-returns-in_err-first-clause-adds c = adds_fewer _ _ _ _ (omega arith) (adds_twice _ _ _ _ _ c.rest_word.ensures.adds c.constant.ensures.adds)
-
-pub returns-in_err-gone-clause-adds : goal.returns-in_err-gone-clause-adds
-returns-in_err-gone-clause-adds c = adds_fewer _ _ _ _ (omega arith) (adds_twice _ _ _ _ _ (adds_twice _ _ _ _ _ c.rest_word.ensures.adds c.constant.ensures.adds) c.constant-2.ensures.adds)
-
-pub returns-in_err-empty-clause-adds : goal.returns-in_err-empty-clause-adds
-returns-in_err-empty-clause-adds c = adds_fewer _ _ _ _ (omega arith) (adds_twice _ _ _ _ _ (adds_twice _ _ _ _ _ (adds_twice _ _ _ _ _ c.rest_word.ensures.adds c.constant.ensures.adds) c.constant-2.ensures.adds) (grows_once _ _ c.add.ensures.extends c.add.ensures.grows))
-
-pub returns-clause-adds : goal.returns-clause-adds
-returns-clause-adds c = adds_fewer _ _ _ _ (omega arith) (adds_twice _ _ _ _ _ (adds_twice _ _ _ _ _ (adds_twice _ _ _ _ _ c.rest_word.ensures.adds c.constant.ensures.adds) c.constant-2.ensures.adds) (grows_once _ _ c.add.ensures.extends c.add.ensures.grows))
 
 pub returns-clause-rest : goal.returns-clause-rest
 returns-clause-rest c =
     let more = (extends_twice _ _ _ c.rest_word.ensures.adds.grows.extends (extends_twice _ _ _ c.constant.ensures.adds.grows.extends (extends_twice _ _ _ c.constant-2.ensures.adds.grows.extends c.add.ensures.extends))) in
     let base = subst (AreBeatNets c.add.new.self) (sym c.copied.ensures) (beat_lasts _ _ _ more c.requires.beat) in
-    record { valid = bit_lasts _ _ _ _ more c.requires.more; word = (extends_twice _ _ _ c.constant.ensures.adds.grows.extends (extends_twice _ _ _ c.constant-2.ensures.adds.grows.extends c.add.ensures.extends)).nets _ _ c.in_ok-word.ensures.net.is_net; channel = base.channel; error = base.error; first = bit_lasts _ _ _ _ (extends_twice _ _ _ c.constant-2.ensures.adds.grows.extends c.add.ensures.extends) c.in_ok-first.ensures.net; last = base.last; empty = c.in_ok-empty.ensures.net.0 }
+    record { valid = net_lasts _ _ _ _ more c.requires.more; word = (extends_twice _ _ _ c.constant.ensures.adds.grows.extends (extends_twice _ _ _ c.constant-2.ensures.adds.grows.extends c.add.ensures.extends)).nets _ _ c.in_ok-word.ensures.net.is_net; channel = base.channel; error = base.error; first = net_lasts _ _ _ _ (extends_twice _ _ _ c.constant-2.ensures.adds.grows.extends c.add.ensures.extends) c.in_ok-first.ensures.net; last = base.last; empty = c.in_ok-empty.ensures.net.0 }
 
 pub returns-clause-widths : goal.returns-clause-widths
 returns-clause-widths c =
@@ -47,3 +35,6 @@ returns-clause-value c cycle v4 =
     rest_shown c.args.sizes.now (shown_in cycle c.copied.result) (shown_in cycle c.args.beat.now) (cycle.net c.args.more.number) _ _ _ (ap (shown_in cycle) c.copied.ensures) (bit_fits _ _ c.requires.more cycle v0) (c.requires.follows cycle v0)
     (c.in_ok-word.ensures.value cycle v1) (c.in_ok-first.ensures.value cycle v2)
     ((c.in_ok-empty.ensures.value cycle v4).1 ∙ ap (λ w. (cycle.net c.args.beat.now.empty.number + cycle.net c.in_ok-gone.gone.number) % 2 ^ w) c.requires.empty ∙ ap (λ n. (cycle.net c.args.beat.now.empty.number + n) % 2 ^ 8) (c.in_ok-gone.ensures.value cycle v3))
+
+pub returns-clause-adds : goal.returns-clause-adds
+returns-clause-adds c = adds_fewer _ _ _ _ (omega arith) (adds_twice _ _ _ _ _ (adds_twice _ _ _ _ _ (adds_twice _ _ _ _ _ c.rest_word.ensures.adds c.constant.ensures.adds) c.constant-2.ensures.adds) (grows_once _ _ c.add.ensures.extends c.add.ensures.grows))

@@ -1,16 +1,11 @@
 use Rattle.std.proofs.Common.{◌≡◌, ◌-◌, ◌*◌, nat_lt, if◌then◌else◌, ◌∙◌, arith}
 use Rattle.netlist.specs.Runs.{Always}
-use Rattle.netlist.proofs.Valuations.{valued_fits}
-use Rattle.stage_core.specs.Lasting.{bit_lasts}
-use Rattle.stage_core.proofs.Growing.{extends_twice, grows_once, adds_twice, adds_fewer, bit_fits, if_ok}
+use Rattle.net_parts.specs.Laws.{valued_fits, net_lasts, extends_twice, grows_once, adds_twice, adds_fewer, bit_fits, if_ok}
 use Rattle.st_format.proofs.CountedLemmas.{left_where}
 use Rattle.st_format.proofs.narrow.part_empty.Goals as goal
 
-pub returns-in_err-none-clause-adds : goal.returns-in_err-none-clause-adds
-returns-in_err-none-clause-adds c = adds_fewer _ _ _ _ (omega arith) (adds_twice _ _ _ _ _ (adds_twice _ _ _ _ _ c.constant.ensures.adds (grows_once _ _ c.sub.ensures.extends c.sub.ensures.grows)) c.constant-2.ensures.adds)
-
 pub mux-requires-clause-s_is : goal.mux-requires-clause-s_is
-mux-requires-clause-s_is c = (bit_lasts _ _ _ _ (extends_twice _ _ _ c.constant.ensures.adds.grows.extends (extends_twice _ _ _ c.sub.ensures.extends c.constant-2.ensures.adds.grows.extends)) c.requires.more).is_net
+mux-requires-clause-s_is c = (net_lasts _ _ _ _ (extends_twice _ _ _ c.constant.ensures.adds.grows.extends (extends_twice _ _ _ c.sub.ensures.extends c.constant-2.ensures.adds.grows.extends)) c.requires.more).is_net
 
 pub returns-clause-value : goal.returns-clause-value
 returns-clause-value c =

@@ -1,6 +1,6 @@
 use Rattle.std.proofs.Common.{◌≡◌, ◌-◌, ◌*◌, ◌==◌, nat_lt, ap, ◌∙◌, arith}
 use Rattle.netlist.specs.Runs.{Always}
-use Rattle.stage_core.proofs.Growing.{grows_once, adds_twice, adds_fewer, if_ok}
+use Rattle.net_parts.specs.Laws.{grows_once, adds_twice, adds_fewer, if_ok}
 use Rattle.st_format.proofs.CountedLemmas.{test_high}
 use Rattle.st_format.proofs.narrow.part_follows.Goals as goal
 
@@ -11,6 +11,3 @@ returns-clause-value c =
     let behind = c.in_ok-most.ensures.value cycle (c.less.ensures.extends.valuations cycle v) ∙ c.rest_symbols.ensures.value in
     test_high _ _ (value cycle v).1 ∙ ap (nat_lt (cycle.net c.args.empty.number)) behind))
     c.less.ensures.value
-
-pub returns-clause-adds : goal.returns-clause-adds
-returns-clause-adds c = adds_fewer _ _ _ _ (omega arith) (adds_twice _ _ _ _ _ c.constant.ensures.adds (grows_once _ _ c.less.ensures.extends c.less.ensures.grows))

@@ -1,15 +1,9 @@
 use Rattle.std.proofs.Common.{◌≡◌, ◌-◌, ◌*◌, ◌%◌, ◌^◌, ◌∙◌, arith}
 use Rattle.netlist.specs.Runs.{Always}
-use Rattle.stage_core.specs.Beats.{IsNetOfWidth}
-use Rattle.stage_core.proofs.Growing.{grows_once, adds_twice, adds_fewer, if_ok}
+use Rattle.net_parts.specs.Nets.{IsNetOfWidth}
+use Rattle.net_parts.specs.Laws.{grows_once, adds_twice, adds_fewer, if_ok}
 use Rattle.st_format.proofs.NarrowLemmas.{rest_shifted}
 use Rattle.st_format.proofs.narrow.rest_word.Goals as goal
-
-pub returns-in_err-rest-clause-adds : goal.returns-in_err-rest-clause-adds
-returns-in_err-rest-clause-adds c = adds_fewer _ _ _ _ (omega arith) (adds_twice _ _ _ _ _ c.constant.ensures.adds (grows_once _ _ c.slice.ensures.extends c.slice.ensures.grows))
-
-pub returns-clause-adds : goal.returns-clause-adds
-returns-clause-adds c = adds_fewer _ _ _ _ (omega arith) (adds_twice _ _ _ _ _ (adds_twice _ _ _ _ _ c.constant.ensures.adds (grows_once _ _ c.slice.ensures.extends c.slice.ensures.grows)) (grows_once _ _ c.concat.ensures.extends c.concat.ensures.grows))
 
 pub returns-clause-net : goal.returns-clause-net
 returns-clause-net c =

@@ -1,17 +1,8 @@
 use Rattle.std.proofs.Common.{◌==◌, if◌then◌else◌, ap, ◌∙◌, arith}
 use Rattle.stage_core.specs.Groups.{shown_in}
 use Rattle.stage_core.specs.Lasting.{beat_lasts}
-use Rattle.stage_core.proofs.Growing.{grows_twice, grows_fewer}
+use Rattle.net_parts.specs.Laws.{grows_twice, grows_fewer, adds_grow}
 use Rattle.st_format.proofs.narrow.show_current.Goals as goal
-
-pub returns-in_err-held-clause-grows : goal.returns-in_err-held-clause-grows
-returns-in_err-held-clause-grows c = grows_fewer _ _ _ _ (omega arith) (grows_twice _ _ _ _ _ c.count_empty.ensures.adds.grows c.reg_beat.ensures.grows)
-
-pub returns-in_err-beat-clause-grows : goal.returns-in_err-beat-clause-grows
-returns-in_err-beat-clause-grows c = grows_fewer _ _ _ _ (omega arith) (grows_twice _ _ _ _ _ (grows_twice _ _ _ _ _ c.count_empty.ensures.adds.grows c.reg_beat.ensures.grows) c.mux_beat.ensures.adds.grows)
-
-pub returns-clause-grows : goal.returns-clause-grows
-returns-clause-grows c = grows_fewer _ _ _ _ (omega arith) (grows_twice _ _ _ _ _ (grows_twice _ _ _ _ _ c.count_empty.ensures.adds.grows c.reg_beat.ensures.grows) c.mux_beat.ensures.adds.grows)
 
 pub returns-clause-held : goal.returns-clause-held
 returns-clause-held c = beat_lasts _ _ _ c.mux_beat.ensures.adds.grows.extends c.in_ok-held.ensures.beat

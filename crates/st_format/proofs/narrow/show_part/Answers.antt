@@ -1,19 +1,10 @@
 use Rattle.std.proofs.Common.{sym, subst, ap, ◌∙◌, arith}
 use Rattle.stage_core.specs.Beats.{AreBeatNets}
 use Rattle.stage_core.specs.Groups.{shown_in}
-use Rattle.stage_core.specs.Lasting.{beat_lasts, bit_lasts}
-use Rattle.stage_core.proofs.Growing.{extends_twice, grows_once, adds_twice, adds_fewer}
+use Rattle.stage_core.specs.Lasting.{beat_lasts}
+use Rattle.net_parts.specs.Laws.{net_lasts, extends_twice, grows_once, adds_twice, adds_fewer}
 use Rattle.st_format.proofs.NarrowLemmas.{part_shown, part_bits}
 use Rattle.st_format.proofs.narrow.show_part.Goals as goal
-
-pub returns-in_err-last-clause-adds : goal.returns-in_err-last-clause-adds
-returns-in_err-last-clause-adds c = adds_fewer _ _ _ _ (omega arith) (adds_twice _ _ _ _ _ (grows_once _ _ c.slice.ensures.extends c.slice.ensures.grows) c.part_last.ensures.adds)
-
-pub returns-in_err-empty-clause-adds : goal.returns-in_err-empty-clause-adds
-returns-in_err-empty-clause-adds c = adds_fewer _ _ _ _ (omega arith) (adds_twice _ _ _ _ _ (adds_twice _ _ _ _ _ (grows_once _ _ c.slice.ensures.extends c.slice.ensures.grows) c.part_last.ensures.adds) c.part_empty.ensures.adds)
-
-pub returns-clause-adds : goal.returns-clause-adds
-returns-clause-adds c = adds_fewer _ _ _ _ (omega arith) (adds_twice _ _ _ _ _ (adds_twice _ _ _ _ _ (grows_once _ _ c.slice.ensures.extends c.slice.ensures.grows) c.part_last.ensures.adds) c.part_empty.ensures.adds)
 
 pub part_empty-requires-clause-follows : goal.part_empty-requires-clause-follows
 part_empty-requires-clause-follows c cycle v = c.requires.follows cycle ((extends_twice _ _ _ c.slice.ensures.extends c.part_last.ensures.adds.grows.extends).valuations cycle v)
@@ -22,7 +13,7 @@ pub returns-clause-part : goal.returns-clause-part
 returns-clause-part c =
     let more = (extends_twice _ _ _ c.slice.ensures.extends (extends_twice _ _ _ c.part_last.ensures.adds.grows.extends c.part_empty.ensures.adds.grows.extends)) in
     let base = subst (AreBeatNets c.part_empty.new.builder) (sym c.copied.ensures) (beat_lasts _ _ _ more c.requires.beat) in
-    record { valid = base.valid; word = (extends_twice _ _ _ c.part_last.ensures.adds.grows.extends c.part_empty.ensures.adds.grows.extends).nets _ _ c.in_ok-word.ensures.net.0; channel = base.channel; error = base.error; first = base.first; last = bit_lasts _ _ _ _ c.part_empty.ensures.adds.grows.extends c.in_ok-last.ensures.net; empty = c.in_ok-empty.ensures.net.is_net }
+    record { valid = base.valid; word = (extends_twice _ _ _ c.part_last.ensures.adds.grows.extends c.part_empty.ensures.adds.grows.extends).nets _ _ c.in_ok-word.ensures.net.0; channel = base.channel; error = base.error; first = base.first; last = net_lasts _ _ _ _ c.part_empty.ensures.adds.grows.extends c.in_ok-last.ensures.net; empty = c.in_ok-empty.ensures.net.is_net }
 
 pub returns-clause-value : goal.returns-clause-value
 returns-clause-value c cycle v3 =

@@ -1,16 +1,10 @@
 use Rattle.std.proofs.Common.{◌≡◌, ◌-◌, ◌*◌, ◌==◌, ◌||◌, ap, ◌∙◌, arith}
 use Rattle.netlist.specs.Runs.{Always}
-use Rattle.stage_core.specs.Beats.{IsBit}
-use Rattle.stage_core.proofs.Growing.{grows_once, adds_twice, adds_fewer, bit_fits, if_ok}
-use Rattle.stage_core.proofs.Bits.{high_or}
+use Rattle.net_parts.specs.Nets.{IsBit}
+use Rattle.net_parts.specs.Laws.{grows_once, adds_twice, adds_fewer, bit_fits, if_ok}
+use Rattle.net_parts.specs.Bits.{high_or}
 use Rattle.st_format.proofs.CountedLemmas.{test_high}
 use Rattle.st_format.proofs.widen.fills_up.Goals as goal
-
-pub returns-in_err-in_last_place-clause-adds : goal.returns-in_err-in_last_place-clause-adds
-returns-in_err-in_last_place-clause-adds c = adds_fewer _ _ _ _ (omega arith) (adds_twice _ _ _ _ _ c.constant.ensures.adds (grows_once _ _ c.eq.ensures.extends c.eq.ensures.grows))
-
-pub returns-clause-adds : goal.returns-clause-adds
-returns-clause-adds c = adds_fewer _ _ _ _ (omega arith) (adds_twice _ _ _ _ _ (adds_twice _ _ _ _ _ c.constant.ensures.adds (grows_once _ _ c.eq.ensures.extends c.eq.ensures.grows)) (grows_once _ _ c.or.ensures.extends c.or.ensures.grows))
 
 pub returns-clause-net : goal.returns-clause-net
 returns-clause-net c = if_ok c.or.result _ (IsBit c.or.new.self) (λ full net. record { is_net = net.0; has_width = net.1 ∙ c.requires.last.has_width }) c.or.ensures.net

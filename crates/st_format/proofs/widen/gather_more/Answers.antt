@@ -1,20 +1,15 @@
 use Rattle.std.proofs.Common.{◌+◌, ◌%◌, ◌^◌, refl, sym, ap, ◌∙◌, arith}
-use Rattle.stage_core.specs.Lasting.{bit_lasts, beat_lasts}
-use Rattle.stage_core.proofs.Growing.{extends_twice, grows_once, adds_twice, adds_fewer, shown_same}
+use Rattle.net_parts.specs.Laws.{net_lasts, extends_twice, grows_once, adds_twice, adds_fewer}
+use Rattle.stage_core.specs.Lasting.{beat_lasts}
+use Rattle.stage_core.specs.BeatLaws.{shown_same}
 use Rattle.st_format.proofs.widen.gather_more.Goals as goal
-
-pub returns-in_err-empty-clause-adds : goal.returns-in_err-empty-clause-adds
-returns-in_err-empty-clause-adds c = adds_fewer _ _ _ _ (omega arith) (adds_twice _ _ _ _ _ c.constant.ensures.adds (grows_once _ _ c.add.ensures.extends c.add.ensures.grows))
-
-pub returns-clause-adds : goal.returns-clause-adds
-returns-clause-adds c = adds_fewer _ _ _ _ (omega arith) (adds_twice _ _ _ _ _ c.constant.ensures.adds (grows_once _ _ c.add.ensures.extends c.add.ensures.grows))
 
 pub returns-clause-filled : goal.returns-clause-filled
 returns-clause-filled c =
     let more = (extends_twice _ _ _ c.constant.ensures.adds.grows.extends c.add.ensures.extends) in
     let joined = beat_lasts _ _ _ more c.requires.joined in
     let none = beat_lasts _ _ _ more c.requires.none in
-    record { valid = bit_lasts _ _ _ _ more c.requires.coming; word = joined.word; channel = none.channel; error = joined.error; first = joined.first; last = none.last; empty = c.in_ok-empty.ensures.net.0 }
+    record { valid = net_lasts _ _ _ _ more c.requires.coming; word = joined.word; channel = none.channel; error = joined.error; first = joined.first; last = none.last; empty = c.in_ok-empty.ensures.net.0 }
 
 pub returns-clause-widths : goal.returns-clause-widths
 returns-clause-widths c = record {

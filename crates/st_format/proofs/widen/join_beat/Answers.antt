@@ -1,32 +1,11 @@
 use Rattle.std.proofs.Common.{◌==◌, ◌&&◌, sym, subst, ap, ◌∙◌, arith}
 use Rattle.stage_core.specs.Beats.{AreBeatNets}
 use Rattle.stage_core.specs.Groups.{shown_in}
-use Rattle.stage_core.specs.Lasting.{bit_lasts, beat_lasts}
-use Rattle.stage_core.proofs.Growing.{extends_twice, grows_once, adds_twice, adds_fewer, bit_fits}
-use Rattle.stage_core.proofs.Bits.{high_and, chosen_high}
+use Rattle.net_parts.specs.Laws.{net_lasts, extends_twice, grows_once, adds_twice, adds_fewer, bit_fits}
+use Rattle.stage_core.specs.Lasting.{beat_lasts}
+use Rattle.net_parts.specs.Bits.{high_and, chosen_high}
 use Rattle.st_format.proofs.WidenLemmas.{joined_shown}
 use Rattle.st_format.proofs.widen.join_beat.Goals as goal
-
-pub returns-in_err-word-clause-adds : goal.returns-in_err-word-clause-adds
-returns-in_err-word-clause-adds c = adds_fewer _ _ _ _ (omega arith) c.join_word.ensures.adds
-
-pub returns-in_err-empty-clause-adds : goal.returns-in_err-empty-clause-adds
-returns-in_err-empty-clause-adds c = adds_fewer _ _ _ _ (omega arith) (adds_twice _ _ _ _ _ c.join_word.ensures.adds c.join_empty.ensures.adds)
-
-pub returns-in_err-full-clause-adds : goal.returns-in_err-full-clause-adds
-returns-in_err-full-clause-adds c = adds_fewer _ _ _ _ (omega arith) (adds_twice _ _ _ _ _ (adds_twice _ _ _ _ _ c.join_word.ensures.adds c.join_empty.ensures.adds) c.fills_up.ensures.adds)
-
-pub returns-in_err-valid-clause-adds : goal.returns-in_err-valid-clause-adds
-returns-in_err-valid-clause-adds c = adds_fewer _ _ _ _ (omega arith) (adds_twice _ _ _ _ _ (adds_twice _ _ _ _ _ (adds_twice _ _ _ _ _ c.join_word.ensures.adds c.join_empty.ensures.adds) c.fills_up.ensures.adds) (grows_once _ _ c.and.ensures.extends c.and.ensures.grows))
-
-pub returns-in_err-error-clause-adds : goal.returns-in_err-error-clause-adds
-returns-in_err-error-clause-adds c = adds_fewer _ _ _ _ (omega arith) (adds_twice _ _ _ _ _ (adds_twice _ _ _ _ _ (adds_twice _ _ _ _ _ (adds_twice _ _ _ _ _ c.join_word.ensures.adds c.join_empty.ensures.adds) c.fills_up.ensures.adds) (grows_once _ _ c.and.ensures.extends c.and.ensures.grows)) (grows_once _ _ c.or.ensures.extends c.or.ensures.grows))
-
-pub returns-in_err-first-clause-adds : goal.returns-in_err-first-clause-adds
-returns-in_err-first-clause-adds c = adds_fewer _ _ _ _ (omega arith) (adds_twice _ _ _ _ _ (adds_twice _ _ _ _ _ (adds_twice _ _ _ _ _ (adds_twice _ _ _ _ _ (adds_twice _ _ _ _ _ c.join_word.ensures.adds c.join_empty.ensures.adds) c.fills_up.ensures.adds) (grows_once _ _ c.and.ensures.extends c.and.ensures.grows)) (grows_once _ _ c.or.ensures.extends c.or.ensures.grows)) (grows_once _ _ c.mux.ensures.extends c.mux.ensures.grows))
-
-pub returns-clause-adds : goal.returns-clause-adds
-returns-clause-adds c = adds_fewer _ _ _ _ (omega arith) (adds_twice _ _ _ _ _ (adds_twice _ _ _ _ _ (adds_twice _ _ _ _ _ (adds_twice _ _ _ _ _ (adds_twice _ _ _ _ _ c.join_word.ensures.adds c.join_empty.ensures.adds) c.fills_up.ensures.adds) (grows_once _ _ c.and.ensures.extends c.and.ensures.grows)) (grows_once _ _ c.or.ensures.extends c.or.ensures.grows)) (grows_once _ _ c.mux.ensures.extends c.mux.ensures.grows))
 
 pub or-requires-clause-a_is : goal.or-requires-clause-a_is
 or-requires-clause-a_is c = (extends_twice _ _ _ c.join_word.ensures.adds.grows.extends (extends_twice _ _ _ c.join_empty.ensures.adds.grows.extends (extends_twice _ _ _ c.fills_up.ensures.adds.grows.extends c.and.ensures.extends))).nets _ _ c.requires.held.error
@@ -48,7 +27,7 @@ returns-clause-beat c =
     let more = (extends_twice _ _ _ c.join_word.ensures.adds.grows.extends (extends_twice _ _ _ c.join_empty.ensures.adds.grows.extends (extends_twice _ _ _ c.fills_up.ensures.adds.grows.extends (extends_twice _ _ _ c.and.ensures.extends (extends_twice _ _ _ c.or.ensures.extends c.mux.ensures.extends))))) in
     let base = subst (AreBeatNets c.mux.new.self) (sym c.copied.ensures) (beat_lasts _ _ _ more c.requires.from) in
     record {
-      valid = bit_lasts _ _ _ _ (extends_twice _ _ _ c.or.ensures.extends c.mux.ensures.extends) (record { is_net = c.in_ok-valid.ensures.net.0; has_width = c.in_ok-valid.ensures.net.1 ∙ c.requires.from.valid.has_width });
+      valid = net_lasts _ _ _ _ (extends_twice _ _ _ c.or.ensures.extends c.mux.ensures.extends) (record { is_net = c.in_ok-valid.ensures.net.0; has_width = c.in_ok-valid.ensures.net.1 ∙ c.requires.from.valid.has_width });
       word = (extends_twice _ _ _ c.join_empty.ensures.adds.grows.extends (extends_twice _ _ _ c.fills_up.ensures.adds.grows.extends (extends_twice _ _ _ c.and.ensures.extends (extends_twice _ _ _ c.or.ensures.extends c.mux.ensures.extends)))).nets _ _ c.in_ok-word.ensures.net.is_net;
       channel = base.channel;
       error = c.mux.ensures.extends.nets _ _ c.in_ok-error.ensures.net.0;
@@ -71,3 +50,12 @@ returns-clause-value c cycle v6 =
     (bit_fits _ _ (record { is_net = c.in_ok-valid.ensures.net.0; has_width = c.in_ok-valid.ensures.net.1 ∙ c.requires.from.valid.has_width }) cycle v4)
     (gated ∙ ap (λ t. (cycle.net c.args.from.now.valid.number == 1) && t) full) (c.in_ok-word.ensures.value cycle v1) (c.in_ok-error.ensures.value cycle v5).1
     ((c.in_ok-first.ensures.value cycle v6).1 ∙ chosen_high (cycle.net c.args.held.now.valid.number) _ _ (bit_fits _ _ c.requires.held.valid cycle v0)) (c.in_ok-empty.ensures.value cycle v2)
+
+pub returns-in_err-error-clause-adds : goal.returns-in_err-error-clause-adds
+returns-in_err-error-clause-adds c = adds_fewer _ _ _ _ (omega arith) (adds_twice _ _ _ _ _ (adds_twice _ _ _ _ _ (adds_twice _ _ _ _ _ (adds_twice _ _ _ _ _ c.join_word.ensures.adds c.join_empty.ensures.adds) c.fills_up.ensures.adds) (grows_once _ _ c.and.ensures.extends c.and.ensures.grows)) (grows_once _ _ c.or.ensures.extends c.or.ensures.grows))
+
+pub returns-in_err-first-clause-adds : goal.returns-in_err-first-clause-adds
+returns-in_err-first-clause-adds c = adds_fewer _ _ _ _ (omega arith) (adds_twice _ _ _ _ _ (adds_twice _ _ _ _ _ (adds_twice _ _ _ _ _ (adds_twice _ _ _ _ _ (adds_twice _ _ _ _ _ c.join_word.ensures.adds c.join_empty.ensures.adds) c.fills_up.ensures.adds) (grows_once _ _ c.and.ensures.extends c.and.ensures.grows)) (grows_once _ _ c.or.ensures.extends c.or.ensures.grows)) (grows_once _ _ c.mux.ensures.extends c.mux.ensures.grows))
+
+pub returns-clause-adds : goal.returns-clause-adds
+returns-clause-adds c = adds_fewer _ _ _ _ (omega arith) (adds_twice _ _ _ _ _ (adds_twice _ _ _ _ _ (adds_twice _ _ _ _ _ (adds_twice _ _ _ _ _ (adds_twice _ _ _ _ _ c.join_word.ensures.adds c.join_empty.ensures.adds) c.fills_up.ensures.adds) (grows_once _ _ c.and.ensures.extends c.and.ensures.grows)) (grows_once _ _ c.or.ensures.extends c.or.ensures.grows)) (grows_once _ _ c.mux.ensures.extends c.mux.ensures.grows))

@@ -1,18 +1,9 @@
 use Rattle.std.proofs.Common.{◌≡◌, ◌+◌, ◌-◌, ◌*◌, ◌%◌, ◌^◌, ◌∙◌, arith}
 use Rattle.netlist.specs.Runs.{Always}
-use Rattle.stage_core.specs.Beats.{IsNetOfWidth}
-use Rattle.stage_core.proofs.Growing.{grows_once, adds_twice, adds_fewer, if_ok}
+use Rattle.net_parts.specs.Nets.{IsNetOfWidth}
+use Rattle.net_parts.specs.Laws.{grows_once, adds_twice, adds_fewer, if_ok}
 use Rattle.st_format.proofs.WidenLemmas.{missing_and}
 use Rattle.st_format.proofs.widen.join_empty.Goals as goal
-
-pub returns-in_err-own-clause-adds : goal.returns-in_err-own-clause-adds
-returns-in_err-own-clause-adds c = adds_fewer _ _ _ _ (omega arith) (adds_twice _ _ _ _ _ (adds_twice _ _ _ _ _ c.constant.ensures.adds (grows_once _ _ c.sub.ensures.extends c.sub.ensures.grows)) c.widen_empty.ensures.adds)
-
-pub returns-in_err-missing-clause-adds : goal.returns-in_err-missing-clause-adds
-returns-in_err-missing-clause-adds c = adds_fewer _ _ _ _ (omega arith) (adds_twice _ _ _ _ _ c.constant.ensures.adds (grows_once _ _ c.sub.ensures.extends c.sub.ensures.grows))
-
-pub returns-clause-adds : goal.returns-clause-adds
-returns-clause-adds c = adds_fewer _ _ _ _ (omega arith) (adds_twice _ _ _ _ _ (adds_twice _ _ _ _ _ (adds_twice _ _ _ _ _ c.constant.ensures.adds (grows_once _ _ c.sub.ensures.extends c.sub.ensures.grows)) c.widen_empty.ensures.adds) (grows_once _ _ c.add.ensures.extends c.add.ensures.grows))
 
 pub returns-clause-net : goal.returns-clause-net
 returns-clause-net c = if_ok c.add.result _ (λ joined. IsNetOfWidth c.add.new.self joined 8) (λ joined net. record { is_net = net.0; has_width = net.1 ∙ (c.in_ok-missing.ensures.net.1 ∙ c.in_ok-most.ensures.net.has_width) }) c.add.ensures.net
@@ -28,3 +19,6 @@ returns-clause-value c =
     missing_and _ _ (cycle.net c.args.gathered.number) _ _ _ _ (cycle.net joined.number) _ c.in_ok-most.ensures.net.has_width (c.in_ok-missing.ensures.net.1 ∙ c.in_ok-most.ensures.net.has_width)
     (c.in_ok-most.ensures.value cycle v1 ∙ c.rest_symbols.ensures.value) (c.in_ok-missing.ensures.value cycle v2).1 (c.in_ok-own.ensures.value cycle v3) (value cycle v4).1))
     c.add.ensures.value
+
+pub returns-clause-adds : goal.returns-clause-adds
+returns-clause-adds c = adds_fewer _ _ _ _ (omega arith) (adds_twice _ _ _ _ _ (adds_twice _ _ _ _ _ (adds_twice _ _ _ _ _ c.constant.ensures.adds (grows_once _ _ c.sub.ensures.extends c.sub.ensures.grows)) c.widen_empty.ensures.adds) (grows_once _ _ c.add.ensures.extends c.add.ensures.grows))

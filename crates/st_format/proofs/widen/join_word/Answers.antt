@@ -1,5 +1,5 @@
 use Rattle.std.proofs.Common.{◌≡◌, suc, ◌+◌, ◌*◌, ◌^◌, sym, ap, ◌∙◌, arith}
-use Rattle.stage_core.proofs.Growing.{grows_once, adds_twice, adds_fewer}
+use Rattle.net_parts.specs.Laws.{grows_once, adds_twice, adds_fewer}
 use Rattle.st_format.specs.WidenNets.{part_at, laid}
 use Rattle.st_format.proofs.WidenLemmas.{laid_one}
 use Rattle.st_format.proofs.widen.join_word.Goals as goal
@@ -15,12 +15,6 @@ loop-part-init c =
       net = record { is_net = c.in_ok-word.ensures.net.is_net; has_width = c.in_ok-word.ensures.net.has_width ∙ one };
       value = λ cycle v. c.in_ok-word.ensures.value cycle v ∙ laid_one c.args.sizes.now.bits c.args.sizes.now.symbols c.args.sizes.now.parts (cycle.net c.args.held.number) (cycle.net c.args.coming.number) (cycle.net c.args.gathered.number);
     }
-
-pub returns-in_err-above-clause-adds : goal.returns-in_err-above-clause-adds
-returns-in_err-above-clause-adds c = let most = c.loop-part.invariant.most in adds_fewer _ _ _ _ (omega arith) (adds_twice _ _ _ _ _ c.loop-part.invariant.adds c.lay_part-in-loop-part.ensures.adds)
-
-pub returns-in_err-word-2-clause-adds : goal.returns-in_err-word-2-clause-adds
-returns-in_err-word-2-clause-adds c = let most = c.loop-part.invariant.most in adds_fewer _ _ _ _ (omega arith) (adds_twice _ _ _ _ _ (adds_twice _ _ _ _ _ c.loop-part.invariant.adds c.lay_part-in-loop-part.ensures.adds) (grows_once _ _ c.concat.ensures.extends c.concat.ensures.grows))
 
 pub loop-part-preserved : goal.loop-part-preserved
 loop-part-preserved c =

@@ -1,19 +1,10 @@
 use Rattle.std.proofs.Common.{◌≡◌, ◌*◌, ◌∙◌, arith}
 use Rattle.netlist.specs.Runs.{Always}
-use Rattle.stage_core.specs.Beats.{IsNetOfWidth}
-use Rattle.stage_core.proofs.Growing.{grows_once, adds_twice, adds_fewer, if_ok}
+use Rattle.net_parts.specs.Nets.{IsNetOfWidth}
+use Rattle.net_parts.specs.Laws.{grows_once, adds_twice, adds_fewer, if_ok}
 use Rattle.st_format.specs.WidenNets.{part_at}
 use Rattle.st_format.proofs.WidenLemmas.{coming_at, old_bits}
 use Rattle.st_format.proofs.widen.lay_part.Goals as goal
-
-pub returns-in_err-here-clause-adds : goal.returns-in_err-here-clause-adds
-returns-in_err-here-clause-adds c = adds_fewer _ _ _ _ (omega arith) (adds_twice _ _ _ _ _ c.constant.ensures.adds (grows_once _ _ c.eq.ensures.extends c.eq.ensures.grows))
-
-pub returns-in_err-old-clause-adds : goal.returns-in_err-old-clause-adds
-returns-in_err-old-clause-adds c = adds_fewer _ _ _ _ (omega arith) (adds_twice _ _ _ _ _ (adds_twice _ _ _ _ _ c.constant.ensures.adds (grows_once _ _ c.eq.ensures.extends c.eq.ensures.grows)) (grows_once _ _ c.slice.ensures.extends c.slice.ensures.grows))
-
-pub returns-clause-adds : goal.returns-clause-adds
-returns-clause-adds c = adds_fewer _ _ _ _ (omega arith) (adds_twice _ _ _ _ _ (adds_twice _ _ _ _ _ (adds_twice _ _ _ _ _ c.constant.ensures.adds (grows_once _ _ c.eq.ensures.extends c.eq.ensures.grows)) (grows_once _ _ c.slice.ensures.extends c.slice.ensures.grows)) (grows_once _ _ c.mux.ensures.extends c.mux.ensures.grows))
 
 pub returns-clause-net : goal.returns-clause-net
 returns-clause-net c = if_ok c.mux.result _ (λ laid. IsNetOfWidth c.mux.new.self laid (c.args.sizes.now.bits * c.args.sizes.now.symbols)) (λ laid net. record { is_net = net.0; has_width = net.1 ∙ c.requires.coming.has_width }) c.mux.ensures.net
@@ -29,3 +20,6 @@ returns-clause-value c =
     coming_at (cycle.net c.args.gathered.number) _ _ _ _ _ _ _ (c.in_ok-place.ensures.value cycle v1 ∙ c.symbols_before.ensures.value) (c.in_ok-here.ensures.value cycle v2).1
     ((c.in_ok-old.ensures.value cycle v3).1 ∙ old_bits c.args.sizes.now (cycle.net c.args.held.number) _ _ c.args.part c.bits_below-low.ensures.value c.narrow_bits.ensures.value c.narrow_bits.ensures.some) (value cycle v4).1))
     c.mux.ensures.value
+
+pub returns-clause-adds : goal.returns-clause-adds
+returns-clause-adds c = adds_fewer _ _ _ _ (omega arith) (adds_twice _ _ _ _ _ (adds_twice _ _ _ _ _ (adds_twice _ _ _ _ _ c.constant.ensures.adds (grows_once _ _ c.eq.ensures.extends c.eq.ensures.grows)) (grows_once _ _ c.slice.ensures.extends c.slice.ensures.grows)) (grows_once _ _ c.mux.ensures.extends c.mux.ensures.grows))

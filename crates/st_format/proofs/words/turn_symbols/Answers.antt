@@ -1,16 +1,8 @@
 use Rattle.std.proofs.Common.{◌≡◌, suc, ◌+◌, ◌*◌, ◌^◌, ◌<◌, sym, subst, ap, ◌∙◌, arith}
 use Rattle.stream_machines.specs.Words.{turned_word}
-use Rattle.stage_core.proofs.Growing.{grows_once, adds_twice, adds_fewer}
-use Rattle.netlist.proofs.Valuations.{valued_fits}
+use Rattle.net_parts.specs.Laws.{grows_once, adds_twice, adds_fewer, valued_fits}
 use Rattle.st_format.proofs.Turning.{turned_more, turned_one}
 use Rattle.st_format.proofs.words.turn_symbols.Goals as goal
-
-pub returns-in_err-symbol-clause-adds : goal.returns-in_err-symbol-clause-adds
-returns-in_err-symbol-clause-adds c = adds_fewer _ _ _ _ (omega arith) (adds_twice _ _ _ _ _ c.loop-place.invariant.adds c.take_symbol-in-loop-place.ensures.adds)
-
-pub returns-in_err-turned-2-clause-adds : goal.returns-in_err-turned-2-clause-adds
-returns-in_err-turned-2-clause-adds c =
-    adds_fewer _ _ _ _ (omega arith) (adds_twice _ _ _ _ _ (adds_twice _ _ _ _ _ c.loop-place.invariant.adds c.take_symbol-in-loop-place.ensures.adds) (grows_once _ _ c.concat.ensures.extends c.concat.ensures.grows))
 
 pub loop-place-preserved : goal.loop-place-preserved
 loop-place-preserved c =

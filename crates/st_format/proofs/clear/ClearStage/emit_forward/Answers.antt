@@ -3,16 +3,10 @@ use Rattle.stage_core.specs.declared.beat.BeatNets.{BeatNets}
 use Rattle.stage_core.specs.Beats.{AreBeatNets}
 use Rattle.stage_core.specs.Groups.{Shown, shown_in}
 use Rattle.stage_core.specs.Lasting.{beat_lasts}
-use Rattle.stage_core.proofs.Growing.{extends_twice, grows_twice, grows_fewer}
+use Rattle.net_parts.specs.Laws.{extends_twice, grows_twice, grows_fewer, adds_grow}
 use Rattle.st_format.specs.ClearNets.{cleared, without_empty}
 use Rattle.st_format.proofs.PartsLemmas.{beat_same}
 use Rattle.st_format.proofs.clear.ClearStage.emit_forward.Goals as goal
-
-pub returns-in_err-word-clause-grows : goal.returns-in_err-word-clause-grows
-returns-in_err-word-clause-grows c = grows_fewer _ _ _ _ (omega arith) (grows_twice _ _ _ _ _ c.count_empty.ensures.adds.grows c.clear_symbols.ensures.adds.grows)
-
-pub returns-clause-grows : goal.returns-clause-grows
-returns-clause-grows c = grows_fewer _ _ _ _ (omega arith) (grows_twice _ _ _ _ _ c.count_empty.ensures.adds.grows c.clear_symbols.ensures.adds.grows)
 
 pub returns-clause-beat : goal.returns-clause-beat
 returns-clause-beat c =

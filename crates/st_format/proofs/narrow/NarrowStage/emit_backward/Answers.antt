@@ -1,29 +1,18 @@
 use Rattle.std.proofs.Common.{if◌then◌else◌, ap, ◌∙◌, arith}
 use Rattle.netlist.specs.Runs.{cycle_of}
 use Rattle.stage_core.specs.Groups.{shown_in}
-use Rattle.stage_core.specs.Lasting.{bit_lasts, beat_lasts, registers_last}
-use Rattle.stage_core.proofs.Growing.{extends_twice, grows_once, grows_twice, grows_fewer, bit_fits, widths_turned, widths_twice}
-use Rattle.stage_core.proofs.Bits.{high_and}
+use Rattle.net_parts.specs.Laws.{net_lasts, extends_twice, grows_once, grows_twice, grows_fewer, bit_fits, adds_grow}
+use Rattle.stage_core.specs.Lasting.{beat_lasts, registers_last}
+use Rattle.stage_core.specs.BeatLaws.{widths_turned, widths_twice}
+use Rattle.net_parts.specs.Bits.{high_and}
 use Rattle.st_format.proofs.NarrowLemmas.{asks_idle}
 use Rattle.st_format.proofs.narrow.NarrowStage.emit_backward.Goals as goal
 
-pub returns-in_err-up-clause-grows : goal.returns-in_err-up-clause-grows
-returns-in_err-up-clause-grows c = grows_fewer _ _ _ _ (omega arith) (grows_twice _ _ _ _ _ (grows_once _ _ c.not.ensures.extends c.not.ensures.grows).grows (grows_once _ _ c.and.ensures.extends c.and.ensures.grows).grows)
-
-pub returns-in_err-goes-clause-grows : goal.returns-in_err-goes-clause-grows
-returns-in_err-goes-clause-grows c = grows_fewer _ _ _ _ (omega arith) (grows_twice _ _ _ _ _ (grows_twice _ _ _ _ _ (grows_once _ _ c.not.ensures.extends c.not.ensures.grows).grows (grows_once _ _ c.and.ensures.extends c.and.ensures.grows).grows) (grows_once _ _ c.and-2.ensures.extends c.and-2.ensures.grows).grows)
-
-pub returns-in_err-next-clause-grows : goal.returns-in_err-next-clause-grows
-returns-in_err-next-clause-grows c = grows_fewer _ _ _ _ (omega arith) (grows_twice _ _ _ _ _ (grows_twice _ _ _ _ _ (grows_twice _ _ _ _ _ (grows_once _ _ c.not.ensures.extends c.not.ensures.grows).grows (grows_once _ _ c.and.ensures.extends c.and.ensures.grows).grows) (grows_once _ _ c.and-2.ensures.extends c.and-2.ensures.grows).grows) c.mux_beat.ensures.adds.grows)
-
-pub returns-clause-grows : goal.returns-clause-grows
-returns-clause-grows c = grows_fewer _ _ _ _ (omega arith) (grows_twice _ _ _ _ _ (grows_twice _ _ _ _ _ (grows_twice _ _ _ _ _ (grows_twice _ _ _ _ _ (grows_once _ _ c.not.ensures.extends c.not.ensures.grows).grows (grows_once _ _ c.and.ensures.extends c.and.ensures.grows).grows) (grows_once _ _ c.and-2.ensures.extends c.and-2.ensures.grows).grows) c.mux_beat.ensures.adds.grows) c.set_next_beat.ensures.grows)
-
 pub and-requires-2-clause-a_is : goal.and-requires-2-clause-a_is
-and-requires-2-clause-a_is c = (bit_lasts _ _ _ _ (extends_twice _ _ _ c.not.ensures.extends c.and.ensures.extends) c.requires.kept.shown).is_net
+and-requires-2-clause-a_is c = (net_lasts _ _ _ _ (extends_twice _ _ _ c.not.ensures.extends c.and.ensures.extends) c.requires.kept.shown).is_net
 
 pub and-requires-2-clause-b_is : goal.and-requires-2-clause-b_is
-and-requires-2-clause-b_is c = (bit_lasts _ _ _ _ (extends_twice _ _ _ c.not.ensures.extends c.and.ensures.extends) c.requires.ready).is_net
+and-requires-2-clause-b_is c = (net_lasts _ _ _ _ (extends_twice _ _ _ c.not.ensures.extends c.and.ensures.extends) c.requires.ready).is_net
 
 pub mux_beat-requires-clause-one : goal.mux_beat-requires-clause-one
 mux_beat-requires-clause-one c = beat_lasts _ _ _ (extends_twice _ _ _ c.not.ensures.extends (extends_twice _ _ _ c.and.ensures.extends c.and-2.ensures.extends)) c.requires.kept.rest
@@ -36,7 +25,7 @@ set_next_beat-requires-clause-registers c = beat_lasts _ _ _ (extends_twice _ _ 
 
 pub set_next_beat-requires-clause-wait : goal.set_next_beat-requires-clause-wait
 set_next_beat-requires-clause-wait c =
-    registers_last _ _ _ _ (λ n o w. c.mux_beat.ensures.adds.waits n (c.and-2.ensures.grows.waits n (c.and.ensures.grows.waits n (c.not.ensures.grows.waits n w)))) c.requires.kept.registers
+    registers_last _ _ _ _ (λ n o w. c.mux_beat.ensures.adds.grows.waits n (c.and-2.ensures.grows.waits n (c.and.ensures.grows.waits n (c.not.ensures.grows.waits n w)))) c.requires.kept.registers
 
 pub set_next_beat-requires-clause-widths : goal.set_next_beat-requires-clause-widths
 set_next_beat-requires-clause-widths c = widths_turned _ _ (widths_twice _ _ _ c.in_ok-next.ensures.widths c.requires.kept.widths)
@@ -44,7 +33,7 @@ set_next_beat-requires-clause-widths c = widths_turned _ _ (widths_twice _ _ _ c
 pub returns-clause-net : goal.returns-clause-net
 returns-clause-net c =
     let more = extends_twice _ _ _ c.and-2.ensures.extends (extends_twice _ _ _ c.mux_beat.ensures.adds.grows.extends c.set_next_beat.ensures.grows.extends) in
-    bit_lasts _ _ _ _ more (record { is_net = c.in_ok-up.ensures.net.0; has_width = c.in_ok-up.ensures.net.1 ∙ (c.in_ok-none_held.ensures.net.1 ∙ c.requires.kept.held.valid.has_width) })
+    net_lasts _ _ _ _ more (record { is_net = c.in_ok-up.ensures.net.0; has_width = c.in_ok-up.ensures.net.1 ∙ (c.in_ok-none_held.ensures.net.1 ∙ c.requires.kept.held.valid.has_width) })
 
 pub returns-clause-made : goal.returns-clause-made
 returns-clause-made c =
@@ -68,9 +57,12 @@ returns-clause-made c =
     }
 
 pub returns-clause-waits : goal.returns-clause-waits
-returns-clause-waits c n apart w = c.set_next_beat.ensures.still_wait n apart (c.mux_beat.ensures.adds.waits n (c.and-2.ensures.grows.waits n (c.and.ensures.grows.waits n (c.not.ensures.grows.waits n w))))
+returns-clause-waits c n apart w = c.set_next_beat.ensures.still_wait n apart (c.mux_beat.ensures.adds.grows.waits n (c.and-2.ensures.grows.waits n (c.and.ensures.grows.waits n (c.not.ensures.grows.waits n w))))
 
 pub returns-clause-no_more_wait : goal.returns-clause-no_more_wait
 returns-clause-no_more_wait c n w =
     let set = c.set_next_beat.ensures.no_more_wait n w in
-    (c.not.ensures.grows.no_more_wait n (c.and.ensures.grows.no_more_wait n (c.and-2.ensures.grows.no_more_wait n (c.mux_beat.ensures.adds.no_more_wait n set.0))), set.1)
+    (c.not.ensures.grows.no_more_wait n (c.and.ensures.grows.no_more_wait n (c.and-2.ensures.grows.no_more_wait n (c.mux_beat.ensures.adds.grows.no_more_wait n set.0))), set.1)
+
+pub returns-clause-grows : goal.returns-clause-grows
+returns-clause-grows c = grows_fewer _ _ _ _ (omega arith) (grows_twice _ _ _ _ _ (grows_twice _ _ _ _ _ (grows_twice _ _ _ _ _ (grows_twice _ _ _ _ _ (adds_grow _ _ _ (grows_once _ _ c.not.ensures.extends c.not.ensures.grows)) (adds_grow _ _ _ (grows_once _ _ c.and.ensures.extends c.and.ensures.grows))) (adds_grow _ _ _ (grows_once _ _ c.and-2.ensures.extends c.and-2.ensures.grows))) (adds_grow _ _ _ c.mux_beat.ensures.adds)) c.set_next_beat.ensures.grows)

@@ -1,21 +1,16 @@
 use Rattle.std.proofs.Common.{refl, ap, ◌∙◌, arith}
 use Rattle.stage_core.specs.Lasting.{beat_lasts, registers_last}
-use Rattle.stage_core.proofs.Growing.{grows_twice, grows_fewer, widths_twice}
+use Rattle.net_parts.specs.Laws.{grows_twice, grows_fewer, adds_grow}
+use Rattle.stage_core.specs.BeatLaws.{widths_twice}
 use Rattle.st_format.specs.NarrowNets.{shown_piece, shown_rest}
 use Rattle.st_format.proofs.narrow.NarrowStage.emit_forward.Goals as goal
-
-pub returns-in_err-part-clause-grows : goal.returns-in_err-part-clause-grows
-returns-in_err-part-clause-grows c = grows_fewer _ _ _ _ (omega arith) (grows_twice _ _ _ _ _ c.show_current.ensures.grows c.cut_beat.ensures.adds.grows)
-
-pub returns-clause-grows : goal.returns-clause-grows
-returns-clause-grows c = grows_fewer _ _ _ _ (omega arith) (grows_twice _ _ _ _ _ c.show_current.ensures.grows c.cut_beat.ensures.adds.grows)
 
 pub returns-clause-kept : goal.returns-clause-kept
 returns-clause-kept c = record {
   held = beat_lasts _ _ _ c.cut_beat.ensures.adds.grows.extends c.in_ok-current.ensures.held;
   rest = c.in_ok-part.ensures.rest;
   widths = widths_twice _ _ _ c.in_ok-part.ensures.widths c.in_ok-current.ensures.widths;
-  registers = registers_last _ _ _ _ (λ n o. c.cut_beat.ensures.adds.waits n) c.in_ok-current.ensures.registers;
+  registers = registers_last _ _ _ _ (λ n o. c.cut_beat.ensures.adds.grows.waits n) c.in_ok-current.ensures.registers;
   shown = c.in_ok-part.ensures.part.valid;
 }
 
@@ -33,3 +28,6 @@ returns-clause-made c = record {
   shows = λ cycle v. c.in_ok-part.ensures.shows cycle v ∙ ap (shown_piece c.args.self.now.sizes) (c.in_ok-current.ensures.value cycle (c.cut_beat.ensures.adds.grows.extends.valuations cycle v));
   rests = λ cycle v. c.in_ok-part.ensures.rests cycle v ∙ ap (shown_rest c.args.self.now.sizes) (c.in_ok-current.ensures.value cycle (c.cut_beat.ensures.adds.grows.extends.valuations cycle v));
 }
+
+pub returns-clause-own_wait : goal.returns-clause-own_wait
+returns-clause-own_wait c n o = c.cut_beat.ensures.adds.grows.waits n (c.in_ok-current.ensures.registers.wait n o)

@@ -1,25 +1,11 @@
 use Rattle.std.proofs.Common.{◌==◌, ◌&&◌, if◌then◌else◌, sym, ap, ◌∙◌, arith}
 use Rattle.netlist.specs.Runs.{cycle_of}
 use Rattle.stage_core.specs.Groups.{Shown, shown_in}
-use Rattle.stage_core.specs.Lasting.{bit_lasts, beat_lasts, registers_last}
-use Rattle.stage_core.proofs.Growing.{extends_twice, grows_once, grows_twice, grows_fewer, bit_fits, widths_turned, widths_twice}
-use Rattle.stage_core.proofs.Bits.{high_and, high_room}
+use Rattle.net_parts.specs.Laws.{net_lasts, extends_twice, grows_once, grows_twice, grows_fewer, bit_fits, adds_grow}
+use Rattle.stage_core.specs.Lasting.{beat_lasts, registers_last}
+use Rattle.stage_core.specs.BeatLaws.{widths_turned, widths_twice}
+use Rattle.net_parts.specs.Bits.{high_and, high_room}
 use Rattle.st_format.proofs.widen.WidenStage.emit_backward.Goals as goal
-
-pub returns-in_err-up-clause-grows : goal.returns-in_err-up-clause-grows
-returns-in_err-up-clause-grows c = grows_fewer _ _ _ _ (omega arith) (grows_twice _ _ _ _ _ (grows_once _ _ c.not.ensures.extends c.not.ensures.grows).grows (grows_once _ _ c.or.ensures.extends c.or.ensures.grows).grows)
-
-pub returns-in_err-comes-clause-grows : goal.returns-in_err-comes-clause-grows
-returns-in_err-comes-clause-grows c = grows_fewer _ _ _ _ (omega arith) (grows_twice _ _ _ _ _ (grows_twice _ _ _ _ _ (grows_once _ _ c.not.ensures.extends c.not.ensures.grows).grows (grows_once _ _ c.or.ensures.extends c.or.ensures.grows).grows) (grows_once _ _ c.and.ensures.extends c.and.ensures.grows).grows)
-
-pub returns-in_err-gathered-clause-grows : goal.returns-in_err-gathered-clause-grows
-returns-in_err-gathered-clause-grows c = grows_fewer _ _ _ _ (omega arith) (grows_twice _ _ _ _ _ (grows_twice _ _ _ _ _ (grows_twice _ _ _ _ _ (grows_once _ _ c.not.ensures.extends c.not.ensures.grows).grows (grows_once _ _ c.or.ensures.extends c.or.ensures.grows).grows) (grows_once _ _ c.and.ensures.extends c.and.ensures.grows).grows) c.mux_beat.ensures.adds.grows)
-
-pub returns-in_err-next-clause-grows : goal.returns-in_err-next-clause-grows
-returns-in_err-next-clause-grows c = grows_fewer _ _ _ _ (omega arith) (grows_twice _ _ _ _ _ (grows_twice _ _ _ _ _ (grows_twice _ _ _ _ _ (grows_twice _ _ _ _ _ (grows_once _ _ c.not.ensures.extends c.not.ensures.grows).grows (grows_once _ _ c.or.ensures.extends c.or.ensures.grows).grows) (grows_once _ _ c.and.ensures.extends c.and.ensures.grows).grows) c.mux_beat.ensures.adds.grows) c.mux_beat-2.ensures.adds.grows)
-
-pub returns-clause-grows : goal.returns-clause-grows
-returns-clause-grows c = grows_fewer _ _ _ _ (omega arith) (grows_twice _ _ _ _ _ (grows_twice _ _ _ _ _ (grows_twice _ _ _ _ _ (grows_twice _ _ _ _ _ (grows_twice _ _ _ _ _ (grows_once _ _ c.not.ensures.extends c.not.ensures.grows).grows (grows_once _ _ c.or.ensures.extends c.or.ensures.grows).grows) (grows_once _ _ c.and.ensures.extends c.and.ensures.grows).grows) c.mux_beat.ensures.adds.grows) c.mux_beat-2.ensures.adds.grows) c.set_next_beat.ensures.grows)
 
 pub or-requires-clause-widths : goal.or-requires-clause-widths
 or-requires-clause-widths c = c.in_ok-not_full.ensures.net.1 ∙ (c.requires.kept.full.has_width ∙ sym c.requires.ready.has_width)
@@ -28,7 +14,7 @@ pub and-requires-clause-widths : goal.and-requires-clause-widths
 and-requires-clause-widths c = c.requires.kept.coming.has_width ∙ sym (c.in_ok-up.ensures.net.1 ∙ (c.in_ok-not_full.ensures.net.1 ∙ c.requires.kept.full.has_width))
 
 pub mux_beat-requires-clause-bit : goal.mux_beat-requires-clause-bit
-mux_beat-requires-clause-bit c = bit_lasts _ _ _ _ (extends_twice _ _ _ c.not.ensures.extends (extends_twice _ _ _ c.or.ensures.extends c.and.ensures.extends)) c.requires.kept.full
+mux_beat-requires-clause-bit c = net_lasts _ _ _ _ (extends_twice _ _ _ c.not.ensures.extends (extends_twice _ _ _ c.or.ensures.extends c.and.ensures.extends)) c.requires.kept.full
 
 pub mux_beat-requires-clause-one : goal.mux_beat-requires-clause-one
 mux_beat-requires-clause-one c = beat_lasts _ _ _ (extends_twice _ _ _ c.not.ensures.extends (extends_twice _ _ _ c.or.ensures.extends c.and.ensures.extends)) c.requires.kept.none
@@ -40,7 +26,7 @@ pub mux_beat-requires-clause-widths : goal.mux_beat-requires-clause-widths
 mux_beat-requires-clause-widths c = widths_twice _ _ _ c.requires.kept.none_widths (widths_turned _ _ c.requires.kept.filled_widths)
 
 pub mux_beat-requires-2-clause-bit : goal.mux_beat-requires-2-clause-bit
-mux_beat-requires-2-clause-bit c = bit_lasts _ _ _ _ c.mux_beat.ensures.adds.grows.extends (record { is_net = c.in_ok-comes.ensures.net.0; has_width = c.in_ok-comes.ensures.net.1 ∙ c.requires.kept.coming.has_width })
+mux_beat-requires-2-clause-bit c = net_lasts _ _ _ _ c.mux_beat.ensures.adds.grows.extends (record { is_net = c.in_ok-comes.ensures.net.0; has_width = c.in_ok-comes.ensures.net.1 ∙ c.requires.kept.coming.has_width })
 
 pub mux_beat-requires-2-clause-other : goal.mux_beat-requires-2-clause-other
 mux_beat-requires-2-clause-other c = beat_lasts _ _ _ (extends_twice _ _ _ c.not.ensures.extends (extends_twice _ _ _ c.or.ensures.extends (extends_twice _ _ _ c.and.ensures.extends c.mux_beat.ensures.adds.grows.extends))) c.requires.kept.held
@@ -53,14 +39,14 @@ set_next_beat-requires-clause-registers c = beat_lasts _ _ _ (extends_twice _ _ 
 
 pub set_next_beat-requires-clause-wait : goal.set_next_beat-requires-clause-wait
 set_next_beat-requires-clause-wait c =
-    registers_last _ _ _ _ (λ n o w. c.mux_beat-2.ensures.adds.waits n (c.mux_beat.ensures.adds.waits n (c.and.ensures.grows.waits n (c.or.ensures.grows.waits n (c.not.ensures.grows.waits n w))))) c.requires.kept.registers
+    registers_last _ _ _ _ (λ n o w. c.mux_beat-2.ensures.adds.grows.waits n (c.mux_beat.ensures.adds.grows.waits n (c.and.ensures.grows.waits n (c.or.ensures.grows.waits n (c.not.ensures.grows.waits n w))))) c.requires.kept.registers
 
 pub set_next_beat-requires-clause-widths : goal.set_next_beat-requires-clause-widths
 set_next_beat-requires-clause-widths c = widths_turned _ _ (widths_twice _ _ _ c.in_ok-next.ensures.widths (widths_twice _ _ _ c.in_ok-gathered.ensures.widths c.requires.kept.none_widths))
 
 pub returns-clause-net : goal.returns-clause-net
 returns-clause-net c =
-    bit_lasts _ _ _ _ (extends_twice _ _ _ c.and.ensures.extends (extends_twice _ _ _ c.mux_beat.ensures.adds.grows.extends (extends_twice _ _ _ c.mux_beat-2.ensures.adds.grows.extends c.set_next_beat.ensures.grows.extends))) (record { is_net = c.in_ok-up.ensures.net.0; has_width = c.in_ok-up.ensures.net.1 ∙ (c.in_ok-not_full.ensures.net.1 ∙ c.requires.kept.full.has_width) })
+    net_lasts _ _ _ _ (extends_twice _ _ _ c.and.ensures.extends (extends_twice _ _ _ c.mux_beat.ensures.adds.grows.extends (extends_twice _ _ _ c.mux_beat-2.ensures.adds.grows.extends c.set_next_beat.ensures.grows.extends))) (record { is_net = c.in_ok-up.ensures.net.0; has_width = c.in_ok-up.ensures.net.1 ∙ (c.in_ok-not_full.ensures.net.1 ∙ c.requires.kept.full.has_width) })
 
 pub returns-clause-made : goal.returns-clause-made
 returns-clause-made c = record {
@@ -89,9 +75,15 @@ returns-clause-made c = record {
 }
 
 pub returns-clause-waits : goal.returns-clause-waits
-returns-clause-waits c n apart w = c.set_next_beat.ensures.still_wait n apart (c.mux_beat-2.ensures.adds.waits n (c.mux_beat.ensures.adds.waits n (c.and.ensures.grows.waits n (c.or.ensures.grows.waits n (c.not.ensures.grows.waits n w)))))
+returns-clause-waits c n apart w = c.set_next_beat.ensures.still_wait n apart (c.mux_beat-2.ensures.adds.grows.waits n (c.mux_beat.ensures.adds.grows.waits n (c.and.ensures.grows.waits n (c.or.ensures.grows.waits n (c.not.ensures.grows.waits n w)))))
 
 pub returns-clause-no_more_wait : goal.returns-clause-no_more_wait
 returns-clause-no_more_wait c n w =
     let set = c.set_next_beat.ensures.no_more_wait n w in
-    (c.not.ensures.grows.no_more_wait n (c.or.ensures.grows.no_more_wait n (c.and.ensures.grows.no_more_wait n (c.mux_beat.ensures.adds.no_more_wait n (c.mux_beat-2.ensures.adds.no_more_wait n set.0)))), set.1)
+    (c.not.ensures.grows.no_more_wait n (c.or.ensures.grows.no_more_wait n (c.and.ensures.grows.no_more_wait n (c.mux_beat.ensures.adds.grows.no_more_wait n (c.mux_beat-2.ensures.adds.grows.no_more_wait n set.0)))), set.1)
+
+pub returns-in_err-next-clause-grows : goal.returns-in_err-next-clause-grows
+returns-in_err-next-clause-grows c = grows_fewer _ _ _ _ (omega arith) (grows_twice _ _ _ _ _ (grows_twice _ _ _ _ _ (grows_twice _ _ _ _ _ (grows_twice _ _ _ _ _ (adds_grow _ _ _ (grows_once _ _ c.not.ensures.extends c.not.ensures.grows)) (adds_grow _ _ _ (grows_once _ _ c.or.ensures.extends c.or.ensures.grows))) (adds_grow _ _ _ (grows_once _ _ c.and.ensures.extends c.and.ensures.grows))) (adds_grow _ _ _ c.mux_beat.ensures.adds)) (adds_grow _ _ _ c.mux_beat-2.ensures.adds))
+
+pub returns-clause-grows : goal.returns-clause-grows
+returns-clause-grows c = grows_fewer _ _ _ _ (omega arith) (grows_twice _ _ _ _ _ (grows_twice _ _ _ _ _ (grows_twice _ _ _ _ _ (grows_twice _ _ _ _ _ (grows_twice _ _ _ _ _ (adds_grow _ _ _ (grows_once _ _ c.not.ensures.extends c.not.ensures.grows)) (adds_grow _ _ _ (grows_once _ _ c.or.ensures.extends c.or.ensures.grows))) (adds_grow _ _ _ (grows_once _ _ c.and.ensures.extends c.and.ensures.grows))) (adds_grow _ _ _ c.mux_beat.ensures.adds)) (adds_grow _ _ _ c.mux_beat-2.ensures.adds)) c.set_next_beat.ensures.grows)

@@ -1,25 +1,10 @@
 use Rattle.std.proofs.Common.{◌^◌, ◌<◌, refl, subst, ◌∙◌, arith}
-use Rattle.netlist.proofs.Valuations.{valued_fits}
+use Rattle.net_parts.specs.Laws.{valued_fits, net_lasts, extends_twice, grows_twice, grows_fewer, adds_grow}
 use Rattle.stage_core.specs.Groups.{shown_in}
-use Rattle.stage_core.specs.Lasting.{bit_lasts, beat_lasts, registers_last}
-use Rattle.stage_core.proofs.Growing.{extends_twice, grows_twice, grows_fewer, widths_turned, widths_twice, numbered_here}
+use Rattle.stage_core.specs.Lasting.{beat_lasts, registers_last}
+use Rattle.stage_core.specs.BeatLaws.{widths_turned, widths_twice, numbered_here}
 use Rattle.st_format.proofs.WidenLemmas.{filled_shown, fits_more}
 use Rattle.st_format.proofs.widen.WidenStage.emit_forward.Goals as goal
-
-pub returns-in_err-none-clause-grows : goal.returns-in_err-none-clause-grows
-returns-in_err-none-clause-grows c = grows_fewer _ _ _ _ (omega arith) c.gather_none.ensures.adds.grows
-
-pub returns-in_err-held-clause-grows : goal.returns-in_err-held-clause-grows
-returns-in_err-held-clause-grows c = grows_fewer _ _ _ _ (omega arith) (grows_twice _ _ _ _ _ c.gather_none.ensures.adds.grows c.reg_beat.ensures.grows)
-
-pub returns-in_err-to-clause-grows : goal.returns-in_err-to-clause-grows
-returns-in_err-to-clause-grows c = grows_fewer _ _ _ _ (omega arith) (grows_twice _ _ _ _ _ (grows_twice _ _ _ _ _ c.gather_none.ensures.adds.grows c.reg_beat.ensures.grows) c.join_beat.ensures.adds.grows)
-
-pub returns-in_err-filled-clause-grows : goal.returns-in_err-filled-clause-grows
-returns-in_err-filled-clause-grows c = grows_fewer _ _ _ _ (omega arith) (grows_twice _ _ _ _ _ (grows_twice _ _ _ _ _ (grows_twice _ _ _ _ _ c.gather_none.ensures.adds.grows c.reg_beat.ensures.grows) c.join_beat.ensures.adds.grows) c.gather_more.ensures.adds.grows)
-
-pub returns-clause-grows : goal.returns-clause-grows
-returns-clause-grows c = grows_fewer _ _ _ _ (omega arith) (grows_twice _ _ _ _ _ (grows_twice _ _ _ _ _ (grows_twice _ _ _ _ _ c.gather_none.ensures.adds.grows c.reg_beat.ensures.grows) c.join_beat.ensures.adds.grows) c.gather_more.ensures.adds.grows)
 
 pub join_beat-requires-clause-from : goal.join_beat-requires-clause-from
 join_beat-requires-clause-from c = beat_lasts _ _ _ (extends_twice _ _ _ c.gather_none.ensures.adds.grows.extends c.reg_beat.ensures.grows.extends) c.requires.from
@@ -31,7 +16,7 @@ pub gather_more-requires-clause-none : goal.gather_more-requires-clause-none
 gather_more-requires-clause-none c = beat_lasts _ _ _ (extends_twice _ _ _ c.reg_beat.ensures.grows.extends c.join_beat.ensures.adds.grows.extends) c.in_ok-none.ensures.none
 
 pub gather_more-requires-clause-coming : goal.gather_more-requires-clause-coming
-gather_more-requires-clause-coming c = bit_lasts _ _ _ _ (extends_twice _ _ _ c.gather_none.ensures.adds.grows.extends (extends_twice _ _ _ c.reg_beat.ensures.grows.extends c.join_beat.ensures.adds.grows.extends)) c.requires.from.valid
+gather_more-requires-clause-coming c = net_lasts _ _ _ _ (extends_twice _ _ _ c.gather_none.ensures.adds.grows.extends (extends_twice _ _ _ c.reg_beat.ensures.grows.extends c.join_beat.ensures.adds.grows.extends)) c.requires.from.valid
 
 pub returns-clause-beat : goal.returns-clause-beat
 returns-clause-beat c = beat_lasts _ _ _ c.gather_more.ensures.adds.grows.extends c.in_ok-to.ensures.beat
@@ -45,9 +30,9 @@ returns-clause-kept c =
       none_widths = same;
       filled = c.in_ok-filled.ensures.filled;
       filled_widths = widths_twice _ _ _ c.in_ok-filled.ensures.widths same;
-      registers = registers_last _ _ _ _ (λ n o w. c.gather_more.ensures.adds.waits n (c.join_beat.ensures.adds.waits n w)) (record { numbers = numbered_here _ _ c.in_ok-held.ensures.registers.numbers; wait = c.in_ok-held.ensures.registers.wait });
-      coming = bit_lasts _ _ _ _ (extends_twice _ _ _ c.gather_none.ensures.adds.grows.extends (extends_twice _ _ _ c.reg_beat.ensures.grows.extends (extends_twice _ _ _ c.join_beat.ensures.adds.grows.extends c.gather_more.ensures.adds.grows.extends))) c.requires.from.valid;
-      full = bit_lasts _ _ _ _ c.gather_more.ensures.adds.grows.extends c.in_ok-to.ensures.beat.valid;
+      registers = registers_last _ _ _ _ (λ n o w. c.gather_more.ensures.adds.grows.waits n (c.join_beat.ensures.adds.grows.waits n w)) (record { numbers = numbered_here _ _ c.in_ok-held.ensures.registers.numbers; wait = c.in_ok-held.ensures.registers.wait });
+      coming = net_lasts _ _ _ _ (extends_twice _ _ _ c.gather_none.ensures.adds.grows.extends (extends_twice _ _ _ c.reg_beat.ensures.grows.extends (extends_twice _ _ _ c.join_beat.ensures.adds.grows.extends c.gather_more.ensures.adds.grows.extends))) c.requires.from.valid;
+      full = net_lasts _ _ _ _ c.gather_more.ensures.adds.grows.extends c.in_ok-to.ensures.beat.valid;
     }
 
 pub returns-clause-owned : goal.returns-clause-owned
@@ -62,7 +47,7 @@ returns-clause-owned c n o =
     (omega (arith, at, before, from), omega (arith, at, count, one, two, below))
 
 pub returns-clause-own_wait : goal.returns-clause-own_wait
-returns-clause-own_wait c n o = c.gather_more.ensures.adds.waits n (c.join_beat.ensures.adds.waits n (c.in_ok-held.ensures.registers.wait n o))
+returns-clause-own_wait c n o = c.gather_more.ensures.adds.grows.waits n (c.join_beat.ensures.adds.grows.waits n (c.in_ok-held.ensures.registers.wait n o))
 
 pub returns-clause-made : goal.returns-clause-made
 returns-clause-made c =
