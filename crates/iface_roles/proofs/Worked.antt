@@ -58,10 +58,10 @@ instructions-finished : finished instructions ≡ Host (record {
   writes = false;
   enables = false;
   burst_bits = 0;
-  valid = true;
-  waits = true;
+  readdatavalid = true;
+  waitrequest = true;
   response = false;
-  left_out = false;
+  lock = false;
   write_response = false;
   allowance = 0;
   wraps = false;
@@ -84,10 +84,10 @@ memory-finished : finished memory ≡ Agent (record {
   writes = true;
   enables = true;
   burst_bits = 0;
-  valid = false;
-  waits = false;
+  readdatavalid = false;
+  waitrequest = false;
   response = false;
-  left_out = false;
+  unsupported = false;
   write_response = false;
   allowance = 0;
   wraps = false;

@@ -35,22 +35,22 @@ span_of agent =
     if agent.byte_units then max (2 ^ agent.address_bits) agent.word_bytes else 2 ^ agent.address_bits * agent.word_bytes
 
 -- the ports of a host or an agent fit the tables and one another
-pub record AreMmPorts (address_bits word_bytes burst_bits : ℕ) (reads writes valid waits : Bool) : Type 0 where
+pub record AreMmPorts (address_bits word_bytes burst_bits : ℕ) (reads writes readdatavalid waitrequest : Bool) : Type 0 where
   pub address : address_bits ≤ 32
   pub word : IsWordSize word_bytes
   pub burst : burst_bits ≤ 11
   pub transfers : IsTrue (reads || writes)
-  pub valid_reads : IsTrue valid → IsTrue reads
-  pub burst_waits : 0 < burst_bits → IsTrue waits
-  pub burst_valid : 0 < burst_bits → IsTrue reads → IsTrue valid
+  pub valid_reads : IsTrue readdatavalid → IsTrue reads
+  pub burst_waits : 0 < burst_bits → IsTrue waitrequest
+  pub burst_valid : 0 < burst_bits → IsTrue reads → IsTrue readdatavalid
 
 pub record IsBoundedHost (host : HostPort) : Type 0 where
-  pub ports : AreMmPorts host.address_bits host.word_bytes host.burst_bits host.reads host.writes host.valid host.waits
+  pub ports : AreMmPorts host.address_bits host.word_bytes host.burst_bits host.reads host.writes host.readdatavalid host.waitrequest
   pub addressed : 1 ≤ host.address_bits
   pub range : range_of host ≤ 2 ^ 32
 
 pub record IsBoundedAgent (agent : AgentPort) : Type 0 where
-  pub ports : AreMmPorts agent.address_bits agent.word_bytes agent.burst_bits agent.reads agent.writes agent.valid agent.waits
+  pub ports : AreMmPorts agent.address_bits agent.word_bytes agent.burst_bits agent.reads agent.writes agent.readdatavalid agent.waitrequest
   pub span : span_of agent ≤ 2 ^ 32
   pub read_latency : agent.read_latency ≤ 63
   pub pending : agent.pending ≤ 64

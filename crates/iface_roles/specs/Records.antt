@@ -38,18 +38,18 @@ host_of i = record {
   writes = has i Write;
   enables = has i ByteEnable;
   burst_bits = width_of i BurstCount;
-  valid = has i ReadDataValid;
-  waits = has i WaitRequest;
+  readdatavalid = has i ReadDataValid;
+  waitrequest = has i WaitRequest;
   response = has i Response;
-  left_out = has i Lock;
+  lock = has i Lock;
   write_response = has i WriteResponseValid;
   allowance = setting_of i WaitRequestAllowance;
   wraps = is_true i LinewrapBursts;
 }
 
 -- it has a port that no connection takes at an agent
-abbrev pub is_left_out_agent : Held → Bool
-is_left_out_agent i = has i Lock || has i DebugAccess || has i BeginBurstTransfer
+abbrev pub has_unsupported : Held → Bool
+has_unsupported i = has i Lock || has i DebugAccess || has i BeginBurstTransfer
 
 abbrev pub has_setup_or_hold : Held → Bool
 has_setup_or_hold i = nat_lt 0 (setting_of i SetupTime) || nat_lt 0 (setting_of i HoldTime)
@@ -63,10 +63,10 @@ agent_of i = record {
   writes = has i Write;
   enables = has i ByteEnable;
   burst_bits = width_of i BurstCount;
-  valid = has i ReadDataValid;
-  waits = has i WaitRequest;
+  readdatavalid = has i ReadDataValid;
+  waitrequest = has i WaitRequest;
   response = has i Response;
-  left_out = is_left_out_agent i;
+  unsupported = has_unsupported i;
   write_response = has i WriteResponseValid;
   allowance = setting_of i WaitRequestAllowance;
   wraps = is_true i LinewrapBursts;

@@ -11,7 +11,7 @@ ghost use Rattle.iface_roles.specs.Records.{
   is_true,
   host_of,
   agent_of,
-  is_left_out_agent,
+  has_unsupported,
   has_setup_or_hold,
   stream_of,
   ready_latency,
@@ -41,13 +41,13 @@ pub struct HostPort {
     /// The width of `burstcount`: the longest burst has 2 to this less one beats.
     pub burst_bits: u8,
     /// It has `readdatavalid`.
-    pub valid: bool,
+    pub readdatavalid: bool,
     /// It has `waitrequest`.
-    pub waits: bool,
+    pub waitrequest: bool,
     /// It has `response`.
     pub response: bool,
     /// It has `lock`, which no connection takes.
-    pub left_out: bool,
+    pub lock: bool,
     /// It has `writeresponsevalid`.
     pub write_response: bool,
     /// `waitrequestAllowance`.
@@ -70,13 +70,13 @@ pub struct AgentPort {
     /// The width of `burstcount`: the longest burst has 2 to this less one beats.
     pub burst_bits: u8,
     /// It has `readdatavalid`.
-    pub valid: bool,
+    pub readdatavalid: bool,
     /// It has `waitrequest`.
-    pub waits: bool,
+    pub waitrequest: bool,
     /// It has `response`.
     pub response: bool,
     /// It has `lock`, `debugaccess` or `beginbursttransfer`, which no connection takes at an agent.
-    pub left_out: bool,
+    pub unsupported: bool,
     /// It has `writeresponsevalid`.
     pub write_response: bool,
     /// `waitrequestAllowance`.
@@ -174,10 +174,10 @@ impl Interface {
             writes: self.has(Role::Write),
             enables: self.has(Role::ByteEnable),
             burst_bits: self.bits(Role::BurstCount),
-            valid: self.has(Role::ReadDataValid),
-            waits: self.has(Role::WaitRequest),
+            readdatavalid: self.has(Role::ReadDataValid),
+            waitrequest: self.has(Role::WaitRequest),
             response: self.has(Role::Response),
-            left_out: self.has(Role::Lock),
+            lock: self.has(Role::Lock),
             write_response: self.has(Role::WriteResponseValid),
             allowance: self.setting(PropertyId::WaitRequestAllowance),
             wraps: self.is_true(PropertyId::LinewrapBursts),
@@ -196,10 +196,10 @@ impl Interface {
             writes: self.has(Role::Write),
             enables: self.has(Role::ByteEnable),
             burst_bits: self.bits(Role::BurstCount),
-            valid: self.has(Role::ReadDataValid),
-            waits: self.has(Role::WaitRequest),
+            readdatavalid: self.has(Role::ReadDataValid),
+            waitrequest: self.has(Role::WaitRequest),
             response: self.has(Role::Response),
-            left_out: self.is_left_out_agent(),
+            unsupported: self.has_unsupported(),
             write_response: self.has(Role::WriteResponseValid),
             allowance: self.setting(PropertyId::WaitRequestAllowance),
             wraps: self.is_true(PropertyId::LinewrapBursts),
@@ -212,8 +212,8 @@ impl Interface {
         }
     }
 
-    fn is_left_out_agent(&self) -> bool
-        ensures { result ≡ is_left_out_agent self.now }
+    fn has_unsupported(&self) -> bool
+        ensures { result ≡ has_unsupported self.now }
     {
         self.has(Role::Lock) || self.has(Role::DebugAccess) || self.has(Role::BeginBurstTransfer)
     }

@@ -24,8 +24,8 @@ pub record IsWireHost (host : HostPort) : Type 0 where
   pub word : host.word_bytes ≡ 4
   pub reads : host.reads ≡ true
   pub writes : host.writes ≡ true
-  pub waits : host.waits ≡ true
-  pub valid : host.valid ≡ true
+  pub waits : host.waitrequest ≡ true
+  pub valid : host.readdatavalid ≡ true
   pub burst : host.burst_bits ≡ 0
   pub response : host.response ≡ false
 
@@ -52,8 +52,8 @@ pub record IsWireAgent (agent : AgentPort) : Type 0 where
   pub word : agent.word_bytes ≡ 4
   pub reads : agent.reads ≡ true
   pub writes : agent.writes ≡ true
-  pub waits : agent.waits ≡ true
-  pub valid : agent.valid ≡ true
+  pub waits : agent.waitrequest ≡ true
+  pub valid : agent.readdatavalid ≡ true
   pub burst : agent.burst_bits ≡ 0
   pub response : agent.response ≡ false
   pub some : 1 ≤ agent.address_bits
@@ -148,9 +148,9 @@ host_ports_are system end host agent h a e pair =
       writedata = subst (λ (n : ℕ). IsPortIf (ports_of system) false (8 * n) (port_at system end role.WriteData)) is.word (subst (λ (b : Bool). IsPortIf (ports_of system) false (bits_if b (8 * host.word_bytes)) (port_at system end role.WriteData)) is.writes (port (port_of role.WriteData (bits_if host.writes (8 * host.word_bytes))) (inr (inr (inr (inl refl))))));
       byteenable = subst (λ (b : Bool). IsPortIf (ports_of system) false (bits_if b 4) (port_at system end role.ByteEnable)) pair.enables (subst (λ (n : ℕ). IsPortIf (ports_of system) false (bits_if host.enables n) (port_at system end role.ByteEnable)) is.word (port (port_of role.ByteEnable (bits_if host.enables host.word_bytes)) (inr (inr (inr (inr (inl refl)))))));
       burstcount = subst (λ (n : ℕ). IsPortIf (ports_of system) false n (port_at system end role.BurstCount)) is.burst (port (port_of role.BurstCount host.burst_bits) (inr (inr (inr (inr (inr (inl refl)))))));
-      waitrequest = subst (λ (b : Bool). IsPortIf (ports_of system) true (bits_if b 1) (port_at system end role.WaitRequest)) is.waits (port (port_of role.WaitRequest (bits_if host.waits 1)) (inr (inr (inr (inr (inr (inr (inl refl))))))));
+      waitrequest = subst (λ (b : Bool). IsPortIf (ports_of system) true (bits_if b 1) (port_at system end role.WaitRequest)) is.waits (port (port_of role.WaitRequest (bits_if host.waitrequest 1)) (inr (inr (inr (inr (inr (inr (inl refl))))))));
       readdata = subst (λ (n : ℕ). IsPortIf (ports_of system) true (8 * n) (port_at system end role.ReadData)) is.word (subst (λ (b : Bool). IsPortIf (ports_of system) true (bits_if b (8 * host.word_bytes)) (port_at system end role.ReadData)) is.reads (port (port_of role.ReadData (bits_if host.reads (8 * host.word_bytes))) (inr (inr (inr (inr (inr (inr (inr (inl refl))))))))));
-      readdatavalid = subst (λ (b : Bool). IsPortIf (ports_of system) true (bits_if b 1) (port_at system end role.ReadDataValid)) is.valid (port (port_of role.ReadDataValid (bits_if host.valid 1)) (inr (inr (inr (inr (inr (inr (inr (inr (inl refl))))))))));
+      readdatavalid = subst (λ (b : Bool). IsPortIf (ports_of system) true (bits_if b 1) (port_at system end role.ReadDataValid)) is.valid (port (port_of role.ReadDataValid (bits_if host.readdatavalid 1)) (inr (inr (inr (inr (inr (inr (inr (inr (inl refl))))))))));
       response = subst (λ (b : Bool). IsPortIf (ports_of system) true (bits_if b 2) (port_at system end role.Response)) is.response (port (port_of role.Response (bits_if host.response 2)) (inr (inr (inr (inr (inr (inr (inr (inr (inr (inl refl)))))))))));
     }
 
@@ -184,9 +184,9 @@ agent_ports_are system end host agent h a e pair =
       writedata = subst (λ (n : ℕ). IsPortIf (ports_of system) true (8 * n) (port_at system end role.WriteData)) is.word (subst (λ (b : Bool). IsPortIf (ports_of system) true (bits_if b (8 * agent.word_bytes)) (port_at system end role.WriteData)) is.writes (port (port_of role.WriteData (bits_if agent.writes (8 * agent.word_bytes))) (inr (inr (inr (inl refl))))));
       byteenable = subst (λ (n : ℕ). IsPortIf (ports_of system) true (bits_if agent.enables n) (port_at system end role.ByteEnable)) is.word (port (port_of role.ByteEnable (bits_if agent.enables agent.word_bytes)) (inr (inr (inr (inr (inl refl))))));
       burstcount = subst (λ (n : ℕ). IsPortIf (ports_of system) true n (port_at system end role.BurstCount)) is.burst (port (port_of role.BurstCount agent.burst_bits) (inr (inr (inr (inr (inr (inl refl)))))));
-      waitrequest = subst (λ (b : Bool). IsPortIf (ports_of system) false (bits_if b 1) (port_at system end role.WaitRequest)) is.waits (port (port_of role.WaitRequest (bits_if agent.waits 1)) (inr (inr (inr (inr (inr (inr (inl refl))))))));
+      waitrequest = subst (λ (b : Bool). IsPortIf (ports_of system) false (bits_if b 1) (port_at system end role.WaitRequest)) is.waits (port (port_of role.WaitRequest (bits_if agent.waitrequest 1)) (inr (inr (inr (inr (inr (inr (inl refl))))))));
       readdata = subst (λ (n : ℕ). IsPortIf (ports_of system) false (8 * n) (port_at system end role.ReadData)) is.word (subst (λ (b : Bool). IsPortIf (ports_of system) false (bits_if b (8 * agent.word_bytes)) (port_at system end role.ReadData)) is.reads (port (port_of role.ReadData (bits_if agent.reads (8 * agent.word_bytes))) (inr (inr (inr (inr (inr (inr (inr (inl refl))))))))));
-      readdatavalid = subst (λ (b : Bool). IsPortIf (ports_of system) false (bits_if b 1) (port_at system end role.ReadDataValid)) is.valid (port (port_of role.ReadDataValid (bits_if agent.valid 1)) (inr (inr (inr (inr (inr (inr (inr (inr (inl refl))))))))));
+      readdatavalid = subst (λ (b : Bool). IsPortIf (ports_of system) false (bits_if b 1) (port_at system end role.ReadDataValid)) is.valid (port (port_of role.ReadDataValid (bits_if agent.readdatavalid 1)) (inr (inr (inr (inr (inr (inr (inr (inr (inl refl))))))))));
       response = subst (λ (b : Bool). IsPortIf (ports_of system) false (bits_if b 2) (port_at system end role.Response)) is.response (port (port_of role.Response (bits_if agent.response 2)) (inr (inr (inr (inr (inr (inr (inr (inr (inr (inl refl)))))))))));
       grant = port (port_of role.Grant 4) (inr (inr (inr (inr (inr (inr (inr (inr (inr (inr (inl refl)))))))))));
     }

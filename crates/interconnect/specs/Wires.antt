@@ -37,12 +37,12 @@ is_wire_stream source sink fifo =
 -- a host of 32-bit words that counts bytes and answers by `readdatavalid`, without bursts
 abbrev pub is_wire_host : HostPort → Bool
 is_wire_host host =
-    (host.word_bytes == 4) && host.byte_units && host.reads && host.writes && host.waits && host.valid && (host.burst_bits == 0) && not host.response
+    (host.word_bytes == 4) && host.byte_units && host.reads && host.writes && host.waitrequest && host.readdatavalid && (host.burst_bits == 0) && not host.response
 
 -- an agent of 32-bit words that counts words and answers by `readdatavalid`, without bursts; it bears at most 16 unanswered reads
 abbrev pub is_wire_agent : AgentPort → Bool
 is_wire_agent agent =
-    (agent.word_bytes == 4) && not agent.byte_units && agent.reads && agent.writes && agent.waits && agent.valid && (agent.burst_bits == 0)
+    (agent.word_bytes == 4) && not agent.byte_units && agent.reads && agent.writes && agent.waitrequest && agent.readdatavalid && (agent.burst_bits == 0)
     && not agent.response && nat_le 1 agent.address_bits && nat_le agent.address_bits 30 && nat_le agent.pending 16
 
 -- the agent fills the host's whole range, and both have byte enables or neither has

@@ -61,8 +61,8 @@ fn is_wire_host(host: &HostPort) -> bool
         && host.byte_units
         && host.reads
         && host.writes
-        && host.waits
-        && host.valid
+        && host.waitrequest
+        && host.readdatavalid
         && host.burst_bits == 0
         && !host.response
 }
@@ -74,8 +74,8 @@ fn is_wire_agent(agent: &AgentPort) -> bool
         && !agent.byte_units
         && agent.reads
         && agent.writes
-        && agent.waits
-        && agent.valid
+        && agent.waitrequest
+        && agent.readdatavalid
         && agent.burst_bits == 0
         && !agent.response
         && 1 <= agent.address_bits

@@ -169,7 +169,7 @@ host_widths host h =
             few_bits host.writes (8 * host.word_bytes) bits,
             (
               few_bits host.enables host.word_bytes (omega arith),
-              (omega arith, (few_bits host.waits 1 (omega arith), (few_bits host.reads (8 * host.word_bytes) bits, (few_bits host.valid 1 (omega arith), (few_bits host.response 2 (omega arith), tt))))),
+              (omega arith, (few_bits host.waitrequest 1 (omega arith), (few_bits host.reads (8 * host.word_bytes) bits, (few_bits host.readdatavalid 1 (omega arith), (few_bits host.response 2 (omega arith), tt))))),
             ),
           ),
         ),
@@ -191,7 +191,7 @@ agent_widths agent h =
             few_bits agent.writes (8 * agent.word_bytes) bits,
             (
               few_bits agent.enables agent.word_bytes (omega arith),
-              (omega arith, (few_bits agent.waits 1 (omega arith), (few_bits agent.reads (8 * agent.word_bytes) bits, (few_bits agent.valid 1 (omega arith), (few_bits agent.response 2 (omega arith), (omega arith, tt)))))),
+              (omega arith, (few_bits agent.waitrequest 1 (omega arith), (few_bits agent.reads (8 * agent.word_bytes) bits, (few_bits agent.readdatavalid 1 (omega arith), (few_bits agent.response 2 (omega arith), (omega arith, tt)))))),
             ),
           ),
         ),

@@ -84,9 +84,9 @@ host_ports host =
     ∷ port_of role.WriteData (bits_if host.writes (8 * host.word_bytes))
     ∷ port_of role.ByteEnable (bits_if host.enables host.word_bytes)
     ∷ port_of role.BurstCount host.burst_bits
-    ∷ port_of role.WaitRequest (bits_if host.waits 1)
+    ∷ port_of role.WaitRequest (bits_if host.waitrequest 1)
     ∷ port_of role.ReadData (bits_if host.reads (8 * host.word_bytes))
-    ∷ port_of role.ReadDataValid (bits_if host.valid 1)
+    ∷ port_of role.ReadDataValid (bits_if host.readdatavalid 1)
     ∷ port_of role.Response (bits_if host.response 2)
     ∷ []
 
@@ -99,9 +99,9 @@ agent_ports agent =
     ∷ port_of role.WriteData (bits_if agent.writes (8 * agent.word_bytes))
     ∷ port_of role.ByteEnable (bits_if agent.enables agent.word_bytes)
     ∷ port_of role.BurstCount agent.burst_bits
-    ∷ port_of role.WaitRequest (bits_if agent.waits 1)
+    ∷ port_of role.WaitRequest (bits_if agent.waitrequest 1)
     ∷ port_of role.ReadData (bits_if agent.reads (8 * agent.word_bytes))
-    ∷ port_of role.ReadDataValid (bits_if agent.valid 1)
+    ∷ port_of role.ReadDataValid (bits_if agent.readdatavalid 1)
     ∷ port_of role.Response (bits_if agent.response 2)
     ∷ port_of role.Grant 4
     ∷ []

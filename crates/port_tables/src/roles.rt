@@ -114,9 +114,9 @@ pub(crate) fn host_ports(host: &HostPort) -> [RolePort; 10]
         port(Role::WriteData, bits_if(host.writes, word)),
         port(Role::ByteEnable, bits_if(host.enables, host.word_bytes)),
         port(Role::BurstCount, host.burst_bits),
-        port(Role::WaitRequest, bits_if(host.waits, 1)),
+        port(Role::WaitRequest, bits_if(host.waitrequest, 1)),
         port(Role::ReadData, bits_if(host.reads, word)),
-        port(Role::ReadDataValid, bits_if(host.valid, 1)),
+        port(Role::ReadDataValid, bits_if(host.readdatavalid, 1)),
         port(Role::Response, bits_if(host.response, 2)),
     ]
 }
@@ -134,9 +134,9 @@ pub(crate) fn agent_ports(agent: &AgentPort) -> [RolePort; 11]
         port(Role::WriteData, bits_if(agent.writes, word)),
         port(Role::ByteEnable, bits_if(agent.enables, agent.word_bytes)),
         port(Role::BurstCount, agent.burst_bits),
-        port(Role::WaitRequest, bits_if(agent.waits, 1)),
+        port(Role::WaitRequest, bits_if(agent.waitrequest, 1)),
         port(Role::ReadData, bits_if(agent.reads, word)),
-        port(Role::ReadDataValid, bits_if(agent.valid, 1)),
+        port(Role::ReadDataValid, bits_if(agent.readdatavalid, 1)),
         port(Role::Response, bits_if(agent.response, 2)),
         port(Role::Grant, 4),
     ]
