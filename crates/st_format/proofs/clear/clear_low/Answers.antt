@@ -1,6 +1,6 @@
 use Rattle.std.proofs.Common.{◌≡◌, ◌^◌, ◌<◌, subst, ◌∙◌, arith}
 use Rattle.netlist.specs.Runs.{Always}
-use Rattle.net_parts.specs.Laws.{valued_fits, grows_once, adds_twice, adds_fewer, if_ok}
+use Rattle.net_parts.specs.Laws.{valued_fits, if_ok}
 use Rattle.net_parts.specs.Nets.{IsNetOfWidth}
 use Rattle.st_format.specs.ClearNets.{without_low}
 use Rattle.st_format.proofs.ClearLaw.{low_all, low_some}

@@ -1,8 +1,8 @@
-use Rattle.std.proofs.Common.{sym, subst, ap, arith}
+use Rattle.std.proofs.Common.{sym, subst, ap}
 use Rattle.stage_core.specs.Beats.{AreBeatNets}
 use Rattle.stage_core.specs.Groups.{shown_in}
 use Rattle.stage_core.specs.Lasting.{beat_lasts}
-use Rattle.net_parts.specs.Laws.{extends_twice, grows_once, adds_twice, adds_fewer, bit_fits}
+use Rattle.net_parts.specs.Laws.{extends_twice, bit_fits}
 use Rattle.st_format.proofs.CountedLemmas.{counted_shown}
 use Rattle.st_format.proofs.counted.count_empty.Goals as goal
 

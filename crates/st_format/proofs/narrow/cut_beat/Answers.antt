@@ -1,6 +1,5 @@
-use Rattle.std.proofs.Common.{arith}
 use Rattle.stage_core.specs.Lasting.{beat_lasts}
-use Rattle.net_parts.specs.Laws.{extends_twice, adds_twice, adds_fewer}
+use Rattle.net_parts.specs.Laws.{extends_twice}
 use Rattle.st_format.proofs.narrow.cut_beat.Goals as goal
 
 pub leave_rest-requires-clause-beat : goal.leave_rest-requires-clause-beat

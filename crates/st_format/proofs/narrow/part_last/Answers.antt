@@ -1,6 +1,6 @@
-use Rattle.std.proofs.Common.{◌≡◌, ◌==◌, if◌then◌else◌, arith}
+use Rattle.std.proofs.Common.{◌≡◌, ◌==◌, if◌then◌else◌}
 use Rattle.netlist.specs.Runs.{Always}
-use Rattle.net_parts.specs.Laws.{grows_once, adds_twice, adds_fewer, bit_fits, if_ok}
+use Rattle.net_parts.specs.Laws.{bit_fits, if_ok}
 use Rattle.st_format.proofs.CountedLemmas.{none_where}
 use Rattle.st_format.proofs.narrow.part_last.Goals as goal
 

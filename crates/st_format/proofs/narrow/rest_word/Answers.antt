@@ -1,7 +1,7 @@
 use Rattle.std.proofs.Common.{◌≡◌, ◌-◌, ◌*◌, ◌%◌, ◌^◌, ◌∙◌, arith}
 use Rattle.netlist.specs.Runs.{Always}
 use Rattle.net_parts.specs.Nets.{IsNetOfWidth}
-use Rattle.net_parts.specs.Laws.{grows_once, adds_twice, adds_fewer, if_ok}
+use Rattle.net_parts.specs.Laws.{if_ok}
 use Rattle.st_format.proofs.NarrowLemmas.{rest_shifted}
 use Rattle.st_format.proofs.narrow.rest_word.Goals as goal
 

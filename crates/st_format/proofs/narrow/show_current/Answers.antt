@@ -1,7 +1,6 @@
-use Rattle.std.proofs.Common.{◌==◌, if◌then◌else◌, ap, ◌∙◌, arith}
+use Rattle.std.proofs.Common.{◌==◌, if◌then◌else◌, ap, ◌∙◌}
 use Rattle.stage_core.specs.Groups.{shown_in}
 use Rattle.stage_core.specs.Lasting.{beat_lasts}
-use Rattle.net_parts.specs.Laws.{grows_twice, grows_fewer, adds_grow}
 use Rattle.st_format.proofs.narrow.show_current.Goals as goal
 
 pub returns-clause-held : goal.returns-clause-held

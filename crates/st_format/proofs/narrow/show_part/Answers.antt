@@ -1,8 +1,8 @@
-use Rattle.std.proofs.Common.{sym, subst, ap, ◌∙◌, arith}
+use Rattle.std.proofs.Common.{sym, subst, ap, ◌∙◌}
 use Rattle.stage_core.specs.Beats.{AreBeatNets}
 use Rattle.stage_core.specs.Groups.{shown_in}
 use Rattle.stage_core.specs.Lasting.{beat_lasts}
-use Rattle.net_parts.specs.Laws.{net_lasts, extends_twice, grows_once, adds_twice, adds_fewer}
+use Rattle.net_parts.specs.Laws.{net_lasts, extends_twice}
 use Rattle.st_format.proofs.NarrowLemmas.{part_shown, part_bits}
 use Rattle.st_format.proofs.narrow.show_part.Goals as goal
 

@@ -1,7 +1,7 @@
-use Rattle.std.proofs.Common.{◌≡◌, ◌-◌, ◌*◌, ◌==◌, ◌||◌, ap, ◌∙◌, arith}
+use Rattle.std.proofs.Common.{◌≡◌, ◌-◌, ◌*◌, ◌==◌, ◌||◌, ap, ◌∙◌}
 use Rattle.netlist.specs.Runs.{Always}
 use Rattle.net_parts.specs.Nets.{IsBit}
-use Rattle.net_parts.specs.Laws.{grows_once, adds_twice, adds_fewer, bit_fits, if_ok}
+use Rattle.net_parts.specs.Laws.{bit_fits, if_ok}
 use Rattle.net_parts.specs.Bits.{high_or}
 use Rattle.st_format.proofs.CountedLemmas.{test_high}
 use Rattle.st_format.proofs.widen.fills_up.Goals as goal

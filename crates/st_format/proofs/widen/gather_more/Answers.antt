@@ -1,5 +1,5 @@
-use Rattle.std.proofs.Common.{◌+◌, ◌%◌, ◌^◌, refl, sym, ap, ◌∙◌, arith}
-use Rattle.net_parts.specs.Laws.{net_lasts, extends_twice, grows_once, adds_twice, adds_fewer}
+use Rattle.std.proofs.Common.{◌+◌, ◌%◌, ◌^◌, refl, sym, ap, ◌∙◌}
+use Rattle.net_parts.specs.Laws.{net_lasts, extends_twice}
 use Rattle.stage_core.specs.Lasting.{beat_lasts}
 use Rattle.stage_core.specs.BeatLaws.{shown_same}
 use Rattle.st_format.proofs.widen.gather_more.Goals as goal

@@ -1,9 +1,9 @@
-use Rattle.std.proofs.Common.{sym, subst, ap, ◌∙◌, arith}
+use Rattle.std.proofs.Common.{sym, subst, ap, ◌∙◌}
 use Rattle.stage_core.specs.declared.beat.BeatNets.{BeatNets}
 use Rattle.stage_core.specs.Beats.{AreBeatNets}
 use Rattle.stage_core.specs.Groups.{Shown, shown_in}
 use Rattle.stage_core.specs.Lasting.{beat_lasts}
-use Rattle.net_parts.specs.Laws.{extends_twice, grows_twice, grows_fewer, adds_grow}
+use Rattle.net_parts.specs.Laws.{extends_twice}
 use Rattle.st_format.specs.ClearNets.{cleared, without_empty}
 use Rattle.st_format.proofs.PartsLemmas.{beat_same}
 use Rattle.st_format.proofs.clear.ClearStage.emit_forward.Goals as goal

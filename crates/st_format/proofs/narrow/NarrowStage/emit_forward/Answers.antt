@@ -1,6 +1,5 @@
 use Rattle.std.proofs.Common.{refl, ap, ◌∙◌, arith}
 use Rattle.stage_core.specs.Lasting.{beat_lasts, registers_last}
-use Rattle.net_parts.specs.Laws.{grows_twice, grows_fewer, adds_grow}
 use Rattle.stage_core.specs.BeatLaws.{widths_twice}
 use Rattle.st_format.specs.NarrowNets.{shown_piece, shown_rest}
 use Rattle.st_format.proofs.narrow.NarrowStage.emit_forward.Goals as goal

@@ -1,5 +1,5 @@
 use Rattle.std.proofs.Common.{◌^◌, ◌<◌, refl, subst, ◌∙◌, arith}
-use Rattle.net_parts.specs.Laws.{valued_fits, net_lasts, extends_twice, grows_twice, grows_fewer, adds_grow}
+use Rattle.net_parts.specs.Laws.{valued_fits, net_lasts, extends_twice}
 use Rattle.stage_core.specs.Groups.{shown_in}
 use Rattle.stage_core.specs.Lasting.{beat_lasts, registers_last}
 use Rattle.stage_core.specs.BeatLaws.{widths_turned, widths_twice, numbered_here}
