@@ -14,12 +14,12 @@ use Rattle.iface_roles.specs.declared.records.HostPort.{HostPort}
 use Rattle.iface_roles.specs.declared.records.AgentPort.{AgentPort}
 use Rattle.iface_roles.specs.declared.records.StreamPort.{StreamPort}
 use Rattle.iface_roles.specs.declared.records.Finished.TheVariants.{Host, Agent, Source, Sink}
-use Rattle.iface_roles.specs.declared.roles.Role.TheVariants.{Address, Read, Write, WriteData, BurstCount, WaitRequest, ReadData, ReadDataValid, Valid, Data, Channel, Error, StartOfPacket, Empty}
+use Rattle.iface_roles.specs.declared.roles.Role.TheVariants.{Address, Read, Write, WriteData, BurstCount, WaitRequest, ReadData, ReadDataValid, Valid, Data, Channel, StartOfPacket, Empty}
 use Rattle.iface_roles.specs.Held.{Held, has, width_of, port_of, set_to, setting_of, AreInRange}
 use Rattle.iface_roles.specs.Kinds.{is_avalon}
 use Rattle.iface_roles.specs.Properties.{IsInRange}
 use Rattle.iface_roles.specs.Proper.{IsProper, IsWordSize, AreMmPorts, IsBoundedHost, IsBoundedAgent, IsBoundedStream}
-use Rattle.iface_roles.specs.Records.{host_of, agent_of, stream_of, finished_as, allowance_of}
+use Rattle.iface_roles.specs.Records.{host_of, agent_of, stream_of, finished_as}
 use Rattle.iface_roles.specs.Rules.{KeepsRules, word_bits, word_bytes, symbols_of, is_word, is_beat, without, lacks_ports_as, reach_as, can_count}
 use Rattle.iface_roles.proofs.FitLemmas.{bits_of, kept, or-left, or-right, narrow, FitsMm-from_rules, FitsStream-from_rules}
 
