@@ -47,8 +47,8 @@ pub record IsPrefix {A : Type 0} (front whole : List A) : Type 0 where
   pub joins : front ++ rest ≡ whole
 
 -- a signal of one bit is high where it isn't 0
-abbrev pub is_high : ℕ → Bool
-is_high level = nat_lt 0 level
+abbrev pub is_raised : ℕ → Bool
+is_raised level = nat_lt 0 level
 
 -- the numbers from `first` on, `count` of them
 abbrev pub numbers : ℕ → ℕ → List ℕ

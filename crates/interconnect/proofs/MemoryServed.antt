@@ -19,7 +19,7 @@ use Rattle.stream_runs.specs.Ends.{signal_or}
 use Rattle.stream_path.specs.Ends.{signal_of, signal_where}
 use Rattle.mm_runs.specs.Views.{Levels, HostView, AgentView, Run as MemoryRun, System}
 use Rattle.mm_runs.specs.Views.Responses.{AreZero}
-use Rattle.mm_runs.specs.Plan.{IsPlan}
+use Rattle.mm_runs.specs.Plan.{IsMemoryPlan}
 use Rattle.mm_runs.specs.Order.{ActsAsMemory, ReadsFromMemory, ReturnsInCommandOrder}
 use Rattle.mm_runs.specs.Whole.{IsLegalRun, IsSafe}
 use Rattle.mm_runs.specs.Moment.{Moment, AgentSees, HaveAlikeInputs, IgnoresReaddata}
@@ -293,7 +293,7 @@ SafeLaw =
     → IsLegalRun (wire_system form) (wire_run host agent) end → IsSafe AreZero (wire_system form) (wire_run host agent) end
 
 abbrev pub PlanLaw : Type 0
-PlanLaw = (form : WireForm) → IsWireForm form → IsPlan (wire_system form)
+PlanLaw = (form : WireForm) → IsWireForm form → IsMemoryPlan (wire_system form)
 
 abbrev pub ReadLaw : Type 0
 ReadLaw =

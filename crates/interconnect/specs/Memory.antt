@@ -12,7 +12,7 @@ use Rattle.netlist.specs.Signals.{signal}
 use Rattle.stream_runs.specs.Ends.{signal_or}
 use Rattle.mm_runs.specs.Views.{Signals as CommandSignals, HostView, AgentView, System, Run as MemoryRun, levels_at}
 use Rattle.mm_runs.specs.Views.Responses.{AreZero}
-use Rattle.mm_runs.specs.Plan.{IsPlan as IsMemoryPlan}
+use Rattle.mm_runs.specs.Plan.{IsMemoryPlan}
 use Rattle.mm_runs.specs.Order.{ActsAsMemory, ReadsFromMemory}
 use Rattle.mm_runs.specs.Whole.{IsLegalRun, IsSafe}
 use Rattle.mm_runs.specs.Moment.{Moment, IgnoresReaddata}

@@ -4,7 +4,7 @@ use Rattle.std.specs.Prelude.{⊤}
 use Rattle.std.specs.List.{list_all}
 use Rattle.histories.specs.Below.{each_below}
 use Rattle.mm_machines.specs.Shorter.{legal_at_before}
-use Rattle.histories.specs.History.{IsPrefix, is_high, unreached, total, AreWithin}
+use Rattle.histories.specs.History.{IsPrefix, is_raised, unreached, total, AreWithin}
 use Rattle.histories.specs.History.AreWithin.{all_placed, placed}
 use Rattle.mm_runs.specs.Views.{levels_at}
 use Rattle.mm_runs.specs.Operations.{pieces}
@@ -20,20 +20,20 @@ use Rattle.mm_machines.specs.Lines.BringsLanes.{made}
 use Rattle.mm_examples.specs.Joint.{joint_system, joint_run, joint_inside, joint_holds, host_port}
 use Rattle.mm_runs.specs.Whole.{IsLegalRun}
 
-p0_kind : (c : ℕ) → c < 6 → IsTrue (not (is_high ((host_port 0).commands.signals.read c) && is_high ((host_port 0).commands.signals.write c)))
-p0_kind c h = each_below (λ c. IsTrue (not (is_high ((host_port 0).commands.signals.read c) && is_high ((host_port 0).commands.signals.write c)))) 6 c ((((((tt, refl), refl), refl), refl), refl), refl) h
+p0_kind : (c : ℕ) → c < 6 → IsTrue (not (is_raised ((host_port 0).commands.signals.read c) && is_raised ((host_port 0).commands.signals.write c)))
+p0_kind c h = each_below (λ c. IsTrue (not (is_raised ((host_port 0).commands.signals.read c) && is_raised ((host_port 0).commands.signals.write c)))) 6 c ((((((tt, refl), refl), refl), refl), refl), refl) h
 
 p0_held : (c : ℕ) → c < 5 → IsTrue (is_held (host_port 0).commands.signals (takes (host_port 0)) c) → levels_at (host_port 0).commands.signals c ≡ levels_at (host_port 0).commands.signals (suc c)
 p0_held c h = each_below (λ c. IsTrue (is_held (host_port 0).commands.signals (takes (host_port 0)) c) → levels_at (host_port 0).commands.signals c ≡ levels_at (host_port 0).commands.signals (suc c)) 5 c (((((tt, λ held. cc), λ held. cc), λ held. cc), λ held. cc), λ held. cc) h
 
-p0_finished : (c : ℕ) → c < 6 → IsTrue (is_under_way (host_port 0).shape (host_port 0).commands.signals (takes (host_port 0)) c) → IsFalse (is_high ((host_port 0).commands.signals.read c))
-p0_finished c h = each_below (λ c. IsTrue (is_under_way (host_port 0).shape (host_port 0).commands.signals (takes (host_port 0)) c) → IsFalse (is_high ((host_port 0).commands.signals.read c))) 6 c ((((((tt, λ under. cc), λ under. cc), λ under. cc), λ under. cc), λ under. cc), λ under. cc) h
+p0_finished : (c : ℕ) → c < 6 → IsTrue (is_under_way (host_port 0).shape (host_port 0).commands.signals (takes (host_port 0)) c) → IsFalse (is_raised ((host_port 0).commands.signals.read c))
+p0_finished c h = each_below (λ c. IsTrue (is_under_way (host_port 0).shape (host_port 0).commands.signals (takes (host_port 0)) c) → IsFalse (is_raised ((host_port 0).commands.signals.read c))) 6 c ((((((tt, λ under. cc), λ under. cc), λ under. cc), λ under. cc), λ under. cc), λ under. cc) h
 
 p0_tag : (c : ℕ) → c < 5 → IsTrue (is_held (host_port 0).commands.signals (takes (host_port 0)) c) → (host_port 0).commands.tag c ≡ (host_port 0).commands.tag (suc c)
 p0_tag c h = each_below (λ c. IsTrue (is_held (host_port 0).commands.signals (takes (host_port 0)) c) → (host_port 0).commands.tag c ≡ (host_port 0).commands.tag (suc c)) 5 c (((((tt, λ held. cc), λ held. cc), λ held. cc), λ held. cc), λ held. cc) h
 
-p0_joined : (c : ℕ) → c < 6 → IsTrue (shows (host_port 0).commands.signals c) → IsTrue ((transfer_at (host_port 0).shape (host_port 0).commands.signals (takes (host_port 0)) c).ends || is_high ((host_port 0).commands.more c))
-p0_joined c h = each_below (λ c. IsTrue (shows (host_port 0).commands.signals c) → IsTrue ((transfer_at (host_port 0).shape (host_port 0).commands.signals (takes (host_port 0)) c).ends || is_high ((host_port 0).commands.more c))) 6 c ((((((tt, λ s. cc), λ s. cc), λ s. cc), λ s. cc), λ s. cc), λ s. cc) h
+p0_joined : (c : ℕ) → c < 6 → IsTrue (shows (host_port 0).commands.signals c) → IsTrue ((transfer_at (host_port 0).shape (host_port 0).commands.signals (takes (host_port 0)) c).ends || is_raised ((host_port 0).commands.more c))
+p0_joined c h = each_below (λ c. IsTrue (shows (host_port 0).commands.signals c) → IsTrue ((transfer_at (host_port 0).shape (host_port 0).commands.signals (takes (host_port 0)) c).ends || is_raised ((host_port 0).commands.more c))) 6 c ((((((tt, λ s. cc), λ s. cc), λ s. cc), λ s. cc), λ s. cc), λ s. cc) h
 
 p0_legal : AreLegalAt (host_port 0) 6
 p0_legal = record {
@@ -49,20 +49,20 @@ p0_legal = record {
   joined = p0_joined;
 }
 
-p1_kind : (c : ℕ) → c < 6 → IsTrue (not (is_high ((host_port 1).commands.signals.read c) && is_high ((host_port 1).commands.signals.write c)))
-p1_kind c h = each_below (λ c. IsTrue (not (is_high ((host_port 1).commands.signals.read c) && is_high ((host_port 1).commands.signals.write c)))) 6 c ((((((tt, refl), refl), refl), refl), refl), refl) h
+p1_kind : (c : ℕ) → c < 6 → IsTrue (not (is_raised ((host_port 1).commands.signals.read c) && is_raised ((host_port 1).commands.signals.write c)))
+p1_kind c h = each_below (λ c. IsTrue (not (is_raised ((host_port 1).commands.signals.read c) && is_raised ((host_port 1).commands.signals.write c)))) 6 c ((((((tt, refl), refl), refl), refl), refl), refl) h
 
 p1_held : (c : ℕ) → c < 5 → IsTrue (is_held (host_port 1).commands.signals (takes (host_port 1)) c) → levels_at (host_port 1).commands.signals c ≡ levels_at (host_port 1).commands.signals (suc c)
 p1_held c h = each_below (λ c. IsTrue (is_held (host_port 1).commands.signals (takes (host_port 1)) c) → levels_at (host_port 1).commands.signals c ≡ levels_at (host_port 1).commands.signals (suc c)) 5 c (((((tt, λ held. refl), λ held. cc), λ held. cc), λ held. cc), λ held. cc) h
 
-p1_finished : (c : ℕ) → c < 6 → IsTrue (is_under_way (host_port 1).shape (host_port 1).commands.signals (takes (host_port 1)) c) → IsFalse (is_high ((host_port 1).commands.signals.read c))
-p1_finished c h = each_below (λ c. IsTrue (is_under_way (host_port 1).shape (host_port 1).commands.signals (takes (host_port 1)) c) → IsFalse (is_high ((host_port 1).commands.signals.read c))) 6 c ((((((tt, λ under. cc), λ under. cc), λ under. cc), λ under. cc), λ under. cc), λ under. cc) h
+p1_finished : (c : ℕ) → c < 6 → IsTrue (is_under_way (host_port 1).shape (host_port 1).commands.signals (takes (host_port 1)) c) → IsFalse (is_raised ((host_port 1).commands.signals.read c))
+p1_finished c h = each_below (λ c. IsTrue (is_under_way (host_port 1).shape (host_port 1).commands.signals (takes (host_port 1)) c) → IsFalse (is_raised ((host_port 1).commands.signals.read c))) 6 c ((((((tt, λ under. cc), λ under. cc), λ under. cc), λ under. cc), λ under. cc), λ under. cc) h
 
 p1_tag : (c : ℕ) → c < 5 → IsTrue (is_held (host_port 1).commands.signals (takes (host_port 1)) c) → (host_port 1).commands.tag c ≡ (host_port 1).commands.tag (suc c)
 p1_tag c h = each_below (λ c. IsTrue (is_held (host_port 1).commands.signals (takes (host_port 1)) c) → (host_port 1).commands.tag c ≡ (host_port 1).commands.tag (suc c)) 5 c (((((tt, λ held. refl), λ held. cc), λ held. cc), λ held. cc), λ held. cc) h
 
-p1_joined : (c : ℕ) → c < 6 → IsTrue (shows (host_port 1).commands.signals c) → IsTrue ((transfer_at (host_port 1).shape (host_port 1).commands.signals (takes (host_port 1)) c).ends || is_high ((host_port 1).commands.more c))
-p1_joined c h = each_below (λ c. IsTrue (shows (host_port 1).commands.signals c) → IsTrue ((transfer_at (host_port 1).shape (host_port 1).commands.signals (takes (host_port 1)) c).ends || is_high ((host_port 1).commands.more c))) 6 c ((((((tt, λ s. cc), λ s. cc), λ s. cc), λ s. cc), λ s. cc), λ s. cc) h
+p1_joined : (c : ℕ) → c < 6 → IsTrue (shows (host_port 1).commands.signals c) → IsTrue ((transfer_at (host_port 1).shape (host_port 1).commands.signals (takes (host_port 1)) c).ends || is_raised ((host_port 1).commands.more c))
+p1_joined c h = each_below (λ c. IsTrue (shows (host_port 1).commands.signals c) → IsTrue ((transfer_at (host_port 1).shape (host_port 1).commands.signals (takes (host_port 1)) c).ends || is_raised ((host_port 1).commands.more c))) 6 c ((((((tt, λ s. cc), λ s. cc), λ s. cc), λ s. cc), λ s. cc), λ s. cc) h
 
 p1_legal : AreLegalAt (host_port 1) 6
 p1_legal = record {
@@ -78,20 +78,20 @@ p1_legal = record {
   joined = p1_joined;
 }
 
-x_kind : (c : ℕ) → c < 6 → IsTrue (not (is_high ((joint_inside.after_arbiter 0).port.commands.signals.read c) && is_high ((joint_inside.after_arbiter 0).port.commands.signals.write c)))
-x_kind c h = each_below (λ c. IsTrue (not (is_high ((joint_inside.after_arbiter 0).port.commands.signals.read c) && is_high ((joint_inside.after_arbiter 0).port.commands.signals.write c)))) 6 c ((((((tt, refl), refl), refl), refl), refl), refl) h
+x_kind : (c : ℕ) → c < 6 → IsTrue (not (is_raised ((joint_inside.after_arbiter 0).port.commands.signals.read c) && is_raised ((joint_inside.after_arbiter 0).port.commands.signals.write c)))
+x_kind c h = each_below (λ c. IsTrue (not (is_raised ((joint_inside.after_arbiter 0).port.commands.signals.read c) && is_raised ((joint_inside.after_arbiter 0).port.commands.signals.write c)))) 6 c ((((((tt, refl), refl), refl), refl), refl), refl) h
 
 x_held : (c : ℕ) → c < 5 → IsTrue (is_held (joint_inside.after_arbiter 0).port.commands.signals (takes (joint_inside.after_arbiter 0).port) c) → levels_at (joint_inside.after_arbiter 0).port.commands.signals c ≡ levels_at (joint_inside.after_arbiter 0).port.commands.signals (suc c)
 x_held c h = each_below (λ c. IsTrue (is_held (joint_inside.after_arbiter 0).port.commands.signals (takes (joint_inside.after_arbiter 0).port) c) → levels_at (joint_inside.after_arbiter 0).port.commands.signals c ≡ levels_at (joint_inside.after_arbiter 0).port.commands.signals (suc c)) 5 c (((((tt, λ held. cc), λ held. cc), λ held. cc), λ held. cc), λ held. cc) h
 
-x_finished : (c : ℕ) → c < 6 → IsTrue (is_under_way (joint_inside.after_arbiter 0).port.shape (joint_inside.after_arbiter 0).port.commands.signals (takes (joint_inside.after_arbiter 0).port) c) → IsFalse (is_high ((joint_inside.after_arbiter 0).port.commands.signals.read c))
-x_finished c h = each_below (λ c. IsTrue (is_under_way (joint_inside.after_arbiter 0).port.shape (joint_inside.after_arbiter 0).port.commands.signals (takes (joint_inside.after_arbiter 0).port) c) → IsFalse (is_high ((joint_inside.after_arbiter 0).port.commands.signals.read c))) 6 c ((((((tt, λ under. cc), λ under. cc), λ under. cc), λ under. cc), λ under. cc), λ under. cc) h
+x_finished : (c : ℕ) → c < 6 → IsTrue (is_under_way (joint_inside.after_arbiter 0).port.shape (joint_inside.after_arbiter 0).port.commands.signals (takes (joint_inside.after_arbiter 0).port) c) → IsFalse (is_raised ((joint_inside.after_arbiter 0).port.commands.signals.read c))
+x_finished c h = each_below (λ c. IsTrue (is_under_way (joint_inside.after_arbiter 0).port.shape (joint_inside.after_arbiter 0).port.commands.signals (takes (joint_inside.after_arbiter 0).port) c) → IsFalse (is_raised ((joint_inside.after_arbiter 0).port.commands.signals.read c))) 6 c ((((((tt, λ under. cc), λ under. cc), λ under. cc), λ under. cc), λ under. cc), λ under. cc) h
 
 x_tag : (c : ℕ) → c < 5 → IsTrue (is_held (joint_inside.after_arbiter 0).port.commands.signals (takes (joint_inside.after_arbiter 0).port) c) → (joint_inside.after_arbiter 0).port.commands.tag c ≡ (joint_inside.after_arbiter 0).port.commands.tag (suc c)
 x_tag c h = each_below (λ c. IsTrue (is_held (joint_inside.after_arbiter 0).port.commands.signals (takes (joint_inside.after_arbiter 0).port) c) → (joint_inside.after_arbiter 0).port.commands.tag c ≡ (joint_inside.after_arbiter 0).port.commands.tag (suc c)) 5 c (((((tt, λ held. cc), λ held. cc), λ held. cc), λ held. cc), λ held. cc) h
 
-x_joined : (c : ℕ) → c < 6 → IsTrue (shows (joint_inside.after_arbiter 0).port.commands.signals c) → IsTrue ((transfer_at (joint_inside.after_arbiter 0).port.shape (joint_inside.after_arbiter 0).port.commands.signals (takes (joint_inside.after_arbiter 0).port) c).ends || is_high ((joint_inside.after_arbiter 0).port.commands.more c))
-x_joined c h = each_below (λ c. IsTrue (shows (joint_inside.after_arbiter 0).port.commands.signals c) → IsTrue ((transfer_at (joint_inside.after_arbiter 0).port.shape (joint_inside.after_arbiter 0).port.commands.signals (takes (joint_inside.after_arbiter 0).port) c).ends || is_high ((joint_inside.after_arbiter 0).port.commands.more c))) 6 c ((((((tt, λ s. cc), λ s. cc), λ s. cc), λ s. cc), λ s. cc), λ s. cc) h
+x_joined : (c : ℕ) → c < 6 → IsTrue (shows (joint_inside.after_arbiter 0).port.commands.signals c) → IsTrue ((transfer_at (joint_inside.after_arbiter 0).port.shape (joint_inside.after_arbiter 0).port.commands.signals (takes (joint_inside.after_arbiter 0).port) c).ends || is_raised ((joint_inside.after_arbiter 0).port.commands.more c))
+x_joined c h = each_below (λ c. IsTrue (shows (joint_inside.after_arbiter 0).port.commands.signals c) → IsTrue ((transfer_at (joint_inside.after_arbiter 0).port.shape (joint_inside.after_arbiter 0).port.commands.signals (takes (joint_inside.after_arbiter 0).port) c).ends || is_raised ((joint_inside.after_arbiter 0).port.commands.more c))) 6 c ((((((tt, λ s. cc), λ s. cc), λ s. cc), λ s. cc), λ s. cc), λ s. cc) h
 
 x_legal : AreLegalAt (joint_inside.after_arbiter 0).port 6
 x_legal = record {
@@ -107,20 +107,20 @@ x_legal = record {
   joined = x_joined;
 }
 
-y_kind : (c : ℕ) → c < 6 → IsTrue (not (is_high ((joint_inside.before_agent 0).port.commands.signals.read c) && is_high ((joint_inside.before_agent 0).port.commands.signals.write c)))
-y_kind c h = each_below (λ c. IsTrue (not (is_high ((joint_inside.before_agent 0).port.commands.signals.read c) && is_high ((joint_inside.before_agent 0).port.commands.signals.write c)))) 6 c ((((((tt, refl), refl), refl), refl), refl), refl) h
+y_kind : (c : ℕ) → c < 6 → IsTrue (not (is_raised ((joint_inside.before_agent 0).port.commands.signals.read c) && is_raised ((joint_inside.before_agent 0).port.commands.signals.write c)))
+y_kind c h = each_below (λ c. IsTrue (not (is_raised ((joint_inside.before_agent 0).port.commands.signals.read c) && is_raised ((joint_inside.before_agent 0).port.commands.signals.write c)))) 6 c ((((((tt, refl), refl), refl), refl), refl), refl) h
 
 y_held : (c : ℕ) → c < 5 → IsTrue (is_held (joint_inside.before_agent 0).port.commands.signals (takes (joint_inside.before_agent 0).port) c) → levels_at (joint_inside.before_agent 0).port.commands.signals c ≡ levels_at (joint_inside.before_agent 0).port.commands.signals (suc c)
 y_held c h = each_below (λ c. IsTrue (is_held (joint_inside.before_agent 0).port.commands.signals (takes (joint_inside.before_agent 0).port) c) → levels_at (joint_inside.before_agent 0).port.commands.signals c ≡ levels_at (joint_inside.before_agent 0).port.commands.signals (suc c)) 5 c (((((tt, λ held. cc), λ held. cc), λ held. cc), λ held. cc), λ held. cc) h
 
-y_finished : (c : ℕ) → c < 6 → IsTrue (is_under_way (joint_inside.before_agent 0).port.shape (joint_inside.before_agent 0).port.commands.signals (takes (joint_inside.before_agent 0).port) c) → IsFalse (is_high ((joint_inside.before_agent 0).port.commands.signals.read c))
-y_finished c h = each_below (λ c. IsTrue (is_under_way (joint_inside.before_agent 0).port.shape (joint_inside.before_agent 0).port.commands.signals (takes (joint_inside.before_agent 0).port) c) → IsFalse (is_high ((joint_inside.before_agent 0).port.commands.signals.read c))) 6 c ((((((tt, λ under. cc), λ under. cc), λ under. cc), λ under. cc), λ under. cc), λ under. cc) h
+y_finished : (c : ℕ) → c < 6 → IsTrue (is_under_way (joint_inside.before_agent 0).port.shape (joint_inside.before_agent 0).port.commands.signals (takes (joint_inside.before_agent 0).port) c) → IsFalse (is_raised ((joint_inside.before_agent 0).port.commands.signals.read c))
+y_finished c h = each_below (λ c. IsTrue (is_under_way (joint_inside.before_agent 0).port.shape (joint_inside.before_agent 0).port.commands.signals (takes (joint_inside.before_agent 0).port) c) → IsFalse (is_raised ((joint_inside.before_agent 0).port.commands.signals.read c))) 6 c ((((((tt, λ under. cc), λ under. cc), λ under. cc), λ under. cc), λ under. cc), λ under. cc) h
 
 y_tag : (c : ℕ) → c < 5 → IsTrue (is_held (joint_inside.before_agent 0).port.commands.signals (takes (joint_inside.before_agent 0).port) c) → (joint_inside.before_agent 0).port.commands.tag c ≡ (joint_inside.before_agent 0).port.commands.tag (suc c)
 y_tag c h = each_below (λ c. IsTrue (is_held (joint_inside.before_agent 0).port.commands.signals (takes (joint_inside.before_agent 0).port) c) → (joint_inside.before_agent 0).port.commands.tag c ≡ (joint_inside.before_agent 0).port.commands.tag (suc c)) 5 c (((((tt, λ held. cc), λ held. cc), λ held. cc), λ held. cc), λ held. cc) h
 
-y_joined : (c : ℕ) → c < 6 → IsTrue (shows (joint_inside.before_agent 0).port.commands.signals c) → IsTrue ((transfer_at (joint_inside.before_agent 0).port.shape (joint_inside.before_agent 0).port.commands.signals (takes (joint_inside.before_agent 0).port) c).ends || is_high ((joint_inside.before_agent 0).port.commands.more c))
-y_joined c h = each_below (λ c. IsTrue (shows (joint_inside.before_agent 0).port.commands.signals c) → IsTrue ((transfer_at (joint_inside.before_agent 0).port.shape (joint_inside.before_agent 0).port.commands.signals (takes (joint_inside.before_agent 0).port) c).ends || is_high ((joint_inside.before_agent 0).port.commands.more c))) 6 c ((((((tt, λ s. cc), λ s. cc), λ s. cc), λ s. cc), λ s. cc), λ s. cc) h
+y_joined : (c : ℕ) → c < 6 → IsTrue (shows (joint_inside.before_agent 0).port.commands.signals c) → IsTrue ((transfer_at (joint_inside.before_agent 0).port.shape (joint_inside.before_agent 0).port.commands.signals (takes (joint_inside.before_agent 0).port) c).ends || is_raised ((joint_inside.before_agent 0).port.commands.more c))
+y_joined c h = each_below (λ c. IsTrue (shows (joint_inside.before_agent 0).port.commands.signals c) → IsTrue ((transfer_at (joint_inside.before_agent 0).port.shape (joint_inside.before_agent 0).port.commands.signals (takes (joint_inside.before_agent 0).port) c).ends || is_raised ((joint_inside.before_agent 0).port.commands.more c))) 6 c ((((((tt, λ s. cc), λ s. cc), λ s. cc), λ s. cc), λ s. cc), λ s. cc) h
 
 y_legal : AreLegalAt (joint_inside.before_agent 0).port 6
 y_legal = record {
@@ -209,11 +209,11 @@ arbiter0_carries end low = record {
   within = λ k less. arbiter0_within k (omega arith);
 }
 
-route0_answered : (c : ℕ) → c < 6 → IsTrue (is_high ((host_port 0).answers.valid c)) → IsRouted joint_system 0 (host_port 0) (λ a. (host_port 0)) c (length (words_at (host_port 0) c)) (record { word = (host_port 0).answers.word c; code = (host_port 0).answers.code c }) (slice_get (asked_at joint_system 0 (host_port 0) (suc c)) (length (words_at (host_port 0) c)))
-route0_answered c h = each_below (λ c. IsTrue (is_high ((host_port 0).answers.valid c)) → IsRouted joint_system 0 (host_port 0) (λ a. (host_port 0)) c (length (words_at (host_port 0) c)) (record { word = (host_port 0).answers.word c; code = (host_port 0).answers.code c }) (slice_get (asked_at joint_system 0 (host_port 0) (suc c)) (length (words_at (host_port 0) c)))) 6 c ((((((tt, λ v. cc), λ v. cc), λ v. cc), λ v. cc), λ v. cc), λ v. cc) h
+route0_answered : (c : ℕ) → c < 6 → IsTrue (is_raised ((host_port 0).answers.valid c)) → IsRouted joint_system 0 (host_port 0) (λ a. (host_port 0)) c (length (words_at (host_port 0) c)) (record { word = (host_port 0).answers.word c; code = (host_port 0).answers.code c }) (slice_get (asked_at joint_system 0 (host_port 0) (suc c)) (length (words_at (host_port 0) c)))
+route0_answered c h = each_below (λ c. IsTrue (is_raised ((host_port 0).answers.valid c)) → IsRouted joint_system 0 (host_port 0) (λ a. (host_port 0)) c (length (words_at (host_port 0) c)) (record { word = (host_port 0).answers.word c; code = (host_port 0).answers.code c }) (slice_get (asked_at joint_system 0 (host_port 0) (suc c)) (length (words_at (host_port 0) c)))) 6 c ((((((tt, λ v. cc), λ v. cc), λ v. cc), λ v. cc), λ v. cc), λ v. cc) h
 
-route0_default : (c : ℕ) → c < 6 → IsTrue (is_high ((host_port 0).answers.valid c)) → HasDefaultCode ((host_port 0).answers.code c) (slice_get (asked_at joint_system 0 (host_port 0) (suc c)) (length (words_at (host_port 0) c)))
-route0_default c h = each_below (λ c. IsTrue (is_high ((host_port 0).answers.valid c)) → HasDefaultCode ((host_port 0).answers.code c) (slice_get (asked_at joint_system 0 (host_port 0) (suc c)) (length (words_at (host_port 0) c)))) 6 c ((((((tt, λ v. cc), λ v. cc), λ v. cc), λ v. cc), λ v. cc), λ v. cc) h
+route0_default : (c : ℕ) → c < 6 → IsTrue (is_raised ((host_port 0).answers.valid c)) → HasDefaultCode ((host_port 0).answers.code c) (slice_get (asked_at joint_system 0 (host_port 0) (suc c)) (length (words_at (host_port 0) c)))
+route0_default c h = each_below (λ c. IsTrue (is_raised ((host_port 0).answers.valid c)) → HasDefaultCode ((host_port 0).answers.code c) (slice_get (asked_at joint_system 0 (host_port 0) (suc c)) (length (words_at (host_port 0) c)))) 6 c ((((((tt, λ v. cc), λ v. cc), λ v. cc), λ v. cc), λ v. cc), λ v. cc) h
 
 route0_codes : (c : ℕ) → c < 7 → IsPrefix (worded (placed_blocks joint_system 0 0 (host_port 0) c)) (worded (blocks_at (target_of joint_system 0) (host_port 0) c))
 route0_codes c h = each_below (λ c. IsPrefix (worded (placed_blocks joint_system 0 0 (host_port 0) c)) (worded (blocks_at (target_of joint_system 0) (host_port 0) c))) 7 c (((((((tt, record { rest = _; joins = refl }), record { rest = _; joins = refl }), record { rest = _; joins = refl }), record { rest = _; joins = refl }), record { rest = _; joins = refl }), record { rest = _; joins = refl }), record { rest = _; joins = refl }) h
@@ -344,11 +344,11 @@ arbiter1_carries end low = record {
   within = λ k less. arbiter1_within k (omega arith);
 }
 
-route1_answered : (c : ℕ) → c < 6 → IsTrue (is_high ((host_port 1).answers.valid c)) → IsRouted joint_system 1 (host_port 1) (λ a. (host_port 1)) c (length (words_at (host_port 1) c)) (record { word = (host_port 1).answers.word c; code = (host_port 1).answers.code c }) (slice_get (asked_at joint_system 1 (host_port 1) (suc c)) (length (words_at (host_port 1) c)))
-route1_answered c h = each_below (λ c. IsTrue (is_high ((host_port 1).answers.valid c)) → IsRouted joint_system 1 (host_port 1) (λ a. (host_port 1)) c (length (words_at (host_port 1) c)) (record { word = (host_port 1).answers.word c; code = (host_port 1).answers.code c }) (slice_get (asked_at joint_system 1 (host_port 1) (suc c)) (length (words_at (host_port 1) c)))) 6 c ((((((tt, λ v. cc), λ v. cc), λ v. cc), λ v. cc), λ v. record { enough = omega arith; bytes = refl }), λ v. cc) h
+route1_answered : (c : ℕ) → c < 6 → IsTrue (is_raised ((host_port 1).answers.valid c)) → IsRouted joint_system 1 (host_port 1) (λ a. (host_port 1)) c (length (words_at (host_port 1) c)) (record { word = (host_port 1).answers.word c; code = (host_port 1).answers.code c }) (slice_get (asked_at joint_system 1 (host_port 1) (suc c)) (length (words_at (host_port 1) c)))
+route1_answered c h = each_below (λ c. IsTrue (is_raised ((host_port 1).answers.valid c)) → IsRouted joint_system 1 (host_port 1) (λ a. (host_port 1)) c (length (words_at (host_port 1) c)) (record { word = (host_port 1).answers.word c; code = (host_port 1).answers.code c }) (slice_get (asked_at joint_system 1 (host_port 1) (suc c)) (length (words_at (host_port 1) c)))) 6 c ((((((tt, λ v. cc), λ v. cc), λ v. cc), λ v. cc), λ v. record { enough = omega arith; bytes = refl }), λ v. cc) h
 
-route1_default : (c : ℕ) → c < 6 → IsTrue (is_high ((host_port 1).answers.valid c)) → HasDefaultCode ((host_port 1).answers.code c) (slice_get (asked_at joint_system 1 (host_port 1) (suc c)) (length (words_at (host_port 1) c)))
-route1_default c h = each_below (λ c. IsTrue (is_high ((host_port 1).answers.valid c)) → HasDefaultCode ((host_port 1).answers.code c) (slice_get (asked_at joint_system 1 (host_port 1) (suc c)) (length (words_at (host_port 1) c)))) 6 c ((((((tt, λ v. cc), λ v. cc), λ v. cc), λ v. cc), λ v. tt), λ v. cc) h
+route1_default : (c : ℕ) → c < 6 → IsTrue (is_raised ((host_port 1).answers.valid c)) → HasDefaultCode ((host_port 1).answers.code c) (slice_get (asked_at joint_system 1 (host_port 1) (suc c)) (length (words_at (host_port 1) c)))
+route1_default c h = each_below (λ c. IsTrue (is_raised ((host_port 1).answers.valid c)) → HasDefaultCode ((host_port 1).answers.code c) (slice_get (asked_at joint_system 1 (host_port 1) (suc c)) (length (words_at (host_port 1) c)))) 6 c ((((((tt, λ v. cc), λ v. cc), λ v. cc), λ v. cc), λ v. tt), λ v. cc) h
 
 route1_codes : (c : ℕ) → c < 7 → IsPrefix (worded (placed_blocks joint_system 1 0 (host_port 1) c)) (worded (blocks_at (target_of joint_system 0) (host_port 1) c))
 route1_codes c h = each_below (λ c. IsPrefix (worded (placed_blocks joint_system 1 0 (host_port 1) c)) (worded (blocks_at (target_of joint_system 0) (host_port 1) c))) 7 c (((((((tt, record { rest = _; joins = refl }), record { rest = _; joins = refl }), record { rest = _; joins = refl }), record { rest = _; joins = refl }), record { rest = _; joins = refl }), record { rest = _; joins = refl }), record { rest = _; joins = refl }) h

@@ -3,7 +3,7 @@ use Rattle.std.proofs.Common.{ℕ, zero, suc, ◌<◌, ◌≤◌, ◌≡◌, ◌
 use Rattle.std.proofs.lemmas.Bool.{and_parts}
 use Rattle.std.specs.List.{list_all}
 use Rattle.histories.specs.Below.{OfEach, each_below}
-use Rattle.histories.specs.History.{IsPrefix, AreWithin, is_high}
+use Rattle.histories.specs.History.{IsPrefix, AreWithin, is_raised}
 use Rattle.mm_runs.specs.Operations.{pieces}
 use Rattle.mm_runs.specs.Commands.{is_held, shows, transfer_at}
 use Rattle.mm_runs.specs.Legal.{is_under_way}
@@ -28,22 +28,22 @@ counted_by_tag up down factor (suc t) one h = rw (no_others down t one) (omega a
 -- the commands of a side whose beats never wait
 pub legal_by_cycles : (port : Port) (end : ℕ) →
     OfEach (λ c. IsTrue (is_held port.commands.signals (takes port) c) → ⊥) end →
-    OfEach (λ c. IsTrue (not (is_high (port.commands.read c) && is_high (port.commands.write c)))) end →
+    OfEach (λ c. IsTrue (not (is_raised (port.commands.read c) && is_raised (port.commands.write c)))) end →
     OfEach (λ c. 1 ≤ port.commands.count c) end →
     OfEach (λ c. port.commands.count c ≤ 2 ^ (port.shape.burst_bits - 1)) end →
-    OfEach (λ c. IsTrue (is_under_way port.shape port.commands.signals (takes port) c) → IsFalse (is_high (port.commands.read c))) end →
-    OfEach (λ c. IsTrue (shows port.commands.signals c) → IsTrue ((transfer_at port.shape port.commands.signals (takes port) c).ends || is_high (port.commands.more c))) end → AreLegalAt port end
+    OfEach (λ c. IsTrue (is_under_way port.shape port.commands.signals (takes port) c) → IsFalse (is_raised (port.commands.read c))) end →
+    OfEach (λ c. IsTrue (shows port.commands.signals c) → IsTrue ((transfer_at port.shape port.commands.signals (takes port) c).ends || is_raised (port.commands.more c))) end → AreLegalAt port end
 legal_by_cycles port end none one_kind least most finished joined = record {
   legal = record {
-    one_kind = λ c h. each_below (λ c. IsTrue (not (is_high (port.commands.read c) && is_high (port.commands.write c)))) end c one_kind h;
+    one_kind = λ c h. each_below (λ c. IsTrue (not (is_raised (port.commands.read c) && is_raised (port.commands.write c)))) end c one_kind h;
     held = λ c h held. absurd (never c (omega arith) held);
     least = λ c h _ _. each_below (λ c. 1 ≤ port.commands.count c) end c least h;
     most = λ c h _ _. each_below (λ c. port.commands.count c ≤ 2 ^ (port.shape.burst_bits - 1)) end c most h;
-    finished = λ c h. each_below (λ c. IsTrue (is_under_way port.shape port.commands.signals (takes port) c) → IsFalse (is_high (port.commands.read c))) end c finished h;
+    finished = λ c h. each_below (λ c. IsTrue (is_under_way port.shape port.commands.signals (takes port) c) → IsFalse (is_raised (port.commands.read c))) end c finished h;
   };
   tag = λ c h held. absurd (never c (omega arith) held);
   more = λ c h held. absurd (never c (omega arith) held);
-  joined = λ c h. each_below (λ c. IsTrue (shows port.commands.signals c) → IsTrue ((transfer_at port.shape port.commands.signals (takes port) c).ends || is_high (port.commands.more c))) end c joined h;
+  joined = λ c h. each_below (λ c. IsTrue (shows port.commands.signals c) → IsTrue ((transfer_at port.shape port.commands.signals (takes port) c).ends || is_raised (port.commands.more c))) end c joined h;
 }
   where
     never : (c : ℕ) → c < end → IsTrue (is_held port.commands.signals (takes port) c) → ⊥

@@ -1,7 +1,7 @@
 -- The example runs keep the definitions, or break them.
 use Rattle.std.proofs.Common.{ℕ, suc, ◌<◌, ◌≤◌, ◌≡◌, ◌-◌, arith, refl, IsTrue, length, filter, nat_eq, true, not, ◌&&◌, slice_get, replicate, subst, sym, ◌+◌, None, ◌||◌}
 use Rattle.histories.specs.Below.{each_below, each_cycle_host, OfEach}
-use Rattle.histories.specs.History.{IsPrefix, is_high}
+use Rattle.histories.specs.History.{IsPrefix, is_raised}
 use Rattle.mm_runs.specs.Views.{levels_at, System, Run}
 use Rattle.mm_runs.specs.Legal.{IsLegalHost, gives_word, given, IsProperAtAgent, is_under_way, unanswered}
 use Rattle.mm_runs.specs.Commands.{agent_accepts, is_held, words_before}
@@ -51,8 +51,8 @@ mixed_is_not o = let bad = o.together 4 (omega arith) in cc
 pub busy_is_not : ServesInGrantedOrder wide_system busy_run 0 3 → ⊥
 busy_is_not o = let bad = o.beats 3 0 (omega arith) (omega arith) in omega arith
 
-narrow_kind : (c : ℕ) → c < 2 → IsTrue (not (is_high (narrow_host.read c) && is_high (narrow_host.write c)))
-narrow_kind c h = each_below (λ c. IsTrue (not (is_high (narrow_host.read c) && is_high (narrow_host.write c)))) 2 c ((tt, refl), refl) h
+narrow_kind : (c : ℕ) → c < 2 → IsTrue (not (is_raised (narrow_host.read c) && is_raised (narrow_host.write c)))
+narrow_kind c h = each_below (λ c. IsTrue (not (is_raised (narrow_host.read c) && is_raised (narrow_host.write c)))) 2 c ((tt, refl), refl) h
 
 narrow_held : (c : ℕ) → c < 1 → levels_at narrow_host.signals c ≡ levels_at narrow_host.signals (suc c)
 narrow_held c h = each_below (λ c. levels_at narrow_host.signals c ≡ levels_at narrow_host.signals (suc c)) 1 c (tt, refl) h
@@ -160,7 +160,7 @@ stuck_at_default_is_not awake =
 pub two_reads_are : IsProperAtAgent (agent_with_bound 2) two_reads 2
 two_reads_are = record {
   legal = record {
-    one_kind = λ c h. each_below (λ c. IsTrue (not (is_high (two_reads.read c) && is_high (two_reads.write c)))) 2 c ((tt, refl), refl) h;
+    one_kind = λ c h. each_below (λ c. IsTrue (not (is_raised (two_reads.read c) && is_raised (two_reads.write c)))) 2 c ((tt, refl), refl) h;
     held = λ c h held. absurd (each_below (λ c. IsTrue (is_held two_reads.signals (agent_accepts (agent_with_bound 2) two_reads) c) → ⊥) 1 c (tt, λ held. cc) (omega arith) held);
     least = λ c _ _ _. omega arith;
     most = λ c _ _ _. omega arith;

@@ -1,7 +1,7 @@
 -- A wire that holds a second read back meets its definition, and one that lets it through doesn't.
 use Rattle.std.proofs.Common.{ℕ, suc, ◌<◌, ◌≤◌, ◌≡◌, ◌+◌, ◌/◌, ◌^◌, arith, refl, ap, ◌∙◌, IsTrue, IsFalse, not, ◌&&◌, ◌||◌, if◌then◌else◌, nat_eq}
 use Rattle.histories.specs.Below.{each_below}
-use Rattle.histories.specs.History.{is_high, one_if}
+use Rattle.histories.specs.History.{is_raised, one_if}
 use Rattle.mm_runs.specs.Views.{levels_at}
 use Rattle.mm_runs.specs.Commands.{is_held, agent_accepts, words_before}
 use Rattle.mm_runs.specs.Legal.{IsLegalHost, IsLegalAgent, IsWithinPendingBound, host_accepts, is_under_way, words_asked}
@@ -14,11 +14,11 @@ one_read_is = record { some_bit = omega arith; few_bits = omega arith; some_read
 
 host_is_legal : IsLegalHost (host_side one_read) held_back_host 4
 host_is_legal = record {
-  one_kind = λ c h. each_below (λ c. IsTrue (not (is_high (held_back_host.read c) && is_high (held_back_host.write c)))) 4 c ((((tt, refl), refl), refl), refl) h;
+  one_kind = λ c h. each_below (λ c. IsTrue (not (is_raised (held_back_host.read c) && is_raised (held_back_host.write c)))) 4 c ((((tt, refl), refl), refl), refl) h;
   held = λ c h. each_below (λ c. IsTrue (is_held held_back_host.signals (host_accepts held_back_host) c) → levels_at held_back_host.signals c ≡ levels_at held_back_host.signals (suc c)) 3 c (((tt, λ held. cc), λ held. refl), λ held. cc) (omega arith);
   least = λ c _ _ _. omega arith;
   most = λ c _ _ _. omega arith;
-  finished = λ c h. each_below (λ c. IsTrue (is_under_way (host_side one_read).shape held_back_host.signals (host_accepts held_back_host) c) → IsFalse (is_high (held_back_host.read c))) 4 c ((((tt, λ going. cc), λ going. cc), λ going. cc), λ going. refl) h;
+  finished = λ c h. each_below (λ c. IsTrue (is_under_way (host_side one_read).shape held_back_host.signals (host_accepts held_back_host) c) → IsFalse (is_raised (held_back_host.read c))) 4 c ((((tt, λ going. cc), λ going. cc), λ going. cc), λ going. refl) h;
 }
 
 agent_is_legal : IsLegalAgent (agent_side one_read) held_back_agent 4
@@ -46,12 +46,12 @@ held_back_is_wire = record {
   enables = λ c h. refl;
   one_beat = λ c h. refl;
   grant = λ c h. refl;
-  waitrequest = λ c h. each_below (λ c. is_high (held_back_host.waitrequest c) ≡ ((is_full one_read held_back_count c && is_high (held_back_host.read c)) || is_high (held_back_agent.waitrequest c))) 4 c ((((tt, refl), refl), refl), refl) h;
+  waitrequest = λ c h. each_below (λ c. is_raised (held_back_host.waitrequest c) ≡ ((is_full one_read held_back_count c && is_raised (held_back_host.read c)) || is_raised (held_back_agent.waitrequest c))) 4 c ((((tt, refl), refl), refl), refl) h;
   readdatavalid = λ c h. refl;
   readdata = λ c h. refl;
   no_response = λ c h. refl;
   starts = λ h. refl;
-  counts = λ c h _ _. each_below (λ c. held_back_count (suc c) + one_if (is_high (held_back_agent.readdatavalid c)) ≡ held_back_count c + one_if (takes_read held_back_host c)) 3 c (((tt, refl), refl), refl) (omega arith);
+  counts = λ c h _ _. each_below (λ c. held_back_count (suc c) + one_if (is_raised (held_back_agent.readdatavalid c)) ≡ held_back_count c + one_if (takes_read held_back_host c)) 3 c (((tt, refl), refl), refl) (omega arith);
 }
 
 pub let_through_is_not : IsWithinPendingBound (agent_side one_read) let_through_agent 2 → ⊥

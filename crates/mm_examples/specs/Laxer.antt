@@ -1,6 +1,6 @@
 -- Laxer clauses on the rank of a link, each of which lets a run through in which a wanted agent is never served.
 use Rattle.std.specs.Prelude.{ℕ, suc, Bool, not, ◌&&◌, ◌||◌, length, nat_lt}
-use Rattle.histories.specs.History.{is_high}
+use Rattle.histories.specs.History.{is_raised}
 use Rattle.mm_runs.specs.Commands.{is_held, shows}
 use Rattle.mm_runs.specs.Legal.{is_under_way}
 use Rattle.mm_machines.specs.Link.{Target, Port, takes, words_at, words_owed, has_word_ready}
@@ -12,12 +12,12 @@ has_work target up down c = has_commands target up down c || has_word_ready targ
 
 -- and a word that is answered is a move; of the beats that are accepted above only writes are
 abbrev pub moves : Port → Port → ℕ → Bool
-moves up down c = takes down c || is_high (up.answers.valid c) || (takes up c && is_high (up.commands.write c))
+moves up down c = takes down c || is_raised (up.answers.valid c) || (takes up c && is_raised (up.commands.write c))
 
 -- the wait below excuses also where nothing is shown there, an owed word always, and a burst under way whatever is owed
 abbrev pub is_excused_lax : Port → Port → ℕ → Bool
 is_excused_lax up down c =
-    is_high (down.commands.waitrequest c)
+    is_raised (down.commands.waitrequest c)
     || nat_lt (length (words_at down (suc c))) (words_owed down (suc c))
     || (is_under_way up.shape up.commands.signals (takes up) c && not (shows up.commands.signals c))
 

@@ -7,7 +7,7 @@ use Rattle.mm_machines.proofs.ChainAnswers.{holds_below, zip_front}
 use Rattle.mm_machines.proofs.Wire.{prefix_get, prefix_take}
 use Rattle.mm_machines.proofs.Path.{carrier_of_path}
 use Rattle.mm_machines.proofs.Settle.{AllLegal, AllOwed, all_legal, all_owed, owed_before_all}
-use Rattle.histories.specs.History.{IsPrefix, only_if, is_high}
+use Rattle.histories.specs.History.{IsPrefix, only_if, is_raised}
 use Rattle.mm_runs.specs.Views.{Responses, System, Run}
 use Rattle.mm_runs.specs.Operations.{Beat, byte_at, filled_lanes}
 use Rattle.mm_runs.specs.Commands.{Transfer, is_of_reads, reads_among}
@@ -62,7 +62,7 @@ pub given_count : (responses : Responses) (system : System) (run : Run) (host : 
 given_count responses system run host down end zero carries low = refl
 given_count responses system run host down end (suc c) carries low =
     length-append (given (system.host host) (run.at_host host) c) _
-    ∙ ap₂ (λ a b. a + b) (given_count responses system run host down end c carries (omega arith)) (one (gives_word (system.host host) (run.at_host host) c) (is_high (down.answers.valid c)) _ _ (carries.gives c (omega arith)))
+    ∙ ap₂ (λ a b. a + b) (given_count responses system run host down end c carries (omega arith)) (one (gives_word (system.host host) (run.at_host host) c) (is_raised (down.answers.valid c)) _ _ (carries.gives c (omega arith)))
     ∙ sym (length-append (words_at down c) _)
   where
     one : (a b : Bool) (x y : Word) → a ≡ b → length (only_if a x) ≡ length (only_if b y)
@@ -172,7 +172,7 @@ module _ (responses : Responses) (system : System) (run : Run) (inside : Inside)
   -- every word that a host is given is the right one
   pub returned : (h : ℕ) → h < system.hosts → ReturnsInCommandOrder system run h end
   returned h is c low gives =
-      let valid : is_high ((inside.after_host h).answers.valid c) ≡ true = sym ((host_answers h is).gives c low) ∙ gives in
+      let valid : is_raised ((inside.after_host h).answers.valid c) ≡ true = sym ((host_answers h is).gives c low) ∙ gives in
       let number = given_count responses system run h (inside.after_host h) end c (host_answers h is) (omega arith) in
       let word = (host_answers h is).word c low valid in
       subst (λ n. IsWordOf system run h c n (record { word = (run.at_host h).readdata c; code = (run.at_host h).response c }) (slice_get (asked system run h (suc c)) n)) (sym number)

@@ -7,7 +7,7 @@ use Rattle.mm_runs.specs.Views.{HostView, AgentView, Kind}
 use Rattle.mm_runs.specs.Views.Kind.{Reads, Writes}
 use Rattle.mm_runs.specs.Views.Responses.{AreZero}
 use Rattle.mm_runs.specs.Order.{is_joined, ReturnsInCommandOrder, KeepsReadOrder, LagsWithin, command_lag, ServesInGrantedOrder}
-use Rattle.mm_runs.specs.Plan.{IsPlan, IsInFootprint, serves_kind}
+use Rattle.mm_runs.specs.Plan.{IsMemoryPlan, IsInFootprint, serves_kind}
 use Rattle.mm_runs.specs.Whole.{IsLegalRun, IsSafe}
 use Rattle.mm_machines.specs.BoundedWire.{WireForm, IsWireForm, IsBoundedWire, span_of, wire_system, wire_run, agent_side, place_in}
 use Rattle.mm_machines.proofs.BoundedWireCount.{proper_at_host}
@@ -56,7 +56,7 @@ in_footprint form h a address there low = record {
   below_end = omega arith;
 }
 
-pub wire_plan : (form : WireForm) → IsWireForm form → IsPlan (wire_system form)
+pub wire_plan : (form : WireForm) → IsWireForm form → IsMemoryPlan (wire_system form)
 wire_plan form is = record {
   hosts = λ h there. record { word = omega arith; unit = omega arith; burst = omega arith };
   agents = λ a there. record { word = omega arith; unit = omega arith; burst = omega arith };

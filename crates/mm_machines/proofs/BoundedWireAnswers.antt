@@ -6,7 +6,7 @@ use Rattle.std.proofs.lemmas.List.{length-map, take-map}
 use Rattle.std.proofs.lemmas.List.Elements.{All-head, All-tail, All-filter, All-get_or, All-take, filter-append}
 use Rattle.std.proofs.lemmas.Option.{slice_get-get_or, slice_get-map, slice_get_within, get_or_from_slice_get}
 use Rattle.std.proofs.Math.Seq.{drop-append_seam}
-use Rattle.histories.specs.History.{IsPrefix, before, only_if, is_high, numbers}
+use Rattle.histories.specs.History.{IsPrefix, before, only_if, is_raised, numbers}
 use Rattle.histories.specs.Laws.{prefix_filter, prefix_trans, before_extends}
 use Rattle.mm_runs.specs.Views.{HostView, AgentView}
 use Rattle.mm_runs.specs.Views.Kind.{Reads}
@@ -83,10 +83,10 @@ module _ (form : WireForm) (host : HostView) (agent : AgentView) (count : ℕ �
   word_at c = record { word = agent.readdata c; code = agent.response c }
 
   abbrev words : ℕ → List Word
-  words c = before (λ c. only_if (is_high (agent.readdatavalid c)) (word_at c)) c
+  words c = before (λ c. only_if (is_raised (agent.readdatavalid c)) (word_at c)) c
 
   words_length : (c : ℕ) → length (words c) ≡ words_before agent.readdatavalid c
-  words_length c = same_counts (λ c. is_high (agent.readdatavalid c)) word_at (λ c. c) c
+  words_length c = same_counts (λ c. is_raised (agent.readdatavalid c)) word_at (λ c. c) c
 
   shown_fit : (c : ℕ) → c ≤ end → All (Fit form) (shown_reads c)
   shown_fit c low = All-filter (λ (b : Beat). is_of_reads b.kind) (Fit form) (shown_beats host c) (all_fit form host agent count end wire legal c low)
@@ -111,7 +111,7 @@ module _ (form : WireForm) (host : HostView) (agent : AgentView) (count : ℕ �
     got : slice_get (taken_reads c) (length (words c)) ≡ Some beat
     word : words (suc c) ≡ words c ++ word_at c ∷ []
 
-  asks : (c : ℕ) → c < end → is_high (agent.readdatavalid c) ≡ true → Asks c
+  asks : (c : ℕ) → c < end → is_raised (agent.readdatavalid c) ≡ true → Asks c
   asks c low valid =
       let now : words (suc c) ≡ words c ++ word_at c ∷ [] = rw valid in
       let few = words_few form host agent count end wire legal is proper c low in
@@ -169,7 +169,7 @@ module _ (form : WireForm) (host : HostView) (agent : AgentView) (count : ℕ �
 
   pub returned : ReturnsInCommandOrder (wire_system form) (wire_run host agent) 0 end
   returned c low valid =
-      let a = asks c low (ap is_high (sym (wire.readdatavalid c low)) ∙ valid) in
+      let a = asks c low (ap is_raised (sym (wire.readdatavalid c low)) ∙ valid) in
       let w : Word = record { word = host.readdata c; code = host.response c } in
       let number : length (given (host_side form) host c) ≡ length (words c) = words_given form host agent count end wire legal is proper c (omega arith) ∙ sym (words_length c) in
       let got : slice_get (asked (wire_system form) (wire_run host agent) 0 (suc c)) (length (words c)) ≡ Some (question a.beat) =

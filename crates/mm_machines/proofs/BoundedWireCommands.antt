@@ -5,7 +5,7 @@ use Rattle.std.proofs.lemmas.List.{map-append}
 use Rattle.std.proofs.lemmas.List.Elements.{All-append, All-nil, All-push}
 use Rattle.std.proofs.lemmas.Bool.{and_parts}
 use Rattle.std.proofs.Math.Nat.{mul-mod_left}
-use Rattle.histories.specs.History.{KeepsItems, before, only_if, is_high, all_accepted, first_shown}
+use Rattle.histories.specs.History.{KeepsItems, before, only_if, is_raised, all_accepted, first_shown}
 use Rattle.mm_runs.specs.Views.{Signals, Levels, levels_at, HostView, AgentView}
 use Rattle.mm_runs.specs.Views.Kind.{Reads, Writes}
 use Rattle.mm_runs.specs.Operations.{Beat}
@@ -20,22 +20,22 @@ one_of b = record { kind = b.kind; first = b.address; begins = true; ends = true
 
 abbrev pub beat_from : ℕ → Levels → Beat
 beat_from start levels =
-    if is_high levels.write then record { kind = Writes; address = start; word = levels.word; enables = levels.enables }
+    if is_raised levels.write then record { kind = Writes; address = start; word = levels.word; enables = levels.enables }
     else record { kind = Reads; address = start; word = 0; enables = levels.enables }
 
-one_write : (unit : ℕ) (has : Bool) (l : Levels) (burst : Burst) (start : ℕ) → l.count ≡ 1 → burst.left ≡ 0 → byte_address (word_shape unit has) l.address ≡ start → is_high l.write ≡ true →
+one_write : (unit : ℕ) (has : Bool) (l : Levels) (burst : Burst) (start : ℕ) → l.count ≡ 1 → burst.left ≡ 0 → byte_address (word_shape unit has) l.address ≡ start → is_raised l.write ≡ true →
     transfer_of (word_shape unit has) l burst ≡ one_of (beat_from start l)
 one_write unit has l burst start single none at write = rw (write, none, single, at, add-zero) refl
 
-one_read : (unit : ℕ) (has : Bool) (l : Levels) (burst : Burst) (start : ℕ) → l.count ≡ 1 → burst.left ≡ 0 → byte_address (word_shape unit has) l.address ≡ start → is_high l.write ≡ false →
+one_read : (unit : ℕ) (has : Bool) (l : Levels) (burst : Burst) (start : ℕ) → l.count ≡ 1 → burst.left ≡ 0 → byte_address (word_shape unit has) l.address ≡ start → is_raised l.write ≡ false →
     transfer_of (word_shape unit has) l burst ≡ one_of (beat_from start l)
 one_read unit has l burst start single none at write = rw (write, single, at, add-zero) refl
 
 one_beat : (unit : ℕ) (has : Bool) (l : Levels) (burst : Burst) (start : ℕ) → l.count ≡ 1 → burst.left ≡ 0 → byte_address (word_shape unit has) l.address ≡ start →
     transfer_of (word_shape unit has) l burst ≡ one_of (beat_from start l)
-one_beat unit has l burst start single none at = by_kind (is_high l.write) refl
+one_beat unit has l burst start single none at = by_kind (is_raised l.write) refl
   where
-    by_kind : (b : Bool) → is_high l.write ≡ b → transfer_of (word_shape unit has) l burst ≡ one_of (beat_from start l)
+    by_kind : (b : Bool) → is_raised l.write ≡ b → transfer_of (word_shape unit has) l burst ≡ one_of (beat_from start l)
     by_kind true write = one_write unit has l burst start single none at write
     by_kind false write = one_read unit has l burst start single none at write
 
@@ -44,7 +44,7 @@ pub no_burst : (unit : ℕ) (has : Bool) (signals : Signals) (accepts : ℕ → 
     (burst_before (word_shape unit has) signals accepts c).left ≡ 0
 no_burst unit has signals accepts end single zero low = refl
 no_burst unit has signals accepts end single (suc c) low =
-    by_test (accepts c && is_high (signals.write c)) (burst_before (word_shape unit has) signals accepts c) (no_burst unit has signals accepts end single c (omega arith)) (single c (omega arith))
+    by_test (accepts c && is_raised (signals.write c)) (burst_before (word_shape unit has) signals accepts c) (no_burst unit has signals accepts end single c (omega arith)) (single c (omega arith))
   where
     by_test : (b : Bool) (burst : Burst) → burst.left ≡ 0 → signals.count c ≡ 1 →
         (if b then (if nat_eq burst.left 0 then record { left = signals.count c - 1; done = 1; first = byte_address (word_shape unit has) (signals.address c) } else record { left = burst.left - 1; done = burst.done + 1; first = burst.first }) else burst).left ≡ 0
@@ -78,7 +78,7 @@ pub record Fit (form : WireForm) (b : Beat) : Type 0 where
   pub inside : b.address < span_of form
   pub whole : IsFalse form.has_enables → b.enables ≡ 15
 
-high_if : (full : Bool) (level : ℕ) → is_high (if full then 0 else level) ≡ (not full && is_high level)
+high_if : (full : Bool) (level : ℕ) → is_raised (if full then 0 else level) ≡ (not full && is_raised level)
 high_if true level = refl
 high_if false level = refl
 
@@ -93,13 +93,13 @@ accepts_agree false true w wait one = refl
 accepts_agree false false w wait one = refl
 
 module _ (form : WireForm) (host : HostView) (agent : AgentView) (count : ℕ → ℕ) (end : ℕ) (wire : IsBoundedWire form host agent count end) (legal : IsLegalHost (host_side form) host end) where
-  pub agent_read : (c : ℕ) → c < end → is_high (agent.read c) ≡ (not (is_full form count c) && is_high (host.read c))
-  agent_read c low = ap is_high (wire.read c low) ∙ high_if (is_full form count c) (host.read c)
+  pub agent_read : (c : ℕ) → c < end → is_raised (agent.read c) ≡ (not (is_full form count c) && is_raised (host.read c))
+  agent_read c low = ap is_raised (wire.read c low) ∙ high_if (is_full form count c) (host.read c)
 
   pub same_accepts : (c : ℕ) → c < end → agent_accepts (agent_side form) agent c ≡ host_accepts host c
   same_accepts c low =
-      ap₂ (λ r w. (r || is_high w) && not (is_high (agent.waitrequest c))) (agent_read c low) (wire.write c low)
-      ∙ accepts_agree (is_full form count c) (is_high (host.read c)) (is_high (host.write c)) (is_high (agent.waitrequest c)) (legal.one_kind c low)
+      ap₂ (λ r w. (r || is_raised w) && not (is_raised (agent.waitrequest c))) (agent_read c low) (wire.write c low)
+      ∙ accepts_agree (is_full form count c) (is_raised (host.read c)) (is_raised (host.write c)) (is_raised (agent.waitrequest c)) (legal.one_kind c low)
       ∙ ap (λ w. shows host.signals c && not w) (sym (wire.waitrequest c low))
 
   host_single : (c : ℕ) → c < end → host.count c ≡ 1
@@ -120,9 +120,9 @@ module _ (form : WireForm) (host : HostView) (agent : AgentView) (count : ℕ �
   agent_transfer c low =
       one_beat 4 form.has_enables (levels_at agent.signals c) (burst_before (agent_side form).shape agent.signals (agent_accepts (agent_side form) agent) c) (host.address c - host.address c % 4)
       (wire.one_beat c low) (agent_idle c (omega arith)) (ap (λ n. n * 4 - (n * 4) % 4) (wire.address c low) ∙ (let none = mul-mod_left (host.address c / 4) 4 in ap (λ n. (host.address c / 4) * 4 - n) none ∙ omega arith))
-      ∙ ap₂ (λ w d. one_of (if is_high w then record { kind = Writes; address = host.address c - host.address c % 4; word = d; enables = agent.enables c }
+      ∙ ap₂ (λ w d. one_of (if is_raised w then record { kind = Writes; address = host.address c - host.address c % 4; word = d; enables = agent.enables c }
       else record { kind = Reads; address = host.address c - host.address c % 4; word = 0; enables = agent.enables c })) (wire.write c low) (wire.word c low)
-      ∙ ap (λ e. one_of (if is_high (host.write c) then record { kind = Writes; address = host.address c - host.address c % 4; word = host.word c; enables = e }
+      ∙ ap (λ e. one_of (if is_raised (host.write c) then record { kind = Writes; address = host.address c - host.address c % 4; word = host.word c; enables = e }
       else record { kind = Reads; address = host.address c - host.address c % 4; word = 0; enables = e })) (wire.enables c low)
 
   -- what either end has accepted, and what the host has presented
@@ -144,14 +144,14 @@ module _ (form : WireForm) (host : HostView) (agent : AgentView) (count : ℕ �
     accepted = accepts_shows host.signals host.waitrequest;
     held = λ c low held.
         let same = legal.held c low held in (
-          ap (λ (l : Levels). is_high l.read || is_high l.write) (sym same) ∙ (and_parts (shows host.signals c) (not (host_accepts host c)) held).0,
+          ap (λ (l : Levels). is_raised l.read || is_raised l.write) (sym same) ∙ (and_parts (shows host.signals c) (not (host_accepts host c)) held).0,
           ap (λ (l : Levels). beat_from (l.address - l.address % 4) l) same,
         );
   }
 
   -- each beat lies in the agent
   pub beat_fits : (c : ℕ) → c < end → Fit form (beat_at host c)
-  beat_fits c low = by_kind (is_high (host.write c))
+  beat_fits c low = by_kind (is_raised (host.write c))
     where
       by_kind : (b : Bool) → Fit form (if b then record { kind = Writes; address = host.address c - host.address c % 4; word = host.word c; enables = host.enables c } else record { kind = Reads; address = host.address c - host.address c % 4; word = 0; enables = host.enables c })
       by_kind true = let small = (wire.fits c low).address in record { inside = omega (arith, small); whole = (wire.fits c low).all_lanes }

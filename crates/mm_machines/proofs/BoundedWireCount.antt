@@ -2,7 +2,7 @@
 use Rattle.std.proofs.Common.{ℕ, zero, suc, ◌<◌, ◌≤◌, ◌≡◌, ◌+◌, ◌-◌, ◌%◌, [], ◌∷◌, List, Bool, true, false, not, ◌&&◌, ◌||◌, if◌then◌else◌, arith, refl, sym, ap, ap₂, ◌∙◌, subst, length, map, filter, flat_map, nat_lt, length-append}
 use Rattle.std.proofs.lemmas.List.Elements.{filter-append}
 use Rattle.std.proofs.lemmas.Bool.{ltb-true, ltb-false, eqb-false}
-use Rattle.histories.specs.History.{before, only_if, one_if, is_high, unreached}
+use Rattle.histories.specs.History.{before, only_if, one_if, is_raised, unreached}
 use Rattle.mm_runs.specs.Views.{HostView, AgentView}
 use Rattle.mm_runs.specs.Views.Kind.{Reads, Writes}
 use Rattle.mm_runs.specs.Operations.{Beat}
@@ -45,8 +45,8 @@ unreached_ones (b ∷ bs) n = by_test (nat_lt n 1) refl (unreached_ones bs (n - 
 unanswered_ones : (ts : List Transfer) (bs : List Beat) (n : ℕ) → ts ≡ map one_of bs → unreached (map (λ (t : Transfer). length t.beats) (reads_among ts)) n ≡ length (reads bs) - n
 unanswered_ones ts bs n e = ap (λ l. unreached (map (λ (t : Transfer). length t.beats) (reads_among l)) n) e ∙ ap (λ l. unreached (map (λ (t : Transfer). length t.beats) l) n) (reads_of_ones bs) ∙ unreached_ones (reads bs) n
 
-pub word_more : (valid : ℕ → ℕ) (c : ℕ) → words_before valid (suc c) ≡ words_before valid c + one_if (is_high (valid c))
-word_more valid c = length-append (before (λ c. only_if (is_high (valid c)) c) c) _ ∙ ap (λ n. words_before valid c + n) (one (is_high (valid c)))
+pub word_more : (valid : ℕ → ℕ) (c : ℕ) → words_before valid (suc c) ≡ words_before valid c + one_if (is_raised (valid c))
+word_more valid c = length-append (before (λ c. only_if (is_raised (valid c)) c) c) _ ∙ ap (λ n. words_before valid c + n) (one (is_raised (valid c)))
   where
     one : (b : Bool) → length (only_if b c) ≡ one_if b
     one true = refl
@@ -79,7 +79,7 @@ module _ (form : WireForm) (host : HostView) (agent : AgentView) (count : ℕ �
   read_more c low =
       ap length (filter-append (λ (b : Beat). is_of_reads b.kind) (taken_beats host c) (only_if (host_accepts host c) (beat_at host c)))
       ∙ length-append (reads (taken_beats host c)) _
-      ∙ ap (λ n. reads_taken c + n) (one_read_more (is_high (host.read c)) (is_high (host.write c)) (is_high (host.waitrequest c)) (host.address c - host.address c % 4) (host.word c) (host.enables c) (legal.one_kind c low))
+      ∙ ap (λ n. reads_taken c + n) (one_read_more (is_raised (host.read c)) (is_raised (host.write c)) (is_raised (host.waitrequest c)) (host.address c - host.address c % 4) (host.word c) (host.enables c) (legal.one_kind c low))
 
   pub asked_of_agent : (c : ℕ) → c ≤ end → words_asked (agent_side form).shape agent.signals (agent_accepts (agent_side form) agent) c ≡ reads_taken c
   asked_of_agent c low = ap (λ l. length (read_beats l)) (agent_accepted form host agent count end wire legal c low) ∙ ap length (read_beats_of_ones (taken_beats host c))
@@ -97,8 +97,8 @@ module _ (form : WireForm) (host : HostView) (agent : AgentView) (count : ℕ �
       by_full : (b : Bool) → is_full form count c ≡ b → count c + one_if (takes_read host c) ≤ form.pending
       by_full true full =
           let none : takes_read host c ≡ false =
-          ap (λ w. is_high (host.read c) && (shows host.signals c && not w)) (wire.waitrequest c low ∙ ap (λ b. (b && is_high (host.read c)) || is_high (agent.waitrequest c)) full)
-          ∙ none_when_full (is_high (host.read c)) (is_high (host.write c)) (is_high (agent.waitrequest c)) in
+          ap (λ w. is_raised (host.read c) && (shows host.signals c && not w)) (wire.waitrequest c low ∙ ap (λ b. (b && is_raised (host.read c)) || is_raised (agent.waitrequest c)) full)
+          ∙ none_when_full (is_raised (host.read c)) (is_raised (host.write c)) (is_raised (agent.waitrequest c)) in
           let zero_more : one_if (takes_read host c) ≡ 0 = ap one_if none in
           omega arith
       by_full false free =
@@ -142,10 +142,10 @@ module _ (form : WireForm) (host : HostView) (agent : AgentView) (count : ℕ �
   pub same_words : (c : ℕ) → c ≤ end → words_before host.readdatavalid c ≡ words c
   same_words zero low = refl
   same_words (suc c) low =
-      word_more host.readdatavalid c ∙ ap₂ (λ n v. n + one_if (is_high v)) (same_words c (omega arith)) (wire.readdatavalid c (omega arith)) ∙ sym (word_more agent.readdatavalid c)
+      word_more host.readdatavalid c ∙ ap₂ (λ n v. n + one_if (is_raised v)) (same_words c (omega arith)) (wire.readdatavalid c (omega arith)) ∙ sym (word_more agent.readdatavalid c)
 
   pub words_given : (c : ℕ) → c ≤ end → length (given (host_side form) host c) ≡ words c
-  words_given c low = same_counts (λ c. is_high (host.readdatavalid c)) (λ c. record { word = host.readdata c; code = host.response c }) (λ c. c) c ∙ same_words c low
+  words_given c low = same_counts (λ c. is_raised (host.readdatavalid c)) (λ c. record { word = host.readdata c; code = host.response c }) (λ c. c) c ∙ same_words c low
 
   pub proper_at_host : IsProperAtHost (host_side form) host end
   proper_at_host = record {

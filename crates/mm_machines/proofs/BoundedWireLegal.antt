@@ -2,7 +2,7 @@
 use Rattle.std.proofs.Common.{ℕ, suc, ◌<◌, ◌≡◌, ◌/◌, Bool, true, false, not, ◌&&◌, ◌||◌, if◌then◌else◌, arith, refl, sym, ap, ap₂, ◌∙◌, nat_lt}
 use Rattle.std.proofs.lemmas.Bool.{and_parts, not-true, and_right, ltb-false, eqb-false, ne_eqb}
 use Rattle.std.proofs.Math.Nat.{mul-mod_left}
-use Rattle.histories.specs.History.{one_if, is_high}
+use Rattle.histories.specs.History.{one_if, is_raised}
 use Rattle.mm_runs.specs.Views.{Levels, levels_at, HostView, AgentView}
 use Rattle.mm_runs.specs.Commands.{shows, is_held, agent_accepts}
 use Rattle.mm_runs.specs.Legal.{host_accepts, IsLegalHost, IsLegalAgent, IsProperAtAgent}
@@ -27,7 +27,7 @@ let_through true true false one shown = cc
 let_through true false w one shown = refl
 let_through false r w one shown = refl
 
-is_low : (level : ℕ) → is_high level ≡ false → level ≡ 0
+is_low : (level : ℕ) → is_raised level ≡ false → level ≡ 0
 is_low level low = let none = ltb-false 0 level low in omega arith
 
 gate_of_zero : (b : Bool) (level : ℕ) → level ≡ 0 → (if b then 0 else level) ≡ 0
@@ -42,18 +42,18 @@ module _ (form : WireForm) (host : HostView) (agent : AgentView) (count : ℕ �
   -- a beat that waits at the agent waits at the host, and isn't held back
   record Waits (c : ℕ) : Type 0 where
     above : is_held host.signals (host_accepts host) c ≡ true
-    free : (is_full form count c && is_high (host.read c)) ≡ false
+    free : (is_full form count c && is_raised (host.read c)) ≡ false
     none : host_accepts host c ≡ false
 
   waits : (c : ℕ) → c < end → is_held agent.signals (agent_accepts (agent_side form) agent) c ≡ true → Waits c
   waits c low held =
       let parts = and_parts (shows agent.signals c) (not (agent_accepts (agent_side form) agent c)) held in
-      let shown : ((not (is_full form count c) && is_high (host.read c)) || is_high (host.write c)) ≡ true =
-      ap₂ (λ r w. r || is_high w) (sym (agent_read form host agent count end wire legal c low)) (sym (wire.write c low)) ∙ parts.0 in
+      let shown : ((not (is_full form count c) && is_raised (host.read c)) || is_raised (host.write c)) ≡ true =
+      ap₂ (λ r w. r || is_raised w) (sym (agent_read form host agent count end wire legal c low)) (sym (wire.write c low)) ∙ parts.0 in
       let none : host_accepts host c ≡ false = sym (same_accepts form host agent count end wire legal c low) ∙ not-true (agent_accepts (agent_side form) agent c) parts.1 in
       record {
-        above = ap₂ (λ s a. s && not a) (shown_above (is_full form count c) (is_high (host.read c)) (is_high (host.write c)) shown) none;
-        free = let_through (is_full form count c) (is_high (host.read c)) (is_high (host.write c)) (legal.one_kind c low) shown;
+        above = ap₂ (λ s a. s && not a) (shown_above (is_full form count c) (is_raised (host.read c)) (is_raised (host.write c)) shown) none;
+        free = let_through (is_full form count c) (is_raised (host.read c)) (is_raised (host.write c)) (legal.one_kind c low) shown;
         none = none;
       }
 
@@ -63,15 +63,15 @@ module _ (form : WireForm) (host : HostView) (agent : AgentView) (count : ℕ �
       let now = count_is form host agent count end wire legal is proper c (omega arith) in
       let next = count_is form host agent count end wire legal is proper (suc c) low in
       let apart = eqb-false (count c) form.pending free in
-      let zero_more : one_if (takes_read host c) ≡ 0 = ap one_if (and_right (is_high (host.read c)) (host_accepts host c) none) in
+      let zero_more : one_if (takes_read host c) ≡ 0 = ap one_if (and_right (is_raised (host.read c)) (host_accepts host c) none) in
       let read = read_more form host agent count end wire legal is proper c (omega arith) in
       let word = word_more agent.readdatavalid c in
       ne_eqb (count (suc c)) form.pending (λ same. omega (arith, now.0, now.1, next.0, apart, zero_more, read, word, same))
 
   same_read : (c : ℕ) → suc c < end → Waits c → host.read c ≡ host.read (suc c) → agent.read c ≡ agent.read (suc c)
-  same_read c low stands same = by_read (is_high (host.read c)) refl
+  same_read c low stands same = by_read (is_raised (host.read c)) refl
     where
-      by_read : (b : Bool) → is_high (host.read c) ≡ b → agent.read c ≡ agent.read (suc c)
+      by_read : (b : Bool) → is_raised (host.read c) ≡ b → agent.read c ≡ agent.read (suc c)
       by_read true high =
           let free : is_full form count c ≡ false = right_true (is_full form count c) (ap (λ b. is_full form count c && b) (sym high) ∙ stands.free) in
           let later = still_free c low stands.none free in
@@ -100,8 +100,8 @@ module _ (form : WireForm) (host : HostView) (agent : AgentView) (count : ℕ �
   pub proper_at_agent : IsProperAtAgent (agent_side form) agent end
   proper_at_agent = record {
     legal = record {
-      one_kind = λ c low. ap₂ (λ r w. not (r && is_high w)) (agent_read form host agent count end wire legal c low) (wire.write c low)
-          ∙ still_one (is_full form count c) (is_high (host.read c)) (is_high (host.write c)) (legal.one_kind c low);
+      one_kind = λ c low. ap₂ (λ r w. not (r && is_raised w)) (agent_read form host agent count end wire legal c low) (wire.write c low)
+          ∙ still_one (is_full form count c) (is_raised (host.read c)) (is_raised (host.write c)) (legal.one_kind c low);
       held = held_levels;
       least = λ c low shown idle. let one = wire.one_beat c low in omega arith;
       most = λ c low shown idle. let one = wire.one_beat c low in omega arith;

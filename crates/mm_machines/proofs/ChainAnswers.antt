@@ -5,7 +5,7 @@ use Rattle.std.proofs.lemmas.Bool.{cases_Bool}
 use Rattle.mm_machines.proofs.Laws.{middle_legal, middle_owed, chain_owed}
 use Rattle.histories.specs.Laws.{prefix_trans, prefix_map, prefix_flat_map, before_extends}
 use Rattle.mm_machines.proofs.Wire.{Asks, asks_of, asked_shown, asked_taken, zip_push, zip_length, prefix_get, prefix_take, same_counts}
-use Rattle.histories.specs.History.{IsPrefix, is_high}
+use Rattle.histories.specs.History.{IsPrefix, is_raised}
 use Rattle.mm_runs.specs.Laws.{taken_ahead}
 use Rattle.mm_runs.specs.Operations.{Beat, filled_lanes, byte_at}
 use Rattle.mm_runs.specs.Legal.{Word}
@@ -63,12 +63,12 @@ bytes_of_lanes target given [] = refl
 bytes_of_lanes target given (lane ∷ lanes) = ap (λ l. byte_at given.word lane ∷ l) (bytes_of_lanes target given lanes)
 
 -- the answers of one cycle more
-quiet_answers : (target : Target) (port : Port) (end c : ℕ) → AnswersAreOwed port end → c < end → is_high (port.answers.valid c) ≡ false →
+quiet_answers : (target : Target) (port : Port) (end c : ℕ) → AnswersAreOwed port end → c < end → is_raised (port.answers.valid c) ≡ false →
     answers_at target port (suc c) ≡ answers_at target port c
 quiet_answers target port end c owed h quiet =
     let same : words_at port (suc c) ≡ words_at port c = rw quiet (append-nil (words_at port c)) in
     let few : length (words_at port (suc c)) ≤ words_owed port c =
-    subst (λ n. n ≤ words_owed port c) (same_counts (λ c. is_high (port.answers.valid c)) (λ c. c) (λ c. record { word = port.answers.word c; code = port.answers.code c }) (suc c)) (owed c h) in
+    subst (λ n. n ≤ words_owed port c) (same_counts (λ c. is_raised (port.answers.valid c)) (λ c. c) (λ c. record { word = port.answers.word c; code = port.answers.code c }) (suc c)) (owed c h) in
     let within : length (words_at port c) ≤ length (read_beats (taken_at port c)) = subst (λ l. length l ≤ words_owed port c) same few in
     ap (λ ws. flat_map (λ (p : Beat × Word). bytes_in target port.shape p.0 p.1) (zip (read_beats (taken_at port (suc c))) ws)) same ∙ same_answers target port c within
 
@@ -98,7 +98,7 @@ answered_beat target up down end c legal h asks answered =
     (prefix_get (asked_shown up end c legal h) (length (words_at up c)) asks.beat asks.got) answered).0
 
 module _ (target : Target) (middle down : Port) (end : ℕ) (legal : AreLegalAt middle end) (owed : AnswersAreOwed middle end) (carries : CarriesAnswers target middle down end) where
-  valid_step : (c : ℕ) → c < end → is_high (middle.answers.valid c) ≡ true → IsPrefix (bytes_of (answers_at target middle c)) (bytes_of (answers_at target down (suc c))) →
+  valid_step : (c : ℕ) → c < end → is_raised (middle.answers.valid c) ≡ true → IsPrefix (bytes_of (answers_at target middle c)) (bytes_of (answers_at target down (suc c))) →
       IsPrefix (bytes_of (answers_at target middle (suc c))) (bytes_of (answers_at target down (suc c)))
   valid_step c h valid earlier =
       let asks = asks_of middle end c owed h valid in
@@ -116,7 +116,7 @@ module _ (target : Target) (middle down : Port) (end : ℕ) (legal : AreLegalAt 
   bytes_below zero h = record { rest = _; joins = refl }
   bytes_below (suc c) h =
       let grown = prefix_trans (bytes_below c (omega arith)) (prefix_map (λ (a : Answer). a.byte) (answers_extend target down c)) in
-      elim (cases_Bool (is_high (middle.answers.valid c))) [
+      elim (cases_Bool (is_raised (middle.answers.valid c))) [
         | inl valid ↦ valid_step c (omega arith) valid grown
         | inr quiet ↦ subst (λ l. IsPrefix (bytes_of l) (bytes_of (answers_at target down (suc c)))) (sym (quiet_answers target middle end c owed (omega arith) quiet)) grown
       ]
@@ -139,7 +139,7 @@ holds_below lanes n some others given p holds =
 -- two links in a row answer with the right bytes
 pub chain_answered : (target : Target) (up middle down : Port) (end : ℕ) → AreLegalAt up end → AreLegalAt middle end → AnswersAreOwed up end → AnswersAreOwed middle end →
     CarriesAnswers target up middle end → CarriesAnswers target middle down end →
-    (c : ℕ) → c < end → IsTrue (is_high (up.answers.valid c)) → (asks : Asks up c) →
+    (c : ℕ) → c < end → IsTrue (is_raised (up.answers.valid c)) → (asks : Asks up c) →
     HoldsAnswers (filled_lanes up.shape target.shape asks.beat.enables) (own_answers target up down (length (words_at up c)) c) (record { word = up.answers.word c; code = up.answers.code c })
 chain_answered target up middle down end legal legal_there owed owed_there first second c h valid asks =
     holds_below (filled_lanes up.shape target.shape asks.beat.enables) (reads_of target up.shape (take (length (words_at up c)) (read_beats (shown_at up (suc c)))))
@@ -149,7 +149,7 @@ chain_answered target up middle down end legal legal_there owed owed_there first
 
 -- the law of links gives it
 pub chain_bytes : (target : Target) (first_hold second_hold : ℕ) (up middle down : Port) (end : ℕ) → KeepsLinkLaw target first_hold up middle end → KeepsLinkLaw target second_hold middle down end →
-    AreLegalAt up end → AnswersAreOwed down end → (c : ℕ) → c < end → IsTrue (is_high (up.answers.valid c)) → HasRightBytes target up down (length (words_at up c)) c
+    AreLegalAt up end → AnswersAreOwed down end → (c : ℕ) → c < end → IsTrue (is_raised (up.answers.valid c)) → HasRightBytes target up down (length (words_at up c)) c
 chain_bytes target first_hold second_hold up middle down end first second legal owed c h valid =
     let legal_there : AreLegalAt middle end = middle_legal target first_hold second_hold up middle down end first second end (omega arith) legal (λ k low. owed k (omega arith)) in
     let owed_there : AnswersAreOwed middle end = middle_owed target first_hold second_hold up middle down end first second end (omega arith) legal owed in

@@ -10,7 +10,7 @@ use Rattle.mm_machines.proofs.Wire.{Asks, asks_of, asked_shown, asked_taken, tak
 use Rattle.mm_machines.proofs.ChainAnswers.{zip_front, answers_extend, reads_before, answered_beat, bytes_below}
 use Rattle.mm_machines.proofs.Greatest.{at_group, greatest_grows, greatest_push, length_flat}
 use Rattle.mm_machines.specs.Blocks.{flat, sizes_of, highest, AreGreatest, codes_of, block, blocks_at}
-use Rattle.histories.specs.History.{IsPrefix, is_high, total, AreWithin}
+use Rattle.histories.specs.History.{IsPrefix, is_raised, total, AreWithin}
 use Rattle.mm_runs.specs.Operations.{Beat, filled_lanes, byte_at}
 use Rattle.mm_runs.specs.Legal.{Word}
 use Rattle.mm_runs.specs.Order.{Answer, HoldsAnswers, greatest_code}
@@ -45,11 +45,11 @@ module _ (target : Target) (port : Port) where
       let later = asked_taken port c in
       ap (λ l. flat_map (block target port) (zip l (words_at port c))) (sym later.joins) ∙ ap (flat_map (block target port)) (zip_front (read_beats (taken_at port c)) later.rest (words_at port c) h)
 
-  quiet_blocks : (end c : ℕ) → AnswersAreOwed port end → c < end → is_high (port.answers.valid c) ≡ false → blocks_at target port (suc c) ≡ blocks_at target port c
+  quiet_blocks : (end c : ℕ) → AnswersAreOwed port end → c < end → is_raised (port.answers.valid c) ≡ false → blocks_at target port (suc c) ≡ blocks_at target port c
   quiet_blocks end c owed h quiet =
       let same : words_at port (suc c) ≡ words_at port c = rw quiet (append-nil (words_at port c)) in
       let few : length (words_at port (suc c)) ≤ words_owed port c =
-      subst (λ n. n ≤ words_owed port c) (same_counts (λ c. is_high (port.answers.valid c)) (λ c. c) (λ c. record { word = port.answers.word c; code = port.answers.code c }) (suc c)) (owed c h) in
+      subst (λ n. n ≤ words_owed port c) (same_counts (λ c. is_raised (port.answers.valid c)) (λ c. c) (λ c. record { word = port.answers.word c; code = port.answers.code c }) (suc c)) (owed c h) in
       let within : length (words_at port c) ≤ length (read_beats (taken_at port c)) = subst (λ l. length l ≤ words_owed port c) same few in
       ap (λ ws. flat_map (block target port) (zip (read_beats (taken_at port (suc c))) ws)) same ∙ same_blocks c within
 
@@ -103,12 +103,12 @@ module _ (target : Target) (middle down : Port) (end : ℕ) (legal : AreLegalAt 
       let more = prefix_map (λ (a : Answer). a.code) (answers_extend target down c) in
       let grown : AreGreatest (blocks_at target middle c) (codes_of (answers_at target down (suc c))) =
       subst (λ l. AreGreatest (blocks_at target middle c) l) more.joins (greatest_grows (blocks_at target middle c) (codes_of (answers_at target down c)) more.rest (enough_below c (omega arith)) (middle_greatest c (omega arith))) in
-      elim (cases_Bool (is_high (middle.answers.valid c))) [
+      elim (cases_Bool (is_raised (middle.answers.valid c))) [
         | inl valid ↦ valid_case c (omega arith) valid grown
         | inr quiet ↦ subst (λ l. AreGreatest l (codes_of (answers_at target down (suc c)))) (sym (quiet_blocks target middle end c owed (omega arith) quiet)) grown
       ]
     where
-      valid_case : (c : ℕ) → c < end → is_high (middle.answers.valid c) ≡ true → AreGreatest (blocks_at target middle c) (codes_of (answers_at target down (suc c))) →
+      valid_case : (c : ℕ) → c < end → is_raised (middle.answers.valid c) ≡ true → AreGreatest (blocks_at target middle c) (codes_of (answers_at target down (suc c))) →
           AreGreatest (blocks_at target middle (suc c)) (codes_of (answers_at target down (suc c)))
       valid_case c h valid grown =
           let asks = asks_of middle end c owed h valid in
@@ -129,7 +129,7 @@ total_reads target port (b ∷ beats) =
 
 pub chain_code : (target : Target) (up middle down : Port) (end : ℕ) → AreLegalAt up end → AreLegalAt middle end → AnswersAreOwed up end → AnswersAreOwed middle end →
     CarriesAnswers target up middle end → CarriesAnswers target middle down end → BeatsAreWithin target up middle end →
-    (c : ℕ) → c < end → IsTrue (is_high (up.answers.valid c)) → HasRightCode target up down (length (words_at up c)) c
+    (c : ℕ) → c < end → IsTrue (is_raised (up.answers.valid c)) → HasRightCode target up down (length (words_at up c)) c
 chain_code target up middle down end legal legal_there owed owed_there first second beats c h valid =
     let asks = asks_of up end c owed h valid in
     let lanes = filled_lanes up.shape target.shape asks.beat.enables in

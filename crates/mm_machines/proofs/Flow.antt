@@ -4,7 +4,7 @@ use Rattle.std.proofs.lemmas.List.{length-map}
 use Rattle.std.proofs.lemmas.Grind.{flat_map-append}
 use Rattle.mm_runs.specs.Views.{Kind, Shape, Levels, levels_at}
 use Rattle.mm_runs.specs.Views.Kind.{Reads, Writes}
-use Rattle.histories.specs.History.{IsPrefix, before, only_if, is_high, is_first, numbers}
+use Rattle.histories.specs.History.{IsPrefix, before, only_if, is_raised, is_first, numbers}
 use Rattle.mm_runs.specs.Operations.{Beat, Operation, operation_of_kind, operation_at, filled_lanes, is_read, byte_at}
 use Rattle.mm_runs.specs.Commands.{Burst, burst_before, transfer_of, write_transfer, read_transfer, read_beat, is_of_reads, shows}
 use Rattle.mm_machines.specs.Link.{Target, Port, Marked, Item, AreLegalAt, takes, taken_at, shown_at, marked_at, items, items_from, items_of, acted_after, operations_among, operations_in, beat_operations, closes, has_acted, words_at, words_owed, read_beats, reads_of, answers_at, bytes_in, has_word_ready}
@@ -131,7 +131,7 @@ all_read shape levels [] = tt
 all_read shape levels (n ∷ ns) = (refl, all_read shape levels ns)
 
 transfer_fits : (shape : Shape) (levels : Levels) (burst : Burst) → AllOf (transfer_of shape levels burst).kind (transfer_of shape levels burst).beats
-transfer_fits shape levels burst = by_write (is_high levels.write)
+transfer_fits shape levels burst = by_write (is_raised levels.write)
   where
     by_write : (b : Bool) → let t = if b then write_transfer shape levels burst else read_transfer shape levels in AllOf t.kind t.beats
     by_write true = (refl, tt)

@@ -4,7 +4,7 @@ use Rattle.std.proofs.lemmas.List.{map-append, length-map}
 use Rattle.std.proofs.lemmas.Bool.{and_parts, not-true, and_right}
 use Rattle.histories.specs.Laws.{prefix_refl, shown_is_accepted_and_standing}
 use Rattle.mm_runs.specs.Laws.{accepts_shows, legal_keeps}
-use Rattle.histories.specs.History.{KeepsItems, IsPrefix, one_if, only_if, is_high}
+use Rattle.histories.specs.History.{KeepsItems, IsPrefix, one_if, only_if, is_raised}
 use Rattle.mm_machines.proofs.RegisterBeats.{shown_by, same_marked}
 use Rattle.mm_machines.proofs.RegisterLegal.{standing_count}
 use Rattle.mm_runs.specs.Views.{Shape, Levels, levels_at, HostSide, HostView, System, Run}
@@ -21,7 +21,7 @@ from_port m = record { transfer = m.transfer; closes = closes m }
 abbrev from_host : Transfer → Sent
 from_host t = record { transfer = t; closes = t.ends }
 
-ends_or_joins : (ends : Bool) → IsTrue (ends || is_high (one_if (not ends)))
+ends_or_joins : (ends : Bool) → IsTrue (ends || is_raised (one_if (not ends)))
 ends_or_joins true = refl
 ends_or_joins false = refl
 
@@ -40,20 +40,20 @@ module _ (side : HostSide) (view : HostView) (down : Port) (shut : ℕ → Bool)
   -- a hidden read isn't shown, and is made to wait
   hidden : (c : ℕ) → c < end → blocked c ≡ true → shows down.commands.signals c ≡ false
   hidden c low e =
-      let parts = and_parts (shut c) (is_high (view.read c)) e in
-      ap shown_by (levels_when c true e) ∙ blocked_values (is_high (view.read c)) (is_high (view.write c)) parts.1 (legal.one_kind c low)
+      let parts = and_parts (shut c) (is_raised (view.read c)) e in
+      ap shown_by (levels_when c true e) ∙ blocked_values (is_raised (view.read c)) (is_raised (view.write c)) parts.1 (legal.one_kind c low)
 
   refused : (c : ℕ) → blocked c ≡ true → host_accepts view c ≡ false
-  refused c e = ap (λ w. shows view.signals c && not w) (gate.waitrequest c ∙ ap (λ b. b || is_high (down.commands.waitrequest c)) e) ∙ and_right (shows view.signals c) (not true) refl
+  refused c e = ap (λ w. shows view.signals c && not w) (gate.waitrequest c ∙ ap (λ b. b || is_raised (down.commands.waitrequest c)) e) ∙ and_right (shows view.signals c) (not true) refl
 
   same_takes : (c : ℕ) → c < end → takes down c ≡ host_accepts view c
   same_takes c low = by_block (blocked c) refl
     where
       by_block : (b : Bool) → blocked c ≡ b → takes down c ≡ host_accepts view c
-      by_block true e = ap (λ s. s && not (is_high (down.commands.waitrequest c))) (hidden c low e) ∙ sym (refused c e)
+      by_block true e = ap (λ s. s && not (is_raised (down.commands.waitrequest c))) (hidden c low e) ∙ sym (refused c e)
       by_block false e =
-          ap (λ s. s && not (is_high (down.commands.waitrequest c))) (ap shown_by (levels_when c false e))
-          ∙ ap (λ w. shows view.signals c && not w) (sym (gate.waitrequest c ∙ ap (λ b. b || is_high (down.commands.waitrequest c)) e))
+          ap (λ s. s && not (is_raised (down.commands.waitrequest c))) (ap shown_by (levels_when c false e))
+          ∙ ap (λ w. shows view.signals c && not w) (sym (gate.waitrequest c ∙ ap (λ b. b || is_raised (down.commands.waitrequest c)) e))
 
   same_burst : (c : ℕ) → c ≤ end → burst_before down.shape down.commands.signals (takes down) c ≡ burst_before side.shape view.signals (host_accepts view) c
   same_burst zero low = refl
@@ -80,10 +80,10 @@ module _ (side : HostSide) (view : HostView) (down : Port) (shut : ℕ → Bool)
   same_sent : (c : ℕ) → c ≤ end → blocked c ≡ false → from_port (marked_at down c) ≡ from_host (own c)
   same_sent c low e =
       let same = same_transfer c low e in
-      ap (λ m. record { transfer = (marked_at down c).transfer; closes = (marked_at down c).transfer.ends && not (is_high m) }) (gate.more c)
-      ∙ ap (λ (t : Transfer). record { transfer = t; closes = t.ends && not (is_high (one_if (not t.ends))) }) same ∙ ap (λ b. record { transfer = own c; closes = b }) (plain (own c).ends)
+      ap (λ m. record { transfer = (marked_at down c).transfer; closes = (marked_at down c).transfer.ends && not (is_raised m) }) (gate.more c)
+      ∙ ap (λ (t : Transfer). record { transfer = t; closes = t.ends && not (is_raised (one_if (not t.ends))) }) same ∙ ap (λ b. record { transfer = own c; closes = b }) (plain (own c).ends)
     where
-      plain : (b : Bool) → (b && not (is_high (one_if (not b)))) ≡ b
+      plain : (b : Bool) → (b && not (is_raised (one_if (not b)))) ≡ b
       plain true = refl
       plain false = refl
 
@@ -117,7 +117,7 @@ module _ (side : HostSide) (view : HostView) (down : Port) (shut : ℕ → Bool)
   same_held c low e = ap₂ (λ s a. s && not a) (ap shown_by (levels_when c false e)) (same_takes c low)
 
   next_open : (c : ℕ) → is_held down.commands.signals (takes down) c ≡ true → blocked (suc c) ≡ false
-  next_open c held = ap (λ b. b && is_high (view.read (suc c))) (gate.opens c held)
+  next_open c held = ap (λ b. b && is_raised (view.read (suc c))) (gate.opens c held)
 
   held_levels : (c : ℕ) → suc c < end → is_held down.commands.signals (takes down) c ≡ true → levels_at down.commands.signals c ≡ levels_at down.commands.signals (suc c)
   held_levels c low held =
@@ -201,14 +201,14 @@ module _ (side : HostSide) (view : HostView) (down : Port) (shut : ℕ → Bool)
       subst P (ap (λ (l : Levels). l.count) (sym levels))
       (standing_count host_side end host_side_legal P begins c low (ap shown_by (sym levels) ∙ there) (subst (λ b. nat_lt 0 b.left ≡ false) (same_burst c (omega arith)) idle))
 
-  gate_one_kind : (c : ℕ) → c < end → (b : Bool) → blocked c ≡ b → IsTrue (not (is_high (down.commands.read c) && is_high (down.commands.write c)))
-  gate_one_kind c low true e = ap (λ (l : Levels). not (is_high l.read && is_high l.write)) (levels_when c true e)
-  gate_one_kind c low false e = ap (λ (l : Levels). not (is_high l.read && is_high l.write)) (levels_when c false e) ∙ legal.one_kind c low
+  gate_one_kind : (c : ℕ) → c < end → (b : Bool) → blocked c ≡ b → IsTrue (not (is_raised (down.commands.read c) && is_raised (down.commands.write c)))
+  gate_one_kind c low true e = ap (λ (l : Levels). not (is_raised l.read && is_raised l.write)) (levels_when c true e)
+  gate_one_kind c low false e = ap (λ (l : Levels). not (is_raised l.read && is_raised l.write)) (levels_when c false e) ∙ legal.one_kind c low
 
-  gate_finished : (c : ℕ) → c < end → IsTrue (is_under_way down.shape down.commands.signals (takes down) c) → (b : Bool) → blocked c ≡ b → IsFalse (is_high (down.commands.read c))
-  gate_finished c low under true e = ap (λ (l : Levels). is_high l.read) (levels_when c true e)
+  gate_finished : (c : ℕ) → c < end → IsTrue (is_under_way down.shape down.commands.signals (takes down) c) → (b : Bool) → blocked c ≡ b → IsFalse (is_raised (down.commands.read c))
+  gate_finished c low under true e = ap (λ (l : Levels). is_raised l.read) (levels_when c true e)
   gate_finished c low under false e =
-      ap (λ (l : Levels). is_high l.read) (levels_when c false e) ∙ legal.finished c low (subst (λ b. nat_lt 0 b.left ≡ true) (same_burst c (omega arith)) under)
+      ap (λ (l : Levels). is_raised l.read) (levels_when c false e) ∙ legal.finished c low (subst (λ b. nat_lt 0 b.left ≡ true) (same_burst c (omega arith)) under)
 
   pub gate_legal : AreLegalAt down end
   gate_legal = record {
@@ -221,7 +221,7 @@ module _ (side : HostSide) (view : HostView) (down : Port) (shut : ℕ → Bool)
     };
     tag = λ c low held. gate.tag c ∙ sym (gate.tag (suc c));
     more = λ c low held. gate.more c ∙ ap (λ (m : Marked). one_if (not m.transfer.ends)) (keeps.held c low held).1 ∙ sym (gate.more (suc c));
-    joined = λ c low shown. ap (λ m. (marked_at down c).transfer.ends || is_high m) (gate.more c) ∙ ends_or_joins (marked_at down c).transfer.ends;
+    joined = λ c low shown. ap (λ m. (marked_at down c).transfer.ends || is_raised m) (gate.more c) ∙ ends_or_joins (marked_at down c).transfer.ends;
   }
 
 pub gate_keeps : (system : System) (run : Run) (host : ℕ) (down : Port) (shut : ℕ → Bool) (end : ℕ) → IsGate (system.host host) (run.at_host host) down shut → IsLegalHost (system.host host) (run.at_host host) end →

@@ -2,7 +2,7 @@
 use Rattle.std.proofs.Common.{ℕ, suc, ◌≡◌, ◌+◌, ◌-◌, ◌*◌, ◌%◌, [], ◌∷◌, ◌++◌, List, Bool, true, false, not, ◌&&◌, ◌||◌, arith, refl, sym, ap, ap₂, ◌∙◌, append_assoc, append-nil, subst, length, map, flat_map, nat_eq, if◌then◌else◌, length-append, zero-mul, mul-one}
 use Rattle.std.proofs.lemmas.List.{map-append}
 use Rattle.std.proofs.Math.Nat.{one-le-pow}
-use Rattle.histories.specs.History.{only_if, is_high}
+use Rattle.histories.specs.History.{only_if, is_raised}
 use Rattle.mm_runs.specs.Views.{Shape, Kind, Levels}
 use Rattle.mm_runs.specs.Views.Kind.{Reads, Writes}
 use Rattle.mm_runs.specs.Operations.{Beat, Operation, operations_of}
@@ -31,8 +31,8 @@ whole_address a unit bytes one aligned =
 
 -- what a list of beats has, and what its commands keep
 pub record Sends (target : Target) (narrow : Shape) (below : Burst) (raws : List Raw) (ops : List Operation) (tag last count : ℕ) : Type 0 where
-  pub items : (acted : Bool) → items_from target narrow acted (marked narrow below raws) ≡ map (Acts tag) ops ++ only_if (not (is_high last) && (acted || is_nonempty ops)) (Ends tag)
-  pub acted : (acted : Bool) → acted_past target narrow acted (marked narrow below raws) ≡ (not (not (is_high last)) && (acted || is_nonempty ops))
+  pub items : (acted : Bool) → items_from target narrow acted (marked narrow below raws) ≡ map (Acts tag) ops ++ only_if (not (is_raised last) && (acted || is_nonempty ops)) (Ends tag)
+  pub acted : (acted : Bool) → acted_past target narrow acted (marked narrow below raws) ≡ (not (not (is_raised last)) && (acted || is_nonempty ops))
   pub operations : operations_among target narrow (marked narrow below raws) ≡ ops
   pub free : (burst_of narrow below raws).left ≡ 0
   pub fit : AreFit narrow below raws
@@ -50,7 +50,7 @@ module _ (target : Target) (narrow : Shape) (units : narrow.unit_bytes ≡ 1) wh
   -- one command where no burst is under way
   pub record One (below : Burst) (tag more : ℕ) (beat : Beat) : Type 0 where
     pub operations : operations_in target narrow (mark narrow below (single tag more beat)) ≡ ops_of beat
-    pub closes : closes (mark narrow below (single tag more beat)) ≡ not (is_high more)
+    pub closes : closes (mark narrow below (single tag more beat)) ≡ not (is_raised more)
     pub free : (burst_past narrow below (single tag more beat)).left ≡ 0
     pub fit : IsFitBeat narrow below (single tag more beat)
     pub beats : length (mark narrow below (single tag more beat)).transfer.beats ≡ 1
@@ -117,10 +117,10 @@ module _ (target : Target) (narrow : Shape) (units : narrow.unit_bytes ≡ 1) wh
             (ap₂ (λ o c. not c && (acted || is_nonempty o)) one.operations one.closes)
             ∙ ap (λ l. map (Acts tag) (ops_of beat) ++ l) (rest.items (acted || is_nonempty (ops_of beat)))
             ∙ sym (append_assoc (map (Acts tag) (ops_of beat)) (map (Acts tag) others) _)
-            ∙ ap₂ (λ l b. l ++ only_if (not (is_high last) && b) (Ends tag)) (sym (map-append (Acts tag) (ops_of beat) others)) (either acted (ops_of beat) others);
+            ∙ ap₂ (λ l b. l ++ only_if (not (is_raised last) && b) (Ends tag)) (sym (map-append (Acts tag) (ops_of beat) others)) (either acted (ops_of beat) others);
         acted = λ acted.
             ap (λ a. acted_past target narrow a (marked narrow (burst_past narrow below (single tag 1 beat)) (joined tag last (next ∷ later)))) (ap₂ (λ o c. not c && (acted || is_nonempty o)) one.operations one.closes)
-            ∙ rest.acted (acted || is_nonempty (ops_of beat)) ∙ ap (λ b. not (not (is_high last)) && b) (either acted (ops_of beat) others);
+            ∙ rest.acted (acted || is_nonempty (ops_of beat)) ∙ ap (λ b. not (not (is_raised last)) && b) (either acted (ops_of beat) others);
         operations = ap₂ (λ x y. x ++ y) one.operations rest.operations;
         free = rest.free;
         fit = (one.fit, rest.fit);

@@ -2,7 +2,7 @@
 use Rattle.std.proofs.Common.{ℕ, suc, ◌≤◌, ◌≡◌, Bool, true, false, not, ◌||◌, ◌&&◌, arith, refl, sym, ap, ◌∙◌, subst, nat_lt, length, IsTrue, IsFalse, tests, append-nil}
 use Rattle.std.proofs.lemmas.Bool.{and_parts}
 use Rattle.mm_runs.specs.Views.{Levels}
-use Rattle.histories.specs.History.{IsPrefix, is_high}
+use Rattle.histories.specs.History.{IsPrefix, is_raised}
 use Rattle.mm_runs.specs.Commands.{is_held, shows}
 use Rattle.mm_machines.specs.Link.{Target, Port, AreLegalAt, takes, taken_at, shown_at, operations_among, operations_in, words_at, is_last_joined}
 use Rattle.histories.specs.Laws.{before_extends, prefix_flat_map, prefix_length}
@@ -14,7 +14,7 @@ shown_extends port c = before_extends _ c
 none_taken : (port : Port) (c : ℕ) → IsFalse (takes port c) → taken_at port (suc c) ≡ taken_at port c
 none_taken port c none = rw none (append-nil (taken_at port c))
 
-none_answered : (port : Port) (c : ℕ) → IsFalse (is_high (port.answers.valid c)) → words_at port (suc c) ≡ words_at port c
+none_answered : (port : Port) (c : ℕ) → IsFalse (is_raised (port.answers.valid c)) → words_at port (suc c) ≡ words_at port c
 none_answered port c none = rw none (append-nil (words_at port c))
 
 pub four_cases : (a b c d : Bool) {R : Type 0} → IsTrue (a || b || c || d) → (IsTrue a → R) → (IsTrue b → R) → (IsTrue c → R) → (IsTrue d → R) → R
@@ -38,7 +38,7 @@ still_held s t a b = grind (arith, tests)
 
 pub held_on : (port : Port) (c : ℕ) → AreLegalAt port (suc (suc c)) → IsTrue (is_held port.commands.signals (takes port) c) → IsFalse (takes port (suc c)) → IsTrue (is_held port.commands.signals (takes port) (suc c))
 held_on port c legal held none =
-    let same = ap (λ (l : Levels). is_high l.read || is_high l.write) (legal.legal.held c (omega arith) held) in
+    let same = ap (λ (l : Levels). is_raised l.read || is_raised l.write) (legal.legal.held c (omega arith) held) in
     still_held (shows port.commands.signals (suc c)) (takes port (suc c)) (sym same ∙ (and_parts (shows port.commands.signals c) (not (takes port c)) held).0) none
 
 pub untaken_on : (target : Target) (up down : Port) (c : ℕ) → IsFalse (takes down (suc c)) →

@@ -10,7 +10,7 @@ use Rattle.mm_machines.proofs.Flows.{operations_front}
 use Rattle.mm_machines.proofs.Parts.{shown_grows}
 use Rattle.mm_machines.proofs.Back.{asked_front, given_count, host_answers, host_commands, route_answers}
 use Rattle.mm_machines.proofs.Headline.{own_front, inner_path, route_carries}
-use Rattle.histories.specs.History.{IsPrefix, only_if, is_first, is_high, numbers}
+use Rattle.histories.specs.History.{IsPrefix, only_if, is_first, is_raised, numbers}
 use Rattle.mm_runs.specs.Views.{Responses, System, Run, Shape, Levels, levels_at, Kind}
 use Rattle.mm_runs.specs.Views.Kind.{Reads, Writes}
 use Rattle.mm_runs.specs.Operations.{Beat, Operation, is_read, operation_at, operation_of_kind, filled_lanes}
@@ -66,7 +66,7 @@ module _ (system : System) (host agent : ℕ) where
   }
 
   of_transfer : (shape : Shape) (levels : Levels) (burst : Burst) → IsUniform (transfer_of shape levels burst)
-  of_transfer shape levels burst = by_test (is_high levels.write)
+  of_transfer shape levels burst = by_test (is_raised levels.write)
     where
       write : reads_in (transfer_operations system host agent (write_transfer shape levels burst)) ≡ 0
       write =

@@ -4,7 +4,7 @@ use Rattle.mm_machines.proofs.Laws.{middle_legal, middle_owed, chain_owed, chain
 use Rattle.mm_machines.proofs.ChainCodes.{chain_code}
 use Rattle.mm_machines.proofs.Rising.{chain_code_rising}
 use Rattle.mm_machines.proofs.Held.{within_trans}
-use Rattle.histories.specs.History.{is_high}
+use Rattle.histories.specs.History.{is_raised}
 use Rattle.mm_machines.specs.Link.{Target, Port, KeepsLinkLaw, AreLegalAt, AnswersAreOwed, words_at, HasRightCode, BeatsAreWithin, BeatsCover}
 
 module _ (target : Target) (first_hold second_hold : ℕ) (up middle down : Port) (end : ℕ)
@@ -21,11 +21,11 @@ module _ (target : Target) (first_hold second_hold : ℕ) (up middle down : Port
   legal_down : AreLegalAt down end
   legal_down = chain_legal target first_hold second_hold up middle down end first second end (omega arith) legal (λ k low. owed k (omega arith))
 
-  pub falling : BeatsAreWithin target up middle end → (c : ℕ) → c < end → IsTrue (is_high (up.answers.valid c)) → HasRightCode target up down (length (words_at up c)) c
+  pub falling : BeatsAreWithin target up middle end → (c : ℕ) → c < end → IsTrue (is_raised (up.answers.valid c)) → HasRightCode target up down (length (words_at up c)) c
   falling beats c h valid =
       chain_code target up middle down end legal there owed_up owed_there (first.answers end (omega arith) legal owed_there) (second.answers end (omega arith) there owed) beats c h valid
 
-  pub rising : BeatsCover target middle down end → (c : ℕ) → c < end → IsTrue (is_high (up.answers.valid c)) → HasRightCode target up down (length (words_at up c)) c
+  pub rising : BeatsCover target middle down end → (c : ℕ) → c < end → IsTrue (is_raised (up.answers.valid c)) → HasRightCode target up down (length (words_at up c)) c
   rising beats c h valid =
       chain_code_rising target up middle down end legal there legal_down owed_up owed_there (first.answers end (omega arith) legal owed_there) (second.answers end (omega arith) there owed) beats c h valid
 

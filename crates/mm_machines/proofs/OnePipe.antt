@@ -4,7 +4,7 @@ use Rattle.histories.specs.Laws.{prefix_refl}
 use Rattle.mm_machines.proofs.Parts.{held_of_fronts, sizes_flat}
 use Rattle.mm_machines.proofs.RegisterBeats.{is_ahead, taken_later, shown_later}
 use Rattle.mm_machines.proofs.RegisterLegal.{register_legal}
-use Rattle.histories.specs.History.{IsPrefix, only_if, is_high, unreached, total}
+use Rattle.histories.specs.History.{IsPrefix, only_if, is_raised, unreached, total}
 use Rattle.mm_runs.specs.Views.{System, Shape}
 use Rattle.mm_runs.specs.Commands.{shows}
 use Rattle.mm_machines.specs.Link.{Marked, marked_at, shown_at, taken_at, AreLegalAt}
@@ -31,9 +31,9 @@ module _ (system : System) (agent : ℕ) (up down : TaggedPort) (registers : Are
   words_later : (h c : ℕ) → words_with h up (suc c) ≡ words_with h down c
   words_later h zero = ap (λ b. only_if (b && nat_eq (up.answer_tag 0) h) (record { word = up.answers.word 0; code = up.answers.code 0 })) registers.empty
   words_later h (suc c) =
-      ap (λ l. l ++ only_if (is_high (up.answers.valid (suc c)) && nat_eq (up.answer_tag (suc c)) h) (record { word = up.answers.word (suc c); code = up.answers.code (suc c) })) (words_later h c)
-      ∙ ap₂ (λ v t. words_with h down c ++ only_if (is_high v && nat_eq t h) (record { word = up.answers.word (suc c); code = up.answers.code (suc c) })) (registers.valid c) (registers.answer_tag c)
-      ∙ ap₂ (λ w k. words_with h down c ++ only_if (is_high (down.answers.valid c) && nat_eq (down.answer_tag c) h) (record { word = w; code = k })) (registers.word c) (registers.code c)
+      ap (λ l. l ++ only_if (is_raised (up.answers.valid (suc c)) && nat_eq (up.answer_tag (suc c)) h) (record { word = up.answers.word (suc c); code = up.answers.code (suc c) })) (words_later h c)
+      ∙ ap₂ (λ v t. words_with h down c ++ only_if (is_raised v && nat_eq t h) (record { word = up.answers.word (suc c); code = up.answers.code (suc c) })) (registers.valid c) (registers.answer_tag c)
+      ∙ ap₂ (λ w k. words_with h down c ++ only_if (is_raised (down.answers.valid c) && nat_eq (down.answer_tag c) h) (record { word = w; code = k })) (registers.word c) (registers.code c)
 
   shown_front : (end c : ℕ) → AreLegalAt up.port end → c ≤ end → IsPrefix (shown_at down.port c) (shown_at up.port (c - 1))
   shown_front end zero legal low = prefix_refl []

@@ -3,7 +3,7 @@ use Rattle.std.proofs.Common.{ℕ, zero, suc, ◌≤◌, ◌≡◌, [], ◌∷�
 use Rattle.std.proofs.lemmas.Bool.{and_parts, and_right}
 use Rattle.histories.specs.Laws.{prefix_refl, shown_is_accepted_and_standing}
 use Rattle.mm_runs.specs.Laws.{accepts_shows}
-use Rattle.histories.specs.History.{KeepsItems, IsPrefix, only_if, is_high}
+use Rattle.histories.specs.History.{KeepsItems, IsPrefix, only_if, is_raised}
 use Rattle.mm_machines.proofs.Wire.{taken_is_shown}
 use Rattle.mm_runs.specs.Views.{Shape, Levels, levels_at}
 use Rattle.mm_runs.specs.Commands.{Burst, shows, is_held, burst_before, burst_after, transfer_of}
@@ -11,10 +11,10 @@ use Rattle.mm_machines.specs.Link.{Port, Marked, AreLegalAt, takes, marked_at, t
 use Rattle.mm_machines.specs.Register.{IsRegister}
 
 abbrev pub shown_by : Levels → Bool
-shown_by levels = is_high levels.read || is_high levels.write
+shown_by levels = is_raised levels.read || is_raised levels.write
 
 abbrev marked_of : Shape → ℕ → ℕ → Levels → Burst → Marked
-marked_of shape tag more levels burst = record { tag = tag; more = is_high more; transfer = transfer_of shape levels burst }
+marked_of shape tag more levels burst = record { tag = tag; more = is_raised more; transfer = transfer_of shape levels burst }
 
 pub same_marked : (shape shape' : Shape) (tag tag' more more' : ℕ) (levels levels' : Levels) (burst burst' : Burst) → shape ≡ shape' → tag ≡ tag' → more ≡ more' → levels ≡ levels' → burst ≡ burst' →
     marked_of shape tag more levels burst ≡ marked_of shape' tag' more' levels' burst'
@@ -39,7 +39,7 @@ module _ (up down : Port) (register : IsRegister up down) where
       × (burst_before up.shape up.commands.signals (takes up) c ≡ burst_after down.shape (levels_at down.commands.signals c) (s c) (burst_before down.shape down.commands.signals (takes down) c))
 
   pub takes_below : (c : ℕ) → stalls c ≡ false → takes down c ≡ s c
-  takes_below c e = by_test (s c) (is_high (down.commands.waitrequest c)) e
+  takes_below c e = by_test (s c) (is_raised (down.commands.waitrequest c)) e
     where
       by_test : (s w : Bool) → (s && not (s && not w)) ≡ false → (s && not w) ≡ s
       by_test true true e = sym e
@@ -47,7 +47,7 @@ module _ (up down : Port) (register : IsRegister up down) where
       by_test false w e = refl
 
   pub takes_none : (c : ℕ) → stalls c ≡ true → takes down c ≡ false
-  takes_none c e = by_test (s c) (is_high (down.commands.waitrequest c)) e
+  takes_none c e = by_test (s c) (is_raised (down.commands.waitrequest c)) e
     where
       by_test : (s w : Bool) → (s && not (s && not w)) ≡ true → (s && not w) ≡ false
       by_test true true e = refl
@@ -105,7 +105,7 @@ module _ (up down : Port) (register : IsRegister up down) where
 
   -- what was taken below by the end of a cycle was taken above before it
   pub taken_later : (c : ℕ) → IsPrefix (taken_at down (suc c)) (taken_at up c)
-  taken_later c = subst (λ l. IsPrefix (taken_at down (suc c)) l) (sym (is_ahead c).0) (by_test (s c) (is_high (down.commands.waitrequest c)))
+  taken_later c = subst (λ l. IsPrefix (taken_at down (suc c)) l) (sym (is_ahead c).0) (by_test (s c) (is_raised (down.commands.waitrequest c)))
     where
       by_test : (s w : Bool) → IsPrefix (taken_at down c ++ only_if (s && not w) (marked_at down c)) (taken_at down c ++ only_if s (marked_at down c))
       by_test true true = record { rest = marked_at down c ∷ []; joins = ap (λ l. l ++ marked_at down c ∷ []) (append-nil (taken_at down c)) }
@@ -131,7 +131,7 @@ module _ (up down : Port) (register : IsRegister up down) where
   pub shown_later : (end c : ℕ) → AreLegalAt up end → c ≤ end → IsPrefix (shown_at down (suc c)) (shown_at up c)
   shown_later end c legal low =
       let all : shown_at down (suc c) ≡ taken_at down (suc c) ++ only_if (stalls c) (marked_at down c) = shown_is_accepted_and_standing _ _ _ (suc c) (suc c) (keeps (suc c)) (omega arith) in
-      let whole : shown_at down (suc c) ≡ taken_at up c = all ∙ by_test (s c) (is_high (down.commands.waitrequest c)) ∙ sym (is_ahead c).0 in
+      let whole : shown_at down (suc c) ≡ taken_at up c = all ∙ by_test (s c) (is_raised (down.commands.waitrequest c)) ∙ sym (is_ahead c).0 in
       subst (λ l. IsPrefix l (shown_at up c)) (sym whole) (taken_is_shown up end c legal low)
     where
       by_test : (s w : Bool) → (taken_at down c ++ only_if (s && not w) (marked_at down c)) ++ only_if (s && not (s && not w)) (marked_at down c) ≡ taken_at down c ++ only_if s (marked_at down c)

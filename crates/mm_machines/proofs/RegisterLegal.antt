@@ -2,7 +2,7 @@
 use Rattle.std.proofs.Common.{ℕ, zero, suc, ◌<◌, ◌≤◌, ◌≡◌, ◌-◌, ◌^◌, Bool, true, false, not, ◌&&◌, ◌||◌, IsTrue, IsFalse, if◌then◌else◌, nat_lt, arith, refl, sym, ap, ap₂, ◌∙◌, subst}
 use Rattle.std.proofs.lemmas.Bool.{and_parts, not-true}
 use Rattle.mm_machines.proofs.RegisterBeats.{is_ahead, next_levels, takes_none, takes_below, shown_by, stalls}
-use Rattle.histories.specs.History.{is_high}
+use Rattle.histories.specs.History.{is_raised}
 use Rattle.mm_runs.specs.Views.{Shape, Levels, levels_at}
 use Rattle.mm_runs.specs.Commands.{shows, is_held, presents, burst_before, burst_after, transfer_at, transfer_of}
 use Rattle.mm_runs.specs.Legal.{is_under_way}
@@ -39,13 +39,13 @@ module _ (up down : Port) (register : IsRegister up down) (end : ℕ) (legal : A
   still_burst : (c : ℕ) → stalls up down register c ≡ true → burst_before down.shape down.commands.signals (takes down) (suc c) ≡ burst_before down.shape down.commands.signals (takes down) c
   still_burst c e = ap (λ b. burst_after down.shape (levels_at down.commands.signals c) b (burst_before down.shape down.commands.signals (takes down) c)) (takes_none up down register c e)
 
-  one_kind : (c : ℕ) → c < end → IsTrue (not (is_high (down.commands.read c) && is_high (down.commands.write c)))
-  one_kind zero low = none_is_one (is_high (down.commands.read 0)) (is_high (down.commands.write 0)) register.empty
+  one_kind : (c : ℕ) → c < end → IsTrue (not (is_raised (down.commands.read c) && is_raised (down.commands.write c)))
+  one_kind zero low = none_is_one (is_raised (down.commands.read 0)) (is_raised (down.commands.write 0)) register.empty
   one_kind (suc c) low = by_stall (stalls up down register c) refl (one_kind c (omega arith))
     where
-      by_stall : (b : Bool) → stalls up down register c ≡ b → IsTrue (not (is_high (down.commands.read c) && is_high (down.commands.write c))) → IsTrue (not (is_high (down.commands.read (suc c)) && is_high (down.commands.write (suc c))))
-      by_stall true e ih = ap (λ (l : Levels). not (is_high l.read && is_high l.write)) (next_levels up down register c true e) ∙ ih
-      by_stall false e ih = ap (λ (l : Levels). not (is_high l.read && is_high l.write)) (next_levels up down register c false e) ∙ legal.legal.one_kind c (omega arith)
+      by_stall : (b : Bool) → stalls up down register c ≡ b → IsTrue (not (is_raised (down.commands.read c) && is_raised (down.commands.write c))) → IsTrue (not (is_raised (down.commands.read (suc c)) && is_raised (down.commands.write (suc c))))
+      by_stall true e ih = ap (λ (l : Levels). not (is_raised l.read && is_raised l.write)) (next_levels up down register c true e) ∙ ih
+      by_stall false e ih = ap (λ (l : Levels). not (is_raised l.read && is_raised l.write)) (next_levels up down register c false e) ∙ legal.legal.one_kind c (omega arith)
 
   counts : (P : ℕ → Type 0) → ((c : ℕ) → c < end → IsTrue (presents up.commands.signals (takes up) c) → IsFalse (is_under_way up.shape up.commands.signals (takes up) c) → P (up.commands.count c)) →
       (c : ℕ) → c < end → IsTrue (presents down.commands.signals (takes down) c) → IsFalse (is_under_way down.shape down.commands.signals (takes down) c) → P (down.commands.count c)
@@ -57,29 +57,29 @@ module _ (up down : Port) (register : IsRegister up down) (end : ℕ) (legal : A
       subst P (ap (λ (l : Levels). l.count) (sym levels))
       (standing_count up end legal P begins c (omega arith) (ap shown_by (sym levels) ∙ parts.0) (subst (λ b. nat_lt 0 b.left ≡ false) (same_burst c free) idle))
 
-  finished : (c : ℕ) → c < end → IsTrue (is_under_way down.shape down.commands.signals (takes down) c) → IsFalse (is_high (down.commands.read c))
+  finished : (c : ℕ) → c < end → IsTrue (is_under_way down.shape down.commands.signals (takes down) c) → IsFalse (is_raised (down.commands.read c))
   finished zero low under = cc
   finished (suc c) low under = by_stall (stalls up down register c) refl (finished c (omega arith))
     where
-      by_stall : (b : Bool) → stalls up down register c ≡ b → (IsTrue (is_under_way down.shape down.commands.signals (takes down) c) → IsFalse (is_high (down.commands.read c))) → IsFalse (is_high (down.commands.read (suc c)))
-      by_stall true e ih = ap (λ (l : Levels). is_high l.read) (next_levels up down register c true e) ∙ ih (subst (λ b. nat_lt 0 b.left ≡ true) (still_burst c e) under)
-      by_stall false e ih = ap (λ (l : Levels). is_high l.read) (next_levels up down register c false e) ∙ legal.legal.finished c (omega arith) (subst (λ b. nat_lt 0 b.left ≡ true) (same_burst c e) under)
+      by_stall : (b : Bool) → stalls up down register c ≡ b → (IsTrue (is_under_way down.shape down.commands.signals (takes down) c) → IsFalse (is_raised (down.commands.read c))) → IsFalse (is_raised (down.commands.read (suc c)))
+      by_stall true e ih = ap (λ (l : Levels). is_raised l.read) (next_levels up down register c true e) ∙ ih (subst (λ b. nat_lt 0 b.left ≡ true) (still_burst c e) under)
+      by_stall false e ih = ap (λ (l : Levels). is_raised l.read) (next_levels up down register c false e) ∙ legal.legal.finished c (omega arith) (subst (λ b. nat_lt 0 b.left ≡ true) (same_burst c e) under)
 
   -- a beat that ends no burst has `more` high
-  joined : (c : ℕ) → c < end → IsTrue (shows down.commands.signals c) → IsTrue ((transfer_at down.shape down.commands.signals (takes down) c).ends || is_high (down.commands.more c))
+  joined : (c : ℕ) → c < end → IsTrue (shows down.commands.signals c) → IsTrue ((transfer_at down.shape down.commands.signals (takes down) c).ends || is_raised (down.commands.more c))
   joined zero low shown = let bad : ⊥ = let none = register.empty in cc in absurd bad
   joined (suc c) low shown = by_stall (stalls up down register c) refl (joined c (omega arith))
     where
-      by_stall : (b : Bool) → stalls up down register c ≡ b → (IsTrue (shows down.commands.signals c) → IsTrue ((transfer_at down.shape down.commands.signals (takes down) c).ends || is_high (down.commands.more c))) →
-          IsTrue ((transfer_at down.shape down.commands.signals (takes down) (suc c)).ends || is_high (down.commands.more (suc c)))
+      by_stall : (b : Bool) → stalls up down register c ≡ b → (IsTrue (shows down.commands.signals c) → IsTrue ((transfer_at down.shape down.commands.signals (takes down) c).ends || is_raised (down.commands.more c))) →
+          IsTrue ((transfer_at down.shape down.commands.signals (takes down) (suc c)).ends || is_raised (down.commands.more (suc c)))
       by_stall true e ih =
           let levels = next_levels up down register c true e in
-          ap₂ (λ t m. t || is_high m) (ap₂ (λ l b. (transfer_of down.shape l b).ends) levels (still_burst c e)) (register.more c ∙ ap (λ b. if b then down.commands.more c else up.commands.more c) e)
+          ap₂ (λ t m. t || is_raised m) (ap₂ (λ l b. (transfer_of down.shape l b).ends) levels (still_burst c e)) (register.more c ∙ ap (λ b. if b then down.commands.more c else up.commands.more c) e)
           ∙ ih (ap shown_by (sym levels) ∙ shown)
       by_stall false e ih =
           let levels = next_levels up down register c false e in
-          ap₂ (λ t m. t || is_high m) (ap₂ (λ l b. (transfer_of down.shape l b).ends) levels (same_burst c e)) (register.more c ∙ ap (λ b. if b then down.commands.more c else up.commands.more c) e)
-          ∙ ap (λ s. (transfer_of s (levels_at up.commands.signals c) (burst_before up.shape up.commands.signals (takes up) c)).ends || is_high (up.commands.more c)) register.shape
+          ap₂ (λ t m. t || is_raised m) (ap₂ (λ l b. (transfer_of down.shape l b).ends) levels (same_burst c e)) (register.more c ∙ ap (λ b. if b then down.commands.more c else up.commands.more c) e)
+          ∙ ap (λ s. (transfer_of s (levels_at up.commands.signals c) (burst_before up.shape up.commands.signals (takes up) c)).ends || is_raised (up.commands.more c)) register.shape
           ∙ legal.joined c (omega arith) (ap shown_by (sym levels) ∙ shown)
 
   pub register_legal : AreLegalAt down end

@@ -13,7 +13,7 @@ use Rattle.mm_machines.proofs.Path.{carrier_of_path, carrier_of_link, there_lega
 use Rattle.mm_machines.proofs.Greatest.{greatest_grows, flat_append}
 use Rattle.mm_machines.proofs.ChainCodes.{answer_codes, middle_greatest, total_blocks, highest_of, codes_within}
 use Rattle.mm_machines.proofs.Back.{asked_front, asked_placed, given_count, host_answers, host_commands, route_answers, piped_answers, legal_everywhere, owed_everywhere}
-use Rattle.histories.specs.History.{IsPrefix, is_high, total, only_if}
+use Rattle.histories.specs.History.{IsPrefix, is_raised, total, only_if}
 use Rattle.mm_runs.specs.Views.{Responses, System, Run}
 use Rattle.mm_runs.specs.Operations.{filled_lanes}
 use Rattle.mm_runs.specs.Legal.{Word}
@@ -152,7 +152,7 @@ module _ (responses : Responses) (system : System) (run : Run) (inside : Inside)
       (omega (arith, bytes, mine, theirs, codes, sizes, worded_sizes, blocks))
       (greatest_before_worded (placed_blocks system h a up c) (blocks_at target middle c) (codes_of (answers_at target down c)) front links)
 
-  word_code : (h a c : ℕ) (q : Asked) → h < system.hosts → a < system.agents → c < end → IsTrue (is_high ((inside.after_host h).answers.valid c)) → q.place ≡ Some a →
+  word_code : (h a c : ℕ) (q : Asked) → h < system.hosts → a < system.agents → c < end → IsTrue (is_raised ((inside.after_host h).answers.valid c)) → q.place ≡ Some a →
       slice_get (asked_at system h (inside.after_host h) (suc c)) (length (words_at (inside.after_host h) c)) ≡ Some q →
       0 < length (filled_lanes (system.host h).shape (system.agent a).shape q.beat.enables) →
       (inside.after_host h).answers.code c ≡ greatest_code (take (length (filled_lanes (system.host h).shape (system.agent a).shape q.beat.enables))
@@ -182,7 +182,7 @@ module _ (responses : Responses) (system : System) (run : Run) (inside : Inside)
       ∙ ap highest (sym (codes_within (length lanes) (reads_for system h a (take (length ws) asks)) replies))
       ∙ sym (highest_of (take (length lanes) (drop (reads_for system h a (take (length ws) asks)) replies)))
 
-  code_of_word : (h c code : ℕ) → h < system.hosts → c < end → IsTrue (is_high ((inside.after_host h).answers.valid c)) → code ≡ (inside.after_host h).answers.code c →
+  code_of_word : (h c code : ℕ) → h < system.hosts → c < end → IsTrue (is_raised ((inside.after_host h).answers.valid c)) → code ≡ (inside.after_host h).answers.code c →
       HasCodeOf system run h c (length (words_at (inside.after_host h) c)) code (slice_get (asked system run h (suc c)) (length (words_at (inside.after_host h) c)))
   code_of_word h c code is low valid same = by_question (slice_get (asked_at system h up (suc c)) number) refl ((route_answers responses system run inside holds end wired legal h is).default_code c low valid)
     where
@@ -218,12 +218,12 @@ module _ (responses : Responses) (system : System) (run : Run) (inside : Inside)
               ∙ ap (λ l. greatest_code (take (length (filled_lanes (system.host h).shape (system.agent a).shape q.beat.enables)) (drop (reads_for system h a l) (answers_to h (answers system run a (suc c - system.stages)))))) (sym earlier)
 
   by_rule : (rule : Responses) → (h : ℕ) → h < system.hosts →
-      ((c : ℕ) → c < end → gives_word (system.host h) (run.at_host h) c ≡ is_high ((inside.after_host h).answers.valid c)) →
+      ((c : ℕ) → c < end → gives_word (system.host h) (run.at_host h) c ≡ is_raised ((inside.after_host h).answers.valid c)) →
       HostResponds rule system run h (inside.after_host h) end → RespondsBy rule system run h end
   by_rule AreZero h is gives responds = responds
   by_rule AreCodes h is gives responds = record {
     of_words = λ c low has given_here.
-        let valid : is_high ((inside.after_host h).answers.valid c) ≡ true = sym (gives c low) ∙ given_here in
+        let valid : is_raised ((inside.after_host h).answers.valid c) ≡ true = sym (gives c low) ∙ given_here in
         let number = given_count responses system run h (inside.after_host h) end c (host_answers responses system run inside holds end wired legal h is) (omega arith) in
         subst (λ n. HasCodeOf system run h c n ((run.at_host h).response c) (slice_get (asked system run h (suc c)) n)) (sym number)
         (code_of_word h c ((run.at_host h).response c) is low valid (responds.code c low has valid));

@@ -9,7 +9,7 @@ use Rattle.mm_machines.proofs.ChainAnswers.{answered_beat}
 use Rattle.mm_runs.specs.Laws.{taken_ahead}
 use Rattle.mm_machines.proofs.ChainCodes.{answer_codes, enough_below, middle_greatest, sizes_shown, answered_code, codes_within, highest_of}
 use Rattle.mm_machines.specs.Blocks.{Block, flat, sizes_of, highest, AreGreatest, codes_of, blocks_at}
-use Rattle.histories.specs.History.{total, AreWithin, is_high}
+use Rattle.histories.specs.History.{total, AreWithin, is_raised}
 use Rattle.histories.specs.History.AreWithin.{all_placed, placed, next_room}
 use Rattle.mm_runs.specs.Operations.{filled_lanes}
 use Rattle.mm_runs.specs.Order.{Answer}
@@ -90,7 +90,7 @@ module _ (target : Target) (middle down : Port) (end : ℕ) (legal : AreLegalAt 
 
 pub chain_code_rising : (target : Target) (up middle down : Port) (end : ℕ) → AreLegalAt up end → AreLegalAt middle end → AreLegalAt down end → AnswersAreOwed up end → AnswersAreOwed middle end →
     CarriesAnswers target up middle end → CarriesAnswers target middle down end → BeatsCover target middle down end →
-    (c : ℕ) → c < end → IsTrue (is_high (up.answers.valid c)) → HasRightCode target up down (length (words_at up c)) c
+    (c : ℕ) → c < end → IsTrue (is_raised (up.answers.valid c)) → HasRightCode target up down (length (words_at up c)) c
 chain_code_rising target up middle down end legal legal_there legal_down owed owed_there first second beats c h valid =
     let asks = asks_of up end c owed h valid in
     let lanes = filled_lanes up.shape target.shape asks.beat.enables in

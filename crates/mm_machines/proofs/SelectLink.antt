@@ -4,7 +4,7 @@ use Rattle.std.proofs.Math.Nat.{mul-mod_left, mod-eq-sub-div-mul, div-mul-le_sel
 use Rattle.mm_machines.proofs.Select.{beat_is_selected}
 use Rattle.mm_machines.proofs.Joined.{sends, transfer_by}
 use Rattle.mm_runs.specs.Laws.{same_pieces}
-use Rattle.histories.specs.History.{only_if, is_high}
+use Rattle.histories.specs.History.{only_if, is_raised}
 use Rattle.mm_runs.specs.Views.{Shape}
 use Rattle.mm_runs.specs.Views.Kind.{Reads, Writes}
 use Rattle.mm_runs.specs.Operations.{operations_of, pieces}
@@ -38,14 +38,14 @@ module _ (target : Target) (narrow wide : Shape) (units : wide.unit_bytes ≡ 1)
       let sent = sends target wide units raw.tag raw.more (select_of wide.word_bytes beat) [] below none (aligned beat.address, tt) in
       let place : byte_address narrow raw.levels.address + 0 * narrow.word_bytes ≡ byte_address narrow raw.levels.address = (let nothing = zero-mul narrow.word_bytes in omega (arith, nothing)) in
       let have : operations_in target narrow (mark narrow burst raw) ≡ operations_of narrow target.shape target.span beat =
-      ap (λ (t : Transfer). flat_map (beat_operations target narrow) t.beats) (transfer_by narrow raw.levels burst free one (is_high raw.levels.write)) ∙ append-nil _
-      ∙ ap (λ x. operations_of narrow target.shape target.span (record { kind = if is_high raw.levels.write then Writes else Reads; address = x; word = if is_high raw.levels.write then raw.levels.word else 0; enables = raw.levels.enables })) place in
+      ap (λ (t : Transfer). flat_map (beat_operations target narrow) t.beats) (transfer_by narrow raw.levels burst free one (is_raised raw.levels.write)) ∙ append-nil _
+      ∙ ap (λ x. operations_of narrow target.shape target.span (record { kind = if is_raised raw.levels.write then Writes else Reads; address = x; word = if is_raised raw.levels.write then raw.levels.word else 0; enables = raw.levels.enables })) place in
       let selected : operations_of narrow target.shape target.span beat ≡ operations_of wide target.shape target.span (select_of target.shape.word_bytes beat) =
       beat_is_selected narrow wide target.shape target.span words same_words enables beat fits few in
       let ops : operations_of wide target.shape target.span (select_of wide.word_bytes beat) ++ [] ≡ operations_in target narrow (mark narrow burst raw) =
       append-nil _ ∙ ap (λ d. operations_of wide target.shape target.span (select_of d beat)) same_words ∙ sym selected ∙ sym have in
-      let closed : closes (mark narrow burst raw) ≡ not (is_high raw.more) = ap (λ (t : Transfer). t.ends && not (is_high raw.more)) (transfer_by narrow raw.levels burst free one (is_high raw.levels.write)) in
-      let one_beat : length (mark narrow burst raw).transfer.beats ≡ 1 = ap (λ (t : Transfer). length t.beats) (transfer_by narrow raw.levels burst free one (is_high raw.levels.write)) in
+      let closed : closes (mark narrow burst raw) ≡ not (is_raised raw.more) = ap (λ (t : Transfer). t.ends && not (is_raised raw.more)) (transfer_by narrow raw.levels burst free one (is_raised raw.levels.write)) in
+      let one_beat : length (mark narrow burst raw).transfer.beats ≡ 1 = ap (λ (t : Transfer). length t.beats) (transfer_by narrow raw.levels burst free one (is_raised raw.levels.write)) in
       record {
         fit = sent.fit;
         free = sent.free;

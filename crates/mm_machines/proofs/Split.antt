@@ -8,7 +8,7 @@ use Rattle.std.proofs.Math.Nat.{zero-div, add-mul, mul-mod_left, mod-eq-sub-div-
 use Rattle.mm_machines.proofs.Pieces.{beat_is_pieces}
 use Rattle.mm_machines.proofs.ExpanderLink.{expander_commands}
 use Rattle.mm_machines.proofs.Joined.{sends, AreAligned, transfer_by}
-use Rattle.histories.specs.History.{only_if, is_high, numbers}
+use Rattle.histories.specs.History.{only_if, is_raised, numbers}
 use Rattle.mm_runs.specs.Views.{Shape, Levels}
 use Rattle.mm_machines.specs.Paths.{CommandView, AnswerView}
 use Rattle.mm_runs.specs.Views.Kind.{Reads, Writes}
@@ -141,7 +141,7 @@ module _ (target : Target) (wide narrow : Shape) (units : narrow.unit_bytes ≡ 
   neither false b e = refl
 
   abbrev chosen : Raw → List Beat
-  chosen raw = or_first narrow (not (is_high raw.more) || not (is_high raw.levels.write)) (beat_of wide raw.levels) (touched wide narrow (beat_of wide raw.levels))
+  chosen raw = or_first narrow (not (is_raised raw.more) || not (is_raised raw.levels.write)) (beat_of wide raw.levels) (touched wide narrow (beat_of wide raw.levels))
 
   beats_bound : (m : Marked) (b : Bool) (n : ℕ) → length m.transfer.beats ≡ 1 → n ≤ k → (if b then n else 0) ≤ pieces wide narrow * length (flat_map (λ (m : Marked). m.transfer.beats) (if b then m ∷ [] else []))
   beats_bound m false n one few = omega arith
@@ -153,14 +153,14 @@ module _ (target : Target) (wide narrow : Shape) (units : narrow.unit_bytes ≡ 
     have : operations_in target wide (mark wide burst raw) ≡ operations_of wide target.shape target.span (beat_of wide raw.levels)
     have =
         let place : byte_address wide raw.levels.address + 0 * wide.word_bytes ≡ byte_address wide raw.levels.address = (let nothing = zero-mul wide.word_bytes in omega (arith, nothing)) in
-        ap (λ (t : Transfer). flat_map (beat_operations target wide) t.beats) (transfer_by wide raw.levels burst free one (is_high raw.levels.write)) ∙ append-nil _
-        ∙ ap (λ x. operations_of wide target.shape target.span (record { kind = if is_high raw.levels.write then Writes else Reads; address = x; word = if is_high raw.levels.write then raw.levels.word else 0; enables = raw.levels.enables })) place
+        ap (λ (t : Transfer). flat_map (beat_operations target wide) t.beats) (transfer_by wide raw.levels burst free one (is_raised raw.levels.write)) ∙ append-nil _
+        ∙ ap (λ x. operations_of wide target.shape target.span (record { kind = if is_raised raw.levels.write then Writes else Reads; address = x; word = if is_raised raw.levels.write then raw.levels.word else 0; enables = raw.levels.enables })) place
 
-    closed : closes (mark wide burst raw) ≡ not (is_high raw.more)
-    closed = ap (λ (t : Transfer). t.ends && not (is_high raw.more)) (transfer_by wide raw.levels burst free one (is_high raw.levels.write))
+    closed : closes (mark wide burst raw) ≡ not (is_raised raw.more)
+    closed = ap (λ (t : Transfer). t.ends && not (is_raised raw.more)) (transfer_by wide raw.levels burst free one (is_raised raw.levels.write))
 
     one_beat : length (mark wide burst raw).transfer.beats ≡ 1
-    one_beat = ap (λ (t : Transfer). length t.beats) (transfer_by wide raw.levels burst free one (is_high raw.levels.write))
+    one_beat = ap (λ (t : Transfer). length t.beats) (transfer_by wide raw.levels burst free one (is_raised raw.levels.write))
 
     few : (l : List Beat) → chosen raw ≡ l → length l ≤ k
     few l is =
@@ -170,10 +170,10 @@ module _ (target : Target) (wide narrow : Shape) (units : narrow.unit_bytes ≡ 
 
     with_parts : (x : Beat) (xs : List Beat) → chosen raw ≡ x ∷ xs → Expands target wide narrow (split_parts wide narrow) burst raw below
     with_parts x xs is =
-        let aligned = aligned_chosen raw.levels (not (is_high raw.more) || not (is_high raw.levels.write)) (touched wide narrow (beat_of wide raw.levels)) (aligned_touched raw.levels (numbers 0 (pieces wide narrow))) in
+        let aligned = aligned_chosen raw.levels (not (is_raised raw.more) || not (is_raised raw.levels.write)) (touched wide narrow (beat_of wide raw.levels)) (aligned_touched raw.levels (numbers 0 (pieces wide narrow))) in
         let sent = sends target narrow units raw.tag raw.more x xs below none (subst (AreAligned target narrow units) is aligned) in
         let ops : flat_map ops_of (x ∷ xs) ≡ operations_in target wide (mark wide burst raw) =
-        ap (flat_map ops_of) (sym is) ∙ chosen_have (not (is_high raw.more) || not (is_high raw.levels.write)) (beat_of wide raw.levels) (touched wide narrow (beat_of wide raw.levels)) refl ∙ sym have in
+        ap (flat_map ops_of) (sym is) ∙ chosen_have (not (is_raised raw.more) || not (is_raised raw.levels.write)) (beat_of wide raw.levels) (touched wide narrow (beat_of wide raw.levels)) refl ∙ sym have in
         record {
           fit = subst (λ l. AreFit narrow below (joined raw.tag raw.more l)) (sym is) sent.fit;
           free = subst (λ l. (burst_of narrow below (joined raw.tag raw.more l)).left ≡ 0) (sym is) sent.free;
@@ -189,8 +189,8 @@ module _ (target : Target) (wide narrow : Shape) (units : narrow.unit_bytes ≡ 
     without_parts : chosen raw ≡ [] → Expands target wide narrow (split_parts wide narrow) burst raw below
     without_parts is =
         let ops : [] ≡ operations_in target wide (mark wide burst raw) =
-        ap (flat_map ops_of) (sym is) ∙ chosen_have (not (is_high raw.more) || not (is_high raw.levels.write)) (beat_of wide raw.levels) (touched wide narrow (beat_of wide raw.levels)) refl ∙ sym have in
-        let open_on : not (is_high raw.more) ≡ false = neither (not (is_high raw.more)) (not (is_high raw.levels.write)) (needed_not _ (beat_of wide raw.levels) (touched wide narrow (beat_of wide raw.levels)) is) in
+        ap (flat_map ops_of) (sym is) ∙ chosen_have (not (is_raised raw.more) || not (is_raised raw.levels.write)) (beat_of wide raw.levels) (touched wide narrow (beat_of wide raw.levels)) refl ∙ sym have in
+        let open_on : not (is_raised raw.more) ≡ false = neither (not (is_raised raw.more)) (not (is_raised raw.levels.write)) (needed_not _ (beat_of wide raw.levels) (touched wide narrow (beat_of wide raw.levels)) is) in
         let not_closed : false ≡ closes (mark wide burst raw) = sym (closed ∙ open_on) in
         record {
           fit = subst (λ l. AreFit narrow below (joined raw.tag raw.more l)) (sym is) tt;
@@ -219,7 +219,7 @@ module _ (target : Target) (wide narrow : Shape) (units : narrow.unit_bytes ≡ 
         omega (arith, least, most)
 
     stays_free : (burst : Burst) (raw : Raw) → IsFitBeat wide burst raw → burst.left ≡ 0 → (burst_past wide burst raw).left ≡ 0
-    stays_free burst raw fit free = by_write (is_high raw.levels.write)
+    stays_free burst raw fit free = by_write (is_raised raw.levels.write)
       where
         by_write : (w : Bool) → (if w then next_burst wide raw.levels burst else burst).left ≡ 0
         by_write false = free

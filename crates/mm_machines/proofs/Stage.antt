@@ -2,7 +2,7 @@
 use Rattle.std.proofs.Common.{ℕ, zero, suc, ◌<◌, ◌≤◌, ◌≡◌, [], ◌∷◌, ◌++◌, List, Bool, true, false, not, ◌&&◌, ◌||◌, IsTrue, IsFalse, arith, refl, sym, ap, ap₂, ◌∙◌, append_assoc, append-nil, subst, drop, if◌then◌else◌}
 use Rattle.std.proofs.lemmas.Bool.{not-true, and_parts}
 use Rattle.histories.specs.Laws.{shown_is_accepted_and_standing}
-use Rattle.histories.specs.History.{standing, before, only_if, is_high, IsPrefix}
+use Rattle.histories.specs.History.{standing, before, only_if, is_raised, IsPrefix}
 use Rattle.mm_machines.proofs.Wire.{marked_keeps}
 use Rattle.mm_runs.specs.Views.{Shape, levels_at}
 use Rattle.mm_machines.specs.Paths.{CommandView, AnswerView}
@@ -92,7 +92,7 @@ fits port end (suc c) legal h =
   where
     by_test : (b : Bool) → takes port c ≡ b → AreFit port.shape idle (raws port c) → AreFit port.shape idle (raws port c ++ only_if b (raw_at port c))
     by_test true taken earlier =
-        let fit = fit_when_shown port end c legal (omega arith) (and_parts (shows port.commands.signals c) (not (is_high (port.commands.waitrequest c))) taken).0 in
+        let fit = fit_when_shown port end c legal (omega arith) (and_parts (shows port.commands.signals c) (not (is_raised (port.commands.waitrequest c))) taken).0 in
         fit_push port.shape idle (raws port c) (raw_at port c) earlier (subst (λ b. IsFitBeat port.shape b (raw_at port c)) (burst_is port c) fit)
     by_test false taken earlier = subst (AreFit port.shape idle) (sym (append-nil (raws port c))) earlier
 
@@ -101,7 +101,7 @@ prefix_behind xs {some} p = record { rest = p.rest; joins = append_assoc xs some
 
 module _ (depth : ℕ) (up down : Port) (queue : ℕ → List Raw) (run : IsStageRun depth up down queue) where
   step : (c : ℕ) (t : Bool) (q : List Raw) → takes down c ≡ t → ShowsHead down c q → q ≡ only_if t (raw_at down c) ++ drop (if t then 1 else 0) q
-  step c true [] taken head = let bad = (and_parts (shows down.commands.signals c) (not (is_high (down.commands.waitrequest c))) taken).0 in cc
+  step c true [] taken head = let bad = (and_parts (shows down.commands.signals c) (not (is_raised (down.commands.waitrequest c))) taken).0 in cc
   step c true (raw ∷ later) taken head = ap (λ r. r ∷ later) (sym head.1)
   step c false q taken head = refl
 
@@ -121,17 +121,17 @@ module _ (shape : Shape) (dc : CommandView) (da : AnswerView) (end : ℕ)
   neither true w h = cc
   neither false w h = (refl, refl)
 
-  one_kind : (c : ℕ) → c < end → (b : Bool) → shows dc.signals c ≡ b → IsTrue (not (is_high (dc.read c) && is_high (dc.write c)))
+  one_kind : (c : ℕ) → c < end → (b : Bool) → shows dc.signals c ≡ b → IsTrue (not (is_raised (dc.read c) && is_raised (dc.write c)))
   one_kind c h true shown = (fit c h shown).one_kind
-  one_kind c h false shown = (neither (is_high (dc.read c)) (is_high (dc.write c)) shown).1
+  one_kind c h false shown = (neither (is_raised (dc.read c)) (is_raised (dc.write c)) shown).1
 
   shown_of : (c : ℕ) → presents dc.signals (takes (port_of shape dc da)) c ≡ true → shows dc.signals c ≡ true
   shown_of zero presented = presented
   shown_of (suc c) presented = (and_parts (shows dc.signals (suc c)) (not (is_held dc.signals (takes (port_of shape dc da)) c)) presented).0
 
-  finished : (c : ℕ) → c < end → IsTrue (is_under_way shape dc.signals (takes (port_of shape dc da)) c) → (b : Bool) → shows dc.signals c ≡ b → IsFalse (is_high (dc.read c))
+  finished : (c : ℕ) → c < end → IsTrue (is_under_way shape dc.signals (takes (port_of shape dc da)) c) → (b : Bool) → shows dc.signals c ≡ b → IsFalse (is_raised (dc.read c))
   finished c h busy true shown = (fit c h shown).finished busy
-  finished c h busy false shown = (neither (is_high (dc.read c)) (is_high (dc.write c)) shown).0
+  finished c h busy false shown = (neither (is_raised (dc.read c)) (is_raised (dc.write c)) shown).0
 
   pub legal_when_shown : AreLegalAt (port_of shape dc da) end
   legal_when_shown = record {
@@ -241,4 +241,4 @@ module _ (depth : ℕ) (shape : Shape) (uc dc : CommandView) (ua da : AnswerView
       (subst (λ l. IsPrefix ((taken_at (port_of shape dc da) c ++ only_if (takes (port_of shape dc da) c) (marked_at (port_of shape dc da) c)) ++ only_if (is_held dc.signals (takes (port_of shape dc da)) c) (marked_at (port_of shape dc da) c)) l)
       (sym (taken_split depth shape uc dc ua da queue run c))
       (front_of (taken_at (port_of shape dc da) c) (marked shape (burst_of shape idle (raws (port_of shape dc da) c)) (queue c)) (marked_at (port_of shape dc da) c) (shows dc.signals c) (takes (port_of shape dc da) c)
-      (λ taken. (and_parts (shows dc.signals c) (not (is_high (dc.waitrequest c))) taken).0) (λ shown. head_of c (queue c) (run.heads c) shown)))
+      (λ taken. (and_parts (shows dc.signals c) (not (is_raised (dc.waitrequest c))) taken).0) (λ shown. head_of c (queue c) (run.heads c) shown)))

@@ -8,7 +8,7 @@ use Rattle.mm_machines.proofs.Wire.{own_bytes, own_code, taken_is_shown, total_s
 use Rattle.mm_runs.specs.Laws.{same_pieces}
 use Rattle.mm_machines.proofs.ChainAnswers.{answers_extend}
 use Rattle.mm_machines.proofs.Stage.{prefix_behind, shown_front, stage_legal, taken_split}
-use Rattle.histories.specs.History.{only_if, is_high, IsPrefix, unreached, total, AreWithin}
+use Rattle.histories.specs.History.{only_if, is_raised, IsPrefix, unreached, total, AreWithin}
 use Rattle.mm_runs.specs.Views.{Shape}
 use Rattle.mm_machines.specs.Paths.{CommandView, AnswerView}
 use Rattle.mm_runs.specs.Commands.{Burst, words_before}
@@ -105,7 +105,7 @@ module _ (depth : ℕ) (shape : Shape) (uc dc : CommandView) (ua da : AnswerView
   words_later zero = rw run.quiet refl
   words_later (suc c) =
       ap₂ (λ xs ys. xs ++ ys) (words_later c)
-      (ap₂ (λ v w. only_if (is_high v) w) (run.valid c) (ap₂ (λ w k. record { word = w; code = k }) (run.word c) (run.code c)))
+      (ap₂ (λ v w. only_if (is_raised v) w) (run.valid c) (ap₂ (λ w k. record { word = w; code = k }) (run.word c) (run.code c)))
 
   module _ (target : Target) (end : ℕ) (legal : AreLegalAt (port_of shape uc ua) end) where
     above : (k : ℕ) → k ≤ end → IsPrefix (shown_at (port_of shape dc da) k) (shown_at (port_of shape uc ua) k)
@@ -117,18 +117,18 @@ module _ (depth : ℕ) (shape : Shape) (uc dc : CommandView) (ua da : AnswerView
     owed_there : AnswersAreOwed (port_of shape dc da) end → AnswersAreOwed (port_of shape uc ua) end
     owed_there owed zero h = rw run.quiet (omega arith)
     owed_there owed (suc j) h =
-        let counts : words_before ua.valid (suc (suc j)) ≡ length (words_at (port_of shape uc ua) (suc (suc j))) = same_counts (λ c. is_high (ua.valid c)) (λ c. c) (λ c. record { word = ua.word c; code = ua.code c }) (suc (suc j)) in
-        let there : words_before da.valid (suc j) ≡ length (words_at (port_of shape dc da) (suc j)) = same_counts (λ c. is_high (da.valid c)) (λ c. c) (λ c. record { word = da.word c; code = da.code c }) (suc j) in
+        let counts : words_before ua.valid (suc (suc j)) ≡ length (words_at (port_of shape uc ua) (suc (suc j))) = same_counts (λ c. is_raised (ua.valid c)) (λ c. c) (λ c. record { word = ua.word c; code = ua.code c }) (suc (suc j)) in
+        let there : words_before da.valid (suc j) ≡ length (words_at (port_of shape dc da) (suc j)) = same_counts (λ c. is_raised (da.valid c)) (λ c. c) (λ c. record { word = da.word c; code = da.code c }) (suc j) in
         let later = ap length (words_later (suc j)) in
         let asked = owed j (omega arith) in
         let grows : length (read_beats (taken_at (port_of shape dc da) j)) ≤ length (read_beats (taken_at (port_of shape uc ua) (suc j))) =
         prefix_length (prefix_flat_map _ (prefix_filter _ (prefix_trans (taken_above j) (before_extends _ j)))) in
         omega (arith, counts, there, later, asked, grows)
 
-    answered : AnswersAreOwed (port_of shape dc da) end → (c : ℕ) → c < end → IsTrue (is_high (ua.valid c)) → IsAnswered target (port_of shape uc ua) (port_of shape dc da) (length (words_at (port_of shape uc ua) c)) c
+    answered : AnswersAreOwed (port_of shape dc da) end → (c : ℕ) → c < end → IsTrue (is_raised (ua.valid c)) → IsAnswered target (port_of shape uc ua) (port_of shape dc da) (length (words_at (port_of shape uc ua) c)) c
     answered owed zero h valid = let quiet = run.quiet in cc
     answered owed (suc j) h valid =
-        let valid_there : IsTrue (is_high (da.valid j)) = ap is_high (sym (run.valid j)) ∙ valid in
+        let valid_there : IsTrue (is_raised (da.valid j)) = ap is_raised (sym (run.valid j)) ∙ valid in
         let asks = asks_of (port_of shape dc da) end j owed (omega arith) valid_there in
         let w : Word = record { word = da.word j; code = da.code j } in
         let ws = words_at (port_of shape dc da) j in

@@ -5,7 +5,7 @@ use Rattle.histories.specs.Laws.{shown_is_accepted_and_standing, prefix_length, 
 use Rattle.mm_machines.proofs.Wire.{marked_keeps}
 use Rattle.mm_machines.proofs.Stage.{taken_split}
 use Rattle.mm_machines.proofs.StageLink.{words_later}
-use Rattle.histories.specs.History.{one_if, only_if, is_high}
+use Rattle.histories.specs.History.{one_if, only_if, is_raised}
 use Rattle.mm_runs.specs.Views.{Shape}
 use Rattle.mm_machines.specs.Paths.{CommandView, AnswerView}
 use Rattle.mm_runs.specs.Commands.{shows, is_held}
@@ -49,7 +49,7 @@ at_most_one true = le_refl 1
 at_most_one false = omega arith
 
 module _ (depth : ℕ) (shape : Shape) (uc dc : CommandView) (ua da : AnswerView) (queue : ℕ → List Raw) (run : IsStageRun depth (port_of shape uc ua) (port_of shape dc da) queue)
-    (some : 0 < depth) (opens : (c : ℕ) → length (queue c) < depth → is_high (uc.waitrequest c) ≡ false) (target : Target) (end : ℕ) (legal : AreLegalAt (port_of shape uc ua) end) where
+    (some : 0 < depth) (opens : (c : ℕ) → length (queue c) < depth → is_raised (uc.waitrequest c) ≡ false) (target : Target) (end : ℕ) (legal : AreLegalAt (port_of shape uc ua) end) where
   abbrev up : Port
   up = port_of shape uc ua
 
@@ -73,7 +73,7 @@ module _ (depth : ℕ) (shape : Shape) (uc dc : CommandView) (ua da : AnswerView
   quiet_above : (c : ℕ) → queue c ≡ [] → takes up c ≡ false → shows uc.signals c ≡ false
   quiet_above c none taken =
       let room : length (queue c) < depth = subst (λ q. length q < depth) (sym none) some in
-      not_shown (shows uc.signals c) (is_high (uc.waitrequest c)) (opens c room) taken
+      not_shown (shows uc.signals c) (is_raised (uc.waitrequest c)) (opens c room) taken
 
   none_held : (c : ℕ) → shows uc.signals c ≡ false → is_held uc.signals (takes up) c ≡ false
   none_held c quiet = ap (λ s. s && not (takes up c)) quiet
@@ -119,6 +119,6 @@ module _ (depth : ℕ) (shape : Shape) (uc dc : CommandView) (ua da : AnswerView
 
       stays : (c : ℕ) → takes down c ≡ false → owing_rank down (suc c) ≤ owing_rank down c
       stays c none =
-          let grows = prefix_length (before_extends (λ k. only_if (is_high (da.valid k)) (record { word = da.word k; code = da.code k })) c) in
+          let grows = prefix_length (before_extends (λ k. only_if (is_raised (da.valid k)) (record { word = da.word k; code = da.code k })) c) in
           subst (λ l. one_if (nat_lt (length (words_at down (suc c))) (length (read_beats l))) ≤ owing_rank down c) (sym (same_taken c none))
           (fewer_owed (length (words_at down c)) (length (words_at down (suc c))) (words_owed down c) grows)

@@ -2,7 +2,7 @@
 use Rattle.std.proofs.Common.{ℕ, zero, suc, ◌≡◌, ◌+◌, [], ◌∷◌, ◌++◌, List, Bool, true, false, ◌&&◌, if◌then◌else◌, arith, refl, sym, ap, ap₂, ◌∙◌, length, map, filter, flat_map, nat_eq, length-append}
 use Rattle.std.proofs.lemmas.List.Elements.{filter-append}
 use Rattle.histories.specs.Laws.{prefix_filter, prefix_length}
-use Rattle.histories.specs.History.{only_if, is_high}
+use Rattle.histories.specs.History.{only_if, is_raised}
 use Rattle.mm_runs.specs.Views.{System}
 use Rattle.mm_runs.specs.Operations.{Beat}
 use Rattle.mm_runs.specs.Commands.{is_of_reads}
@@ -19,7 +19,7 @@ count_append h xs ys = ap length (filter-append (λ t. nat_eq t h) xs ys) ∙ le
 words_counted : (tagged : TaggedPort) (h c : ℕ) → length (words_with h tagged c) ≡ count_with h (word_tags tagged c)
 words_counted tagged h zero = refl
 words_counted tagged h (suc c) =
-    length-append (words_with h tagged c) _ ∙ ap₂ (λ a b. a + b) (words_counted tagged h c) (one (is_high (tagged.answers.valid c)) (nat_eq (tagged.answer_tag c) h) refl _)
+    length-append (words_with h tagged c) _ ∙ ap₂ (λ a b. a + b) (words_counted tagged h c) (one (is_raised (tagged.answers.valid c)) (nat_eq (tagged.answer_tag c) h) refl _)
     ∙ sym (count_append h (word_tags tagged c) _)
   where
     one : (v t : Bool) → nat_eq (tagged.answer_tag c) h ≡ t → (w : Word) → length (only_if (v && t) w) ≡ count_with h (only_if v (tagged.answer_tag c))

@@ -9,7 +9,7 @@ use Rattle.std.proofs.lemmas.List.{length-map}
 use Rattle.std.proofs.Math.Seq.{drop-append_seam}
 use Rattle.histories.specs.Laws.{prefix_refl, prefix_flat_map, prefix_filter, prefix_trans, before_extends, accepted_prefix}
 use Rattle.mm_runs.specs.Laws.{same_pieces, accepts_shows, legal_keeps}
-use Rattle.histories.specs.History.{KeepsItems, before, only_if, is_high, unreached, total, AreWithin, IsPrefix}
+use Rattle.histories.specs.History.{KeepsItems, before, only_if, is_raised, unreached, total, AreWithin, IsPrefix}
 use Rattle.histories.specs.History.AreWithin.{all_placed, placed, next_room}
 use Rattle.mm_runs.specs.Views.{Shape}
 use Rattle.mm_runs.specs.Operations.{Beat, filled_lanes, byte_at}
@@ -26,7 +26,7 @@ marked_keeps port end legal =
       held = λ c h stands.
           let same = (keeps.held c h stands).1 in
           let tag = legal.tag c h stands in
-          let more = ap is_high (legal.more c h stands) in
+          let more = ap is_raised (legal.more c h stands) in
           ((keeps.held c h stands).0, cc);
     }
 
@@ -138,12 +138,12 @@ pub record Asks (port : Port) (c : ℕ) : Type 0 where
   pub got : slice_get (read_beats (taken_at port c)) (length (words_at port c)) ≡ Some beat
   pub word : words_at port (suc c) ≡ words_at port c ++ record { word = port.answers.word c; code = port.answers.code c } ∷ []
 
-pub asks_of : (port : Port) (end c : ℕ) → AnswersAreOwed port end → c < end → IsTrue (is_high (port.answers.valid c)) → Asks port c
+pub asks_of : (port : Port) (end c : ℕ) → AnswersAreOwed port end → c < end → IsTrue (is_raised (port.answers.valid c)) → Asks port c
 asks_of port end c owed h valid =
     let word : Word = record { word = port.answers.word c; code = port.answers.code c } in
     let words_now : words_at port (suc c) ≡ words_at port c ++ word ∷ [] = rw valid in
     let few : length (words_at port (suc c)) ≤ words_owed port c =
-    subst (λ n. n ≤ words_owed port c) (same_counts (λ c. is_high (port.answers.valid c)) (λ c. c) (λ c. record { word = port.answers.word c; code = port.answers.code c }) (suc c)) (owed c h) in
+    subst (λ n. n ≤ words_owed port c) (same_counts (λ c. is_raised (port.answers.valid c)) (λ c. c) (λ c. record { word = port.answers.word c; code = port.answers.code c }) (suc c)) (owed c h) in
     let one_more : length (words_at port (suc c)) ≡ length (words_at port c) + 1 = ap length words_now ∙ length-append (words_at port c) (word ∷ []) in
     let within : length (words_at port c) < length (read_beats (taken_at port c)) = omega (arith, few, one_more) in
     let none : Beat = record { kind = Reads; address = 0; word = 0; enables = 0 } in
@@ -162,7 +162,7 @@ pub asked_taken : (port : Port) (c : ℕ) → IsPrefix (read_beats (taken_at por
 asked_taken port c = prefix_flat_map _ (prefix_filter _ (before_extends _ c))
 
 module _ (target : Target) (port : Port) (end : ℕ) (legal : AreLegalAt port end) (owed : AnswersAreOwed port end) where
-  wire_answered : (c : ℕ) → c < end → IsTrue (is_high (port.answers.valid c)) → IsAnswered target port port (length (words_at port c)) c
+  wire_answered : (c : ℕ) → c < end → IsTrue (is_raised (port.answers.valid c)) → IsAnswered target port port (length (words_at port c)) c
   wire_answered c h valid =
       let asks = asks_of port end c owed h valid in
       wire_word target port.shape (read_beats (shown_at port (suc c))) (read_beats (taken_at port (suc c))) (words_at port c) (record { word = port.answers.word c; code = port.answers.code c }) (answers_at target port (suc c)) asks.beat

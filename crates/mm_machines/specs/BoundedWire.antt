@@ -1,7 +1,7 @@
 -- One host wired to one agent, both of 32 bits: each signal goes straight through, and a read is held back while as many reads are unanswered
 -- as the agent bears.
 use Rattle.std.specs.Prelude.{◌≡◌, ℕ, suc, ◌+◌, ◌*◌, ◌/◌, ◌^◌, ◌<◌, ◌≤◌, Bool, true, false, ◌&&◌, ◌||◌, [], ◌∷◌, if◌then◌else◌, nat_eq, nat_lt, Option, Some, None, IsFalse}
-use Rattle.histories.specs.History.{is_high, one_if}
+use Rattle.histories.specs.History.{is_raised, one_if}
 use Rattle.mm_runs.specs.Views.{Shape, HostSide, AgentSide, HostView, AgentView, System, Run, Kind}
 use Rattle.mm_runs.specs.Views.Responses.{AreZero}
 use Rattle.mm_runs.specs.Legal.{host_accepts}
@@ -72,7 +72,7 @@ is_full form count cycle = nat_eq (count cycle) form.pending
 
 -- the host's read is accepted in a cycle
 abbrev pub takes_read : HostView → ℕ → Bool
-takes_read host cycle = is_high (host.read cycle) && host_accepts host cycle
+takes_read host cycle = is_raised (host.read cycle) && host_accepts host cycle
 
 -- the host's levels in a cycle fit its ports
 pub record FitsHostPorts (form : WireForm) (host : HostView) (cycle : ℕ) : Type 0 where
@@ -93,15 +93,15 @@ pub record IsBoundedWire (form : WireForm) (host : HostView) (agent : AgentView)
   pub enables : (c : ℕ) → c < end → agent.enables c ≡ host.enables c
   pub one_beat : (c : ℕ) → c < end → agent.count c ≡ 1
   pub grant : (c : ℕ) → c < end → agent.grant c ≡ 0
-  pub waitrequest : (c : ℕ) → c < end → is_high (host.waitrequest c) ≡ (is_full form count c && is_high (host.read c)) || is_high (agent.waitrequest c)
+  pub waitrequest : (c : ℕ) → c < end → is_raised (host.waitrequest c) ≡ (is_full form count c && is_raised (host.read c)) || is_raised (agent.waitrequest c)
   -- the answers
   pub readdatavalid : (c : ℕ) → c < end → host.readdatavalid c ≡ agent.readdatavalid c
   pub readdata : (c : ℕ) → c < end → host.readdata c ≡ agent.readdata c
   pub no_response : (c : ℕ) → c < end → host.response c ≡ 0
   -- the count, in five bits
   pub starts : 0 < end → count 0 ≡ 0
-  pub counts : (c : ℕ) → suc c < end → count c + one_if (takes_read host c) < 32 → one_if (is_high (agent.readdatavalid c)) ≤ count c + one_if (takes_read host c) →
-      count (suc c) + one_if (is_high (agent.readdatavalid c)) ≡ count c + one_if (takes_read host c)
+  pub counts : (c : ℕ) → suc c < end → count c + one_if (takes_read host c) < 32 → one_if (is_raised (agent.readdatavalid c)) ≤ count c + one_if (takes_read host c) →
+      count (suc c) + one_if (is_raised (agent.readdatavalid c)) ≡ count c + one_if (takes_read host c)
 
 -- the host and the agent of a wire are legal, and what it promises them
 abbrev pub IsLegalWireRun : WireForm → HostView → AgentView → ℕ → Type 0

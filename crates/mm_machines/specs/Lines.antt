@@ -1,7 +1,7 @@
 -- What each part between the hosts and the agents says of its two sides. A flow is what one boundary carries from one host to one agent.
 use Rattle.std.specs.Prelude.{◌≡◌, ℕ, suc, ◌+◌, ◌-◌, ◌*◌, ◌<◌, ◌≤◌, Bool, true, false, not, ◌&&◌, ◌||◌, List, [], ◌∷◌, ◌++◌, length, map, take, drop, nat_eq, IsTrue, Option, Some, filter, flat_map, zip, slice_get, MatchOption, ⊤}
 use Rattle.std.specs.List.{list_all}
-use Rattle.histories.specs.History.{before, only_if, is_high, unreached, total, AreWithin, IsPrefix}
+use Rattle.histories.specs.History.{before, only_if, is_raised, unreached, total, AreWithin, IsPrefix}
 use Rattle.mm_runs.specs.Views.{Shape, System, Run, Responses}
 use Rattle.mm_runs.specs.Views.Responses.{AreZero, AreCodes}
 use Rattle.mm_runs.specs.Operations.{Beat, Operation, filled_lanes, is_read, pieces}
@@ -130,8 +130,8 @@ pub record HostCarriesCommands (system : System) (run : Run) (host hold : ℕ) (
 
 -- the codes of the words behind the part next to the host are those at its port
 pub record HasHostCodes (system : System) (run : Run) (host : ℕ) (down : Port) (end : ℕ) : Type 0 where
-  pub code : (c : ℕ) → c < end → IsTrue (system.host host).has_response → IsTrue (is_high (down.answers.valid c)) → (run.at_host host).response c ≡ down.answers.code c
-  pub quiet : (c : ℕ) → c < end → IsTrue (system.host host).has_response → IsTrue (not (is_high (down.answers.valid c))) → (run.at_host host).response c ≡ 0
+  pub code : (c : ℕ) → c < end → IsTrue (system.host host).has_response → IsTrue (is_raised (down.answers.valid c)) → (run.at_host host).response c ≡ down.answers.code c
+  pub quiet : (c : ℕ) → c < end → IsTrue (system.host host).has_response → IsTrue (not (is_raised (down.answers.valid c))) → (run.at_host host).response c ≡ 0
   pub absent : (c : ℕ) → c < end → IsTrue (not (system.host host).has_response) → (run.at_host host).response c ≡ 0
 
 abbrev pub HostResponds : Responses → System → Run → ℕ → Port → ℕ → Type 0
@@ -139,8 +139,8 @@ HostResponds AreZero system run host down end = (c : ℕ) → c < end → (run.a
 HostResponds AreCodes system run host down end = HasHostCodes system run host down end
 
 pub record HostCarriesAnswers (responses : Responses) (system : System) (run : Run) (host : ℕ) (down : Port) (end : ℕ) : Type 0 where
-  pub gives : (c : ℕ) → c < end → gives_word (system.host host) (run.at_host host) c ≡ is_high (down.answers.valid c)
-  pub word : (c : ℕ) → c < end → IsTrue (is_high (down.answers.valid c)) → (run.at_host host).readdata c ≡ down.answers.word c
+  pub gives : (c : ℕ) → c < end → gives_word (system.host host) (run.at_host host) c ≡ is_raised (down.answers.valid c)
+  pub word : (c : ℕ) → c < end → IsTrue (is_raised (down.answers.valid c)) → (run.at_host host).readdata c ≡ down.answers.word c
   pub proper : IsProperAtHost (system.host host) (run.at_host host) end
   pub responds : HostResponds responses system run host down end
 
@@ -202,11 +202,11 @@ abbrev pub HasDefaultCode : ℕ → Option Asked → Type 0
 HasDefaultCode code question = MatchOption question ⊥ (λ q. MatchOption q.place (code ≡ 3) (λ _. ⊤))
 
 pub record RouteCarriesAnswers (system : System) (host : ℕ) (up : Port) (down : ℕ → Port) (end : ℕ) : Type 0 where
-  pub answered : (c : ℕ) → c < end → IsTrue (is_high (up.answers.valid c)) →
+  pub answered : (c : ℕ) → c < end → IsTrue (is_raised (up.answers.valid c)) →
       IsRouted system host up down c (length (words_at up c)) (record { word = up.answers.word c; code = up.answers.code c }) (slice_get (asked_at system host up (suc c)) (length (words_at up c)))
   pub limited : KeepsReadOrderAt system host up down end
   pub codes : (a c : ℕ) → a < system.agents → c ≤ end → IsPrefix (worded (placed_blocks system host a up c)) (worded (blocks_at (target_of system a) (down a) c))
-  pub default_code : (c : ℕ) → c < end → IsTrue (is_high (up.answers.valid c)) → HasDefaultCode (up.answers.code c) (slice_get (asked_at system host up (suc c)) (length (words_at up c)))
+  pub default_code : (c : ℕ) → c < end → IsTrue (is_raised (up.answers.valid c)) → HasDefaultCode (up.answers.code c) (slice_get (asked_at system host up (suc c)) (length (words_at up c)))
   pub owed : AnswersAreOwed up end
 
 pub record IsRouteLine (system : System) (host hold : ℕ) (up : Port) (down : ℕ → Port) (end : ℕ) : Type 0 where
@@ -248,7 +248,7 @@ pub record TaggedPort : Type 0 where
 -- the words with one tag
 abbrev pub words_with : ℕ → TaggedPort → ℕ → List Word
 words_with tag tagged cycle =
-    before (λ c. only_if (is_high (tagged.answers.valid c) && nat_eq (tagged.answer_tag c) tag) (record { word = tagged.answers.word c; code = tagged.answers.code c })) cycle
+    before (λ c. only_if (is_raised (tagged.answers.valid c) && nat_eq (tagged.answer_tag c) tag) (record { word = tagged.answers.word c; code = tagged.answers.code c })) cycle
 
 -- the answers to the read operations with one tag
 abbrev pub answers_with : ℕ → Target → TaggedPort → ℕ → List Answer
@@ -262,7 +262,7 @@ AreOwedByTag system tagged end =
 
 -- the tags of the words that have come, and of the words that are asked
 abbrev pub word_tags : TaggedPort → ℕ → List ℕ
-word_tags tagged cycle = before (λ c. only_if (is_high (tagged.answers.valid c)) (tagged.answer_tag c)) cycle
+word_tags tagged cycle = before (λ c. only_if (is_raised (tagged.answers.valid c)) (tagged.answer_tag c)) cycle
 
 abbrev pub asked_tags : List Marked → List ℕ
 asked_tags transfers = flat_map (λ m. map (λ _. m.tag) m.transfer.beats) (filter (λ m. is_of_reads m.transfer.kind) transfers)

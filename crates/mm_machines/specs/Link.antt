@@ -1,6 +1,6 @@
 -- The law of a link: a part that hands commands on and answers back.
 use Rattle.std.specs.Prelude.{◌≡◌, ℕ, suc, ◌-◌, ◌*◌, ◌<◌, ◌≤◌, Bool, true, false, not, ◌&&◌, ◌||◌, List, [], ◌∷◌, ◌++◌, length, map, take, drop, nat_eq, nat_lt, nat_le, IsTrue, filter, flat_map, zip, slice_get, MatchOption}
-use Rattle.histories.specs.History.{before, only_if, is_high, unreached, total, AreWithin, IsPrefix, first_shown, all_accepted}
+use Rattle.histories.specs.History.{before, only_if, is_raised, unreached, total, AreWithin, IsPrefix, first_shown, all_accepted}
 use Rattle.mm_runs.specs.Views.{Shape}
 use Rattle.mm_machines.specs.Paths.{CommandView, AnswerView}
 use Rattle.mm_runs.specs.Operations.{Beat, Operation, operations_of, filled_lanes, byte_at, pieces}
@@ -31,7 +31,7 @@ takes port = accepts_by port.commands.signals port.commands.waitrequest
 abbrev pub marked_at : Port → ℕ → Marked
 marked_at port cycle = record {
   tag = port.commands.tag cycle;
-  more = is_high (port.commands.more cycle);
+  more = is_raised (port.commands.more cycle);
   transfer = transfer_at port.shape port.commands.signals (takes port) cycle;
 }
 
@@ -106,7 +106,7 @@ read_beats transfers = flat_map (λ m. m.transfer.beats) (filter (λ m. is_of_re
 
 abbrev pub words_at : Port → ℕ → List Word
 words_at port cycle =
-    before (λ c. only_if (is_high (port.answers.valid c)) (record { word = port.answers.word c; code = port.answers.code c })) cycle
+    before (λ c. only_if (is_raised (port.answers.valid c)) (record { word = port.answers.word c; code = port.answers.code c })) cycle
 
 -- the answers in a word
 abbrev pub bytes_in : Target → Shape → Beat → Word → List Answer
@@ -154,7 +154,7 @@ pub record AreLegalAt (port : Port) (end : ℕ) : Type 0 where
   pub legal : AreLegal port.shape port.commands.signals (takes port) end
   pub tag : (c : ℕ) → suc c < end → IsTrue (is_held port.commands.signals (takes port) c) → port.commands.tag c ≡ port.commands.tag (suc c)
   pub more : (c : ℕ) → suc c < end → IsTrue (is_held port.commands.signals (takes port) c) → port.commands.more c ≡ port.commands.more (suc c)
-  pub joined : (c : ℕ) → c < end → IsTrue (shows port.commands.signals c) → IsTrue ((transfer_at port.shape port.commands.signals (takes port) c).ends || is_high (port.commands.more c))
+  pub joined : (c : ℕ) → c < end → IsTrue (shows port.commands.signals c) → IsTrue ((transfer_at port.shape port.commands.signals (takes port) c).ends || is_raised (port.commands.more c))
 
 abbrev pub AnswersAreOwed : Port → ℕ → Type 0
 AnswersAreOwed port end = AreOwed port.answers.valid (words_owed port) end
@@ -169,7 +169,7 @@ pub record CarriesCommands (target : Target) (hold : ℕ) (up down : Port) (end 
 
 -- what its answers keep
 pub record CarriesAnswers (target : Target) (up down : Port) (end : ℕ) : Type 0 where
-  pub answered : (c : ℕ) → c < end → IsTrue (is_high (up.answers.valid c)) → IsAnswered target up down (length (words_at up c)) c
+  pub answered : (c : ℕ) → c < end → IsTrue (is_raised (up.answers.valid c)) → IsAnswered target up down (length (words_at up c)) c
   pub owed : AnswersAreOwed up end
 
 -- the law of a link in one run: commands need the answers of earlier cycles alone to be owed

@@ -1,6 +1,6 @@
 -- Two links in a row, and what a side gives back.
 use Rattle.std.specs.Prelude.{ℕ, ◌*◌, ◌<◌, ◌≤◌, length, IsTrue}
-use Rattle.histories.specs.History.{is_high}
+use Rattle.histories.specs.History.{is_raised}
 use Rattle.mm_runs.specs.Operations.{pieces}
 use Rattle.mm_machines.specs.Link.{Target, Port, KeepsLinkLaw, HasRightBytes, HasRightCode, words_at}
 
@@ -24,8 +24,8 @@ AddsNoPieces pair = pieces pair.middle.shape pair.down.shape * pieces pair.up.sh
 
 -- each word that comes at the upper port holds the bytes of its answers below
 abbrev pub BringsRightBytes : Target → Port → Port → ℕ → Type 0
-BringsRightBytes target up down end = (c : ℕ) → c < end → IsTrue (is_high (up.answers.valid c)) → HasRightBytes target up down (length (words_at up c)) c
+BringsRightBytes target up down end = (c : ℕ) → c < end → IsTrue (is_raised (up.answers.valid c)) → HasRightBytes target up down (length (words_at up c)) c
 
 -- and bears their code
 abbrev pub BringsRightCodes : Target → Port → Port → ℕ → Type 0
-BringsRightCodes target up down end = (c : ℕ) → c < end → IsTrue (is_high (up.answers.valid c)) → HasRightCode target up down (length (words_at up c)) c
+BringsRightCodes target up down end = (c : ℕ) → c < end → IsTrue (is_raised (up.answers.valid c)) → HasRightCode target up down (length (words_at up c)) c

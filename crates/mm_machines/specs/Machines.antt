@@ -1,6 +1,6 @@
 -- Machines of links over views: what a side takes, as a list of beats; a stage with a queue; machines that send each beat in parts.
 use Rattle.std.specs.Prelude.{◌≡◌, ℕ, zero, suc, ◌≤◌, ◌<◌, ◌+◌, ◌-◌, ◌*◌, ◌/◌, ◌%◌, ◌^◌, Bool, true, false, not, ◌&&◌, ◌||◌, List, [], ◌∷◌, ◌++◌, length, drop, if◌then◌else◌, nat_lt, nat_eq, filter, map, flat_map, IsTrue, IsFalse}
-use Rattle.histories.specs.History.{one_if, only_if, is_high, all_accepted, numbers}
+use Rattle.histories.specs.History.{one_if, only_if, is_raised, all_accepted, numbers}
 use Rattle.mm_runs.specs.Views.{Shape, Levels, levels_at}
 use Rattle.mm_machines.specs.Paths.{CommandView, AnswerView}
 use Rattle.mm_runs.specs.Operations.{Beat, Operation, operations_of, pieces}
@@ -25,7 +25,7 @@ abbrev pub idle : Burst
 idle = record { left = 0; done = 0; first = 0 }
 
 abbrev pub mark : Shape → Burst → Raw → Marked
-mark shape burst raw = record { tag = raw.tag; more = is_high raw.more; transfer = transfer_of shape raw.levels burst }
+mark shape burst raw = record { tag = raw.tag; more = is_raised raw.more; transfer = transfer_of shape raw.levels burst }
 
 abbrev pub burst_past : Shape → Burst → Raw → Burst
 burst_past shape burst raw = burst_after shape raw.levels true burst
@@ -41,11 +41,11 @@ burst_of shape burst (raw ∷ later) = burst_of shape (burst_past shape burst ra
 
 -- a beat that a legal host may show where a burst stands so
 pub record IsFitBeat (shape : Shape) (burst : Burst) (raw : Raw) : Type 0 where
-  pub one_kind : IsTrue (not (is_high raw.levels.read && is_high raw.levels.write))
+  pub one_kind : IsTrue (not (is_raised raw.levels.read && is_raised raw.levels.write))
   pub least : IsFalse (nat_lt 0 burst.left) → 1 ≤ raw.levels.count
   pub most : IsFalse (nat_lt 0 burst.left) → raw.levels.count ≤ 2 ^ (shape.burst_bits - 1)
-  pub finished : IsTrue (nat_lt 0 burst.left) → IsFalse (is_high raw.levels.read)
-  pub joined : IsTrue ((transfer_of shape raw.levels burst).ends || is_high raw.more)
+  pub finished : IsTrue (nat_lt 0 burst.left) → IsFalse (is_raised raw.levels.read)
+  pub joined : IsTrue ((transfer_of shape raw.levels burst).ends || is_raised raw.more)
 
 abbrev pub port_of : Shape → CommandView → AnswerView → Port
 port_of shape commands answers = record { shape = shape; commands = commands; answers = answers }
@@ -61,7 +61,7 @@ pub record IsStageRun (depth : ℕ) (up down : Port) (queue : ℕ → List Raw) 
   pub heads : (c : ℕ) → ShowsHead down c (queue c)
   pub room : (c : ℕ) → takes up c ≡ true → length (queue c) < depth
   pub next : (c : ℕ) → queue (suc c) ≡ drop (if takes down c then 1 else 0) (queue c) ++ only_if (takes up c) (raw_at up c)
-  pub quiet : is_high (up.answers.valid 0) ≡ false
+  pub quiet : is_raised (up.answers.valid 0) ≡ false
   pub valid : (c : ℕ) → up.answers.valid (suc c) ≡ down.answers.valid c
   pub word : (c : ℕ) → up.answers.word (suc c) ≡ down.answers.word c
   pub code : (c : ℕ) → up.answers.code (suc c) ≡ down.answers.code c
@@ -150,9 +150,9 @@ or_first narrow needed beat (piece ∷ later) = piece ∷ later
 -- the beat of a command of one beat
 abbrev pub beat_of : Shape → Levels → Beat
 beat_of shape levels = record {
-  kind = if is_high levels.write then Writes else Reads;
+  kind = if is_raised levels.write then Writes else Reads;
   address = byte_address shape levels.address;
-  word = if is_high levels.write then levels.word else 0;
+  word = if is_raised levels.write then levels.word else 0;
   enables = levels.enables;
 }
 
@@ -160,7 +160,7 @@ beat_of shape levels = record {
 abbrev pub split_parts : Shape → Shape → Burst → Raw → List Raw
 split_parts wide narrow burst raw =
     let beat = beat_of wide raw.levels in
-    joined raw.tag raw.more (or_first narrow (not (is_high raw.more) || not (is_high raw.levels.write)) beat (touched wide narrow beat))
+    joined raw.tag raw.more (or_first narrow (not (is_raised raw.more) || not (is_raised raw.levels.write)) beat (touched wide narrow beat))
 
 abbrev pub is_empty : {A : Type 0} → List A → Bool
 is_empty {A} [] = true
@@ -215,7 +215,7 @@ RunsAsStage stage = IsStageRun stage.depth (above stage) (below stage) stage.que
 
 -- waitrequest is low above wherever there is room
 abbrev pub WaitsOnlyWhenFull : Stage → Type 0
-WaitsOnlyWhenFull stage = (c : ℕ) → length (stage.queue c) < stage.depth → is_high (stage.sides.commands_above.waitrequest c) ≡ false
+WaitsOnlyWhenFull stage = (c : ℕ) → length (stage.queue c) < stage.depth → is_raised (stage.sides.commands_above.waitrequest c) ≡ false
 
 -- in these states of the burst the parts of a beat are right, and they are the states that a legal host leads to
 pub record ExpandsWhile (target : Target) (wide narrow : Shape) (parts : Burst → Raw → List Raw) (stands : Burst → Bool) : Type 0 where

@@ -1,6 +1,6 @@
 -- The rank of a link, promptness of answers, and a chain of links as a path of parts.
 use Rattle.std.specs.Prelude.{◌≡◌, ◌++◌, ℕ, suc, ◌+◌, ◌<◌, ◌≤◌, List, [], ◌∷◌, Bool, false, not, ◌&&◌, ◌||◌, length, nat_lt, nat_le, take, IsTrue, IsFalse}
-use Rattle.histories.specs.History.{is_high, only_if, IsPrefix}
+use Rattle.histories.specs.History.{is_raised, only_if, IsPrefix}
 use Rattle.mm_runs.specs.Commands.{is_held, shows, is_of_reads}
 use Rattle.mm_machines.specs.Link.{Target, Port, Marked, marked_at, AreLegalAt, items, takes, taken_at, shown_at, operations_among, words_at, words_owed, is_last_joined, has_word_ready, read_beats, reads_of, answers_at}
 use Rattle.ranks.specs.Path.{Path, works, excused}
@@ -76,7 +76,7 @@ is_due target up down c =
 
 -- then it is answered in this cycle
 abbrev pub AnswersPromptly : Target → Port → Port → ℕ → Type 0
-AnswersPromptly target up down end = (c : ℕ) → c < end → IsTrue (is_due target up down c) → IsTrue (is_high (up.answers.valid c))
+AnswersPromptly target up down end = (c : ℕ) → c < end → IsTrue (is_due target up down c) → IsTrue (is_raised (up.answers.valid c))
 
 -- a chain of links in one cycle, of commands alone
 abbrev pub commands_at : Target → (ℕ → Port) → ℕ → Path

@@ -1,7 +1,7 @@
 -- Commands that go straight through a part, and first beats that are shown promptly.
 use Rattle.std.specs.Prelude.{◌≡◌, ℕ, suc, ◌+◌, ◌-◌, ◌*◌, ◌<◌, ◌≤◌, Bool, not, ◌&&◌, ◌||◌, List, [], ◌∷◌, ◌++◌, length, map, take, drop, if◌then◌else◌, nat_eq, nat_lt, nat_le, IsTrue, Some, filter, flat_map, slice_get, fold}
 use Rattle.std.specs.List.{list_any, list_all}
-use Rattle.histories.specs.History.{one_if, is_high, numbers, standing}
+use Rattle.histories.specs.History.{one_if, is_raised, numbers, standing}
 use Rattle.mm_runs.specs.Views.{Shape, HostSide, HostView, System, Run}
 use Rattle.mm_runs.specs.Operations.{Beat, filled_lanes, is_enabled, own_operations, piece_bytes}
 use Rattle.mm_runs.specs.Commands.{shows, agent_accepts, is_of_reads, transfer_at, words_before}
@@ -101,7 +101,7 @@ port_of_host side view host = record {
   shape = side.shape;
   commands = record {
     signals = view.signals;
-    more = λ c. one_if (not (transfer_at side.shape view.signals (λ k. shows view.signals k && not (is_high (view.waitrequest k))) c).ends);
+    more = λ c. one_if (not (transfer_at side.shape view.signals (λ k. shows view.signals k && not (is_raised (view.waitrequest k))) c).ends);
     tag = λ c. host;
     waitrequest = view.waitrequest;
   };
@@ -125,7 +125,7 @@ pub record HostGoesStraightThrough (side : HostSide) (view : HostView) (host : �
   pub shown : (c : ℕ) → c < end → IsTrue (shows_plain (port_of_host side view host) c) → IsTrue (host_may_go_on (port_of_host side view host) down c) →
       IsTrue (shows down.commands.signals c) × ((marked_at down c).transfer ≡ (marked_at (port_of_host side view host) c).transfer)
   pub accepted : (c : ℕ) → c < end → IsTrue (shows_plain (port_of_host side view host) c) → IsTrue (host_may_go_on (port_of_host side view host) down c) →
-      IsTrue (side.has_readdatavalid || is_high (view.write c)) → takes (port_of_host side view host) c ≡ takes down c
+      IsTrue (side.has_readdatavalid || is_raised (view.write c)) → takes (port_of_host side view host) c ≡ takes down c
 
 pub record HostIsPrompt (side : HostSide) (view : HostView) (host : ℕ) (down : Port) (end : ℕ) : Type 0 where
   pub shown : (c number : ℕ) (m : Marked) → c + 3 < end → slice_get (shown_at (port_of_host side view host) (suc c)) number ≡ Some m →

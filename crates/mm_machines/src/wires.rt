@@ -6,7 +6,7 @@ ghost use Rattle.mm_machines.specs.PartRanks.{KeepsMoving};
 ghost use Rattle.mm_runs.specs.Views.{HostView, AgentView};
 ghost use Rattle.mm_machines.specs.Link.{Target, Port, KeepsLinkLaw, AreLegalAt};
 ghost use Rattle.mm_machines.specs.Straight.{GoesStraightThrough, IsShownPromptly};
-ghost use Rattle.mm_runs.specs.Plan.{IsPlan};
+ghost use Rattle.mm_runs.specs.Plan.{IsMemoryPlan};
 ghost use Rattle.mm_machines.specs.BoundedWire.{WireForm, IsWireForm, IsBoundedWire, IsLegalWireRun, IsSafeWireRun, wire_system};
 
 /// A wire is a link that holds nothing.
@@ -40,5 +40,5 @@ pub fn bounded_wire_is_safe()
     ensures safe { (form : WireForm) (host : HostView) (agent : AgentView) (count : ℕ → ℕ) (end : ℕ)
         → IsWireForm form → IsBoundedWire form host agent count end → IsLegalWireRun form host agent end
         → IsSafeWireRun form host agent end }
-    ensures plan { (form : WireForm) → IsWireForm form → IsPlan (wire_system form) }
+    ensures plan { (form : WireForm) → IsWireForm form → IsMemoryPlan (wire_system form) }
 {}

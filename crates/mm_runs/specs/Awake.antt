@@ -1,7 +1,7 @@
 -- Service within a window, fairness, and packed reads.
 use Rattle.std.specs.Prelude.{◌≡◌, ℕ, suc, ◌+◌, ◌-◌, ◌*◌, ◌<◌, ◌≤◌, Bool, true, false, not, ◌&&◌, ◌||◌, List, [], ◌∷◌, length, map, take, drop, if◌then◌else◌, nat_eq, nat_le, nat_lt, max, IsTrue, IsFalse, Option, Some, None, filter, flat_map, zip, sum, slice_index}
 use Rattle.std.specs.List.{list_any, list_all}
-use Rattle.histories.specs.History.{before, is_high, numbers}
+use Rattle.histories.specs.History.{before, is_raised, numbers}
 use Rattle.mm_runs.specs.Views.{HostSide, AgentSide, System, Run}
 use Rattle.mm_runs.specs.Views.Kind.{Writes}
 use Rattle.mm_runs.specs.Operations.{filled_of_piece}
@@ -98,7 +98,7 @@ is_given_from system run place cycle host =
 -- a write beat for a place is accepted from a host
 abbrev pub is_written_to : System → Run → Option ℕ → ℕ → ℕ → Bool
 is_written_to system run place cycle host =
-    host_accepts (run.at_host host) cycle && is_high ((run.at_host host).write cycle)
+    host_accepts (run.at_host host) cycle && is_raised ((run.at_host host).write cycle)
     && is_place place (place_of system host (transfer_at (system.host host).shape (run.at_host host).signals (host_accepts (run.at_host host)) cycle))
 
 -- the larger wait time of an agent without waitrequest
@@ -124,7 +124,7 @@ Sometime from size Holds = (c : ℕ) × (from ≤ c) × (c < from + size) × Hol
 pub record IsWanted (system : System) (run : Run) (agent host number cycle : ℕ) : Type 0 where
   pub oldest : IsTrue (is_oldest system run host number cycle)
   pub for_agent : IsTrue (is_for system run host (Some agent) number (suc cycle))
-  pub ready : IsFalse (is_high ((run.at_agent agent).waitrequest cycle))
+  pub ready : IsFalse (is_raised ((run.at_agent agent).waitrequest cycle))
   pub answered : IsFalse (owes system run agent cycle)
   pub bursts : IsTrue (list_all (shows_its_burst system run (Some agent) cycle) (numbers 0 system.hosts))
 
@@ -172,7 +172,7 @@ asks_only system run host agent cycle =
     (numbers 1 (commands_begun system run host (suc cycle)))
 
 pub record IsAsked (system : System) (run : Run) (agent host cycle : ℕ) : Type 0 where
-  pub ready : IsFalse (is_high ((run.at_agent agent).waitrequest cycle))
+  pub ready : IsFalse (is_raised ((run.at_agent agent).waitrequest cycle))
   pub room : unanswered (system.agent agent).shape (run.at_agent agent).signals (agent_accepts (system.agent agent) (run.at_agent agent)) (words_before (run.at_agent agent).readdatavalid cycle) cycle < (system.agent agent).pending
   pub untaken : length (of_host host (taken system run agent cycle)) < length (issued system run host agent (suc cycle))
   pub few : unanswered (system.host host).shape (run.at_host host).signals (host_accepts (run.at_host host)) (length (given (system.host host) (run.at_host host) cycle)) cycle < 16
@@ -277,7 +277,7 @@ abbrev pub shows_plain_write : System → Run → ℕ → ℕ → ℕ → Bool
 shows_plain_write system run agent cycle host =
     let view = run.at_host host in
     let shown = transfer_at (system.host host).shape view.signals (host_accepts view) cycle in
-    is_high (view.write cycle) && shown.begins && shown.ends
+    is_raised (view.write cycle) && shown.begins && shown.ends
     && nat_eq (system.host host).word_bytes (system.agent agent).word_bytes
     && is_agent agent (place_of system host shown)
     && nat_lt 0 (length (transfer_operations system host agent shown))

@@ -1,12 +1,12 @@
 -- What a cycle shows, presents and accepts at a side that carries commands.
 use Rattle.std.specs.Prelude.{◌≡◌, ℕ, zero, suc, ◌+◌, ◌-◌, ◌*◌, ◌%◌, ◌^◌, Bool, true, false, not, ◌&&◌, ◌||◌, List, [], ◌∷◌, length, map, if◌then◌else◌, nat_eq, filter, flat_map}
-use Rattle.histories.specs.History.{before, only_if, is_high, numbers, stands_on, is_first, first_shown, all_accepted}
+use Rattle.histories.specs.History.{before, only_if, is_raised, numbers, stands_on, is_first, first_shown, all_accepted}
 use Rattle.mm_runs.specs.Views.{Signals, Levels, levels_at, Shape, AgentSide, AgentView, Kind}
 use Rattle.mm_runs.specs.Views.Kind.{Reads, Writes}
 use Rattle.mm_runs.specs.Operations.{Beat}
 
 abbrev pub shows : Signals → ℕ → Bool
-shows signals cycle = is_high (signals.read cycle) || is_high (signals.write cycle)
+shows signals cycle = is_raised (signals.read cycle) || is_raised (signals.write cycle)
 
 -- the longest burst, in beats, by the width of burstcount
 abbrev pub longest_burst : ℕ → ℕ
@@ -14,7 +14,7 @@ longest_burst bits = 2 ^ (bits - 1)
 
 -- where there is waitrequest
 abbrev pub accepts_by : Signals → (ℕ → ℕ) → ℕ → Bool
-accepts_by signals wait cycle = shows signals cycle && not (is_high (wait cycle))
+accepts_by signals wait cycle = shows signals cycle && not (is_raised (wait cycle))
 
 abbrev pub AcceptsOnlyShown : Signals → (ℕ → Bool) → Type 0
 AcceptsOnlyShown signals accepts = (c : ℕ) → accepts c ≡ true → shows signals c ≡ true
@@ -28,7 +28,7 @@ abbrev pub presents : Signals → (ℕ → Bool) → ℕ → Bool
 presents signals accepts cycle = is_first (shows signals) accepts cycle
 
 abbrev pub wait_time : AgentSide → AgentView → ℕ → ℕ
-wait_time side view cycle = if is_high (view.write cycle) then side.write_wait else side.read_wait
+wait_time side view cycle = if is_raised (view.write cycle) then side.write_wait else side.read_wait
 
 abbrev pub stood_after : AgentSide → AgentView → ℕ → ℕ → ℕ
 stood_after side view cycle stood =
@@ -62,7 +62,7 @@ next_burst shape levels burst =
 
 abbrev pub burst_after : Shape → Levels → Bool → Burst → Burst
 burst_after shape levels accepts burst =
-    if accepts && is_high levels.write then next_burst shape levels burst else burst
+    if accepts && is_raised levels.write then next_burst shape levels burst else burst
 
 abbrev pub burst_before : Shape → Signals → (ℕ → Bool) → ℕ → Burst
 burst_before shape signals accepts zero = record { left = 0; done = 0; first = 0 }
@@ -114,7 +114,7 @@ read_transfer shape levels = record {
 
 abbrev pub transfer_of : Shape → Levels → Burst → Transfer
 transfer_of shape levels burst =
-    if is_high levels.write then write_transfer shape levels burst else read_transfer shape levels
+    if is_raised levels.write then write_transfer shape levels burst else read_transfer shape levels
 
 -- what the side shows in a cycle
 abbrev pub transfer_at : Shape → Signals → (ℕ → Bool) → ℕ → Transfer
@@ -144,4 +144,4 @@ read_beats transfers = flat_map (λ t. t.beats) (reads_among transfers)
 
 -- the words answered before a cycle
 abbrev pub words_before : (ℕ → ℕ) → ℕ → ℕ
-words_before valid cycle = length (before (λ c. only_if (is_high (valid c)) c) cycle)
+words_before valid cycle = length (before (λ c. only_if (is_raised (valid c)) c) cycle)

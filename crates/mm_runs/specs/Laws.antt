@@ -2,7 +2,7 @@
 use Rattle.std.proofs.Common.{ℕ, zero, suc, ◌<◌, ◌≤◌, ◌≡◌, ◌/◌, [], ◌∷◌, ◌++◌, List, Bool, true, false, not, ◌||◌, arith, refl, sym, ap, ap₂, ◌∙◌, subst, min, take, drop, length, one-mul, mul-div_cancel}
 use Rattle.std.proofs.lemmas.Bool.{not-true, and_parts}
 use Rattle.std.proofs.lemmas.List.{take-append-le}
-use Rattle.histories.specs.History.{is_high, IsPrefix, KeepsItems}
+use Rattle.histories.specs.History.{is_raised, IsPrefix, KeepsItems}
 use Rattle.histories.specs.Laws.{accepted_prefix, before_prefix, prefix_filter, prefix_flat_map}
 use Rattle.mm_runs.specs.Views.{Signals, Shape, System, Run}
 use Rattle.mm_runs.specs.Operations.{pieces}
@@ -19,13 +19,13 @@ legal_keeps shape signals accepts end accepted legal = record {
       let same = legal.held c h held in
       let not_accepted : accepts c ≡ false = not-true (accepts c) (and_parts (shows signals c) (not (accepts c)) held).1 in
       let burst : burst_before shape signals accepts c ≡ burst_before shape signals accepts (suc c) = rw not_accepted in (
-        ap (λ l. is_high l.read || is_high l.write) (sym same) ∙ (and_parts (shows signals c) (not (accepts c)) held).0,
+        ap (λ l. is_raised l.read || is_raised l.write) (sym same) ∙ (and_parts (shows signals c) (not (accepts c)) held).0,
         ap₂ (transfer_of shape) same burst,
       );
 }
 
 pub accepts_shows : (signals : Signals) (wait : ℕ → ℕ) (c : ℕ) → accepts_by signals wait c ≡ true → shows signals c ≡ true
-accepts_shows signals wait c h = (and_parts (shows signals c) (not (is_high (wait c))) h).0
+accepts_shows signals wait c h = (and_parts (shows signals c) (not (is_raised (wait c))) h).0
 
 -- a legal side has presented all that it has accepted, and at most the beat that stands besides
 pub accepted_of_legal : (shape : Shape) (signals : Signals) (accepts : ℕ → Bool) (end : ℕ) → AcceptsOnlyShown signals accepts →

@@ -1,6 +1,6 @@
 -- The rules of the interfaces: legal hosts and agents, and the module's own side.
 use Rattle.std.specs.Prelude.{◌≡◌, ℕ, suc, ◌*◌, ◌%◌, ◌<◌, ◌≤◌, Bool, not, ◌&&◌, List, length, map, if◌then◌else◌, nat_lt, IsTrue, IsFalse}
-use Rattle.histories.specs.History.{before, only_if, is_high, unreached}
+use Rattle.histories.specs.History.{before, only_if, is_raised, unreached}
 use Rattle.mm_runs.specs.Views.{Signals, levels_at, Shape, HostSide, AgentSide, HostView, AgentView}
 use Rattle.mm_runs.specs.Commands.{longest_burst, shows, accepts_by, is_held, presents, agent_accepts, burst_before, accepted, reads_among, read_beats, words_before}
 
@@ -11,11 +11,11 @@ is_under_way shape signals accepts cycle = nat_lt 0 (burst_before shape signals 
 -- in the cycles before `end` the commands are those of a legal host: a read or a write at a time, a beat that waits stands unchanged,
 -- a burst is of 1 to the longest number of beats, and a write burst is finished before a read comes
 pub record AreLegal (shape : Shape) (signals : Signals) (accepts : ℕ → Bool) (end : ℕ) : Type 0 where
-  pub one_kind : (c : ℕ) → c < end → IsTrue (not (is_high (signals.read c) && is_high (signals.write c)))
+  pub one_kind : (c : ℕ) → c < end → IsTrue (not (is_raised (signals.read c) && is_raised (signals.write c)))
   pub held : (c : ℕ) → suc c < end → IsTrue (is_held signals accepts c) → levels_at signals c ≡ levels_at signals (suc c)
   pub least : (c : ℕ) → c < end → IsTrue (presents signals accepts c) → IsFalse (is_under_way shape signals accepts c) → 1 ≤ signals.count c
   pub most : (c : ℕ) → c < end → IsTrue (presents signals accepts c) → IsFalse (is_under_way shape signals accepts c) → signals.count c ≤ longest_burst shape.burst_bits
-  pub finished : (c : ℕ) → c < end → IsTrue (is_under_way shape signals accepts c) → IsFalse (is_high (signals.read c))
+  pub finished : (c : ℕ) → c < end → IsTrue (is_under_way shape signals accepts c) → IsFalse (is_raised (signals.read c))
 
 -- no word before a command that asks it, in an earlier cycle
 abbrev pub AreOwed : (ℕ → ℕ) → (ℕ → ℕ) → ℕ → Type 0
@@ -55,8 +55,8 @@ pub record IsProperAtAgent (side : AgentSide) (view : AgentView) (end : ℕ) : T
 -- whether a host is given a word in a cycle
 abbrev pub gives_word : HostSide → HostView → ℕ → Bool
 gives_word side view cycle =
-    if side.has_readdatavalid then is_high (view.readdatavalid cycle)
-    else is_high (view.read cycle) && not (is_high (view.waitrequest cycle))
+    if side.has_readdatavalid then is_raised (view.readdatavalid cycle)
+    else is_raised (view.read cycle) && not (is_raised (view.waitrequest cycle))
 
 -- a word and its response
 pub record Word : Type 0 where

@@ -1,7 +1,7 @@
 -- What hosts issue, what agents take, and what comes back.
 use Rattle.std.specs.Prelude.{◌≡◌, ℕ, suc, ◌+◌, ◌-◌, ◌*◌, ◌<◌, ◌≤◌, Bool, true, false, not, ◌&&◌, List, [], ◌∷◌, ◌++◌, length, map, take, drop, replicate, if◌then◌else◌, nat_eq, nat_le, IsTrue, Option, Some, None, filter, flat_map, zip, fold, max, slice_index, slice_get, MatchOption, ⊤}
 use Rattle.std.specs.List.{list_any, list_all}
-use Rattle.histories.specs.History.{before, only_if, is_high, unreached, numbers, IsPrefix}
+use Rattle.histories.specs.History.{before, only_if, is_raised, unreached, numbers, IsPrefix}
 use Rattle.mm_runs.specs.Views.{Shape, HostSide, System, Run, Responses}
 use Rattle.mm_runs.specs.Views.Responses.{AreZero, AreCodes}
 use Rattle.mm_runs.specs.Operations.{Beat, Operation, operations_of, own_operations, filled_lanes, is_enabled, byte_at, is_read, bytes_read, memory_after, pieces}
@@ -162,8 +162,8 @@ words_given_in system run agent cycle =
     let side = system.agent agent in
     let view = run.at_agent agent in
     only_if
-    (if side.has_readdatavalid then is_high (view.readdatavalid cycle)
-    else nat_le side.read_latency cycle && is_high (view.read (cycle - side.read_latency)) && agent_accepts side view (cycle - side.read_latency))
+    (if side.has_readdatavalid then is_raised (view.readdatavalid cycle)
+    else nat_le side.read_latency cycle && is_raised (view.read (cycle - side.read_latency)) && agent_accepts side view (cycle - side.read_latency))
     (record { word = view.readdata cycle; code = view.response cycle })
 
 -- the byte that answers a read operation, with the tag of the operation and the code of its word

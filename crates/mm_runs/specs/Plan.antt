@@ -23,7 +23,7 @@ pub record IsShape (shape : Shape) : Type 0 where
   pub unit : 0 < shape.unit_bytes
   pub burst : 0 < shape.burst_bits
 
-pub record IsPlan (system : System) : Type 0 where
+pub record IsMemoryPlan (system : System) : Type 0 where
   pub hosts : (h : ℕ) → h < system.hosts → IsShape (system.host h).shape
   pub agents : (a : ℕ) → a < system.agents → IsShape (system.agent a).shape
   pub plain : (h : ℕ) → h < system.hosts → IsFalse (system.host h).has_burst → (system.host h).burst_bits ≡ 1

@@ -3,7 +3,7 @@ use Rattle.std.proofs.Common.{◌≡◌, ℕ, zero, suc, ◌+◌, ◌-◌, ◌*�
 use Rattle.std.proofs.Math.Nat.{mod-eq_of_lt, div-lt_iff_lt-mul}
 use Rattle.std.proofs.lemmas.Nat.{pow-add}
 use Rattle.std.specs.Prelude.{not, ◌&&◌, ◌||◌}
-use Rattle.histories.specs.History.{is_high, one_if}
+use Rattle.histories.specs.History.{is_raised, one_if}
 use Rattle.mm_wire.specs.Parts.{IsGated, taken_in, IsNextCount}
 
 -- a read goes on where there is room
@@ -15,7 +15,7 @@ read_through false (suc zero) h = refl
 read_through full (suc (suc read)) h = absurd (omega arith)
 
 -- the host waits where it is shut, or where the agent waits
-pub told_to_wait : (full : Bool) (read waits : ℕ) → read < 2 → waits < 2 → is_high (bit_or (bit_and read (if full then 1 else 0)) waits) ≡ (full && is_high read) || is_high waits
+pub told_to_wait : (full : Bool) (read waits : ℕ) → read < 2 → waits < 2 → is_raised (bit_or (bit_and read (if full then 1 else 0)) waits) ≡ (full && is_raised read) || is_raised waits
 told_to_wait true zero zero h k = refl
 told_to_wait true zero (suc zero) h k = refl
 told_to_wait true (suc zero) zero h k = refl
@@ -36,7 +36,7 @@ added_bit (suc zero) (suc zero) h k = refl
 added_bit (suc (suc shown)) waits h k = absurd (omega arith)
 added_bit shown (suc (suc waits)) h k = absurd (omega arith)
 
-pub level_is : (bit : ℕ) → bit < 2 → one_if (is_high bit) ≡ bit
+pub level_is : (bit : ℕ) → bit < 2 → one_if (is_raised bit) ≡ bit
 level_is zero h = refl
 level_is (suc zero) h = refl
 level_is (suc (suc bit)) h = absurd (omega arith)
@@ -64,10 +64,10 @@ next_counted unanswered low shown waits answers ready taken more fewer sum next 
     let is_taken : taken ≡ taken_in shown waits = e2 ∙ rw is_ready (added_bit shown waits h k) in
     let is_more : more ≡ taken_in shown waits = e3 ∙ rw (e0, w2) (omega arith) in
     let same = level_is answers a in
-    let is_fewer : fewer ≡ one_if (is_high answers) = e4 ∙ rw (e0, w3) (omega arith) in
-    let below : one_if (is_high answers) < 2 = omega arith in
-    let is_next : next ≡ ((unanswered + taken_in shown waits) % 32 + (32 - one_if (is_high answers))) % 32 = e6 ∙ rw (w5, e5, w4, is_more, is_fewer) refl in
-    rw is_next (counted unanswered (taken_in shown waits) (one_if (is_high answers)) below few some)
+    let is_fewer : fewer ≡ one_if (is_raised answers) = e4 ∙ rw (e0, w3) (omega arith) in
+    let below : one_if (is_raised answers) < 2 = omega arith in
+    let is_next : next ≡ ((unanswered + taken_in shown waits) % 32 + (32 - one_if (is_raised answers))) % 32 = e6 ∙ rw (w5, e5, w4, is_more, is_fewer) refl in
+    rw is_next (counted unanswered (taken_in shown waits) (one_if (is_raised answers)) below few some)
 
 -- a read is accepted where the agent sees it and doesn't wait
 pub accepted_alike : (full read write waits : Bool) → (read && ((read || write) && not ((full && read) || waits))) ≡ ((not full && read) && not waits)
@@ -76,15 +76,15 @@ accepted_alike true false write waits = refl
 accepted_alike false true write waits = refl
 accepted_alike false false write waits = refl
 
-shown_high : (full : Bool) (read : ℕ) → is_high (if full then 0 else read) ≡ (not full && is_high read)
+shown_high : (full : Bool) (read : ℕ) → is_raised (if full then 0 else read) ≡ (not full && is_raised read)
 shown_high true read = refl
 shown_high false read = refl
 
 -- the read that is counted is the one that the host sees accepted
-pub taken_alike : (full : Bool) (read write waits shown told : ℕ) → shown ≡ (if full then 0 else read) → is_high told ≡ (full && is_high read) || is_high waits →
-    one_if (is_high read && ((is_high read || is_high write) && not (is_high told))) ≡ taken_in shown waits
+pub taken_alike : (full : Bool) (read write waits shown told : ℕ) → shown ≡ (if full then 0 else read) → is_raised told ≡ (full && is_raised read) || is_raised waits →
+    one_if (is_raised read && ((is_raised read || is_raised write) && not (is_raised told))) ≡ taken_in shown waits
 taken_alike full read write waits shown told e1 e2 =
-    rw (e2, e1, shown_high full read) (ap one_if (accepted_alike full (is_high read) (is_high write) (is_high waits)))
+    rw (e2, e1, shown_high full read) (ap one_if (accepted_alike full (is_raised read) (is_raised write) (is_raised waits)))
 
 -- a word's address, from the byte's
 pub word_address : (address bits : ℕ) → address < 2 ^ (bits + 2) → 1 ≤ bits → address / 2 ^ 2 % 2 ^ ((bits + 1) - 2 + 1) ≡ address / 4
