@@ -79,6 +79,13 @@ pub record Writes : Type 0 where
   pub before : ℕ
   pub after : ℕ
 
+-- what is seen of a shelf and of a sink by these words of theirs, from before a call to behind it
+abbrev pub reads_by : {A : Type 0} → (A → ℕ → Option (List ℕ)) → (A → ℕ) → (A → ℕ) → A → A → Reads
+reads_by told faults failed old new = record { told = told old; before = faults old; after = faults new; failed = failed new }
+
+abbrev pub writes_by : {A : Type 0} → (A → Option (List ℕ)) → (A → ℕ) → A → A → Writes
+writes_by held faults old new = record { held = held old; holds = held new; before = faults old; after = faults new }
+
 -- files that were loaded, numbered from 1: each is what the shelf tells of it, where it tells it, and no longer than is read
 pub record AreLoaded (told : ℕ → Option (List ℕ)) (files : List (List ℕ)) : Type 0 where
   pub each : (k : ℕ) (bytes : List ℕ) → slice_get files k ≡ Some bytes → WhereTold (told (k + 1)) (λ is. bytes ≡ is)

@@ -5,7 +5,7 @@ ghost use Rattle.verilog_writer.specs.Text.{text_of};
 ghost use Rattle.interconnect.specs.Wires.{pending_of};
 ghost use Rattle.interconnect.specs.Interconnect.{IsInterconnect};
 ghost use Rattle.avalon_top.specs.Lines.{line_of};
-ghost use Rattle.avalon_top.specs.Run.{Reads, Writes, AreFiles, Answers, IsComplete, IsRefusal, WritesLine, IsResult, IsTextOf, unbuilt_of};
+ghost use Rattle.avalon_top.specs.Run.{reads_by, writes_by, Reads, Writes, AreFiles, Answers, IsComplete, IsRefusal, WritesLine, IsResult, IsTextOf, unbuilt_of};
 ghost use Rattle.avalon_top.specs.Loading.{StopsAtFile, StopsFiles, StopsWriting, StopsLoading, Stops, IsResultOf};
 
 use crate::exit::Exit;
@@ -25,7 +25,7 @@ const FILE_LIMIT: u64 = 1_048_576;
 const MOST_FILES: usize = 64;
 
 fn load<S: Shelf>(alloc: Global, shelf: &mut S, file: u32) -> Result<Bytes, Exit>
-    ensures stops { IfErr result (StopsAtFile file (record { told = S.told shelf.old; before = S.faults shelf.old; after = S.faults shelf.new; failed = S.failed shelf.new })) }
+    ensures stops { IfErr result (StopsAtFile file (reads_by S.told S.faults S.failed shelf.old shelf.new)) }
     ensures loaded { IfOk result (λ bytes. WhereTold (S.told shelf.old file) (λ told. bytes ≡ told)) }
     ensures short { IfOk result (λ bytes. length bytes ≤ 1048576) }
     ensures grows { S.faults shelf.old ≤ S.faults shelf.new }
@@ -46,7 +46,7 @@ fn load<S: Shelf>(alloc: Global, shelf: &mut S, file: u32) -> Result<Bytes, Exit
 fn load_files<S: Shelf>(alloc: Global, shelf: &mut S, words: usize) -> Result<List<Bytes>, Exit>
     requires some { 1 ≤ words }
     requires few { words ≤ 65 }
-    ensures stops { IfErr result (StopsLoading words (record { told = S.told shelf.old; before = S.faults shelf.old; after = S.faults shelf.new; failed = S.failed shelf.new })) }
+    ensures stops { IfErr result (StopsLoading words (reads_by S.told S.faults S.failed shelf.old shelf.new)) }
     ensures loaded { IfOk result (AreFiles (S.told shelf.old) words) }
     ensures grows { S.faults shelf.old ≤ S.faults shelf.new }
 {
@@ -100,8 +100,8 @@ fn text_of_files(alloc: Global, task: Task, files: &[Bytes]) -> Result<Bytes, Ex
 
 /// All that comes before a result is written: the result, or the refusal.
 fn decide<S: Shelf>(alloc: Global, words: &[String], shelf: &mut S) -> Result<Bytes, Exit>
-    ensures stops { IfErr result (Stops (map string_bytes words.now) (record { told = S.told shelf.old; before = S.faults shelf.old; after = S.faults shelf.new; failed = S.failed shelf.new })) }
-    ensures text { IfOk result (IsResultOf (map string_bytes words.now) (record { told = S.told shelf.old; before = S.faults shelf.old; after = S.faults shelf.new; failed = S.failed shelf.new })) }
+    ensures stops { IfErr result (Stops (map string_bytes words.now) (reads_by S.told S.faults S.failed shelf.old shelf.new)) }
+    ensures text { IfOk result (IsResultOf (map string_bytes words.now) (reads_by S.told S.faults S.failed shelf.old shelf.new)) }
 {
     let Some(task) = read_words(words) else {
         return Err(Exit::Usage);
@@ -119,7 +119,7 @@ fn decide<S: Shelf>(alloc: Global, words: &[String], shelf: &mut S) -> Result<By
 
 /// Writes the line of a refusal.
 fn refuse<K: Sink>(sink: &mut K, exit: &Exit)
-    ensures line { WritesLine (line_of exit.now) (record { held = K.held sink.old; holds = K.held sink.new; before = K.faults sink.old; after = K.faults sink.new }) }
+    ensures line { WritesLine (line_of exit.now) (writes_by K.held K.faults sink.old sink.new) }
 {
     let line = exit.line();
     let _ = put_all(sink, line.as_slice());

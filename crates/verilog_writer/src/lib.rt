@@ -8,6 +8,7 @@ ghost use Rattle.std.specs.Prelude.{◌≡◌, ℕ, ◌+◌, ◌^◌, ◌≤◌,
 ghost use Rattle.netlist.specs.declared.line.Line.{Line};
 ghost use Rattle.netlist.specs.Netlists.{IsModule, IsSound, IsInputPort, is_register, line_of, memory_of};
 ghost use Rattle.av_base.specs.Word.{word};
+ghost use Rattle.verilog_writer.specs.Worked.{one_register, one_register_text, one_memory, one_memory_text};
 ghost use Rattle.verilog_writer.specs.Text.{hex_digit, hex_digits, constant_text, port_text, ports_text, header_text, name_of, infix_text, right_text, net_name, memory_name, memory_line, memories_text, wire_line, register_line, net_line, nets_text, clock_line, clocked_line, clocked_text, write_line, writes_text, assign_line, assigns_text, text_of};
 
 use av_base::{Bytes, NoMemory, Val};
@@ -325,14 +326,12 @@ pub fn write_module(alloc: Global, module: &Module) -> Result<Bytes, NoMemory>
 
 /// A module of one register between an input and an output.
 pub fn module_is_spelled()
-    ensures { text_of (record { name = codes "t_interconnect"; ports = record { name = codes "a$i$d"; width = 8; output = false } ∷ record { name = codes "b$i$q"; width = 8; output = true } ∷ []; lines = line_of 8 (Equation.Input 0) ∷ line_of 8 (Equation.Reg (word 8 165) 0) ∷ []; drivers = None ∷ Some 1 ∷ []; memories = [] })
-        ≡ codes "module t_interconnect (\n  input wire clk,\n  input wire reset,\n  input wire [7:0] a$i$d,\n  output wire [7:0] b$i$q\n);\n  wire [7:0] n0 = a$i$d;\n  reg [7:0] n1;\n  always @(posedge clk) if (reset) n1 <= 8'ha5; else n1 <= n0;\n  assign b$i$q = n1;\nendmodule\n" }
+    ensures { text_of one_register ≡ one_register_text }
 {}
 
 /// A module of one memory, which an input writes at the address of another and an output reads there.
 pub fn memory_is_spelled()
-    ensures { text_of (record { name = codes "t_interconnect"; ports = record { name = codes "a$i$d"; width = 1; output = false } ∷ record { name = codes "b$i$d"; width = 3; output = false } ∷ record { name = codes "c$i$q"; width = 1; output = true } ∷ []; lines = line_of 1 (Equation.Input 0) ∷ line_of 3 (Equation.Input 1) ∷ line_of 1 (Equation.Read 0 1) ∷ []; drivers = None ∷ None ∷ Some 2 ∷ []; memories = memory_of (record { width = 1; address_bits = 3; enable = 0; address = 1; word = 0 }) ∷ [] })
-        ≡ codes "module t_interconnect (\n  input wire clk,\n  input wire reset,\n  input wire [0:0] a$i$d,\n  input wire [2:0] b$i$d,\n  output wire [0:0] c$i$q\n);\n  reg [0:0] m0 [0:7];\n  wire [0:0] n0 = a$i$d;\n  wire [2:0] n1 = b$i$d;\n  wire [0:0] n2 = m0[n1];\n  always @(posedge clk) if (n0) m0[n1] <= n0;\n  assign c$i$q = n2;\nendmodule\n" }
+    ensures { text_of one_memory ≡ one_memory_text }
 {}
 
 /// A line of each kind.
