@@ -3,12 +3,12 @@ use Rattle.std.proofs.Common.{◌≡◌, ℕ, zero, suc, ◌+◌, ◌<◌, ◌�
 use Rattle.std.proofs.lemmas.Bool.{ltb-true, ltb-false}
 use Rattle.netlist.specs.Nets.{NetValue}
 use Rattle.netlist.specs.Netlists.{Netlist, IsNet, IsWaiting}
-use Rattle.netlist.specs.Runs.{Cycle, Run, cycle_of, IsRun, Always}
+use Rattle.netlist.specs.Runs.{Cycle, Run, IsRun, Always}
 use Rattle.netlist.specs.Longer.{Extends}
 use Rattle.net_parts.specs.Nets.{IsNetOfWidth, StartsLow}
 use Rattle.net_parts.specs.Growth.{GrowsBy, AddsNets, GrowsAlike, StillWait, WaitsBeside, WaitsWithout}
 use Rattle.net_parts.specs.Laws.{extends_twice, extends_none, alike_twice}
-use Rattle.net_parts.specs.Groups.{AreNets, group_widths, values_of, AreNumberedFrom, InGroup, IsInRow, all_low, StartAllLow, TakeAllNext, ChooseAll, nets_last, in_row}
+use Rattle.net_parts.specs.Groups.{AreNets, group_widths, values_of, AreNumberedFrom, InGroup, IsInRow, StartAllLow, TakeAllNext, ChooseAll, nets_last, in_row}
 
 -- so many registers are made
 pub record RegistersMade (old now : Netlist) (like made : List NetValue) (count : ℕ) : Type 0 where

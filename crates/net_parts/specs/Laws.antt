@@ -11,7 +11,7 @@ use Rattle.netlist.specs.Netlists.{Netlist, HasWidth, IsNet, width_at, IsWaiting
 use Rattle.netlist.specs.Runs.{Cycle, IsValuation, SameState}
 use Rattle.netlist.specs.Longer.{IsKept, IsKeptMemory, Keeps, Extends, GrowsByOne}
 use Rattle.net_parts.specs.Nets.{IsNetOfWidth, IsBit, IsRegister}
-use Rattle.net_parts.specs.Growth.{GrowsBy, AddsNets, GrowsInMemory, WaitsBeside, GrowsAlike}
+use Rattle.net_parts.specs.Growth.{GrowsBy, AddsNets, GrowsInMemory, GrowsAlike}
 
 -- ---- what a longer netlist keeps
 
@@ -134,19 +134,6 @@ memory_grows_twice k m r s a b c p q = record {
 -- a maker's line is one more
 pub one_more : (a b : Netlist) (l : Line) → b ≡ appended a l → length b.lines ≡ length a.lines + 1
 one_more a b l e = ap (λ (n : Netlist). length n.lines) e ∙ length-append a.lines (l ∷ [])
-
--- registers that were made one by one
-pub made_more : (a b c : Netlist) (k : ℕ) → length b.lines ≡ length a.lines + k →
-    WaitsBeside (λ n. (length a.lines ≤ n) × (n < length a.lines + k)) a b → WaitsBeside (λ n. n ≡ length b.lines) b c →
-    WaitsBeside (λ n. (length a.lines ≤ n) × (n < length a.lines + (k + 1))) a c
-made_more a b c k count first next n w =
-    elim (next n w) [
-      | inl old ↦ elim (first n old) [ inl older ↦ inl older | inr made ↦ inr (made.0, (let below = made.1 in omega arith)) ]
-      | inr same ↦ inr (omega (arith, same), omega (arith, same))
-    ]
-
-pub made_none : (a : Netlist) → WaitsBeside (λ n. (length a.lines ≤ n) × (n < length a.lines + 0)) a a
-made_none a n w = inl w
 
 -- ---- outcomes
 

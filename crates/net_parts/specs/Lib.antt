@@ -7,3 +7,5 @@ pub mod Histories
 pub mod HistoryLaw
 pub mod Fitting
 pub mod Groups
+pub mod Places
+pub mod PlaceLaws

@@ -16,9 +16,9 @@ use Rattle.stage_core.specs.declared.beat.BeatNets.{BeatNets}
 use Rattle.stage_core.specs.Beats.{view_of, ShowSame}
 use Rattle.stage_core.specs.Groups.{shown_in}
 use Rattle.stage_core.specs.Law.{KeepsShape, ReadyPasses}
-use Rattle.stage_core.specs.Rows.{row_in, held_of, RowSteps, shown_first, AllEmpty, IsPacked}
+use Rattle.stage_core.specs.Rows.{row_in, RowSteps, shown_first}
+use Rattle.net_parts.specs.Places.{held_of, AllEmpty, IsPacked, has_room}
 use Rattle.stage_core.specs.BeatLaws.{show_same, all_same}
-use Rattle.stage_core.specs.RowLemmas.{has_room}
 use Rattle.stage_core.specs.RowHolds.{packed, room_now, row_starts, row_grows, row_holds}
 use Rattle.stage_core.specs.QueueLaw.{first_same}
 use Rattle.st_timing.specs.declared.buffer.BufferKept.{BufferKept}

@@ -1,6 +1,5 @@
 -- The nets of a beat as a group of seven.
-use Rattle.std.proofs.Common.{◌≡◌, ℕ, ◌+◌, ◌<◌, Bool, true, false, ◌==◌, if◌then◌else◌, List, [], ◌∷◌, refl, sym, ap, ◌∙◌, arith, inl, inr}
-use Rattle.netlist.specs.Nets.{NetValue}
+use Rattle.std.proofs.Common.{◌≡◌, ℕ, Bool, true, false, if◌then◌else◌, [], ◌∷◌, refl, arith, inl, inr}
 use Rattle.netlist.specs.Netlists.{Netlist}
 use Rattle.netlist.specs.Runs.{Cycle}
 use Rattle.net_parts.specs.Groups.{AreNets, group_widths, values_of, AreNumberedFrom, InGroup, all_low}

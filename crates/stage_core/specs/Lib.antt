@@ -13,7 +13,6 @@ pub mod QueueNets
 pub mod Between
 pub mod QueueLaw
 pub mod RowHolds
-pub mod RowLemmas
 pub mod RowNets
 pub mod RegisterLaw
 pub mod RowSteps

@@ -14,11 +14,12 @@ use Rattle.stage_core.specs.Beats.{view_of, ShowSame, beat_in}
 use Rattle.stage_core.specs.Groups.{Shown, shown_in}
 use Rattle.stage_core.specs.Law.{KeepsShape, ReadyPasses}
 use Rattle.stage_core.specs.RegisterNets.{IsBufferShape}
-use Rattle.stage_core.specs.Rows.{Place, place_in, row_in, held_of, RowSteps, last_valid, shown_first, InRow, AllEmpty, StartsAllEmpty}
+use Rattle.net_parts.specs.Places.{Place, held_of, AllEmpty, has_room, last_full}
+use Rattle.stage_core.specs.Rows.{place_in, row_in, RowSteps, last_valid, shown_first, InRow, StartsAllEmpty}
 use Rattle.stage_core.specs.QueueBits.{SetsQueue}
 use Rattle.stage_core.specs.QueueNets.{QueueForward, QueueBackward, FirstNumbered}
 use Rattle.stage_core.specs.BeatLaws.{same_state, show_same, all_same}
-use Rattle.stage_core.specs.RowLemmas.{has_room, last_full, room_last}
+use Rattle.net_parts.specs.PlaceLaws.{room_last}
 use Rattle.stage_core.specs.RowHolds.{packed, room_now, row_holds}
 
 last_same : (cycle : Cycle) (first : BeatNets) (rest : List BeatNets) → last_full (place_in cycle first) (row_in cycle rest) ≡ (cycle.net (last_valid first rest).number == 1)
@@ -58,7 +59,7 @@ module _ (from to : BeatNets) (ready up : NetValue) (netlist : Netlist) (run : R
 
   module _ (first : BeatNets) (rest : List BeatNets) (starts : AllEmpty (row_in (cycle_of run 0) (first ∷ rest)))
       (shows : (c : ℕ) → shown_in (cycle_of run c) to ≡ shown_first (cycle_of run c) (first ∷ rest) from) (sets : SetsQueue netlist from first rest ready up) where
-    abbrev row : ℕ → List Place
+    abbrev row : ℕ → List (Place Beat)
     row c = row_in (cycle_of run c) (first ∷ rest)
 
     abbrev comes : ℕ → Bool

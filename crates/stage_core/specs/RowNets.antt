@@ -10,7 +10,8 @@ use Rattle.net_parts.specs.Nets.{IsBit}
 use Rattle.stage_core.specs.Beats.{AreBeatNets, HaveSameWidths, beat_in}
 use Rattle.stage_core.specs.Groups.{Shown, shown_in, IsOfBeat, AreRegisters, StartsEmpty, TakeNextBeat, Chooses}
 use Rattle.net_parts.specs.Growth.{GrowsBy, StillWait, WaitsBeside}
-use Rattle.stage_core.specs.Rows.{Place, place_of, place_in, row_in, first_or, fill_row, shift_row, refilled, IsPlace, IsRow, AreInRow, InRow, AllEmpty, StartsAllEmpty, RowMoves, last_valid, row_lasts}
+use Rattle.net_parts.specs.Places.{Place, first_or, fill_row, shift_row, refilled, AllEmpty}
+use Rattle.stage_core.specs.Rows.{place_of, place_in, row_in, IsPlace, IsRow, AreInRow, InRow, StartsAllEmpty, RowMoves, last_valid, row_lasts}
 use Rattle.stage_core.specs.QueueNets.{FirstNumbered}
 use Rattle.net_parts.specs.Laws.{extends_twice}
 use Rattle.stage_core.specs.BeatLaws.{numbered_here}
@@ -105,9 +106,9 @@ made_more old now new like nets row count h grows wait newly are widths register
 
 -- ---- one place of a row that moves
 
-refilled_first : (behind end : Place) (here comes : Bool) (beat : Beat) (row : List Place) → behind ≡ first_or (fill_row here comes beat row) end → refilled behind comes beat row ≡ fill_row here comes beat row
+refilled_first : (behind end : Place Beat) (here comes : Bool) (beat : Beat) (row : List (Place Beat)) → behind ≡ first_or (fill_row here comes beat row) end → refilled behind comes beat row ≡ fill_row here comes beat row
 refilled_first behind end here comes beat [] e = refl
-refilled_first behind end here comes beat (place ∷ row) e = ap (λ (x : Place). x ∷ fill_row (comes && place.full) comes beat row) e
+refilled_first behind end here comes beat (place ∷ row) e = ap (λ (x : Place Beat). x ∷ fill_row (comes && place.full) comes beat row) e
 
 pub row_moves : (netlist : Netlist) (nets behind next first from end : BeatNets) (comes shift : NetValue) (row : List BeatNets) →
     ((run : Run) (cycles : ℕ) → IsRun netlist run cycles → (c : ℕ) → c + 1 < cycles → place_in (cycle_of run c) behind ≡ first_or (fill_row ((run.net c comes.number == 1) && (run.net c nets.valid.number == 1)) (run.net c comes.number == 1) (beat_in (cycle_of run c) from) (row_in (cycle_of run c) row)) (place_in (cycle_of run c) end)) →
@@ -123,10 +124,10 @@ row_moves netlist nets behind next first from end comes shift row is_behind choo
     let same = is_behind run cycles r c lt in
     let one : place_in (cycle_of run (c + 1)) nets ≡ (if sh then first_or (fill_row here come beat places) last else place_in (cycle_of run c) first) =
     ap place_of (takes run cycles r c lt ∙ chooses run cycles r c lt) ∙ of_chosen place_of sh (shown_in (cycle_of run c) behind) (shown_in (cycle_of run c) first)
-    ∙ ap (λ (x : Place). if sh then x else place_in (cycle_of run c) first) same in
+    ∙ ap (λ (x : Place Beat). if sh then x else place_in (cycle_of run c) first) same in
     let others : row_in (cycle_of run (c + 1)) row ≡ shift_row sh last (fill_row here come beat places) =
     rest run cycles r c lt ∙ ap (shift_row sh last) (refilled_first (place_in (cycle_of run c) behind) last here come beat places same) in
-    ap (λ (x : Place). x ∷ row_in (cycle_of run (c + 1)) row) one ∙ ap (λ (xs : List Place). (if sh then first_or (fill_row here come beat places) last else place_in (cycle_of run c) first) ∷ xs) others
+    ap (λ (x : Place Beat). x ∷ row_in (cycle_of run (c + 1)) row) one ∙ ap (λ (xs : List (Place Beat)). (if sh then first_or (fill_row here come beat places) last else place_in (cycle_of run c) first) ∷ xs) others
 
 -- ---- the places of a row
 

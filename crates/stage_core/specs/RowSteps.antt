@@ -1,10 +1,12 @@
 -- The step of a row from its bits.
 use Rattle.std.proofs.Common.{◌≡◌, false, ◌==◌, List, ◌∷◌, ap, ◌∙◌}
 use Rattle.netlist.specs.Nets.{NetValue}
+use Rattle.stream_runs.specs.View.{Beat}
 use Rattle.netlist.specs.Runs.{Cycle}
 use Rattle.stage_core.specs.declared.beat.BeatNets.{BeatNets}
 use Rattle.stage_core.specs.Beats.{beat_in}
-use Rattle.stage_core.specs.Rows.{Place, place_in, row_in, filled, fill_row, shift_row, refilled, gives_beat, RowSteps}
+use Rattle.net_parts.specs.Places.{Place, filled, fill_row, shift_row, refilled}
+use Rattle.stage_core.specs.Rows.{place_in, row_in, gives_beat, RowSteps}
 
 pub row_steps : (before after : Cycle) (from first come end : BeatNets) (rest : List BeatNets) (ready comes shift : NetValue) →
     (before.net shift.number == 1) ≡ gives_beat before (first ∷ rest) from ready →
@@ -20,6 +22,6 @@ row_steps before after from first come end rest ready comes shift gives empty is
       end = place_in before end;
       empty = empty;
       is = moves
-          ∙ ap (λ (x : Place). shift_row sh (place_in before end) (refilled x c beat row)) is
+          ∙ ap (λ (x : Place Beat). shift_row sh (place_in before end) (refilled x c beat row)) is
           ∙ ap (λ t. shift_row t (place_in before end) (fill_row c c beat row)) gives;
     }

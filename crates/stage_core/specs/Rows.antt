@@ -5,56 +5,24 @@ use Rattle.netlist.specs.Nets.{NetValue}
 use Rattle.netlist.specs.Netlists.{Netlist, IsWaiting}
 use Rattle.netlist.specs.Runs.{Cycle, Run, cycle_of, IsRun}
 use Rattle.netlist.specs.Longer.{Extends}
+use Rattle.net_parts.specs.Places.{Place, shift_row, refilled, AllEmpty, PlacesMove}
 use Rattle.stream_runs.specs.View.{Beat}
 use Rattle.stage_core.specs.declared.beat.BeatNets.{BeatNets}
 use Rattle.stage_core.specs.Beats.{beat_in, AreBeatNets, HaveSameWidths}
 use Rattle.stage_core.specs.Groups.{Shown, shown_in, IsOfBeat, AreRegisters}
 use Rattle.stage_core.specs.Lasting.{beat_lasts, registers_last}
 
--- a place: whether it holds a beat, and the beat
-pub record Place : Type 0 where
-  pub full : Bool
-  pub beat : Beat
-
-abbrev pub place_of : Shown → Place
-place_of shown = record { full = shown.valid == 1; beat = shown.beat }
+-- the place of what is shown: full where valid is high
+abbrev pub place_of : Shown → Place Beat
+place_of shown = record { full = shown.valid == 1; item = shown.beat }
 
 -- the place on these nets in a cycle
-abbrev pub place_in : Cycle → BeatNets → Place
-place_in cycle nets = record { full = cycle.net nets.valid.number == 1; beat = beat_in cycle nets }
+abbrev pub place_in : Cycle → BeatNets → Place Beat
+place_in cycle nets = record { full = cycle.net nets.valid.number == 1; item = beat_in cycle nets }
 
-abbrev pub row_in : Cycle → List BeatNets → List Place
+abbrev pub row_in : Cycle → List BeatNets → List (Place Beat)
 row_in cycle [] = []
 row_in cycle (nets ∷ row) = place_in cycle nets ∷ row_in cycle row
-
--- the first of the row, or this place where there is none
-abbrev pub first_or : List Place → Place → Place
-first_or [] place = place
-first_or (first ∷ row) place = first
-
--- the beats up to the first empty place
-abbrev pub held_of : List Place → List Beat
-held_of [] = []
-held_of (place ∷ row) = if place.full then place.beat ∷ held_of row else []
-
--- a beat comes into the first empty place: `here` says whether it comes into the first of these, if that is empty, and
--- `comes` whether it comes at all
-abbrev pub filled : Bool → Beat → Place → Place
-filled here beat place = if place.full then place else record { full = here; beat = beat }
-
-abbrev pub fill_row : Bool → Bool → Beat → List Place → List Place
-fill_row here comes beat [] = []
-fill_row here comes beat (place ∷ row) = filled here beat place ∷ fill_row (comes && place.full) comes beat row
-
--- on a shift each place takes what stands behind it, and the last one what ends the row
-abbrev pub shift_row : Bool → Place → List Place → List Place
-shift_row shift end [] = []
-shift_row shift end (place ∷ row) = (if shift then first_or row end else place) ∷ shift_row shift end row
-
--- the row with its first place filled so
-abbrev pub refilled : Place → Bool → Beat → List Place → List Place
-refilled first comes beat [] = []
-refilled first comes beat (place ∷ row) = first ∷ fill_row (comes && place.full) comes beat row
 
 -- the registers of a place have numbers in a row from this one on, wait, and are as wide as the beat `like`
 pub record IsPlace (netlist : Netlist) (like nets : BeatNets) (from : ℕ) : Type 0 where
@@ -77,16 +45,6 @@ abbrev pub InRow : List BeatNets → ℕ → Type 0
 InRow [] n = ⊥
 InRow (nets ∷ row) n = IsOfBeat nets n ⊎ InRow row n
 
--- each place is empty
-abbrev pub AllEmpty : List Place → Type 0
-AllEmpty [] = Unit {0}
-AllEmpty (place ∷ row) = (place.full ≡ false) × AllEmpty row
-
--- behind an empty place each place is empty
-abbrev pub IsPacked : List Place → Type 0
-IsPacked [] = Unit {0}
-IsPacked (place ∷ row) = (place.full ≡ false → AllEmpty row) × IsPacked row
-
 -- in each run each place begins empty
 abbrev pub StartsAllEmpty : Netlist → List BeatNets → Type 0
 StartsAllEmpty netlist row = (run : Run) (cycles : ℕ) → IsRun netlist run cycles → 0 < cycles → AllEmpty (row_in (cycle_of run 0) row)
@@ -107,10 +65,8 @@ abbrev pub gives_beat : Cycle → List BeatNets → BeatNets → NetValue → Bo
 gives_beat cycle row from ready = (is_first_full cycle row || (cycle.net from.valid.number == 1)) && (cycle.net ready.number == 1)
 
 -- from a cycle to the next, the beat that comes, if one does, takes the first empty place, and the row shifts where a beat goes
-pub record RowSteps (before after : Cycle) (row : List BeatNets) (from : BeatNets) (comes : Bool) (ready : NetValue) : Type 0 where
-  pub end : Place
-  pub empty : end.full ≡ false
-  pub is : row_in after row ≡ shift_row (gives_beat before row from ready) end (fill_row comes comes (beat_in before from) (row_in before row))
+abbrev pub RowSteps : Cycle → Cycle → List BeatNets → BeatNets → Bool → NetValue → Type 0
+RowSteps before after row from comes ready = PlacesMove (row_in before row) (row_in after row) (gives_beat before row from ready) comes (beat_in before from)
 
 -- in each run the row steps from cycle to cycle
 abbrev pub StepsRow : Netlist → List BeatNets → BeatNets → NetValue → NetValue → Type 0

@@ -7,7 +7,8 @@ ghost use Rattle.net_parts.specs.Nets.{IsBit};
 ghost use Rattle.stage_core.specs.Beats.{AreBeatNets, HaveSameWidths, beat_in};
 ghost use Rattle.stage_core.specs.Groups.{shown_in};
 ghost use Rattle.net_parts.specs.Growth.{GrowsBy, AddsNets, StillWait, WaitsBeside, WaitsWithout, AreMadeBetween};
-ghost use Rattle.stage_core.specs.Rows.{place_in, row_in, first_or, filled, fill_row, AreInRow, InRow, StartsAllEmpty, RowMoves, StepsRow, shown_first, last_valid};
+ghost use Rattle.stage_core.specs.Rows.{place_in, row_in, AreInRow, InRow, StartsAllEmpty, RowMoves, StepsRow, shown_first, last_valid};
+ghost use Rattle.net_parts.specs.Places.{first_or, filled, fill_row};
 
 use crate::beat::BeatNets;
 use crate::makers::{mux_beat, reg_beat, set_next_beat};

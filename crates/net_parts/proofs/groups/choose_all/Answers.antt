@@ -1,7 +1,7 @@
-use Rattle.std.proofs.Common.{◌≡◌, ◌+◌, ◌<◌, ◌≤◌, List, [], ◌∷◌, ◌++◌, length, get_or, length-set, slice_set, take, sym, subst, ap, ◌∙◌, arith}
+use Rattle.std.proofs.Common.{◌+◌, List, [], ◌∷◌, ◌++◌, get_or, length-set, slice_set, take, sym, subst, ap, ◌∙◌, arith}
 use Rattle.std.proofs.lemmas.List.{take_all, take_more, take_more_set}
 use Rattle.netlist.specs.Nets.{NetValue}
-use Rattle.net_parts.specs.Laws.{net_lasts, alike_twice}
+use Rattle.net_parts.specs.Laws.{alike_twice}
 use Rattle.net_parts.specs.Groups.{AreNets, group_widths, ChooseAll, nets_last}
 use Rattle.net_parts.proofs.GroupsMade.{ChoicesMade, net_at, width_at, choices_more}
 use Rattle.net_parts.proofs.groups.choose_all.Goals as goal

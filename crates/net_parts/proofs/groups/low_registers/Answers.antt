@@ -1,9 +1,8 @@
-use Rattle.std.proofs.Common.{◌≡◌, ◌+◌, ◌<◌, ◌≤◌, List, [], ◌∷◌, ◌++◌, length, get_or, length-set, slice_set, take, ◌∙◌, sym, subst, ap, arith}
+use Rattle.std.proofs.Common.{◌+◌, List, [], ◌∷◌, ◌++◌, length, get_or, length-set, slice_set, take, ◌∙◌, sym, subst, ap, arith}
 use Rattle.std.proofs.lemmas.List.{take_all, take_more, take_more_set}
 use Rattle.netlist.specs.Nets.{NetValue}
-use Rattle.netlist.specs.Runs.{cycle_of}
 use Rattle.net_parts.specs.Laws.{extends_twice}
-use Rattle.net_parts.specs.Groups.{AreNets, group_widths, AreNumberedFrom, values_of, all_low, StartAllLow, nets_last}
+use Rattle.net_parts.specs.Groups.{AreNets, group_widths, AreNumberedFrom, StartAllLow, nets_last}
 use Rattle.net_parts.proofs.GroupsMade.{RegistersMade, net_at, registers_more}
 use Rattle.net_parts.proofs.groups.low_registers.Goals as goal
 

@@ -1,8 +1,8 @@
-use Rattle.std.proofs.Common.{◌≡◌, ◌==◌, List, sym, subst, ap, ◌∙◌, lit<}
+use Rattle.std.proofs.Common.{◌==◌, List, sym, subst, ap, ◌∙◌, lit<}
 use Rattle.netlist.specs.Nets.{NetValue}
 use Rattle.net_parts.specs.Bits.{chosen_high}
 use Rattle.net_parts.specs.Laws.{bit_fits}
-use Rattle.net_parts.specs.Groups.{AreNets, group_widths, values_of, ChooseAll}
+use Rattle.net_parts.specs.Groups.{AreNets, group_widths, ChooseAll}
 use Rattle.stage_core.specs.Beats.{group_of}
 use Rattle.stage_core.proofs.BeatGroups.{are_group, same_widths, widths_same, beat_of, chosen_of}
 use Rattle.stage_core.proofs.makers.mux_beat.Goals as goal

@@ -1,8 +1,6 @@
-use Rattle.std.proofs.Common.{◌≡◌, ◌+◌, length, List, sym, subst, ap, ◌∙◌, lit<, arith, inl, inr}
-use Rattle.netlist.specs.Nets.{NetValue}
+use Rattle.std.proofs.Common.{length, sym, subst, ap, ◌∙◌, lit<, arith, inl, inr}
 use Rattle.netlist.specs.Runs.{cycle_of}
 use Rattle.net_parts.specs.Groups.{AreNets, group_widths, AreNumberedFrom, StartAllLow}
-use Rattle.stage_core.specs.Beats.{HaveSameWidths, group_of}
 use Rattle.stage_core.specs.Groups.{AreNumbered}
 use Rattle.stage_core.proofs.BeatGroups.{are_group, beat_of, widths_same, numbered_of, low_of}
 use Rattle.stage_core.proofs.makers.reg_beat.Goals as goal

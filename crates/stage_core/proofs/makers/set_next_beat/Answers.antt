@@ -1,4 +1,4 @@
-use Rattle.std.proofs.Common.{◌≡◌, ◌+◌, ◌<◌, List, sym, subst, ap, ◌∙◌, lit<}
+use Rattle.std.proofs.Common.{◌+◌, List, sym, subst, ap, ◌∙◌, lit<}
 use Rattle.netlist.specs.Nets.{NetValue}
 use Rattle.netlist.specs.Runs.{cycle_of}
 use Rattle.net_parts.specs.Groups.{AreNets, AreWaiting, group_widths, InGroup, TakeAllNext}

@@ -2,7 +2,8 @@ use Rattle.std.proofs.Common.{◌≡◌, ◌&&◌, ◌==◌, List, sym, ap, ◌�
 use Rattle.netlist.specs.Runs.{Always}
 use Rattle.stage_core.specs.declared.beat.BeatNets.{BeatNets}
 use Rattle.stage_core.specs.Beats.{beat_in}
-use Rattle.stage_core.specs.Rows.{place_in, row_in, first_or, filled, fill_row}
+use Rattle.stage_core.specs.Rows.{place_in, row_in}
+use Rattle.net_parts.specs.Places.{first_or, filled, fill_row}
 use Rattle.net_parts.specs.Laws.{bit_fits, if_ok}
 use Rattle.net_parts.specs.Bits.{high_and}
 use Rattle.stage_core.proofs.rows.fill_next.Goals as goal

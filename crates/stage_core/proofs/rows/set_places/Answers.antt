@@ -16,7 +16,7 @@ use Rattle.stage_core.proofs.rows.set_places.Goals as goal
 pub returns-in-None-clause-steps : goal.returns-in-None-clause-steps
 returns-in-None-clause-steps c =
     subst (λ (row : List BeatNets). StepsRow c.args.builder.now row c.args.from.now c.args.comes c.args.ready) (sym (nil_from_length c.args.row.now c.in-None.ensures.cases))
-    (λ run cycles r n lt. record { end = record { full = false; beat = beat_in (cycle_of run n) c.args.from.now }; empty = refl; is = refl })
+    (λ run cycles r n lt. record { end = record { full = false; item = beat_in (cycle_of run n) c.args.from.now }; empty = refl; is = refl })
 
 pub returns-in-None-clause-no_more_wait : goal.returns-in-None-clause-no_more_wait
 returns-in-None-clause-no_more_wait c n w = (w, λ o. subst (λ (row : List BeatNets). InRow row n) (nil_from_length c.args.row.now c.in-None.ensures.cases) o)

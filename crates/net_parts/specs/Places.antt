@@ -1,0 +1,70 @@
+-- A row of places that hold items, the oldest first: a list in a row of registers.
+use Rattle.std.specs.Prelude.{◌≡◌, Bool, false, not, ◌&&◌, ◌||◌, if◌then◌else◌, List, [], ◌∷◌, ◌++◌, drop}
+
+-- a place: whether it holds an item, and the item
+pub record Place (X : Type 0) : Type 0 where
+  pub full : Bool
+  pub item : X
+
+-- the first of the row, or this place where there is none
+abbrev pub first_or : {X : Type 0} → List (Place X) → Place X → Place X
+first_or [] place = place
+first_or (first ∷ row) place = first
+
+-- the items up to the first empty place
+abbrev pub held_of : {X : Type 0} → List (Place X) → List X
+held_of [] = []
+held_of (place ∷ row) = if place.full then place.item ∷ held_of row else []
+
+-- an item comes into the first empty place: `here` says whether it comes into the first of these, if that is empty, and
+-- `comes` whether it comes at all
+abbrev pub filled : {X : Type 0} → Bool → X → Place X → Place X
+filled here item place = if place.full then place else record { full = here; item = item }
+
+abbrev pub fill_row : {X : Type 0} → Bool → Bool → X → List (Place X) → List (Place X)
+fill_row here comes item [] = []
+fill_row here comes item (place ∷ row) = filled here item place ∷ fill_row (comes && place.full) comes item row
+
+-- on a shift each place takes what stands behind it, and the last one what ends the row
+abbrev pub shift_row : {X : Type 0} → Bool → Place X → List (Place X) → List (Place X)
+shift_row shift end [] = []
+shift_row shift end (place ∷ row) = (if shift then first_or row end else place) ∷ shift_row shift end row
+
+-- the row with its first place filled so
+abbrev pub refilled : {X : Type 0} → Place X → Bool → X → List (Place X) → List (Place X)
+refilled first comes item [] = []
+refilled first comes item (place ∷ row) = first ∷ fill_row (comes && place.full) comes item row
+
+-- each place is empty
+abbrev pub AllEmpty : {X : Type 0} → List (Place X) → Type 0
+AllEmpty [] = Unit {0}
+AllEmpty (place ∷ row) = (place.full ≡ false) × AllEmpty row
+
+-- behind an empty place each place is empty
+abbrev pub IsPacked : {X : Type 0} → List (Place X) → Type 0
+IsPacked [] = Unit {0}
+IsPacked (place ∷ row) = (place.full ≡ false → AllEmpty row) × IsPacked row
+
+-- some place is empty
+abbrev pub has_room : {X : Type 0} → List (Place X) → Bool
+has_room [] = false
+has_room (place ∷ row) = not place.full || has_room row
+
+-- the last place is full
+abbrev pub last_full : {X : Type 0} → Place X → List (Place X) → Bool
+last_full place [] = place.full
+last_full place (next ∷ row) = last_full next row
+
+-- the item that comes, if one does
+abbrev pub coming : {X : Type 0} → Bool → X → List X
+coming t item = if t then item ∷ [] else []
+
+-- what is held, with the item that comes, but for the one that goes
+abbrev pub held_then : {X : Type 0} → Bool → List X → List X → List X
+held_then gives held more = if gives then drop 1 (held ++ more) else held ++ more
+
+-- from a cycle to the next, the item that comes, if one does, takes the first empty place, and the row shifts where an item goes
+pub record PlacesMove {X : Type 0} (before after : List (Place X)) (gives comes : Bool) (item : X) : Type 0 where
+  pub end : Place X
+  pub empty : end.full ≡ false
+  pub is : after ≡ shift_row gives end (fill_row comes comes item before)
