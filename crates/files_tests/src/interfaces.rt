@@ -1,7 +1,28 @@
+ghost use Rattle.std.specs.Prelude.{◌≡◌, IsTrue, IfSome};
+ghost use Rattle.iface_roles.specs.Properties.{property_row, is_of};
+ghost use Rattle.iface_roles.specs.Roles.{role_row};
+
 use iface_roles::{
     AgentPort, Finished, HostPort, Interface, Kind, PortDirection, Property, PropertyId as Id,
     Role, Side, SinkPort, SourcePort, Values, property_of, role_of,
 };
+
+/// The role of this name in interfaces of the kind.
+fn named_role(kind: Kind, name: &str) -> Option<Role>
+    ensures { IfSome result (λ role. (role_row role).kind ≡ kind) }
+{
+    role_of(kind, name)
+}
+
+/// The property of this name in interfaces of the kind, where it means something.
+fn named_property(kind: Kind, name: &str) -> Option<Id>
+    ensures { IfSome result (λ id. IsTrue (is_of (property_row id).kinds kind)) }
+{
+    match property_of(kind, name) {
+        Property::Known(id) => Some(id),
+        Property::PassedOver | Property::Unknown => None,
+    }
+}
 
 /// An interface of ports as `<read:1`, an input, `>readdata:32`, an output, and `lock:1`, of both directions, and of
 /// settings as `readLatency=1`. None where a word isn't one of these.
@@ -16,18 +37,17 @@ fn interface(kind: Kind, side: Side, ports: &str, settings: &str) -> Option<Inte
         } else {
             (PortDirection::Bidir, head)
         };
-        let role = role_of(kind, name)?;
+        let role = named_role(kind, name)?;
         let width = width.parse::<u32>().ok()?;
-        if !role.is_of(kind) || !made.add_port(role, direction, width) {
+        if !made.add_port(role, direction, width) {
             return None;
         }
     }
     for setting in settings.split_whitespace() {
         let (name, number) = setting.split_once('=')?;
         let number = number.parse::<u32>().ok()?;
-        match property_of(kind, name) {
-            Property::Known(id) if id.is_of(kind) && made.set(id, number) => {}
-            _ => return None,
+        if !made.set(named_property(kind, name)?, number) {
+            return None;
         }
     }
     Some(made)
