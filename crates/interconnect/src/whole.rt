@@ -26,7 +26,7 @@ pub fn build(alloc: Global, plan: &Plan) -> Result<Built, NoMemory>
     ensures ports { IfOk result (λ built. AreTold plan.now.system built.ports) }
 {
     // the laws of a host wired to its agent, which the contract rests on
-    mm_runs::bounded_wire_is_safe();
+    mm_machines::wires::bounded_wire_is_safe();
     mm_runs::memory_is_read_back();
     proper_records_are_bounded();
     ports_are_known(plan);
