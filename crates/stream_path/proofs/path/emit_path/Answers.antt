@@ -11,36 +11,36 @@ use Rattle.stream_path.proofs.Runs.{serves_in_longer, carries_longer}
 use Rattle.stream_path.proofs.path.emit_path.Goals as goal
 
 pub returns-in_err-high-clause-grows : goal.returns-in_err-high-clause-grows
-returns-in_err-high-clause-grows c = grows_within 1 1 8000 _ _ _ (omega arith) (adds_grow _ _ _ c.level.ensures.adds) (adds_grow _ _ _ c.ready_or_high.ensures.adds)
+returns-in_err-high-clause-grows c = grows_within 1 1 8000 _ _ _ (adds_grow _ _ _ c.level.ensures.adds) (adds_grow _ _ _ c.ready_or_high.ensures.adds) (omega arith)
 
 pub returns-in_err-high-clause-few : goal.returns-in_err-high-clause-few
-returns-in_err-high-clause-few c enough = grows_within 1 1 7 _ _ _ (omega arith) (adds_grow _ _ _ c.level.ensures.adds) (adds_grow _ _ _ c.ready_or_high.ensures.adds)
+returns-in_err-high-clause-few c enough = grows_within 1 1 7 _ _ _ (adds_grow _ _ _ c.level.ensures.adds) (adds_grow _ _ _ c.ready_or_high.ensures.adds) (omega arith)
 
 pub emit_stages-requires-clause-from : goal.emit_stages-requires-clause-from
 emit_stages-requires-clause-from c =
-    let longer = (grows_within 1 1 2 _ _ _ (omega arith) (adds_grow _ _ _ c.level.ensures.adds) (adds_grow _ _ _ c.ready_or_high.ensures.adds)) in
+    let longer = (grows_within 1 1 2 _ _ _ (adds_grow _ _ _ c.level.ensures.adds) (adds_grow _ _ _ c.ready_or_high.ensures.adds) (omega arith)) in
     let low = net_lasts _ _ c.in_ok-low.low 1 c.ready_or_high.ensures.adds.grows.extends c.in_ok-low.ensures.net in
     subst (λ (beat : BeatNets). AreBeatNets c.ready_or_high.new.builder beat) (sym (c.copied.ensures ∙ c.beat_of-start.ensures))
     (beat_nets c.args.builder.now c.ready_or_high.new.builder (declared c.args.source.now) c.args.from.now c.in_ok-low.low longer.extends low c.requires.from)
 
 pub returns-in_err-made-clause-grows : goal.returns-in_err-made-clause-grows
-returns-in_err-made-clause-grows c = grows_within 2 7992 8000 _ _ _ (omega arith) (grows_within 1 1 2 _ _ _ (omega arith) (adds_grow _ _ _ c.level.ensures.adds) (adds_grow _ _ _ c.ready_or_high.ensures.adds)) c.emit_stages.ensures.grows
+returns-in_err-made-clause-grows c = grows_within 2 7992 8000 _ _ _ (grows_within 1 1 2 _ _ _ (adds_grow _ _ _ c.level.ensures.adds) (adds_grow _ _ _ c.ready_or_high.ensures.adds) (omega arith)) c.emit_stages.ensures.grows (omega arith)
 
 pub returns-in_err-made-clause-few : goal.returns-in_err-made-clause-few
-returns-in_err-made-clause-few c enough = grows_within 2 5 7 _ _ _ (omega arith) (grows_within 1 1 2 _ _ _ (omega arith) (adds_grow _ _ _ c.level.ensures.adds) (adds_grow _ _ _ c.ready_or_high.ensures.adds)) (c.emit_stages.ensures.few enough)
+returns-in_err-made-clause-few c enough = grows_within 2 5 7 _ _ _ (grows_within 1 1 2 _ _ _ (adds_grow _ _ _ c.level.ensures.adds) (adds_grow _ _ _ c.ready_or_high.ensures.adds) (omega arith)) (c.emit_stages.ensures.few enough) (omega arith)
 
 pub returns-in_err-beat-clause-grows : goal.returns-in_err-beat-clause-grows
-returns-in_err-beat-clause-grows c = grows_within 7994 _ 8000 _ _ _ (let few = fits_few c.args.sink.now.empty_bits c.in_ok-made.made.beat.empty.width in omega (arith, few)) (grows_within 2 7992 7994 _ _ _ (omega arith) (grows_within 1 1 2 _ _ _ (omega arith) (adds_grow _ _ _ c.level.ensures.adds) (adds_grow _ _ _ c.ready_or_high.ensures.adds)) c.emit_stages.ensures.grows) (adds_grow _ _ _ c.fit_beat.ensures.adds)
+returns-in_err-beat-clause-grows c = grows_within 7994 _ 8000 _ _ _ (grows_within 2 7992 7994 _ _ _ (grows_within 1 1 2 _ _ _ (adds_grow _ _ _ c.level.ensures.adds) (adds_grow _ _ _ c.ready_or_high.ensures.adds) (omega arith)) c.emit_stages.ensures.grows (omega arith)) (adds_grow _ _ _ c.fit_beat.ensures.adds) (let few = fits_few c.args.sink.now.empty_bits c.in_ok-made.made.beat.empty.width in omega (arith, few))
 
 pub returns-in_err-beat-clause-few : goal.returns-in_err-beat-clause-few
-returns-in_err-beat-clause-few c enough = grows_within 7 _ 7 _ _ _ (let none = fits_none c.args.sink.now.empty_bits c.in_ok-made.made.beat.empty.width (λ some. ap (λ (w : Widths). w.empty) (c.in_ok-made.ensures.same_widths enough) ∙ ap (λ (beat : BeatNets). beat.empty.width) (c.copied.ensures ∙ c.beat_of-start.ensures) ∙ (let bits = enough.form.empty_bits in let wide = empty_width c.args.builder.now (declared c.args.source.now) c.args.from.now c.in_ok-low.low c.in_ok-low.ensures.net.has_width c.requires.from (omega (arith, some, bits)) in wide ∙ bits)) in omega (arith, none)) (grows_within 2 5 7 _ _ _ (omega arith) (grows_within 1 1 2 _ _ _ (omega arith) (adds_grow _ _ _ c.level.ensures.adds) (adds_grow _ _ _ c.ready_or_high.ensures.adds)) (c.emit_stages.ensures.few enough)) (adds_grow _ _ _ c.fit_beat.ensures.adds)
+returns-in_err-beat-clause-few c enough = grows_within 7 _ 7 _ _ _ (grows_within 2 5 7 _ _ _ (grows_within 1 1 2 _ _ _ (adds_grow _ _ _ c.level.ensures.adds) (adds_grow _ _ _ c.ready_or_high.ensures.adds) (omega arith)) (c.emit_stages.ensures.few enough) (omega arith)) (adds_grow _ _ _ c.fit_beat.ensures.adds) (let none = fits_none c.args.sink.now.empty_bits c.in_ok-made.made.beat.empty.width (λ some. ap (λ (w : Widths). w.empty) (c.in_ok-made.ensures.same_widths enough) ∙ ap (λ (beat : BeatNets). beat.empty.width) (c.copied.ensures ∙ c.beat_of-start.ensures) ∙ (let bits = enough.form.empty_bits in let wide = empty_width c.args.builder.now (declared c.args.source.now) c.args.from.now c.in_ok-low.low c.in_ok-low.ensures.net.has_width c.requires.from (omega (arith, some, bits)) in wide ∙ bits)) in omega (arith, none))
 
 pub returns-in_err-beat-clause-waits : goal.returns-in_err-beat-clause-waits
 returns-in_err-beat-clause-waits c n w = c.fit_beat.ensures.adds.grows.waits n (c.emit_stages.ensures.waits n (c.ready_or_high.ensures.adds.grows.waits n (c.level.ensures.adds.grows.waits n w)))
 
 pub emit_dropped-requires-clause-from : goal.emit_dropped-requires-clause-from
 emit_dropped-requires-clause-from c =
-    let longer = (grows_within 7994 _ 7996 _ _ _ (let few = fits_few c.args.sink.now.empty_bits c.in_ok-made.made.beat.empty.width in omega (arith, few)) (grows_within 2 7992 7994 _ _ _ (omega arith) (grows_within 1 1 2 _ _ _ (omega arith) (adds_grow _ _ _ c.level.ensures.adds) (adds_grow _ _ _ c.ready_or_high.ensures.adds)) c.emit_stages.ensures.grows) (adds_grow _ _ _ c.fit_beat.ensures.adds)) in
+    let longer = (grows_within 7994 _ 7996 _ _ _ (grows_within 2 7992 7994 _ _ _ (grows_within 1 1 2 _ _ _ (adds_grow _ _ _ c.level.ensures.adds) (adds_grow _ _ _ c.ready_or_high.ensures.adds) (omega arith)) c.emit_stages.ensures.grows (omega arith)) (adds_grow _ _ _ c.fit_beat.ensures.adds) (let few = fits_few c.args.sink.now.empty_bits c.in_ok-made.made.beat.empty.width in omega (arith, few))) in
     subst (λ (beat : BeatNets). AreBeatNets c.fit_beat.new.builder beat) (sym c.beat_of-start.ensures)
     (beat_nets c.args.builder.now c.fit_beat.new.builder (declared c.args.source.now) c.args.from.now c.in_ok-low.low longer.extends (net_lasts _ _ c.in_ok-low.low 1 c.fit_beat.ensures.adds.grows.extends (net_lasts _ _ c.in_ok-low.low 1 c.emit_stages.ensures.grows.extends (net_lasts _ _ c.in_ok-low.low 1 c.ready_or_high.ensures.adds.grows.extends c.in_ok-low.ensures.net))) c.requires.from)
 
@@ -54,19 +54,19 @@ pub emit_dropped-requires-clause-is_low : goal.emit_dropped-requires-clause-is_l
 emit_dropped-requires-clause-is_low c cycle v = c.in_ok-low.ensures.value cycle (c.ready_or_high.ensures.adds.grows.extends.valuations cycle (c.emit_stages.ensures.grows.extends.valuations cycle (c.fit_beat.ensures.adds.grows.extends.valuations cycle v)))
 
 pub returns-in_err-dropped-clause-grows : goal.returns-in_err-dropped-clause-grows
-returns-in_err-dropped-clause-grows c = grows_within 7996 _ 8000 _ _ _ (let few = drops_few c.args.sink.now.max_channel c.args.source.now.max_channel in omega (arith, few)) (grows_within 7994 _ 7996 _ _ _ (let few = fits_few c.args.sink.now.empty_bits c.in_ok-made.made.beat.empty.width in omega (arith, few)) (grows_within 2 7992 7994 _ _ _ (omega arith) (grows_within 1 1 2 _ _ _ (omega arith) (adds_grow _ _ _ c.level.ensures.adds) (adds_grow _ _ _ c.ready_or_high.ensures.adds)) c.emit_stages.ensures.grows) (adds_grow _ _ _ c.fit_beat.ensures.adds)) (adds_grow _ _ _ c.emit_dropped.ensures.adds)
+returns-in_err-dropped-clause-grows c = grows_within 7996 _ 8000 _ _ _ (grows_within 7994 _ 7996 _ _ _ (grows_within 2 7992 7994 _ _ _ (grows_within 1 1 2 _ _ _ (adds_grow _ _ _ c.level.ensures.adds) (adds_grow _ _ _ c.ready_or_high.ensures.adds) (omega arith)) c.emit_stages.ensures.grows (omega arith)) (adds_grow _ _ _ c.fit_beat.ensures.adds) (let few = fits_few c.args.sink.now.empty_bits c.in_ok-made.made.beat.empty.width in omega (arith, few))) (adds_grow _ _ _ c.emit_dropped.ensures.adds) (let few = drops_few c.args.sink.now.max_channel c.args.source.now.max_channel in omega (arith, few))
 
 pub returns-in_err-dropped-clause-few : goal.returns-in_err-dropped-clause-few
-returns-in_err-dropped-clause-few c enough = grows_within 7 _ 7 _ _ _ (let none = drops_none c.args.sink.now.max_channel c.args.source.now.max_channel enough.form.max_channel in omega (arith, none)) (grows_within 7 _ 7 _ _ _ (let none = fits_none c.args.sink.now.empty_bits c.in_ok-made.made.beat.empty.width (λ some. ap (λ (w : Widths). w.empty) (c.in_ok-made.ensures.same_widths enough) ∙ ap (λ (beat : BeatNets). beat.empty.width) (c.copied.ensures ∙ c.beat_of-start.ensures) ∙ (let bits = enough.form.empty_bits in let wide = empty_width c.args.builder.now (declared c.args.source.now) c.args.from.now c.in_ok-low.low c.in_ok-low.ensures.net.has_width c.requires.from (omega (arith, some, bits)) in wide ∙ bits)) in omega (arith, none)) (grows_within 2 5 7 _ _ _ (omega arith) (grows_within 1 1 2 _ _ _ (omega arith) (adds_grow _ _ _ c.level.ensures.adds) (adds_grow _ _ _ c.ready_or_high.ensures.adds)) (c.emit_stages.ensures.few enough)) (adds_grow _ _ _ c.fit_beat.ensures.adds)) (adds_grow _ _ _ c.emit_dropped.ensures.adds)
+returns-in_err-dropped-clause-few c enough = grows_within 7 _ 7 _ _ _ (grows_within 7 _ 7 _ _ _ (grows_within 2 5 7 _ _ _ (grows_within 1 1 2 _ _ _ (adds_grow _ _ _ c.level.ensures.adds) (adds_grow _ _ _ c.ready_or_high.ensures.adds) (omega arith)) (c.emit_stages.ensures.few enough) (omega arith)) (adds_grow _ _ _ c.fit_beat.ensures.adds) (let none = fits_none c.args.sink.now.empty_bits c.in_ok-made.made.beat.empty.width (λ some. ap (λ (w : Widths). w.empty) (c.in_ok-made.ensures.same_widths enough) ∙ ap (λ (beat : BeatNets). beat.empty.width) (c.copied.ensures ∙ c.beat_of-start.ensures) ∙ (let bits = enough.form.empty_bits in let wide = empty_width c.args.builder.now (declared c.args.source.now) c.args.from.now c.in_ok-low.low c.in_ok-low.ensures.net.has_width c.requires.from (omega (arith, some, bits)) in wide ∙ bits)) in omega (arith, none))) (adds_grow _ _ _ c.emit_dropped.ensures.adds) (let none = drops_none c.args.sink.now.max_channel c.args.source.now.max_channel enough.form.max_channel in omega (arith, none))
 
 pub returns-in_err-dropped-clause-waits : goal.returns-in_err-dropped-clause-waits
 returns-in_err-dropped-clause-waits c n w = c.emit_dropped.ensures.adds.grows.waits n (c.fit_beat.ensures.adds.grows.waits n (c.emit_stages.ensures.waits n (c.ready_or_high.ensures.adds.grows.waits n (c.level.ensures.adds.grows.waits n w))))
 
 pub returns-clause-grows : goal.returns-clause-grows
-returns-clause-grows c = grows_within 7996 _ 8000 _ _ _ (let few = drops_few c.args.sink.now.max_channel c.args.source.now.max_channel in omega (arith, few)) (grows_within 7994 _ 7996 _ _ _ (let few = fits_few c.args.sink.now.empty_bits c.in_ok-made.made.beat.empty.width in omega (arith, few)) (grows_within 2 7992 7994 _ _ _ (omega arith) (grows_within 1 1 2 _ _ _ (omega arith) (adds_grow _ _ _ c.level.ensures.adds) (adds_grow _ _ _ c.ready_or_high.ensures.adds)) c.emit_stages.ensures.grows) (adds_grow _ _ _ c.fit_beat.ensures.adds)) (adds_grow _ _ _ c.emit_dropped.ensures.adds)
+returns-clause-grows c = grows_within 7996 _ 8000 _ _ _ (grows_within 7994 _ 7996 _ _ _ (grows_within 2 7992 7994 _ _ _ (grows_within 1 1 2 _ _ _ (adds_grow _ _ _ c.level.ensures.adds) (adds_grow _ _ _ c.ready_or_high.ensures.adds) (omega arith)) c.emit_stages.ensures.grows (omega arith)) (adds_grow _ _ _ c.fit_beat.ensures.adds) (let few = fits_few c.args.sink.now.empty_bits c.in_ok-made.made.beat.empty.width in omega (arith, few))) (adds_grow _ _ _ c.emit_dropped.ensures.adds) (let few = drops_few c.args.sink.now.max_channel c.args.source.now.max_channel in omega (arith, few))
 
 pub returns-clause-few : goal.returns-clause-few
-returns-clause-few c enough = grows_within 7 _ 7 _ _ _ (let none = drops_none c.args.sink.now.max_channel c.args.source.now.max_channel enough.form.max_channel in omega (arith, none)) (grows_within 7 _ 7 _ _ _ (let none = fits_none c.args.sink.now.empty_bits c.in_ok-made.made.beat.empty.width (λ some. ap (λ (w : Widths). w.empty) (c.in_ok-made.ensures.same_widths enough) ∙ ap (λ (beat : BeatNets). beat.empty.width) (c.copied.ensures ∙ c.beat_of-start.ensures) ∙ (let bits = enough.form.empty_bits in let wide = empty_width c.args.builder.now (declared c.args.source.now) c.args.from.now c.in_ok-low.low c.in_ok-low.ensures.net.has_width c.requires.from (omega (arith, some, bits)) in wide ∙ bits)) in omega (arith, none)) (grows_within 2 5 7 _ _ _ (omega arith) (grows_within 1 1 2 _ _ _ (omega arith) (adds_grow _ _ _ c.level.ensures.adds) (adds_grow _ _ _ c.ready_or_high.ensures.adds)) (c.emit_stages.ensures.few enough)) (adds_grow _ _ _ c.fit_beat.ensures.adds)) (adds_grow _ _ _ c.emit_dropped.ensures.adds)
+returns-clause-few c enough = grows_within 7 _ 7 _ _ _ (grows_within 7 _ 7 _ _ _ (grows_within 2 5 7 _ _ _ (grows_within 1 1 2 _ _ _ (adds_grow _ _ _ c.level.ensures.adds) (adds_grow _ _ _ c.ready_or_high.ensures.adds) (omega arith)) (c.emit_stages.ensures.few enough) (omega arith)) (adds_grow _ _ _ c.fit_beat.ensures.adds) (let none = fits_none c.args.sink.now.empty_bits c.in_ok-made.made.beat.empty.width (λ some. ap (λ (w : Widths). w.empty) (c.in_ok-made.ensures.same_widths enough) ∙ ap (λ (beat : BeatNets). beat.empty.width) (c.copied.ensures ∙ c.beat_of-start.ensures) ∙ (let bits = enough.form.empty_bits in let wide = empty_width c.args.builder.now (declared c.args.source.now) c.args.from.now c.in_ok-low.low c.in_ok-low.ensures.net.has_width c.requires.from (omega (arith, some, bits)) in wide ∙ bits)) in omega (arith, none))) (adds_grow _ _ _ c.emit_dropped.ensures.adds) (let none = drops_none c.args.sink.now.max_channel c.args.source.now.max_channel enough.form.max_channel in omega (arith, none))
 
 pub returns-clause-waits : goal.returns-clause-waits
 returns-clause-waits c n w = c.emit_dropped.ensures.adds.grows.waits n (c.fit_beat.ensures.adds.grows.waits n (c.emit_stages.ensures.waits n (c.ready_or_high.ensures.adds.grows.waits n (c.level.ensures.adds.grows.waits n w))))
@@ -76,7 +76,7 @@ returns-clause-no_more_wait c n w = c.level.ensures.adds.grows.no_more_wait n (c
 
 pub returns-clause-nets : goal.returns-clause-nets
 returns-clause-nets c =
-    let longer = grows_within 2 4 6 _ _ _ (omega arith) (grows_fewer _ 2 _ _ (fits_few c.args.sink.now.empty_bits c.in_ok-made.made.beat.empty.width) (adds_grow _ _ _ c.fit_beat.ensures.adds)) (grows_fewer _ 4 _ _ (drops_few c.args.sink.now.max_channel c.args.source.now.max_channel) (adds_grow _ _ _ c.emit_dropped.ensures.adds)) in
+    let longer = grows_within 2 4 6 _ _ _ (grows_fewer _ 2 _ _ (fits_few c.args.sink.now.empty_bits c.in_ok-made.made.beat.empty.width) (adds_grow _ _ _ c.fit_beat.ensures.adds)) (grows_fewer _ 4 _ _ (drops_few c.args.sink.now.max_channel c.args.source.now.max_channel) (adds_grow _ _ _ c.emit_dropped.ensures.adds)) (omega arith) in
     subst (λ (beat : BeatNets). ArePathNets c.emit_dropped.new.builder (declared c.args.sink.now) (record { ready = c.in_ok-made.made.ready; beat = beat; dropped = c.in_ok-dropped.dropped })) (sym c.in_ok-beat.ensures.others)
     (path_nets c.emit_stages.new.builder c.fit_beat.new.builder c.emit_dropped.new.builder (declared c.args.source.now) (declared c.args.sink.now) c.in_ok-made.made c.in_ok-beat.beat.empty c.in_ok-dropped.dropped
     longer.extends c.emit_dropped.ensures.adds.grows.extends c.in_ok-made.ensures.nets c.in_ok-beat.ensures.net c.in_ok-dropped.ensures.net)
@@ -85,7 +85,7 @@ pub returns-clause-serves : goal.returns-clause-serves
 returns-clause-serves c =
     let source = declared c.args.source.now in
     let sink = declared c.args.sink.now in
-    let longer = grows_within 2 4 6 _ _ _ (omega arith) (grows_fewer _ 2 _ _ (fits_few c.args.sink.now.empty_bits c.in_ok-made.made.beat.empty.width) (adds_grow _ _ _ c.fit_beat.ensures.adds)) (grows_fewer _ 4 _ _ (drops_few c.args.sink.now.max_channel c.args.source.now.max_channel) (adds_grow _ _ _ c.emit_dropped.ensures.adds)) in
+    let longer = grows_within 2 4 6 _ _ _ (grows_fewer _ 2 _ _ (fits_few c.args.sink.now.empty_bits c.in_ok-made.made.beat.empty.width) (adds_grow _ _ _ c.fit_beat.ensures.adds)) (grows_fewer _ 4 _ _ (drops_few c.args.sink.now.max_channel c.args.source.now.max_channel) (adds_grow _ _ _ c.emit_dropped.ensures.adds)) (omega arith) in
     subst (λ (beat : BeatNets). ServesInLonger source sink c.args.depth c.args.from.now c.args.ready (record { ready = c.in_ok-made.made.ready; beat = beat; dropped = c.in_ok-dropped.dropped }) c.emit_dropped.new.builder) (sym c.in_ok-beat.ensures.others)
     (serves_in_longer source sink c.args.depth c.args.from.now c.args.ready c.emit_dropped.new.builder c.args.builder.now c.in_ok-low.low c.in_ok-high.high c.in_ok-beat.beat.empty c.in_ok-dropped.dropped c.in_ok-made.made
     c.requires.joined c.requires.ready
