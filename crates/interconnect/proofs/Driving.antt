@@ -13,6 +13,7 @@ use Rattle.netlist.specs.declared.line.PortLine.{PortLine}
 use Rattle.netlist.specs.Nets.{NetValue, net_of}
 use Rattle.netlist.specs.Netlists.{Netlist, IsNet, IsInputPort, IsOutputPort, input_net, IsWaiting, WaitsForWrite, driver_of}
 use Rattle.netlist.specs.Longer.{Keeps, Extends}
+use Rattle.net_parts.specs.Laws.{extends_twice}
 use Rattle.net_parts.specs.Nets.{IsNetOfWidth}
 use Rattle.port_tables.specs.declared.roles.Role.{Role}
 use Rattle.port_tables.specs.Lists.{Among, among_at, at_among}
@@ -206,17 +207,6 @@ same-trans a b c one other =
 abbrev pub KeepsOn : Type 0
 KeepsOn = (old middle new : Netlist) → Keeps old middle → Keeps middle new → Keeps old new
 
-pub extends-trans : KeepsOn → (a b c : Netlist) → Extends a b → Extends b c → Extends a c
-extends-trans law a b c one other =
-    record {
-      keeps = law a b c one.keeps other.keeps;
-      nets = λ n w h. other.nets n w (one.nets n w h);
-      memories = λ mem h. other.memories mem (one.memories mem h);
-      valuations = λ cycle h. one.valuations cycle (other.valuations cycle h);
-      runs = λ run cycles h. one.runs run cycles (other.runs run cycles h);
-      count = (let x = one.count in let y = other.count in omega (arith, x, y));
-    }
-
 write_kept : (memory : Memory) → IfSome memory.write (λ write. memory.write ≡ Some write)
 write_kept memory = by_write memory.write
   where
@@ -255,7 +245,7 @@ pub one_more_driven : KeepsOn → (system : SystemTable) (connection : Connectio
 one_more_driven law system connection outputs old now new i o e to step =
     record {
       same = same-trans old now new to.same step.same;
-      extends = extends-trans law old now new to.extends step.extends;
+      extends = extends_twice old now new to.extends step.extends;
       driven = λ n s below f. elim (nat_cases n i) [
         | inl earlier ↦ still_driven (output_at system connection s.role) s.net now new step.extends (to.driven n s earlier f)
         | inr later ↦ (let same : n ≡ i = omega arith in

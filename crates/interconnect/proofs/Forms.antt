@@ -5,11 +5,12 @@ use Rattle.std.specs.List.{position_from}
 use Rattle.std.proofs.lemmas.Bool.{and_parts, or_parts, eqb-true, leb-true, ltb-false, lt-ltb, false≢true}
 use Rattle.iface_roles.specs.declared.records.Finished.{Finished}
 use Rattle.iface_roles.specs.declared.records.Finished.TheVariants.{Source}
-use Rattle.iface_roles.specs.Proper.{AreStreamPorts, IsBoundedStream}
+use Rattle.iface_roles.specs.declared.records.StreamPort.{StreamPort}
+use Rattle.iface_roles.specs.Proper.{IsBoundedStream}
 use Rattle.system_tables.specs.declared.tables.Connection.{Connection}
 use Rattle.system_tables.specs.Tables.{SystemTable}
 use Rattle.address_map.specs.Footprints.{known_at}
-use Rattle.link_rules.specs.Pairs.{KeepsAll, stream_tests, is_multiple, ready_latency}
+use Rattle.link_rules.specs.Pairs.{KeepsAll, stream_tests, is_multiple}
 use Rattle.link_rules.specs.Links.{tests_as}
 use Rattle.stream_runs.specs.Ends.{Declared, AreAlike, pace_of}
 use Rattle.stream_path.specs.Joining.{declared, IsStrict, FitsPorts, CanJoin}
@@ -86,15 +87,14 @@ wire_is source sink fifo e =
 
 -- ---- what a stream of a plan keeps
 
-strict_is : (ready : Bool) (latency allowance : ℕ) → nat_lt 8 (ready_latency ready latency) ≡ false → not (allowance == latency) ≡ false
+strict_is : (ready : Bool) (latency allowance : ℕ) → nat_lt 8 (if ready then latency else 0) ≡ false → not (allowance == latency) ≡ false
     → IsStrict (if ready then record { latency = latency; allowance = allowance } else record { latency = 0; allowance = 0 })
 strict_is true latency allowance e f = record { short = ltb-false 8 latency e; strict = eqb-true allowance latency (not_false (allowance == latency) f) }
 strict_is false latency allowance e f = record { short = omega arith; strict = refl }
 
 -- what the ports of an end keep
-fits_is : (end : Declared) → AreStreamPorts end.symbols end.symbol_bits end.latency end.allowance end.channel_bits end.max_channel end.error_bits end.empty_bits end.packets
-    → end.symbols * end.symbol_bits ≤ 128 → IsStrict (pace_of end) → FitsPorts end
-fits_is end ports small pace =
+fits_is : (port : StreamPort) → IsBoundedStream port → port.symbols * port.symbol_bits ≤ 128 → IsStrict (pace_of (declared port)) → FitsPorts (declared port)
+fits_is port ports small pace =
     record {
       some = ports.some;
       few = ports.few;
@@ -139,8 +139,8 @@ can_join system number connection at h source_bounded sink_bounded =
     let late = or_parts _ _ (tests 7) in
     let strict = or_parts _ _ (tests 9) in
     record {
-      source_fits = fits_is (declared source) source_bounded (ltb-false 128 (source.symbols * source.symbol_bits) small.0) (strict_is source.ready source.latency source.allowance late.0 strict.0);
-      sink_fits = fits_is (declared sink) sink_bounded (ltb-false 128 (sink.symbols * sink.symbol_bits) small.1) (strict_is sink.ready sink.latency sink.allowance late.1 strict.1);
+      source_fits = fits_is source source_bounded (ltb-false 128 (source.symbols * source.symbol_bits) small.0) (strict_is source.ready source.latency source.allowance late.0 strict.0);
+      sink_fits = fits_is sink sink_bounded (ltb-false 128 (sink.symbols * sink.symbol_bits) small.1) (strict_is sink.ready sink.latency sink.allowance late.1 strict.1);
       symbol_bits = eqb-true source.symbol_bits sink.symbol_bits (not_false (source.symbol_bits == sink.symbol_bits) (tests 1));
       packets = same_flags source.packets sink.packets (tests 2);
       waits = λ no_ready.

@@ -13,6 +13,7 @@ use Rattle.netlist.specs.Nets.{NetValue}
 use Rattle.netlist.specs.Netlists.{Netlist, driver_of, input_count}
 use Rattle.netlist.specs.Longer.{Extends}
 use Rattle.stream_runs.specs.Ends.{Declared}
+use Rattle.net_parts.specs.Laws.{extends_twice}
 use Rattle.net_parts.specs.Nets.{IsNetOfWidth, IsBit}
 use Rattle.stream_path.specs.Joining.{declared}
 use Rattle.stream_path.specs.Ends.{IsNetWhere, ArePathNets}
@@ -28,7 +29,7 @@ use Rattle.port_tables.specs.Lists.{among_at, Distinct}
 use Rattle.interconnect.specs.Streams.{IsStream}
 use Rattle.interconnect.specs.Outputs.{output_end, output_at, HaveOwnRoles, HasSameNets, MayDriveAll, AreDriven, IsNoOutput, AreUndriven}
 use Rattle.interconnect.specs.Joins.{output_roles, net_for, path_outputs, low_at, AddsStream, IsJoinedStream, IsJoinedUpTo}
-use Rattle.interconnect.proofs.Driving.{nat_cases, output_among, can_drive, own_roles, each_at, may_by, KeepsOn, extends-trans, stay_driven, stays_undriven, same_drivers, low_stays, waiting_as, unwritten_as}
+use Rattle.interconnect.proofs.Driving.{nat_cases, output_among, can_drive, own_roles, each_at, may_by, KeepsOn, stay_driven, stays_undriven, same_drivers, low_stays, waiting_as, unwritten_as}
 use Rattle.interconnect.proofs.StreamEnds.{start_among, finish_among, stream_ends_among}
 use Rattle.interconnect.proofs.MemoryJoins.{memory_stays}
 
@@ -140,7 +141,7 @@ stays_joined law system old new number place connection source sink h j =
       made = j.made;
       from_are = j.from_are;
       ready_is = j.ready_is;
-      serves = λ longer extends run cycles is legal. j.serves longer (extends-trans law old new longer h extends) run cycles is legal;
+      serves = λ longer extends run cycles is legal. j.serves longer (extends_twice old new longer h extends) run cycles is legal;
       driven = stay_driven system connection (path_outputs j.made) old new h j.driven;
       wire = j.wire;
     }
@@ -218,7 +219,7 @@ newly_joined system number connection old middle new made law s =
       made = made;
       from_are = s.adds.from_are;
       ready_is = s.adds.ready_is;
-      serves = λ longer extends run cycles is legal. s.adds.serves longer (extends-trans law middle new longer s.extends extends) run cycles is legal;
+      serves = λ longer extends run cycles is legal. s.adds.serves longer (extends_twice middle new longer s.extends extends) run cycles is legal;
       driven = s.driven;
       wire = s.adds.wire;
     }
@@ -235,7 +236,7 @@ pub one_more_joined : (system : SystemTable) (number : ℕ) (connection : Connec
     → IsJoinedUpTo system number old → IsJoinedUpTo system (number + 1) new
 one_more_joined system number connection old middle new made law s upto =
     let grows = s.adds.grows in
-    let whole = extends-trans law old middle new grows.extends s.extends in
+    let whole = extends_twice old middle new grows.extends s.extends in
     record {
       name = whole.keeps.name ∙ upto.name;
       ports = whole.keeps.ports ∙ upto.ports;

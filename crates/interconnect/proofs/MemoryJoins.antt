@@ -26,8 +26,8 @@ use Rattle.mm_machines.specs.BoundedWire.{WireForm, IsWireForm}
 use Rattle.mm_wire.specs.declared.nets.HostNets.{HostNets}
 use Rattle.mm_wire.specs.declared.nets.AgentNets.{AgentNets}
 use Rattle.mm_wire.specs.declared.nets.WireNets.{WireNets}
-use Rattle.mm_wire.specs.Nets.{IsNetOfWidth as IsWireNet}
 use Rattle.net_parts.specs.Nets.{IsRegister, IsNetOfWidth}
+use Rattle.net_parts.specs.Laws.{extends_twice, net_lasts, register_lasts}
 use Rattle.mm_wire.specs.Wires.{AreHostNets, AreAgentNets, AreWireNets, RunsAsWire}
 use Rattle.port_tables.specs.declared.roles.Role.{Role}
 use Rattle.port_tables.specs.declared.roles.Role.TheVariants as role
@@ -43,23 +43,11 @@ use Rattle.interconnect.specs.Outputs.{IsInputIf, IsInput, output_end, output_at
 use Rattle.interconnect.specs.MemoryNets.{bounded_form, IsMemoryLink, AreHostInputs, AreAgentInputs, AddsWire, wire_roles, wire_net, wire_outputs, IsJoinedMemory}
 use Rattle.interconnect.specs.Joins.{IsBegun, IsJoinedUpTo}
 use Rattle.interconnect.proofs.Counts.{of_kind}
-use Rattle.interconnect.proofs.Driving.{KeepsOn, extends-trans, is_an_end, output_among, can_drive, own_roles, each_at, may_by, stay_driven, same_drivers, low_stays, waiting_as, unwritten_as}
+use Rattle.interconnect.proofs.Driving.{KeepsOn, is_an_end, output_among, can_drive, own_roles, each_at, may_by, stay_driven, same_drivers, low_stays, waiting_as, unwritten_as}
 use Rattle.interconnect.proofs.StreamEnds.{stream_ends_among}
 use Rattle.interconnect.proofs.MemoryEnds.{AreHostPorts, AreAgentPorts, host_ports_are, agent_ports_are, pair_is, limits}
 
 -- ---- a longer netlist
-
-set_register : (e : Equation) (next : ℕ) → is_register e ≡ true → is_register (next_set e next) ≡ true
-set_register (Reg reset own) next h = refl
-set_register e next h = h
-
-register_stays : (old new : Netlist) (n : ℕ) → Extends old new → IsRegister old n → IsRegister new n
-register_stays old new n h r =
-    let kept = h.keeps.lines n r.line r.is in
-    elim kept.kept [
-      | inl same ↦ record { line = kept.later; is = kept.is; register = ap (λ (l : Line). is_register l.equation) same ∙ r.register }
-      | inr set ↦ record { line = kept.later; is = kept.is; register = ap (λ (l : Line). is_register l.equation) set.is ∙ set_register r.line.equation set.next r.register }
-    ]
 
 -- a host and its agent stay joined in a longer netlist
 pub memory_stays : (system : SystemTable) (old new : Netlist) (connection : Connection) (host : HostPort) (agent : AgentPort) → Extends old new → IsJoinedMemory system old connection host agent
@@ -75,7 +63,7 @@ memory_stays system old new connection host agent h j =
       from_are = j.from_are;
       to_are = j.to_are;
       runs = λ run cycles is. j.runs run cycles (h.runs run cycles is);
-      register = register_stays old new j.made.unanswered.number h j.register;
+      register = register_lasts old new j.made.unanswered.number h j.register;
       ignores = λ one other v w alike. j.ignores one other (h.valuations one v) (h.valuations other w) alike;
       driven = stay_driven system connection (wire_outputs j.from j.to j.made) old new h j.driven;
     }
@@ -162,17 +150,6 @@ input_if ports false bits (Some k) p = (let some = p.some in absurd (omega (arit
 pub enables_input : (system : SystemTable) (end : EndId) (bits : ℕ) (enables : Bool) → AreHostPorts system end bits enables → IsInputIf system end role.ByteEnable 4
 enables_input system end bits enables h = input_if (ports_of system) enables 4 (port_at system end role.ByteEnable) h.byteenable
 
--- a net of a known width, in the words of the wire and in those of streams
-pub wire_net_of : (netlist : Netlist) (net : NetValue) (width : ℕ) → IsNetOfWidth netlist net width → IsWireNet netlist net width
-wire_net_of netlist net width is = record { is_net = is.is_net; has_width = is.has_width }
-
-net_of_wire : (netlist : Netlist) (net : NetValue) (width : ℕ) → IsWireNet netlist net width → IsNetOfWidth netlist net width
-net_of_wire netlist net width is = record { is_net = is.is_net; has_width = is.has_width }
-
-pub wire_net_if : (netlist : Netlist) (net : Option NetValue) (width : ℕ) → IfSome net (λ n. IsNetOfWidth netlist n width) → IfSome net (λ n. IsWireNet netlist n width)
-wire_net_if netlist None width is = tt
-wire_net_if netlist (Some net) width is = wire_net_of netlist net width is
-
 -- the host has byte enables where the form says so
 enables_there : (ports : List PortLine) (enables : Bool) (o : Option ℕ) → IsPortIf ports false (bits_if enables 4) o → is_some (option_map (λ (k : ℕ). net_of (input_net ports k) 4) o) ≡ enables
 enables_there ports true None p = absurd (omega (arith, p))
@@ -203,9 +180,9 @@ wire_outputs_are system connection bits enables host agent n r e =
     each_at (λ (r : Role). IsPortIf (ports_of system) true (wire_width bits enables r) (output_at system connection r)) wire_roles n r
     (host.waitrequest, (host.readdata, (host.readdatavalid, (agent.address, (agent.read, (agent.write, (agent.writedata, (agent.byteenable, (agent.grant, tt))))))))) e
 
-enables_width : (netlist : Netlist) (enables : Bool) (net : Option NetValue) (other : NetValue) → is_some net ≡ enables → IfSome net (λ n. IsWireNet netlist n 4) → 0 < bits_if enables 4
+enables_width : (netlist : Netlist) (enables : Bool) (net : Option NetValue) (other : NetValue) → is_some net ≡ enables → IfSome net (λ n. IsNetOfWidth netlist n 4) → 0 < bits_if enables 4
     → IsNetOfWidth netlist (unwrap_or net other) (bits_if enables 4)
-enables_width netlist true (Some net) other e is some = net_of_wire netlist net 4 is
+enables_width netlist true (Some net) other e is some = is
 enables_width netlist true None other e is some = absurd (false≢true e)
 enables_width netlist false net other e is some = absurd (omega (arith, some))
 
@@ -213,18 +190,18 @@ wire_widths : (netlist : Netlist) (bits : ℕ) (enables : Bool) (host : HostNets
     → is_some host.byteenable ≡ enables → (n : ℕ) (r : Role) → slice_get wire_roles n ≡ Some r → 0 < wire_width bits enables r → IsNetOfWidth netlist (wire_net host agent made r) (wire_width bits enables r)
 wire_widths netlist bits enables host agent made h a m e n r is =
     each_at (λ (r : Role). 0 < wire_width bits enables r → IsNetOfWidth netlist (wire_net host agent made r) (wire_width bits enables r)) wire_roles n r (
-      λ some. net_of_wire netlist made.waitrequest 1 m.waitrequest,
+      λ some. m.waitrequest,
       (
-        λ some. net_of_wire netlist agent.readdata 32 a.readdata,
+        λ some. a.readdata,
         (
-          λ some. net_of_wire netlist agent.readdatavalid 1 a.readdatavalid,
+          λ some. a.readdatavalid,
           (
-            λ some. net_of_wire netlist made.address bits m.address,
+            λ some. m.address,
             (
-              λ some. net_of_wire netlist made.read 1 m.read,
+              λ some. m.read,
               (
-                λ some. net_of_wire netlist host.write 1 h.write,
-                (λ some. net_of_wire netlist host.writedata 32 h.writedata, (enables_width netlist enables host.byteenable host.write e h.byteenable, (λ some. net_of_wire netlist made.grant 4 m.grant, tt))),
+                λ some. h.write,
+                (λ some. h.writedata, (enables_width netlist enables host.byteenable host.write e h.byteenable, (λ some. m.grant, tt))),
               ),
             ),
           ),
@@ -249,10 +226,7 @@ wire_own_roles host agent made = own_roles (wire_net host agent made) place_of w
 
 -- ---- the steps
 
-net_lasts : (old new : Netlist) (net : NetValue) (w : ℕ) → Extends old new → IsWireNet old net w → IsWireNet new net w
-net_lasts old new net w extends is = record { is_net = extends.nets net.number net.width is.is_net; has_width = is.has_width }
-
-enables_last : (old new : Netlist) (net : Option NetValue) → Extends old new → IfSome net (λ n. IsWireNet old n 4) → IfSome net (λ n. IsWireNet new n 4)
+enables_last : (old new : Netlist) (net : Option NetValue) → Extends old new → IfSome net (λ n. IsNetOfWidth old n 4) → IfSome net (λ n. IsNetOfWidth new n 4)
 enables_last old new None extends is = tt
 enables_last old new (Some n) extends is = net_lasts old new n 4 extends is
 
@@ -341,7 +315,7 @@ pub link_joined : KeepsOn → (system : SystemTable) (link : MemoryLink) (old mi
     → HasSameNets middle new → Extends middle new → AreDriven system link.connection (wire_outputs host agent made) new
     → ((k : ℕ) → IsNoOutput system link.connection k → driver_of new k ≡ driver_of middle k) → IsJoinedUpTo system 0 new
 link_joined law system link old middle new host agent made s same extends driven others =
-    let whole = extends-trans law old middle new s.adds.extends extends in
+    let whole = extends_twice old middle new s.adds.extends extends in
     let l = s.link_is in
     let bits : link.form.address_bits ≡ l.agent.address_bits = ap (λ (f : WireForm). f.address_bits) l.form_is in
     let joined : IsJoinedMemory system new link.connection l.host l.agent = record {
@@ -354,7 +328,7 @@ link_joined law system link old middle new host agent made s same extends driven
       from_are = subst (λ (n : ℕ). AreHostInputs system link.connection.start n host) bits s.from_are;
       to_are = s.to_are;
       runs = subst (λ (f : WireForm). RunsAsWire new host agent made f.address_bits f.pending) l.form_is (λ run cycles is. s.adds.runs run cycles (extends.runs run cycles is));
-      register = register_stays middle new made.unanswered.number extends s.adds.register;
+      register = register_lasts middle new made.unanswered.number extends s.adds.register;
       ignores = λ one other v w alike. s.adds.ignores one other (extends.valuations one v) (extends.valuations other w) alike;
       driven = driven;
     } in

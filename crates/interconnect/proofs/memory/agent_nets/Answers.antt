@@ -1,7 +1,7 @@
 use Rattle.std.proofs.Common.{arith}
 use Rattle.port_tables.specs.declared.roles.Role.TheVariants as role
 use Rattle.interconnect.proofs.Driving.{is_an_end}
-use Rattle.interconnect.proofs.MemoryJoins.{agent_among, link_agent, input_there, wire_net_of}
+use Rattle.interconnect.proofs.MemoryJoins.{agent_among, link_agent, input_there}
 use Rattle.interconnect.proofs.memory.agent_nets.Goals as goal
 
 pub input_net-requires-clause-end : goal.input_net-requires-clause-end
@@ -35,7 +35,7 @@ pub returns-clause-nets : goal.returns-clause-nets
 returns-clause-nets c =
     let ports = link_agent c.args.plan.now.system c.args.link c.ports_are_known.ensures c.requires.link in
     record {
-      waitrequest = wire_net_of c.args.builder.now c.input_net.result 1 (c.input_net.ensures.is 1 (input_there c.args.plan.now.system c.args.link.connection.end role.WaitRequest 1 (omega arith) ports.waitrequest));
-      readdata = wire_net_of c.args.builder.now c.input_net-2.result 32 (c.input_net-2.ensures.is 32 (input_there c.args.plan.now.system c.args.link.connection.end role.ReadData 32 (omega arith) ports.readdata));
-      readdatavalid = wire_net_of c.args.builder.now c.input_net-3.result 1 (c.input_net-3.ensures.is 1 (input_there c.args.plan.now.system c.args.link.connection.end role.ReadDataValid 1 (omega arith) ports.readdatavalid));
+      waitrequest = c.input_net.ensures.is 1 (input_there c.args.plan.now.system c.args.link.connection.end role.WaitRequest 1 (omega arith) ports.waitrequest);
+      readdata = c.input_net-2.ensures.is 32 (input_there c.args.plan.now.system c.args.link.connection.end role.ReadData 32 (omega arith) ports.readdata);
+      readdatavalid = c.input_net-3.ensures.is 1 (input_there c.args.plan.now.system c.args.link.connection.end role.ReadDataValid 1 (omega arith) ports.readdatavalid);
     }

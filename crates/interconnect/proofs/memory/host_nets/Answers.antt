@@ -1,7 +1,7 @@
 use Rattle.std.proofs.Common.{◌+◌, arith}
 use Rattle.port_tables.specs.declared.roles.Role.TheVariants as role
 use Rattle.interconnect.proofs.Driving.{is_an_end}
-use Rattle.interconnect.proofs.MemoryJoins.{host_among, link_host, input_there, enables_input, wire_net_of, wire_net_if}
+use Rattle.interconnect.proofs.MemoryJoins.{host_among, link_host, input_there, enables_input}
 use Rattle.interconnect.proofs.memory.host_nets.Goals as goal
 
 pub input_net-requires-clause-end : goal.input_net-requires-clause-end
@@ -49,9 +49,9 @@ pub returns-clause-nets : goal.returns-clause-nets
 returns-clause-nets c =
     let ports = link_host c.args.plan.now.system c.args.link c.ports_are_known.ensures c.requires.link in
     record {
-      address = wire_net_of c.args.builder.now c.input_net.result (c.args.link.form.address_bits + 2) (c.input_net.ensures.is (c.args.link.form.address_bits + 2) (input_there c.args.plan.now.system c.args.link.connection.start role.Address (c.args.link.form.address_bits + 2) (omega arith) ports.address));
-      read = wire_net_of c.args.builder.now c.input_net-2.result 1 (c.input_net-2.ensures.is 1 (input_there c.args.plan.now.system c.args.link.connection.start role.Read 1 (omega arith) ports.read));
-      write = wire_net_of c.args.builder.now c.input_net-3.result 1 (c.input_net-3.ensures.is 1 (input_there c.args.plan.now.system c.args.link.connection.start role.Write 1 (omega arith) ports.write));
-      writedata = wire_net_of c.args.builder.now c.input_net-4.result 32 (c.input_net-4.ensures.is 32 (input_there c.args.plan.now.system c.args.link.connection.start role.WriteData 32 (omega arith) ports.writedata));
-      byteenable = wire_net_if c.args.builder.now c.input_of.result 4 (c.input_of.ensures.is 4 (enables_input c.args.plan.now.system c.args.link.connection.start c.args.link.form.address_bits c.args.link.form.has_enables ports));
+      address = c.input_net.ensures.is (c.args.link.form.address_bits + 2) (input_there c.args.plan.now.system c.args.link.connection.start role.Address (c.args.link.form.address_bits + 2) (omega arith) ports.address);
+      read = c.input_net-2.ensures.is 1 (input_there c.args.plan.now.system c.args.link.connection.start role.Read 1 (omega arith) ports.read);
+      write = c.input_net-3.ensures.is 1 (input_there c.args.plan.now.system c.args.link.connection.start role.Write 1 (omega arith) ports.write);
+      writedata = c.input_net-4.ensures.is 32 (input_there c.args.plan.now.system c.args.link.connection.start role.WriteData 32 (omega arith) ports.writedata);
+      byteenable = c.input_of.ensures.is 4 (enables_input c.args.plan.now.system c.args.link.connection.start c.args.link.form.address_bits c.args.link.form.has_enables ports);
     }
