@@ -253,7 +253,7 @@ one_more_joined system number connection old middle new made law s upto =
       rest = λ n a source sink above is r. stays_undriven old new (output_at system a r)
           (λ k here. s.others k (other_output system number n k connection a source sink r s.ports s.at is (omega (arith, above)) here) ∙ same_drivers old middle k grows.drivers)
           (upto.rest n a source sink (omega (arith, above)) is r);
-      clocked = λ n w. upto.clocked n (s.adds.grows.no_more_wait n (waiting_as middle new n s.same.lines w));
+      clocked = λ n w. upto.clocked n (s.adds.no_more_wait n (waiting_as middle new n s.same.lines w));
       written = λ m w. upto.written m (unwritten_as old middle m grows.memories (unwritten_as middle new m s.same.memories w));
       few = (let most = grows.most in let lines = ap (λ (ls : List Line). length ls) s.same.lines in let before = upto.few in omega (arith, most, lines, before));
     }

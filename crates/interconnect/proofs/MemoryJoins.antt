@@ -340,7 +340,7 @@ link_joined law system link old middle new host agent made s same extends driven
       joined = λ n place connection source sink below e is. absurd (omega (arith, below));
       rest = λ n connection source sink above is r. undriven_where new (output_at system connection r)
           (λ k here. others k (other_output system link n k connection source sink r s.known l is here) ∙ same_drivers old middle k s.adds.drivers ∙ s.begun.undriven k);
-      clocked = λ n w. s.begun.clocked n (s.adds.grows.no_more_wait n (waiting_as middle new n same.lines w));
+      clocked = λ n w. s.begun.clocked n (s.adds.no_more_wait n (waiting_as middle new n same.lines w));
       written = λ m w. s.begun.written m (unwritten_as old middle m s.adds.memories (unwritten_as middle new m same.memories w));
       few = (let most = s.adds.most in let lines = ap (λ (ls : List Line). length ls) same.lines in let before = s.begun.few in omega (arith, most, lines, before));
     }
