@@ -95,7 +95,11 @@ fn nets_of(alloc: Global, source: &StreamPort, sink: &StreamPort) -> Result<u32,
     requires symbols { source.now.symbols ≡ 2 }
     requires latency { source.now.latency ≤ 8 }
 {
-    Ok(made_by(alloc, &timing_of(source, sink), 8)?.module.net_count())
+    Ok(
+        made_by(alloc, &timing_of(source, sink), 8)?
+            .module
+            .net_count(),
+    )
 }
 
 #[test]

@@ -5,9 +5,9 @@ ghost use Rattle.stream_path.specs.Joining.{declared};
 ghost use Rattle.interconnect.specs.Wires.{has_same_beats, has_plain_ready, is_wire_stream, is_wire, is_wire_host, is_wire_agent, fills_range, is_wire_memory, is_only, is_built, pending_of};
 ghost use Rattle.port_tables.specs.Ends.{IsPlanEnd};
 
-use system_tables::Connection;
 use iface_roles::{AgentPort, Finished, HostPort, Kind, SinkPort, SourcePort};
 use link_rules::Plan;
+use system_tables::Connection;
 
 fn has_same_beats(source: &SourcePort, sink: &SinkPort) -> bool
     ensures { result ≡ has_same_beats (declared source.now) (declared sink.now) }

@@ -12,12 +12,12 @@ ghost use Rattle.interconnect.specs.Joins.{IsBegun, IsJoinedUpTo};
 
 use crate::outputs::{Output, drive_outputs, input_net, input_of};
 use av_base::NoMemory;
-use system_tables::Connection;
 use iface_roles::{AgentPort, Finished};
 use link_rules::Plan;
 use mm_wire::{AgentNets, HostNets, WireNets, emit};
 use netlist::{Builder, NetFault};
 use port_tables::{PortMap, Role, ports_are_known};
+use system_tables::Connection;
 
 /// A host joined to an agent that fills its whole range of addresses.
 #[derive(Clone, Copy)]

@@ -7,10 +7,10 @@ ghost use Rattle.port_tables.specs.Ports.{ports_of};
 ghost use Rattle.port_tables.specs.PortMaps.{entries_of};
 ghost use Rattle.interconnect.specs.Outputs.{IsInputIf, IsInput, input_at, output_of, output_end, HaveOwnRoles, HasSameNets, MayDrive, MayDriveAll, AreDriven, IsNoOutput};
 
-use system_tables::{Connection, EndId};
 use link_rules::Plan;
 use netlist::{Builder, Net};
 use port_tables::{PortMap, Role, ports_are_known};
+use system_tables::{Connection, EndId};
 
 /// The net of the input port of a role at an end, where there is one.
 pub(crate) fn input_of(

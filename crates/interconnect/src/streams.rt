@@ -19,7 +19,6 @@ ghost use Rattle.interconnect.specs.Joins.{AreInputs, wire_nets, path_outputs, A
 use crate::built::is_wire;
 use crate::outputs::{Output, drive_outputs, input_of};
 use av_base::{List, NoMemory, Val};
-use system_tables::{Connection, EndId};
 use iface_roles::{Finished, SinkPort, SourcePort, proper_records_are_bounded};
 use link_rules::Plan;
 use netlist::{Builder, Net, NetFault};
@@ -27,6 +26,7 @@ use port_tables::{PortMap, Role, ports_are_known, stream_at};
 use stage_core::BeatNets;
 use std::alloc::Global;
 use stream_path::{PathNets, SourceNets, emit_path};
+use system_tables::{Connection, EndId};
 
 /// The nets of a source.
 fn source_nets(builder: &Builder, plan: &Plan, ports: &PortMap, end: EndId) -> SourceNets
