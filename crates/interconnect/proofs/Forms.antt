@@ -11,12 +11,14 @@ use Rattle.system_tables.specs.declared.tables.Connection.{Connection}
 use Rattle.system_tables.specs.Tables.{SystemTable}
 use Rattle.address_map.specs.Footprints.{known_at}
 use Rattle.link_rules.specs.Pairs.{KeepsAll, stream_tests, is_multiple}
+use Rattle.link_rules.specs.declared.plan_links.StreamLink.{StreamLink}
 use Rattle.link_rules.specs.Links.{tests_as}
+use Rattle.link_rules.specs.PlanLinks.{IsStreamLink}
 use Rattle.stream_runs.specs.Ends.{Declared, AreAlike, pace_of}
 use Rattle.stream_path.specs.Joining.{declared, IsStrict, FitsPorts, CanJoin}
 use Rattle.interconnect.specs.Wires.{both_or_neither, has_same_beats, has_plain_ready, is_wire_stream, is_built, pending_of}
-use Rattle.port_tables.specs.Ends.{IsStreamPlace}
 use Rattle.port_tables.specs.EndFacts.{IsPlanned}
+use Rattle.interconnect.proofs.StreamEnds.{connection_of, start_known, finish_known}
 
 -- ---- what is built
 
@@ -93,8 +95,8 @@ strict_is true latency allowance e f = record { short = ltb-false 8 latency e; s
 strict_is false latency allowance e f = record { short = omega arith; strict = refl }
 
 -- what the ports of an end keep
-fits_is : (port : StreamPort) → IsBoundedStream port → port.symbols * port.symbol_bits ≤ 128 → IsStrict (pace_of (declared port)) → FitsPorts (declared port)
-fits_is port ports small pace =
+fits_is : (end : StreamPort) → IsBoundedStream end → end.symbols * end.symbol_bits ≤ 128 → IsStrict (pace_of (declared end)) → FitsPorts (declared end)
+fits_is end ports small pace =
     record {
       some = ports.some;
       few = ports.few;
@@ -127,14 +129,17 @@ takes_by false true m e is = absurd (false≢true (sym e))
 takes_by false false true e is = (refl, refl)
 takes_by false false false e is = absurd (false≢true (sym e))
 
-pub can_join : (system : SystemTable) (number : ℕ) (connection : Connection) (at : IsStreamPlace system number connection) → IsPlanned system
-    → IsBoundedStream at.source_port → IsBoundedStream at.sink_port → CanJoin (declared at.source_port) (declared at.sink_port)
-can_join system number connection at h source_bounded sink_bounded =
-    let source = at.source_port in
-    let sink = at.sink_port in
+pub can_join : (system : SystemTable) (number : ℕ) (link : StreamLink) → IsPlanned system → IsStreamLink system number link → IsBoundedStream link.source → IsBoundedStream link.sink
+    → CanJoin (declared link.source) (declared link.sink)
+can_join system number link h is source_bounded sink_bounded =
+    let source = link.source in
+    let sink = link.sink in
+    let connection = is.connection in
+    let of = connection_of system number link connection is is.connection_is in
     let tests : KeepsAll (stream_tests source sink connection.clock_fits) =
-    subst (λ (b : Finished). KeepsAll (tests_as connection.clock_fits (Source source) b)) at.sink_is
-    (subst (λ (a : Finished). KeepsAll (tests_as connection.clock_fits a (known_at system connection.end))) at.source_is (h.rules at.place connection at.connection_is)) in
+    subst (λ (b : Finished). KeepsAll (tests_as connection.clock_fits (Source source) b)) (finish_known system number link connection is of)
+    (subst (λ (a : Finished). KeepsAll (tests_as connection.clock_fits a (known_at system connection.end))) (start_known system number link connection is of)
+    (h.rules link.connection connection is.connection_is)) in
     let small = or_parts _ _ (tests 6) in
     let late = or_parts _ _ (tests 7) in
     let strict = or_parts _ _ (tests 9) in

@@ -2,21 +2,20 @@
 use Rattle.std.proofs.Common.{◌≡◌, ℕ, ◌+◌, ◌*◌, ◌<◌, ◌≤◌, ◌^◌, Bool, true, false, List, Option, Some, None, slice_get, length, inl, inr, refl, sym, ap, subst, ◌∙◌, arith}
 use Rattle.std.specs.Prelude.{IfSome, IsSome, is_some, option_map, nat_lt, if◌then◌else◌}
 use Rattle.std.proofs.lemmas.Bool.Decides.{Decides-ltb}
-use Rattle.iface_roles.specs.declared.records.Finished.{Finished}
 use Rattle.iface_roles.specs.declared.records.Finished.TheVariants.{Source, Sink}
 use Rattle.iface_roles.specs.declared.records.StreamPort.{StreamPort}
 use Rattle.iface_roles.specs.Proper.{IsProper, IsBoundedStream}
 use Rattle.system_tables.specs.declared.tables.EndId.{EndId}
-use Rattle.system_tables.specs.declared.tables.Connection.{Connection}
-use Rattle.system_tables.specs.Tables.{SystemTable, IsEnd}
+use Rattle.system_tables.specs.Tables.{SystemTable}
 use Rattle.address_map.specs.Footprints.{known_at}
+use Rattle.link_rules.specs.declared.plan_links.StreamLink.{StreamLink}
 use Rattle.link_rules.specs.Links.{streams_of}
+use Rattle.link_rules.specs.PlanLinks.{IsStreamLink}
 use Rattle.netlist.specs.declared.line.PortLine.{PortLine}
 use Rattle.netlist.specs.Nets.{NetValue, net_of}
 use Rattle.netlist.specs.Netlists.{Netlist, IsInputPort, input_count, input_net}
 use Rattle.net_parts.specs.Nets.{IsNetOfWidth}
-use Rattle.net_parts.specs.Growth.{GrowsBy, StillWait}
-use Rattle.stream_path.specs.Joining.{declared, CanJoin}
+use Rattle.stream_path.specs.Joining.{declared}
 use Rattle.stream_path.specs.Ends.{IsNetIf, AreSourceNets, ArePathNets}
 use Rattle.stream_path.specs.Serving.{most_nets, ServesInLonger}
 use Rattle.stream_path.specs.declared.ends.SourceNets.{SourceNets}
@@ -26,17 +25,16 @@ use Rattle.port_tables.specs.declared.roles.Role.TheVariants as role
 use Rattle.port_tables.specs.declared.roles.RolePort.{RolePort}
 use Rattle.port_tables.specs.Ports.{is_output, bits_if, port_of, stream_ports, ends_of, ports_of}
 use Rattle.port_tables.specs.PortMaps.{HasKnownPorts, port_at, IsPortIf}
-use Rattle.port_tables.specs.Ends.{IsStreamPlace}
-use Rattle.interconnect.specs.Wires.{is_wire, is_wire_as, is_wire_at, is_wire_stream, wires_before}
+use Rattle.interconnect.specs.Wires.{is_wire_at, wires_before}
 use Rattle.interconnect.specs.Streams.{low_line}
 use Rattle.interconnect.specs.Outputs.{IsInputIf, input_at}
 use Rattle.interconnect.specs.Joins.{AreInputs, wire_nets, low_at, AddsStream, IsJoinedUpTo}
-use Rattle.port_tables.specs.EndFacts.{IsPlanned, known_is, known_proper}
-use Rattle.interconnect.proofs.Forms.{wire_is, can_join}
+use Rattle.port_tables.specs.EndFacts.{known_is}
+use Rattle.interconnect.proofs.Forms.{wire_is}
 use Rattle.port_tables.specs.Numbering.{plan_end}
-use Rattle.interconnect.proofs.StreamEnds.{finish_among}
+use Rattle.interconnect.proofs.StreamEnds.{source_known, sink_known, source_among, sink_among}
 use Rattle.interconnect.proofs.WireNets.{WiresAreServed, wire_serves, wire_path, low_bit, grows-none}
-use Rattle.interconnect.proofs.LowNets.{mul_some, wire_below}
+use Rattle.interconnect.proofs.LowNets.{mul_some, wire_below, wire_test}
 use Rattle.port_tables.specs.Lists.{Among}
 
 -- ---- one input
@@ -201,59 +199,29 @@ are_nets system netlist end source valid word v d channel error startofpacket en
       empty = net_if (ports_of system) netlist source.empty_bits (port_at system end role.Empty) empty (empty_port system end source h) (read.empty_is.net_is source.empty_bits empty_here) (read.empty_is.is source.empty_bits empty_here);
     }
 
--- ---- the ends of a stream as they were found
+-- ---- the ends of a link
 
--- the records of the ends are those of the stream's place
-pub record AreEndsOf (system : SystemTable) (number : ℕ) (connection : Connection) (source : StreamPort) (sink : StreamPort) : Type 0 where
+pub source_of : (system : SystemTable) (number : ℕ) (link : StreamLink) → HasKnownPorts system → IsStreamLink system number link → IsSourceAt system link.source_end link.source
+source_of system number link h is = source_at system link.source_end link.source h (source_among system number link h.planned is) (source_known system number link is)
+
+pub record IsSinkAt (system : SystemTable) (end : EndId) (sink : StreamPort) : Type 0 where
   pub ports : HasKnownPorts system
-  pub at : IsStreamPlace system number connection
-  pub source_is : at.source_port ≡ source
-  pub sink_is : at.sink_port ≡ sink
+  pub among : Among end (ends_of system)
+  pub known : known_at system end ≡ Sink sink
 
-pub ends_of_stream : (system : SystemTable) (number : ℕ) (connection : Connection) (source : StreamPort) (sink : StreamPort) → HasKnownPorts system → IsStreamPlace system number connection
-    → IsEnd system connection.start (Source source) → IsEnd system connection.end (Sink sink) → AreEndsOf system number connection source sink
-ends_of_stream system number connection source sink h at start end =
-    let from : Source at.source_port ≡ Source source = sym at.source_is ∙ known_is system connection.start (Source source) start in
-    let to : Sink at.sink_port ≡ Sink sink = sym at.sink_is ∙ known_is system connection.end (Sink sink) end in
-    record { ports = h; at = at; source_is = cc; sink_is = cc }
+pub sink_of : (system : SystemTable) (number : ℕ) (link : StreamLink) → HasKnownPorts system → IsStreamLink system number link → IsSinkAt system link.sink_end link.sink
+sink_of system number link h is = record { ports = h; among = sink_among system number link h.planned is; known = sink_known system number link is }
 
-pub source_known : (system : SystemTable) (number : ℕ) (connection : Connection) (source : StreamPort) (sink : StreamPort) → AreEndsOf system number connection source sink → known_at system connection.start ≡ Source source
-source_known system number connection source sink e = e.at.source_is ∙ ap Source e.source_is
+ready_port : (system : SystemTable) (end : EndId) (sink : StreamPort) → IsSinkAt system end sink → IsPortIf (ports_of system) false (bits_if sink.ready 1) (port_at system end role.Ready)
+ready_port system end sink h = h.ports.known end (Sink sink) (port_of role.Ready (bits_if sink.ready 1)) h.among h.known (inl refl)
 
-sink_known_as : (system : SystemTable) (number : ℕ) (connection : Connection) (source : StreamPort) (sink : StreamPort) → AreEndsOf system number connection source sink → known_at system connection.end ≡ Sink sink
-sink_known_as system number connection source sink e = e.at.sink_is ∙ ap Sink e.sink_is
+pub ready_input : (system : SystemTable) (end : EndId) (sink : StreamPort) → IsSinkAt system end sink → IsInputIf system end role.Ready 1
+ready_input system end sink h = bit_port (ports_of system) sink.ready (port_at system end role.Ready) (ready_port system end sink h)
 
-ready_port : (system : SystemTable) (number : ℕ) (connection : Connection) (source : StreamPort) (sink : StreamPort) → AreEndsOf system number connection source sink
-    → IsPortIf (ports_of system) false (bits_if sink.ready 1) (port_at system connection.end role.Ready)
-ready_port system number connection source sink e =
-    e.ports.known connection.end (Sink sink) (port_of role.Ready (bits_if sink.ready 1)) (finish_among system number connection e.at) (sink_known_as system number connection source sink e) (inl refl)
-
-pub ready_input : (system : SystemTable) (number : ℕ) (connection : Connection) (source : StreamPort) (sink : StreamPort) → AreEndsOf system number connection source sink → IsInputIf system connection.end role.Ready 1
-ready_input system number connection source sink e = bit_port (ports_of system) sink.ready (port_at system connection.end role.Ready) (ready_port system number connection source sink e)
-
-pub ready_if : (system : SystemTable) (number : ℕ) (connection : Connection) (source : StreamPort) (sink : StreamPort) (netlist : Netlist) (net : Option NetValue) → AreEndsOf system number connection source sink
-    → IsRead system netlist connection.end role.Ready net → IsNetIf sink.ready 1 netlist net
-ready_if system number connection source sink netlist net e read =
-    let here = ready_input system number connection source sink e in
-    bit_if (ports_of system) netlist sink.ready (port_at system connection.end role.Ready) net (ready_port system number connection source sink e) (read.net_is 1 here) (read.is 1 here)
-
-bounded_source : (system : SystemTable) (number : ℕ) (connection : Connection) (at : IsStreamPlace system number connection) → ((source : StreamPort) → IsProper (Source source) → IsBoundedStream source) → IsBoundedStream at.source_port
-bounded_source system number connection at law =
-    law at.source_port (known_proper system connection.start (Source at.source_port) at.source (subst (IsEnd system connection.start) (sym (known_is system connection.start at.source.known at.source.is) ∙ at.source_is) at.source.is))
-
-bounded_sink : (system : SystemTable) (number : ℕ) (connection : Connection) (at : IsStreamPlace system number connection) → ((sink : StreamPort) → IsProper (Sink sink) → IsBoundedStream sink) → IsBoundedStream at.sink_port
-bounded_sink system number connection at law =
-    law at.sink_port (known_proper system connection.end (Sink at.sink_port) at.sink (subst (IsEnd system connection.end) (sym (known_is system connection.end at.sink.known at.sink.is) ∙ at.sink_is) at.sink.is))
-
-pub joins : (system : SystemTable) (number : ℕ) (connection : Connection) (source : StreamPort) (sink : StreamPort) → AreEndsOf system number connection source sink
-    → ((source : StreamPort) → IsProper (Source source) → IsBoundedStream source) → ((sink : StreamPort) → IsProper (Sink sink) → IsBoundedStream sink) → CanJoin (declared source) (declared sink)
-joins system number connection source sink e sources sinks =
-    subst (λ (t : StreamPort). CanJoin (declared source) (declared t)) e.sink_is
-    (subst (λ (s : StreamPort). CanJoin (declared s) (declared e.at.sink_port)) e.source_is
-    (can_join system number connection e.at e.ports.planned (bounded_source system number connection e.at sources) (bounded_sink system number connection e.at sinks)))
-
-pub is_shallow : (system : SystemTable) (number : ℕ) (connection : Connection) → IsPlanned system → IsStreamPlace system number connection → connection.fifo ≤ 64
-is_shallow system number connection h at = (h.kept.connections at.place connection at.connection_is).fifo
+pub ready_if : (system : SystemTable) (end : EndId) (sink : StreamPort) (netlist : Netlist) (net : Option NetValue) → IsSinkAt system end sink → IsRead system netlist end role.Ready net → IsNetIf sink.ready 1 netlist net
+ready_if system end sink netlist net h read =
+    let here = ready_input system end sink h in
+    bit_if (ports_of system) netlist sink.ready (port_at system end role.Ready) net (ready_port system end sink h) (read.net_is 1 here) (read.is 1 here)
 
 pub path_room : (system : SystemTable) (number : ℕ) (netlist : Netlist) → HasKnownPorts system → number < length (streams_of system) → IsJoinedUpTo system number netlist → length netlist.lines + most_nets ≤ 2 ^ 20
 path_room system number netlist h inside upto =
@@ -264,55 +232,35 @@ path_room system number netlist h inside upto =
 
 -- ---- what was added
 
-pub adds_path : (system : SystemTable) (number : ℕ) (connection : Connection) (source s : StreamPort) (sink t : StreamPort) (low : Option NetValue) (old new : Netlist) (from : SourceNets) (ready : Option NetValue) (made : PathNets)
-    → AreEndsOf system number connection source sink → known_at system connection.start ≡ Source s → known_at system connection.end ≡ Sink t → AreInputs system connection.start (declared source) from
-    → ready ≡ input_at system connection.end role.Ready 1 → ArePathNets new (declared sink) made → ServesInLonger (declared source) (declared sink) connection.fifo from ready made new
-    → GrowsBy most_nets old new → StillWait new old → IfSome low (λ net. made ≡ wire_nets from ready net) → AddsStream system connection s t low old new made
-adds_path system number connection source s sink t low old new from ready made e f g inputs is nets serves grows waits wire =
-    let from_is : Source source ≡ Source s = sym (source_known system number connection source sink e) ∙ f in
-    let to_is : Sink sink ≡ Sink t = sym (sink_known_as system number connection source sink e) ∙ g in
-    let sources : source ≡ s = cc in
-    let sinks : sink ≡ t = cc in
-    subst (λ (x : StreamPort). AddsStream system connection x t low old new made) sources
-    (subst (λ (y : StreamPort). AddsStream system connection source y low old new made) sinks (record {
-      from = from;
-      ready = ready;
-      from_are = inputs;
-      ready_is = is;
-      nets = nets;
-      serves = serves;
-      grows = grows;
-      no_more_wait = waits;
-      wire = wire;
-    }))
-
 -- a stream with a low net is a wire, and the net is its own
 low_known : (system : SystemTable) (number place : ℕ) (low : NetValue) (b : Bool) → is_wire_at system place ≡ b → Some low ≡ (if b then Some (net_of (input_count (ports_of system) + wires_before system number) 1) else None)
     → (is_wire_at system place ≡ true) × (low ≡ net_of (input_count (ports_of system) + wires_before system number) 1)
 low_known system number place low true e f = (e, cc)
 low_known system number place low false e f = absurd (let none : Some low ≡ None = f in cc)
 
-wire_of_test : (system : SystemTable) (number : ℕ) (connection : Connection) (source : StreamPort) (sink : StreamPort) (e : AreEndsOf system number connection source sink) → is_wire_at system e.at.place ≡ true
-    → is_wire_stream (declared source) (declared sink) connection.fifo ≡ true
-wire_of_test system number connection source sink e test =
-    let known : is_wire system connection ≡ true = (let is = e.at.connection_is in sym (rw is refl) ∙ test) in
-    subst (λ (b : Finished). is_wire_as connection.fifo (Source source) b ≡ true) (sink_known_as system number connection source sink e)
-    (subst (λ (a : Finished). is_wire_as connection.fifo a (known_at system connection.end) ≡ true) (source_known system number connection source sink e) known)
-
-pub adds_wire : WiresAreServed → (system : SystemTable) (number : ℕ) (connection : Connection) (source s : StreamPort) (sink t : StreamPort) (low : NetValue) (netlist : Netlist) (from : SourceNets) (ready : Option NetValue) (made : PathNets)
-    → (e : AreEndsOf system number connection source sink) → ((source : StreamPort) → IsProper (Source source) → IsBoundedStream source) → known_at system connection.start ≡ Source s → known_at system connection.end ≡ Sink t
-    → AreInputs system connection.start (declared source) from → AreSourceNets netlist (declared source) from → IsRead system netlist connection.end role.Ready ready
-    → Some low ≡ low_at system number e.at.place → IsJoinedUpTo system number netlist → made ≡ wire_nets from ready low → AddsStream system connection s t (Some low) netlist netlist made
-adds_wire law system number connection source s sink t low netlist from ready made e bounded f g inputs nets read low_is upto is =
-    let known = low_known system number e.at.place low (is_wire_at system e.at.place) refl low_is in
-    let wire = wire_is (declared source) (declared sink) connection.fifo (wire_of_test system number connection source sink e known.0) in
-    let there = ready_if system number connection source sink netlist ready e read in
-    let line = upto.lows (wires_before system number) (wire_below system number e.at.place e.at.place_is known.0) in
+pub adds_wire : WiresAreServed → (system : SystemTable) (number : ℕ) (link : StreamLink) (low : NetValue) (netlist : Netlist) (from : SourceNets) (ready : Option NetValue) (made : PathNets) → HasKnownPorts system
+    → IsStreamLink system number link → IsBoundedStream link.source → AreInputs system link.source_end (declared link.source) from → AreSourceNets netlist (declared link.source) from
+    → IsRead system netlist link.sink_end role.Ready ready → Some low ≡ low_at system number link.connection → IsJoinedUpTo system number netlist → made ≡ wire_nets from ready low
+    → AddsStream system link (Some low) netlist netlist made
+adds_wire law system number link low netlist from ready made h at bounded inputs nets read low_is upto is =
+    let source = declared link.source in
+    let sink = declared link.sink in
+    let end = sink_of system number link h at in
+    let known = low_known system number link.connection low (is_wire_at system link.connection) refl low_is in
+    let wire = wire_is source sink link.fifo (sym (wire_test system number link at) ∙ known.0) in
+    let there = ready_if system link.sink_end link.sink netlist ready end read in
+    let line = upto.lows (wires_before system number) (wire_below system number link.connection at.place_is known.0) in
     let number_is : low.number ≡ input_count (ports_of system) + wires_before system number = ap (λ (n : NetValue). n.number) known.1 in
-    let some = (subst IsBoundedStream e.source_is (bounded_source system number connection e.at bounded)).some in
-    adds_path system number connection source s sink t (Some low) netlist netlist from ready made e f g inputs (read.net_is 1 (ready_input system number connection source sink e))
-    (subst (ArePathNets netlist (declared sink)) (sym is) (wire_path netlist (declared source) (declared sink) from ready low wire.alike nets there
-    (low_bit netlist low (input_count (ports_of system) + wires_before system number) known.1 line)))
-    (subst (λ (m : PathNets). ServesInLonger (declared source) (declared sink) connection.fifo from ready m netlist) (sym is)
-    (wire_serves law netlist (declared source) (declared sink) connection.fifo from ready low wire some nets there (subst (λ (n : ℕ). slice_get netlist.lines n ≡ Some low_line) (sym number_is) line)))
-    (grows-none most_nets netlist) (λ n w. w) is
+    record {
+      from = from;
+      ready = ready;
+      from_are = inputs;
+      ready_is = read.net_is 1 (ready_input system link.sink_end link.sink end);
+      nets = subst (ArePathNets netlist sink) (sym is) (wire_path netlist source sink from ready low wire.alike nets there
+          (low_bit netlist low (input_count (ports_of system) + wires_before system number) known.1 line));
+      serves = subst (λ (m : PathNets). ServesInLonger source sink link.fifo from ready m netlist) (sym is)
+          (wire_serves law netlist source sink link.fifo from ready low wire bounded.some nets there (subst (λ (n : ℕ). slice_get netlist.lines n ≡ Some low_line) (sym number_is) line));
+      grows = grows-none most_nets netlist;
+      no_more_wait = λ n w. w;
+      wire = is;
+    }

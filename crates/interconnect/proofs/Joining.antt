@@ -5,9 +5,12 @@ use Rattle.std.proofs.lemmas.Bool.Decides.{Decides-ltb}
 use Rattle.iface_roles.specs.declared.records.Finished.TheVariants.{Source, Sink}
 use Rattle.iface_roles.specs.declared.records.StreamPort.{StreamPort}
 use Rattle.system_tables.specs.declared.tables.Connection.{Connection}
+use Rattle.system_tables.specs.declared.tables.EndId.{EndId}
 use Rattle.system_tables.specs.Tables.{SystemTable}
 use Rattle.address_map.specs.Footprints.{known_at}
+use Rattle.link_rules.specs.declared.plan_links.StreamLink.{StreamLink}
 use Rattle.link_rules.specs.Links.{streams_of}
+use Rattle.link_rules.specs.PlanLinks.{IsStreamLink}
 use Rattle.netlist.specs.declared.line.Line.{Line}
 use Rattle.netlist.specs.Nets.{NetValue}
 use Rattle.netlist.specs.Netlists.{Netlist, driver_of, input_count}
@@ -17,6 +20,7 @@ use Rattle.net_parts.specs.Laws.{extends_twice}
 use Rattle.net_parts.specs.Nets.{IsNetOfWidth, IsBit}
 use Rattle.stream_path.specs.Joining.{declared}
 use Rattle.stream_path.specs.Ends.{IsNetWhere, ArePathNets}
+use Rattle.stream_path.specs.Serving.{ServesInLonger}
 use Rattle.stream_path.specs.declared.ends.PathNets.{PathNets}
 use Rattle.port_tables.specs.declared.roles.Role.{Role}
 use Rattle.port_tables.specs.declared.roles.Role.TheVariants as role
@@ -26,11 +30,12 @@ use Rattle.port_tables.specs.Ends.{IsStreamPlace}
 use Rattle.port_tables.specs.EndFacts.{IsPlanned}
 use Rattle.port_tables.specs.Numbering.{stream_number, distinct_streams}
 use Rattle.port_tables.specs.Lists.{among_at, Distinct}
+use Rattle.interconnect.specs.declared.outputs.Output.{Output}
 use Rattle.interconnect.specs.Streams.{IsStream}
-use Rattle.interconnect.specs.Outputs.{output_end, output_at, HaveOwnRoles, HasSameNets, MayDriveAll, AreDriven, IsNoOutput, AreUndriven}
-use Rattle.interconnect.specs.Joins.{output_roles, net_for, path_outputs, low_at, AddsStream, IsJoinedStream, IsJoinedUpTo}
+use Rattle.interconnect.specs.Outputs.{input_at, output_end, output_at, HaveOwnRoles, HasSameNets, MayDriveAll, AreDriven, IsNoOutput, AreUndriven}
+use Rattle.interconnect.specs.Joins.{output_roles, net_for, path_outputs, low_at, AreInputs, AddsStream, IsJoinedStream, IsJoinedUpTo}
 use Rattle.interconnect.proofs.Driving.{nat_cases, output_among, can_drive, own_roles, each_at, may_by, KeepsOn, stay_driven, stays_undriven, same_drivers, low_stays, waiting_as, unwritten_as}
-use Rattle.interconnect.proofs.StreamEnds.{start_among, finish_among, stream_ends_among}
+use Rattle.interconnect.proofs.StreamEnds.{start_among, finish_among, stream_ends_among, connection_of, link_place}
 use Rattle.interconnect.proofs.MemoryJoins.{memory_stays}
 
 -- ---- outputs
@@ -122,10 +127,11 @@ path_roles made = own_roles (net_for made) place_of output_roles (refl, (refl, (
 -- ---- one stream more
 
 -- the steps: what stands between the ends, and its nets drive the outputs
-pub record AreSteps (system : SystemTable) (number : ℕ) (connection : Connection) (old middle new : Netlist) (made : PathNets) : Type 0 where
+pub record AreSteps (system : SystemTable) (number : ℕ) (link : StreamLink) (connection : Connection) (old middle new : Netlist) (made : PathNets) : Type 0 where
   pub ports : HasKnownPorts system
-  pub at : IsStreamPlace system number connection
-  pub adds : AddsStream system connection at.source_port at.sink_port (low_at system number at.place) old middle made
+  pub is : IsStreamLink system number link
+  pub connection_is : slice_get system.connections link.connection ≡ Some connection
+  pub adds : AddsStream system link (low_at system number link.connection) old middle made
   pub same : HasSameNets middle new
   pub extends : Extends middle new
   pub driven : AreDriven system connection (path_outputs made) new
@@ -210,16 +216,18 @@ one_stream_of system number place a b source sink at e is =
     record { place_is = cc; connection_is = same; source_is = cc; sink_is = cc }
 
 -- the new stream is joined
-newly_joined : (system : SystemTable) (number : ℕ) (connection : Connection) (old middle new : Netlist) (made : PathNets) → KeepsOn → (s : AreSteps system number connection old middle new made)
-    → IsJoinedStream system new number s.at.place connection s.at.source_port s.at.sink_port
-newly_joined system number connection old middle new made law s =
+newly_joined : (system : SystemTable) (number : ℕ) (link : StreamLink) (connection : Connection) (old middle new : Netlist) (made : PathNets) → KeepsOn → AreSteps system number link connection old middle new made
+    → IsJoinedStream system new number link.connection connection link.source link.sink
+newly_joined system number link connection old middle new made law s =
+    let of = connection_of system number link connection s.is s.connection_is in
     record {
       from = s.adds.from;
       ready = s.adds.ready;
       made = made;
-      from_are = s.adds.from_are;
-      ready_is = s.adds.ready_is;
-      serves = λ longer extends run cycles is legal. s.adds.serves longer (extends_twice middle new longer s.extends extends) run cycles is legal;
+      from_are = subst (λ (end : EndId). AreInputs system end (declared link.source) s.adds.from) (sym of.start) s.adds.from_are;
+      ready_is = subst (λ (end : EndId). s.adds.ready ≡ input_at system end role.Ready 1) (sym of.end) s.adds.ready_is;
+      serves = subst (λ (fifo : ℕ). ServesInLonger (declared link.source) (declared link.sink) fifo s.adds.from s.adds.ready made new) (sym of.fifo)
+          (λ longer extends run cycles is legal. s.adds.serves longer (extends_twice middle new longer s.extends extends) run cycles is legal);
       driven = s.driven;
       wire = s.adds.wire;
     }
@@ -232,9 +240,11 @@ joined_as system netlist number place a b source sink at e j =
     (subst (λ (t : StreamPort). IsJoinedStream system netlist number at.place b source t) e.sink_is
     (subst (λ (s : StreamPort). IsJoinedStream system netlist number at.place b s at.sink_port) e.source_is j)))
 
-pub one_more_joined : (system : SystemTable) (number : ℕ) (connection : Connection) (old middle new : Netlist) (made : PathNets) → KeepsOn → AreSteps system number connection old middle new made
+pub one_more_joined : (system : SystemTable) (number : ℕ) (link : StreamLink) (connection : Connection) (old middle new : Netlist) (made : PathNets) → KeepsOn → AreSteps system number link connection old middle new made
     → IsJoinedUpTo system number old → IsJoinedUpTo system (number + 1) new
-one_more_joined system number connection old middle new made law s upto =
+unfolding link_place
+one_more_joined system number link connection old middle new made law s upto =
+    let at = link_place system number link connection s.ports.planned s.is s.connection_is in
     let grows = s.adds.grows in
     let whole = extends_twice old middle new grows.extends s.extends in
     record {
@@ -248,10 +258,10 @@ one_more_joined system number connection old middle new made law s upto =
             let there = subst (λ (m : ℕ). slice_get (streams_of system) m ≡ Some place) same e in
             let here = subst (λ (m : ℕ). IsStream system m a source sink) same is in
             subst (λ (m : ℕ). IsJoinedStream system new m place a source sink) (sym same)
-            (joined_as system new number place a connection source sink s.at (one_stream_of system number place a connection source sink s.at there here) (newly_joined system number connection old middle new made law s)))
+            (joined_as system new number place a connection source sink at (one_stream_of system number place a connection source sink at there here) (newly_joined system number link connection old middle new made law s)))
       ];
       rest = λ n a source sink above is r. stays_undriven old new (output_at system a r)
-          (λ k here. s.others k (other_output system number n k connection a source sink r s.ports s.at is (omega (arith, above)) here) ∙ same_drivers old middle k grows.drivers)
+          (λ k here. s.others k (other_output system number n k connection a source sink r s.ports at is (omega (arith, above)) here) ∙ same_drivers old middle k grows.drivers)
           (upto.rest n a source sink (omega (arith, above)) is r);
       clocked = λ n w. upto.clocked n (s.adds.no_more_wait n (waiting_as middle new n s.same.lines w));
       written = λ m w. upto.written m (unwritten_as old middle m grows.memories (unwritten_as middle new m s.same.memories w));
@@ -259,9 +269,31 @@ one_more_joined system number connection old middle new made law s upto =
     }
 
 -- the outputs of the stream whose turn it is may be driven
-pub may_drive_now : (system : SystemTable) (number : ℕ) (connection : Connection) (old middle : Netlist) (low : Option NetValue) (made : PathNets) → HasKnownPorts system → (at : IsStreamPlace system number connection)
-    → IsJoinedUpTo system number old → AddsStream system connection at.source_port at.sink_port low old middle made → MayDriveAll system connection (path_outputs made) middle
-may_drive_now system number connection old middle low made h at upto adds =
-    let is : IsStream system number connection at.source_port at.sink_port = record { place = at.place; place_is = at.place_is; connection_is = at.connection_is; source_is = at.source_is; sink_is = at.sink_is } in
-    may_drive_all system number connection middle made h at (adds.grows.extends.keeps.ports ∙ upto.ports) adds.nets
-    (λ r. stays_undriven old middle (output_at system connection r) (λ k here. same_drivers old middle k adds.grows.drivers) (upto.rest number connection at.source_port at.sink_port (omega arith) is r))
+pub may_drive_now : (system : SystemTable) (number : ℕ) (link : StreamLink) (connection : Connection) (old middle : Netlist) (low : Option NetValue) (made : PathNets) → HasKnownPorts system
+    → IsStreamLink system number link → slice_get system.connections link.connection ≡ Some connection → IsJoinedUpTo system number old → AddsStream system link low old middle made
+    → (outputs : List Output) → outputs ≡ path_outputs made → MayDriveAll system connection outputs middle
+unfolding link_place
+may_drive_now system number link connection old middle low made h is e upto adds outputs same =
+    let at = link_place system number link connection h.planned is e in
+    let stream : IsStream system number connection link.source link.sink =
+    record { place = link.connection; place_is = is.place_is; connection_is = e; source_is = at.source_is; sink_is = at.sink_is } in
+    subst (λ (os : List Output). MayDriveAll system connection os middle) (sym same)
+    (may_drive_all system number connection middle made h at (adds.grows.extends.keeps.ports ∙ upto.ports) adds.nets
+    (λ r. stays_undriven old middle (output_at system connection r) (λ k here. same_drivers old middle k adds.grows.drivers) (upto.rest number connection link.source link.sink (omega arith) stream r)))
+
+-- so is the stream joined once they are driven
+pub one_more_driven : (system : SystemTable) (number : ℕ) (link : StreamLink) (connection : Connection) (old middle new : Netlist) (low : Option NetValue) (made : PathNets) (outputs : List Output) → KeepsOn → HasKnownPorts system
+    → IsStreamLink system number link → slice_get system.connections link.connection ≡ Some connection → AddsStream system link low old middle made → low ≡ low_at system number link.connection → outputs ≡ path_outputs made
+    → HasSameNets middle new → Extends middle new → AreDriven system connection outputs new → ((k : ℕ) → IsNoOutput system connection k → driver_of new k ≡ driver_of middle k)
+    → IsJoinedUpTo system number old → IsJoinedUpTo system (number + 1) new
+one_more_driven system number link connection old middle new low made outputs law h is e adds lows same nets extends driven others upto =
+    one_more_joined system number link connection old middle new made law (record {
+      ports = h;
+      is = is;
+      connection_is = e;
+      adds = subst (λ (net : Option NetValue). AddsStream system link net old middle made) lows adds;
+      same = nets;
+      extends = extends;
+      driven = subst (λ (os : List Output). AreDriven system connection os new) same driven;
+      others = others;
+    }) upto

@@ -4,9 +4,10 @@ use Rattle.std.specs.Prelude.{if◌then◌else◌}
 use Rattle.std.specs.List.{count_by}
 use Rattle.std.proofs.lemmas.List.Sums.{sum_by-cons, sum_by-append, count_by-le-length}
 use Rattle.std.proofs.lemmas.Option.{slice_get_within}
-use Rattle.system_tables.specs.declared.tables.Connection.{Connection}
 use Rattle.system_tables.specs.Tables.{SystemTable}
+use Rattle.link_rules.specs.declared.plan_links.StreamLink.{StreamLink}
 use Rattle.link_rules.specs.Links.{streams_of}
+use Rattle.link_rules.specs.PlanLinks.{IsStreamLink}
 use Rattle.netlist.specs.declared.line.Line.{Line}
 use Rattle.netlist.specs.declared.line.PortLine.{PortLine}
 use Rattle.netlist.specs.declared.line.Memory.{Memory}
@@ -17,10 +18,10 @@ use Rattle.net_parts.specs.Growth.{StillWait}
 use Rattle.port_tables.specs.Lists.{slice_get-append, slice_get-front, take_one_more, nat_less}
 use Rattle.port_tables.specs.Ports.{ports_of, module_name}
 use Rattle.port_tables.specs.PortMaps.{HasKnownPorts}
-use Rattle.port_tables.specs.Ends.{IsStreamPlace}
-use Rattle.interconnect.specs.Wires.{is_wire, is_wire_at, wires_before}
+use Rattle.interconnect.specs.Wires.{is_wire, is_wire_link, is_wire_at, wires_before}
 use Rattle.interconnect.specs.Streams.{low_line}
 use Rattle.interconnect.specs.Joins.{low_at, low_lines, with_lows, AddsLow, AreLows, IsBegun}
+use Rattle.interconnect.proofs.StreamEnds.{connection_of, start_known, finish_known}
 
 -- ---- how many nets
 
@@ -64,14 +65,22 @@ count_more test xs x b e = sum_by-append (λ (y : ℕ). cond (test y) 1 0) xs (x
 wires_more : (system : SystemTable) (number place : ℕ) (b : Bool) → slice_get (streams_of system) number ≡ Some place → is_wire_at system place ≡ b → wires_before system (number + 1) ≡ wires_before system number + cond b 1 0
 wires_more system number place b e is = ap (count_by (is_wire_at system)) (take_one_more (streams_of system) number place e) ∙ count_more (is_wire_at system) (take number (streams_of system)) place b is
 
-wire_test : (system : SystemTable) (number : ℕ) (connection : Connection) (at : IsStreamPlace system number connection) → is_wire_at system at.place ≡ is_wire system connection
-wire_test system number connection at = (let is = at.connection_is in rw is refl)
+pub wire_test : (system : SystemTable) (number : ℕ) (link : StreamLink) → IsStreamLink system number link → is_wire_at system link.connection ≡ is_wire_link link
+wire_test system number link at =
+    let of = connection_of system number link at.connection at at.connection_is in
+    let start = start_known system number link at.connection at of in
+    let end = finish_known system number link at.connection at of in
+    let fifo = at.fifo in
+    let is = at.connection_is in
+    let known : is_wire system at.connection ≡ is_wire_link link = rw (start, end, fifo) refl in
+    rw is known
 
 -- how far the low nets are made
 pub record AreLowsTo (system : SystemTable) (number : ℕ) (old now : Netlist) (made : List (Option NetValue)) : Type 0 where
   pub lows : AreLows system number made
   pub lines : now ≡ with_lows old (wires_before system number)
   pub no_more_wait : StillWait now old
+  pub inside : number ≤ length (streams_of system)
 
 pub lows_more : (system : SystemTable) (number place : ℕ) (lows : List (Option NetValue)) (low : Option NetValue) → AreLows system number lows → slice_get (streams_of system) number ≡ Some place
     → low ≡ low_at system number place → AreLows system (number + 1) (lows ++ low ∷ [])
@@ -119,44 +128,46 @@ low_room system number old now lows h is to =
     omega (arith, lines, long, wires, inputs, streams)
 
 -- a wire gets a low net
-pub wire_low : (system : SystemTable) (number : ℕ) (connection : Connection) (old now new : Netlist) (lows : List (Option NetValue)) (net : NetValue) → old ≡ started (module_name system) (ports_of system)
-    → IsStreamPlace system number connection → is_wire system connection ≡ true → AreLowsTo system number old now lows → new ≡ appended now low_line → net ≡ net_of (length now.lines) 1 → StillWait new now
+pub wire_low : (system : SystemTable) (number : ℕ) (link : StreamLink) (old now new : Netlist) (lows : List (Option NetValue)) (net : NetValue) → old ≡ started (module_name system) (ports_of system)
+    → IsStreamLink system number link → is_wire_link link ≡ true → AreLowsTo system number old now lows → new ≡ appended now low_line → net ≡ net_of (length now.lines) 1 → StillWait new now
     → AreLowsTo system (number + 1) old new (lows ++ Some net ∷ [])
-wire_low system number connection old now new lows net is at wire to e f waits =
-    let test = wire_test system number connection at ∙ wire in
-    let more : wires_before system (number + 1) ≡ suc (wires_before system number) = (let n = wires_more system number at.place true at.place_is test in omega (arith, n)) in
+wire_low system number link old now new lows net is at wire to e f waits =
+    let test = wire_test system number link at ∙ wire in
+    let more : wires_before system (number + 1) ≡ suc (wires_before system number) = (let n = wires_more system number link.connection true at.place_is test in omega (arith, n)) in
     let long : length now.lines ≡ input_count (ports_of system) + wires_before system number = ap (λ (n : Netlist). length n.lines) to.lines ∙ lows_length system old (wires_before system number) is in
-    let low : low_at system number at.place ≡ Some (net_of (input_count (ports_of system) + wires_before system number) 1) =
+    let low : low_at system number link.connection ≡ Some (net_of (input_count (ports_of system) + wires_before system number) 1) =
     ap (λ (b : Bool). if b then Some (net_of (input_count (ports_of system) + wires_before system number) 1) else None) test in
     record {
-      lows = lows_more system number at.place lows (Some net) to.lows at.place_is (ap Some (f ∙ ap (λ (n : ℕ). net_of n 1) long) ∙ sym low);
+      lows = lows_more system number link.connection lows (Some net) to.lows at.place_is (ap Some (f ∙ ap (λ (n : ℕ). net_of n 1) long) ∙ sym low);
       lines = e ∙ ap (λ (n : Netlist). appended n low_line) to.lines ∙ with_more old (wires_before system number) ∙ ap (with_lows old) (sym more);
       no_more_wait = λ n w. to.no_more_wait n (waits n w);
+      inside = (let within = slice_get_within (streams_of system) number link.connection at.place_is in omega (arith, within));
     }
 
 -- another stream gets none
-pub no_low : (system : SystemTable) (number : ℕ) (connection : Connection) (old now : Netlist) (lows : List (Option NetValue)) → IsStreamPlace system number connection → is_wire system connection ≡ false
+pub no_low : (system : SystemTable) (number : ℕ) (link : StreamLink) (old now : Netlist) (lows : List (Option NetValue)) → IsStreamLink system number link → is_wire_link link ≡ false
     → AreLowsTo system number old now lows → AreLowsTo system (number + 1) old now (lows ++ None ∷ [])
-no_low system number connection old now lows at wire to =
-    let test = wire_test system number connection at ∙ wire in
-    let same : wires_before system (number + 1) ≡ wires_before system number = (let n = wires_more system number at.place false at.place_is test in omega (arith, n)) in
-    let low : low_at system number at.place ≡ None = ap (λ (b : Bool). if b then Some (net_of (input_count (ports_of system) + wires_before system number) 1) else None) test in
+no_low system number link old now lows at wire to =
+    let test = wire_test system number link at ∙ wire in
+    let same : wires_before system (number + 1) ≡ wires_before system number = (let n = wires_more system number link.connection false at.place_is test in omega (arith, n)) in
+    let low : low_at system number link.connection ≡ None = ap (λ (b : Bool). if b then Some (net_of (input_count (ports_of system) + wires_before system number) 1) else None) test in
     record {
-      lows = lows_more system number at.place lows None to.lows at.place_is (sym low);
+      lows = lows_more system number link.connection lows None to.lows at.place_is (sym low);
       lines = to.lines ∙ ap (with_lows old) (sym same);
       no_more_wait = to.no_more_wait;
+      inside = (let within = slice_get_within (streams_of system) number link.connection at.place_is in omega (arith, within));
     }
 
 -- one stream more, whether a wire or not
-pub low_more : (system : SystemTable) (number : ℕ) (connection : Connection) (old now new : Netlist) (lows more : List (Option NetValue)) (low : Option NetValue) → old ≡ started (module_name system) (ports_of system)
-    → IsStreamPlace system number connection → AreLowsTo system number old now lows → AddsLow (is_wire system connection) now new low → more ≡ lows ++ low ∷ [] → AreLowsTo system (number + 1) old new more
-low_more system number connection old now new lows more low is at to adds e = subst (AreLowsTo system (number + 1) old new) (sym e) (by_wire (is_wire system connection) refl adds)
+pub low_more : (system : SystemTable) (number : ℕ) (link : StreamLink) (old now new : Netlist) (lows more : List (Option NetValue)) (low : Option NetValue) → old ≡ started (module_name system) (ports_of system)
+    → IsStreamLink system number link → AreLowsTo system number old now lows → AddsLow (is_wire_link link) now new low → more ≡ lows ++ low ∷ [] → AreLowsTo system (number + 1) old new more
+low_more system number link old now new lows more low is at to adds e = subst (AreLowsTo system (number + 1) old new) (sym e) (by_wire (is_wire_link link) refl adds)
   where
-    by_wire : (b : Bool) → is_wire system connection ≡ b → AddsLow b now new low → AreLowsTo system (number + 1) old new (lows ++ low ∷ [])
+    by_wire : (b : Bool) → is_wire_link link ≡ b → AddsLow b now new low → AreLowsTo system (number + 1) old new (lows ++ low ∷ [])
     by_wire true wire added = subst (λ (o : Option NetValue). AreLowsTo system (number + 1) old new (lows ++ o ∷ [])) (sym added.1)
-        (wire_low system number connection old now new lows (net_of (length now.lines) 1) is at wire to added.0 refl added.2)
+        (wire_low system number link old now new lows (net_of (length now.lines) 1) is at wire to added.0 refl added.2)
     by_wire false wire added = subst (λ (o : Option NetValue). AreLowsTo system (number + 1) old new (lows ++ o ∷ [])) (sym added.1)
-        (subst (λ (n : Netlist). AreLowsTo system (number + 1) old n (lows ++ None ∷ [])) (sym added.0) (no_low system number connection old now lows at wire to))
+        (subst (λ (n : Netlist). AreLowsTo system (number + 1) old n (lows ++ None ∷ [])) (sym added.0) (no_low system number link old now lows at wire to))
 
 -- ---- the beginning
 

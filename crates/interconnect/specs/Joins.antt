@@ -1,14 +1,13 @@
 -- How far a module is built: which of its nets are those of the ends of streams, and what drives their outputs.
 use Rattle.std.specs.Prelude.{◌≡◌, ℕ, zero, suc, ◌+◌, ◌*◌, ◌<◌, ◌≤◌, Bool, true, false, List, [], ◌∷◌, ◌++◌, length, Option, Some, None, unwrap_or, if◌then◌else◌, IfSome, slice_get}
-use Rattle.iface_roles.specs.declared.records.Finished.TheVariants.{Source, Sink}
 use Rattle.iface_roles.specs.declared.records.HostPort.{HostPort}
 use Rattle.iface_roles.specs.declared.records.AgentPort.{AgentPort}
 use Rattle.iface_roles.specs.declared.records.StreamPort.{StreamPort}
 use Rattle.system_tables.specs.declared.tables.EndId.{EndId}
 use Rattle.system_tables.specs.declared.tables.Connection.{Connection}
 use Rattle.system_tables.specs.Tables.{SystemTable}
-use Rattle.address_map.specs.Footprints.{known_at}
 use Rattle.link_rules.specs.Links.{streams_of}
+use Rattle.link_rules.specs.declared.plan_links.StreamLink.{StreamLink}
 use Rattle.netlist.specs.declared.line.Line.{Line}
 use Rattle.netlist.specs.Nets.{NetValue, net_of}
 use Rattle.netlist.specs.Netlists.{Netlist, IsClocked, IsWritten, driver_of, input_count, appended}
@@ -88,22 +87,17 @@ low_at system number place = if is_wire_at system place then Some (net_of (input
 abbrev pub IsLowOf : SystemTable → ℕ → Option NetValue → Type 0
 IsLowOf system number low = (place : ℕ) → slice_get (streams_of system) number ≡ Some place → low ≡ low_at system number place
 
--- what stands between two ends was added
-pub record AddsStream (system : SystemTable) (connection : Connection) (source : StreamPort) (sink : StreamPort) (low : Option NetValue) (old new : Netlist) (made : PathNets) : Type 0 where
+-- what stands between the ends of a stream was added
+pub record AddsStream (system : SystemTable) (link : StreamLink) (low : Option NetValue) (old new : Netlist) (made : PathNets) : Type 0 where
   pub from : SourceNets
   pub ready : Option NetValue
-  pub from_are : AreInputs system connection.start (declared source) from
-  pub ready_is : ready ≡ input_at system connection.end role.Ready 1
-  pub nets : ArePathNets new (declared sink) made
-  pub serves : ServesInLonger (declared source) (declared sink) connection.fifo from ready made new
+  pub from_are : AreInputs system link.source_end (declared link.source) from
+  pub ready_is : ready ≡ input_at system link.sink_end role.Ready 1
+  pub nets : ArePathNets new (declared link.sink) made
+  pub serves : ServesInLonger (declared link.source) (declared link.sink) link.fifo from ready made new
   pub grows : GrowsBy most_nets old new
   pub no_more_wait : StillWait new old
   pub wire : IfSome low (λ net. made ≡ wire_nets from ready net)
-
--- what stands between the ends of a connection of a source to a sink was added
-abbrev pub AddsStreamOf : SystemTable → Connection → Option NetValue → Netlist → Netlist → PathNets → Type 0
-AddsStreamOf system connection low old new made =
-    (source : StreamPort) (sink : StreamPort) → known_at system connection.start ≡ Source source → known_at system connection.end ≡ Sink sink → AddsStream system connection source sink low old new made
 
 -- a stream whose outputs are driven by what serves it
 pub record IsJoinedStream (system : SystemTable) (netlist : Netlist) (number place : ℕ) (connection : Connection) (source : StreamPort) (sink : StreamPort) : Type 0 where

@@ -11,6 +11,7 @@ use Rattle.system_tables.specs.Tables.{SystemTable}
 use Rattle.address_map.specs.Footprints.{known_at}
 use Rattle.address_map.specs.Maps.{mm_connections}
 use Rattle.link_rules.specs.Links.{streams_of}
+use Rattle.link_rules.specs.declared.plan_links.StreamLink.{StreamLink}
 use Rattle.stream_runs.specs.Ends.{Declared}
 use Rattle.stream_path.specs.Joining.{declared}
 
@@ -72,6 +73,10 @@ is_wire_as fifo _ _ = false
 -- the connection is a stream that is a wire
 abbrev pub is_wire : SystemTable → Connection → Bool
 is_wire system connection = is_wire_as connection.fifo (known_at system connection.start) (known_at system connection.end)
+
+-- the link is a wire
+abbrev pub is_wire_link : StreamLink → Bool
+is_wire_link link = is_wire_stream (declared link.source) (declared link.sink) link.fifo
 
 -- the connection of this number is a stream that is a wire
 abbrev pub is_wire_at : SystemTable → ℕ → Bool

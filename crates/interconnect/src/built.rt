@@ -2,8 +2,7 @@ ghost use Rattle.std.specs.Prelude.{◌≡◌, length};
 ghost use Rattle.system_tables.specs.Tables.{IsLogic};
 ghost use Rattle.address_map.specs.Maps.{is_mm, mm_connections};
 ghost use Rattle.stream_path.specs.Joining.{declared};
-ghost use Rattle.interconnect.specs.Wires.{has_same_beats, has_plain_ready, is_wire_stream, is_wire, is_wire_host, is_wire_agent, fills_range, is_wire_memory, is_only, is_built, pending_of};
-ghost use Rattle.port_tables.specs.Ends.{IsPlanEnd};
+ghost use Rattle.interconnect.specs.Wires.{has_same_beats, has_plain_ready, is_wire_stream, is_wire_host, is_wire_agent, fills_range, is_wire_memory, is_only, is_built, pending_of};
 
 use iface_roles::{AgentPort, Finished, HostPort, Kind, SinkPort, SourcePort};
 use link_rules::Plan;
@@ -29,29 +28,13 @@ fn has_plain_ready(source: &SourcePort, sink: &SinkPort) -> bool
 }
 
 /// Whether nothing has to be cut, changed, delayed or kept between the ends.
-fn is_wire_stream(source: &SourcePort, sink: &SinkPort, fifo: u8) -> bool
+pub(crate) fn is_wire_stream(source: &SourcePort, sink: &SinkPort, fifo: u8) -> bool
     ensures { result ≡ is_wire_stream (declared source.now) (declared sink.now) fifo }
 {
     has_same_beats(source, sink)
         && source.max_channel <= sink.max_channel
         && has_plain_ready(source, sink)
         && fifo == 0
-}
-
-/// Whether the connection is a stream that is a wire.
-pub(crate) fn is_wire(plan: &Plan, connection: Connection) -> bool
-    requires start { IsPlanEnd plan.now.system connection.start }
-    requires end { IsPlanEnd plan.now.system connection.end }
-    ensures { result ≡ is_wire plan.now.system connection }
-{
-    let start = plan.interface(connection.start);
-    let end = plan.interface(connection.end);
-    match (start, end) {
-        (Finished::Source(source), Finished::Sink(sink)) => {
-            is_wire_stream(&source, &sink, connection.fifo)
-        }
-        _ => false,
-    }
 }
 
 fn is_wire_host(host: &HostPort) -> bool

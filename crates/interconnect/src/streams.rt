@@ -3,30 +3,31 @@ ghost use Rattle.iface_roles.specs.declared.records.StreamPort.{StreamPort};
 ghost use Rattle.iface_roles.specs.declared.records.Finished.TheVariants.{Source};
 ghost use Rattle.address_map.specs.Footprints.{known_at};
 ghost use Rattle.link_rules.specs.Links.{streams_of};
+ghost use Rattle.link_rules.specs.PlanLinks.{IsStreamLink};
 ghost use Rattle.netlist.specs.Nets.{net_of};
 ghost use Rattle.netlist.specs.Netlists.{appended, started};
 ghost use Rattle.net_parts.specs.Growth.{GrowsBy, StillWait};
 ghost use Rattle.stream_path.specs.Joining.{declared, CanJoin};
 ghost use Rattle.stream_path.specs.Ends.{IsNetIf, AreSourceNets, ArePathNets};
 ghost use Rattle.stream_path.specs.Serving.{most_nets, ServesInLonger};
-ghost use Rattle.port_tables.specs.Ends.{IsAnEnd, IsPlanEnd, IsStreamPlace};
+ghost use Rattle.port_tables.specs.Ends.{IsAnEnd};
 ghost use Rattle.port_tables.specs.Ports.{ports_of, module_name};
 ghost use Rattle.port_tables.specs.PortMaps.{entries_of};
-ghost use Rattle.interconnect.specs.Wires.{is_wire, wires_before};
+ghost use Rattle.interconnect.specs.Wires.{is_wire_link, wires_before};
 ghost use Rattle.interconnect.specs.Streams.{low_line};
-ghost use Rattle.interconnect.specs.Joins.{AreInputs, wire_nets, path_outputs, AddsLow, AddsStreamOf, IsLowOf, with_lows, AreLows, IsJoinedUpTo};
+ghost use Rattle.interconnect.specs.Joins.{AreInputs, wire_nets, path_outputs, AddsLow, AddsStream, IsLowOf, with_lows, AreLows, IsJoinedUpTo};
 
-use crate::built::is_wire;
+use crate::built::is_wire_stream;
 use crate::outputs::{Output, drive_outputs, input_of};
 use av_base::{List, NoMemory, Val};
-use iface_roles::{Finished, SinkPort, SourcePort, proper_records_are_bounded};
-use link_rules::Plan;
+use iface_roles::{SinkPort, SourcePort, proper_records_are_bounded};
+use link_rules::{Plan, StreamLink, streams_are_numbered};
 use netlist::{Builder, Net, NetFault};
-use port_tables::{PortMap, Role, ports_are_known, stream_at};
+use port_tables::{PortMap, Role, ports_are_known};
 use stage_core::BeatNets;
 use std::alloc::Global;
 use stream_path::{PathNets, SourceNets, emit_path};
-use system_tables::{Connection, EndId};
+use system_tables::EndId;
 
 /// The nets of a source.
 fn source_nets(builder: &Builder, plan: &Plan, ports: &PortMap, end: EndId) -> SourceNets
@@ -82,18 +83,12 @@ fn low(builder: &mut Builder) -> Result<Net, NoMemory>
     }
 }
 
-/// A net that is always low, where the connection is a stream that is a wire.
-fn low_net(
-    builder: &mut Builder,
-    plan: &Plan,
-    connection: Connection,
-) -> Result<Option<Net>, NoMemory>
-    requires start { IsPlanEnd plan.now.system connection.start }
-    requires end { IsPlanEnd plan.now.system connection.end }
-    requires room { length builder.old.lines < 2 ^ 20 }
-    ensures { IfOk result (AddsLow (is_wire plan.now.system connection) builder.old builder.new) }
+/// A net that is always low, where the stream is a wire.
+fn low_net(builder: &mut Builder, link: &StreamLink) -> Result<Option<Net>, NoMemory>
+    requires { length builder.old.lines < 2 ^ 20 }
+    ensures { IfOk result (AddsLow (is_wire_link link.now) builder.old builder.new) }
 {
-    if is_wire(plan, connection) {
+    if is_wire_stream(&link.source, &link.sink, link.fifo) {
         let net = low(builder)?;
         Ok(Some(net))
     } else {
@@ -113,10 +108,10 @@ pub(crate) fn low_nets(
     ensures no_more_wait { OnOk result (StillWait builder.new builder.old) }
 {
     ports_are_known(plan);
+    streams_are_numbered();
     let mut lows = List::new(alloc);
-    for number in 0..plan.streams().len() {
-        let connection = stream_at(plan, number);
-        let low = low_net(builder, plan, connection)?;
+    for link in plan.stream_links() {
+        let low = low_net(builder, link)?;
         lows.push(low)?;
     }
     Ok(lows)
@@ -156,35 +151,29 @@ fn stream_nets(
     plan: &Plan,
     ports: &PortMap,
     number: usize,
-    connection: Connection,
+    link: &StreamLink,
     low: Option<Net>,
 ) -> Result<PathNets, NoMemory>
-    requires at { IsStreamPlace plan.now.system number connection }
+    requires link { IsStreamLink plan.now.system number link.now }
     requires map { ports.now.entries ≡ entries_of plan.now.system }
     requires low { IsLowOf plan.now.system number low }
     requires joined { IsJoinedUpTo plan.now.system number builder.old }
-    ensures { IfOk result (AddsStreamOf plan.now.system connection low builder.old builder.new) }
+    ensures { IfOk result (AddsStream plan.now.system link.now low builder.old builder.new) }
 {
     // the law of a wire, which the contract rests on
     stream_runs::wire_is_served();
     proper_records_are_bounded();
     ports_are_known(plan);
-    let Finished::Source(source) = plan.interface(connection.start) else {
-        unreachable!()
-    };
-    let Finished::Sink(sink) = plan.interface(connection.end) else {
-        unreachable!()
-    };
-    let from = source_nets(builder, plan, ports, connection.start);
-    let ready = input_of(builder, plan, ports, connection.end, Role::Ready);
+    let from = source_nets(builder, plan, ports, link.source_end);
+    let ready = input_of(builder, plan, ports, link.sink_end, Role::Ready);
     match low {
         Some(low) => Ok(wire_nets(&from, ready, low)),
         None => path_nets(
             alloc,
             builder,
-            &source,
-            &sink,
-            connection.fifo,
+            &link.source,
+            &link.sink,
+            link.fifo,
             &from,
             ready,
         ),
@@ -225,8 +214,10 @@ fn join_stream(
 {
     ports_are_known(plan);
     netlist::keeps();
-    let connection = stream_at(plan, number);
-    let made = stream_nets(alloc, builder, plan, ports, number, connection, low)?;
+    streams_are_numbered();
+    let link = &plan.stream_links()[number];
+    let connection = plan.connections()[link.connection as usize];
+    let made = stream_nets(alloc, builder, plan, ports, number, link, low)?;
     drive_outputs(builder, plan, ports, connection, &path_outputs(&made));
     Ok(())
 }
