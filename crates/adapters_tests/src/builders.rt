@@ -30,7 +30,10 @@ pub(crate) const BYTES: StreamPort = StreamPort {
 pub(crate) fn value(width: u8, bits: u128) -> Result<Val, Fail>
     ensures { IfOk result (λ v. v ≡ word width bits) }
 {
-    Val::new(width, bits).ok_or(Fail::from("too wide"))
+    match Val::new(width, bits) {
+        Some(value) => Ok(value),
+        None => Err(Fail::from("too wide")),
+    }
 }
 
 /// A module without ports.
