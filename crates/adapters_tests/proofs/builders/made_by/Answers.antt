@@ -38,7 +38,7 @@ finish-requires-clause-driven g c k w i =
 pub finish-requires-clause-clocked : goal.finish-requires-clause-clocked
 finish-requires-clause-clocked g c n h =
     c.in_ok-builder.ensures.clocked n
-    (c.constant.ensures.grows.no_more_wait n (c.constant-2.ensures.grows.no_more_wait n (c.constant-3.ensures.grows.no_more_wait n (c.in_ok-_made.ensures.no_more_wait n h))))
+    (c.constant.ensures.grows.no_more_wait n (c.constant-2.ensures.grows.no_more_wait n (c.constant-3.ensures.grows.no_more_wait n (c.in_ok-made.ensures.no_more_wait n h))))
 
 pub finish-requires-clause-written : goal.finish-requires-clause-written
 finish-requires-clause-written g c =

@@ -3,7 +3,8 @@ use Rattle.av_base.specs.Word.{Word}
 use Rattle.netlist.specs.declared.line.PortLine.{PortLine}
 use Rattle.netlist.specs.Nets.{NetValue}
 use Rattle.netlist.specs.Netlists.{Netlist, IsNet, IsOutputPort}
-use Rattle.stage_core.specs.Beats.{IsBit, AreBeatNets}
+use Rattle.net_parts.specs.Nets.{IsBit}
+use Rattle.stage_core.specs.Beats.{AreBeatNets}
 use Rattle.net_parts.specs.Laws.{extends_twice}
 use Rattle.adapters_tests.proofs.Ports.{still_written}
 use Rattle.adapters_tests.proofs.channels.filtered.Goals as goal
