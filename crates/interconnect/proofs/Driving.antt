@@ -15,7 +15,7 @@ use Rattle.netlist.specs.Netlists.{Netlist, IsNet, IsInputPort, IsOutputPort, in
 use Rattle.netlist.specs.Longer.{Keeps, Extends}
 use Rattle.net_parts.specs.Laws.{extends_twice}
 use Rattle.net_parts.specs.Nets.{IsNetOfWidth}
-use Rattle.port_tables.specs.declared.roles.Role.{Role}
+use Rattle.port_tables.specs.declared.roles.PortRole.{PortRole}
 use Rattle.port_tables.specs.Lists.{Among, among_at, at_among}
 use Rattle.port_tables.specs.Ends.{IsAnEnd}
 use Rattle.port_tables.specs.Ports.{is_forward, ends_of, ports_of}
@@ -40,19 +40,19 @@ is_an_end system end a = let at = at_among (ends_of system) end a in (at.place, 
 pub is_among : (system : SystemTable) (end : EndId) → IsAnEnd system end → Among end (ends_of system)
 is_among system end h = among_at (ends_of system) h.0 end h.1
 
-pub output_among : (system : SystemTable) (connection : Connection) (r : Role) → Among connection.start (ends_of system) → Among connection.end (ends_of system) → Among (output_end connection r) (ends_of system)
+pub output_among : (system : SystemTable) (connection : Connection) (r : PortRole) → Among connection.start (ends_of system) → Among connection.end (ends_of system) → Among (output_end connection r) (ends_of system)
 output_among system connection r start end = by_way (is_forward r)
   where
     by_way : (b : Bool) → Among (if b then connection.end else connection.start) (ends_of system)
     by_way true = end
     by_way false = start
 
-pub output_an_end : (system : SystemTable) (connection : Connection) (r : Role) → IsAnEnd system connection.start → IsAnEnd system connection.end → IsAnEnd system (output_end connection r)
+pub output_an_end : (system : SystemTable) (connection : Connection) (r : PortRole) → IsAnEnd system connection.start → IsAnEnd system connection.end → IsAnEnd system (output_end connection r)
 output_an_end system connection r start end =
     is_an_end system (output_end connection r) (output_among system connection r (is_among system connection.start start) (is_among system connection.end end))
 
 -- the end that was found for an output
-pub end_there : (system : SystemTable) (connection : Connection) (r : Role) (end : EndId) → IsAnEnd system connection.start → IsAnEnd system connection.end → end ≡ output_end connection r → IsAnEnd system end
+pub end_there : (system : SystemTable) (connection : Connection) (r : PortRole) (end : EndId) → IsAnEnd system connection.start → IsAnEnd system connection.end → end ≡ output_end connection r → IsAnEnd system end
 end_there system connection r end from to e = let is = output_an_end system connection r from to in (is.0, is.1 ∙ ap Some (sym e))
 
 -- the ends of a connection whose outputs are driven
@@ -64,14 +64,14 @@ pub record AreEnds (system : SystemTable) (connection : Connection) : Type 0 whe
 -- ---- inputs
 
 -- the net of an input that was found
-pub record IsInputNet (system : SystemTable) (netlist : Netlist) (end : EndId) (r : Role) (width : ℕ) (net : NetValue) : Type 0 where
+pub record IsInputNet (system : SystemTable) (netlist : Netlist) (end : EndId) (r : PortRole) (width : ℕ) (net : NetValue) : Type 0 where
   pub net_is : input_at system end r width ≡ Some net
   pub is : IsNetOfWidth netlist net width
 
 net_by : (net : NetValue) (n w : ℕ) → net.number ≡ n → net.width ≡ w → net_of n w ≡ net
 net_by net n w e f = ap (λ (k : ℕ). net_of k w) (sym e) ∙ ap (λ (k : ℕ). net_of net.number k) (sym f)
 
-pub input_found : (system : SystemTable) (netlist : Netlist) (end : EndId) (r : Role) (width port : ℕ) (o : Option ℕ) (net : NetValue) → netlist.ports ≡ ports_of system → o ≡ port_at system end r → o ≡ Some port
+pub input_found : (system : SystemTable) (netlist : Netlist) (end : EndId) (r : PortRole) (width port : ℕ) (o : Option ℕ) (net : NetValue) → netlist.ports ≡ ports_of system → o ≡ port_at system end r → o ≡ Some port
     → IsInput system end r width → IsNet netlist net → net.number ≡ input_net netlist.ports port → ((w : ℕ) → IsInputPort netlist.ports port w → net.width ≡ w) → IsInputNet system netlist end r width net
 input_found system netlist end r width port o net ports e f is is_net number widths =
     let found : port_at system end r ≡ Some port = sym e ∙ f in
@@ -101,24 +101,24 @@ can_drive netlist ports width net (Some k) e p is undriven =
 -- ---- roles
 
 -- the roles have the numbers from k on, in their order
-abbrev pub AreNumbered : (Role → ℕ) → ℕ → List Role → Type 0
+abbrev pub AreNumbered : (PortRole → ℕ) → ℕ → List PortRole → Type 0
 AreNumbered number k [] = Unit {0}
 AreNumbered number k (r ∷ roles) = (number r ≡ k) × AreNumbered number (k + 1) roles
 
-numbered_at : (number : Role → ℕ) (k n : ℕ) (roles : List Role) (r : Role) → AreNumbered number k roles → slice_get roles n ≡ Some r → number r ≡ k + n
+numbered_at : (number : PortRole → ℕ) (k n : ℕ) (roles : List PortRole) (r : PortRole) → AreNumbered number k roles → slice_get roles n ≡ Some r → number r ≡ k + n
 numbered_at number k n [] r h e = absurd (let none : None ≡ Some r = e in cc)
 numbered_at number k zero (s ∷ roles) r h e = (let same : s ≡ r = cc in let is = ap number (sym same) ∙ h.0 in omega (arith, is))
 numbered_at number k (suc n) (s ∷ roles) r h e = (let rest = numbered_at number (k + 1) n roles r h.1 e in omega (arith, rest))
 
 -- the role of an output that was made of a list of roles
-role_at : (net : Role → NetValue) (roles : List Role) (n : ℕ) (o : Output) → slice_get (outputs_by net roles) n ≡ Some o → slice_get roles n ≡ Some o.role
-role_at net roles n o e = by_role (slice_get roles n) refl (sym (slice_get-map (λ (r : Role). output_of r (net r)) roles n) ∙ e)
+role_at : (net : PortRole → NetValue) (roles : List PortRole) (n : ℕ) (o : Output) → slice_get (outputs_by net roles) n ≡ Some o → slice_get roles n ≡ Some o.role
+role_at net roles n o e = by_role (slice_get roles n) refl (sym (slice_get-map (λ (r : PortRole). output_of r (net r)) roles n) ∙ e)
   where
-    by_role : (found : Option Role) → slice_get roles n ≡ found → option_map (λ (r : Role). output_of r (net r)) found ≡ Some o → slice_get roles n ≡ Some o.role
+    by_role : (found : Option PortRole) → slice_get roles n ≡ found → option_map (λ (r : PortRole). output_of r (net r)) found ≡ Some o → slice_get roles n ≡ Some o.role
     by_role None f g = absurd (let none : None ≡ Some o = g in cc)
     by_role (Some r) f g = (let same : output_of r (net r) ≡ o = cc in f ∙ ap (λ (o : Output). Some o.role) same)
 
-pub own_roles : (net : Role → NetValue) (number : Role → ℕ) (roles : List Role) → AreNumbered number 0 roles → HaveOwnRoles (outputs_by net roles)
+pub own_roles : (net : PortRole → NetValue) (number : PortRole → ℕ) (roles : List PortRole) → AreNumbered number 0 roles → HaveOwnRoles (outputs_by net roles)
 own_roles net number roles h m n a b e f same =
     let one = numbered_at number 0 m roles a.role h (role_at net roles m a e) in
     let other = numbered_at number 0 n roles b.role h (role_at net roles n b f) in
@@ -141,20 +141,20 @@ each_among P (y ∷ xs) x h (inl e) = subst P e h.0
 each_among P (y ∷ xs) x h (inr a) = each_among P xs x h.1 a
 
 -- each of these nets may drive its output
-pub may_by : (system : SystemTable) (connection : Connection) (net : Role → NetValue) (roles : List Role) (netlist : Netlist)
-    → ((n : ℕ) (r : Role) → slice_get roles n ≡ Some r → IfSome (output_at system connection r) (MayDrive netlist (net r))) → MayDriveAll system connection (outputs_by net roles) netlist
+pub may_by : (system : SystemTable) (connection : Connection) (net : PortRole → NetValue) (roles : List PortRole) (netlist : Netlist)
+    → ((n : ℕ) (r : PortRole) → slice_get roles n ≡ Some r → IfSome (output_at system connection r) (MayDrive netlist (net r))) → MayDriveAll system connection (outputs_by net roles) netlist
 may_by system connection net roles netlist h n o e =
     let there = role_at net roles n o e in
     let other : slice_get (outputs_by net roles) n ≡ Some (output_of o.role (net o.role)) =
-    slice_get-map (λ (r : Role). output_of r (net r)) roles n ∙ ap (option_map (λ (r : Role). output_of r (net r))) there in
+    slice_get-map (λ (r : PortRole). output_of r (net r)) roles n ∙ ap (option_map (λ (r : PortRole). output_of r (net r))) there in
     let is : output_of o.role (net o.role) ≡ o = cc in
     subst (λ (o : Output). IfSome (output_at system connection o.role) (MayDrive netlist o.net)) is (h n o.role there)
 
 -- the output of a role is driven by its net
-pub role_driven : (system : SystemTable) (connection : Connection) (net : Role → NetValue) (roles : List Role) (netlist : Netlist) → AreDriven system connection (outputs_by net roles) netlist
-    → (n : ℕ) (r : Role) → slice_get roles n ≡ Some r → IfSome (output_at system connection r) (λ port. driver_of netlist port ≡ Some (net r).number)
+pub role_driven : (system : SystemTable) (connection : Connection) (net : PortRole → NetValue) (roles : List PortRole) (netlist : Netlist) → AreDriven system connection (outputs_by net roles) netlist
+    → (n : ℕ) (r : PortRole) → slice_get roles n ≡ Some r → IfSome (output_at system connection r) (λ port. driver_of netlist port ≡ Some (net r).number)
 role_driven system connection net roles netlist h n r e =
-    h n (output_of r (net r)) (slice_get-map (λ (r : Role). output_of r (net r)) roles n ∙ ap (option_map (λ (r : Role). output_of r (net r))) e)
+    h n (output_of r (net r)) (slice_get-map (λ (r : PortRole). output_of r (net r)) roles n ∙ ap (option_map (λ (r : PortRole). output_of r (net r))) e)
 
 -- ---- one output after the other
 

@@ -20,8 +20,8 @@ use Rattle.stream_path.specs.Ends.{IsNetIf, AreSourceNets, ArePathNets}
 use Rattle.stream_path.specs.Serving.{most_nets, ServesInLonger}
 use Rattle.stream_path.specs.declared.ends.SourceNets.{SourceNets}
 use Rattle.stream_path.specs.declared.ends.PathNets.{PathNets}
-use Rattle.port_tables.specs.declared.roles.Role.{Role}
-use Rattle.port_tables.specs.declared.roles.Role.TheVariants as role
+use Rattle.port_tables.specs.declared.roles.PortRole.{PortRole}
+use Rattle.port_tables.specs.declared.roles.PortRole.TheVariants as role
 use Rattle.port_tables.specs.declared.roles.RolePort.{RolePort}
 use Rattle.port_tables.specs.Ports.{is_output, bits_if, port_of, stream_ports, ends_of, ports_of}
 use Rattle.port_tables.specs.PortMaps.{HasKnownPorts, port_at, IsPortIf}
@@ -40,7 +40,7 @@ use Rattle.port_tables.specs.Lists.{Among}
 -- ---- one input
 
 -- what was read of an input
-pub record IsRead (system : SystemTable) (netlist : Netlist) (end : EndId) (r : Role) (net : Option NetValue) : Type 0 where
+pub record IsRead (system : SystemTable) (netlist : Netlist) (end : EndId) (r : PortRole) (net : Option NetValue) : Type 0 where
   pub net_is : (width : ℕ) → IsInputIf system end r width → net ≡ input_at system end r width
   pub is : (width : ℕ) → IsInputIf system end r width → IfSome net (λ n. IsNetOfWidth netlist n width)
 
@@ -133,7 +133,7 @@ mapped_some : (o : Option ℕ) (f : ℕ → NetValue) → is_some o ≡ true →
 mapped_some None f e = e
 mapped_some (Some k) f e = refl
 
-read_some : (system : SystemTable) (netlist : Netlist) (end : EndId) (r : Role) (width : ℕ) (net : Option NetValue) → IsRead system netlist end r net → 0 < width
+read_some : (system : SystemTable) (netlist : Netlist) (end : EndId) (r : PortRole) (width : ℕ) (net : Option NetValue) → IsRead system netlist end r net → 0 < width
     → IsPortIf (ports_of system) false width (port_at system end r) → IsSome net
 read_some system netlist end r width net read some port =
     subst IsSome (sym (read.net_is width (input_port (ports_of system) width (port_at system end r) port)))

@@ -22,8 +22,8 @@ use Rattle.stream_path.specs.Joining.{declared}
 use Rattle.stream_path.specs.Ends.{IsNetWhere, ArePathNets}
 use Rattle.stream_path.specs.Serving.{ServesInLonger}
 use Rattle.stream_path.specs.declared.ends.PathNets.{PathNets}
-use Rattle.port_tables.specs.declared.roles.Role.{Role}
-use Rattle.port_tables.specs.declared.roles.Role.TheVariants as role
+use Rattle.port_tables.specs.declared.roles.PortRole.{PortRole}
+use Rattle.port_tables.specs.declared.roles.PortRole.TheVariants as role
 use Rattle.port_tables.specs.Ports.{bits_if, port_of, is_forward, ports_of}
 use Rattle.port_tables.specs.PortMaps.{IsPortIf, HasKnownPorts}
 use Rattle.port_tables.specs.Ends.{IsStreamPlace}
@@ -41,7 +41,7 @@ use Rattle.interconnect.proofs.MemoryJoins.{memory_stays}
 -- ---- outputs
 
 -- how wide the output of a role is, 0 where there is none
-abbrev pub output_width : Declared → Declared → Role → ℕ
+abbrev pub output_width : Declared → Declared → PortRole → ℕ
 output_width source sink role.Ready = bits_if source.ready 1
 output_width source sink role.Valid = 1
 output_width source sink role.Data = sink.symbols * sink.symbol_bits
@@ -53,13 +53,13 @@ output_width source sink role.Empty = sink.empty_bits
 output_width source sink _ = 1
 
 -- what holds of the role of each output
-each_output : (P : Role → Type 0) → P role.Ready → P role.Valid → P role.Data → P role.Channel → P role.Error → P role.StartOfPacket → P role.EndOfPacket → P role.Empty → P role.Dropped
-    → (n : ℕ) (r : Role) → slice_get output_roles n ≡ Some r → P r
+each_output : (P : PortRole → Type 0) → P role.Ready → P role.Valid → P role.Data → P role.Channel → P role.Error → P role.StartOfPacket → P role.EndOfPacket → P role.Empty → P role.Dropped
+    → (n : ℕ) (r : PortRole) → slice_get output_roles n ≡ Some r → P r
 each_output P a b c d e f g h i n r is = each_at P output_roles n r (a, (b, (c, (d, (e, (f, (g, (h, (i, tt))))))))) is
 
 -- the outputs are ports of these widths
 abbrev pub AreOutputs : SystemTable → Connection → Declared → Declared → Type 0
-AreOutputs system connection source sink = (n : ℕ) (r : Role) → slice_get output_roles n ≡ Some r → IsPortIf (ports_of system) true (output_width source sink r) (output_at system connection r)
+AreOutputs system connection source sink = (n : ℕ) (r : PortRole) → slice_get output_roles n ≡ Some r → IsPortIf (ports_of system) true (output_width source sink r) (output_at system connection r)
 
 pub outputs_are : (system : SystemTable) (number : ℕ) (connection : Connection) → HasKnownPorts system → (at : IsStreamPlace system number connection)
     → AreOutputs system connection (declared at.source_port) (declared at.sink_port)
@@ -88,7 +88,7 @@ net_there : (netlist : Netlist) (net : NetValue) (width : ℕ) → IsNetWhere (n
 net_there netlist net width is some = subst (λ (b : Bool). IsNetWhere b width netlist net) ((Decides-ltb 0 width).1 some) is
 
 -- the nets of a path are as wide as the outputs that they drive
-pub widths_are : (netlist : Netlist) (source sink : Declared) (made : PathNets) → ArePathNets netlist sink made → (n : ℕ) (r : Role) → slice_get output_roles n ≡ Some r
+pub widths_are : (netlist : Netlist) (source sink : Declared) (made : PathNets) → ArePathNets netlist sink made → (n : ℕ) (r : PortRole) → slice_get output_roles n ≡ Some r
     → 0 < output_width source sink r → IsNetOfWidth netlist (net_for made r) (output_width source sink r)
 widths_are netlist source sink made nets =
     each_output (λ r. 0 < output_width source sink r → IsNetOfWidth netlist (net_for made r) (output_width source sink r))
@@ -110,7 +110,7 @@ may_drive_all system number connection netlist made h at ports nets undriven =
     (outputs_are system number connection h at n r e) (widths_are netlist (declared at.source_port) (declared at.sink_port) made nets n r e) (undriven r))
 
 -- the place of a role among the outputs
-abbrev place_of : Role → ℕ
+abbrev place_of : PortRole → ℕ
 place_of role.Ready = 0
 place_of role.Valid = 1
 place_of role.Data = 2
@@ -175,7 +175,7 @@ one_stream_by system m n a b source sink h at is ends =
     ] in
     one_place (streams_of system) m n at.place (distinct_streams system) at.place_is (is.place_is ∙ ap Some (sym places))
 
-shared_end : (a b : Connection) (r : Role) → output_end a r ≡ output_end b r → (a.start ≡ b.start) ⊎ (a.end ≡ b.end)
+shared_end : (a b : Connection) (r : PortRole) → output_end a r ≡ output_end b r → (a.start ≡ b.start) ⊎ (a.end ≡ b.end)
 shared_end a b r = by_way (is_forward r)
   where
     by_way : (forward : Bool) → (if forward then a.end else a.start) ≡ (if forward then b.end else b.start) → (a.start ≡ b.start) ⊎ (a.end ≡ b.end)
@@ -183,7 +183,7 @@ shared_end a b r = by_way (is_forward r)
     by_way false e = inl e
 
 -- an output of another stream is none of this one's
-other_output : (system : SystemTable) (m n k : ℕ) (a b : Connection) (source : StreamPort) (sink : StreamPort) (r : Role) → HasKnownPorts system → IsStreamPlace system m a → IsStream system n b source sink → m < n
+other_output : (system : SystemTable) (m n k : ℕ) (a b : Connection) (source : StreamPort) (sink : StreamPort) (r : PortRole) → HasKnownPorts system → IsStreamPlace system m a → IsStream system n b source sink → m < n
     → output_at system b r ≡ Some k → IsNoOutput system a k
 other_output system m n k a b source sink r h at is less here s there =
     let ends = stream_ends_among system n b source sink is in

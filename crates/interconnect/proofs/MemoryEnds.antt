@@ -9,7 +9,7 @@ use Rattle.system_tables.specs.declared.tables.EndId.{EndId}
 use Rattle.system_tables.specs.Tables.{SystemTable}
 use Rattle.address_map.specs.Footprints.{known_at}
 use Rattle.mm_machines.specs.BoundedWire.{IsWireForm}
-use Rattle.port_tables.specs.declared.roles.Role.TheVariants as role
+use Rattle.port_tables.specs.declared.roles.PortRole.TheVariants as role
 use Rattle.port_tables.specs.declared.roles.RolePort.{RolePort}
 use Rattle.port_tables.specs.Lists.{Among}
 use Rattle.port_tables.specs.Ports.{bits_if, port_of, host_ports, agent_ports, is_output, ends_of, ports_of}

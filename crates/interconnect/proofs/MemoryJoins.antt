@@ -29,8 +29,8 @@ use Rattle.mm_wire.specs.declared.nets.WireNets.{WireNets}
 use Rattle.net_parts.specs.Nets.{IsRegister, IsNetOfWidth}
 use Rattle.net_parts.specs.Laws.{extends_twice, net_lasts, register_lasts}
 use Rattle.mm_wire.specs.Wires.{AreHostNets, AreAgentNets, AreWireNets, RunsAsWire}
-use Rattle.port_tables.specs.declared.roles.Role.{Role}
-use Rattle.port_tables.specs.declared.roles.Role.TheVariants as role
+use Rattle.port_tables.specs.declared.roles.PortRole.{PortRole}
+use Rattle.port_tables.specs.declared.roles.PortRole.TheVariants as role
 use Rattle.port_tables.specs.Lists.{Among, among_at, among_front, among_back, among_kept}
 use Rattle.port_tables.specs.Ports.{bits_if, is_forward, connection_ends, ends_of, ports_of}
 use Rattle.port_tables.specs.PortMaps.{IsPortIf, HasKnownPorts, port_at}
@@ -135,7 +135,7 @@ link_limits system link l = subst IsWireForm (sym l.form_is) (limits l.host l.ag
 -- ---- inputs
 
 -- an input of some bits is there
-pub input_there : (system : SystemTable) (end : EndId) (r : Role) (width : ℕ) → 0 < width → IsPortIf (ports_of system) false width (port_at system end r) → IsInput system end r width
+pub input_there : (system : SystemTable) (end : EndId) (r : PortRole) (width : ℕ) → 0 < width → IsPortIf (ports_of system) false width (port_at system end r) → IsInput system end r width
 input_there system end r width some port = by_place (port_at system end r) refl port
   where
     by_place : (o : Option ℕ) → port_at system end r ≡ o → IsPortIf (ports_of system) false width o → IsInput system end r width
@@ -163,7 +163,7 @@ enables_are system end bits enables nets h inputs = ap (λ (o : Option NetValue)
 -- ---- outputs
 
 -- how wide the output of a role is, 0 where there is none
-abbrev pub wire_width : ℕ → Bool → Role → ℕ
+abbrev pub wire_width : ℕ → Bool → PortRole → ℕ
 wire_width bits enables role.WaitRequest = 1
 wire_width bits enables role.ReadData = 32
 wire_width bits enables role.ReadDataValid = 1
@@ -175,9 +175,9 @@ wire_width bits enables role.ByteEnable = bits_if enables 4
 wire_width bits enables _ = 4
 
 pub wire_outputs_are : (system : SystemTable) (connection : Connection) (bits : ℕ) (enables : Bool) → AreHostPorts system connection.start bits enables → AreAgentPorts system connection.end bits enables
-    → (n : ℕ) (r : Role) → slice_get wire_roles n ≡ Some r → IsPortIf (ports_of system) true (wire_width bits enables r) (output_at system connection r)
+    → (n : ℕ) (r : PortRole) → slice_get wire_roles n ≡ Some r → IsPortIf (ports_of system) true (wire_width bits enables r) (output_at system connection r)
 wire_outputs_are system connection bits enables host agent n r e =
-    each_at (λ (r : Role). IsPortIf (ports_of system) true (wire_width bits enables r) (output_at system connection r)) wire_roles n r
+    each_at (λ (r : PortRole). IsPortIf (ports_of system) true (wire_width bits enables r) (output_at system connection r)) wire_roles n r
     (host.waitrequest, (host.readdata, (host.readdatavalid, (agent.address, (agent.read, (agent.write, (agent.writedata, (agent.byteenable, (agent.grant, tt))))))))) e
 
 enables_width : (netlist : Netlist) (enables : Bool) (net : Option NetValue) (other : NetValue) → is_some net ≡ enables → IfSome net (λ n. IsNetOfWidth netlist n 4) → 0 < bits_if enables 4
@@ -187,9 +187,9 @@ enables_width netlist true None other e is some = absurd (false≢true e)
 enables_width netlist false net other e is some = absurd (omega (arith, some))
 
 wire_widths : (netlist : Netlist) (bits : ℕ) (enables : Bool) (host : HostNets) (agent : AgentNets) (made : WireNets) → AreHostNets netlist host bits → AreAgentNets netlist agent → AreWireNets netlist made bits
-    → is_some host.byteenable ≡ enables → (n : ℕ) (r : Role) → slice_get wire_roles n ≡ Some r → 0 < wire_width bits enables r → IsNetOfWidth netlist (wire_net host agent made r) (wire_width bits enables r)
+    → is_some host.byteenable ≡ enables → (n : ℕ) (r : PortRole) → slice_get wire_roles n ≡ Some r → 0 < wire_width bits enables r → IsNetOfWidth netlist (wire_net host agent made r) (wire_width bits enables r)
 wire_widths netlist bits enables host agent made h a m e n r is =
-    each_at (λ (r : Role). 0 < wire_width bits enables r → IsNetOfWidth netlist (wire_net host agent made r) (wire_width bits enables r)) wire_roles n r (
+    each_at (λ (r : PortRole). 0 < wire_width bits enables r → IsNetOfWidth netlist (wire_net host agent made r) (wire_width bits enables r)) wire_roles n r (
       λ some. m.waitrequest,
       (
         λ some. a.readdata,
@@ -210,7 +210,7 @@ wire_widths netlist bits enables host agent made h a m e n r is =
     ) is
 
 -- the place of a role among the outputs
-abbrev place_of : Role → ℕ
+abbrev place_of : PortRole → ℕ
 place_of role.WaitRequest = 0
 place_of role.ReadData = 1
 place_of role.ReadDataValid = 2
@@ -292,7 +292,7 @@ is_memory (Agent agent) = true
 is_memory _ = false
 
 -- an output of a stream is none of the link's
-other_output : (system : SystemTable) (link : MemoryLink) (n k : ℕ) (connection : Connection) (source : StreamPort) (sink : StreamPort) (r : Role) → HasKnownPorts system → IsMemoryLink system link
+other_output : (system : SystemTable) (link : MemoryLink) (n k : ℕ) (connection : Connection) (source : StreamPort) (sink : StreamPort) (r : PortRole) → HasKnownPorts system → IsMemoryLink system link
     → IsStream system n connection source sink → output_at system connection r ≡ Some k → IsNoOutput system link.connection k
 other_output system link n k connection source sink r h l is here s there =
     let ends = stream_ends_among system n connection source sink is in

@@ -25,8 +25,8 @@ use Rattle.mm_runs.specs.Whole.{IsLegalRun, IsSafe}
 use Rattle.mm_runs.specs.Moment.{Moment, AgentSees, HaveAlikeInputs, IgnoresReaddata}
 use Rattle.mm_machines.specs.BoundedWire.{WireForm, IsWireForm, IsBoundedWire, wire_system, wire_run}
 use Rattle.mm_wire.specs.Wires as wires
-use Rattle.port_tables.specs.declared.roles.Role.{Role}
-use Rattle.port_tables.specs.declared.roles.Role.TheVariants as role
+use Rattle.port_tables.specs.declared.roles.PortRole.{PortRole}
+use Rattle.port_tables.specs.declared.roles.PortRole.TheVariants as role
 use Rattle.port_tables.specs.declared.roles.RolePort.{RolePort}
 use Rattle.port_tables.specs.Lists.{Among}
 use Rattle.port_tables.specs.Ports.{role_word, is_output, bits_if, host_ports, agent_ports, port_name, name_at, ports_of}
@@ -60,14 +60,14 @@ agent_at system connection host agent netlist m =
 
 -- ---- each output is driven
 
-output_driven : (system : SystemTable) (connection : Connection) (host : HostPort) (agent : AgentPort) (netlist : Netlist) (k n : ℕ) (r : Role) (m : IsMemoryIn system connection host agent netlist)
+output_driven : (system : SystemTable) (connection : Connection) (host : HostPort) (agent : AgentPort) (netlist : Netlist) (k n : ℕ) (r : PortRole) (m : IsMemoryIn system connection host agent netlist)
     → slice_get wire_roles n ≡ Some r → output_at system connection r ≡ Some k → IsSome (driver_of netlist k)
 output_driven system connection host agent netlist k n r m e is =
     driven_some netlist k (output_at system connection r) (wire_net m.joined.from m.joined.to m.joined.made r) is
     (role_driven system connection (wire_net m.joined.from m.joined.to m.joined.made) wire_roles netlist m.joined.driven n r e)
 
 -- a port without bits isn't there
-no_port : (system : SystemTable) (end : EndId) (r : Role) (output : Bool) (k : ℕ) {P : Type 0} → IsPortIf (ports_of system) output 0 (port_at system end r) → port_at system end r ≡ Some k → P
+no_port : (system : SystemTable) (end : EndId) (r : PortRole) (output : Bool) (k : ℕ) {P : Type 0} → IsPortIf (ports_of system) output 0 (port_at system end r) → port_at system end r ≡ Some k → P
 no_port system end r output k p e =
     let there = subst (λ (o : Option ℕ). IsPortIf (ports_of system) output 0 o) e p in
     let some = there.some in
@@ -138,7 +138,7 @@ agent_driven system connection host agent netlist k p m among =
 -- ---- what a run shows
 
 -- an output shows its net
-out : (system : SystemTable) (connection : Connection) (host : HostPort) (agent : AgentPort) (netlist : Netlist) (run : Run) (n : ℕ) (r : Role) (end : EndId) (present : Bool)
+out : (system : SystemTable) (connection : Connection) (host : HostPort) (agent : AgentPort) (netlist : Netlist) (run : Run) (n : ℕ) (r : PortRole) (end : EndId) (present : Bool)
     → (m : IsMemoryIn system connection host agent netlist) → slice_get wire_roles n ≡ Some r → output_at system connection r ≡ port_at system end r
     → nat_lt 0 (wire_width agent.address_bits agent.enables r) ≡ present
     → signal netlist run (port_name (name_at system end) (role_word r)) ≡ signal_where present run (wire_net m.joined.from m.joined.to m.joined.made r)
@@ -150,14 +150,14 @@ out system connection host agent netlist run n r end present m e is there =
     (role_driven system connection (wire_net m.joined.from m.joined.to m.joined.made) wire_roles netlist m.joined.driven n r e)
 
 -- an input shows its own
-inp : (system : SystemTable) (connection : Connection) (host : HostPort) (agent : AgentPort) (netlist : Netlist) (run : Run) (end : EndId) (r : Role) (width : ℕ) (net : Option NetValue)
+inp : (system : SystemTable) (connection : Connection) (host : HostPort) (agent : AgentPort) (netlist : Netlist) (run : Run) (end : EndId) (r : PortRole) (width : ℕ) (net : Option NetValue)
     → IsMemoryIn system connection host agent netlist → IsPortIf (ports_of system) false width (port_at system end r) → net ≡ input_at system end r width
     → signal netlist run (port_name (name_at system end) (role_word r)) ≡ signal_of run net
 inp system connection host agent netlist run end r width net m port is =
     shown_at system netlist run end r m.ports ∙ input_shown (ports_of system) netlist run width net (port_at system end r) m.well_made m.ports port is
 
 -- a port without bits shows nothing
-non : (system : SystemTable) (connection : Connection) (host : HostPort) (agent : AgentPort) (netlist : Netlist) (run : Run) (end : EndId) (r : Role) (output : Bool)
+non : (system : SystemTable) (connection : Connection) (host : HostPort) (agent : AgentPort) (netlist : Netlist) (run : Run) (end : EndId) (r : PortRole) (output : Bool)
     → IsMemoryIn system connection host agent netlist → IsPortIf (ports_of system) output 0 (port_at system end r) → signal netlist run (port_name (name_at system end) (role_word r)) ≡ None
 non system connection host agent netlist run end r output m port =
     shown_at system netlist run end r m.ports ∙ none_shown (ports_of system) netlist run output (port_at system end r) port

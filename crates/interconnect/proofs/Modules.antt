@@ -18,7 +18,7 @@ use Rattle.link_rules.specs.Links.{streams_of, weight_of}
 use Rattle.netlist.specs.declared.line.PortLine.{PortLine}
 use Rattle.netlist.specs.Netlists.{Netlist, IsDriven, IsWellMade, driver_of}
 use Rattle.stream_path.specs.Joining.{declared}
-use Rattle.port_tables.specs.declared.roles.Role.TheVariants as role
+use Rattle.port_tables.specs.declared.roles.PortRole.TheVariants as role
 use Rattle.port_tables.specs.declared.roles.RolePort.{RolePort}
 use Rattle.port_tables.specs.Lists.{Among, among_at, at_among, among_append, among_map, among_flat_map, among_filter}
 use Rattle.port_tables.specs.Ports.{is_output, port_of, stream_ports, may_have, connection_ends, starts}

@@ -22,8 +22,8 @@ use Rattle.stream_runs.specs.Ends.{Declared, Signals, side_of, view_of, signal_o
 use Rattle.stream_path.specs.Joining.{declared}
 use Rattle.stream_path.specs.Ends.{signal_on, signal_of, signal_where, source_signals, sink_signals}
 use Rattle.stream_path.specs.declared.ends.PathNets.{PathNets}
-use Rattle.port_tables.specs.declared.roles.Role.{Role}
-use Rattle.port_tables.specs.declared.roles.Role.TheVariants as role
+use Rattle.port_tables.specs.declared.roles.PortRole.{PortRole}
+use Rattle.port_tables.specs.declared.roles.PortRole.TheVariants as role
 use Rattle.port_tables.specs.declared.roles.RolePort.{RolePort}
 use Rattle.port_tables.specs.Lists.{Among, among_at, among_filter}
 use Rattle.port_tables.specs.Ports.{role_word, is_forward, is_output, bits_if, port_of, port_name, stream_ports, has_bits, name_at, ports_of}
@@ -51,12 +51,12 @@ pub record IsJoinedIn (system : SystemTable) (number : ℕ) (connection : Connec
 
 -- ---- signals
 
-driven_role : (system : SystemTable) (number : ℕ) (connection : Connection) (netlist : Netlist) (j : IsJoinedIn system number connection netlist) (n : ℕ) (r : Role) → slice_get output_roles n ≡ Some r
+driven_role : (system : SystemTable) (number : ℕ) (connection : Connection) (netlist : Netlist) (j : IsJoinedIn system number connection netlist) (n : ℕ) (r : PortRole) → slice_get output_roles n ≡ Some r
     → IfSome (output_at system connection r) (λ port. driver_of netlist port ≡ Some (net_for j.joined.made r).number)
 driven_role system number connection netlist j = role_driven system connection (net_for j.joined.made) output_roles netlist j.joined.driven
 
 -- what stands at an output of a stream, and what at an input
-out : (system : SystemTable) (number : ℕ) (connection : Connection) (netlist : Netlist) (run : Run) (n : ℕ) (r : Role) (end : EndId) (present : Bool) (j : IsJoinedIn system number connection netlist)
+out : (system : SystemTable) (number : ℕ) (connection : Connection) (netlist : Netlist) (run : Run) (n : ℕ) (r : PortRole) (end : EndId) (present : Bool) (j : IsJoinedIn system number connection netlist)
     → slice_get output_roles n ≡ Some r → output_at system connection r ≡ port_at system end r → nat_lt 0 (output_width (declared j.at.source_port) (declared j.at.sink_port) r) ≡ present
     → signal netlist run (port_name (name_at system end) (role_word r)) ≡ signal_where present run (net_for j.joined.made r)
 out system number connection netlist run n r end present j e is there =
@@ -80,7 +80,7 @@ source_input system number connection netlist run p net j may way is =
     (subst (λ (b : Bool). IsPortIf (ports_of system) b p.width (port_at system connection.start p.role)) way
     (j.known.known connection.start (Source j.at.source_port) p (start_among system number connection j.at) j.at.source_is may)) is
 
-packet_width : (system : SystemTable) (end : EndId) (r : Role) (packets : Bool) (net : Option NetValue) → IsPortIf (ports_of system) false (bits_if packets 1) (port_at system end r) → net ≡ input_at system end r 1
+packet_width : (system : SystemTable) (end : EndId) (r : PortRole) (packets : Bool) (net : Option NetValue) → IsPortIf (ports_of system) false (bits_if packets 1) (port_at system end r) → net ≡ input_at system end r 1
     → net ≡ input_at system end r (bits_if packets 1)
 packet_width system end r true net port is = is
 packet_width system end r false net port is = is ∙ by_port (port_at system end r) port
@@ -199,7 +199,7 @@ each_port P d a b c e f g h i p (inr (inr (inr (inr (inr (inr (inr (inl is))))))
 each_port P d a b c e f g h i p (inr (inr (inr (inr (inr (inr (inr (inr none)))))))) = absurd none
 
 -- a signal that goes forward
-forward_joined : (system : SystemTable) (number : ℕ) (connection : Connection) (netlist : Netlist) (low : NetValue) (n width : ℕ) (r : Role) (net : Option NetValue) (w : IsWireIn system number connection netlist low)
+forward_joined : (system : SystemTable) (number : ℕ) (connection : Connection) (netlist : Netlist) (low : NetValue) (n width : ℕ) (r : PortRole) (net : Option NetValue) (w : IsWireIn system number connection netlist low)
     → slice_get output_roles n ≡ Some r → is_forward r ≡ true → Among (port_of r width) (stream_ports (declared w.joined.at.source_port))
     → output_width (declared w.joined.at.source_port) (declared w.joined.at.sink_port) r ≡ width → net ≡ input_at system connection.start r width
     → net_for w.joined.joined.made r ≡ unwrap_or net low → 0 < width → IsDrivenBy netlist (port_name (name_at system connection.end) (role_word r)) (port_name (name_at system connection.start) (role_word r))
@@ -295,7 +295,7 @@ is_wired system number connection netlist j wire line =
 
 -- ---- each output is driven
 
-output_driven : (system : SystemTable) (number : ℕ) (connection : Connection) (netlist : Netlist) (k n : ℕ) (r : Role) → IsJoinedIn system number connection netlist → slice_get output_roles n ≡ Some r
+output_driven : (system : SystemTable) (number : ℕ) (connection : Connection) (netlist : Netlist) (k n : ℕ) (r : PortRole) → IsJoinedIn system number connection netlist → slice_get output_roles n ≡ Some r
     → output_at system connection r ≡ Some k → IsSome (driver_of netlist k)
 output_driven system number connection netlist k n r j e is = driven_some netlist k (output_at system connection r) (net_for j.joined.made r) is (driven_role system number connection netlist j n r e)
 

@@ -11,7 +11,7 @@ use Rattle.netlist.specs.Netlists.{Netlist, IsInputPort, IsWellMade, driver_of, 
 use Rattle.netlist.specs.Runs.{Run}
 use Rattle.netlist.specs.Signals.{port_net, port_value, port_named, signal}
 use Rattle.stream_path.specs.Ends.{signal_of, signal_where}
-use Rattle.port_tables.specs.declared.roles.Role.{Role}
+use Rattle.port_tables.specs.declared.roles.PortRole.{PortRole}
 use Rattle.port_tables.specs.Ports.{role_word, bits_if, port_name, name_at, ports_of}
 use Rattle.port_tables.specs.PortMaps.{IsPortIf, port_at}
 
@@ -31,7 +31,7 @@ no_driver netlist k w h i (Some n) e =
 abbrev pub shown : Netlist → Run → Option ℕ → Option (ℕ → ℕ)
 shown netlist run port = option_map (λ k. λ c. port_value netlist run c k) port
 
-pub shown_at : (system : SystemTable) (netlist : Netlist) (run : Run) (end : EndId) (r : Role) → netlist.ports ≡ ports_of system
+pub shown_at : (system : SystemTable) (netlist : Netlist) (run : Run) (end : EndId) (r : PortRole) → netlist.ports ≡ ports_of system
     → signal netlist run (port_name (name_at system end) (role_word r)) ≡ shown netlist run (port_at system end r)
 shown_at system netlist run end r e = ap (λ (ports : List PortLine). shown netlist run (port_named ports (port_name (name_at system end) (role_word r)))) e
 

@@ -17,8 +17,8 @@ use Rattle.system_tables.specs.declared.tables.Connection.{Connection}
 use Rattle.system_tables.specs.Tables.{SystemTable}
 use Rattle.address_map.specs.Footprints.{known_at}
 use Rattle.address_map.specs.Maps.{mm_connections}
-use Rattle.port_tables.specs.declared.roles.Role.{Role}
-use Rattle.port_tables.specs.declared.roles.Role.TheVariants as role
+use Rattle.port_tables.specs.declared.roles.PortRole.{PortRole}
+use Rattle.port_tables.specs.declared.roles.PortRole.TheVariants as role
 use Rattle.port_tables.specs.Ends.{IsAnEnd}
 use Rattle.interconnect.specs.declared.outputs.Output.{Output}
 use Rattle.interconnect.specs.declared.memory.MemoryForm.{MemoryForm}
@@ -68,12 +68,12 @@ pub record AddsWire (old new : Netlist) (host : HostNets) (agent : AgentNets) (m
   pub no_more_wait : (n : ℕ) → IsWaiting new n → IsWaiting old n
 
 -- the roles of the outputs of a host and its agent
-abbrev pub wire_roles : List Role
+abbrev pub wire_roles : List PortRole
 wire_roles =
     role.WaitRequest ∷ role.ReadData ∷ role.ReadDataValid ∷ role.Address ∷ role.Read ∷ role.Write ∷ role.WriteData ∷ role.ByteEnable ∷ role.Grant ∷ []
 
 -- the net that drives each: the agent's answers go to the host, and the host's commands to the agent, as the wire lets them through
-abbrev pub wire_net : HostNets → AgentNets → WireNets → Role → NetValue
+abbrev pub wire_net : HostNets → AgentNets → WireNets → PortRole → NetValue
 wire_net host agent made role.WaitRequest = made.waitrequest
 wire_net host agent made role.ReadData = agent.readdata
 wire_net host agent made role.ReadDataValid = agent.readdatavalid

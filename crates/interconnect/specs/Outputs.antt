@@ -5,7 +5,7 @@ use Rattle.system_tables.specs.declared.tables.Connection.{Connection}
 use Rattle.system_tables.specs.Tables.{SystemTable}
 use Rattle.netlist.specs.Nets.{NetValue, net_of}
 use Rattle.netlist.specs.Netlists.{Netlist, IsNet, IsInputPort, IsOutputPort, driver_of, input_net}
-use Rattle.port_tables.specs.declared.roles.Role.{Role}
+use Rattle.port_tables.specs.declared.roles.PortRole.{PortRole}
 use Rattle.port_tables.specs.Ports.{is_forward, ports_of}
 use Rattle.port_tables.specs.PortMaps.{port_at}
 use Rattle.interconnect.specs.declared.outputs.Output.{Output}
@@ -13,34 +13,34 @@ use Rattle.interconnect.specs.declared.outputs.Output.{Output}
 -- ---- inputs
 
 -- the port of a role is an input of this width, where there is one
-abbrev pub IsInputIf : SystemTable → EndId → Role → ℕ → Type 0
+abbrev pub IsInputIf : SystemTable → EndId → PortRole → ℕ → Type 0
 IsInputIf system end role width = IfSome (port_at system end role) (λ port. IsInputPort (ports_of system) port width)
 
 -- there is one
-pub record IsInput (system : SystemTable) (end : EndId) (role : Role) (width : ℕ) : Type 0 where
+pub record IsInput (system : SystemTable) (end : EndId) (role : PortRole) (width : ℕ) : Type 0 where
   pub place : ℕ
   pub place_is : port_at system end role ≡ Some place
   pub port : IsInputPort (ports_of system) place width
 
 -- the net of the input port of a role at an end, where there is one
-abbrev pub input_at : SystemTable → EndId → Role → ℕ → Option NetValue
+abbrev pub input_at : SystemTable → EndId → PortRole → ℕ → Option NetValue
 input_at system end role width = option_map (λ port. net_of (input_net (ports_of system) port) width) (port_at system end role)
 
 -- ---- outputs
 
-abbrev pub output_of : Role → NetValue → Output
+abbrev pub output_of : PortRole → NetValue → Output
 output_of role net = record { role = role; net = net }
 
 -- for each of these roles its net
-abbrev pub outputs_by : (Role → NetValue) → List Role → List Output
+abbrev pub outputs_by : (PortRole → NetValue) → List PortRole → List Output
 outputs_by net roles = map (λ role. output_of role (net role)) roles
 
 -- the end at which an output of a role stands
-abbrev pub output_end : Connection → Role → EndId
+abbrev pub output_end : Connection → PortRole → EndId
 output_end connection role = if is_forward role then connection.end else connection.start
 
 -- the output port of a role, where there is one
-abbrev pub output_at : SystemTable → Connection → Role → Option ℕ
+abbrev pub output_at : SystemTable → Connection → PortRole → Option ℕ
 output_at system connection role = port_at system (output_end connection role) role
 
 -- no two are of one role
@@ -82,7 +82,7 @@ AreDrivenBelow count system connection outputs netlist =
 
 -- the port is no output of the connection
 abbrev pub IsNoOutput : SystemTable → Connection → ℕ → Type 0
-IsNoOutput system connection port = (role : Role) → ¬ (output_at system connection role ≡ Some port)
+IsNoOutput system connection port = (role : PortRole) → ¬ (output_at system connection role ≡ Some port)
 
 -- it is none of the first of these
 abbrev pub IsNoOutputBelow : ℕ → SystemTable → Connection → List Output → ℕ → Type 0
@@ -91,4 +91,4 @@ IsNoOutputBelow count system connection outputs port =
 
 -- no output of the connection is driven
 abbrev pub AreUndriven : SystemTable → Connection → Netlist → Type 0
-AreUndriven system connection netlist = (role : Role) → IfSome (output_at system connection role) (λ port. driver_of netlist port ≡ None)
+AreUndriven system connection netlist = (role : PortRole) → IfSome (output_at system connection role) (λ port. driver_of netlist port ≡ None)

@@ -15,7 +15,7 @@ use Rattle.netlist.specs.Signals.{signal, port_named}
 use Rattle.stream_runs.specs.Source.{IsLegalSource}
 use Rattle.stream_runs.specs.Delivery.{IsServed}
 use Rattle.stream_runs.specs.Ends.{Declared, Signals, side_of, view_of, signal_or, stream_of, run_of}
-use Rattle.port_tables.specs.declared.roles.Role.{Role}
+use Rattle.port_tables.specs.declared.roles.PortRole.{PortRole}
 use Rattle.port_tables.specs.declared.roles.RolePort.{RolePort}
 use Rattle.port_tables.specs.Ports.{role_word, is_forward, has_bits, stream_ports, EndName, port_name}
 
@@ -66,7 +66,7 @@ IsJoinedBy true netlist from to word = IsDrivenBy netlist (port_name to word) (p
 IsJoinedBy false netlist from to word = IsDrivenBy netlist (port_name from word) (port_name to word)
 
 -- the output of a role is driven by the input of the same role at the other end
-abbrev pub IsJoined : Netlist → EndName → EndName → Role → Type 0
+abbrev pub IsJoined : Netlist → EndName → EndName → PortRole → Type 0
 IsJoined netlist from to role = IsJoinedBy (is_forward role) netlist from to (role_word role)
 
 -- a net that is always low

@@ -16,7 +16,7 @@ use iface_roles::{AgentPort, Finished};
 use link_rules::Plan;
 use mm_wire::{AgentNets, HostNets, WireNets, emit};
 use netlist::{Builder, NetFault};
-use port_tables::{PortMap, Role, ports_are_known};
+use port_tables::{PortMap, PortRole, ports_are_known};
 use system_tables::Connection;
 
 /// A host joined to an agent that fills its whole range of addresses.
@@ -76,11 +76,11 @@ fn host_nets(builder: &Builder, plan: &Plan, ports: &PortMap, link: MemoryLink) 
     ports_are_known(plan);
     let end = link.connection.start;
     HostNets {
-        address: input_net(builder, plan, ports, end, Role::Address),
-        read: input_net(builder, plan, ports, end, Role::Read),
-        write: input_net(builder, plan, ports, end, Role::Write),
-        writedata: input_net(builder, plan, ports, end, Role::WriteData),
-        byteenable: input_of(builder, plan, ports, end, Role::ByteEnable),
+        address: input_net(builder, plan, ports, end, PortRole::Address),
+        read: input_net(builder, plan, ports, end, PortRole::Read),
+        write: input_net(builder, plan, ports, end, PortRole::Write),
+        writedata: input_net(builder, plan, ports, end, PortRole::WriteData),
+        byteenable: input_of(builder, plan, ports, end, PortRole::ByteEnable),
     }
 }
 
@@ -95,9 +95,9 @@ fn agent_nets(builder: &Builder, plan: &Plan, ports: &PortMap, link: MemoryLink)
     ports_are_known(plan);
     let end = link.connection.end;
     AgentNets {
-        waitrequest: input_net(builder, plan, ports, end, Role::WaitRequest),
-        readdata: input_net(builder, plan, ports, end, Role::ReadData),
-        readdatavalid: input_net(builder, plan, ports, end, Role::ReadDataValid),
+        waitrequest: input_net(builder, plan, ports, end, PortRole::WaitRequest),
+        readdata: input_net(builder, plan, ports, end, PortRole::ReadData),
+        readdatavalid: input_net(builder, plan, ports, end, PortRole::ReadDataValid),
     }
 }
 
@@ -126,16 +126,16 @@ fn wire_outputs(host: &HostNets, agent: &AgentNets, made: &WireNets) -> [Output;
     ensures { result ≡ wire_outputs host.now agent.now made.now }
 {
     [
-        Output::new(Role::WaitRequest, made.waitrequest),
-        Output::new(Role::ReadData, agent.readdata),
-        Output::new(Role::ReadDataValid, agent.readdatavalid),
-        Output::new(Role::Address, made.address),
-        Output::new(Role::Read, made.read),
-        Output::new(Role::Write, host.write),
-        Output::new(Role::WriteData, host.writedata),
+        Output::new(PortRole::WaitRequest, made.waitrequest),
+        Output::new(PortRole::ReadData, agent.readdata),
+        Output::new(PortRole::ReadDataValid, agent.readdatavalid),
+        Output::new(PortRole::Address, made.address),
+        Output::new(PortRole::Read, made.read),
+        Output::new(PortRole::Write, host.write),
+        Output::new(PortRole::WriteData, host.writedata),
         // where the host has none, the agent has no port for it either
-        Output::new(Role::ByteEnable, host.byteenable.unwrap_or(host.write)),
-        Output::new(Role::Grant, made.grant),
+        Output::new(PortRole::ByteEnable, host.byteenable.unwrap_or(host.write)),
+        Output::new(PortRole::Grant, made.grant),
     ]
 }
 

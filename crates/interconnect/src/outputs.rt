@@ -9,7 +9,7 @@ ghost use Rattle.interconnect.specs.Outputs.{IsInputIf, IsInput, input_at, outpu
 
 use link_rules::Plan;
 use netlist::{Builder, Net};
-use port_tables::{PortMap, Role, ports_are_known};
+use port_tables::{PortMap, PortRole, ports_are_known};
 use system_tables::{Connection, EndId};
 
 /// The net of the input port of a role at an end, where there is one.
@@ -18,7 +18,7 @@ pub(crate) fn input_of(
     plan: &Plan,
     ports: &PortMap,
     end: EndId,
-    role: Role,
+    role: PortRole,
 ) -> Option<Net>
     requires builder { builder.now.ports ≡ ports_of plan.now.system }
     requires map { ports.now.entries ≡ entries_of plan.now.system }
@@ -39,7 +39,7 @@ pub(crate) fn input_net(
     plan: &Plan,
     ports: &PortMap,
     end: EndId,
-    role: Role,
+    role: PortRole,
 ) -> Net
     requires builder { builder.now.ports ≡ ports_of plan.now.system }
     requires map { ports.now.entries ≡ entries_of plan.now.system }
@@ -57,12 +57,12 @@ pub(crate) fn input_net(
 /// What drives the output of a role.
 #[derive(Clone, Copy, Debug)]
 pub(crate) struct Output {
-    pub role: Role,
+    pub role: PortRole,
     pub net: Net,
 }
 
 impl Output {
-    pub(crate) fn new(role: Role, net: Net) -> Output
+    pub(crate) fn new(role: PortRole, net: Net) -> Output
         ensures { result ≡ output_of role net }
     {
         Output { role, net }
@@ -83,7 +83,7 @@ fn drive(builder: &mut Builder, port: Option<u32>, net: Net)
 }
 
 /// The end at which an output of a role stands.
-fn output_end(connection: Connection, role: Role) -> EndId
+fn output_end(connection: Connection, role: PortRole) -> EndId
     ensures { result ≡ output_end connection role }
 {
     if role.is_forward() {

@@ -23,7 +23,7 @@ use av_base::{List, NoMemory, Val};
 use iface_roles::{SinkPort, SourcePort, proper_records_are_bounded};
 use link_rules::{Plan, StreamLink, streams_are_numbered};
 use netlist::{Builder, Net, NetFault};
-use port_tables::{PortMap, Role, ports_are_known};
+use port_tables::{PortMap, PortRole, ports_are_known};
 use stage_core::BeatNets;
 use std::alloc::Global;
 use stream_path::{PathNets, SourceNets, emit_path};
@@ -41,13 +41,13 @@ fn source_nets(builder: &Builder, plan: &Plan, ports: &PortMap, end: EndId) -> S
     proper_records_are_bounded();
     ports_are_known(plan);
     SourceNets {
-        valid: input_of(builder, plan, ports, end, Role::Valid).unwrap(),
-        word: input_of(builder, plan, ports, end, Role::Data).unwrap(),
-        channel: input_of(builder, plan, ports, end, Role::Channel),
-        error: input_of(builder, plan, ports, end, Role::Error),
-        startofpacket: input_of(builder, plan, ports, end, Role::StartOfPacket),
-        endofpacket: input_of(builder, plan, ports, end, Role::EndOfPacket),
-        empty: input_of(builder, plan, ports, end, Role::Empty),
+        valid: input_of(builder, plan, ports, end, PortRole::Valid).unwrap(),
+        word: input_of(builder, plan, ports, end, PortRole::Data).unwrap(),
+        channel: input_of(builder, plan, ports, end, PortRole::Channel),
+        error: input_of(builder, plan, ports, end, PortRole::Error),
+        startofpacket: input_of(builder, plan, ports, end, PortRole::StartOfPacket),
+        endofpacket: input_of(builder, plan, ports, end, PortRole::EndOfPacket),
+        empty: input_of(builder, plan, ports, end, PortRole::Empty),
     }
 }
 
@@ -165,7 +165,7 @@ fn stream_nets(
     proper_records_are_bounded();
     ports_are_known(plan);
     let from = source_nets(builder, plan, ports, link.source_end);
-    let ready = input_of(builder, plan, ports, link.sink_end, Role::Ready);
+    let ready = input_of(builder, plan, ports, link.sink_end, PortRole::Ready);
     match low {
         Some(low) => Ok(wire_nets(&from, ready, low)),
         None => path_nets(
@@ -185,15 +185,15 @@ fn path_outputs(made: &PathNets) -> [Output; 9]
     ensures { result ≡ path_outputs made.now }
 {
     [
-        Output::new(Role::Ready, made.ready),
-        Output::new(Role::Valid, made.beat.valid),
-        Output::new(Role::Data, made.beat.word),
-        Output::new(Role::Channel, made.beat.channel),
-        Output::new(Role::Error, made.beat.error),
-        Output::new(Role::StartOfPacket, made.beat.first),
-        Output::new(Role::EndOfPacket, made.beat.last),
-        Output::new(Role::Empty, made.beat.empty),
-        Output::new(Role::Dropped, made.dropped),
+        Output::new(PortRole::Ready, made.ready),
+        Output::new(PortRole::Valid, made.beat.valid),
+        Output::new(PortRole::Data, made.beat.word),
+        Output::new(PortRole::Channel, made.beat.channel),
+        Output::new(PortRole::Error, made.beat.error),
+        Output::new(PortRole::StartOfPacket, made.beat.first),
+        Output::new(PortRole::EndOfPacket, made.beat.last),
+        Output::new(PortRole::Empty, made.beat.empty),
+        Output::new(PortRole::Dropped, made.dropped),
     ]
 }
 

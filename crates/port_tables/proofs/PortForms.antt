@@ -8,8 +8,8 @@ use Rattle.std.proofs.lemmas.List.Folds.{list_all-append}
 use Rattle.std.proofs.lemmas.Slice.Eq.{ends_is}
 use Rattle.system_tables.specs.Names.{is_name, begins_with_letter}
 use Rattle.netlist.specs.Names.{IsModuleName, IsPortName, is_name_byte, is_dollar}
-use Rattle.port_tables.specs.declared.roles.Role.{Role}
-use Rattle.port_tables.specs.declared.roles.Role.TheVariants as role
+use Rattle.port_tables.specs.declared.roles.PortRole.{PortRole}
+use Rattle.port_tables.specs.declared.roles.PortRole.TheVariants as role
 use Rattle.port_tables.specs.Ports.{EndName, role_word, port_name}
 use Rattle.port_tables.proofs.Names.{IsNameText, port_name-split}
 
@@ -57,7 +57,7 @@ wider : (xs : List ℕ) → IsNameText xs → IsTrue (list_all in_port_name xs)
 wider [] h = refl
 wider (x ∷ xs) h = let parts = and_parts (is_name_byte x) _ h in and_from (in_port_name x) _ (or_left (is_name_byte x) _ parts.0) (wider xs parts.1)
 
-role_text : (r : Role) → IsNameText (role_word r)
+role_text : (r : PortRole) → IsNameText (role_word r)
 role_text role.Address = refl
 role_text role.Read = refl
 role_text role.Write = refl
@@ -79,7 +79,7 @@ role_text role.EndOfPacket = refl
 role_text role.Empty = refl
 role_text role.Dropped = refl
 
-pub port_name_is : (name : EndName) (r : Role) → IsName name.instance → IsName name.interface → IsPortName (port_name name (role_word r))
+pub port_name_is : (name : EndName) (r : PortRole) → IsName name.instance → IsName name.interface → IsPortName (port_name name (role_word r))
 port_name_is name r instance interface =
     subst IsPortName (sym (port_name-split name (role_word r))) (record {
       first = begins-append name.instance _ (name_first name.instance instance);

@@ -18,8 +18,8 @@ use Rattle.address_map.specs.Maps.{hosts_of, agents_of}
 use Rattle.link_rules.specs.Links.{streams_of}
 use Rattle.netlist.specs.declared.line.PortLine.{PortLine}
 use Rattle.netlist.specs.Signals.{port_named}
-use Rattle.port_tables.specs.declared.roles.Role.{Role}
-use Rattle.port_tables.specs.declared.roles.Role.TheVariants as role
+use Rattle.port_tables.specs.declared.roles.PortRole.{PortRole}
+use Rattle.port_tables.specs.declared.roles.PortRole.TheVariants as role
 use Rattle.port_tables.specs.declared.roles.RolePort.{RolePort}
 use Rattle.port_tables.specs.declared.port_table.PortEntry.{PortEntry}
 use Rattle.port_tables.specs.declared.port_table.PortMap.{PortMap}
@@ -70,7 +70,7 @@ entry_at system k line e =
 -- ---- roles by their words
 
 -- the role of a word
-abbrev role_of : List ℕ → Role
+abbrev role_of : List ℕ → PortRole
 role_of word =
     cond (bytes_eq word (codes "address")) role.Address
     (cond (bytes_eq word (codes "read")) role.Read
@@ -92,7 +92,7 @@ role_of word =
     (cond (bytes_eq word (codes "endofpacket")) role.EndOfPacket
     (cond (bytes_eq word (codes "empty")) role.Empty role.Dropped))))))))))))))))))
 
-role_of-word : (r : Role) → role_of (role_word r) ≡ r
+role_of-word : (r : PortRole) → role_of (role_word r) ≡ r
 role_of-word role.Address = refl
 role_of-word role.Read = refl
 role_of-word role.Write = refl
@@ -114,7 +114,7 @@ role_of-word role.EndOfPacket = refl
 role_of-word role.Empty = refl
 role_of-word role.Dropped = refl
 
-one_word : (r s : Role) → role_word r ≡ role_word s → r ≡ s
+one_word : (r s : PortRole) → role_word r ≡ role_word s → r ≡ s
 one_word r s e = sym (role_of-word r) ∙ ap role_of e ∙ role_of-word s
 
 -- ---- ports by their names
@@ -148,7 +148,7 @@ found_at ports k name e =
     let n : at.place ≡ k = (let m = at.number in omega (arith, m)) in
     record { port = at.port; is = subst (λ (i : ℕ). slice_get ports i ≡ Some at.port) n at.is; named = at.named }
 
-one_port : (system : SystemTable) (a b : EndId) (r s : Role) → IsPlanned system → Among a (ends_of system) → Among b (ends_of system)
+one_port : (system : SystemTable) (a b : EndId) (r s : PortRole) → IsPlanned system → Among a (ends_of system) → Among b (ends_of system)
     → port_name (name_at system a) (role_word r) ≡ port_name (name_at system b) (role_word s) → IsOneRole a b r s
 one_port system a b r s h k l e =
     let x = plan_end system a h k in
@@ -157,7 +157,7 @@ one_port system a b r s h k l e =
     record { end = one_end system a b x.known y.known h.kept x.is y.is one.instance one.interface; role = one_word r s one.word }
 
 -- a port stands for one end and one role
-pub one_role : (system : SystemTable) (a b : EndId) (r s : Role) (k : ℕ) → IsPlanned system → Among a (ends_of system) → Among b (ends_of system)
+pub one_role : (system : SystemTable) (a b : EndId) (r s : PortRole) (k : ℕ) → IsPlanned system → Among a (ends_of system) → Among b (ends_of system)
     → port_at system a r ≡ Some k → port_at system b s ≡ Some k → IsOneRole a b r s
 one_role system a b r s k h i j e f =
     let x = found_at (ports_of system) k _ e in
@@ -176,7 +176,7 @@ end_of_entry system k entry e =
     subst (λ (end : EndId). Among end (ends_of system)) (ap (λ (entry : PortEntry). entry.end) made.makes) from.among
 
 -- a port of the name is an entry of the end and the role
-pub entry_of_port : (system : SystemTable) (end : EndId) (r : Role) (k : ℕ) → IsPlanned system → Among end (ends_of system) → port_at system end r ≡ Some k → IsEntryAt (entries_of system) k end r
+pub entry_of_port : (system : SystemTable) (end : EndId) (r : PortRole) (k : ℕ) → IsPlanned system → Among end (ends_of system) → port_at system end r ≡ Some k → IsEntryAt (entries_of system) k end r
 entry_of_port system end r k h a e =
     let found = found_at (ports_of system) k _ e in
     let has = entry_at system k found.port found.is in
@@ -184,15 +184,15 @@ entry_of_port system end r k h a e =
     record { entry = has.entry; is = has.is; end_is = one.end; role_is = one.role }
 
 -- and an entry of them has the name
-port_of_entry : (system : SystemTable) (end : EndId) (r : Role) (k : ℕ) → IsPlanned system → IsEntryAt (entries_of system) k end r → port_at system end r ≡ Some k
+port_of_entry : (system : SystemTable) (end : EndId) (r : PortRole) (k : ℕ) → IsPlanned system → IsEntryAt (entries_of system) k end r → port_at system end r ≡ Some k
 port_of_entry system end r k h at =
     let line = line_at system k at.entry at.is in
     let named = named_at (ports_of system) k (line_of_entry system at.entry) (distinct_ports system h) line in
     ap (λ (e : EndId). port_named (ports_of system) (port_name (name_at system e) (role_word r))) (sym at.end_is)
-    ∙ ap (λ (s : Role). port_named (ports_of system) (port_name (name_at system at.entry.end) (role_word s))) (sym at.role_is)
+    ∙ ap (λ (s : PortRole). port_named (ports_of system) (port_name (name_at system at.entry.end) (role_word s))) (sym at.role_is)
     ∙ named
 
-pub place_is : (system : SystemTable) (entries : List PortEntry) (end : EndId) (r : Role) (place : Option ℕ) → IsPlanned system → entries ≡ entries_of system → Among end (ends_of system)
+pub place_is : (system : SystemTable) (entries : List PortEntry) (end : EndId) (r : PortRole) (place : Option ℕ) → IsPlanned system → entries ≡ entries_of system → Among end (ends_of system)
     → IsPlaceOf entries end r place → place ≡ port_at system end r
 place_is system entries end r (Some k) h e a at = sym (port_of_entry system end r k h (subst (λ (es : List PortEntry). IsEntryAt es k end r) e at))
 place_is system entries end r None h e a none = by_found (port_at system end r) refl
@@ -201,13 +201,13 @@ place_is system entries end r None h e a none = by_found (port_at system end r) 
     by_found None f = sym f
     by_found (Some k) f = absurd (none k (subst (λ (es : List PortEntry). IsEntryAt es k end r) (sym e) (entry_of_port system end r k h a f)))
 
-pub place_for : (system : SystemTable) (entries : List PortEntry) (end : EndId) (r : Option Role) (place : Option ℕ) → IsPlanned system → entries ≡ entries_of system → Among end (ends_of system)
+pub place_for : (system : SystemTable) (entries : List PortEntry) (end : EndId) (r : Option PortRole) (place : Option ℕ) → IsPlanned system → entries ≡ entries_of system → Among end (ends_of system)
     → IsPlaceFor entries end r place → place ≡ port_for system end r
 place_for system entries end None place h e a at = at
 place_for system entries end (Some r) place h e a at = place_is system entries end r place h e a at
 
 -- a port that is there is told by the number of its end
-pub told : (system : SystemTable) (ends : List EndId) (entries : List PortEntry) (number : ℕ) (end : EndId) (r : Role) (k : ℕ) → IsPlanned system → entries ≡ entries_of system
+pub told : (system : SystemTable) (ends : List EndId) (entries : List PortEntry) (number : ℕ) (end : EndId) (r : PortRole) (k : ℕ) → IsPlanned system → entries ≡ entries_of system
     → Among end (ends_of system) → slice_get ends number ≡ Some end → port_at system end r ≡ Some k → IsTold system end r (IsAtEnd ends entries number r)
 told system ends entries number end r k h e a at is =
     record {

@@ -9,7 +9,7 @@ ghost use Rattle.port_tables.specs.Ports.{name_at, port_name, has_bits, connecti
 ghost use Rattle.port_tables.specs.PortMaps.{entry_of, end_entries, entries_of, line_of_entry, AreSinks, IsMapOf, AreTold};
 
 use crate::port_table::{PortEntry, PortMap};
-use crate::roles::{Role, RolePort, agent_ports, host_ports, port, sink_ports, source_ports};
+use crate::roles::{PortRole, RolePort, agent_ports, host_ports, port, sink_ports, source_ports};
 use av_base::{List, NoMemory, Text};
 use iface_roles::{Finished, proper_records_are_bounded};
 use link_rules::Plan;
@@ -56,7 +56,7 @@ fn push_end(entries: &mut List<PortEntry>, plan: &Plan, end: EndId) -> Result<()
         Finished::Source(source) => push_ports(entries, end, true, &source_ports(&source)),
         Finished::Sink(sink) => {
             push_ports(entries, end, false, &sink_ports(&sink))?;
-            push_ports(entries, end, false, &[port(Role::Dropped, 1)])
+            push_ports(entries, end, false, &[port(PortRole::Dropped, 1)])
         }
         Finished::Other => Ok(()),
     }

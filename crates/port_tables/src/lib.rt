@@ -10,4 +10,4 @@ mod roles;
 pub use header::{start, stream_at};
 pub use laws::ports_are_known;
 pub use port_table::PortMap;
-pub use roles::Role;
+pub use roles::PortRole;

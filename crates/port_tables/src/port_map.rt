@@ -1,11 +1,11 @@
 ghost use Rattle.std.specs.Prelude.{◌≡◌, ◌↔◌, ℕ, IsTrue};
 ghost use Rattle.port_tables.specs.Ends.{IsAnEnd};
 ghost use Rattle.port_tables.specs.PortMaps.{entry_of, entries_of, port_at, module_role, IsPlaceOf, IsPlaceFor, IsAt};
-ghost use Rattle.port_tables.specs.declared.roles.Role.TheVariants.{Grant, Dropped};
+ghost use Rattle.port_tables.specs.declared.roles.PortRole.TheVariants.{Grant, Dropped};
 
 use crate::port_table::{PortEntry, PortMap};
-use crate::roles::{Role, RolePort};
-use iface_roles::Role as InterfaceRole;
+use crate::roles::{PortRole, RolePort};
+use iface_roles::Role;
 use link_rules::Plan;
 use system_tables::EndId;
 
@@ -20,7 +20,7 @@ impl PortEntry {
         }
     }
 
-    fn is_of(&self, end: EndId, role: Role) -> bool
+    fn is_of(&self, end: EndId, role: PortRole) -> bool
         ensures { IsTrue result ↔ ((self.now.end ≡ end) × (self.now.port.role ≡ role)) }
     {
         self.end == end && self.port.role == role
@@ -29,7 +29,7 @@ impl PortEntry {
 
 impl PortMap {
     /// The port of a role at an end; None where it has none.
-    fn find(&self, end: EndId, role: Role) -> Option<u32>
+    fn find(&self, end: EndId, role: PortRole) -> Option<u32>
         ensures { IsPlaceOf self.now.entries end role result }
     {
         for (place, entry) in self.entries.as_slice().iter().enumerate() {
@@ -41,7 +41,7 @@ impl PortMap {
     }
 
     /// The port of a role at an end, by its name in the header; None where the end has none.
-    pub fn port_at(&self, plan: &Plan, end: EndId, role: Role) -> Option<u32>
+    pub fn port_at(&self, plan: &Plan, end: EndId, role: PortRole) -> Option<u32>
         requires map { self.now.entries ≡ entries_of plan.now.system }
         requires end { IsAnEnd plan.now.system end }
         ensures { result ≡ port_at plan.now.system end role }
@@ -51,7 +51,7 @@ impl PortMap {
     }
 
     /// The port of a role at an end of the plan; None where its interface has no such port.
-    pub fn port(&self, end: EndId, role: InterfaceRole) -> Option<u32>
+    pub fn port(&self, end: EndId, role: Role) -> Option<u32>
         ensures { IsPlaceFor self.now.entries end (module_role role) result }
     {
         self.find(end, role_of_interface(role)?)
@@ -62,7 +62,7 @@ impl PortMap {
         requires { (place : ℕ) × IsAt self.now.agents self.now.entries agent Grant place }
         ensures { IsAt self.now.agents self.now.entries agent Grant result }
     {
-        self.at(self.agents.as_slice(), agent, Role::Grant)
+        self.at(self.agents.as_slice(), agent, PortRole::Grant)
     }
 
     /// The port `dropped` of a stream, by the stream's number in the plan.
@@ -70,11 +70,11 @@ impl PortMap {
         requires { (place : ℕ) × IsAt self.now.sinks self.now.entries stream Dropped place }
         ensures { IsAt self.now.sinks self.now.entries stream Dropped result }
     {
-        self.at(self.sinks.as_slice(), stream, Role::Dropped)
+        self.at(self.sinks.as_slice(), stream, PortRole::Dropped)
     }
 
     /// The port of a role at the end of this number.
-    fn at(&self, ends: &[EndId], number: u32, role: Role) -> u32
+    fn at(&self, ends: &[EndId], number: u32, role: PortRole) -> u32
         requires { (place : ℕ) × IsAt ends.now self.now.entries number role place }
         ensures { IsAt ends.now self.now.entries number role result }
     {
@@ -86,31 +86,29 @@ impl PortMap {
 }
 
 /// The role of the module's port for a role of an interface; None for those that no module has.
-fn role_of_interface(role: InterfaceRole) -> Option<Role>
+fn role_of_interface(role: Role) -> Option<PortRole>
     ensures { result ≡ module_role role }
 {
     match role {
-        InterfaceRole::Address => Some(Role::Address),
-        InterfaceRole::Read => Some(Role::Read),
-        InterfaceRole::Write => Some(Role::Write),
-        InterfaceRole::WriteData => Some(Role::WriteData),
-        InterfaceRole::ByteEnable => Some(Role::ByteEnable),
-        InterfaceRole::BurstCount => Some(Role::BurstCount),
-        InterfaceRole::WaitRequest => Some(Role::WaitRequest),
-        InterfaceRole::ReadData => Some(Role::ReadData),
-        InterfaceRole::ReadDataValid => Some(Role::ReadDataValid),
-        InterfaceRole::Response => Some(Role::Response),
-        InterfaceRole::WriteResponseValid
-        | InterfaceRole::Lock
-        | InterfaceRole::DebugAccess
-        | InterfaceRole::BeginBurstTransfer => None,
-        InterfaceRole::Ready => Some(Role::Ready),
-        InterfaceRole::Valid => Some(Role::Valid),
-        InterfaceRole::Data => Some(Role::Data),
-        InterfaceRole::Channel => Some(Role::Channel),
-        InterfaceRole::Error => Some(Role::Error),
-        InterfaceRole::StartOfPacket => Some(Role::StartOfPacket),
-        InterfaceRole::EndOfPacket => Some(Role::EndOfPacket),
-        InterfaceRole::Empty => Some(Role::Empty),
+        Role::Address => Some(PortRole::Address),
+        Role::Read => Some(PortRole::Read),
+        Role::Write => Some(PortRole::Write),
+        Role::WriteData => Some(PortRole::WriteData),
+        Role::ByteEnable => Some(PortRole::ByteEnable),
+        Role::BurstCount => Some(PortRole::BurstCount),
+        Role::WaitRequest => Some(PortRole::WaitRequest),
+        Role::ReadData => Some(PortRole::ReadData),
+        Role::ReadDataValid => Some(PortRole::ReadDataValid),
+        Role::Response => Some(PortRole::Response),
+        Role::WriteResponseValid | Role::Lock | Role::DebugAccess | Role::BeginBurstTransfer =>
+            None,
+        Role::Ready => Some(PortRole::Ready),
+        Role::Valid => Some(PortRole::Valid),
+        Role::Data => Some(PortRole::Data),
+        Role::Channel => Some(PortRole::Channel),
+        Role::Error => Some(PortRole::Error),
+        Role::StartOfPacket => Some(PortRole::StartOfPacket),
+        Role::EndOfPacket => Some(PortRole::EndOfPacket),
+        Role::Empty => Some(PortRole::Empty),
     }
 }

@@ -6,7 +6,7 @@ use iface_roles::{AgentPort, HostPort, SinkPort, SourcePort};
 
 /// What a port of the module is for. The order is that of ports in a header.
 #[derive(Clone, Copy, Debug, PartialEq, Eq)]
-pub enum Role {
+pub enum PortRole {
     Address,
     Read,
     Write,
@@ -34,35 +34,35 @@ pub enum Role {
 /// A port that an end may have: its role, and its width in bits, 0 where it isn't there.
 #[derive(Clone, Copy, Debug, PartialEq, Eq)]
 pub(crate) struct RolePort {
-    pub role: Role,
+    pub role: PortRole,
     pub width: u8,
 }
 
-impl Role {
+impl PortRole {
     pub(crate) fn word<'a>(self) -> &'a str
         ensures { result.now ≡ role_word self }
     {
         match self {
-            Role::Address => "address",
-            Role::Read => "read",
-            Role::Write => "write",
-            Role::WriteData => "writedata",
-            Role::ByteEnable => "byteenable",
-            Role::BurstCount => "burstcount",
-            Role::WaitRequest => "waitrequest",
-            Role::ReadData => "readdata",
-            Role::ReadDataValid => "readdatavalid",
-            Role::Response => "response",
-            Role::Grant => "grant",
-            Role::Ready => "ready",
-            Role::Valid => "valid",
-            Role::Data => "data",
-            Role::Channel => "channel",
-            Role::Error => "error",
-            Role::StartOfPacket => "startofpacket",
-            Role::EndOfPacket => "endofpacket",
-            Role::Empty => "empty",
-            Role::Dropped => "dropped",
+            PortRole::Address => "address",
+            PortRole::Read => "read",
+            PortRole::Write => "write",
+            PortRole::WriteData => "writedata",
+            PortRole::ByteEnable => "byteenable",
+            PortRole::BurstCount => "burstcount",
+            PortRole::WaitRequest => "waitrequest",
+            PortRole::ReadData => "readdata",
+            PortRole::ReadDataValid => "readdatavalid",
+            PortRole::Response => "response",
+            PortRole::Grant => "grant",
+            PortRole::Ready => "ready",
+            PortRole::Valid => "valid",
+            PortRole::Data => "data",
+            PortRole::Channel => "channel",
+            PortRole::Error => "error",
+            PortRole::StartOfPacket => "startofpacket",
+            PortRole::EndOfPacket => "endofpacket",
+            PortRole::Empty => "empty",
+            PortRole::Dropped => "dropped",
         }
     }
 
@@ -72,7 +72,11 @@ impl Role {
     {
         !matches!(
             self,
-            Role::WaitRequest | Role::ReadData | Role::ReadDataValid | Role::Response | Role::Ready
+            PortRole::WaitRequest
+                | PortRole::ReadData
+                | PortRole::ReadDataValid
+                | PortRole::Response
+                | PortRole::Ready
         )
     }
 
@@ -88,7 +92,7 @@ impl Role {
     }
 }
 
-pub(crate) const fn port(role: Role, width: u8) -> RolePort
+pub(crate) const fn port(role: PortRole, width: u8) -> RolePort
     ensures { result ≡ port_of role width }
 {
     RolePort { role, width }
@@ -108,16 +112,16 @@ pub(crate) fn host_ports(host: &HostPort) -> [RolePort; 10]
 {
     let word = 8 * host.word_bytes;
     [
-        port(Role::Address, host.address_bits),
-        port(Role::Read, bits_if(host.reads, 1)),
-        port(Role::Write, bits_if(host.writes, 1)),
-        port(Role::WriteData, bits_if(host.writes, word)),
-        port(Role::ByteEnable, bits_if(host.enables, host.word_bytes)),
-        port(Role::BurstCount, host.burst_bits),
-        port(Role::WaitRequest, bits_if(host.waitrequest, 1)),
-        port(Role::ReadData, bits_if(host.reads, word)),
-        port(Role::ReadDataValid, bits_if(host.readdatavalid, 1)),
-        port(Role::Response, bits_if(host.response, 2)),
+        port(PortRole::Address, host.address_bits),
+        port(PortRole::Read, bits_if(host.reads, 1)),
+        port(PortRole::Write, bits_if(host.writes, 1)),
+        port(PortRole::WriteData, bits_if(host.writes, word)),
+        port(PortRole::ByteEnable, bits_if(host.enables, host.word_bytes)),
+        port(PortRole::BurstCount, host.burst_bits),
+        port(PortRole::WaitRequest, bits_if(host.waitrequest, 1)),
+        port(PortRole::ReadData, bits_if(host.reads, word)),
+        port(PortRole::ReadDataValid, bits_if(host.readdatavalid, 1)),
+        port(PortRole::Response, bits_if(host.response, 2)),
     ]
 }
 
@@ -128,17 +132,20 @@ pub(crate) fn agent_ports(agent: &AgentPort) -> [RolePort; 11]
 {
     let word = 8 * agent.word_bytes;
     [
-        port(Role::Address, agent.address_bits),
-        port(Role::Read, bits_if(agent.reads, 1)),
-        port(Role::Write, bits_if(agent.writes, 1)),
-        port(Role::WriteData, bits_if(agent.writes, word)),
-        port(Role::ByteEnable, bits_if(agent.enables, agent.word_bytes)),
-        port(Role::BurstCount, agent.burst_bits),
-        port(Role::WaitRequest, bits_if(agent.waitrequest, 1)),
-        port(Role::ReadData, bits_if(agent.reads, word)),
-        port(Role::ReadDataValid, bits_if(agent.readdatavalid, 1)),
-        port(Role::Response, bits_if(agent.response, 2)),
-        port(Role::Grant, 4),
+        port(PortRole::Address, agent.address_bits),
+        port(PortRole::Read, bits_if(agent.reads, 1)),
+        port(PortRole::Write, bits_if(agent.writes, 1)),
+        port(PortRole::WriteData, bits_if(agent.writes, word)),
+        port(
+            PortRole::ByteEnable,
+            bits_if(agent.enables, agent.word_bytes),
+        ),
+        port(PortRole::BurstCount, agent.burst_bits),
+        port(PortRole::WaitRequest, bits_if(agent.waitrequest, 1)),
+        port(PortRole::ReadData, bits_if(agent.reads, word)),
+        port(PortRole::ReadDataValid, bits_if(agent.readdatavalid, 1)),
+        port(PortRole::Response, bits_if(agent.response, 2)),
+        port(PortRole::Grant, 4),
     ]
 }
 
@@ -148,17 +155,17 @@ pub(crate) fn source_ports(source: &SourcePort) -> [RolePort; 8]
     ensures { result ≡ stream_ports (declared source.now) }
 {
     [
-        port(Role::Ready, bits_if(source.ready, 1)),
-        port(Role::Valid, 1),
+        port(PortRole::Ready, bits_if(source.ready, 1)),
+        port(PortRole::Valid, 1),
         port(
-            Role::Data,
+            PortRole::Data,
             (u16::from(source.symbols) * source.symbol_bits) as u8,
         ),
-        port(Role::Channel, source.channel_bits),
-        port(Role::Error, source.error_bits),
-        port(Role::StartOfPacket, bits_if(source.packets, 1)),
-        port(Role::EndOfPacket, bits_if(source.packets, 1)),
-        port(Role::Empty, source.empty_bits),
+        port(PortRole::Channel, source.channel_bits),
+        port(PortRole::Error, source.error_bits),
+        port(PortRole::StartOfPacket, bits_if(source.packets, 1)),
+        port(PortRole::EndOfPacket, bits_if(source.packets, 1)),
+        port(PortRole::Empty, source.empty_bits),
     ]
 }
 
@@ -168,16 +175,16 @@ pub(crate) fn sink_ports(sink: &SinkPort) -> [RolePort; 8]
     ensures { result ≡ stream_ports (declared sink.now) }
 {
     [
-        port(Role::Ready, bits_if(sink.ready, 1)),
-        port(Role::Valid, 1),
+        port(PortRole::Ready, bits_if(sink.ready, 1)),
+        port(PortRole::Valid, 1),
         port(
-            Role::Data,
+            PortRole::Data,
             (u16::from(sink.symbols) * sink.symbol_bits) as u8,
         ),
-        port(Role::Channel, sink.channel_bits),
-        port(Role::Error, sink.error_bits),
-        port(Role::StartOfPacket, bits_if(sink.packets, 1)),
-        port(Role::EndOfPacket, bits_if(sink.packets, 1)),
-        port(Role::Empty, sink.empty_bits),
+        port(PortRole::Channel, sink.channel_bits),
+        port(PortRole::Error, sink.error_bits),
+        port(PortRole::StartOfPacket, bits_if(sink.packets, 1)),
+        port(PortRole::EndOfPacket, bits_if(sink.packets, 1)),
+        port(PortRole::Empty, sink.empty_bits),
     ]
 }

@@ -1,5 +1,5 @@
 use Rattle.std.proofs.Common.{arith}
-use Rattle.port_tables.specs.declared.roles.Role.TheVariants as role
+use Rattle.port_tables.specs.declared.roles.PortRole.TheVariants as role
 use Rattle.interconnect.proofs.Driving.{is_an_end}
 use Rattle.interconnect.proofs.MemoryJoins.{agent_among, link_agent, input_there}
 use Rattle.interconnect.proofs.memory.agent_nets.Goals as goal

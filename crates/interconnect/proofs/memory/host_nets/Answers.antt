@@ -1,5 +1,5 @@
 use Rattle.std.proofs.Common.{◌+◌, arith}
-use Rattle.port_tables.specs.declared.roles.Role.TheVariants as role
+use Rattle.port_tables.specs.declared.roles.PortRole.TheVariants as role
 use Rattle.interconnect.proofs.Driving.{is_an_end}
 use Rattle.interconnect.proofs.MemoryJoins.{host_among, link_host, input_there, enables_input}
 use Rattle.interconnect.proofs.memory.host_nets.Goals as goal

@@ -1,13 +1,13 @@
 use Rattle.std.proofs.Common.{◌≡◌, ℕ, List, get_or, sym, subst}
 use Rattle.std.proofs.lemmas.Option.{get_or_from_slice_get}
 use Rattle.system_tables.specs.declared.tables.EndId.{EndId}
-use Rattle.port_tables.specs.declared.roles.Role.{Role}
+use Rattle.port_tables.specs.declared.roles.PortRole.{PortRole}
 use Rattle.port_tables.specs.declared.port_table.PortEntry.{PortEntry}
 use Rattle.port_tables.specs.PortMaps.{IsEntryAt, IsAt}
 use Rattle.port_tables.proofs.port_table.PortMap.at.Goals as goal
 
 -- the end that was read
-read : (ends : List EndId) (entries : List PortEntry) (number : ℕ) (role : Role) (place : ℕ) (d : EndId) (h : IsAt ends entries number role place) → get_or ends number d ≡ h.end
+read : (ends : List EndId) (entries : List PortEntry) (number : ℕ) (role : PortRole) (place : ℕ) (d : EndId) (h : IsAt ends entries number role place) → get_or ends number d ≡ h.end
 read ends entries number role place d h = get_or_from_slice_get ends number h.end d h.end_is
 
 pub unreachable-requires : goal.unreachable-requires

@@ -2,14 +2,14 @@ use Rattle.std.proofs.Common.{◌≡◌, inl, inr, ℕ, List, Some, slice_get, g
 use Rattle.std.proofs.lemmas.Bool.{false≢true}
 use Rattle.std.proofs.lemmas.Option.{slice_get_within, slice_get-get_or}
 use Rattle.system_tables.specs.declared.tables.EndId.{EndId}
-use Rattle.port_tables.specs.declared.roles.Role.{Role}
+use Rattle.port_tables.specs.declared.roles.PortRole.{PortRole}
 use Rattle.port_tables.specs.declared.port_table.PortEntry.{PortEntry}
 use Rattle.port_tables.specs.PortMaps.{IsEntryAt}
 use Rattle.port_tables.specs.Lists.{nat_less}
 use Rattle.port_tables.proofs.port_table.PortMap.find.Goals as goal
 
 -- an entry that isn't of the end and the role
-not_at : (entries items : List PortEntry) (k : ℕ) (d : PortEntry) (end : EndId) (role : Role) → items ≡ entries → ((get_or items k d).end ≡ end × (get_or items k d).port.role ≡ role → ⊥) → IsEntryAt entries k end role → ⊥
+not_at : (entries items : List PortEntry) (k : ℕ) (d : PortEntry) (end : EndId) (role : PortRole) → items ≡ entries → ((get_or items k d).end ≡ end × (get_or items k d).port.role ≡ role → ⊥) → IsEntryAt entries k end role → ⊥
 not_at entries items k d end role e other at =
     let below = slice_get_within entries k at.entry at.is in
     let same = ap length e in
