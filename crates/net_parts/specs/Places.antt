@@ -68,3 +68,8 @@ pub record PlacesMove {X : Type 0} (before after : List (Place X)) (gives comes 
   pub end : Place X
   pub empty : end.full ≡ false
   pub is : after ≡ shift_row gives end (fill_row comes comes item before)
+
+-- the bits of a queue: there is room where the last place is empty, and an item comes where one is shown and there is room
+pub record AreQueueBits (last shown room comes : Bool) : Type 0 where
+  pub room_is : room ≡ not last
+  pub comes_is : comes ≡ (shown && room)

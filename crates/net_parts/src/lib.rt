@@ -1,11 +1,13 @@
 //! Parts that every adapter makes of nets: constants, fitted words, comparisons, counts and registers.
 #![tactic(auto)]
 
+mod bits;
 mod counts;
 mod groups;
 mod histories;
 mod makers;
 
+pub use bits::{QueueBits, gives_item, queue_bits};
 pub use counts::{add_bit, count_high};
 pub use groups::{choose_all, low_registers, set_all_next};
 pub use histories::{bit_before, make_history, set_history};

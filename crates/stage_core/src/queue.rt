@@ -8,15 +8,16 @@ ghost use Rattle.netlist.specs.Netlists.{IsWaiting};
 ghost use Rattle.netlist.specs.Runs.{Always};
 ghost use Rattle.net_parts.specs.Nets.{IsBit};
 ghost use Rattle.stage_core.specs.Beats.{AreBeatNets};
-ghost use Rattle.net_parts.specs.Growth.{GrowsBy, AddsNets, WaitsWithout};
+ghost use Rattle.net_parts.specs.Growth.{GrowsBy, WaitsWithout};
 ghost use Rattle.stage_core.specs.RegisterNets.{IsBufferShape};
 ghost use Rattle.stage_core.specs.Rows.{AreInRow, InRow};
-ghost use Rattle.stage_core.specs.QueueBits.{AreQueueBits, SetsQueue};
+ghost use Rattle.stage_core.specs.QueueBits.{SetsQueue};
 ghost use Rattle.stage_core.specs.QueueNets.{QueueKeeps, QueueForward, QueueBackward, queue_keeps_lasts, queue_forward_lasts, queue_backward_lasts};
 
 use crate::beat::BeatNets;
 use crate::rows::{last_valid, make_places, set_places, show_first};
 use crate::stage::Stage;
+use net_parts::queue_bits;
 use netlist::{Builder, Net, NetFault};
 use std::alloc::Global;
 use stream_machines::machines::queue_is_a_stage;
@@ -43,31 +44,6 @@ impl Fifo {
 pub struct FifoKept {
     pub places: Vec<BeatNets>,
     pub from: BeatNets,
-}
-
-/// The bits that say what a queue takes in a cycle.
-#[derive(Clone, Copy, Debug)]
-struct QueueBits {
-    /// There is an empty place.
-    room: Net,
-    /// A beat comes in.
-    comes: Net,
-}
-
-/// The bits of a queue from `valid` of its last place and `valid` upstream.
-#[tactic(auto, using(net_parts::specs::Laws::growing))]
-fn queue_bits(builder: &mut Builder, last: Net, shown: Net) -> Result<QueueBits, NetFault>
-    requires last { IsBit builder.old last }
-    requires shown { IsBit builder.old shown }
-    ensures room { IfOk result (λ bits. IsBit builder.new bits.room) }
-    ensures comes { IfOk result (λ bits. IsBit builder.new bits.comes) }
-    ensures value { IfOk result (λ bits. Always builder.new (λ cycle. AreQueueBits (cycle.net last.number == 1) (cycle.net shown.number == 1) (cycle.net bits.room.number == 1) (cycle.net bits.comes.number == 1))) }
-    ensures adds { AddsNets 2 builder.old builder.new }
-    ensures full { result ≡ Err NetFault.TooManyNets → 2 ^ 20 < length builder.old.lines + 2 }
-{
-    let room = builder.not(last)?;
-    let comes = builder.and(shown, room)?;
-    Ok(QueueBits { room, comes })
 }
 
 /// Gives the places of a queue, which has one at least, their next nets.

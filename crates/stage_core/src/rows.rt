@@ -13,6 +13,7 @@ ghost use Rattle.net_parts.specs.Places.{first_or, filled, fill_row};
 use crate::beat::BeatNets;
 use crate::makers::{mux_beat, reg_beat, set_next_beat};
 use av_base::Val;
+use net_parts::gives_item;
 use netlist::{Builder, Net, NetFault};
 use std::alloc::Global;
 
@@ -124,21 +125,6 @@ fn end_place(builder: &mut Builder, from: &BeatNets) -> Result<BeatNets, NetFaul
     })
 }
 
-/// A beat goes where one is held in the first place or shown upstream, and ready is high.
-#[tactic(auto, using(net_parts::specs::Laws::growing))]
-fn gives_beat(builder: &mut Builder, first: Net, shown: Net, ready: Net) -> Result<Net, NetFault>
-    requires first { IsBit builder.old first }
-    requires shown { IsBit builder.old shown }
-    requires ready { IsBit builder.old ready }
-    ensures net { IfOk result (λ gives. IsBit builder.new gives) }
-    ensures value { IfOk result (λ gives. Always builder.new (λ cycle. (cycle.net gives.number == 1) ≡ (((cycle.net first.number == 1) || (cycle.net shown.number == 1)) && (cycle.net ready.number == 1)))) }
-    ensures adds { AddsNets 2 builder.old builder.new }
-    ensures full { result ≡ Err NetFault.TooManyNets → 2 ^ 20 < length builder.old.lines + 2 }
-{
-    let some = builder.or(first, shown)?;
-    builder.and(some, ready)
-}
-
 /// Gives the places of a row their next nets, where `comes` says whether a beat comes.
 #[tactic(auto, using(net_parts::specs::Laws::growing))]
 pub fn set_places(
@@ -161,7 +147,7 @@ pub fn set_places(
     match row.split_first() {
         None => Ok(()),
         Some((first, _)) => {
-            let shift = gives_beat(builder, first.valid, from.valid, ready)?;
+            let shift = gives_item(builder, first.valid, from.valid, ready)?;
             let end = end_place(builder, from)?;
             let filled = fill_place(builder, first, comes, from)?;
             set_row(builder, row, &filled, comes, shift, from, &end)

@@ -23,24 +23,24 @@ returns-in-None-clause-no_more_wait c n w = (w, λ o. subst (λ (row : List Beat
 
 -- ---- some places
 
-pub gives_beat-requires-clause-first : goal.gives_beat-requires-clause-first
-gives_beat-requires-clause-first c =
+pub gives_item-requires-clause-first : goal.gives_item-requires-clause-first
+gives_item-requires-clause-first c =
     let h = subst (λ (row : List BeatNets). IsRow c.args.builder.now c.args.from.now c.requires.row.start row) c.in-Some.ensures.cases.0 c.requires.row.is_row in
     h.0.nets_are.valid
 
 pub end_place-requires : goal.end_place-requires
-end_place-requires c = beat_lasts _ _ _ c.gives_beat.ensures.adds.grows.extends c.requires.from
+end_place-requires c = beat_lasts _ _ _ c.gives_item.ensures.adds.grows.extends c.requires.from
 
 pub fill_place-requires-clause-place : goal.fill_place-requires-clause-place
 fill_place-requires-clause-place c =
     let h = subst (λ (row : List BeatNets). IsRow c.args.builder.now c.args.from.now c.requires.row.start row) c.in-Some.ensures.cases.0 c.requires.row.is_row in
-    beat_lasts _ _ _ (extends_twice _ _ _ c.gives_beat.ensures.adds.grows.extends c.end_place.ensures.adds.grows.extends) h.0.nets_are
+    beat_lasts _ _ _ (extends_twice _ _ _ c.gives_item.ensures.adds.grows.extends c.end_place.ensures.adds.grows.extends) h.0.nets_are
 
 pub fill_place-requires-clause-here : goal.fill_place-requires-clause-here
-fill_place-requires-clause-here c = net_lasts _ _ _ _ (extends_twice _ _ _ c.gives_beat.ensures.adds.grows.extends c.end_place.ensures.adds.grows.extends) c.requires.comes
+fill_place-requires-clause-here c = net_lasts _ _ _ _ (extends_twice _ _ _ c.gives_item.ensures.adds.grows.extends c.end_place.ensures.adds.grows.extends) c.requires.comes
 
 pub fill_place-requires-clause-from : goal.fill_place-requires-clause-from
-fill_place-requires-clause-from c = beat_lasts _ _ _ (extends_twice _ _ _ c.gives_beat.ensures.adds.grows.extends c.end_place.ensures.adds.grows.extends) c.requires.from
+fill_place-requires-clause-from c = beat_lasts _ _ _ (extends_twice _ _ _ c.gives_item.ensures.adds.grows.extends c.end_place.ensures.adds.grows.extends) c.requires.from
 
 pub fill_place-requires-clause-widths : goal.fill_place-requires-clause-widths
 fill_place-requires-clause-widths c =
@@ -48,29 +48,29 @@ fill_place-requires-clause-widths c =
     h.0.widths
 
 pub set_row-requires-clause-row : goal.set_row-requires-clause-row
-set_row-requires-clause-row c = row_here _ _ _ _ (extends_twice _ _ _ (extends_twice _ _ _ c.gives_beat.ensures.adds.grows.extends c.end_place.ensures.adds.grows.extends) c.fill_place.ensures.adds.grows.extends) (λ n o w. c.fill_place.ensures.adds.grows.waits n (c.end_place.ensures.adds.grows.waits n (c.gives_beat.ensures.adds.grows.waits n w))) c.requires.row
+set_row-requires-clause-row c = row_here _ _ _ _ (extends_twice _ _ _ (extends_twice _ _ _ c.gives_item.ensures.adds.grows.extends c.end_place.ensures.adds.grows.extends) c.fill_place.ensures.adds.grows.extends) (λ n o w. c.fill_place.ensures.adds.grows.waits n (c.end_place.ensures.adds.grows.waits n (c.gives_item.ensures.adds.grows.waits n w))) c.requires.row
 
 pub set_row-requires-clause-comes : goal.set_row-requires-clause-comes
-set_row-requires-clause-comes c = net_lasts _ _ _ _ (extends_twice _ _ _ (extends_twice _ _ _ c.gives_beat.ensures.adds.grows.extends c.end_place.ensures.adds.grows.extends) c.fill_place.ensures.adds.grows.extends) c.requires.comes
+set_row-requires-clause-comes c = net_lasts _ _ _ _ (extends_twice _ _ _ (extends_twice _ _ _ c.gives_item.ensures.adds.grows.extends c.end_place.ensures.adds.grows.extends) c.fill_place.ensures.adds.grows.extends) c.requires.comes
 
 pub set_row-requires-clause-shift : goal.set_row-requires-clause-shift
 set_row-requires-clause-shift c = net_lasts _ _ _ _ (extends_twice _ _ _ c.end_place.ensures.adds.grows.extends c.fill_place.ensures.adds.grows.extends) c.in_ok-shift-in-Some.ensures.net
 
 pub set_row-requires-clause-from : goal.set_row-requires-clause-from
-set_row-requires-clause-from c = beat_lasts _ _ _ (extends_twice _ _ _ (extends_twice _ _ _ c.gives_beat.ensures.adds.grows.extends c.end_place.ensures.adds.grows.extends) c.fill_place.ensures.adds.grows.extends) c.requires.from
+set_row-requires-clause-from c = beat_lasts _ _ _ (extends_twice _ _ _ (extends_twice _ _ _ c.gives_item.ensures.adds.grows.extends c.end_place.ensures.adds.grows.extends) c.fill_place.ensures.adds.grows.extends) c.requires.from
 
 pub set_row-requires-clause-end : goal.set_row-requires-clause-end
 set_row-requires-clause-end c = beat_lasts _ _ _ c.fill_place.ensures.adds.grows.extends c.in_ok-end-in-Some.ensures.beat
 
 pub returns-in_ok-filled-in-Some-clause-waits : goal.returns-in_ok-filled-in-Some-clause-waits
-returns-in_ok-filled-in-Some-clause-waits c n apart w = c.set_row.ensures.waits n apart (c.fill_place.ensures.adds.grows.waits n (c.end_place.ensures.adds.grows.waits n (c.gives_beat.ensures.adds.grows.waits n w)))
+returns-in_ok-filled-in-Some-clause-waits c n apart w = c.set_row.ensures.waits n apart (c.fill_place.ensures.adds.grows.waits n (c.end_place.ensures.adds.grows.waits n (c.gives_item.ensures.adds.grows.waits n w)))
 
 pub returns-in_ok-filled-in-Some-clause-no_more_wait : goal.returns-in_ok-filled-in-Some-clause-no_more_wait
 returns-in_ok-filled-in-Some-clause-no_more_wait c =
     on_ok c.set_row.result _ (WaitsWithout (InRow c.args.row.now) c.args.builder.now c.set_row.new.builder)
     (λ out n w. (
     let set = out n w in
-    (c.gives_beat.ensures.adds.grows.no_more_wait n (c.end_place.ensures.adds.grows.no_more_wait n (c.fill_place.ensures.adds.grows.no_more_wait n set.0)), set.1)))
+    (c.gives_item.ensures.adds.grows.no_more_wait n (c.end_place.ensures.adds.grows.no_more_wait n (c.fill_place.ensures.adds.grows.no_more_wait n set.0)), set.1)))
     c.set_row.ensures.no_more_wait
 
 pub returns-in_ok-filled-in-Some-clause-steps : goal.returns-in_ok-filled-in-Some-clause-steps

@@ -2,7 +2,7 @@ use Rattle.std.proofs.Common.{◌∙◌}
 use Rattle.net_parts.specs.Nets.{IsBit}
 use Rattle.net_parts.specs.Laws.{bit_fits}
 use Rattle.net_parts.specs.Bits.{high_turned, high_and}
-use Rattle.stage_core.proofs.queue.queue_bits.Goals as goal
+use Rattle.net_parts.proofs.bits.queue_bits.Goals as goal
 
 pub returns-clause-value : goal.returns-clause-value
 returns-clause-value c cycle v2 =

@@ -3,7 +3,7 @@ use Rattle.netlist.specs.Runs.{Always}
 use Rattle.net_parts.specs.Nets.{IsBit}
 use Rattle.net_parts.specs.Laws.{bit_fits, if_ok}
 use Rattle.net_parts.specs.Bits.{high_and, high_or}
-use Rattle.stage_core.proofs.rows.gives_beat.Goals as goal
+use Rattle.net_parts.proofs.bits.gives_item.Goals as goal
 
 pub returns-clause-value : goal.returns-clause-value
 returns-clause-value c =
