@@ -1,6 +1,7 @@
 -- A group of nets, as the signals of one command, one answer or one beat: registers, a choice and next nets of all at once.
-use Rattle.std.specs.Prelude.{◌≡◌, ℕ, ◌+◌, ◌<◌, ◌≤◌, ◌==◌, ◌⊎◌, if◌then◌else◌, List, [], ◌∷◌, length, map}
-use Rattle.std.proofs.Common.{inl, inr, arith}
+use Rattle.std.specs.Prelude.{◌≡◌, ℕ, ◌+◌, ◌<◌, ◌≤◌, Bool, true, false, ◌==◌, ◌⊎◌, if◌then◌else◌, List, [], ◌∷◌, length, map}
+use Rattle.std.proofs.Common.{refl, sym, ◌∙◌, inl, inr, arith}
+use Rattle.std.proofs.lemmas.Bool.{eqb-true, eqb-false}
 use Rattle.netlist.specs.Nets.{NetValue}
 use Rattle.netlist.specs.Netlists.{Netlist, IsNet, IsWaiting}
 use Rattle.netlist.specs.Runs.{Cycle, Run, cycle_of, IsRun, Always}
@@ -66,3 +67,12 @@ pub in_row : (from : ℕ) (group : List NetValue) → AreNumberedFrom from group
 in_row from [] h n o = absurd o
 in_row from (net ∷ group) h n (inl e) = record { least = (let at = h.0 in omega (arith, at, e)); below = (let at = h.0 in omega (arith, at, e)) }
 in_row from (net ∷ group) h n (inr o) = let rest = in_row (from + 1) group h.1 n o in record { least = (let low = rest.least in omega arith); below = (let high = rest.below in omega arith) }
+
+-- a number in a row is one of the group
+pub of_row : (from : ℕ) (group : List NetValue) → AreNumberedFrom from group → (n : ℕ) → IsInRow from (length group) n → InGroup group n
+of_row from [] h n o = absurd (let low = o.least in let high = o.below in omega arith)
+of_row from (net ∷ group) h n o = by_first (of_row (from + 1) group h.1 n) (n == from) refl
+  where
+    by_first : (IsInRow (from + 1) (length group) n → InGroup group n) → (t : Bool) → (n == from) ≡ t → InGroup (net ∷ group) n
+    by_first rest true e = inl (eqb-true n from e ∙ sym h.0)
+    by_first rest false e = inr (rest (record { least = (let low = o.least in let apart = eqb-false n from e in omega (arith, apart)); below = (let high = o.below in omega arith) }))

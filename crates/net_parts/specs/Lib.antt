@@ -9,3 +9,5 @@ pub mod Fitting
 pub mod Groups
 pub mod Places
 pub mod PlaceLaws
+pub mod PlaceRows
+pub mod RowLaws

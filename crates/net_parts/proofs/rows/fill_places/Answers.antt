@@ -1,0 +1,24 @@
+use Rattle.std.proofs.Common.{◌≡◌, ◌+◌, ◌<◌, List, length, take, subst, sym, arith}
+use Rattle.std.proofs.lemmas.List.{take_all, take_more_set}
+use Rattle.net_parts.specs.declared.places.PlaceNets.{PlaceNets}
+use Rattle.net_parts.specs.PlaceRows.{IsRow, row_end}
+use Rattle.net_parts.specs.RowLaws.{AreMade, made_more, place_lasts, row_numbers}
+use Rattle.net_parts.proofs.rows.fill_places.Goals as goal
+
+pub low_place-requires : goal.low_place-requires
+low_place-requires g c = ((let few = c.requires.few in omega arith), (c.requires.few, place_lasts _ _ _ c.loop-place.invariant.grows.extends c.requires.like))
+
+pub loop-place-preserved : goal.loop-place-preserved
+loop-place-preserved g c =
+    let below : c.loop-place.place-index < length c.loop-place.places = omega arith in
+    subst (λ (row : List (PlaceNets g.row.N)). AreMade c.args.builder.now c.low_place.new.builder c.args.like.now row (c.loop-place.place-index + 1)) (sym (take_more_set c.loop-place.places c.loop-place.place-index c.in_ok-place.field-0 below))
+    (made_more c.args.builder.now c.loop-place.builder c.low_place.new.builder c.args.like.now c.in_ok-place.field-0 (take c.loop-place.place-index c.loop-place.places) c.loop-place.place-index c.loop-place.invariant
+    c.low_place.ensures.grows c.low_place.ensures.still_wait c.in_ok-place.ensures.newly c.in_ok-place.ensures.place c.in_ok-place.ensures.count c.in_ok-place.ensures.starts)
+
+pub returns-clause-made : goal.returns-clause-made
+returns-clause-made g c n o =
+    let all : take c.loop-place.place-index c.loop-place.places ≡ c.loop-place.places = take_all c.loop-place.place-index c.loop-place.places (omega arith) in
+    let row = subst (λ (places : List (PlaceNets g.row.N)). IsRow c.loop-place.builder c.args.like.now (length c.args.builder.now.lines) places) all c.loop-place.invariant.row in
+    let at = row_numbers _ _ _ _ row n o in
+    let lines : length c.loop-place.builder.lines ≡ row_end (length c.args.builder.now.lines) c.loop-place.places = subst (λ (places : List (PlaceNets g.row.N)). length c.loop-place.builder.lines ≡ row_end (length c.args.builder.now.lines) places) all c.loop-place.invariant.lines in
+    (at.0, omega (arith, at.1, lines))

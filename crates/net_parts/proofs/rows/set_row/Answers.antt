@@ -1,0 +1,57 @@
+use Rattle.std.proofs.Common.{List, refl, sym, subst, ◌∙◌, arith}
+use Rattle.std.proofs.lemmas.List.{nil_from_length}
+use Rattle.net_parts.specs.declared.places.PlaceNets.{PlaceNets}
+use Rattle.net_parts.specs.Laws.{net_lasts, extends_twice, extends_none}
+use Rattle.net_parts.specs.PlaceRows.{RowMoves}
+use Rattle.net_parts.specs.RowLaws.{AreSet, place_lasts, numbered_here, set_more}
+use Rattle.net_parts.proofs.rows.set_row.Goals as goal
+
+pub fill_next-requires : goal.fill_next-requires
+fill_next-requires g c =
+    let h = subst (λ (rest : List (PlaceNets g.row.N)). AreSet c.args.builder.now c.loop-place.builder c.args.row.now rest c.args.first.now c.loop-place.filled c.args.comes c.args.shift c.args.from.now c.args.end.now) c.in-Some.ensures.cases.0 c.loop-place.invariant in (
+      (let few = c.requires.few in omega arith),
+      (
+        c.requires.few,
+        (
+          record { start = _; is_row = h.in_row.is_row.1 },
+          (h.in_row.is_row.0.nets_are.full, (net_lasts _ _ _ _ h.extends c.requires.comes, (place_lasts _ _ _ h.extends c.requires.from, (place_lasts _ _ _ h.extends c.requires.end, c.requires.end_widths)))),
+        ),
+      ),
+    )
+
+pub choose_place-requires : goal.choose_place-requires
+choose_place-requires g c =
+    let h = c.loop-place.invariant in
+    let more = c.fill_next.ensures.adds.grows.extends in
+    ((let few = c.requires.few in omega arith), (c.requires.few, (net_lasts _ _ _ _ (extends_twice _ _ _ h.extends more) c.requires.shift, (c.in_ok-behind.ensures.place, (place_lasts _ _ _ more h.filled_is, c.in_ok-behind.ensures.widths ∙ sym h.widths)))))
+
+pub set_next_place-requires : goal.set_next_place-requires
+set_next_place-requires g c =
+    let h = subst (λ (rest : List (PlaceNets g.row.N)). AreSet c.args.builder.now c.loop-place.builder c.args.row.now rest c.args.first.now c.loop-place.filled c.args.comes c.args.shift c.args.from.now c.args.end.now) c.in-Some.ensures.cases.0 c.loop-place.invariant in
+    let place = h.in_row.is_row.0 in
+    let more = extends_twice _ _ _ c.fill_next.ensures.adds.grows.extends c.choose_place.ensures.adds.grows.extends in (
+      (let few = c.requires.few in omega arith),
+      (
+        c.requires.few,
+        (
+          place_lasts _ _ _ more place.nets_are,
+          (
+            λ n o. c.choose_place.ensures.adds.grows.waits n (c.fill_next.ensures.adds.grows.waits n (place.wait n o)),
+            (numbered_here c.in-Some.place.now h.in_row.start place.numbers, (c.in_ok-next.ensures.place, place.widths ∙ sym (c.in_ok-next.ensures.widths ∙ c.in_ok-behind.ensures.widths))),
+          ),
+        ),
+      ),
+    )
+
+pub loop-place-preserved : goal.loop-place-preserved
+loop-place-preserved g c =
+    let h = subst (λ (rest : List (PlaceNets g.row.N)). AreSet c.args.builder.now c.loop-place.builder c.args.row.now rest c.args.first.now c.loop-place.filled c.args.comes c.args.shift c.args.from.now c.args.end.now) c.in-Some.ensures.cases.0 c.loop-place.invariant in
+    set_more c.args.builder.now c.loop-place.builder c.fill_next.new.builder c.choose_place.new.builder c.set_next_place.new.builder c.args.row.now c.in-Some.others.now c.in-Some.place.now c.args.first.now c.loop-place.filled c.in_ok-behind.behind c.in_ok-next.next
+    c.args.comes c.args.shift c.args.from.now c.args.end.now h c.fill_next.ensures.adds c.choose_place.ensures.adds c.set_next_place.ensures.grows (net_lasts _ _ _ _ h.extends c.requires.shift)
+    c.in_ok-behind.ensures.place c.in_ok-behind.ensures.widths c.in_ok-behind.ensures.value c.in_ok-next.ensures.chosen c.set_next_place.ensures.value c.set_next_place.ensures.still_wait c.set_next_place.ensures.no_more_wait
+
+pub returns-clause-moves : goal.returns-clause-moves
+returns-clause-moves g c =
+    let h = c.loop-place.invariant in
+    h.moves c.loop-place.builder (extends_none c.loop-place.builder)
+    (subst (λ (rest : List (PlaceNets g.row.N)). RowMoves c.loop-place.builder rest c.loop-place.filled c.args.comes c.args.shift c.args.from.now c.args.end.now) (sym (nil_from_length c.loop-place.rest.now c.in_default.ensures.cases)) (λ run cycles r n lt. refl))
