@@ -1,7 +1,7 @@
 -- What a row of places does in a cycle: it is a list, to whose end an item comes and whose oldest goes. No contract reads a proof of these.
 use Rattle.std.proofs.Common.{◌≡◌, ℕ, zero, suc, ◌+◌, ◌≤◌, Bool, true, false, not, ◌&&◌, ◌||◌, nat_lt, if◌then◌else◌, List, [], ◌∷◌, ◌++◌, length, drop, append-nil, length-append, length-drop, refl, sym, ap, ◌∙◌, subst, arith}
 use Rattle.std.proofs.lemmas.Bool.{lt-ltb, le-ltb, ltb-true, ltb-false}
-use Rattle.net_parts.specs.Places.{Place, first_or, held_of, filled, fill_row, shift_row, AllEmpty, IsPacked, has_room, last_full, coming, held_then, PlacesMove}
+use Rattle.net_parts.specs.Places.{Place, first_or, held_of, filled, fill_row, shift_row, place_as, row_as, AllEmpty, IsPacked, has_room, last_full, coming, held_then, PlacesMove}
 
 pub held_empty : {X : Type 0} → (row : List (Place X)) → AllEmpty row → held_of row ≡ []
 held_empty [] h = refl
@@ -162,3 +162,40 @@ module _ {X : Type 0} (places : ℕ → List (Place X)) (gives comes : ℕ → B
   -- one more at most, if an item comes
   pub held_grows : (c : ℕ) → length (held_of (places (suc c))) ≤ length (held_of (places c)) + (if comes c then 1 else 0)
   held_grows c = omega (arith, ap length (held_next c), few_more (gives c) (comes c) (has_room (places c)) (held_of (places c)) (item c))
+
+-- ---- items read as others
+
+filled_as : {X Y : Type 0} (read : X → Y) (here : Bool) (item : X) (place : Place X) → place_as read (filled here item place) ≡ filled here (read item) (place_as read place)
+filled_as read here item place = by_full place.full refl
+  where
+    by_full : (t : Bool) → place.full ≡ t → place_as read (filled here item place) ≡ filled here (read item) (place_as read place)
+    by_full true e = rw e refl
+    by_full false e = rw e refl
+
+fill_row_as : {X Y : Type 0} (read : X → Y) (here comes : Bool) (item : X) (row : List (Place X)) → row_as read (fill_row here comes item row) ≡ fill_row here comes (read item) (row_as read row)
+fill_row_as read here comes item [] = refl
+fill_row_as read here comes item (place ∷ row) =
+    ap (λ (p : Place _). p ∷ row_as read (fill_row (comes && place.full) comes item row)) (filled_as read here item place)
+    ∙ ap (λ (xs : List (Place _)). filled here (read item) (place_as read place) ∷ xs) (fill_row_as read (comes && place.full) comes item row)
+
+first_or_as : {X Y : Type 0} (read : X → Y) (row : List (Place X)) (end : Place X) → place_as read (first_or row end) ≡ first_or (row_as read row) (place_as read end)
+first_or_as read [] end = refl
+first_or_as read (place ∷ row) end = refl
+
+shift_row_as : {X Y : Type 0} (read : X → Y) (shift : Bool) (end : Place X) (row : List (Place X)) → row_as read (shift_row shift end row) ≡ shift_row shift (place_as read end) (row_as read row)
+shift_row_as read shift end [] = refl
+shift_row_as read true end (place ∷ row) =
+    ap (λ (p : Place _). p ∷ row_as read (shift_row true end row)) (first_or_as read row end) ∙ ap (λ (xs : List (Place _)). first_or (row_as read row) (place_as read end) ∷ xs) (shift_row_as read true end row)
+shift_row_as read false end (place ∷ row) = ap (λ (xs : List (Place _)). place_as read place ∷ xs) (shift_row_as read false end row)
+
+pub empty_as : {X Y : Type 0} (read : X → Y) (row : List (Place X)) → AllEmpty row → AllEmpty (row_as read row)
+empty_as read [] h = tt
+empty_as read (place ∷ row) h = (h.0, empty_as read row h.1)
+
+-- a row moves the same whatever its items are read as
+pub moves_as : {X Y : Type 0} (read : X → Y) (before after : List (Place X)) (gives comes : Bool) (item : X) → PlacesMove before after gives comes item → PlacesMove (row_as read before) (row_as read after) gives comes (read item)
+moves_as read before after gives comes item h = record {
+  end = place_as read h.end;
+  empty = h.empty;
+  is = ap (row_as read) h.is ∙ shift_row_as read gives h.end (fill_row comes comes item before) ∙ ap (shift_row gives (place_as read h.end)) (fill_row_as read comes comes item before);
+}

@@ -63,6 +63,14 @@ coming t item = if t then item ∷ [] else []
 abbrev pub held_then : {X : Type 0} → Bool → List X → List X → List X
 held_then gives held more = if gives then drop 1 (held ++ more) else held ++ more
 
+-- the place, and the row, with each item read as another
+abbrev pub place_as : {X Y : Type 0} → (X → Y) → Place X → Place Y
+place_as read place = record { full = place.full; item = read place.item }
+
+abbrev pub row_as : {X Y : Type 0} → (X → Y) → List (Place X) → List (Place Y)
+row_as read [] = []
+row_as read (place ∷ row) = place_as read place ∷ row_as read row
+
 -- from a cycle to the next, the item that comes, if one does, takes the first empty place, and the row shifts where an item goes
 pub record PlacesMove {X : Type 0} (before after : List (Place X)) (gives comes : Bool) (item : X) : Type 0 where
   pub end : Place X

@@ -1,4 +1,4 @@
-//! Parts that every adapter makes of nets: constants, fitted words, comparisons, counts and registers.
+//! Parts that every adapter makes of nets: constants, fitted words, comparisons, counts, registers and rows of places.
 #![tactic(auto)]
 
 mod bits;
