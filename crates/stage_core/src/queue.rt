@@ -3,9 +3,8 @@
 //! the cycles that begin with an empty place. Its state is the row, and its hold so many beats as it has places. Its law is
 //! that of `queue_is_a_stage`.
 
-ghost use Rattle.std.specs.Prelude.{◌≡◌, ℕ, ◌+◌, ◌*◌, ◌^◌, ◌<◌, ◌∷◌, ◌==◌, length, IfOk, OnOk};
+ghost use Rattle.std.specs.Prelude.{◌≡◌, ℕ, ◌+◌, ◌*◌, ◌^◌, ◌<◌, ◌∷◌, length, IfOk, OnOk};
 ghost use Rattle.netlist.specs.Netlists.{IsWaiting};
-ghost use Rattle.netlist.specs.Runs.{Always};
 ghost use Rattle.net_parts.specs.Nets.{IsBit};
 ghost use Rattle.stage_core.specs.Beats.{AreBeatNets};
 ghost use Rattle.net_parts.specs.Growth.{GrowsBy, WaitsWithout};
