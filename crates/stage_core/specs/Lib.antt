@@ -1,5 +1,6 @@
 pub mod Beats
 pub mod Groups
+pub mod BeatPlaces
 pub mod Lasting
 pub mod BeatLaws
 pub mod Law
@@ -7,12 +8,9 @@ pub mod PassNets
 pub mod ChainNets
 pub mod MaybeNets
 pub mod RegisterNets
-pub mod Rows
 pub mod QueueBits
 pub mod QueueNets
 pub mod Between
 pub mod QueueLaw
 pub mod RowHolds
-pub mod RowNets
 pub mod RegisterLaw
-pub mod RowSteps

@@ -1,28 +1,31 @@
 -- The nets of a queue are the machine of a queue.
-use Rattle.std.proofs.Common.{◌≡◌, ℕ, suc, ◌+◌, ◌<◌, Bool, true, false, not, ◌&&◌, ◌||◌, ◌==◌, nat_lt, if◌then◌else◌, List, [], ◌∷◌, length, drop, refl, sym, subst, ap, ◌∙◌, arith, inl}
+use Rattle.std.proofs.Common.{◌≡◌, ℕ, suc, ◌+◌, ◌<◌, Bool, true, false, not, ◌&&◌, ◌||◌, ◌==◌, nat_lt, if◌then◌else◌, List, [], ◌∷◌, length, drop, refl, sym, subst, ap, ◌∙◌, arith, inl, inr}
 use Rattle.std.proofs.lemmas.Bool.{ne_eqb}
 use Rattle.netlist.specs.Nets.{NetValue}
 use Rattle.netlist.specs.Netlists.{Netlist}
-use Rattle.netlist.specs.Runs.{Cycle, Run, cycle_of, IsEndlessRun, IsValuation}
+use Rattle.netlist.specs.Runs.{Cycle, Run, cycle_of, IsEndlessRun, IsValuation, Always}
 use Rattle.stream_runs.specs.View.{EndView, Side, Beat, is_transfer}
 use Rattle.stream_machines.specs.Stage.{Shape, KeepsStageLaw, PassesReady, PassesAll}
 use Rattle.stream_machines.specs.Parts.{plain_run}
 use Rattle.stream_machines.specs.Buffers.{IsQueueRun, buffer_shape}
 use Rattle.stage_core.specs.declared.beat.BeatNets.{BeatNets}
 use Rattle.stage_core.specs.declared.queue.FifoKept.{FifoKept}
-use Rattle.stage_core.specs.Beats.{view_of, ShowSame, beat_in}
-use Rattle.stage_core.specs.Groups.{Shown, shown_in}
+use Rattle.stage_core.specs.Beats.{view_of, ShowSame, beat_in, group_of}
+use Rattle.stage_core.specs.BeatPlaces.{place_nets, first_value, beat_of, beats_in, shown_of, values_shown}
 use Rattle.stage_core.specs.Law.{KeepsShape, ReadyPasses}
 use Rattle.stage_core.specs.RegisterNets.{IsBufferShape}
-use Rattle.net_parts.specs.Places.{Place, held_of, AllEmpty, has_room, last_full}
-use Rattle.stage_core.specs.Rows.{place_in, row_in, RowSteps, last_valid, shown_first, InRow, StartsAllEmpty}
+use Rattle.net_parts.specs.declared.places.PlaceNets.{PlaceNets}
+use Rattle.net_parts.specs.Groups.{values_of, InGroup}
+use Rattle.net_parts.specs.Places.{Place, held_of, AllEmpty, has_room, place_as, last_full}
+use Rattle.net_parts.specs.PlaceRows as rows
+use Rattle.net_parts.specs.PlaceRows.{nets_of, place_in, row_in, RowSteps, shown_first, InRow, StartsAllEmpty}
 use Rattle.stage_core.specs.QueueBits.{SetsQueue}
-use Rattle.stage_core.specs.QueueNets.{QueueForward, QueueBackward, FirstNumbered}
-use Rattle.stage_core.specs.BeatLaws.{same_state, show_same, all_same}
+use Rattle.stage_core.specs.QueueNets.{QueueForward, QueueBackward}
+use Rattle.stage_core.specs.BeatLaws.{show_same, all_same}
 use Rattle.net_parts.specs.PlaceLaws.{room_last}
 use Rattle.stage_core.specs.RowHolds.{packed, room_now, row_holds}
 
-last_same : (cycle : Cycle) (first : BeatNets) (rest : List BeatNets) → last_full (place_in cycle first) (row_in cycle rest) ≡ (cycle.net (last_valid first rest).number == 1)
+last_same : (cycle : Cycle) (first : PlaceNets 6) (rest : List (PlaceNets 6)) → last_full (place_as beat_of (place_in cycle first)) (beats_in cycle rest) ≡ (cycle.net (rows.last_full first rest).number == 1)
 last_same cycle first [] = refl
 last_same cycle first (next ∷ rest) = last_same cycle next rest
 
@@ -44,33 +47,33 @@ module _ (from to : BeatNets) (ready up : NetValue) (netlist : Netlist) (run : R
   here : (c : ℕ) → IsValuation netlist (cycle_of run c)
   here c = (endless (c + 1)).valuations c (omega arith)
 
-  wire_run : ((c : ℕ) → shown_in (cycle_of run c) to ≡ shown_in (cycle_of run c) from) → up ≡ ready → IsQueueRun 0 side (view_of run from up) (view_of run to ready) (λ c. [])
+  wire_run : ((c : ℕ) → values_of (cycle_of run c) (group_of to) ≡ values_of (cycle_of run c) (group_of from)) → up ≡ ready → IsQueueRun 0 side (view_of run from up) (view_of run to ready) (λ c. [])
   wire_run shows same = record {
     holds = record {
       starts = refl;
-      shows = λ c. record { valid = sym (ap (λ (s : Shown). s.valid) (shows c)); beat = sym (ap (λ (s : Shown). s.beat) (shows c)) };
+      shows = λ c. record { valid = sym (ap first_value (shows c)); beat = sym (ap (λ values. beat_of (drop 1 values)) (shows c)) };
       moves = λ c legal.
-          (let v : (run.net c to.valid.number == 1) ≡ (run.net c from.valid.number == 1) = ap (λ (s : Shown). s.valid == 1) (shows c) in
+          (let v : (run.net c to.valid.number == 1) ≡ (run.net c from.valid.number == 1) = ap (λ values. first_value values == 1) (shows c) in
           let r : (run.net c up.number == 1) ≡ (run.net c ready.number == 1) = ap (λ (n : NetValue). run.net c n.number == 1) same in
           rw (direct, v, r) (wire_step (run.net c from.valid.number == 1) (run.net c ready.number == 1) (beat_in (cycle_of run c) from)));
     };
     asks = λ c. ap (λ (n : NetValue). run.net c n.number == 1) same;
   }
 
-  module _ (first : BeatNets) (rest : List BeatNets) (starts : AllEmpty (row_in (cycle_of run 0) (first ∷ rest)))
-      (shows : (c : ℕ) → shown_in (cycle_of run c) to ≡ shown_first (cycle_of run c) (first ∷ rest) from) (sets : SetsQueue netlist from first rest ready up) where
+  module _ (first : PlaceNets 6) (rest : List (PlaceNets 6)) (starts : AllEmpty (row_in (cycle_of run 0) (first ∷ rest)))
+      (shows : (c : ℕ) → values_of (cycle_of run c) (group_of to) ≡ shown_first (cycle_of run c) (first ∷ rest) (place_nets from)) (sets : SetsQueue netlist from first rest ready up) where
     abbrev row : ℕ → List (Place Beat)
-    row c = row_in (cycle_of run c) (first ∷ rest)
+    row c = beats_in (cycle_of run c) (first ∷ rest)
 
     abbrev comes : ℕ → Bool
     comes c = (run.net c from.valid.number == 1) && (run.net c up.number == 1)
 
-    steps : (c : ℕ) → RowSteps (cycle_of run c) (cycle_of run (c + 1)) (first ∷ rest) from (comes c) ready
+    steps : (c : ℕ) → RowSteps (cycle_of run c) (cycle_of run (c + 1)) (first ∷ rest) (place_nets from) (comes c) ready
     steps c = sets.steps run (c + 2) (endless (c + 2)) c (omega arith)
 
     room : (c : ℕ) → has_room (row c) ≡ (run.net c up.number == 1)
     room c =
-        room_last (place_in (cycle_of run c) first) (row_in (cycle_of run c) rest) (packed from to ready up run (first ∷ rest) comes starts shows steps c)
+        room_last (place_as beat_of (place_in (cycle_of run c) first)) (beats_in (cycle_of run c) rest) (packed from to ready up run (first ∷ rest) comes starts shows steps c)
         ∙ ap not (last_same (cycle_of run c) first rest) ∙ sym (sets.asks (cycle_of run c) (here c))
 
     taken : (c : ℕ) → (comes c && has_room (row c)) ≡ is_transfer side.pace (view_of run from up) c
@@ -87,17 +90,17 @@ module _ (from to : BeatNets) (ready up : NetValue) (netlist : Netlist) (run : R
     }
 
   -- what each list of places holds
-  pub is_queue_run : (row : List BeatNets) → StartsAllEmpty netlist row → ((c : ℕ) → shown_in (cycle_of run c) to ≡ shown_first (cycle_of run c) row from) → QueueBackward netlist from ready up row →
-      IsQueueRun (length row) side (view_of run from up) (view_of run to ready) (λ c. held_of (row_in (cycle_of run c) row))
+  pub is_queue_run : (row : List (PlaceNets 6)) → StartsAllEmpty netlist row → ((c : ℕ) → values_of (cycle_of run c) (group_of to) ≡ shown_first (cycle_of run c) row (place_nets from)) → QueueBackward netlist from ready up row →
+      IsQueueRun (length row) side (view_of run from up) (view_of run to ready) (λ c. held_of (beats_in (cycle_of run c) row))
   is_queue_run [] starts shows sets = wire_run shows sets
   is_queue_run (first ∷ rest) starts shows sets = row_run first rest (starts run 1 (endless 1) (omega arith)) shows sets
 
 -- the machine of the kept nets
 kept_run : (from to : BeatNets) (kept : FifoKept) (depth : ℕ) (ready up : NetValue) (netlist : Netlist) (run : Run) (side : Side) → QueueForward from to kept depth netlist → QueueBackward netlist kept.from ready up kept.places.items → IsEndlessRun netlist run →
-    side.pace.latency ≡ 0 → IsQueueRun depth side (view_of run from up) (view_of run to ready) (λ c. held_of (row_in (cycle_of run c) kept.places.items))
+    side.pace.latency ≡ 0 → IsQueueRun depth side (view_of run from up) (view_of run to ready) (λ c. held_of (beats_in (cycle_of run c) kept.places.items))
 kept_run from to kept depth ready up netlist run side f b endless direct =
-    subst (λ (n : BeatNets). IsQueueRun depth side (view_of run n up) (view_of run to ready) (λ c. held_of (row_in (cycle_of run c) kept.places.items))) (sym f.from_is)
-    (subst (λ d. IsQueueRun d side (view_of run kept.from up) (view_of run to ready) (λ c. held_of (row_in (cycle_of run c) kept.places.items))) f.count
+    subst (λ (n : BeatNets). IsQueueRun depth side (view_of run n up) (view_of run to ready) (λ c. held_of (beats_in (cycle_of run c) kept.places.items))) (sym f.from_is)
+    (subst (λ d. IsQueueRun d side (view_of run kept.from up) (view_of run to ready) (λ c. held_of (beats_in (cycle_of run c) kept.places.items))) f.count
     (is_queue_run kept.from to ready up netlist run endless side direct kept.places.items f.starts (λ c. f.shows (cycle_of run c) ((endless (c + 1)).valuations c (omega arith))) b))
 
 pub queue_between : (shape : Shape) (from to : BeatNets) (kept : FifoKept) (depth : ℕ) (ready up : NetValue) (netlist : Netlist) (run : Run) → IsBufferShape depth shape → QueueForward from to kept depth netlist → QueueBackward netlist kept.from ready up kept.places.items → IsEndlessRun netlist run →
@@ -116,16 +119,23 @@ queue_ready shape from to kept depth ready up netlist run p f b endless law =
     subst (λ (s : Shape). ReadyPasses s (view_of run from up) (view_of run to ready)) (sym p.is)
     (law shape.passes depth shape.up _ _ _ (kept_run from to kept depth ready up netlist run shape.up f b endless p.at_once) p.at_once)
 
-pub first_same : (one other : Cycle) (row : List BeatNets) (from : BeatNets) → FirstNumbered row → ((n : ℕ) → InRow row n → one.net n ≡ other.net n) → shown_in one from ≡ shown_in other from → shown_first one row from ≡ shown_first other row from
-first_same one other [] from h state same = same
-first_same one other (first ∷ row) from h state same =
-    let shown = same_state first one other h (λ n o. state n (inl o)) in
-    ap (λ (s : Shown). if s.valid == 1 then s else shown_in one from) shown ∙ ap (λ (s : Shown). if other.net first.valid.number == 1 then shown_in other first else s) same
+values_same : (one other : Cycle) (group : List NetValue) → ((n : ℕ) → InGroup group n → one.net n ≡ other.net n) → values_of one group ≡ values_of other group
+values_same one other [] state = refl
+values_same one other (net ∷ group) state =
+    ap (λ value. value ∷ values_of one group) (state net.number (inl refl)) ∙ ap (λ values. other.net net.number ∷ values) (values_same one other group (λ n o. state n (inr o)))
 
-pub queue_ignores : (from to : BeatNets) (kept : FifoKept) (depth : ℕ) (netlist : Netlist) (one other : Cycle) → QueueForward from to kept depth netlist → IsValuation netlist one → IsValuation netlist other → ((n : ℕ) → InRow kept.places.items n → one.net n ≡ other.net n) →
-    ShowSame from one other → ShowSame to one other
-queue_ignores from to kept depth netlist one other f v w state same =
+first_same : (one other : Cycle) (row : List (PlaceNets 6)) (from : PlaceNets 6) → ((n : ℕ) → InRow row n → one.net n ≡ other.net n) → values_of one (nets_of from) ≡ values_of other (nets_of from) → shown_first one row from ≡ shown_first other row from
+first_same one other [] from state same = same
+first_same one other (first ∷ row) from state same =
+    let shown = values_same one other (nets_of first) (λ n o. state n (inl o)) in
+    ap (λ values. if first_value values == 1 then values else values_of one (nets_of from)) shown ∙ ap (λ values. if other.net first.full.number == 1 then values_of other (nets_of first) else values) same
+
+-- a beat that shows the first place of a row, or else what comes, shows the same where the row and what comes are the same
+pub row_ignores : (from to coming : BeatNets) (row : List (PlaceNets 6)) (netlist : Netlist) (one other : Cycle) → from ≡ coming → Always netlist (λ cycle. values_of cycle (group_of to) ≡ shown_first cycle row (place_nets coming)) → IsValuation netlist one → IsValuation netlist other →
+    ((n : ℕ) → InRow row n → one.net n ≡ other.net n) → ShowSame from one other → ShowSame to one other
+row_ignores from to coming row netlist one other from_is shows v w state same =
     show_same to one other
-    (f.shows one v
-    ∙ first_same one other kept.places.items kept.from f.numbers state (subst (λ (n : BeatNets). shown_in one n ≡ shown_in other n) f.from_is (all_same from one other same))
-    ∙ sym (f.shows other w))
+    (ap shown_of
+    (shows one v
+    ∙ first_same one other row (place_nets coming) state (subst (λ (n : BeatNets). values_of one (group_of n) ≡ values_of other (group_of n)) from_is (ap values_shown (all_same from one other same)))
+    ∙ sym (shows other w)))

@@ -1,8 +1,11 @@
 //! The nets of a beat.
 
 ghost use Rattle.std.specs.Prelude.{◌≡◌};
+ghost use Rattle.net_parts.specs.PlaceRows.{nets_of};
 ghost use Rattle.stage_core.specs.Beats.{group_of};
+ghost use Rattle.stage_core.specs.BeatPlaces.{place_nets};
 
+use net_parts::PlaceNets;
 use netlist::Net;
 
 /// The nets of an end of a stream, beside `ready`. One that the end has no port for is a net that is always 0.
@@ -49,6 +52,39 @@ impl BeatNets {
             self.last,
             self.empty,
         ]
+    }
+
+    /// The nets as those of a place, which is full where `valid` is high.
+    pub fn place(&self) -> PlaceNets<6>
+        ensures { result ≡ place_nets self.now }
+    {
+        PlaceNets {
+            full: self.valid,
+            item: [
+                self.word,
+                self.channel,
+                self.error,
+                self.first,
+                self.last,
+                self.empty,
+            ],
+        }
+    }
+
+    /// The beat on the nets of a place.
+    pub fn of_place(place: PlaceNets<6>) -> BeatNets
+        ensures { group_of result ≡ nets_of place }
+    {
+        let [word, channel, error, first, last, empty] = place.item;
+        BeatNets {
+            valid: place.full,
+            word,
+            channel,
+            error,
+            first,
+            last,
+            empty,
+        }
     }
 
     /// The beat whose nets are this group.

@@ -8,7 +8,6 @@ pub mod maybe;
 pub mod pass;
 pub mod queue;
 pub mod register;
-pub mod rows;
 pub mod stage;
 pub mod stream;
 

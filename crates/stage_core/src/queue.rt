@@ -9,14 +9,14 @@ ghost use Rattle.net_parts.specs.Nets.{IsBit};
 ghost use Rattle.stage_core.specs.Beats.{AreBeatNets};
 ghost use Rattle.net_parts.specs.Growth.{GrowsBy, WaitsWithout};
 ghost use Rattle.stage_core.specs.RegisterNets.{IsBufferShape};
-ghost use Rattle.stage_core.specs.Rows.{AreInRow, InRow};
+ghost use Rattle.net_parts.specs.PlaceRows.{AreInRow, InRow};
+ghost use Rattle.stage_core.specs.BeatPlaces.{place_nets};
 ghost use Rattle.stage_core.specs.QueueBits.{SetsQueue};
 ghost use Rattle.stage_core.specs.QueueNets.{QueueKeeps, QueueForward, QueueBackward, queue_keeps_lasts, queue_forward_lasts, queue_backward_lasts};
 
 use crate::beat::BeatNets;
-use crate::rows::{last_valid, make_places, set_places, show_first};
 use crate::stage::Stage;
-use net_parts::queue_bits;
+use net_parts::{PlaceNets, last_full, make_places, queue_bits, set_places, show_first};
 use netlist::{Builder, Net, NetFault};
 use std::alloc::Global;
 use stream_machines::machines::queue_is_a_stage;
@@ -41,7 +41,7 @@ impl Fifo {
 /// The places, and the nets of the beat that they take.
 #[derive(Debug, Drop)]
 pub struct FifoKept {
-    pub places: Vec<BeatNets>,
+    pub places: Vec<PlaceNets<6>>,
     pub from: BeatNets,
 }
 
@@ -49,14 +49,14 @@ pub struct FifoKept {
 #[tactic(auto, using(net_parts::specs::Laws::growing))]
 fn set_queue(
     builder: &mut Builder,
-    row: &[BeatNets],
-    first: &BeatNets,
-    rest: &[BeatNets],
+    row: &[PlaceNets<6>],
+    first: &PlaceNets<6>,
+    rest: &[PlaceNets<6>],
     from: &BeatNets,
     ready: Net,
 ) -> Result<Net, NetFault>
     requires split { row.now ≡ first.now ∷ rest.now }
-    requires row { AreInRow builder.old from.now row.now }
+    requires row { AreInRow builder.old (place_nets from.now) row.now }
     requires from { AreBeatNets builder.old from.now }
     requires ready { IsBit builder.old ready }
     ensures net { IfOk result (λ up. IsBit builder.new up) }
@@ -66,9 +66,9 @@ fn set_queue(
     ensures no_more_wait { OnOk result (WaitsWithout (InRow row.now) builder.old builder.new) }
     ensures full { result ≡ Err NetFault.TooManyNets → 2 ^ 20 < length builder.old.lines + (12 + 15 * length row.now) }
 {
-    let last = last_valid(first, rest);
+    let last = last_full(first, rest);
     let bits = queue_bits(builder, last, from.valid)?;
-    set_places(builder, row, from, bits.comes, ready)?;
+    set_places(builder, row, &from.place(), bits.comes, ready)?;
     Ok(bits.room)
 }
 
@@ -103,9 +103,10 @@ impl Stage for Fifo {
         builder: &mut Builder,
         from: BeatNets,
     ) -> Result<(BeatNets, FifoKept), NetFault> {
-        let places = make_places(self.alloc, builder, &from, self.depth)?;
-        let to = show_first(builder, places.as_slice(), &from)?;
-        Ok((to, FifoKept { places, from }))
+        let coming = from.place();
+        let places = make_places(self.alloc, builder, &coming, self.depth)?;
+        let to = show_first(builder, places.as_slice(), &coming)?;
+        Ok((BeatNets::of_place(to), FifoKept { places, from }))
     }
 
     #[tactic(auto, using(net_parts::specs::Laws::growing))]

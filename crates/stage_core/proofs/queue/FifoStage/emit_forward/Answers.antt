@@ -1,26 +1,39 @@
-use Rattle.std.proofs.Common.{◌≡◌, List, refl, sym, subst, arith}
-use Rattle.stage_core.specs.declared.beat.BeatNets.{BeatNets}
-use Rattle.stage_core.specs.Lasting.{beat_lasts}
-use Rattle.stage_core.specs.Groups.{shown_in}
-use Rattle.stage_core.specs.Rows.{AreInRow, shown_first}
+use Rattle.std.proofs.Common.{List, refl, sym, subst, ap, ◌∙◌, lit<, arith}
+use Rattle.net_parts.specs.declared.places.PlaceNets.{PlaceNets}
 use Rattle.net_parts.specs.Laws.{extends_twice}
-use Rattle.stage_core.specs.BeatLaws.{widths_alike}
-use Rattle.stage_core.specs.RowNets.{row_here, row_waits, first_numbered}
+use Rattle.net_parts.specs.Groups.{values_of}
+use Rattle.net_parts.specs.PlaceRows.{ArePlaceNets, HaveSameWidths, AreInRow, shown_first}
+use Rattle.net_parts.specs.RowLaws.{row_here, row_waits}
+use Rattle.stage_core.specs.Lasting.{beat_lasts}
+use Rattle.stage_core.specs.BeatPlaces.{place_are, beat_are, place_widths}
+use Rattle.stage_core.specs.QueueNets.{first_numbered}
 use Rattle.stage_core.proofs.queue.FifoStage.emit_forward.Goals as goal
 
-pub show_first-requires-clause-row : goal.show_first-requires-clause-row
-show_first-requires-clause-row c = subst (λ (row : List BeatNets). AreInRow c.make_places.new.builder c.args.from row) (sym c.as_slice.ensures.value) c.in_ok-places.ensures.row
+pub show_first-requires : goal.show_first-requires
+show_first-requires c = (
+  lit< tt,
+  (
+    lit< tt,
+    (
+      subst (λ (row : List (PlaceNets 6)). AreInRow c.make_places.new.builder c.place-coming.result row) (sym c.as_slice.ensures.value) c.in_ok-places.ensures.row,
+      subst (λ (place : PlaceNets 6). ArePlaceNets c.make_places.new.builder place) (sym c.place-coming.ensures) (place_are _ _ (beat_lasts _ _ _ c.make_places.ensures.grows.extends c.requires.from)),
+    ),
+  ),
+)
 
-pub show_first-requires-clause-coming : goal.show_first-requires-clause-coming
-show_first-requires-clause-coming c = beat_lasts _ _ _ c.make_places.ensures.grows.extends c.requires.from
+pub returns-clause-beat : goal.returns-clause-beat
+returns-clause-beat c =
+    beat_are _ _ c.of_place.result c.args.from c.in_ok-to.to c.of_place.ensures c.in_ok-to.ensures.place (subst (λ (place : PlaceNets 6). HaveSameWidths c.in_ok-to.to place) c.place-coming.ensures c.in_ok-to.ensures.widths) c.requires.from
 
 pub returns-clause-widths : goal.returns-clause-widths
-returns-clause-widths c = widths_alike _ _ c.in_ok-to.ensures.widths
+returns-clause-widths c =
+    place_widths c.of_place.result c.args.from c.in_ok-to.to c.of_place.ensures (subst (λ (place : PlaceNets 6). HaveSameWidths c.in_ok-to.to place) c.place-coming.ensures c.in_ok-to.ensures.widths)
 
 pub returns-clause-kept : goal.returns-clause-kept
 returns-clause-kept c = record {
   from = beat_lasts _ _ _ (extends_twice _ _ _ c.make_places.ensures.grows.extends c.show_first.ensures.adds.grows.extends) c.requires.from;
-  row = row_here _ _ _ _ c.show_first.ensures.adds.grows.extends (λ n o. c.show_first.ensures.adds.grows.waits n) c.in_ok-places.ensures.row;
+  row = subst (λ (place : PlaceNets 6). AreInRow c.show_first.new.builder place c.in_ok-places.places.items) c.place-coming.ensures
+      (row_here _ _ _ _ c.show_first.ensures.adds.grows.extends (λ n o. c.show_first.ensures.adds.grows.waits n) c.in_ok-places.ensures.row);
   count = c.in_ok-places.ensures.count;
 }
 
@@ -36,7 +49,10 @@ returns-clause-made c = record {
   count = c.in_ok-places.ensures.count;
   numbers = first_numbered _ _ _ _ c.in_ok-places.ensures.row.is_row;
   starts = λ run cycles r. c.in_ok-places.ensures.starts run cycles (c.show_first.ensures.adds.grows.extends.runs run cycles r);
-  shows = λ cycle v. subst (λ (row : List BeatNets). shown_in cycle c.in_ok-to.to ≡ shown_first cycle row c.args.from) c.as_slice.ensures.value (c.in_ok-to.ensures.value cycle v);
+  shows = λ cycle v.
+      ap (values_of cycle) c.of_place.ensures ∙ c.in_ok-to.ensures.value cycle v
+      ∙ ap (λ (row : List (PlaceNets 6)). shown_first cycle row c.place-coming.result) c.as_slice.ensures.value
+      ∙ ap (λ (place : PlaceNets 6). shown_first cycle c.in_ok-places.places.items place) c.place-coming.ensures;
 }
 
 pub returns-clause-own_wait : goal.returns-clause-own_wait
