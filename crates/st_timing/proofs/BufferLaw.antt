@@ -13,14 +13,15 @@ use Rattle.stream_machines.specs.Parts.{plain_run}
 use Rattle.stream_machines.specs.Buffers.{IsBufferRun, buffer_shape}
 use Rattle.stream_machines.specs.ReadyCycles.{has_place}
 use Rattle.stage_core.specs.declared.beat.BeatNets.{BeatNets}
-use Rattle.stage_core.specs.Beats.{view_of, ShowSame}
-use Rattle.stage_core.specs.Groups.{shown_in}
+use Rattle.stage_core.specs.Beats.{view_of, ShowSame, group_of}
+use Rattle.stage_core.specs.BeatPlaces.{place_nets, beat_of, beats_in}
 use Rattle.stage_core.specs.Law.{KeepsShape, ReadyPasses}
-use Rattle.stage_core.specs.Rows.{row_in, RowSteps, shown_first}
+use Rattle.net_parts.specs.declared.places.PlaceNets.{PlaceNets}
+use Rattle.net_parts.specs.Groups.{values_of}
+use Rattle.net_parts.specs.PlaceRows.{row_in, RowSteps, shown_first}
 use Rattle.net_parts.specs.Places.{held_of, AllEmpty, IsPacked, has_room}
-use Rattle.stage_core.specs.BeatLaws.{show_same, all_same}
+use Rattle.stage_core.specs.QueueLaw.{row_ignores}
 use Rattle.stage_core.specs.RowHolds.{packed, room_now, row_starts, row_grows, row_holds}
-use Rattle.stage_core.specs.QueueLaw.{first_same}
 use Rattle.st_timing.specs.declared.buffer.BufferKept.{BufferKept}
 use Rattle.st_timing.specs.TransferNets.{moving}
 use Rattle.net_parts.specs.Histories.{earlier}
@@ -33,20 +34,20 @@ use Rattle.st_timing.proofs.Counting.{one_if_high, bit_high}
 
 -- ---- counts
 
-none_full : (cycle : Cycle) (row : List BeatNets) → AllEmpty (row_in cycle row) → full_count cycle row ≡ 0
+none_full : (cycle : Cycle) (row : List (PlaceNets 6)) → AllEmpty (beats_in cycle row) → full_count cycle row ≡ 0
 none_full cycle [] h = refl
-none_full cycle (nets ∷ row) h = rw (h.0, none_full cycle row h.1) refl
+none_full cycle (place ∷ row) h = rw (h.0, none_full cycle row h.1) refl
 
 -- the full places of a packed row are those that hold its beats
-full_held : (cycle : Cycle) (row : List BeatNets) → IsPacked (row_in cycle row) → full_count cycle row ≡ length (held_of (row_in cycle row))
+full_held : (cycle : Cycle) (row : List (PlaceNets 6)) → IsPacked (beats_in cycle row) → full_count cycle row ≡ length (held_of (beats_in cycle row))
 full_held cycle [] h = refl
-full_held cycle (nets ∷ row) h = by_full (full_held cycle row h.1) (cycle.net nets.valid.number == 1) refl
+full_held cycle (place ∷ row) h = by_full (full_held cycle row h.1) (cycle.net place.full.number == 1) refl
   where
     one_more : (n : ℕ) → 1 + n ≡ suc n
     one_more n = omega arith
 
-    by_full : full_count cycle row ≡ length (held_of (row_in cycle row)) → (t : Bool) → (cycle.net nets.valid.number == 1) ≡ t → full_count cycle (nets ∷ row) ≡ length (held_of (row_in cycle (nets ∷ row)))
-    by_full rest true e = rw e (ap (λ n. 1 + n) rest ∙ one_more (length (held_of (row_in cycle row))))
+    by_full : full_count cycle row ≡ length (held_of (beats_in cycle row)) → (t : Bool) → (cycle.net place.full.number == 1) ≡ t → full_count cycle (place ∷ row) ≡ length (held_of (beats_in cycle (place ∷ row)))
+    by_full rest true e = rw e (ap (λ n. 1 + n) rest ∙ one_more (length (held_of (beats_in cycle row))))
     by_full rest false e = rw e (ap (λ n. 0 + n) (none_full cycle row (h.0 e)))
 
 -- one cycle more that is looked at
@@ -64,7 +65,7 @@ module _ (kept : BufferKept) (to : BeatNets) (ready up : NetValue) (netlist : Ne
   here : (c : ℕ) → IsValuation netlist (cycle_of run c)
   here c = (endless (c + 1)).valuations c (omega arith)
 
-  abbrev row : List BeatNets
+  abbrev row : List (PlaceNets 6)
   row = row_of kept
 
   abbrev above : EndView
@@ -74,15 +75,15 @@ module _ (kept : BufferKept) (to : BeatNets) (ready up : NetValue) (netlist : Ne
   comes c = moving kept.latency (run.net c kept.from.valid.number) (run.net c up.number) == 1
 
   abbrev held : ℕ → List Beat
-  held c = held_of (row_in (cycle_of run c) row)
+  held c = held_of (beats_in (cycle_of run c) row)
 
   starts : AllEmpty (row_in (cycle_of run 0) row)
   starts = f.starts run 1 (endless 1) (omega arith)
 
-  shows : (c : ℕ) → shown_in (cycle_of run c) to ≡ shown_first (cycle_of run c) row kept.from
+  shows : (c : ℕ) → values_of (cycle_of run c) (group_of to) ≡ shown_first (cycle_of run c) row (place_nets kept.from)
   shows c = f.shows (cycle_of run c) (here c)
 
-  steps : (c : ℕ) → RowSteps (cycle_of run c) (cycle_of run (c + 1)) row kept.from (comes c) ready
+  steps : (c : ℕ) → RowSteps (cycle_of run c) (cycle_of run (c + 1)) row (place_nets kept.from) (comes c) ready
   steps c = b.steps run (c + 2) (endless (c + 2)) c (omega arith)
 
   comes_is : (c : ℕ) → comes c ≡ is_transfer side.pace above c
@@ -110,10 +111,10 @@ module _ (kept : BufferKept) (to : BeatNets) (ready up : NetValue) (netlist : Ne
   grows : (c : ℕ) → IsLegalSource side above (suc c) → length (held (suc c)) ≤ length (held c) + (if is_transfer side.pace above c then 1 else 0)
   grows c legal = subst (λ t. length (held (suc c)) ≤ length (held c) + (if t then 1 else 0)) (comes_is c) (row_grows kept.from to ready up run row comes starts shows steps c)
 
-  taken : (c : ℕ) → IsLegalSource side above (suc c) → (comes c && has_room (row_in (cycle_of run c) row)) ≡ is_transfer side.pace above c
-  taken c legal = ap (λ t. t && has_room (row_in (cycle_of run c) row)) (comes_is c) ∙ by_transfer (is_transfer side.pace above c) refl
+  taken : (c : ℕ) → IsLegalSource side above (suc c) → (comes c && has_room (beats_in (cycle_of run c) row)) ≡ is_transfer side.pace above c
+  taken c legal = ap (λ t. t && has_room (beats_in (cycle_of run c) row)) (comes_is c) ∙ by_transfer (is_transfer side.pace above c) refl
     where
-      by_transfer : (t : Bool) → is_transfer side.pace above c ≡ t → (t && has_room (row_in (cycle_of run c) row)) ≡ t
+      by_transfer : (t : Bool) → is_transfer side.pace above c ≡ t → (t && has_room (beats_in (cycle_of run c) row)) ≡ t
       by_transfer true moves =
           let few = has_place side above held strict (row_starts kept.from to ready up run row comes starts shows steps) grows asks c legal moves in
           room_now kept.from to ready up run row comes starts shows steps c ∙ lt-ltb (length (held c)) (length row) (omega (arith, few, f.count, behind))
@@ -127,9 +128,9 @@ module _ (kept : BufferKept) (to : BeatNets) (ready up : NetValue) (netlist : Ne
 
 -- the machine of the kept nets
 kept_run : (latency : ℕ) (from to : BeatNets) (kept : BufferKept) (ready up : NetValue) (netlist : Netlist) (run : Run) (side : Side) → BufferForward from to kept latency netlist → BufferBackward kept ready up netlist → IsEndlessRun netlist run →
-    side.pace.allowance ≡ side.pace.latency → side.pace.latency ≡ latency → IsBufferRun side (view_of run from up) (view_of run to ready) (λ c. held_of (row_in (cycle_of run c) (row_of kept)))
+    side.pace.allowance ≡ side.pace.latency → side.pace.latency ≡ latency → IsBufferRun side (view_of run from up) (view_of run to ready) (λ c. held_of (beats_in (cycle_of run c) (row_of kept)))
 kept_run latency from to kept ready up netlist run side f b endless strict behind =
-    subst (λ (n : BeatNets). IsBufferRun side (view_of run n up) (view_of run to ready) (λ c. held_of (row_in (cycle_of run c) (row_of kept)))) (sym f.from_is)
+    subst (λ (n : BeatNets). IsBufferRun side (view_of run n up) (view_of run to ready) (λ c. held_of (beats_in (cycle_of run c) (row_of kept)))) (sym f.from_is)
     (is_buffer_run kept to ready up netlist run endless side strict (behind ∙ sym f.latency_is)
     (subst (λ (n : BeatNets). BufferForward n to kept kept.latency netlist) f.from_is (subst (λ n. BufferForward from to kept n netlist) (sym f.latency_is) f)) b)
 
@@ -151,8 +152,4 @@ buffer_ready latency shape from to kept ready up netlist run p f b endless law =
 
 pub buffer_ignores : (latency : ℕ) (from to : BeatNets) (kept : BufferKept) (netlist : Netlist) (one other : Cycle) → BufferForward from to kept latency netlist → IsValuation netlist one → IsValuation netlist other → ((n : ℕ) → buffer_owns kept n → one.net n ≡ other.net n) →
     ShowSame from one other → ShowSame to one other
-buffer_ignores latency from to kept netlist one other f v w state same =
-    show_same to one other
-    (f.shows one v
-    ∙ first_same one other (row_of kept) kept.from f.numbers (λ n o. state n (inl o)) (subst (λ (n : BeatNets). shown_in one n ≡ shown_in other n) f.from_is (all_same from one other same))
-    ∙ sym (f.shows other w))
+buffer_ignores latency from to kept netlist one other f v w state same = row_ignores from to kept.from (row_of kept) netlist one other f.from_is f.shows v w (λ n o. state n (inl o)) same

@@ -2,10 +2,10 @@
 use Rattle.std.proofs.Common.{◌≡◌, ℕ, ◌≤◌, List, ◌++◌, length, take, sym, ◌∙◌}
 use Rattle.std.proofs.Math.Seq.{take-append_seam}
 use Rattle.std.proofs.lemmas.List.{length-take-le}
-use Rattle.stage_core.specs.declared.beat.BeatNets.{BeatNets}
+use Rattle.net_parts.specs.declared.places.PlaceNets.{PlaceNets}
 
-pub front : (xs ys : List BeatNets) (m n : ℕ) → m ≡ n → length xs ≡ n → take m (xs ++ ys) ≡ xs
+pub front : (xs ys : List (PlaceNets 6)) (m n : ℕ) → m ≡ n → length xs ≡ n → take m (xs ++ ys) ≡ xs
 front xs ys m n e h = let same : m ≡ length xs = e ∙ sym h in rw same (take-append_seam xs ys)
 
-pub front_count : (xs all : List BeatNets) (n : ℕ) → length xs ≡ length (take n all) → n ≤ length all → length xs ≡ n
+pub front_count : (xs all : List (PlaceNets 6)) (n : ℕ) → length xs ≡ length (take n all) → n ≤ length all → length xs ≡ n
 front_count xs all n e h = e ∙ length-take-le n all h

@@ -2,11 +2,11 @@
 use Rattle.std.proofs.Common.{◌≡◌, ℕ, zero, suc, ◌+◌, ◌<◌, ◌≤◌, Bool, true, false, List, [], ◌∷◌, length, ◌==◌, if◌then◌else◌, refl, ap, arith}
 use Rattle.netlist.specs.Netlists.{Netlist}
 use Rattle.netlist.specs.Longer.{Extends}
-use Rattle.stage_core.specs.declared.beat.BeatNets.{BeatNets}
+use Rattle.net_parts.specs.declared.places.PlaceNets.{PlaceNets}
 use Rattle.net_parts.specs.Laws.{net_lasts}
-use Rattle.stage_core.specs.Rows.{IsRow}
+use Rattle.net_parts.specs.PlaceRows.{nets_of, IsRow}
 use Rattle.netlist.specs.Runs.{Cycle}
-use Rattle.st_timing.specs.CountNets.{full_count, HaveValid}
+use Rattle.st_timing.specs.CountNets.{full_count, HaveFull}
 
 -- a bit is one where it is high
 abbrev pub one_if_high : ℕ → ℕ
@@ -17,19 +17,19 @@ bit_high zero h = refl
 bit_high (suc zero) h = refl
 bit_high (suc (suc x)) h = absurd (omega arith)
 
-pub valid_last : (a b : Netlist) (row : List BeatNets) → Extends a b → HaveValid a row → HaveValid b row
-valid_last a b [] e h = tt
-valid_last a b (nets ∷ row) e h = (net_lasts a b nets.valid 1 e h.0, valid_last a b row e h.1)
+pub full_last : (a b : Netlist) (row : List (PlaceNets 6)) → Extends a b → HaveFull a row → HaveFull b row
+full_last a b [] e h = tt
+full_last a b (place ∷ row) e h = (net_lasts a b place.full 1 e h.0, full_last a b row e h.1)
 
-pub row_valid : (netlist : Netlist) (like : BeatNets) (from : ℕ) (row : List BeatNets) → IsRow netlist like from row → HaveValid netlist row
-row_valid netlist like from [] h = tt
-row_valid netlist like from (nets ∷ row) h = (h.0.nets_are.valid, row_valid netlist like (from + 7) row h.1)
+pub row_full : (netlist : Netlist) (like : PlaceNets 6) (from : ℕ) (row : List (PlaceNets 6)) → IsRow netlist like from row → HaveFull netlist row
+row_full netlist like from [] h = tt
+row_full netlist like from (place ∷ row) h = (h.0.nets_are.full, row_full netlist like (from + length (nets_of place)) row h.1)
 
-pub full_few : (cycle : Cycle) (row : List BeatNets) → full_count cycle row ≤ length row
+pub full_few : (cycle : Cycle) (row : List (PlaceNets 6)) → full_count cycle row ≤ length row
 full_few cycle [] = omega arith
-full_few cycle (nets ∷ row) = by_full (full_few cycle row) (cycle.net nets.valid.number == 1)
+full_few cycle (place ∷ row) = by_full (full_few cycle row) (cycle.net place.full.number == 1)
   where
-    by_full : full_count cycle row ≤ length row → (t : Bool) → (if t then 1 else 0) + full_count cycle row ≤ length (nets ∷ row)
+    by_full : full_count cycle row ≤ length row → (t : Bool) → (if t then 1 else 0) + full_count cycle row ≤ length (place ∷ row)
     by_full rest true = omega arith
     by_full rest false = omega arith
 

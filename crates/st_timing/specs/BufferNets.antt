@@ -8,11 +8,13 @@ use Rattle.netlist.specs.Longer.{Extends}
 use Rattle.stream_machines.specs.Stage.{Shape, PassesAll}
 use Rattle.stream_machines.specs.Buffers.{buffer_shape}
 use Rattle.stage_core.specs.declared.beat.BeatNets.{BeatNets}
-use Rattle.stage_core.specs.Beats.{AreBeatNets}
+use Rattle.stage_core.specs.Beats.{AreBeatNets, group_of}
+use Rattle.stage_core.specs.BeatPlaces.{place_nets}
 use Rattle.net_parts.specs.Nets.{StartsLow}
-use Rattle.stage_core.specs.Groups.{shown_in}
+use Rattle.net_parts.specs.declared.places.PlaceNets.{PlaceNets}
+use Rattle.net_parts.specs.Groups.{values_of}
 use Rattle.stage_core.specs.Lasting.{beat_lasts}
-use Rattle.stage_core.specs.Rows.{AreInRow, InRow, StartsAllEmpty, RowSteps, shown_first, row_lasts}
+use Rattle.net_parts.specs.PlaceRows.{AreInRow, InRow, StartsAllEmpty, RowSteps, shown_first, row_lasts}
 use Rattle.stage_core.specs.QueueNets.{FirstNumbered}
 use Rattle.st_timing.specs.declared.buffer.BufferKept.{BufferKept}
 use Rattle.st_timing.specs.TransferNets.{moving}
@@ -30,7 +32,7 @@ pub record IsReadyBufferShape (latency : ℕ) (shape : Shape) : Type 0 where
   pub passes : PassesAll shape.passes shape.up
 
 -- the places that it uses
-abbrev pub row_of : BufferKept → List BeatNets
+abbrev pub row_of : BufferKept → List (PlaceNets 6)
 row_of kept = take (kept.latency + 1) kept.places
 
 -- the numbers of its registers: those of the places, and the history's
@@ -41,7 +43,7 @@ buffer_owns kept n = InRow (row_of kept) n ⊎ (n ≡ kept.history.number)
 pub record BufferKeeps (kept : BufferKept) (latency : ℕ) (netlist : Netlist) : Type 0 where
   pub latency_is : kept.latency ≡ latency
   pub from : AreBeatNets netlist kept.from
-  pub row : AreInRow netlist kept.from (row_of kept)
+  pub row : AreInRow netlist (place_nets kept.from) (row_of kept)
   pub count : length (row_of kept) ≡ kept.latency + 1
   pub history : IsHistory netlist kept.history kept.history.width
   pub wide : kept.latency ≤ kept.history.width
@@ -56,7 +58,7 @@ pub record BufferForward (from to : BeatNets) (kept : BufferKept) (latency : ℕ
   pub numbers : FirstNumbered (row_of kept)
   pub starts : StartsAllEmpty netlist (row_of kept)
   pub begins : StartsLow netlist kept.history
-  pub shows : Always netlist (λ cycle. shown_in cycle to ≡ shown_first cycle (row_of kept) kept.from)
+  pub shows : Always netlist (λ cycle. values_of cycle (group_of to) ≡ shown_first cycle (row_of kept) (place_nets kept.from))
 
 -- after the second call: ready is shown where the full places and the ready cycles among the last leave a place, the history
 -- takes what is shown, and the beats that transfer come
@@ -64,7 +66,7 @@ pub record BufferBackward (kept : BufferKept) (ready up : NetValue) (netlist : N
   pub asks : Always netlist (λ cycle. (cycle.net up.number == 1) ≡ nat_lt (full_count cycle (row_of kept) + high_bits kept.latency (cycle.net kept.history.number)) (kept.latency + 1))
   pub takes : TakesBit netlist kept.history up
   pub steps : (run : Run) (cycles : ℕ) → IsRun netlist run cycles → (c : ℕ) → c + 1 < cycles
-      → RowSteps (cycle_of run c) (cycle_of run (c + 1)) (row_of kept) kept.from (moving kept.latency (run.net c kept.from.valid.number) (run.net c up.number) == 1) ready
+      → RowSteps (cycle_of run c) (cycle_of run (c + 1)) (row_of kept) (place_nets kept.from) (moving kept.latency (run.net c kept.from.valid.number) (run.net c up.number) == 1) ready
 
 -- ---- what stands lasts. No contract reads these proofs; the law of the buffer cites them
 
@@ -72,7 +74,7 @@ pub keeps_lasts : (kept : BufferKept) (latency : ℕ) (old new : Netlist) → Bu
 keeps_lasts kept latency old new h e w = record {
   latency_is = h.latency_is;
   from = beat_lasts old new kept.from e h.from;
-  row = record { start = h.row.start; is_row = row_lasts old new kept.from h.row.start (row_of kept) e (λ n o. w n (inl o)) h.row.is_row };
+  row = record { start = h.row.start; is_row = row_lasts old new (place_nets kept.from) h.row.start (row_of kept) e (λ n o. w n (inl o)) h.row.is_row };
   count = h.count;
   history = history_lasts old new kept.history kept.history.width e (w kept.history.number (inr refl)) h.history;
   wide = h.wide;

@@ -6,15 +6,16 @@ ghost use Rattle.netlist.specs.Runs.{Always};
 ghost use Rattle.net_parts.specs.Nets.{IsBit, IsNetOfWidth};
 ghost use Rattle.net_parts.specs.Growth.{AddsNets};
 ghost use Rattle.net_parts.specs.Counts.{high_bits};
-ghost use Rattle.st_timing.specs.CountNets.{full_count, HaveValid};
+ghost use Rattle.st_timing.specs.CountNets.{full_count, HaveFull};
 ghost use Rattle.st_timing.specs.BufferNets.{IsReadyBufferShape, buffer_owns, BufferKeeps, BufferForward, BufferBackward, keeps_lasts, forward_lasts, backward_lasts};
 
 use crate::buffer::{BufferKept, ReadyBuffer};
 use crate::count::count_full;
 use crate::transfer::transfers;
-use net_parts::{constant, count_high, make_history, set_history};
+use net_parts::{
+    PlaceNets, constant, count_high, fill_places, make_history, set_history, set_places, show_first,
+};
 use netlist::{Builder, Net, NetFault};
-use stage_core::rows::{fill_places, set_places, show_first};
 use stage_core::{BeatNets, Stage};
 use stream_machines::machines::buffer_is_a_stage;
 
@@ -22,11 +23,11 @@ use stream_machines::machines::buffer_is_a_stage;
 #[tactic(auto, using(net_parts::specs::Laws::growing))]
 fn count_taken(
     builder: &mut Builder,
-    row: &[BeatNets],
+    row: &[PlaceNets<6>],
     history: Net,
     latency: u8,
 ) -> Result<Net, NetFault>
-    requires row { HaveValid builder.old row.now }
+    requires row { HaveFull builder.old row.now }
     requires count { length row.now ≡ latency + 1 }
     requires few { latency ≤ 8 }
     requires history { IsNet builder.old history }
@@ -45,11 +46,11 @@ fn count_taken(
 #[tactic(auto, using(net_parts::specs::Laws::growing))]
 fn has_room(
     builder: &mut Builder,
-    row: &[BeatNets],
+    row: &[PlaceNets<6>],
     history: Net,
     latency: u8,
 ) -> Result<Net, NetFault>
-    requires row { HaveValid builder.old row.now }
+    requires row { HaveFull builder.old row.now }
     requires count { length row.now ≡ latency + 1 }
     requires few { latency ≤ 8 }
     requires history { IsNet builder.old history }
@@ -97,12 +98,13 @@ impl Stage for ReadyBuffer {
     ) -> Result<(BeatNets, BufferKept), NetFault> {
         let latency = self.latency;
         let count = usize::from(latency) + 1;
-        let mut places = [from; 9];
-        fill_places(builder, &from, &mut places[..count])?;
-        let to = show_first(builder, &places[..count], &from)?;
+        let coming = from.place();
+        let mut places = [coming; 9];
+        fill_places(builder, &coming, &mut places[..count])?;
+        let to = show_first(builder, &places[..count], &coming)?;
         let history = make_history(builder, latency.max(1))?;
         Ok((
-            to,
+            BeatNets::of_place(to),
             BufferKept {
                 latency,
                 places,
@@ -122,7 +124,7 @@ impl Stage for ReadyBuffer {
         let row = &kept.places[..usize::from(kept.latency) + 1];
         let up = has_room(builder, row, kept.history, kept.latency)?;
         let comes = transfers(builder, kept.latency, kept.from.valid, up)?;
-        set_places(builder, row, &kept.from, comes, ready)?;
+        set_places(builder, row, &kept.from.place(), comes, ready)?;
         set_history(builder, kept.history, up)?;
         Ok(up)
     }

@@ -3,11 +3,11 @@ use Rattle.netlist.specs.Runs.{Always}
 use Rattle.net_parts.specs.Laws.{if_ok}
 use Rattle.net_parts.specs.Counts.{high_bits, zeros_last}
 use Rattle.st_timing.specs.CountNets.{full_count}
-use Rattle.st_timing.proofs.Counting.{full_few, valid_last}
+use Rattle.st_timing.proofs.Counting.{full_few, full_last}
 use Rattle.st_timing.proofs.buffer_nets.count_taken.Goals as goal
 
 pub count_full-requires-clause-row : goal.count_full-requires-clause-row
-count_full-requires-clause-row c = valid_last _ _ _ c.constant.ensures.adds.grows.extends c.requires.row
+count_full-requires-clause-row c = full_last _ _ _ c.constant.ensures.adds.grows.extends c.requires.row
 
 pub count_high-requires-clause-zeros : goal.count_high-requires-clause-zeros
 count_high-requires-clause-zeros c = zeros_last _ _ _ c.count_full.ensures.adds.grows.extends (record { net = c.in_ok-zeros.ensures.net; value = c.in_ok-zeros.ensures.value })

@@ -3,14 +3,14 @@ use Rattle.netlist.specs.Runs.{Always}
 use Rattle.net_parts.specs.Laws.{if_ok}
 use Rattle.net_parts.specs.Counts.{zeros_last}
 use Rattle.st_timing.specs.CountNets.{full_count}
-use Rattle.st_timing.proofs.Counting.{valid_last}
+use Rattle.st_timing.proofs.Counting.{full_last}
 use Rattle.st_timing.proofs.count.count_full.Goals as goal
 
 pub add_full-requires-clause-zeros : goal.add_full-requires-clause-zeros
 add_full-requires-clause-zeros c = zeros_last _ _ _ c.constant.ensures.adds.grows.extends c.requires.zeros
 
 pub add_full-requires-clause-row : goal.add_full-requires-clause-row
-add_full-requires-clause-row c = valid_last _ _ _ c.constant.ensures.adds.grows.extends c.requires.row
+add_full-requires-clause-row c = full_last _ _ _ c.constant.ensures.adds.grows.extends c.requires.row
 
 pub returns-clause-value : goal.returns-clause-value
 returns-clause-value c =

@@ -1,29 +1,45 @@
-use Rattle.std.proofs.Common.{◌≡◌, ◌+◌, ◌==◌, nat_lt, List, take, sym, subst, ap, ◌∙◌, inl, inr, arith}
+use Rattle.std.proofs.Common.{◌≡◌, ◌+◌, ◌==◌, nat_lt, List, take, sym, subst, ap, ◌∙◌, inl, inr, lit<, arith}
 use Rattle.netlist.specs.Runs.{cycle_of}
-use Rattle.stage_core.specs.declared.beat.BeatNets.{BeatNets}
+use Rattle.net_parts.specs.declared.places.PlaceNets.{PlaceNets}
 use Rattle.stage_core.specs.Lasting.{beat_lasts}
-use Rattle.stage_core.specs.Rows.{AreInRow, InRow, RowSteps}
-use Rattle.net_parts.specs.Laws.{extends_twice}
-use Rattle.stage_core.specs.RowNets.{row_here}
-use Rattle.st_timing.specs.CountNets.{HaveValid, full_count}
+use Rattle.net_parts.specs.PlaceRows.{ArePlaceNets, AreInRow, InRow, RowSteps}
+use Rattle.stage_core.specs.BeatPlaces.{place_nets, place_are}
+use Rattle.net_parts.specs.Laws.{net_lasts, extends_twice}
+use Rattle.net_parts.specs.RowLaws.{row_here}
+use Rattle.st_timing.specs.CountNets.{HaveFull, full_count}
 use Rattle.net_parts.specs.Counts.{high_bits}
 use Rattle.st_timing.specs.BufferNets.{row_of}
-use Rattle.st_timing.proofs.Counting.{row_valid}
+use Rattle.st_timing.proofs.Counting.{row_full}
 use Rattle.st_timing.proofs.buffer_nets.ReadyBufferStage.emit_backward.Goals as goal
 
 pub has_room-requires-clause-row : goal.has_room-requires-clause-row
 has_room-requires-clause-row c =
     let here : take (c.from.result + 1) c.args.kept.places ≡ row_of c.args.kept = ap (λ n. take (n + 1) c.args.kept.places) c.from.ensures in
-    subst (HaveValid c.args.builder.now) (sym here) (row_valid _ _ _ _ c.requires.kept.row.is_row)
+    subst (HaveFull c.args.builder.now) (sym here) (row_full _ _ _ _ c.requires.kept.row.is_row)
 
-pub set_places-requires-clause-row : goal.set_places-requires-clause-row
-set_places-requires-clause-row c =
+pub set_places-requires : goal.set_places-requires
+set_places-requires c =
     let here : take (c.from.result + 1) c.args.kept.places ≡ row_of c.args.kept = ap (λ n. take (n + 1) c.args.kept.places) c.from.ensures in
-    subst (λ (row : List BeatNets). AreInRow c.transfers.new.builder c.args.kept.from row) (sym here)
-    (row_here _ _ _ _ (extends_twice _ _ _ c.has_room.ensures.adds.grows.extends c.transfers.ensures.adds.grows.extends) (λ n o w. c.transfers.ensures.adds.grows.waits n (c.has_room.ensures.adds.grows.waits n w)) c.requires.kept.row)
+    let more = extends_twice _ _ _ c.has_room.ensures.adds.grows.extends c.transfers.ensures.adds.grows.extends in
+    let row : AreInRow c.transfers.new.builder (place_nets c.args.kept.from) (row_of c.args.kept) = row_here _ _ _ _ more (λ n o w. c.transfers.ensures.adds.grows.waits n (c.has_room.ensures.adds.grows.waits n w)) c.requires.kept.row in
+    let from : ArePlaceNets c.transfers.new.builder (place_nets c.args.kept.from) = place_are _ _ (beat_lasts _ _ _ more c.requires.kept.from) in (
+      lit< tt,
+      (
+        lit< tt,
+        (
+          subst (λ (row : List (PlaceNets 6)). AreInRow c.transfers.new.builder c.place.result row) (sym here) (subst (λ (place : PlaceNets 6). AreInRow c.transfers.new.builder place (row_of c.args.kept)) (sym c.place.ensures) row),
+          (
+            subst (λ (place : PlaceNets 6). ArePlaceNets c.transfers.new.builder place) (sym c.place.ensures) from,
+            (c.in_ok-comes.ensures.net, net_lasts _ _ _ _ more c.requires.ready),
+          ),
+        ),
+      ),
+    )
 
-pub set_places-requires-clause-from : goal.set_places-requires-clause-from
-set_places-requires-clause-from c = beat_lasts _ _ _ (extends_twice _ _ _ c.has_room.ensures.adds.grows.extends c.transfers.ensures.adds.grows.extends) c.requires.kept.from
+pub returns-clause-waits : goal.returns-clause-waits
+returns-clause-waits c n apart w =
+    let here : take (c.from.result + 1) c.args.kept.places ≡ row_of c.args.kept = ap (λ n. take (n + 1) c.args.kept.places) c.from.ensures in
+    c.set_history.ensures.waits n (λ e. apart (inr e)) (c.set_places.ensures.waits n (λ o. apart (inl (subst (λ (row : List (PlaceNets 6)). InRow row n) here o))) (c.transfers.ensures.adds.grows.waits n (c.has_room.ensures.adds.grows.waits n w)))
 
 pub returns-clause-made : goal.returns-clause-made
 returns-clause-made c =
@@ -34,13 +50,14 @@ returns-clause-made c =
     record {
       asks = λ cycle v.
           c.in_ok-up.ensures.value cycle (all.valuations cycle v)
-          ∙ ap (λ (row : List BeatNets). nat_lt (full_count cycle row + high_bits c.args.kept.latency (cycle.net c.args.kept.history.number)) (c.args.kept.latency + 1)) here;
+          ∙ ap (λ (row : List (PlaceNets 6)). nat_lt (full_count cycle row + high_bits c.args.kept.latency (cycle.net c.args.kept.history.number)) (c.args.kept.latency + 1)) here;
       takes = c.in_ok-set_history.ensures.takes;
       steps = λ run cycles r n lt.
-          subst (λ m. RowSteps (cycle_of run n) (cycle_of run (n + 1)) (row_of c.args.kept) c.args.kept.from (m == 1) c.args.ready)
+          subst (λ m. RowSteps (cycle_of run n) (cycle_of run (n + 1)) (row_of c.args.kept) (place_nets c.args.kept.from) (m == 1) c.args.ready)
           (c.in_ok-comes.ensures.value (cycle_of run n) ((set.runs run cycles r).valuations n (omega arith)))
-          (subst (λ (row : List BeatNets). RowSteps (cycle_of run n) (cycle_of run (n + 1)) row c.args.kept.from (run.net n c.in_ok-comes.comes.number == 1) c.args.ready) here
-          (c.in_ok-set_places.ensures.steps run cycles (last.runs run cycles r) n lt));
+          (subst (λ (row : List (PlaceNets 6)). RowSteps (cycle_of run n) (cycle_of run (n + 1)) row (place_nets c.args.kept.from) (run.net n c.in_ok-comes.comes.number == 1) c.args.ready) here
+          (subst (λ (place : PlaceNets 6). RowSteps (cycle_of run n) (cycle_of run (n + 1)) (take (c.from.result + 1) c.args.kept.places) place (run.net n c.in_ok-comes.comes.number == 1) c.args.ready) c.place.ensures
+          (c.in_ok-set_places.ensures.steps run cycles (last.runs run cycles r) n lt)));
     }
 
 pub returns-clause-no_more_wait : goal.returns-clause-no_more_wait
@@ -49,5 +66,5 @@ returns-clause-no_more_wait c n w =
     let late = c.in_ok-set_history.ensures.no_more_wait n w in
     let set = c.in_ok-set_places.ensures.no_more_wait n late.0 in (
       c.has_room.ensures.adds.grows.no_more_wait n (c.transfers.ensures.adds.grows.no_more_wait n set.0),
-      λ o. elim o [ inl p ↦ set.1 (subst (λ (row : List BeatNets). InRow row n) (sym here) p) | inr p ↦ late.1 p ],
+      λ o. elim o [ inl p ↦ set.1 (subst (λ (row : List (PlaceNets 6)). InRow row n) (sym here) p) | inr p ↦ late.1 p ],
     )

@@ -1,16 +1,39 @@
-use Rattle.std.proofs.Common.{◌≡◌, ◌+◌, List, length, refl, sym, subst, ap, ◌∙◌, inl, inr, arith}
+use Rattle.std.proofs.Common.{◌≡◌, ◌+◌, List, length, refl, sym, subst, ap, ◌∙◌, inl, inr, lit<, arith}
 use Rattle.netlist.specs.Netlists.{IsWaiting}
-use Rattle.stage_core.specs.declared.beat.BeatNets.{BeatNets}
+use Rattle.net_parts.specs.declared.places.PlaceNets.{PlaceNets}
 use Rattle.stage_core.specs.Lasting.{beat_lasts}
-use Rattle.stage_core.specs.Rows.{AreInRow, InRow, StartsAllEmpty, shown_first}
-use Rattle.stage_core.specs.QueueNets.{FirstNumbered}
+use Rattle.net_parts.specs.Groups.{values_of}
+use Rattle.net_parts.specs.PlaceRows.{ArePlaceNets, HaveSameWidths, AreInRow, InRow, StartsAllEmpty, shown_first}
+use Rattle.stage_core.specs.BeatPlaces.{place_nets, place_are, beat_are, place_widths}
+use Rattle.stage_core.specs.QueueNets.{FirstNumbered, first_numbered}
 use Rattle.net_parts.specs.Laws.{extends_twice, waiting_within}
-use Rattle.stage_core.specs.RowNets.{row_here, row_waits, first_numbered}
+use Rattle.net_parts.specs.RowLaws.{row_here, row_waits}
 use Rattle.st_timing.proofs.BufferRows.{front, front_count}
 use Rattle.st_timing.proofs.buffer_nets.ReadyBufferStage.emit_forward.Goals as goal
 
+pub show_first-requires : goal.show_first-requires
+show_first-requires c =
+    let few = c.args.self.now.few in
+    let same = c.from-count.ensures in
+    let count = front_count c.fill_places.new.places _ (c.from-count.result + 1) c.fill_places.auto.places (omega (arith, few, same)) in (
+      lit< tt,
+      (
+        lit< tt,
+        (
+          subst (λ (row : List (PlaceNets 6)). AreInRow c.fill_places.new.builder c.place-coming.result row) (sym (front _ _ _ _ refl count)) c.in_ok-fill_places.ensures.row,
+          subst (λ (place : PlaceNets 6). ArePlaceNets c.fill_places.new.builder place) (sym c.place-coming.ensures) (place_are _ _ (beat_lasts _ _ _ c.fill_places.ensures.grows.extends c.requires.from)),
+        ),
+      ),
+    )
+
 pub returns-clause-beat : goal.returns-clause-beat
-returns-clause-beat c = beat_lasts _ _ _ c.make_history.ensures.grows.extends c.in_ok-to.ensures.beat
+returns-clause-beat c =
+    beat_lasts _ _ _ c.make_history.ensures.grows.extends
+    (beat_are _ _ c.of_place.result c.args.from c.in_ok-to.to c.of_place.ensures c.in_ok-to.ensures.place (subst (λ (place : PlaceNets 6). HaveSameWidths c.in_ok-to.to place) c.place-coming.ensures c.in_ok-to.ensures.widths) c.requires.from)
+
+pub returns-clause-widths : goal.returns-clause-widths
+returns-clause-widths c =
+    place_widths c.of_place.result c.args.from c.in_ok-to.to c.of_place.ensures (subst (λ (place : PlaceNets 6). HaveSameWidths c.in_ok-to.to place) c.place-coming.ensures c.in_ok-to.ensures.widths)
 
 pub returns-clause-kept : goal.returns-clause-kept
 returns-clause-kept c =
@@ -23,13 +46,14 @@ returns-clause-kept c =
     record {
       latency_is = refl;
       from = beat_lasts _ _ _ (extends_twice _ _ _ c.fill_places.ensures.grows.extends more) c.requires.from;
-      row = subst (λ (row : List BeatNets). AreInRow c.make_history.new.builder c.args.from row) (sym (front _ _ _ _ here count))
-          (row_here _ _ _ _ more (λ n o w. c.make_history.ensures.still_wait n (c.show_first.ensures.adds.grows.waits n w)) c.in_ok-fill_places.ensures.row);
+      row = subst (λ (row : List (PlaceNets 6)). AreInRow c.make_history.new.builder (place_nets c.args.from) row) (sym (front _ _ _ _ here count))
+          (subst (λ (place : PlaceNets 6). AreInRow c.make_history.new.builder place c.fill_places.new.places) c.place-coming.ensures
+          (row_here _ _ _ _ more (λ n o w. c.make_history.ensures.still_wait n (c.show_first.ensures.adds.grows.waits n w)) c.in_ok-fill_places.ensures.row));
       count = ap length (front _ _ _ _ here count) ∙ count ∙ sym here;
       history = record { net = record { is_net = net.is_net; has_width = refl }; waits = c.in_ok-history.ensures.history.waits };
       wide = (let width = net.has_width in let most = c.max.ensures in omega (arith, width, most));
       apart = λ o.
-          (let at = c.in_ok-fill_places.ensures.made c.in_ok-history.history.number (subst (λ (row : List BeatNets). InRow row c.in_ok-history.history.number) (front _ _ _ _ here count) o) in
+          (let at = c.in_ok-fill_places.ensures.made c.in_ok-history.history.number (subst (λ (row : List (PlaceNets 6)). InRow row c.in_ok-history.history.number) (front _ _ _ _ here count) o) in
           let number = c.in_ok-history.ensures.number in
           let shown = c.show_first.ensures.adds.grows.extends.count in
           absurd (omega (arith, at.1, number, shown)));
@@ -45,7 +69,7 @@ returns-clause-owned c n o =
     let shown = c.show_first.ensures.adds.grows.extends.count in
     let made = c.make_history.ensures.grows.extends.count in
     elim o [
-      | inl p ↦ (let at = c.in_ok-fill_places.ensures.made n (subst (λ (row : List BeatNets). InRow row n) (front _ _ _ _ here count) p) in (at.0, omega (arith, at.1, shown, made)))
+      | inl p ↦ (let at = c.in_ok-fill_places.ensures.made n (subst (λ (row : List (PlaceNets 6)). InRow row n) (front _ _ _ _ here count) p) in (at.0, omega (arith, at.1, shown, made)))
       | inr p ↦ (let number = c.in_ok-history.ensures.number in let within = waiting_within _ _ c.in_ok-history.ensures.history.waits in (omega (arith, p, number, filled, shown), omega (arith, p, within)))
     ]
 
@@ -62,12 +86,14 @@ returns-clause-made c =
       count = ap length (front _ _ _ _ here count) ∙ count ∙ sym here;
       wide = (let width = c.in_ok-history.ensures.history.net.has_width in let most = c.max.ensures in omega (arith, width, most));
       numbers = subst FirstNumbered (sym (front _ _ _ _ here count)) (first_numbered _ _ _ _ c.in_ok-fill_places.ensures.row.is_row);
-      starts = subst (λ (row : List BeatNets). StartsAllEmpty c.make_history.new.builder row) (sym (front _ _ _ _ here count))
+      starts = subst (λ (row : List (PlaceNets 6)). StartsAllEmpty c.make_history.new.builder row) (sym (front _ _ _ _ here count))
           (λ run cycles r. c.in_ok-fill_places.ensures.starts run cycles (more.runs run cycles r));
       begins = c.in_ok-history.ensures.starts;
       shows = λ cycle v.
-          c.in_ok-to.ensures.value cycle (c.make_history.ensures.grows.extends.valuations cycle v)
-          ∙ ap (λ (row : List BeatNets). shown_first cycle row c.args.from) (front _ _ _ _ refl count ∙ sym (front _ _ _ _ here count));
+          ap (values_of cycle) c.of_place.ensures ∙ c.in_ok-to.ensures.value cycle (c.make_history.ensures.grows.extends.valuations cycle v)
+          ∙ ap (λ (row : List (PlaceNets 6)). shown_first cycle row c.place-coming.result) (front _ _ _ _ refl count)
+          ∙ ap (λ (place : PlaceNets 6). shown_first cycle c.fill_places.new.places place) c.place-coming.ensures
+          ∙ ap (λ (row : List (PlaceNets 6)). shown_first cycle row (place_nets c.args.from)) (sym (front _ _ _ _ here count));
     }
 
 pub returns-clause-own_wait : goal.returns-clause-own_wait
@@ -77,7 +103,7 @@ returns-clause-own_wait c n o =
     let count = front_count c.fill_places.new.places _ (c.from-count.result + 1) c.fill_places.auto.places (omega (arith, few, same)) in
     let here : c.args.self.now.latency + 1 ≡ c.from-count.result + 1 = ap (λ n. n + 1) (sym same) in
     elim o [
-      | inl p ↦ c.make_history.ensures.still_wait n (c.show_first.ensures.adds.grows.waits n (row_waits _ _ _ _ c.in_ok-fill_places.ensures.row.is_row n (subst (λ (row : List BeatNets). InRow row n) (front _ _ _ _ here count) p)))
+      | inl p ↦ c.make_history.ensures.still_wait n (c.show_first.ensures.adds.grows.waits n (row_waits _ _ _ _ c.in_ok-fill_places.ensures.row.is_row n (subst (λ (row : List (PlaceNets 6)). InRow row n) (front _ _ _ _ here count) p)))
       | inr p ↦ subst (λ m. IsWaiting c.make_history.new.builder m) (sym p) c.in_ok-history.ensures.history.waits
     ]
 
@@ -90,7 +116,7 @@ returns-clause-newly c n w =
     elim (c.make_history.ensures.newly n w) [
       | inl before ↦ elim (c.in_ok-fill_places.ensures.newly n (c.show_first.ensures.adds.grows.no_more_wait n before)) [
         | inl old ↦ inl old
-        | inr made ↦ inr (inl (subst (λ (row : List BeatNets). InRow row n) (sym (front _ _ _ _ here count)) made))
+        | inr made ↦ inr (inl (subst (λ (row : List (PlaceNets 6)). InRow row n) (sym (front _ _ _ _ here count)) made))
       ]
       | inr last ↦ inr (inr (last ∙ sym c.in_ok-history.ensures.number))
     ]
