@@ -14,7 +14,7 @@ use Rattle.stream_machines.specs.Buffers.{IsBufferRun, buffer_shape}
 use Rattle.stream_machines.specs.ReadyCycles.{has_place}
 use Rattle.stage_core.specs.declared.beat.BeatNets.{BeatNets}
 use Rattle.stage_core.specs.Beats.{view_of, ShowSame, group_of}
-use Rattle.stage_core.specs.BeatPlaces.{place_nets, beat_of, beats_in}
+use Rattle.stage_core.specs.BeatPlaces.{place_nets, beats_in}
 use Rattle.stage_core.specs.Law.{KeepsShape, ReadyPasses}
 use Rattle.net_parts.specs.declared.places.PlaceNets.{PlaceNets}
 use Rattle.net_parts.specs.Groups.{values_of}

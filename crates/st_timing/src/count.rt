@@ -12,7 +12,12 @@ use netlist::{Builder, Net, NetFault};
 
 /// The sum, and one more for each full place.
 #[tactic(auto, using(net_parts::specs::Laws::growing))]
-fn add_full(builder: &mut Builder, zeros: Net, sum: Net, row: &[PlaceNets<6>]) -> Result<Net, NetFault>
+fn add_full(
+    builder: &mut Builder,
+    zeros: Net,
+    sum: Net,
+    row: &[PlaceNets<6>],
+) -> Result<Net, NetFault>
     requires zeros { AreZeros builder.old zeros }
     requires sum { IsNetOfWidth builder.old sum 5 }
     requires small { Always builder.old (λ cycle. cycle.net sum.number + length row.now < 32) }
