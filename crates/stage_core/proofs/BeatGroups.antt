@@ -1,32 +1,22 @@
 -- The nets of a beat as a group of seven.
-use Rattle.std.proofs.Common.{◌≡◌, ℕ, Bool, true, false, if◌then◌else◌, [], ◌∷◌, refl, arith, inl, inr}
+use Rattle.std.proofs.Common.{◌≡◌, ℕ, Bool, true, false, if◌then◌else◌, refl, ap, arith, inl, inr}
 use Rattle.netlist.specs.Netlists.{Netlist}
 use Rattle.netlist.specs.Runs.{Cycle}
 use Rattle.net_parts.specs.Groups.{AreNets, group_widths, values_of, AreNumberedFrom, InGroup, all_low}
 use Rattle.stage_core.specs.declared.beat.BeatNets.{BeatNets}
 use Rattle.stage_core.specs.Beats.{AreBeatNets, HaveSameWidths, group_of}
-use Rattle.stage_core.specs.Groups.{Shown, shown_in, nothing_shown, AreNumbered, IsOfBeat}
-use Rattle.stage_core.specs.BeatLaws.{of_each, shown_same}
+use Rattle.stage_core.specs.Groups.{shown_in, nothing_shown, AreNumbered, IsOfBeat}
+use Rattle.stage_core.specs.BeatPlaces.{shown_of, place_are}
+use Rattle.stage_core.specs.BeatLaws.{of_each}
 
 pub are_group : (netlist : Netlist) (beat : BeatNets) → AreBeatNets netlist beat → AreNets netlist (group_of beat)
-are_group netlist beat h = (h.valid.is_net, (h.word, (h.channel, (h.error, (h.first.is_net, (h.last.is_net, (h.empty, tt)))))))
+are_group netlist beat h = (h.valid.is_net, (place_are netlist beat h).item)
 
 pub same_widths : (one other : BeatNets) → HaveSameWidths one other → group_widths (group_of one) ≡ group_widths (group_of other)
 same_widths one other h = rw (h.valid, h.word, h.channel, h.error, h.first, h.last, h.empty) refl
 
 pub widths_same : (one other : BeatNets) → group_widths (group_of one) ≡ group_widths (group_of other) → HaveSameWidths one other
 widths_same one other e = record { valid = cc; word = cc; channel = cc; error = cc; first = cc; last = cc; empty = cc }
-
-pub beat_of : (netlist : Netlist) (beat : BeatNets) → AreNets netlist (group_of beat) → beat.valid.width ≡ 1 → beat.first.width ≡ 1 → beat.last.width ≡ 1 → AreBeatNets netlist beat
-beat_of netlist beat h v f l = record {
-  valid = record { is_net = h.0; has_width = v };
-  word = h.1.0;
-  channel = h.1.1.0;
-  error = h.1.1.1.0;
-  first = record { is_net = h.1.1.1.1.0; has_width = f };
-  last = record { is_net = h.1.1.1.1.1.0; has_width = l };
-  empty = h.1.1.1.1.1.1.0;
-}
 
 pub numbered_of : (beat : BeatNets) (from : ℕ) → AreNumberedFrom from (group_of beat) → AreNumbered beat from
 numbered_of beat from h = record {
@@ -77,15 +67,9 @@ in_beat beat from h n o =
     of_each (InGroup (group_of beat)) beat from h (inl refl) (inr (inl refl)) (inr (inr (inl refl))) (inr (inr (inr (inl refl)))) (inr (inr (inr (inr (inl refl))))) (inr (inr (inr (inr (inr (inl refl)))))) (inr (inr (inr (inr (inr (inr (inl refl))))))) n o
 
 -- what is shown, from the values of the group
-shown_values : (x y : Shown) → (x.valid ∷ x.beat.word ∷ x.beat.channel ∷ x.beat.error ∷ x.beat.first ∷ x.beat.last ∷ x.beat.empty ∷ []) ≡ (y.valid ∷ y.beat.word ∷ y.beat.channel ∷ y.beat.error ∷ y.beat.first ∷ y.beat.last ∷ y.beat.empty ∷ []) → x ≡ y
-shown_values x y e = shown_same x y (cc) (cc) (cc) (cc) (cc) (cc) (cc)
-
-pub shown_of : (one other : Cycle) (beat next : BeatNets) → values_of one (group_of beat) ≡ values_of other (group_of next) → shown_in one beat ≡ shown_in other next
-shown_of one other beat next e = shown_values (shown_in one beat) (shown_in other next) e
-
 pub chosen_of : (t : Bool) (cycle : Cycle) (beat one other : BeatNets) → values_of cycle (group_of beat) ≡ (if t then values_of cycle (group_of other) else values_of cycle (group_of one)) → shown_in cycle beat ≡ (if t then shown_in cycle other else shown_in cycle one)
-chosen_of true cycle beat one other e = shown_of cycle cycle beat other e
-chosen_of false cycle beat one other e = shown_of cycle cycle beat one e
+chosen_of true cycle beat one other e = ap shown_of e
+chosen_of false cycle beat one other e = ap shown_of e
 
 pub low_of : (cycle : Cycle) (beat : BeatNets) → values_of cycle (group_of beat) ≡ all_low (group_of beat) → shown_in cycle beat ≡ nothing_shown
-low_of cycle beat e = shown_values (shown_in cycle beat) nothing_shown e
+low_of cycle beat e = ap shown_of e

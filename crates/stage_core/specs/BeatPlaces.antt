@@ -46,29 +46,23 @@ beats_in cycle row = row_as beat_of (row_in cycle row)
 pub place_are : (netlist : Netlist) (beat : BeatNets) → AreBeatNets netlist beat → ArePlaceNets netlist (place_nets beat)
 place_are netlist beat h = record { full = h.valid; item = (h.word, (h.channel, (h.error, (h.first.is_net, (h.last.is_net, (h.empty, tt)))))) }
 
+pub beat_of_group : (netlist : Netlist) (beat : BeatNets) → AreNets netlist (group_of beat) → beat.valid.width ≡ 1 → beat.first.width ≡ 1 → beat.last.width ≡ 1 → AreBeatNets netlist beat
+beat_of_group netlist beat h v f l = record {
+  valid = record { is_net = h.0; has_width = v };
+  word = h.1.0;
+  channel = h.1.1.0;
+  error = h.1.1.1.0;
+  first = record { is_net = h.1.1.1.1.0; has_width = f };
+  last = record { is_net = h.1.1.1.1.1.0; has_width = l };
+  empty = h.1.1.1.1.1.1.0;
+}
+
 -- a beat whose nets are those of a place of the widths of a beat
 pub beat_are : (netlist old : Netlist) (beat like : BeatNets) (place : PlaceNets 6) → group_of beat ≡ nets_of place → ArePlaceNets netlist place → HaveSameWidths place (place_nets like) → AreBeatNets old like → AreBeatNets netlist beat
 beat_are netlist old beat like place same h widths l =
-    let nets : AreNets netlist (group_of beat) = subst (AreNets netlist) (sym same) (h.full.is_net, h.item) in
     let wide : group_widths (group_of beat) ≡ group_widths (group_of like) = ap group_widths same ∙ widths in
-    record {
-      valid = record { is_net = nets.0; has_width = h_valid wide ∙ l.valid.has_width };
-      word = nets.1.0;
-      channel = nets.1.1.0;
-      error = nets.1.1.1.0;
-      first = record { is_net = nets.1.1.1.1.0; has_width = h_first wide ∙ l.first.has_width };
-      last = record { is_net = nets.1.1.1.1.1.0; has_width = h_last wide ∙ l.last.has_width };
-      empty = nets.1.1.1.1.1.1.0;
-    }
-  where
-    h_valid : group_widths (group_of beat) ≡ group_widths (group_of like) → beat.valid.width ≡ like.valid.width
-    h_valid e = ap first_value e
-
-    h_first : group_widths (group_of beat) ≡ group_widths (group_of like) → beat.first.width ≡ like.first.width
-    h_first e = ap (λ values. first_value (drop 4 values)) e
-
-    h_last : group_widths (group_of beat) ≡ group_widths (group_of like) → beat.last.width ≡ like.last.width
-    h_last e = ap (λ values. first_value (drop 5 values)) e
+    beat_of_group netlist beat (subst (AreNets netlist) (sym same) (h.full.is_net, h.item)) (ap first_value wide ∙ l.valid.has_width)
+    (ap (λ values. first_value (drop 4 values)) wide ∙ l.first.has_width) (ap (λ values. first_value (drop 5 values)) wide ∙ l.last.has_width)
 
 pub place_widths : (beat like : BeatNets) (place : PlaceNets 6) → group_of beat ≡ nets_of place → HaveSameWidths place (place_nets like) → widths_of beat ≡ widths_of like
 place_widths beat like place same widths = ap widths_read (ap group_widths same ∙ widths)

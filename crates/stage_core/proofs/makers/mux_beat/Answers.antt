@@ -4,7 +4,8 @@ use Rattle.net_parts.specs.Bits.{chosen_high}
 use Rattle.net_parts.specs.Laws.{bit_fits}
 use Rattle.net_parts.specs.Groups.{AreNets, group_widths, ChooseAll}
 use Rattle.stage_core.specs.Beats.{group_of}
-use Rattle.stage_core.proofs.BeatGroups.{are_group, same_widths, widths_same, beat_of, chosen_of}
+use Rattle.stage_core.specs.BeatPlaces.{beat_of_group}
+use Rattle.stage_core.proofs.BeatGroups.{are_group, same_widths, widths_same, chosen_of}
 use Rattle.stage_core.proofs.makers.mux_beat.Goals as goal
 
 pub choose_all-requires : goal.choose_all-requires
@@ -29,7 +30,7 @@ returns-clause-widths c =
 pub returns-clause-beat : goal.returns-clause-beat
 returns-clause-beat c =
     let same = returns-clause-widths c in
-    beat_of _ c.of_group.result (subst (AreNets c.choose_all.new.builder) (sym c.of_group.ensures) c.in_ok-made.ensures.nets) (same.valid ∙ c.requires.one.valid.has_width) (same.first ∙ c.requires.one.first.has_width) (same.last ∙ c.requires.one.last.has_width)
+    beat_of_group _ c.of_group.result (subst (AreNets c.choose_all.new.builder) (sym c.of_group.ensures) c.in_ok-made.ensures.nets) (same.valid ∙ c.requires.one.valid.has_width) (same.first ∙ c.requires.one.first.has_width) (same.last ∙ c.requires.one.last.has_width)
 
 pub returns-clause-value : goal.returns-clause-value
 returns-clause-value c cycle v =

@@ -2,7 +2,8 @@ use Rattle.std.proofs.Common.{length, sym, subst, ap, ◌∙◌, lit<, arith, in
 use Rattle.netlist.specs.Runs.{cycle_of}
 use Rattle.net_parts.specs.Groups.{AreNets, group_widths, AreNumberedFrom, StartAllLow}
 use Rattle.stage_core.specs.Groups.{AreNumbered}
-use Rattle.stage_core.proofs.BeatGroups.{are_group, beat_of, widths_same, numbered_of, low_of}
+use Rattle.stage_core.specs.BeatPlaces.{beat_of_group}
+use Rattle.stage_core.proofs.BeatGroups.{are_group, widths_same, numbered_of, low_of}
 use Rattle.stage_core.proofs.makers.reg_beat.Goals as goal
 
 pub low_registers-requires : goal.low_registers-requires
@@ -15,7 +16,7 @@ returns-clause-widths c =
 pub returns-clause-beat : goal.returns-clause-beat
 returns-clause-beat c =
     let same = returns-clause-widths c in
-    beat_of _ c.of_group.result (subst (AreNets c.low_registers.new.builder) (sym c.of_group.ensures) c.in_ok-made.ensures.nets) (same.valid ∙ c.requires.valid.has_width) (same.first ∙ c.requires.first.has_width) (same.last ∙ c.requires.last.has_width)
+    beat_of_group _ c.of_group.result (subst (AreNets c.low_registers.new.builder) (sym c.of_group.ensures) c.in_ok-made.ensures.nets) (same.valid ∙ c.requires.valid.has_width) (same.first ∙ c.requires.first.has_width) (same.last ∙ c.requires.last.has_width)
 
 pub returns-clause-registers : goal.returns-clause-registers
 returns-clause-registers c =

@@ -1,9 +1,9 @@
-use Rattle.std.proofs.Common.{◌+◌, List, sym, subst, ap, ◌∙◌, lit<}
+use Rattle.std.proofs.Common.{List, sym, subst, ap, ◌∙◌, lit<}
 use Rattle.netlist.specs.Nets.{NetValue}
-use Rattle.netlist.specs.Runs.{cycle_of}
 use Rattle.net_parts.specs.Groups.{AreNets, AreWaiting, group_widths, InGroup, TakeAllNext}
 use Rattle.stage_core.specs.Beats.{group_of}
-use Rattle.stage_core.proofs.BeatGroups.{are_group, same_widths, numbered_from, of_beat, in_beat, shown_of}
+use Rattle.stage_core.specs.BeatPlaces.{shown_of}
+use Rattle.stage_core.proofs.BeatGroups.{are_group, same_widths, numbered_from, of_beat, in_beat}
 use Rattle.stage_core.proofs.makers.set_next_beat.Goals as goal
 
 pub set_all_next-requires : goal.set_all_next-requires
@@ -29,7 +29,7 @@ pub returns-clause-value : goal.returns-clause-value
 returns-clause-value c run cycles r n lt =
     let takes = subst (λ (group : List NetValue). TakeAllNext c.set_all_next.new.builder group (group_of c.args.next.now)) c.group.ensures
     (subst (λ (next : List NetValue). TakeAllNext c.set_all_next.new.builder c.group.result next) c.group-2.ensures c.set_all_next.ensures.value) in
-    shown_of (cycle_of run (n + 1)) (cycle_of run n) c.args.registers.now c.args.next.now (takes run cycles r n lt)
+    ap shown_of (takes run cycles r n lt)
 
 pub returns-clause-still_wait : goal.returns-clause-still_wait
 returns-clause-still_wait c n apart w =
