@@ -6,7 +6,7 @@ ghost use Rattle.std.specs.Process.{exit_status};
 ghost use Rattle.avalon_top.specs.Lines.{status_of};
 ghost use Rattle.avalon_top.specs.Run.{Reads, Writes, Answers};
 
-use av_base::{DirShelf, StdSink};
+use av_files::{DirShelf, StdSink};
 use avalon_top::{Exit, run};
 use std::process::ExitCode;
 use std::rt::{Env, Files};

@@ -1,6 +1,6 @@
 -- What the steps of a run answer before its result is written.
 use Rattle.std.specs.Prelude.{◌≡◌, ℕ, ◌<◌, ◌⊎◌, List, length, Some, None}
-use Rattle.av_base.specs.Outside.{Rose, WhereTold}
+use Rattle.av_files.specs.Outside.{Rose, WhereTold}
 use Rattle.system_tables.specs.Tables.{SystemTable}
 use Rattle.link_rules.specs.declared.faults.LinkRule.TheVariants as link
 use Rattle.system_plan.specs.declared.faults.Refusal.{Refusal}

@@ -1,6 +1,6 @@
 -- What a run answers, and when.
 use Rattle.std.specs.Prelude.{◌≡◌, ℕ, ◌+◌, ◌<◌, ◌≤◌, ◌⊎◌, List, length, take, slice_get, All, Option, Some, None}
-use Rattle.av_base.specs.Outside.{Rose, with_more, WhereTold}
+use Rattle.av_files.specs.Outside.{Rose, with_more, WhereTold}
 use Rattle.link_rules.specs.declared.faults.LinkRule.{LinkRule}
 use Rattle.link_rules.specs.declared.faults.LinkRule.TheVariants as link
 use Rattle.link_rules.specs.Plans.{PlanTable}

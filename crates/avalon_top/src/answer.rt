@@ -1,5 +1,5 @@
 ghost use Rattle.std.specs.Prelude.{◌≡◌, ℕ, ◌+◌, ◌<◌, ◌≤◌, ◌⊎◌, None, length, map, string_bytes, All, IfOk, IfErr, OnOk};
-ghost use Rattle.av_base.specs.Outside.{WhereTold};
+ghost use Rattle.av_files.specs.Outside.{WhereTold};
 ghost use Rattle.netlist.specs.Netlists.{Netlist};
 ghost use Rattle.verilog_writer.specs.Text.{text_of};
 ghost use Rattle.interconnect.specs.Wires.{pending_of};
@@ -10,7 +10,8 @@ ghost use Rattle.avalon_top.specs.Loading.{StopsAtFile, StopsFiles, StopsWriting
 
 use crate::exit::Exit;
 use crate::words::{Task, read_words};
-use av_base::{Bytes, List, LoadFault, NoMemory, Shelf, Sink, load_all, put_all};
+use av_base::{Bytes, List, NoMemory};
+use av_files::{LoadFault, Shelf, Sink, load_all, put_all};
 use interconnect::{build, pending};
 use link_rules::{LinkRule, Plan};
 use map_text::map_text;

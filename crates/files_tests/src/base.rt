@@ -1,6 +1,7 @@
-use av_base::{
-    Bytes, DirShelf, List, LoadFault, MemShelf, MemSink, ReadStep, Shelf, Sink, StdSink, Text, Val,
-    WriteStep, load_all, put_all,
+use av_base::{Bytes, List, Text, Val};
+use av_files::{
+    DirShelf, LoadFault, MemShelf, MemSink, ReadStep, Shelf, Sink, StdSink, WriteStep, load_all,
+    put_all,
 };
 use std::alloc::Global;
 use std::test::Fail;

@@ -18,7 +18,7 @@ use Rattle.netlist.specs.Longer.{Extends}
 use Rattle.stream_runs.specs.Ends.{Declared}
 use Rattle.net_parts.specs.Laws.{extends_twice}
 use Rattle.net_parts.specs.Nets.{IsNetOfWidth, IsBit}
-use Rattle.stream_path.specs.Joining.{declared}
+use Rattle.st_timing.specs.Ends.{declared}
 use Rattle.stream_path.specs.Ends.{IsNetWhere, ArePathNets}
 use Rattle.stream_path.specs.Serving.{ServesInLonger}
 use Rattle.stream_path.specs.declared.ends.PathNets.{PathNets}

@@ -17,7 +17,7 @@ use Rattle.address_map.specs.Maps.{is_mm, mm_connections, hosts_of, agents_of}
 use Rattle.link_rules.specs.Links.{streams_of, weight_of}
 use Rattle.netlist.specs.declared.line.PortLine.{PortLine}
 use Rattle.netlist.specs.Netlists.{Netlist, IsDriven, IsWellMade, driver_of}
-use Rattle.stream_path.specs.Joining.{declared}
+use Rattle.st_timing.specs.Ends.{declared}
 use Rattle.port_tables.specs.declared.roles.PortRole.TheVariants as role
 use Rattle.port_tables.specs.declared.roles.RolePort.{RolePort}
 use Rattle.port_tables.specs.Lists.{Among, among_at, at_among, among_append, among_map, among_flat_map, among_filter}

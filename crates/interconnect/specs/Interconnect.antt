@@ -7,7 +7,7 @@ use Rattle.iface_roles.specs.declared.records.StreamPort.{StreamPort}
 use Rattle.system_tables.specs.Tables.{SystemTable}
 use Rattle.link_rules.specs.Links.{weight_of}
 use Rattle.netlist.specs.Netlists.{Netlist, input_count}
-use Rattle.stream_path.specs.Joining.{declared}
+use Rattle.st_timing.specs.Ends.{declared}
 use Rattle.port_tables.specs.Ports.{name_at, ports_of, module_name}
 use Rattle.interconnect.specs.Wires.{is_wire_stream, wires_before}
 use Rattle.interconnect.specs.Streams.{IsStream, ServesStream, IsWired}

@@ -13,7 +13,7 @@ use Rattle.netlist.specs.Nets.{NetValue, net_of}
 use Rattle.netlist.specs.Netlists.{Netlist, IsClocked, IsWritten, driver_of, input_count, appended}
 use Rattle.stream_runs.specs.Ends.{Declared}
 use Rattle.net_parts.specs.Growth.{GrowsBy, StillWait}
-use Rattle.stream_path.specs.Joining.{declared}
+use Rattle.st_timing.specs.Ends.{declared}
 use Rattle.stream_path.specs.Ends.{ArePathNets}
 use Rattle.stream_path.specs.Serving.{most_nets, ServesInLonger}
 use Rattle.stream_path.specs.declared.ends.SourceNets.{SourceNets}

@@ -13,7 +13,7 @@ use Rattle.address_map.specs.Maps.{mm_connections}
 use Rattle.link_rules.specs.Links.{streams_of}
 use Rattle.link_rules.specs.declared.plan_links.StreamLink.{StreamLink}
 use Rattle.stream_runs.specs.Ends.{Declared}
-use Rattle.stream_path.specs.Joining.{declared}
+use Rattle.st_timing.specs.Ends.{declared}
 
 abbrev pub both_or_neither : Bool → Bool → Bool
 both_or_neither true b = b

@@ -1,7 +1,7 @@
 ghost use Rattle.std.specs.Prelude.{◌≡◌, length};
 ghost use Rattle.system_tables.specs.Tables.{IsLogic};
 ghost use Rattle.address_map.specs.Maps.{is_mm, mm_connections};
-ghost use Rattle.stream_path.specs.Joining.{declared};
+ghost use Rattle.st_timing.specs.Ends.{declared};
 ghost use Rattle.interconnect.specs.Wires.{has_same_beats, has_plain_ready, is_wire_stream, is_wire_host, is_wire_agent, fills_range, is_wire_memory, is_only, is_built, pending_of};
 
 use iface_roles::{AgentPort, Finished, HostPort, Kind, SinkPort, SourcePort};

@@ -27,7 +27,7 @@ use Rattle.stream_runs.specs.Ends.{Declared}
 use Rattle.port_tables.specs.declared.roles.PortRole.TheVariants as role
 use Rattle.port_tables.specs.declared.roles.RolePort.{RolePort}
 use Rattle.port_tables.specs.Ports.{port_of, bits_if, host_ports, agent_ports, stream_ports, may_have, has_bits, role_ports, starts, name_at, port_name, port_line, end_ports, connection_ends, ends_of, ports_of, module_name}
-use Rattle.stream_path.specs.Joining.{declared}
+use Rattle.st_timing.specs.Ends.{declared}
 use Rattle.port_tables.specs.Ends.{IsNarrow, IsPlanEnd}
 use Rattle.port_tables.specs.EndFacts.{IsPlanned, known_is, small_word}
 use Rattle.port_tables.proofs.Names.{IsNamed, one_name}

@@ -13,7 +13,7 @@ use Rattle.link_rules.specs.Links.{streams_of}
 use Rattle.link_rules.specs.Plans.{instance_name_at, interface_name_at}
 use Rattle.netlist.specs.declared.line.PortLine.{PortLine}
 use Rattle.stream_runs.specs.Ends.{Declared}
-use Rattle.stream_path.specs.Joining.{declared}
+use Rattle.st_timing.specs.Ends.{declared}
 use Rattle.port_tables.specs.declared.roles.PortRole.{PortRole}
 use Rattle.port_tables.specs.declared.roles.PortRole.TheVariants as role
 use Rattle.port_tables.specs.declared.roles.RolePort.{RolePort}

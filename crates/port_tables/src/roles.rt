@@ -1,6 +1,6 @@
 ghost use Rattle.std.specs.Prelude.{◌≡◌, ◌*◌, ◌≤◌};
 ghost use Rattle.port_tables.specs.Ports.{role_word, is_forward, is_output, port_of, bits_if, host_ports, agent_ports, stream_ports};
-ghost use Rattle.stream_path.specs.Joining.{declared};
+ghost use Rattle.st_timing.specs.Ends.{declared};
 
 use iface_roles::{AgentPort, HostPort, SinkPort, SourcePort};
 

@@ -1,5 +1,6 @@
 use crate::book::Row;
-use av_base::{Bytes, List, MemShelf, MemSink, NoMemory};
+use av_base::{Bytes, List, NoMemory};
+use av_files::{MemShelf, MemSink};
 use avalon_top::{Exit, run};
 use std::alloc::Global;
 

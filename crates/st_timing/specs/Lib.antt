@@ -1,3 +1,4 @@
+pub mod Ends
 pub mod TieNets
 pub mod TransferNets
 pub mod DelayNets

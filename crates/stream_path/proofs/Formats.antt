@@ -18,7 +18,8 @@ use Rattle.st_format.specs.ClearNets.{IsClearShape}
 use Rattle.st_format.specs.NarrowNets.{IsNarrowShape}
 use Rattle.st_format.specs.WidenNets.{IsWidenShape}
 use Rattle.st_format.specs.FormatNets.{Stages, IsCut, IsJoint, IsFormatOf, IsSideOf, LeadsTo, formatted, format_has, front_has, back_has, back_passes}
-use Rattle.stream_path.specs.Joining.{declared, TakesWhole, CanJoin}
+use Rattle.st_timing.specs.Ends.{declared}
+use Rattle.stream_path.specs.Joining.{TakesWhole, CanJoin}
 use Rattle.stream_path.specs.Between.{joined_channel, with_errors, formed, joined_test}
 use Rattle.stream_path.proofs.Fronts.{IsPart, TurnHas, joined_all}
 

@@ -30,7 +30,8 @@ use Rattle.st_timing.specs.declared.timing.Timing.{Timing}
 use Rattle.st_timing.specs.declared.timing.Timing.TheVariants.{Tie, Buffer, Wire}
 use Rattle.st_timing.specs.DelayNets.{IsDelayShape}
 use Rattle.st_timing.specs.TimingNets.{IsTimingOf, timing_shape, LeadsToZero}
-use Rattle.stream_path.specs.Joining.{FitsPorts, TakesWhole, CanJoin, declared}
+use Rattle.st_timing.specs.Ends.{declared}
+use Rattle.stream_path.specs.Joining.{FitsPorts, TakesWhole, CanJoin}
 use Rattle.stream_path.specs.Between.{joined_channel, filtered, timed, with_errors, formed, ordered, at_sink, joined_test, timed_hold, queued_hold, IsFront, IsDelayEnough, CarriesStream}
 use Rattle.stream_path.specs.Parts.{IsErrorTieOf, IsTurnBack}
 use Rattle.stream_path.proofs.AtPorts.{none_below}

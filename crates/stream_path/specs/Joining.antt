@@ -1,25 +1,7 @@
--- What is declared of both ends of a stream, and which ends a path joins.
+-- Which ends of a stream a path joins.
 use Rattle.std.specs.Prelude.{◌≡◌, ◌*◌, ◌%◌, ◌^◌, ◌<◌, ◌≤◌, IsTrue, IsFalse}
-use Rattle.iface_roles.specs.declared.records.StreamPort.{StreamPort}
 use Rattle.stream_runs.specs.View.{Pace}
 use Rattle.stream_runs.specs.Ends.{Declared, pace_of}
-
--- what is declared of an end
-abbrev pub declared : StreamPort → Declared
-declared end =
-    record {
-      symbols = end.symbols;
-      symbol_bits = end.symbol_bits;
-      first_high = end.first_high;
-      ready = end.ready;
-      latency = end.latency;
-      allowance = end.allowance;
-      channel_bits = end.channel_bits;
-      max_channel = end.max_channel;
-      error_bits = end.error_bits;
-      packets = end.packets;
-      empty_bits = end.empty_bits;
-    }
 
 -- beats of the same form, and no channel that the sink doesn't take
 pub record HaveOneForm (source sink : Declared) : Type 0 where

@@ -4,7 +4,7 @@ use Rattle.stream_runs.specs.View.{Side}
 use Rattle.stream_runs.specs.Ends.{Declared, side_of}
 use Rattle.st_channel.specs.declared.error_tie.ErrorTie.{ErrorTie}
 use Rattle.st_format.specs.declared.reorder.Reorder.{Reorder}
-use Rattle.stream_path.specs.Joining.{declared}
+use Rattle.st_timing.specs.Ends.{declared}
 use Rattle.stream_machines.specs.Stage.{Shape}
 use Rattle.stage_core.specs.Beats.{Widths}
 use Rattle.stream_path.specs.Between.{most_stage_nets, timed, with_errors, puts_first_high, formed, ordered, at_sink, timed_hold, formed_hold, queued_hold, IsFront, FitSide, GivesNets}

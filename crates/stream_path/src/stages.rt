@@ -10,7 +10,8 @@ ghost use Rattle.net_parts.specs.Nets.{IsBit};
 ghost use Rattle.net_parts.specs.Growth.{GrowsBy, StillWait};
 ghost use Rattle.st_channel.specs.FilterNets.{IsFilterShape};
 ghost use Rattle.st_channel.specs.Ports.{HasChannels};
-ghost use Rattle.stream_path.specs.Joining.{declared, HaveOneForm, CanJoin};
+ghost use Rattle.st_timing.specs.Ends.{declared};
+ghost use Rattle.stream_path.specs.Joining.{HaveOneForm, CanJoin};
 ghost use Rattle.stream_path.specs.Between.{most_stage_nets, most_delay_nets, IsDelayEnough, joined_channel, joined_test, FitSide, AreStageNets, CarriesStream};
 ghost use Rattle.stream_path.specs.Parts.{source_of, sink_of, IsErrorTieOf, IsTurnBack, Reaches, timed_reach, errors_reach, formed_reach, queued_reach, ordered_reach, whole_reach};
 

@@ -1,9 +1,10 @@
 //! What the top call answers, writes and says.
 
 ghost use Rattle.std.specs.Prelude.{None};
-ghost use Rattle.av_base.specs.Memory.{failed_below};
+ghost use Rattle.av_files.specs.Memory.{failed_below};
 
-use av_base::{Bytes, List, MemShelf, MemSink, ReadStep, Shelf, Sink, WriteStep};
+use av_base::{Bytes, List};
+use av_files::{MemShelf, MemSink, ReadStep, Shelf, Sink, WriteStep};
 use avalon_top::{Exit, Task, read_words, run};
 use std::alloc::{AllocError, Global};
 use std::process::Abort;

@@ -3,7 +3,7 @@ use Rattle.std.specs.Result.{IfOk, OnOk}
 use Rattle.std.proofs.lemmas.Option.{slice_get_within}
 use Rattle.link_rules.specs.Links.{streams_of}
 use Rattle.netlist.specs.Nets.{NetValue}
-use Rattle.stream_path.specs.Joining.{declared}
+use Rattle.st_timing.specs.Ends.{declared}
 use Rattle.stream_path.specs.Ends.{ArePathNets}
 use Rattle.stream_path.specs.Serving.{ServesInLonger}
 use Rattle.interconnect.specs.Joins.{AddsStream}

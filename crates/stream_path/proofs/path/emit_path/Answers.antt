@@ -3,7 +3,7 @@ use Rattle.stage_core.specs.declared.beat.BeatNets.{BeatNets}
 use Rattle.stage_core.specs.Beats.{Widths, AreBeatNets}
 use Rattle.stream_path.specs.Ends.{ArePathNets}
 use Rattle.stream_path.specs.Serving.{ServesInLonger}
-use Rattle.stream_path.specs.Joining.{declared}
+use Rattle.st_timing.specs.Ends.{declared}
 use Rattle.stream_path.specs.Between.{CarriesStream, ShowsUnreached}
 use Rattle.net_parts.specs.Laws.{extends_none, extends_twice, grows_fewer, grows_within, adds_grow, net_lasts}
 use Rattle.stream_path.proofs.EndNets.{beat_nets, path_nets, ready_lasts, empty_width, fits_few, fits_none, drops_few, drops_none}

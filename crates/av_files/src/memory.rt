@@ -1,10 +1,11 @@
 ghost use Rattle.std.specs.Prelude.{◌≡◌, ℕ, ◌+◌, ◌-◌, ◌^◌, ◌<◌, ◌≤◌, ◌↔◌, [], length, take, IfOk, IsTrue, Contains, Some, None};
-ghost use Rattle.av_base.specs.Outside.{GivesBytes};
-ghost use Rattle.av_base.specs.Steps.{IfBytes, OnEnd, OnFailed};
-ghost use Rattle.av_base.specs.Memory.{file_at, failed_below, IsFault};
+ghost use Rattle.av_files.specs.Outside.{GivesBytes};
+ghost use Rattle.av_files.specs.Steps.{IfBytes, OnEnd, OnFailed};
+ghost use Rattle.av_files.specs.Memory.{file_at, failed_below, IsFault};
 ghost use Rattle.std.specs.Bool.{OnTrue};
 
-use super::{Bytes, List, NoMemory, ReadStep, Shelf, Sink, WriteStep};
+use super::{ReadStep, Shelf, Sink, WriteStep};
+use av_base::{Bytes, List, NoMemory};
 use std::alloc::Global;
 use std::marker::Model;
 
@@ -61,7 +62,7 @@ pub struct MemShelf {
 }
 
 impl Model for MemShelf {
-    ghost use Rattle.av_base.specs.Memory.{Files};
+    ghost use Rattle.av_files.specs.Memory.{Files};
 
     ghost Value = { Files };
 
@@ -114,7 +115,7 @@ pub struct MemSink {
 
 impl Model for MemSink {
     ghost use Rattle.std.specs.Prelude.{◌≤◌, vec_len, vec_capacity};
-    ghost use Rattle.av_base.specs.Memory.{Held};
+    ghost use Rattle.av_files.specs.Memory.{Held};
 
     ghost Value = { Held };
 
