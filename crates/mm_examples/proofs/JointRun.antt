@@ -12,10 +12,9 @@ use Rattle.mm_runs.specs.Legal.{IsLegalHost, is_under_way, unanswered, given, ho
 use Rattle.mm_runs.specs.Commands.{is_held, words_before, agent_accepts, shows, transfer_at}
 use Rattle.mm_runs.specs.Order.{host_transfers, is_agent, is_joined, beats_taken, of_host, taken, answers, answers_to}
 use Rattle.mm_runs.specs.Views.Responses.{AreZero}
-use Rattle.mm_machines.specs.Link.{Target, Port, KeepsLinkLaw, AreLegalAt, AnswersAreOwed, Marked, takes, shown_at, taken_at, words_owed, words_at, answers_at, read_beats}
+use Rattle.mm_machines.specs.Link.{Target, Port, AreLegalAt, AnswersAreOwed, Marked, takes, shown_at, taken_at, words_owed, words_at, answers_at, read_beats}
 use Rattle.mm_machines.specs.Blocks.{worded, blocks_at, codes_of}
-use Rattle.mm_machines.specs.Lines.{Carries, IsHostLine, IsRouteLine, IsArbiterLine, IsPipeLine, IsAgentLine, IsPath, Wired, sent_of, sent_by, host_accepted, placed_flow, port_flow, tagged_flow, target_of, items_among, beats_of, sizes_of, IsRouted, HasDefaultCode, asked_at, placed_blocks, bytes_of, answers_with, words_with, with_tag, are_whole, tagged_operations, groups_of}
-use Rattle.mm_machines.specs.Lines.IsPath.{single}
+use Rattle.mm_machines.specs.Lines.{Carries, IsHostLine, IsRouteLine, IsArbiterLine, IsPipeLine, IsAgentLine, KeepsRow, Wired, sent_of, sent_by, host_accepted, placed_flow, port_flow, tagged_flow, target_of, items_among, beats_of, sizes_of, IsRouted, HasDefaultCode, asked_at, placed_blocks, bytes_of, answers_with, words_with, with_tag, are_whole, tagged_operations, groups_of}
 use Rattle.mm_machines.specs.Lines.BringsLanes.{made}
 use Rattle.mm_examples.specs.Joint.{joint_system, joint_run, joint_inside, joint_holds, host_port}
 use Rattle.mm_runs.specs.Whole.{IsLegalRun}
@@ -479,8 +478,8 @@ agent_line = record {
 number_of_host : (h : ℕ) → (nat_eq h 0 || (nat_eq h 1 || false)) ≡ true → h < 2
 number_of_host h joined = grind (arith, tests, joined)
 
--- `wire`: a wire is a link that holds nothing
-pub joint_is_wired : ((target : Target) (port : Port) (end : ℕ) → 0 < port.shape.word_bytes → KeepsLinkLaw target 0 port port end) → Wired AreZero joint_system joint_run joint_inside joint_holds 6
+-- `wire`: a wire is a row of links that holds nothing
+pub joint_is_wired : ((target : Target) (port : Port) (end : ℕ) → 0 < port.shape.word_bytes → KeepsRow target 0 port port end) → Wired AreZero joint_system joint_run joint_inside joint_holds 6
 joint_is_wired wire = record {
   placed = λ h t a e. let same : 0 ≡ a = cc in omega arith;
   joined = λ a h joined. number_of_host h joined;
@@ -488,7 +487,7 @@ joint_is_wired wire = record {
   few = omega arith;
   host = λ h is. each_below (λ h. IsHostLine AreZero joint_system joint_run h 0 (host_port h) 6) 2 h ((tt, host0_line), host1_line) is;
   route = λ h is. each_below (λ h. IsRouteLine joint_system h 0 (host_port h) (λ a. host_port h) 6) 2 h ((tt, route0_line), route1_line) is;
-  links = λ h a is there. each_below (λ h. IsPath (target_of joint_system a) 6 0 (host_port h) (host_port h)) 2 h ((tt, single (wire (target_of joint_system a) (host_port 0) 6 (omega arith))), single (wire (target_of joint_system a) (host_port 1) 6 (omega arith))) is;
+  links = λ h a is there. each_below (λ h. KeepsRow (target_of joint_system a) 0 (host_port h) (host_port h) 6) 2 h ((tt, wire (target_of joint_system a) (host_port 0) 6 (omega arith)), wire (target_of joint_system a) (host_port 1) 6 (omega arith)) is;
   lanes = λ h a is there. made (λ c low legal owed k less. refl);
   arbiter = λ a there. each_below (λ a. IsArbiterLine joint_system a 0 (λ h. host_port h) (joint_inside.after_arbiter a) 6) 1 a (tt, arbiter_line) there;
   pipe = λ a there. each_below (λ a. IsPipeLine joint_system a 1 1 (joint_inside.after_arbiter a) (joint_inside.before_agent a) 6) 1 a (tt, pipe_line) there;

@@ -251,7 +251,7 @@ pub fn lines_can_be_kept()
     ensures wired { Wired AreZero joint_system joint_run joint_inside joint_holds 6 }
     ensures legal { IsLegalRun joint_system joint_run 6 }
 {
-    mm_machines::wires::wire_is_a_link()
+    mm_machines::wires::wire_is_a_row()
 }
 
 /// A beat without a lane has no operation before an agent without byte enables, and is an operation at it: so it may not be shown there.

@@ -5,7 +5,6 @@ use Rattle.histories.specs.Laws.{prefix_trans, prefix_map, prefix_filter, prefix
 use Rattle.mm_machines.proofs.Pipes.{taken_above}
 use Rattle.mm_machines.proofs.ChainAnswers.{holds_below, zip_front}
 use Rattle.mm_machines.proofs.Wire.{prefix_get, prefix_take}
-use Rattle.mm_machines.proofs.Path.{carrier_of_path}
 use Rattle.mm_machines.proofs.Settle.{AllLegal, AllOwed, all_legal, all_owed, owed_before_all}
 use Rattle.histories.specs.History.{IsPrefix, only_if, is_raised}
 use Rattle.mm_runs.specs.Views.{Responses, System, Run}
@@ -164,7 +163,7 @@ module _ (responses : Responses) (system : System) (run : Run) (inside : Inside)
       IsPrefix (bytes_of (answers_at (target_of system a) (inside.after_route h a) c)) (bytes_of (answers_to h (answers system run a (c - system.stages))))
   answers_back h a c is there low =
       let target = target_of system a in
-      let first = ((carrier_of_path (wired.links h a is there)).answers end (omega arith) (legal_everywhere.after_route h a is there) (owed_everywhere.before_arbiter h a is there)).bytes c low in
+      let first = ((wired.links h a is there).carries.answers end (omega arith) (legal_everywhere.after_route h a is there) (owed_everywhere.before_arbiter h a is there)).bytes c low in
       let second = ((wired.arbiter a there).answers end (omega arith) (legal_everywhere.before_arbiter a there) (owed_everywhere.after_arbiter a there)).bytes h c is low in
       let fourth = ((wired.agent a there).answers end (omega arith) (legal_everywhere.before_agent a there) (legal.agents a there)).bytes h (c - system.stages) is (omega arith) in
       prefix_trans first (prefix_trans (subst (λ l. IsPrefix (bytes_of (answers_at target (inside.before_arbiter h a) c)) (bytes_of l)) (piped_answers h a c is there low) second) fourth)

@@ -1,20 +1,17 @@
--- Two links in a row give the right codes, where the read beats in the middle lie within those above.
-use Rattle.std.proofs.Common.{ℕ, zero, suc, ◌<◌, ◌≤◌, ◌≡◌, ◌+◌, ◌-◌, [], ◌∷◌, ◌++◌, List, true, false, IsTrue, arith, refl, sym, ap, ap₂, ◌∙◌, subst, append-nil, length, map, flat_map, take, drop, zip, replicate, fold, max, Some, slice_get, MatchOption, inl, inr, length-append, length-drop}
+-- Codes of words over two links: as far as answers have come in the middle, each code is the greatest of those below.
+use Rattle.std.proofs.Common.{ℕ, zero, suc, ◌<◌, ◌≤◌, ◌≡◌, [], ◌∷◌, ◌++◌, List, true, false, arith, refl, sym, ap, ap₂, ◌∙◌, subst, append-nil, length, map, flat_map, take, drop, zip, replicate, fold, max, MatchOption, inl, inr, length-append}
 use Rattle.std.proofs.lemmas.List.{map-append, length-map, take-map, drop-map}
-use Rattle.std.proofs.lemmas.Option.{slice_get-map}
-use Rattle.std.specs.Option.{option_map}
 use Rattle.std.proofs.lemmas.Bool.{cases_Bool}
-use Rattle.histories.specs.Laws.{prefix_trans, prefix_map, prefix_flat_map, prefix_filter}
-use Rattle.mm_machines.proofs.Held.{front_within}
-use Rattle.mm_machines.proofs.Wire.{Asks, asks_of, asked_shown, asked_taken, taken_is_shown, zip_push, prefix_get, same_counts}
-use Rattle.mm_machines.proofs.ChainAnswers.{zip_front, answers_extend, reads_before, answered_beat, bytes_below}
-use Rattle.mm_machines.proofs.Greatest.{at_group, greatest_grows, greatest_push, length_flat}
+use Rattle.histories.specs.Laws.{prefix_map}
+use Rattle.mm_machines.proofs.Wire.{Asks, asks_of, asked_shown, asked_taken, zip_push, prefix_get, same_counts}
+use Rattle.mm_machines.proofs.ChainAnswers.{zip_front, answers_extend, reads_before, bytes_below}
+use Rattle.mm_machines.proofs.Greatest.{greatest_grows, greatest_push, length_flat}
 use Rattle.mm_machines.specs.Blocks.{flat, sizes_of, highest, AreGreatest, codes_of, block, blocks_at}
-use Rattle.histories.specs.History.{IsPrefix, is_raised, total, AreWithin}
+use Rattle.histories.specs.History.{is_raised, total}
 use Rattle.mm_runs.specs.Operations.{Beat, filled_lanes, byte_at}
 use Rattle.mm_runs.specs.Legal.{Word}
 use Rattle.mm_runs.specs.Order.{Answer, HoldsAnswers, greatest_code}
-use Rattle.mm_machines.specs.Link.{Target, Port, CarriesAnswers, AreLegalAt, AnswersAreOwed, taken_at, shown_at, read_beats, words_at, words_owed, answers_at, bytes_in, reads_of, beat_operations, IsAnswered, own_answers, HasGreatestCode, HasRightCode, beat_sizes, BeatsAreWithin}
+use Rattle.mm_machines.specs.Link.{Target, Port, CarriesAnswers, AreLegalAt, AnswersAreOwed, taken_at, shown_at, read_beats, words_at, words_owed, answers_at, bytes_in, reads_of, IsAnswered, own_answers, HasGreatestCode}
 
 greatest_is_highest : (answers : List Answer) (n : ℕ) → fold (λ code (a : Answer). max code a.code) n answers ≡ max n (highest (codes_of answers))
 greatest_is_highest [] n = omega arith
@@ -58,19 +55,6 @@ module _ (target : Target) (port : Port) where
       ap (λ ws. flat_map (block target port) (zip (read_beats (taken_at port (suc c))) ws)) asks.word
       ∙ zip_push (block target port) (read_beats (taken_at port (suc c))) (words_at port c) _ asks.beat (prefix_get (asked_taken port c) (length (words_at port c)) asks.beat asks.got)
       ∙ ap (λ l. l ++ block target port (asks.beat, record { word = port.answers.word c; code = port.answers.code c })) (same_blocks c (omega (arith, asks.within)))
-
-  size_prefix : (beats : List Beat) (ws : List Word) → IsPrefix (sizes_of (flat_map (block target port) (zip beats ws))) (map (λ (b : Beat). length (filled_lanes port.shape target.shape b.enables)) beats)
-  size_prefix [] ws = record { rest = []; joins = refl }
-  size_prefix (b ∷ beats) [] = record { rest = _; joins = refl }
-  size_prefix (b ∷ beats) (w ∷ ws) =
-      let tail = size_prefix beats ws in
-      record { rest = tail.rest; joins = ap (λ l. length (filled_lanes port.shape target.shape b.enables) ∷ l) tail.joins }
-
-  -- the sizes of the answered words are the first of those of the shown beats
-  pub sizes_shown : (end c : ℕ) → AreLegalAt port end → c ≤ end → IsPrefix (sizes_of (blocks_at target port c)) (beat_sizes target port c)
-  sizes_shown end c legal h =
-      prefix_trans (size_prefix (read_beats (taken_at port c)) (words_at port c))
-      (prefix_map (λ (b : Beat). length (filled_lanes port.shape target.shape b.enables)) (prefix_flat_map _ (prefix_filter _ (taken_is_shown port end c legal h))))
 
 pub answered_code : (target : Target) (up down : Port) (end c : ℕ) → AreLegalAt up end → c < end → (asks : Asks up c) → IsAnswered target up down (length (words_at up c)) c →
     HasGreatestCode (filled_lanes up.shape target.shape asks.beat.enables) (own_answers target up down (length (words_at up c)) c) (record { word = up.answers.word c; code = up.answers.code c })
@@ -120,42 +104,3 @@ module _ (target : Target) (middle down : Port) (end : ℕ) (legal : AreLegalAt 
           (λ some. code some ∙ highest_of (take (length lanes) (own_answers target middle down (length (words_at middle c)) c))
           ∙ ap highest (codes_within (length lanes) (reads_of target middle.shape (take (length (words_at middle c)) (read_beats (shown_at middle (suc c))))) (answers_at target down (suc c)))
           ∙ ap (λ r. highest (take (length lanes) (drop r (codes_of (answers_at target down (suc c)))))) place))
-
--- the sizes of the first beats sum up to their reads
-total_reads : (target : Target) (port : Port) (beats : List Beat) → total (map (λ (b : Beat). length (filled_lanes port.shape target.shape b.enables)) beats) ≡ reads_of target port.shape beats
-total_reads target port [] = refl
-total_reads target port (b ∷ beats) =
-    ap₂ (λ x y. x + y) (sym (length-map (filled_lanes port.shape target.shape b.enables) _)) (total_reads target port beats) ∙ sym (length-append (beat_operations target port.shape b) _)
-
-pub chain_code : (target : Target) (up middle down : Port) (end : ℕ) → AreLegalAt up end → AreLegalAt middle end → AnswersAreOwed up end → AnswersAreOwed middle end →
-    CarriesAnswers target up middle end → CarriesAnswers target middle down end → BeatsAreWithin target up middle end →
-    (c : ℕ) → c < end → IsTrue (is_raised (up.answers.valid c)) → HasRightCode target up down (length (words_at up c)) c
-chain_code target up middle down end legal legal_there owed owed_there first second beats c h valid =
-    let asks = asks_of up end c owed h valid in
-    let lanes = filled_lanes up.shape target.shape asks.beat.enables in
-    let number = length (words_at up c) in
-    let all = read_beats (shown_at up (suc c)) in
-    let got = prefix_get (asked_shown up end c legal h) number asks.beat asks.got in
-    let r = reads_of target up.shape (take number all) in
-    let holds = answered_beat target up middle end c legal h asks (first.answered c h valid) in
-    let code = answered_code target up middle end c legal h asks (first.answered c h valid) in
-    let uppers = beat_sizes target up (suc c) in
-    let bs = blocks_at target middle (suc c) in
-    let front = sizes_shown target middle end (suc c) legal_there (omega arith) in
-    let within : AreWithin (sizes_of bs) uppers = front_within (sizes_of bs) front.rest _ uppers (beats (suc c) (omega arith)) front.joins in
-    let place : total (take number uppers) ≡ r = ap total (take-map (λ (b : Beat). length (filled_lanes up.shape target.shape b.enables)) number all) ∙ total_reads target up (take number all) in
-    let at : slice_get uppers number ≡ Some (length lanes) = slice_get-map (λ (b : Beat). length (filled_lanes up.shape target.shape b.enables)) all number ∙ ap (option_map (λ (b : Beat). length (filled_lanes up.shape target.shape b.enables))) got in
-    let total_middle = total_blocks target middle (suc c) in
-    let few : length lanes ≤ length (answers_at target middle (suc c)) - r = subst (λ n. length lanes ≤ n) (length-drop r (answers_at target middle (suc c))) holds.enough in
-    let right : HasGreatestCode lanes (own_answers target up down number c) (record { word = up.answers.word c; code = up.answers.code c }) = λ some.
-    let enough : total (take number uppers) + length lanes ≤ total (sizes_of bs) = omega (arith, place, total_middle, few, some) in
-    code some ∙ highest_of (take (length lanes) (own_answers target up middle number c))
-    ∙ ap highest (codes_within (length lanes) r (answers_at target middle (suc c)))
-    ∙ ap₂ (λ n l. highest (take (length lanes) (drop n l))) (sym place) (answer_codes target middle (suc c))
-    ∙ at_group number uppers bs (codes_of (answers_at target down (suc c))) (length lanes) within at enough (middle_greatest target middle down end legal_there owed_there second (suc c) (omega arith))
-    ∙ ap (λ n. highest (take (length lanes) (drop n (codes_of (answers_at target down (suc c)))))) place
-    ∙ ap highest (sym (codes_within (length lanes) r (answers_at target down (suc c))))
-    ∙ sym (highest_of (take (length lanes) (own_answers target up down number c))) in
-    subst (λ o. MatchOption o ⊥ (λ beat.
-    HasGreatestCode (filled_lanes up.shape target.shape beat.enables) (own_answers target up down number c)
-    (record { word = up.answers.word c; code = up.answers.code c }))) (sym got) right

@@ -6,7 +6,6 @@ use Rattle.mm_machines.proofs.Laws.{same_number}
 use Rattle.histories.specs.Laws.{prefix_trans, prefix_map, prefix_filter, shown_is_accepted_and_standing, unreached_length}
 use Rattle.mm_machines.proofs.Flows.{carries_trans, carries_of_links, operations_front, counted}
 use Rattle.mm_machines.proofs.Parts.{port_fronts, tagged_fronts, placed_fronts, host_fronts, host_carries, pipe_carries, kept_length, of_host_same, issued_same}
-use Rattle.mm_machines.proofs.Path.{carrier_of_path}
 use Rattle.mm_machines.proofs.Settle.{legal_run_before}
 use Rattle.mm_runs.specs.Laws.{accepts_shows, legal_keeps}
 use Rattle.histories.specs.History.{standing, IsPrefix, unreached, only_if, stands_on}
@@ -66,7 +65,7 @@ module _ (responses : Responses) (system : System) (run : Run) (inside : Inside)
   inner_path h a is there =
       let target = target_of system a in
       let third = carries_of_links h target holds.links (inside.after_route h a) (inside.before_arbiter h a) end
-      ((carrier_of_path (wired.links h a is there)).commands end (omega arith) ((legal_everywhere responses system run inside holds end wired legal).after_route h a is there) ((owed_earlier responses system run inside holds end wired legal).before_arbiter h a is there)) in
+      ((wired.links h a is there).carries.commands end (omega arith) ((legal_everywhere responses system run inside holds end wired legal).after_route h a is there) ((owed_earlier responses system run inside holds end wired legal).before_arbiter h a is there)) in
       let fourth = ((wired.arbiter a there).commands end (omega arith) ((legal_everywhere responses system run inside holds end wired legal).before_arbiter a there) ((owed_earlier responses system run inside holds end wired legal).after_arbiter a there)).carries h is in
       let fifth = pipe_carries system a holds.pipe h (inside.after_arbiter a) (inside.before_agent a) end is (wired.pipe a there).same
       ((wired.pipe a there).commands end (omega arith) ((legal_everywhere responses system run inside holds end wired legal).after_arbiter a there).legal ((owed_earlier responses system run inside holds end wired legal).before_agent a there)) in
@@ -100,7 +99,7 @@ module _ (responses : Responses) (system : System) (run : Run) (inside : Inside)
   arbiter_path h a is there =
       let target = target_of system a in
       let third = carries_of_links h target holds.links (inside.after_route h a) (inside.before_arbiter h a) end
-      ((carrier_of_path (wired.links h a is there)).commands end (omega arith) ((legal_everywhere responses system run inside holds end wired legal).after_route h a is there) ((owed_earlier responses system run inside holds end wired legal).before_arbiter h a is there)) in
+      ((wired.links h a is there).carries.commands end (omega arith) ((legal_everywhere responses system run inside holds end wired legal).after_route h a is there) ((owed_earlier responses system run inside holds end wired legal).before_arbiter h a is there)) in
       let front = port_fronts target (inside.after_route h a) end ((legal_everywhere responses system run inside holds end wired legal).after_route h a is there) in
       let one = carries_trans _ _ _ _ _ _ _ _ _ _ end front (port_fronts target (inside.before_arbiter h a) end ((legal_everywhere responses system run inside holds end wired legal).before_arbiter a there h is).0) third ((arbiter_commands a there).carries h is) in
       carries_trans _ _ _ _ _ _ _ _ _ _ end (host_fronts system run h a end (legal.hosts h is)) front (outer_path h a is there) one

@@ -6,9 +6,8 @@ pub mod ChainAnswers
 pub mod Lag
 pub mod Greatest
 pub mod ChainCodes
-pub mod Rising
-pub mod LinkCodes
 pub mod Path
+pub mod Rows
 pub mod Pipes
 pub mod Settle
 pub mod Flows

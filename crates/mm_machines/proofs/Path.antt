@@ -11,8 +11,7 @@ use Rattle.mm_machines.proofs.ChainAnswers.{bytes_below}
 use Rattle.histories.specs.History.{IsPrefix, unreached, total, AreWithin}
 use Rattle.mm_runs.specs.Operations.{pieces}
 use Rattle.mm_machines.specs.Link.{Target, Port, Marked, KeepsLinkLaw, AreLegalAt, AnswersAreOwed, shown_at, taken_at, sizes, held_by, operations_among, operations_in, CarriesCommands}
-use Rattle.mm_machines.specs.Lines.{IsCarrier, IsPath}
-use Rattle.mm_machines.specs.Lines.IsPath.{single, above, below}
+use Rattle.mm_machines.specs.Lines.{IsCarrier}
 
 -- one link
 pub carrier_of_link : (target : Target) (hold : ℕ) (up down : Port) (end : ℕ) → KeepsLinkLaw target hold up down end → IsCarrier target hold up down end
@@ -88,11 +87,6 @@ module _ (target : Target) (first_hold second_hold : ℕ) (up middle down : Port
         let one = first.answers c h legal two.owed in
         record { bytes = λ k low. prefix_trans (one.bytes k low) (two.bytes k low); owed = one.owed };
   }
-
-pub carrier_of_path : {target : Target} {end hold : ℕ} {up down : Port} → IsPath target end hold up down → IsCarrier target hold up down end
-carrier_of_path {target} {end} (single link) = carrier_of_link target _ _ _ end link
-carrier_of_path {target} {end} (above between link words rest) = two_carriers target _ _ _ _ _ end between (carrier_of_link target _ _ _ end link) (carrier_of_path rest)
-carrier_of_path {target} {end} (below between rest link words) = two_carriers target _ _ _ _ _ end between (carrier_of_path rest) (carrier_of_link target _ _ _ end link)
 
 -- two links in a row carry commands as one link
 pub chain_commands : (target : Target) (first_hold second_hold : ℕ) (up middle down : Port) (end : ℕ) → KeepsLinkLaw target first_hold up middle end → KeepsLinkLaw target second_hold middle down end →

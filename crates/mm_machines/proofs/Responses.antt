@@ -1,5 +1,5 @@
 -- The lines of the parts give the codes of the words that hosts are given.
-use Rattle.std.proofs.Common.{ℕ, suc, ◌<◌, ◌≤◌, ◌≡◌, ◌+◌, ◌-◌, [], ◌∷◌, ◌++◌, List, Bool, true, false, not, IsTrue, Option, Some, None, if◌then◌else◌, arith, refl, sym, ap, ◌∙◌, subst, length, map, filter, flat_map, zip, take, drop, slice_get, MatchOption, length-append, nat_lt, tests, replicate}
+use Rattle.std.proofs.Common.{ℕ, suc, ◌<◌, ◌≤◌, ◌≡◌, ◌+◌, ◌-◌, [], ◌∷◌, ◌++◌, List, Bool, true, false, not, IsTrue, Option, Some, None, if◌then◌else◌, arith, refl, sym, ap, ◌∙◌, subst, length, map, filter, flat_map, zip, take, drop, slice_get, MatchOption, length-append, nat_lt, tests}
 use Rattle.std.specs.Prelude.{⊤}
 use Rattle.std.proofs.lemmas.Option.{slice_get_within}
 use Rattle.std.proofs.lemmas.List.{length-map, drop-drop}
@@ -9,47 +9,24 @@ use Rattle.mm_machines.specs.Shorter.{legal_at_before}
 use Rattle.histories.specs.Laws.{prefix_trans, prefix_map, prefix_length}
 use Rattle.mm_machines.proofs.Parts.{total_front}
 use Rattle.mm_machines.proofs.Wire.{prefix_get, prefix_take, zip_push}
-use Rattle.mm_machines.proofs.Path.{carrier_of_path, carrier_of_link, there_legal, there_owed}
-use Rattle.mm_machines.proofs.Greatest.{greatest_grows, flat_append}
-use Rattle.mm_machines.proofs.ChainCodes.{answer_codes, middle_greatest, total_blocks, highest_of, codes_within}
+use Rattle.mm_machines.proofs.Rows.{worded_total, greatest_before_worded, greatest_behind}
+use Rattle.mm_machines.proofs.ChainCodes.{total_blocks, highest_of, codes_within}
 use Rattle.mm_machines.proofs.Back.{asked_front, asked_placed, given_count, host_answers, host_commands, route_answers, piped_answers, legal_everywhere, owed_everywhere}
 use Rattle.histories.specs.History.{IsPrefix, is_raised, total, only_if}
 use Rattle.mm_runs.specs.Views.{Responses, System, Run}
 use Rattle.mm_runs.specs.Operations.{filled_lanes}
 use Rattle.mm_runs.specs.Legal.{Word}
 use Rattle.mm_runs.specs.Order.{Asked, HasCodeOf, RespondsBy, asked, answers, answers_to, reads_for, beat_operations, is_agent, greatest_code}
-use Rattle.mm_machines.specs.Link.{Port, Target, Marked, KeepsLinkLaw, AreLegalAt, AnswersAreOwed, shown_at, words_at, answers_at}
-use Rattle.mm_machines.specs.Blocks.{Block, flat, sizes_of, highest, AreGreatest, worded, codes_of, blocks_at}
+use Rattle.mm_machines.specs.Link.{Port, Marked, shown_at, words_at, answers_at}
+use Rattle.mm_machines.specs.Blocks.{Block, sizes_of, highest, AreGreatest, worded, codes_of, blocks_at}
 use Rattle.mm_runs.specs.Legal.{gives_word}
 use Rattle.mm_runs.specs.Views.Responses.{AreZero, AreCodes}
-use Rattle.mm_machines.specs.Lines.{HostResponds, IsPath, Inside, Holds, Wired, bytes_of, asked_at, target_of, placed_block, placed_blocks, HasDefaultCode}
-use Rattle.mm_machines.specs.Lines.IsPath.{single, above, below}
+use Rattle.mm_machines.specs.Lines.{HostResponds, Inside, Holds, Wired, bytes_of, asked_at, target_of, placed_block, placed_blocks, HasDefaultCode}
 use Rattle.mm_runs.specs.Whole.{IsLegalRun}
-
--- words without an answer say nothing
-greatest_worded : (bs : List Block) (codes : List ℕ) → AreGreatest bs codes → AreGreatest (worded bs) codes
-greatest_worded [] codes g = tt
-greatest_worded (b ∷ bs) codes g = by_size (nat_lt 0 b.size) refl (greatest_worded bs (drop b.size codes) g.1)
-  where
-    by_size : (t : Bool) → nat_lt 0 b.size ≡ t → AreGreatest (worded bs) (drop b.size codes) → AreGreatest (if t then b ∷ worded bs else worded bs) codes
-    by_size true e rest = (g.0, rest)
-    by_size false e rest = let none : b.size ≡ 0 = grind (arith, tests, e) in subst (λ n. AreGreatest (worded bs) (drop n codes)) none rest
-
-greatest_front : (xs ys : List Block) (codes : List ℕ) → AreGreatest (xs ++ ys) codes → AreGreatest xs codes
-greatest_front [] ys codes g = tt
-greatest_front (x ∷ xs) ys codes g = (g.0, greatest_front xs ys (drop x.size codes) g.1)
 
 greatest_last : (xs : List Block) (b : Block) (codes : List ℕ) → AreGreatest (xs ++ b ∷ []) codes → 0 < b.size → b.code ≡ highest (take b.size (drop (total (sizes_of xs)) codes))
 greatest_last [] b codes g some = g.0 some
 greatest_last (x ∷ xs) b codes g some = greatest_last xs b (drop x.size codes) g.1 some ∙ ap (λ l. highest (take b.size l)) (drop-drop (total (sizes_of xs)) x.size codes)
-
-worded_total : (bs : List Block) → total (sizes_of (worded bs)) ≡ total (sizes_of bs)
-worded_total [] = refl
-worded_total (b ∷ bs) = by_size (nat_lt 0 b.size) refl (worded_total bs)
-  where
-    by_size : (t : Bool) → nat_lt 0 b.size ≡ t → total (sizes_of (worded bs)) ≡ total (sizes_of bs) → total (sizes_of (if t then b ∷ worded bs else worded bs)) ≡ b.size + total (sizes_of bs)
-    by_size true e rest = ap (λ n. b.size + n) rest
-    by_size false e rest = let none : b.size ≡ 0 = grind (arith, tests, e) in omega (arith, none, rest)
 
 -- the answers of the words for a place are those of the read beats for it
 placed_total : (system : System) (host agent : ℕ) (qs : List Asked) (ws : List Word) → length ws ≤ length qs →
@@ -68,65 +45,6 @@ placed_total system host agent (q ∷ qs) (w ∷ ws) h = by_place (is_agent agen
         ∙ sym (length-append (beat_operations system host agent q.beat) _)
     by_place false rest = rest
 
--- links in a row keep codes where all but one are word for word: in front of it
-greatest_before_worded : (up middle : List Block) (codes : List ℕ) → IsPrefix (worded up) (worded middle) → AreGreatest (worded middle) codes → AreGreatest (worded up) codes
-greatest_before_worded up middle codes p g = greatest_front (worded up) p.rest codes (subst (λ l. AreGreatest l codes) (sym p.joins) g)
-
--- and behind it
-pub greatest_behind : (up : List Block) (codes lower : List ℕ) → IsPrefix codes lower → total (sizes_of up) ≤ length codes → AreGreatest up codes → AreGreatest up lower
-greatest_behind up codes lower p enough g = subst (λ l. AreGreatest up l) p.joins (greatest_grows up codes p.rest enough g)
-
--- one link gives what is asked of the links
-pub greatest_of_link : (target : Target) (hold : ℕ) (up down : Port) (end c : ℕ) → KeepsLinkLaw target hold up down end → c ≤ end → AreLegalAt up c → AnswersAreOwed down c → AreGreatest (blocks_at target up c) (codes_of (answers_at target down c))
-greatest_of_link target hold up down end c link low legal owed = let carries = link.answers c low legal owed in middle_greatest target up down c legal carries.owed carries c (omega arith)
-
-flat_worded : (bs : List Block) → flat (worded bs) ≡ flat bs
-flat_worded [] = refl
-flat_worded (b ∷ bs) = by_size (nat_lt 0 b.size) refl (flat_worded bs)
-  where
-    by_size : (t : Bool) → nat_lt 0 b.size ≡ t → flat (worded bs) ≡ flat bs → flat (if t then b ∷ worded bs else worded bs) ≡ replicate b.size b.code ++ flat bs
-    by_size true e rest = ap (λ l. replicate b.size b.code ++ l) rest
-    by_size false e rest = let none : b.size ≡ 0 = grind (arith, tests, e) in subst (λ n. flat (worded bs) ≡ replicate n b.code ++ flat bs) (sym none) rest
-
-flat_front : {xs ys : List Block} → IsPrefix xs ys → IsPrefix (flat xs) (flat ys)
-flat_front {xs} p = record { rest = flat p.rest; joins = sym (flat_append xs p.rest) ∙ ap flat p.joins }
-
--- word for word, the codes of the answers are a front too
-codes_front : (target : Target) (up down : Port) (c : ℕ) → IsPrefix (worded (blocks_at target up c)) (worded (blocks_at target down c)) → IsPrefix (codes_of (answers_at target up c)) (codes_of (answers_at target down c))
-codes_front target up down c p =
-    subst (λ l. IsPrefix l (codes_of (answers_at target down c))) (flat_worded (blocks_at target up c) ∙ sym (answer_codes target up c))
-    (subst (λ l. IsPrefix (flat (worded (blocks_at target up c))) l) (flat_worded (blocks_at target down c) ∙ sym (answer_codes target down c)) (flat_front p))
-
-enough_codes : (target : Target) (up down : Port) (c : ℕ) → IsPrefix (bytes_of (answers_at target up c)) (bytes_of (answers_at target down c)) → total (sizes_of (blocks_at target up c)) ≤ length (codes_of (answers_at target down c))
-enough_codes target up down c p =
-    let few = prefix_length p in
-    let mine : length (bytes_of (answers_at target up c)) ≡ length (answers_at target up c) = length-map (answers_at target up c) _ in
-    let theirs : length (bytes_of (answers_at target down c)) ≡ length (answers_at target down c) = length-map (answers_at target down c) _ in
-    let codes : length (codes_of (answers_at target down c)) ≡ length (answers_at target down c) = length-map (answers_at target down c) _ in
-    let blocks = total_blocks target up c in
-    omega (arith, few, mine, theirs, codes, blocks)
-
--- any row of links of which one alone isn't word for word keeps the codes
-pub codes_of_path : {target : Target} {end hold : ℕ} {up down : Port} → IsPath target end hold up down → (c : ℕ) → c ≤ end → AreLegalAt up c → AnswersAreOwed down c →
-    AreGreatest (worded (blocks_at target up c)) (codes_of (answers_at target down c))
-codes_of_path {target} {end} (single {hold} {up} {down} link) c low legal owed = greatest_worded (blocks_at target up c) (codes_of (answers_at target down c)) (greatest_of_link target hold up down end c link low legal owed)
-codes_of_path {target} {end} (above {first} {rest = behind} {up} {middle} {down} between link words rest) c low legal owed =
-    let one = carrier_of_link target first up middle end link in
-    let two = carrier_of_path rest in
-    let legal_there = there_legal target first behind up middle down end between one two c low legal (λ k less. owed k (omega arith)) in
-    let owed_there = there_owed target first behind up middle down end between one two c low legal owed in
-    greatest_before_worded (blocks_at target up c) (blocks_at target middle c) (codes_of (answers_at target down c)) (words c low legal owed_there) (codes_of_path rest c low legal_there owed)
-codes_of_path {target} {end} (below {rest = ahead} {last} {up} {middle} {down} between rest link words) c low legal owed =
-    let one = carrier_of_path rest in
-    let two = carrier_of_link target last middle down end link in
-    let legal_there = there_legal target ahead last up middle down end between one two c low legal (λ k less. owed k (omega arith)) in
-    let owed_there = there_owed target ahead last up middle down end between one two c low legal owed in
-    let bytes = (one.answers c low legal owed_there).bytes c (omega arith) in
-    let enough = enough_codes target up middle c bytes in
-    let sizes = worded_total (blocks_at target up c) in
-    greatest_behind (worded (blocks_at target up c)) (codes_of (answers_at target middle c)) (codes_of (answers_at target down c)) (codes_front target middle down c (words c low legal_there owed))
-    (omega (arith, enough, sizes)) (codes_of_path rest c low legal owed_there)
-
 module _ (responses : Responses) (system : System) (run : Run) (inside : Inside) (holds : Holds) (end : ℕ) (wired : Wired responses system run inside holds end) (legal : IsLegalRun system run end) where
   codes_back : (h a c : ℕ) → h < system.hosts → a < system.agents → c ≤ end → AreGreatest (worded (placed_blocks system h a (inside.after_host h) c)) (codes_of (answers_to h (answers system run a (c - system.stages))))
   codes_back h a c is there low =
@@ -135,13 +53,13 @@ module _ (responses : Responses) (system : System) (run : Run) (inside : Inside)
       let middle = inside.after_route h a in
       let down = inside.before_arbiter h a in
       let front = (route_answers responses system run inside holds end wired legal h is).codes a c there low in
-      let links = codes_of_path (wired.links h a is there) c low (legal_at_before middle c end low ((legal_everywhere responses system run inside holds end wired legal).after_route h a is there)) (λ k less. (owed_everywhere responses system run inside holds end wired legal).before_arbiter h a is there k (omega arith)) in
+      let links = (wired.links h a is there).codes c low (legal_at_before middle c end low ((legal_everywhere responses system run inside holds end wired legal).after_route h a is there)) (λ k less. (owed_everywhere responses system run inside holds end wired legal).before_arbiter h a is there k (omega arith)) in
       let first = ((wired.arbiter a there).answers end (omega arith) ((legal_everywhere responses system run inside holds end wired legal).before_arbiter a there) ((owed_everywhere responses system run inside holds end wired legal).after_arbiter a there)).codes h c is low in
       let second = piped_answers responses system run inside holds end wired legal h a c is there low in
       let third = ((wired.agent a there).answers end (omega arith) ((legal_everywhere responses system run inside holds end wired legal).before_agent a there) (legal.agents a there)).codes h (c - system.stages) is (omega arith) in
       let back : IsPrefix (codes_of (answers_at target down c)) (codes_of (answers_to h (answers system run a (c - system.stages)))) =
       prefix_trans (subst (λ l. IsPrefix (codes_of (answers_at target down c)) (codes_of l)) second first) third in
-      let bytes = prefix_length (((carrier_of_path (wired.links h a is there)).answers end (omega arith) ((legal_everywhere responses system run inside holds end wired legal).after_route h a is there) ((owed_everywhere responses system run inside holds end wired legal).before_arbiter h a is there)).bytes c low) in
+      let bytes = prefix_length (((wired.links h a is there).carries.answers end (omega arith) ((legal_everywhere responses system run inside holds end wired legal).after_route h a is there) ((owed_everywhere responses system run inside holds end wired legal).before_arbiter h a is there)).bytes c low) in
       let mine : length (bytes_of (answers_at target middle c)) ≡ length (answers_at target middle c) = length-map (answers_at target middle c) _ in
       let theirs : length (bytes_of (answers_at target down c)) ≡ length (answers_at target down c) = length-map (answers_at target down c) _ in
       let codes : length (codes_of (answers_at target down c)) ≡ length (answers_at target down c) = length-map (answers_at target down c) _ in

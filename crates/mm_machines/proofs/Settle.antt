@@ -1,7 +1,6 @@
 -- All boundaries inside a system carry legal commands and owed answers. The circle between them is broken by the cycle.
 use Rattle.std.proofs.Common.{ℕ, zero, suc, ◌<◌, ◌≤◌, ◌-◌, arith}
 use Rattle.mm_runs.specs.Shorter.{legal_before, owed_before}
-use Rattle.mm_machines.proofs.Path.{carrier_of_path}
 use Rattle.mm_runs.specs.Views.{Responses, System, Run}
 use Rattle.mm_machines.specs.Link.{AreLegalAt, AnswersAreOwed}
 use Rattle.mm_machines.specs.Lines.{BringsLanes, Inside, Holds, Wired, IsFit, HasLanes, AreOwedByTag, AreFitToAsk, target_of}
@@ -39,7 +38,7 @@ module _ (responses : Responses) (system : System) (run : Run) (inside : Inside)
       λ h a is there. ((wired.route h is).commands c low (first h is) (λ a there. owed.after_route h a is there)).legal a there in
       let third : (a : ℕ) → a < system.agents → AreFitToAsk system a (λ h. inside.before_arbiter h a) c =
       λ a there h is. (
-        ((carrier_of_path (wired.links h a is there)).commands c low (second h a is there) (owed.before_arbiter h a is there)).legal,
+        ((wired.links h a is there).carries.commands c low (second h a is there) (owed.before_arbiter h a is there)).legal,
         lanes_there h a is there (wired.lanes h a is there) (second h a is there),
       ) in
       let fourth : (a : ℕ) → a < system.agents → IsFit system a (inside.after_arbiter a).port c =
@@ -74,7 +73,7 @@ module _ (responses : Responses) (system : System) (run : Run) (inside : Inside)
       let third : (h a : ℕ) → h < system.hosts → a < system.agents → AnswersAreOwed (inside.before_arbiter h a) c =
       λ h a is there. ((wired.arbiter a there).answers c low (all.before_arbiter a there) (fourth a there)).owed h is in
       let second : (h a : ℕ) → h < system.hosts → a < system.agents → AnswersAreOwed (inside.after_route h a) c =
-      λ h a is there. ((carrier_of_path (wired.links h a is there)).answers c low (all.after_route h a is there) (third h a is there)).owed in
+      λ h a is there. ((wired.links h a is there).carries.answers c low (all.after_route h a is there) (third h a is there)).owed in
       record {
         after_host = λ h is. ((wired.route h is).answers c low (all.after_host h is) (λ a there. second h a is there)).owed;
         after_route = second;

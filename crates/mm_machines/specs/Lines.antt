@@ -8,8 +8,8 @@ use Rattle.mm_runs.specs.Operations.{Beat, Operation, filled_lanes, is_read, pie
 use Rattle.mm_runs.specs.Commands.{Transfer, agent_accepts, accepted, is_of_reads, reads_among}
 use Rattle.mm_runs.specs.Legal.{host_accepts, given, gives_word, Word, IsLegalHost, IsLegalAgent, IsProperAtHost, IsProperAtAgent}
 use Rattle.mm_runs.specs.Order.{beat_operations as placed_operations, Tagged, Answer, Asked, HoldsAnswers, IsDefaultWord, is_agent, place_of, transfer_operations, taken, of_host, beats_taken, answers, answers_to, is_joined, reads_for, host_transfers}
-use Rattle.mm_machines.specs.Link.{Port, Target, Marked, Item, shown_at, taken_at, closes, operations_in, beat_operations, is_nonempty, read_beats, words_at, bytes_in, answers_at, AreLegalAt, AnswersAreOwed, CarriesCommands, KeepsLinkLaw}
-use Rattle.mm_machines.specs.Blocks.{Block, worded, codes_of, blocks_at}
+use Rattle.mm_machines.specs.Link.{Port, Target, Marked, Item, shown_at, taken_at, closes, operations_in, beat_operations, is_nonempty, read_beats, words_at, bytes_in, answers_at, AreLegalAt, AnswersAreOwed, CarriesCommands}
+use Rattle.mm_machines.specs.Blocks.{Block, AreGreatest, worded, codes_of, blocks_at}
 use Rattle.mm_machines.specs.Link.Item.{Acts, Ends}
 
 -- what a write beat or a read command does at an agent, and whether the joined command ends with it
@@ -229,13 +229,15 @@ abbrev pub IsWordForWord : Target → Port → Port → ℕ → Type 0
 IsWordForWord target up down end =
     (c : ℕ) → c ≤ end → AreLegalAt up c → AnswersAreOwed down c → IsPrefix (worded (blocks_at target up c)) (worded (blocks_at target down c))
 
--- any number of links in a row, of which one alone may not be word for word
-pub data IsPath (target : Target) (end : ℕ) : ℕ → Port → Port → Type 0 where
-  single : {hold : ℕ} {up down : Port} → KeepsLinkLaw target hold up down end → IsPath target end hold up down
-  above : {first rest : ℕ} {up middle down : Port} → pieces middle.shape down.shape * pieces up.shape middle.shape ≤ pieces up.shape down.shape →
-      KeepsLinkLaw target first up middle end → IsWordForWord target up middle end → IsPath target end rest middle down → IsPath target end (first + rest) up down
-  below : {rest last : ℕ} {up middle down : Port} → pieces middle.shape down.shape * pieces up.shape middle.shape ≤ pieces up.shape down.shape →
-      IsPath target end rest up middle → KeepsLinkLaw target last middle down end → IsWordForWord target middle down end → IsPath target end (rest + last) up down
+-- the codes of the words that hold answers are the greatest of the codes of those answers
+abbrev pub GivesGreatestCodes : Target → Port → Port → ℕ → Type 0
+GivesGreatestCodes target up down end =
+    (c : ℕ) → c ≤ end → AreLegalAt up c → AnswersAreOwed down c → AreGreatest (worded (blocks_at target up c)) (codes_of (answers_at target down c))
+
+-- what any row of links keeps
+pub record KeepsRow (target : Target) (hold : ℕ) (up down : Port) (end : ℕ) : Type 0 where
+  pub carries : IsCarrier target hold up down end
+  pub codes : GivesGreatestCodes target up down end
 
 -- ---- mm_arbiter
 
@@ -384,7 +386,7 @@ pub record Wired (responses : Responses) (system : System) (run : Run) (inside :
   pub few : ((((holds.host + holds.route) + holds.links) + holds.arbiter) + holds.pipe) + holds.agent ≤ 5 + 2 * system.stages
   pub host : (h : ℕ) → h < system.hosts → IsHostLine responses system run h holds.host (inside.after_host h) end
   pub route : (h : ℕ) → h < system.hosts → IsRouteLine system h holds.route (inside.after_host h) (inside.after_route h) end
-  pub links : (h a : ℕ) → h < system.hosts → a < system.agents → IsPath (target_of system a) end holds.links (inside.after_route h a) (inside.before_arbiter h a)
+  pub links : (h a : ℕ) → h < system.hosts → a < system.agents → KeepsRow (target_of system a) holds.links (inside.after_route h a) (inside.before_arbiter h a) end
   pub lanes : (h a : ℕ) → h < system.hosts → a < system.agents → BringsLanes system run h a (inside.after_route h a) (inside.before_arbiter h a) end
   pub arbiter : (a : ℕ) → a < system.agents → IsArbiterLine system a holds.arbiter (λ h. inside.before_arbiter h a) (inside.after_arbiter a) end
   pub pipe : (a : ℕ) → a < system.agents → IsPipeLine system a holds.pipe system.stages (inside.after_arbiter a) (inside.before_agent a) end

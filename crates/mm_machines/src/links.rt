@@ -2,8 +2,9 @@
 
 ghost use Rattle.std.specs.Prelude.{◌≤◌, ◌+◌, ◌-◌, ◌∷◌, [], ℕ};
 ghost use Rattle.histories.specs.History.{unreached, AreWithin};
-ghost use Rattle.mm_machines.specs.LinkPair.{LinkPair, KeepLinkLaws, AddsNoPieces, BringsRightBytes, BringsRightCodes};
-ghost use Rattle.mm_machines.specs.Link.{Target, Port, AreLegalAt, AnswersAreOwed, CarriesCommands, BeatsAreWithin, BeatsCover, shown_at, taken_at, sizes};
+ghost use Rattle.mm_machines.specs.LinkPair.{LinkPair, KeepLinkLaws, KeepRows, AddsNoPieces, BringsRightBytes};
+ghost use Rattle.mm_machines.specs.Link.{Target, Port, AreLegalAt, AnswersAreOwed, CarriesCommands, KeepsLinkLaw, shown_at, taken_at, sizes};
+ghost use Rattle.mm_machines.specs.Lines.{KeepsRow, IsWordForWord};
 
 /// Two links in a row are one link in all that is said of commands, and pass legality down and owed answers up.
 pub fn links_compose()
@@ -20,17 +21,25 @@ pub fn links_answer()
         → AnswersAreOwed pair.down end → BringsRightBytes pair.target pair.up pair.down end }
 {}
 
-/// Two links in a row give the right codes, where the read beats in the middle lie within those above, or within those below.
-pub fn links_code()
-    ensures falling { (pair : LinkPair) (end : ℕ) → KeepLinkLaws pair end → AreLegalAt pair.up end
-        → AnswersAreOwed pair.down end → BeatsAreWithin pair.target pair.up pair.middle end
-        → BringsRightCodes pair.target pair.up pair.down end }
-    ensures rising { (pair : LinkPair) (end : ℕ) → KeepLinkLaws pair end → AreLegalAt pair.up end
-        → AnswersAreOwed pair.down end → BeatsCover pair.target pair.middle pair.down end
-        → BringsRightCodes pair.target pair.up pair.down end }
-    ensures within { (target : Target) (up middle down : Port) (end : ℕ)
-        → BeatsAreWithin target up middle end → BeatsAreWithin target middle down end
-        → BeatsAreWithin target up down end }
+/// One link is a row.
+pub fn link_is_a_row()
+    ensures { (target : Target) (hold : ℕ) (up down : Port) (end : ℕ) → KeepsLinkLaw target hold up down end
+        → KeepsRow target hold up down end }
+{}
+
+/// Two rows are one row where one of the two is word for word, and one that is word for word where both are. A row may be said to hold more.
+pub fn rows_compose()
+    ensures upper { (pair : LinkPair) (end : ℕ) → KeepRows pair end → AddsNoPieces pair
+        → IsWordForWord pair.target pair.up pair.middle end
+        → KeepsRow pair.target (pair.first_hold + pair.second_hold) pair.up pair.down end }
+    ensures lower { (pair : LinkPair) (end : ℕ) → KeepRows pair end → AddsNoPieces pair
+        → IsWordForWord pair.target pair.middle pair.down end
+        → KeepsRow pair.target (pair.first_hold + pair.second_hold) pair.up pair.down end }
+    ensures both { (pair : LinkPair) (end : ℕ) → KeepRows pair end → AddsNoPieces pair
+        → IsWordForWord pair.target pair.up pair.middle end → IsWordForWord pair.target pair.middle pair.down end
+        → IsWordForWord pair.target pair.up pair.down end }
+    ensures wider { (target : Target) (hold more : ℕ) (up down : Port) (end : ℕ) → hold ≤ more
+        → KeepsRow target hold up down end → KeepsRow target more up down end }
 {}
 
 /// At most one beat more is shown and not wholly taken than is accepted and not wholly taken.
@@ -39,7 +48,7 @@ pub fn shown_lag()
         → unreached (sizes target port.shape (shown_at port c)) n ≤ unreached (sizes target port.shape (taken_at port c)) n + 1 }
 {}
 
-/// A read beat without an operation that isn't shown below yet has no place: so the cover of read beats must leave such beats out.
+/// A beat without an operation, where none is shown below yet, lies within nothing.
 pub fn empty_beat_has_no_place()
     ensures { AreWithin (0 ∷ []) [] → ⊥ }
 {}

@@ -5,6 +5,7 @@ ghost use Rattle.mm_machines.specs.Rank.{LinkRankFalls};
 ghost use Rattle.mm_machines.specs.PartRanks.{KeepsMoving};
 ghost use Rattle.mm_runs.specs.Views.{HostView, AgentView};
 ghost use Rattle.mm_machines.specs.Link.{Target, Port, KeepsLinkLaw, AreLegalAt};
+ghost use Rattle.mm_machines.specs.Lines.{KeepsRow, IsWordForWord};
 ghost use Rattle.mm_machines.specs.Straight.{GoesStraightThrough, IsShownPromptly};
 ghost use Rattle.mm_runs.specs.Plan.{IsMemoryPlan};
 ghost use Rattle.mm_machines.specs.BoundedWire.{WireForm, IsWireForm, IsBoundedWire, IsLegalWireRun, IsSafeWireRun, wire_system};
@@ -13,6 +14,13 @@ ghost use Rattle.mm_machines.specs.BoundedWire.{WireForm, IsWireForm, IsBoundedW
 pub fn wire_is_a_link()
     ensures { (target : Target) (port : Port) (end : ℕ) → 0 < port.shape.word_bytes
         → KeepsLinkLaw target 0 port port end }
+{}
+
+/// A wire is a row of links that holds nothing, word for word.
+pub fn wire_is_a_row()
+    ensures row { (target : Target) (port : Port) (end : ℕ) → 0 < port.shape.word_bytes
+        → KeepsRow target 0 port port end }
+    ensures words { (target : Target) (port : Port) (end : ℕ) → IsWordForWord target port port end }
 {}
 
 /// A wire is straight and prompt.
