@@ -80,13 +80,13 @@ of_both P [] ys left right j x e = right j x e
 of_both P (y ∷ xs) ys left right zero x e = left zero x e
 of_both P (y ∷ xs) ys left right (suc j) x e = of_both P xs ys (λ j x e. left (suc j) x e) right j x e
 
-module _ (system : System) (host : ℕ) (agents : (h : ℕ) (t : Transfer) (a : ℕ) → place_of system h t ≡ Some a → a < system.agents) where
+module _ (system : System) (host : ℕ) (agents : (t : Transfer) (a : ℕ) → place_of system host t ≡ Some a → a < system.agents) where
   abbrev IsPlaced : Asked → Type 0
   IsPlaced q = (a : ℕ) → q.place ≡ Some a → a < system.agents
 
   of_one : (t : Transfer) (bs : List Beat) (j : ℕ) (q : Asked) → slice_get (map (λ b. record { place = place_of system host t; beat = b }) bs) j ≡ Some q → IsPlaced q
   of_one t [] j q e = let bad : ⊥ = cc in absurd bad
-  of_one t (b ∷ bs) zero q e = λ a at. let same : place_of system host t ≡ Some a = cc in agents host t a same
+  of_one t (b ∷ bs) zero q e = λ a at. let same : place_of system host t ≡ Some a = cc in agents t a same
   of_one t (b ∷ bs) (suc j) q e = of_one t bs j q e
 
   pub asked_placed : (ts : List Transfer) (j : ℕ) (q : Asked) → slice_get (asked_among system host ts) j ≡ Some q → IsPlaced q
@@ -100,7 +100,7 @@ module _ (system : System) (host : ℕ) (agents : (h : ℕ) (t : Transfer) (a : 
 
 -- a word of the route is the word of the host's own read beat
 pub routed_word : (system : System) (run : Run) (host cycle number : ℕ) (up : Port) (down : ℕ → Port) (w v : Word) → w.word ≡ v.word →
-    ((h : ℕ) (t : Transfer) (a : ℕ) → place_of system h t ≡ Some a → a < system.agents) →
+    ((t : Transfer) (a : ℕ) → place_of system host t ≡ Some a → a < system.agents) →
     IsPrefix (asked_at system host up (suc cycle)) (asked system run host (suc cycle)) →
     ((a : ℕ) → a < system.agents → IsPrefix (bytes_of (answers_at (target_of system a) (down a) (suc cycle))) (bytes_of (answers_to host (answers system run a (suc cycle - system.stages))))) →
     IsRouted system host up down cycle number w (slice_get (asked_at system host up (suc cycle)) number) →
@@ -132,7 +132,7 @@ routed_word system run host cycle number up down w v same agents front below rou
             (below a (placed a refl)) routed))
 
 module _ (responses : Responses) (system : System) (run : Run) (inside : Inside) (holds : Holds) (end : ℕ) (wired : Wired responses system run inside holds end) (legal : IsLegalRun system run end) where
-  pub legal_everywhere : AllLegal system inside end
+  pub legal_everywhere : AllLegal system inside wired.room end
   legal_everywhere = all_legal responses system run inside holds end wired end (omega arith) legal
 
   pub owed_everywhere : AllOwed system inside end
@@ -147,8 +147,8 @@ module _ (responses : Responses) (system : System) (run : Run) (inside : Inside)
   pub host_commands : (h : ℕ) → h < system.hosts → HostCarriesCommands system run h holds.host (inside.after_host h) end
   host_commands h is = (wired.host h is).commands end (omega arith) (legal.hosts h is) (owed_earlier.after_host h is)
 
-  pub route_answers : (h : ℕ) → h < system.hosts → RouteCarriesAnswers system h (inside.after_host h) (inside.after_route h) end
-  route_answers h is = (wired.route h is).answers end (omega arith) (legal_everywhere.after_host h is) (λ a there. owed_everywhere.after_route h a is there)
+  pub route_answers : (h : ℕ) → h < system.hosts → RouteCarriesAnswers responses system h (inside.after_host h) (inside.after_route h) end
+  route_answers h is = (wired.route h is).answers end (omega arith) (legal_everywhere.after_host h is) (legal_everywhere.single h is) (legal_everywhere.debt h is) (λ a there. owed_everywhere.after_route h a is there)
 
   -- the answers behind the arbiter are those before the agent, `stages` cycles later
   pub piped_answers : (h a c : ℕ) → h < system.hosts → a < system.agents → c ≤ end →
@@ -177,7 +177,7 @@ module _ (responses : Responses) (system : System) (run : Run) (inside : Inside)
       subst (λ n. IsWordOf system run h c n (record { word = (run.at_host h).readdata c; code = (run.at_host h).response c }) (slice_get (asked system run h (suc c)) n)) (sym number)
       (routed_word system run h c (length (words_at (inside.after_host h) c)) (inside.after_host h) (inside.after_route h)
       (record { word = (inside.after_host h).answers.word c; code = (inside.after_host h).answers.code c }) (record { word = (run.at_host h).readdata c; code = (run.at_host h).response c }) (sym word)
-      wired.placed (asked_front system run h holds.host (inside.after_host h) end (suc c) (host_commands h is) (omega arith))
+      (λ t a at. wired.placed h t a is at) (asked_front system run h holds.host (inside.after_host h) end (suc c) (host_commands h is) (omega arith))
       (λ a there. answers_back h a (suc c) is there (omega arith))
       ((route_answers h is).answered c low valid))
 

@@ -1,20 +1,21 @@
 -- Between two operations of one host command an agent takes none of another host.
-use Rattle.std.proofs.Common.{ℕ, ◌<◌, ◌≤◌, ◌≡◌, ◌+◌, ◌-◌, [], ◌∷◌, ◌++◌, List, Bool, true, false, ◌&&◌, ◌||◌, IsTrue, if◌then◌else◌, arith, refl, sym, ap, ap₂, ◌∙◌, subst, length, map, filter, replicate, nat_eq}
+use Rattle.std.proofs.Common.{ℕ, zero, suc, not, ◌<◌, ◌≤◌, ◌≡◌, ◌+◌, ◌-◌, [], ◌∷◌, ◌++◌, List, Bool, true, false, ◌&&◌, ◌||◌, IsTrue, if◌then◌else◌, arith, refl, sym, ap, ap₂, ◌∙◌, subst, length, map, filter, replicate, nat_eq}
 use Rattle.std.specs.List.{list_all}
 use Rattle.std.proofs.lemmas.List.{map-append}
 use Rattle.std.proofs.lemmas.Bool.{and_parts}
+use Rattle.std.proofs.lemmas.List.Folds.{list_all-append}
 use Rattle.histories.specs.Laws.{prefix_trans, prefix_map, prefix_filter, prefix_flat_map, before_prefix}
 use Rattle.mm_machines.proofs.Flows.{prefix_items}
 use Rattle.mm_machines.proofs.Whole.{owners_of_groups, turn_after, acts_after, groups_whole, whole_together, all_of_copies}
 use Rattle.mm_machines.proofs.TurnOrder.{turns, prefix_turns, turns_of_groups, turn_of, host_turns, by_turns, by_turn, commands_with, together_front, together_back}
 use Rattle.mm_machines.proofs.Headline.{at_agent, arbiter_commands, arbiter_path, pipe_commands}
-use Rattle.histories.specs.History.{IsPrefix}
+use Rattle.histories.specs.History.{IsPrefix, only_if, is_first, stands_on}
 use Rattle.mm_runs.specs.Views.{Responses, System, Run, Shape}
 use Rattle.mm_runs.specs.Operations.{Operation}
-use Rattle.mm_runs.specs.Commands.{Transfer}
+use Rattle.mm_runs.specs.Commands.{Transfer, shows}
 use Rattle.mm_runs.specs.Order.{Owner, are_together, Tagged, owners_taken, owners, taken, is_joined, host_transfers, place_of, is_agent}
-use Rattle.mm_machines.specs.Link.{Target, Marked, shown_at, closes}
-use Rattle.mm_machines.specs.Lines.{Inside, Holds, Wired, Group, Sent, items_among, groups_of, group_of, with_tag, tagged_operations, target_of, tagged_flow, are_whole, placed_group}
+use Rattle.mm_machines.specs.Link.{Target, Port, Marked, shown_at, marked_at, takes, closes}
+use Rattle.mm_machines.specs.Lines.{Inside, Holds, Wired, Group, Sent, items_among, groups_of, group_of, with_tag, tagged_operations, target_of, tagged_flow, are_whole, placed_group, BearsTags}
 use Rattle.mm_runs.specs.Whole.{IsLegalRun}
 
 same_whole : (target : Target) (shape : Shape) (ms : List Marked) → are_whole ms ≡ groups_whole (groups_of target shape ms)
@@ -53,6 +54,21 @@ groups_joined : (test : ℕ → Bool) (target : Target) (shape : Shape) (ms : Li
 groups_joined test target shape [] = refl
 groups_joined test target shape (m ∷ ms) = ap (λ b. test m.tag && b) (groups_joined test target shape ms)
 
+-- the tags of what was shown
+tags_shown : (may : ℕ → Bool) (port : Port) (end : ℕ) → BearsTags may port end → (c : ℕ) → c ≤ end → list_all (λ (m : Marked). may m.tag) (shown_at port c) ≡ true
+tags_shown may port end bears zero low = refl
+tags_shown may port end bears (suc c) low =
+    list_all-append (λ (m : Marked). may m.tag) (shown_at port c) (only_if (is_first (shows port.commands.signals) (takes port) c) (marked_at port c))
+    ∙ ap₂ (λ a b. a && b) (tags_shown may port end bears c (omega arith)) (by_first (is_first (shows port.commands.signals) (takes port) c) (first_is_shown c))
+  where
+    first_is_shown : (c : ℕ) → is_first (shows port.commands.signals) (takes port) c ≡ true → shows port.commands.signals c ≡ true
+    first_is_shown zero e = e
+    first_is_shown (suc c) e = (and_parts (shows port.commands.signals (suc c)) (not (stands_on (shows port.commands.signals) (takes port) c)) e).0
+
+    by_first : (b : Bool) → (b ≡ true → shows port.commands.signals c ≡ true) → list_all (λ (m : Marked). may m.tag) (only_if b (marked_at port c)) ≡ true
+    by_first true seen = rw (bears c (omega arith) (seen refl)) refl
+    by_first false seen = refl
+
 module _ (responses : Responses) (system : System) (run : Run) (inside : Inside) (holds : Holds) (end : ℕ) (wired : Wired responses system run inside holds end) (legal : IsLegalRun system run end) where
   pub together : (a c : ℕ) → a < system.agents → c ≤ end → IsTrue (are_together (owners_taken system run a c))
   together a c there low =
@@ -69,7 +85,7 @@ module _ (responses : Responses) (system : System) (run : Run) (inside : Inside)
       let whole : groups_whole groups ≡ true = sym (same_whole target far.shape (shown_at far.port d)) ∙ commands.whole d (omega arith) in
       let owners_there = owners_of_groups (λ _. 0) (λ _. false) groups in
       let joined : list_all (λ (o : Owner). is_joined system a o.tag) owners_there ≡ true =
-      owners_joined (is_joined system a) (λ _. 0) (λ _. false) groups (sym (groups_joined (is_joined system a) target far.shape (shown_at far.port d)) ∙ commands.fit.tags d (omega arith)) in
+      owners_joined (is_joined system a) (λ _. 0) (λ _. false) groups (sym (groups_joined (is_joined system a) target far.shape (shown_at far.port d)) ∙ tags_shown (is_joined system a) far.port end commands.fit.tags d (omega arith)) in
       let f : ℕ → ℕ → ℕ = λ h. turn_of system h a 1 0 false (host_transfers system run h c) in
       let matched = by_turns f (λ h. owners system run h a c) (is_joined system a) [] (taken system run a c) [] owners_there (λ h. refl)
       (subst (λ l. IsPrefix (map (λ (t : Tagged). t.tag) (taken system run a c)) l) (same_tags (λ _. 0) (λ _. false) groups) (prefix_map (λ (t : Tagged). t.tag) all_taken)) joined

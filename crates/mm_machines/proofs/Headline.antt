@@ -70,12 +70,12 @@ module _ (responses : Responses) (system : System) (run : Run) (inside : Inside)
       let fifth = pipe_carries system a holds.pipe h (inside.after_arbiter a) (inside.before_agent a) end is (wired.pipe a there).same
       ((wired.pipe a there).commands end (omega arith) ((legal_everywhere responses system run inside holds end wired legal).after_arbiter a there).legal ((owed_earlier responses system run inside holds end wired legal).before_agent a there)) in
       let front = port_fronts target (inside.after_route h a) end ((legal_everywhere responses system run inside holds end wired legal).after_route h a is there) in
-      let one = carries_trans _ _ _ _ _ _ _ _ _ _ end front (port_fronts target (inside.before_arbiter h a) end ((legal_everywhere responses system run inside holds end wired legal).before_arbiter a there h is).0) third fourth in
+      let one = carries_trans _ _ _ _ _ _ _ _ _ _ end front (port_fronts target (inside.before_arbiter h a) end ((legal_everywhere responses system run inside holds end wired legal).before_arbiter a there h is).legal) third fourth in
       carries_trans _ _ _ _ _ _ _ _ _ _ end front (tagged_fronts h target (inside.after_arbiter a).port end ((legal_everywhere responses system run inside holds end wired legal).after_arbiter a there).legal) one fifth
 
   pub route_carries : (h a : ℕ) → h < system.hosts → a < system.agents →
       Carries h holds.route 0 1 (placed_flow system h a (inside.after_host h)) (port_flow (target_of system a) (inside.after_route h a)) end
-  route_carries h a is there = ((wired.route h is).commands end (omega arith) ((legal_everywhere responses system run inside holds end wired legal).after_host h is) (λ a there. (owed_earlier responses system run inside holds end wired legal).after_route h a is there)).carries a there
+  route_carries h a is there = ((wired.route h is).commands end (omega arith) ((legal_everywhere responses system run inside holds end wired legal).after_host h is) ((legal_everywhere responses system run inside holds end wired legal).single h is) ((legal_everywhere responses system run inside holds end wired legal).debt h is) (λ a there. (owed_earlier responses system run inside holds end wired legal).after_route h a is there)).carries a there
 
   -- from the host's port to the route
   pub outer_path : (h a : ℕ) → h < system.hosts → a < system.agents →
@@ -101,7 +101,7 @@ module _ (responses : Responses) (system : System) (run : Run) (inside : Inside)
       let third = carries_of_links h target holds.links (inside.after_route h a) (inside.before_arbiter h a) end
       ((wired.links h a is there).carries.commands end (omega arith) ((legal_everywhere responses system run inside holds end wired legal).after_route h a is there) ((owed_earlier responses system run inside holds end wired legal).before_arbiter h a is there)) in
       let front = port_fronts target (inside.after_route h a) end ((legal_everywhere responses system run inside holds end wired legal).after_route h a is there) in
-      let one = carries_trans _ _ _ _ _ _ _ _ _ _ end front (port_fronts target (inside.before_arbiter h a) end ((legal_everywhere responses system run inside holds end wired legal).before_arbiter a there h is).0) third ((arbiter_commands a there).carries h is) in
+      let one = carries_trans _ _ _ _ _ _ _ _ _ _ end front (port_fronts target (inside.before_arbiter h a) end ((legal_everywhere responses system run inside holds end wired legal).before_arbiter a there h is).legal) third ((arbiter_commands a there).carries h is) in
       carries_trans _ _ _ _ _ _ _ _ _ _ end (host_fronts system run h a end (legal.hosts h is)) front (outer_path h a is there) one
 
   -- from the host's port to the port before the agent

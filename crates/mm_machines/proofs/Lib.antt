@@ -22,6 +22,7 @@ pub mod Safe
 pub mod Responses
 pub mod RegisterBeats
 pub mod RegisterLegal
+pub mod RegisterTags
 pub mod OnePipe
 pub mod PipeRow
 pub mod TagOrder

@@ -4,6 +4,7 @@ use Rattle.histories.specs.Laws.{prefix_refl}
 use Rattle.mm_machines.proofs.Parts.{held_of_fronts, sizes_flat}
 use Rattle.mm_machines.proofs.RegisterBeats.{is_ahead, taken_later, shown_later}
 use Rattle.mm_machines.proofs.RegisterLegal.{register_legal}
+use Rattle.mm_machines.proofs.RegisterTags.{register_hands_on}
 use Rattle.histories.specs.History.{IsPrefix, only_if, is_raised, unreached, total}
 use Rattle.mm_runs.specs.Views.{System, Shape}
 use Rattle.mm_runs.specs.Commands.{shows}
@@ -59,6 +60,7 @@ module _ (system : System) (agent : ℕ) (up down : TaggedPort) (registers : Are
       taken = λ k less. taken_front k;
       held = λ h k is less. held_one h k;
       legal = register_legal up.port down.port registers.commands c legal;
+      hands_on = register_hands_on up.port down.port registers.commands c;
     };
     answers = λ c low legal owed h k is less. words_delayed h k;
   }

@@ -8,6 +8,7 @@ use Rattle.mm_machines.proofs.Flows.{counted}
 use Rattle.mm_machines.proofs.Parts.{prefix_within, tagged_fronts, shown_grows}
 use Rattle.histories.specs.Laws.{prefix_filter, prefix_refl}
 use Rattle.mm_machines.proofs.Pipes.{owed_above}
+use Rattle.mm_machines.proofs.Rows.{wire_hands_on, both_hand_on}
 use Rattle.histories.specs.History.{IsPrefix, total}
 use Rattle.mm_runs.specs.Views.{System, Shape}
 use Rattle.mm_machines.specs.Link.{AreLegalAt, shown_at, taken_at}
@@ -54,6 +55,7 @@ module _ (system : System) (agent first_hold second_hold first_stages second_sta
               (prefix_map (λ (g : Group). length g.operations) (tagged_fronts h target up.port c legal k less)) (prefix_map (λ (g : Group). length g.operations) (tagged_fronts h target middle.port c before_it.0 k less))
               (prefix_within (prefix_map (λ (g : Group). length g.operations) shown)) (one.held h k is less) (two.held h k is less);
           legal = two.legal;
+          hands_on = both_hand_on one.hands_on two.hands_on;
         };
     answers = λ c low legal owed h k is less.
         let before_it = both c low legal (λ h k is less. owed h k is (omega arith)) in
@@ -70,6 +72,7 @@ no_pipe system agent port end = record {
     taken = λ k less. let now : k ≡ k - 0 = omega arith in subst (λ n. IsPrefix (taken_at port.port k) (taken_at port.port n)) now (prefix_refl _);
     held = λ h k is less. le_of_eq (all_reached (sizes_of ((tagged_flow h (target_of system agent) port.port).taken k)) (total (sizes_of ((tagged_flow h (target_of system agent) port.port).taken k))) (le_refl _));
     legal = legal;
+    hands_on = wire_hands_on port.port c;
   };
   answers = λ c low legal owed h k is less. let now : k ≡ k - 0 = omega arith in ap (words_with h port) now;
 }

@@ -29,7 +29,8 @@ fit_below system agent hold stages up down end same fit carries = record {
       subst (λ shape. IsTrue ((target_of system agent).shape.has_enables || list_all (λ (m : Marked). list_all (λ (b : Beat). is_nonempty (beat_operations (target_of system agent) shape b)) m.transfer.beats) (shown_at down.port c))) same
       (all_of_prefix (target_of system agent).shape.has_enables (λ (m : Marked). list_all (λ (b : Beat). is_nonempty (beat_operations (target_of system agent) up.shape b)) m.transfer.beats) (shown_at down.port c) (shown_at up.port (c - stages))
       (carries.shown c low) (fit.lanes (c - stages) (omega arith)));
-  tags = λ c low. all_of_prefix false (λ (m : Marked). is_joined system agent m.tag) (shown_at down.port c) (shown_at up.port (c - stages)) (carries.shown c low) (fit.tags (c - stages) (omega arith));
+  tags = carries.hands_on.tags (is_joined system agent) fit.tags;
+  kinds = carries.hands_on.kinds (system.agent agent) fit.kinds;
 }
 
 -- what was taken below was taken above

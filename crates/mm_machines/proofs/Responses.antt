@@ -46,17 +46,17 @@ placed_total system host agent (q ∷ qs) (w ∷ ws) h = by_place (is_agent agen
     by_place false rest = rest
 
 module _ (responses : Responses) (system : System) (run : Run) (inside : Inside) (holds : Holds) (end : ℕ) (wired : Wired responses system run inside holds end) (legal : IsLegalRun system run end) where
-  codes_back : (h a c : ℕ) → h < system.hosts → a < system.agents → c ≤ end → AreGreatest (worded (placed_blocks system h a (inside.after_host h) c)) (codes_of (answers_to h (answers system run a (c - system.stages))))
-  codes_back h a c is there low =
+  codes_back : responses ≡ AreCodes → (h a c : ℕ) → h < system.hosts → a < system.agents → c ≤ end → AreGreatest (worded (placed_blocks system h a (inside.after_host h) c)) (codes_of (answers_to h (answers system run a (c - system.stages))))
+  codes_back told h a c is there low =
       let target = target_of system a in
       let up = inside.after_host h in
       let middle = inside.after_route h a in
       let down = inside.before_arbiter h a in
-      let front = (route_answers responses system run inside holds end wired legal h is).codes a c there low in
+      let front = (route_answers responses system run inside holds end wired legal h is).codes told a c there low in
       let links = (wired.links h a is there).codes c low (legal_at_before middle c end low ((legal_everywhere responses system run inside holds end wired legal).after_route h a is there)) (λ k less. (owed_everywhere responses system run inside holds end wired legal).before_arbiter h a is there k (omega arith)) in
-      let first = ((wired.arbiter a there).answers end (omega arith) ((legal_everywhere responses system run inside holds end wired legal).before_arbiter a there) ((owed_everywhere responses system run inside holds end wired legal).after_arbiter a there)).codes h c is low in
+      let first = ((wired.arbiter a there).answers end (omega arith) ((legal_everywhere responses system run inside holds end wired legal).before_arbiter a there) ((owed_everywhere responses system run inside holds end wired legal).after_arbiter a there)).codes told h c is low in
       let second = piped_answers responses system run inside holds end wired legal h a c is there low in
-      let third = ((wired.agent a there).answers end (omega arith) ((legal_everywhere responses system run inside holds end wired legal).before_agent a there) (legal.agents a there)).codes h (c - system.stages) is (omega arith) in
+      let third = ((wired.agent a there).answers end (omega arith) ((legal_everywhere responses system run inside holds end wired legal).before_agent a there) (legal.agents a there)).codes told h (c - system.stages) is (omega arith) in
       let back : IsPrefix (codes_of (answers_at target down c)) (codes_of (answers_to h (answers system run a (c - system.stages)))) =
       prefix_trans (subst (λ l. IsPrefix (codes_of (answers_at target down c)) (codes_of l)) second first) third in
       let bytes = prefix_length (((wired.links h a is there).carries.answers end (omega arith) ((legal_everywhere responses system run inside holds end wired legal).after_route h a is there) ((owed_everywhere responses system run inside holds end wired legal).before_arbiter h a is there)).bytes c low) in
@@ -70,12 +70,12 @@ module _ (responses : Responses) (system : System) (run : Run) (inside : Inside)
       (omega (arith, bytes, mine, theirs, codes, sizes, worded_sizes, blocks))
       (greatest_before_worded (placed_blocks system h a up c) (blocks_at target middle c) (codes_of (answers_at target down c)) front links)
 
-  word_code : (h a c : ℕ) (q : Asked) → h < system.hosts → a < system.agents → c < end → IsTrue (is_raised ((inside.after_host h).answers.valid c)) → q.place ≡ Some a →
+  word_code : responses ≡ AreCodes → (h a c : ℕ) (q : Asked) → h < system.hosts → a < system.agents → c < end → IsTrue (is_raised ((inside.after_host h).answers.valid c)) → q.place ≡ Some a →
       slice_get (asked_at system h (inside.after_host h) (suc c)) (length (words_at (inside.after_host h) c)) ≡ Some q →
       0 < length (filled_lanes (system.host h).shape (system.agent a).shape q.beat.enables) →
       (inside.after_host h).answers.code c ≡ greatest_code (take (length (filled_lanes (system.host h).shape (system.agent a).shape q.beat.enables))
       (drop (reads_for system h a (take (length (words_at (inside.after_host h) c)) (asked_at system h (inside.after_host h) (suc c)))) (answers_to h (answers system run a (suc c - system.stages)))))
-  word_code h a c q is there low valid place got some =
+  word_code told h a c q is there low valid place got some =
       let up = inside.after_host h in
       let asks = asked_at system h up (suc c) in
       let ws = words_at up c in
@@ -93,16 +93,16 @@ module _ (responses : Responses) (system : System) (run : Run) (inside : Inside)
       let split : worded (placed_blocks system h a up (suc c)) ≡ worded earlier ++ b ∷ [] =
       ap worded blocks ∙ filter-append (λ (b : Block). nat_lt 0 b.size) earlier (b ∷ []) ∙ ap (λ l. worded earlier ++ l) one in
       let replies = answers_to h (answers system run a (suc c - system.stages)) in
-      let last = greatest_last (worded earlier) b (codes_of replies) (subst (λ l. AreGreatest l (codes_of replies)) split (codes_back h a (suc c) is there (omega arith))) some in
+      let last = greatest_last (worded earlier) b (codes_of replies) (subst (λ l. AreGreatest l (codes_of replies)) split (codes_back told h a (suc c) is there (omega arith))) some in
       let inside_front = slice_get_within asks (length ws) q got in
       let place_of_it : total (sizes_of (worded earlier)) ≡ reads_for system h a (take (length ws) asks) = worded_total earlier ∙ placed_total system h a asks ws (omega (arith, inside_front)) in
       last ∙ ap (λ r. highest (take (length lanes) (drop r (codes_of replies)))) place_of_it
       ∙ ap highest (sym (codes_within (length lanes) (reads_for system h a (take (length ws) asks)) replies))
       ∙ sym (highest_of (take (length lanes) (drop (reads_for system h a (take (length ws) asks)) replies)))
 
-  code_of_word : (h c code : ℕ) → h < system.hosts → c < end → IsTrue (is_raised ((inside.after_host h).answers.valid c)) → code ≡ (inside.after_host h).answers.code c →
+  code_of_word : responses ≡ AreCodes → (h c code : ℕ) → h < system.hosts → c < end → IsTrue (is_raised ((inside.after_host h).answers.valid c)) → code ≡ (inside.after_host h).answers.code c →
       HasCodeOf system run h c (length (words_at (inside.after_host h) c)) code (slice_get (asked system run h (suc c)) (length (words_at (inside.after_host h) c)))
-  code_of_word h c code is low valid same = by_question (slice_get (asked_at system h up (suc c)) number) refl ((route_answers responses system run inside holds end wired legal h is).default_code c low valid)
+  code_of_word told h c code is low valid same = by_question (slice_get (asked_at system h up (suc c)) number) refl ((route_answers responses system run inside holds end wired legal h is).default_code told c low valid)
     where
       up : Port
       up = inside.after_host h
@@ -121,7 +121,7 @@ module _ (responses : Responses) (system : System) (run : Run) (inside : Inside)
           let asks = asked_at system h (inside.after_host h) (suc c) in
           let there : slice_get (asked system run h (suc c)) n ≡ Some q = prefix_get front n q e in
           let earlier : take n (asked system run h (suc c)) ≡ take n asks = prefix_take front n (let low = slice_get_within asks n q e in omega (arith, low)) in
-          let placed : (a : ℕ) → q.place ≡ Some a → a < system.agents = asked_placed system h wired.placed (map (λ (m : Marked). m.transfer) (shown_at (inside.after_host h) (suc c))) n q e in
+          let placed : (a : ℕ) → q.place ≡ Some a → a < system.agents = asked_placed system h (λ t a at. wired.placed h t a is at) (map (λ (m : Marked). m.transfer) (shown_at (inside.after_host h) (suc c))) n q e in
           subst (λ o. HasCodeOf system run h c n code o) (sym there) (by_place q.place refl default earlier placed)
         where
           by_place : (place : Option ℕ) → q.place ≡ place → MatchOption place ((inside.after_host h).answers.code c ≡ 3) (λ _. ⊤) →
@@ -132,19 +132,19 @@ module _ (responses : Responses) (system : System) (run : Run) (inside : Inside)
               (answers_to h (answers system run a (suc c - system.stages))))))
           by_place None at default earlier placed = same ∙ default
           by_place (Some a) at default earlier placed = λ some.
-              same ∙ word_code h a c q is (placed a at) low valid at e some
+              same ∙ word_code told h a c q is (placed a at) low valid at e some
               ∙ ap (λ l. greatest_code (take (length (filled_lanes (system.host h).shape (system.agent a).shape q.beat.enables)) (drop (reads_for system h a l) (answers_to h (answers system run a (suc c - system.stages)))))) (sym earlier)
 
-  by_rule : (rule : Responses) → (h : ℕ) → h < system.hosts →
+  by_rule : (rule : Responses) → responses ≡ rule → (h : ℕ) → h < system.hosts →
       ((c : ℕ) → c < end → gives_word (system.host h) (run.at_host h) c ≡ is_raised ((inside.after_host h).answers.valid c)) →
       HostResponds rule system run h (inside.after_host h) end → RespondsBy rule system run h end
-  by_rule AreZero h is gives responds = responds
-  by_rule AreCodes h is gives responds = record {
+  by_rule AreZero told h is gives responds = responds
+  by_rule AreCodes told h is gives responds = record {
     of_words = λ c low has given_here.
         let valid : is_raised ((inside.after_host h).answers.valid c) ≡ true = sym (gives c low) ∙ given_here in
         let number = given_count responses system run h (inside.after_host h) end c (host_answers responses system run inside holds end wired legal h is) (omega arith) in
         subst (λ n. HasCodeOf system run h c n ((run.at_host h).response c) (slice_get (asked system run h (suc c)) n)) (sym number)
-        (code_of_word h c ((run.at_host h).response c) is low valid (responds.code c low has valid));
+        (code_of_word told h c ((run.at_host h).response c) is low valid (responds.code c low has valid));
     quiet = λ c low has silent. responds.quiet c low has (ap not (sym (gives c low)) ∙ silent);
     absent = λ c low has. responds.absent c low has;
   }
@@ -152,4 +152,4 @@ module _ (responses : Responses) (system : System) (run : Run) (inside : Inside)
   pub responded : (h : ℕ) → h < system.hosts → RespondsBy responses system run h end
   responded h is =
       let answered = host_answers responses system run inside holds end wired legal h is in
-      by_rule responses h is answered.gives answered.responds
+      by_rule responses refl h is answered.gives answered.responds

@@ -1,5 +1,6 @@
 -- A row of links: what two in a row give, and what one link gives.
-use Rattle.std.proofs.Common.{ℕ, ◌<◌, ◌≤◌, ◌≡◌, ◌+◌, ◌*◌, [], ◌∷◌, ◌++◌, List, Bool, true, false, if◌then◌else◌, arith, refl, sym, ap, ◌∙◌, subst, length, drop, nat_lt, tests, replicate, le_trans}
+use Rattle.std.proofs.Common.{ℕ, ◌<◌, ◌≤◌, ◌≡◌, ◌+◌, ◌-◌, ◌*◌, [], ◌∷◌, ◌++◌, List, Bool, true, false, if◌then◌else◌, arith, refl, sym, ap, ◌∙◌, subst, length, drop, nat_lt, tests, replicate, le_trans}
+use Rattle.mm_machines.specs.Shorter.{legal_at_before}
 use Rattle.std.proofs.lemmas.List.{length-map}
 use Rattle.histories.specs.Laws.{prefix_trans, prefix_refl, prefix_length}
 use Rattle.mm_machines.proofs.Wire.{wire_is_link}
@@ -10,7 +11,7 @@ use Rattle.histories.specs.History.{IsPrefix, total}
 use Rattle.mm_runs.specs.Operations.{pieces}
 use Rattle.mm_machines.specs.Link.{Port, Target, KeepsLinkLaw, AreLegalAt, AnswersAreOwed, answers_at}
 use Rattle.mm_machines.specs.Blocks.{Block, flat, sizes_of, AreGreatest, worded, codes_of, blocks_at}
-use Rattle.mm_machines.specs.Lines.{IsWordForWord, KeepsRow, bytes_of}
+use Rattle.mm_machines.specs.Lines.{IsWordForWord, KeepsRow, HandsOn, bytes_of}
 
 -- words without an answer say nothing
 greatest_worded : (bs : List Block) (codes : List ℕ) → AreGreatest bs codes → AreGreatest (worded bs) codes
@@ -46,8 +47,10 @@ pub greatest_of_link : (target : Target) (hold : ℕ) (up down : Port) (end c : 
 greatest_of_link target hold up down end c link low legal owed = let carries = link.answers c low legal owed in middle_greatest target up down c legal carries.owed carries c (omega arith)
 
 -- one link is a row
-pub row_of_link : (target : Target) (hold : ℕ) (up down : Port) (end : ℕ) → KeepsLinkLaw target hold up down end → KeepsRow target hold up down end
-row_of_link target hold up down end link = record {
+pub row_of_link : (target : Target) (hold : ℕ) (up down : Port) (end : ℕ) → KeepsLinkLaw target hold up down end →
+    ((c : ℕ) → c ≤ end → AreLegalAt up c → AnswersAreOwed down (c - 1) → HandsOn up down c) → KeepsRow target hold up down end
+row_of_link target hold up down end link hands = record {
+  hands_on = hands;
   carries = carrier_of_link target hold up down end link;
   codes = λ c low legal owed. greatest_worded (blocks_at target up c) (codes_of (answers_at target down c)) (greatest_of_link target hold up down end c link low legal owed);
 }
@@ -78,6 +81,13 @@ enough_codes target up down c p =
     let blocks = total_blocks target up c in
     omega (arith, few, mine, theirs, codes, blocks)
 
+-- a wire hands on, and so do two parts
+pub wire_hands_on : (port : Port) (end : ℕ) → HandsOn port port end
+wire_hands_on port end = record { tags = λ may bears. bears; kinds = λ side serves. serves }
+
+pub both_hand_on : {up middle down : Port} {end : ℕ} → HandsOn up middle end → HandsOn middle down end → HandsOn up down end
+both_hand_on one two = record { tags = λ may bears. two.tags may (one.tags may bears); kinds = λ side serves. two.kinds side (one.kinds side serves) }
+
 -- two rows in a row
 module _ (target : Target) (first_hold second_hold : ℕ) (up middle down : Port) (end : ℕ)
     (between : pieces middle.shape down.shape * pieces up.shape middle.shape ≤ pieces up.shape down.shape)
@@ -88,10 +98,17 @@ module _ (target : Target) (first_hold second_hold : ℕ) (up middle down : Port
   owed_there : (c : ℕ) → c ≤ end → AreLegalAt up c → AnswersAreOwed down c → AnswersAreOwed middle c
   owed_there = there_owed target first_hold second_hold up middle down end between first.carries second.carries
 
+  hands : (c : ℕ) → c ≤ end → AreLegalAt up c → AnswersAreOwed down (c - 1) → HandsOn up down c
+  hands c low legal owed =
+      let earlier = owed_there (c - 1) (omega arith) (legal_at_before up (c - 1) c (omega arith) legal) owed in
+      let middle_legal = there_legal target first_hold second_hold up middle down end between first.carries second.carries c low legal owed in
+      both_hand_on (first.hands_on c low legal earlier) (second.hands_on c low middle_legal owed)
+
   -- the upper one is word for word
   pub upper_row : IsWordForWord target up middle end → KeepsRow target (first_hold + second_hold) up down end
   upper_row words = record {
     carries = two_carriers target first_hold second_hold up middle down end between first.carries second.carries;
+    hands_on = hands;
     codes = λ c low legal owed.
         greatest_before_worded (blocks_at target up c) (blocks_at target middle c) (codes_of (answers_at target down c)) (words c low legal (owed_there c low legal owed))
         (second.codes c low (legal_there c low legal owed) owed);
@@ -101,6 +118,7 @@ module _ (target : Target) (first_hold second_hold : ℕ) (up middle down : Port
   pub lower_row : IsWordForWord target middle down end → KeepsRow target (first_hold + second_hold) up down end
   lower_row words = record {
     carries = two_carriers target first_hold second_hold up middle down end between first.carries second.carries;
+    hands_on = hands;
     codes = λ c low legal owed.
         let bytes = (first.carries.answers c low legal (owed_there c low legal owed)).bytes c (omega arith) in
         let enough = enough_codes target up middle c bytes in
@@ -115,7 +133,7 @@ module _ (target : Target) (first_hold second_hold : ℕ) (up middle down : Port
 
 -- a wire
 pub wire_row : (target : Target) (port : Port) (end : ℕ) → 0 < port.shape.word_bytes → KeepsRow target 0 port port end
-wire_row target port end words = row_of_link target 0 port port end (wire_is_link target port end words)
+wire_row target port end words = row_of_link target 0 port port end (wire_is_link target port end words) (λ c low legal owed. wire_hands_on port c)
 
 pub wire_words : (target : Target) (port : Port) (end : ℕ) → IsWordForWord target port port end
 wire_words target port end c low legal owed = prefix_refl _
@@ -130,4 +148,5 @@ wider_row target hold more up down end low row = record {
     answers = row.carries.answers;
   };
   codes = row.codes;
+  hands_on = row.hands_on;
 }

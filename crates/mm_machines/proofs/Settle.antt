@@ -1,15 +1,21 @@
 -- All boundaries inside a system carry legal commands and owed answers. The circle between them is broken by the cycle.
-use Rattle.std.proofs.Common.{ℕ, zero, suc, ◌<◌, ◌≤◌, ◌-◌, arith}
+use Rattle.std.proofs.Common.{ℕ, zero, suc, ◌<◌, ◌≤◌, ◌≡◌, ◌-◌, IsTrue, arith, true, sym, subst, nat_eq, eqb-true}
 use Rattle.mm_runs.specs.Shorter.{legal_before, owed_before}
 use Rattle.mm_runs.specs.Views.{Responses, System, Run}
-use Rattle.mm_machines.specs.Link.{AreLegalAt, AnswersAreOwed}
-use Rattle.mm_machines.specs.Lines.{BringsLanes, Inside, Holds, Wired, IsFit, HasLanes, AreOwedByTag, AreFitToAsk, target_of}
+use Rattle.mm_runs.specs.Commands.{shows}
+use Rattle.mm_runs.specs.Order.{is_joined}
+use Rattle.mm_machines.proofs.Laws.{same_number}
+use Rattle.mm_machines.specs.Link.{Port, AreLegalAt, AnswersAreOwed}
+use Rattle.mm_machines.specs.Lines.{BringsLanes, Inside, Holds, Wired, IsFit, IsFitToAsk, HasLanes, AreOwedByTag, AreFitToAsk, AreSingle, OwesBelow, ServesKinds, KeepsRow, RouteCarriesCommands, target_of}
 use Rattle.mm_machines.specs.Lines.BringsLanes.{made, kept}
 use Rattle.mm_runs.specs.Whole.{IsLegalRun}
 use Rattle.mm_machines.proofs.Pipes.{owed_above, fit_below, all_of_prefix}
 
-pub record AllLegal (system : System) (inside : Inside) (end : ℕ) : Type 0 where
+-- `room`: of each host, more words than its reads may owe
+pub record AllLegal (system : System) (inside : Inside) (room : ℕ → ℕ) (end : ℕ) : Type 0 where
   pub after_host : (h : ℕ) → h < system.hosts → AreLegalAt (inside.after_host h) end
+  pub single : (h : ℕ) → h < system.hosts → AreSingle (inside.after_host h) end
+  pub debt : (h : ℕ) → h < system.hosts → OwesBelow (room h) (inside.after_host h) end
   pub after_route : (h a : ℕ) → h < system.hosts → a < system.agents → AreLegalAt (inside.after_route h a) end
   pub before_arbiter : (a : ℕ) → a < system.agents → AreFitToAsk system a (λ h. inside.before_arbiter h a) end
   pub after_arbiter : (a : ℕ) → a < system.agents → IsFit system a (inside.after_arbiter a).port end
@@ -28,41 +34,60 @@ legal_run_before system run shorter end h legal = record {
   agents = λ k low. record { owed = λ valid. owed_before _ _ shorter end h ((legal.agents k low).owed valid) };
 }
 
+-- what a row of links hands on of a host's commands may ask the arbiter
+fit_to_ask : (system : System) (host agent hold end c : ℕ) (up down : Port) → KeepsRow (target_of system agent) hold up down end → c ≤ end → AreLegalAt up c → AnswersAreOwed down (c - 1) → HasLanes (target_of system agent) down c →
+    ((k : ℕ) → k < c → up.commands.tag k ≡ host) → ((k : ℕ) → k < c → IsTrue (shows up.commands.signals k) → IsTrue (is_joined system agent host)) → ServesKinds (system.agent agent) up c → IsFitToAsk system agent host down c
+fit_to_ask system host agent hold end c up down row low legal owed lanes tag joined kinds =
+    let hands = row.hands_on c low legal owed in
+    let own : (k : ℕ) → k < c → IsTrue (shows down.commands.signals k) → down.commands.tag k ≡ host =
+    λ k less shown. eqb-true (down.commands.tag k) host (hands.tags (λ t. nat_eq t host) (λ i there _. subst (λ t. nat_eq t host ≡ true) (sym (tag i there)) (same_number host)) k less shown) in
+    record {
+      legal = (row.carries.commands c low legal owed).legal;
+      lanes = lanes;
+      tag = own;
+      joined = λ k less shown. subst (λ t. IsTrue (is_joined system agent t)) (own k less shown)
+          (hands.tags (is_joined system agent) (λ i there seen. subst (λ t. IsTrue (is_joined system agent t)) (sym (tag i there)) (joined i there seen)) k less shown);
+      kinds = hands.kinds (system.agent agent) kinds;
+    }
+
 module _ (responses : Responses) (system : System) (run : Run) (inside : Inside) (holds : Holds) (end : ℕ) (wired : Wired responses system run inside holds end) where
   -- commands go down where the answers of earlier cycles are owed
-  pub down : (c : ℕ) → c ≤ end → IsLegalRun system run c → AllOwed system inside (c - 1) → AllLegal system inside c
+  pub down : (c : ℕ) → c ≤ end → IsLegalRun system run c → AllOwed system inside (c - 1) → AllLegal system inside wired.room c
   down c low legal owed =
       let first : (h : ℕ) → h < system.hosts → AreLegalAt (inside.after_host h) c =
       λ h is. ((wired.host h is).commands c low (legal.hosts h is) (owed.after_host h is)).legal in
-      let second : (h a : ℕ) → h < system.hosts → a < system.agents → AreLegalAt (inside.after_route h a) c =
-      λ h a is there. ((wired.route h is).commands c low (first h is) (λ a there. owed.after_route h a is there)).legal a there in
       let third : (a : ℕ) → a < system.agents → AreFitToAsk system a (λ h. inside.before_arbiter h a) c =
-      λ a there h is. (
-        ((wired.links h a is there).carries.commands c low (second h a is there) (owed.before_arbiter h a is there)).legal,
-        lanes_there h a is there (wired.lanes h a is there) (second h a is there),
-      ) in
+      λ a there h is.
+      let routed = routes h is in
+      fit_to_ask system h a holds.links end c (inside.after_route h a) (inside.before_arbiter h a) (wired.links h a is there) low (routed.legal a there) (owed.before_arbiter h a is there)
+      (lanes_there h a is there (wired.lanes h a is there)) (λ k less. routed.tag a k there less) (λ k less. routed.joined a k there less) (routed.kinds a there) in
       let fourth : (a : ℕ) → a < system.agents → IsFit system a (inside.after_arbiter a).port c =
       λ a there. ((wired.arbiter a there).commands c low (third a there) (owed.after_arbiter a there)).fit in
       record {
         after_host = first;
-        after_route = second;
+        single = λ h is. (wired.host h is).single c low (legal.hosts h is) (owed.after_host h is);
+        debt = λ h is. (wired.host h is).debt c low (legal.hosts h is) (owed.after_host h is);
+        after_route = λ h a is there. (routes h is).legal a there;
         before_arbiter = third;
         after_arbiter = fourth;
         before_agent = λ a there. fit_below system a holds.pipe system.stages (inside.after_arbiter a) (inside.before_agent a) c (wired.pipe a there).same (fourth a there)
             ((wired.pipe a there).commands c low (fourth a there).legal (owed.before_agent a there));
       }
     where
-      lanes_there : (h a : ℕ) → h < system.hosts → a < system.agents → BringsLanes system run h a (inside.after_route h a) (inside.before_arbiter h a) end →
-          AreLegalAt (inside.after_route h a) c → HasLanes (target_of system a) (inside.before_arbiter h a) c
-      lanes_there h a is there (made makes) legal_there = makes c low legal_there (owed.before_arbiter h a is there)
-      lanes_there h a is there (kept host_has keeps) legal_there =
+      routes : (h : ℕ) → h < system.hosts → RouteCarriesCommands system h holds.route (inside.after_host h) (inside.after_route h) c
+      routes h is =
+          (wired.route h is).commands c low ((wired.host h is).commands c low (legal.hosts h is) (owed.after_host h is)).legal ((wired.host h is).single c low (legal.hosts h is) (owed.after_host h is))
+          ((wired.host h is).debt c low (legal.hosts h is) (owed.after_host h is)) (λ a there. owed.after_route h a is there)
+
+      lanes_there : (h a : ℕ) → h < system.hosts → a < system.agents → BringsLanes system run h a (inside.after_route h a) (inside.before_arbiter h a) end → HasLanes (target_of system a) (inside.before_arbiter h a) c
+      lanes_there h a is there (made makes) = makes c low ((routes h is).legal a there) (owed.before_arbiter h a is there)
+      lanes_there h a is there (kept host_has keeps) =
           let at_host = (wired.host h is).commands c low (legal.hosts h is) (owed.after_host h is) in
-          keeps c low legal_there (owed.before_arbiter h a is there)
-          (((wired.route h is).commands c low at_host.legal (λ a there. owed.after_route h a is there)).lanes a there
-          (λ k less. all_of_prefix (system.agent a).has_enables _ _ _ (at_host.in_order k less) (host_has k (omega arith))))
+          keeps c low ((routes h is).legal a there) (owed.before_arbiter h a is there)
+          ((routes h is).lanes a there (λ k less. all_of_prefix (system.agent a).has_enables _ _ _ (at_host.in_order k less) (host_has k (omega arith))))
 
   -- answers go up
-  pub up : (c : ℕ) → c ≤ end → IsLegalRun system run c → AllLegal system inside c → AllOwed system inside (c - 1) → AllOwed system inside c
+  pub up : (c : ℕ) → c ≤ end → IsLegalRun system run c → AllLegal system inside wired.room c → AllOwed system inside (c - 1) → AllOwed system inside c
   up c low legal all earlier =
       let fifth : (a : ℕ) → a < system.agents → AreOwedByTag system (inside.before_agent a) c =
       λ a there. ((wired.agent a there).answers c low (all.before_agent a there) (legal.agents a there)).owed in
@@ -75,7 +100,7 @@ module _ (responses : Responses) (system : System) (run : Run) (inside : Inside)
       let second : (h a : ℕ) → h < system.hosts → a < system.agents → AnswersAreOwed (inside.after_route h a) c =
       λ h a is there. ((wired.links h a is there).carries.answers c low (all.after_route h a is there) (third h a is there)).owed in
       record {
-        after_host = λ h is. ((wired.route h is).answers c low (all.after_host h is) (λ a there. second h a is there)).owed;
+        after_host = λ h is. ((wired.route h is).answers c low (all.after_host h is) (all.single h is) (all.debt h is) (λ a there. second h a is there)).owed;
         after_route = second;
         before_arbiter = third;
         after_arbiter = fourth;
@@ -104,5 +129,5 @@ module _ (responses : Responses) (system : System) (run : Run) (inside : Inside)
       let before_it = owed_before_all (suc c - 1) c (omega arith) earlier in
       up (suc c) low legal (down (suc c) low legal before_it) before_it
 
-  pub all_legal : (c : ℕ) → c ≤ end → IsLegalRun system run c → AllLegal system inside c
+  pub all_legal : (c : ℕ) → c ≤ end → IsLegalRun system run c → AllLegal system inside wired.room c
   all_legal c low legal = down c low legal (owed_before_all (c - 1) c (omega arith) (all_owed c low legal))

@@ -2,13 +2,13 @@
 use Rattle.std.specs.Prelude.{◌≡◌, ℕ, suc, ◌+◌, ◌-◌, ◌*◌, ◌<◌, ◌≤◌, Bool, true, false, not, ◌&&◌, ◌||◌, List, [], ◌∷◌, ◌++◌, length, map, take, drop, nat_eq, IsTrue, Option, Some, filter, flat_map, zip, slice_get, MatchOption, ⊤}
 use Rattle.std.specs.List.{list_all}
 use Rattle.histories.specs.History.{before, only_if, is_raised, unreached, total, AreWithin, IsPrefix}
-use Rattle.mm_runs.specs.Views.{Shape, System, Run, Responses}
+use Rattle.mm_runs.specs.Views.{Shape, AgentSide, System, Run, Responses}
 use Rattle.mm_runs.specs.Views.Responses.{AreZero, AreCodes}
 use Rattle.mm_runs.specs.Operations.{Beat, Operation, filled_lanes, is_read, pieces}
-use Rattle.mm_runs.specs.Commands.{Transfer, agent_accepts, accepted, is_of_reads, reads_among}
+use Rattle.mm_runs.specs.Commands.{Transfer, shows, transfer_at, agent_accepts, accepted, is_of_reads, reads_among}
 use Rattle.mm_runs.specs.Legal.{host_accepts, given, gives_word, Word, IsLegalHost, IsLegalAgent, IsProperAtHost, IsProperAtAgent}
 use Rattle.mm_runs.specs.Order.{beat_operations as placed_operations, Tagged, Answer, Asked, HoldsAnswers, IsDefaultWord, is_agent, place_of, transfer_operations, taken, of_host, beats_taken, answers, answers_to, is_joined, reads_for, host_transfers}
-use Rattle.mm_machines.specs.Link.{Port, Target, Marked, Item, shown_at, taken_at, closes, operations_in, beat_operations, is_nonempty, read_beats, words_at, bytes_in, answers_at, AreLegalAt, AnswersAreOwed, CarriesCommands}
+use Rattle.mm_machines.specs.Link.{Port, Target, Marked, Item, takes, shown_at, taken_at, words_owed, closes, operations_in, beat_operations, is_nonempty, read_beats, words_at, bytes_in, answers_at, AreLegalAt, AnswersAreOwed, CarriesCommands}
 use Rattle.mm_machines.specs.Blocks.{Block, AreGreatest, worded, codes_of, blocks_at}
 use Rattle.mm_machines.specs.Link.Item.{Acts, Ends}
 
@@ -144,9 +144,39 @@ pub record HostCarriesAnswers (responses : Responses) (system : System) (run : R
   pub proper : IsProperAtHost (system.host host) (run.at_host host) end
   pub responds : HostResponds responses system run host down end
 
-pub record IsHostLine (responses : Responses) (system : System) (run : Run) (host hold : ℕ) (down : Port) (end : ℕ) : Type 0 where
+-- before the route `more` is high on all beats of a command but its last, and on no last one: it tells where a burst is under way
+abbrev pub AreSingle : Port → ℕ → Type 0
+AreSingle port end =
+    (c : ℕ) → c < end → IsTrue (shows port.commands.signals c) → is_raised (port.commands.more c) ≡ not (transfer_at port.shape port.commands.signals (takes port) c).ends
+
+-- the words that a side owes, those that are asked in this cycle among them, stay below a bound
+abbrev pub OwesBelow : ℕ → Port → ℕ → Type 0
+OwesBelow room port end = (c : ℕ) → c < end → words_owed port (suc c) < length (words_at port c) + room
+
+-- `room`: more words than the reads of the host may owe
+pub record IsHostLine (responses : Responses) (system : System) (run : Run) (host hold room : ℕ) (down : Port) (end : ℕ) : Type 0 where
   pub commands : (c : ℕ) → c ≤ end → IsLegalHost (system.host host) (run.at_host host) c → AnswersAreOwed down (c - 1) → HostCarriesCommands system run host hold down c
+  pub single : (c : ℕ) → c ≤ end → IsLegalHost (system.host host) (run.at_host host) c → AnswersAreOwed down (c - 1) → AreSingle down c
+  pub debt : (c : ℕ) → c ≤ end → IsLegalHost (system.host host) (run.at_host host) c → AnswersAreOwed down (c - 1) → OwesBelow room down c
   pub answers : (c : ℕ) → c ≤ end → IsLegalHost (system.host host) (run.at_host host) c → AnswersAreOwed down c → HostCarriesAnswers responses system run host down c
+
+-- ---- what all parts between the route and the agent hand on
+
+-- each beat that is shown bears one of these tags
+abbrev pub BearsTags : (ℕ → Bool) → Port → ℕ → Type 0
+BearsTags may port end = (c : ℕ) → c < end → IsTrue (shows port.commands.signals c) → IsTrue (may (port.commands.tag c))
+
+-- the agent has the kind of what is shown
+abbrev pub serves_at : AgentSide → Port → ℕ → Bool
+serves_at side port c = (not (is_raised (port.commands.read c)) || side.has_read) && (not (is_raised (port.commands.write c)) || side.has_write)
+
+abbrev pub ServesKinds : AgentSide → Port → ℕ → Type 0
+ServesKinds side port end = (c : ℕ) → c < end → IsTrue (serves_at side port c)
+
+-- a part makes no tags and no kinds of its own
+pub record HandsOn (up down : Port) (end : ℕ) : Type 0 where
+  pub tags : (may : ℕ → Bool) → BearsTags may up end → BearsTags may down end
+  pub kinds : (side : AgentSide) → ServesKinds side up end → ServesKinds side down end
 
 -- no beat without an operation stands before an agent without byte enables
 abbrev pub HasLanes : Target → Port → ℕ → Type 0
@@ -173,6 +203,9 @@ pub record RouteCarriesCommands (system : System) (host hold : ℕ) (up : Port) 
   pub carries : (a : ℕ) → a < system.agents → Carries host hold 0 1 (placed_flow system host a up) (port_flow (target_of system a) (down a)) end
   pub legal : (a : ℕ) → a < system.agents → AreLegalAt (down a) end
   pub lanes : (a : ℕ) → a < system.agents → ((c : ℕ) → c ≤ end → HavePlacedLanes system host a (sent_of (shown_at up c))) → HasLanes (target_of system a) (down a) end
+  pub tag : (a c : ℕ) → a < system.agents → c < end → (down a).commands.tag c ≡ host
+  pub joined : (a c : ℕ) → a < system.agents → c < end → IsTrue (shows (down a).commands.signals c) → IsTrue (is_joined system a host)
+  pub kinds : (a : ℕ) → a < system.agents → ServesKinds (system.agent a) (down a) end
 
 -- where a read that is presented for an agent came after a read beat for another place, the word of that beat is answered
 abbrev pub KeepsReadOrderAt : System → ℕ → Port → (ℕ → Port) → ℕ → Type 0
@@ -201,17 +234,19 @@ placed_blocks system host agent port cycle = flat_map (placed_block system host 
 abbrev pub HasDefaultCode : ℕ → Option Asked → Type 0
 HasDefaultCode code question = MatchOption question ⊥ (λ q. MatchOption q.place (code ≡ 3) (λ _. ⊤))
 
-pub record RouteCarriesAnswers (system : System) (host : ℕ) (up : Port) (down : ℕ → Port) (end : ℕ) : Type 0 where
+-- codes are told where they are read
+pub record RouteCarriesAnswers (responses : Responses) (system : System) (host : ℕ) (up : Port) (down : ℕ → Port) (end : ℕ) : Type 0 where
   pub answered : (c : ℕ) → c < end → IsTrue (is_raised (up.answers.valid c)) →
       IsRouted system host up down c (length (words_at up c)) (record { word = up.answers.word c; code = up.answers.code c }) (slice_get (asked_at system host up (suc c)) (length (words_at up c)))
   pub limited : KeepsReadOrderAt system host up down end
-  pub codes : (a c : ℕ) → a < system.agents → c ≤ end → IsPrefix (worded (placed_blocks system host a up c)) (worded (blocks_at (target_of system a) (down a) c))
-  pub default_code : (c : ℕ) → c < end → IsTrue (is_raised (up.answers.valid c)) → HasDefaultCode (up.answers.code c) (slice_get (asked_at system host up (suc c)) (length (words_at up c)))
+  pub codes : responses ≡ AreCodes → (a c : ℕ) → a < system.agents → c ≤ end → IsPrefix (worded (placed_blocks system host a up c)) (worded (blocks_at (target_of system a) (down a) c))
+  pub default_code : responses ≡ AreCodes → (c : ℕ) → c < end → IsTrue (is_raised (up.answers.valid c)) → HasDefaultCode (up.answers.code c) (slice_get (asked_at system host up (suc c)) (length (words_at up c)))
   pub owed : AnswersAreOwed up end
 
-pub record IsRouteLine (system : System) (host hold : ℕ) (up : Port) (down : ℕ → Port) (end : ℕ) : Type 0 where
-  pub commands : (c : ℕ) → c ≤ end → AreLegalAt up c → ((a : ℕ) → a < system.agents → AnswersAreOwed (down a) (c - 1)) → RouteCarriesCommands system host hold up down c
-  pub answers : (c : ℕ) → c ≤ end → AreLegalAt up c → ((a : ℕ) → a < system.agents → AnswersAreOwed (down a) c) → RouteCarriesAnswers system host up down c
+-- `room`: more words than may be owed above
+pub record IsRouteLine (responses : Responses) (system : System) (host hold room : ℕ) (up : Port) (down : ℕ → Port) (end : ℕ) : Type 0 where
+  pub commands : (c : ℕ) → c ≤ end → AreLegalAt up c → AreSingle up c → OwesBelow room up c → ((a : ℕ) → a < system.agents → AnswersAreOwed (down a) (c - 1)) → RouteCarriesCommands system host hold up down c
+  pub answers : (c : ℕ) → c ≤ end → AreLegalAt up c → AreSingle up c → OwesBelow room up c → ((a : ℕ) → a < system.agents → AnswersAreOwed (down a) c) → RouteCarriesAnswers responses system host up down c
 
 -- ---- links in a row
 
@@ -238,6 +273,7 @@ GivesGreatestCodes target up down end =
 pub record KeepsRow (target : Target) (hold : ℕ) (up down : Port) (end : ℕ) : Type 0 where
   pub carries : IsCarrier target hold up down end
   pub codes : GivesGreatestCodes target up down end
+  pub hands_on : (c : ℕ) → c ≤ end → AreLegalAt up c → AnswersAreOwed down (c - 1) → HandsOn up down c
 
 -- ---- mm_arbiter
 
@@ -279,29 +315,37 @@ are_whole [] = true
 are_whole (m ∷ []) = true
 are_whole (m ∷ next ∷ later) = (closes m || nat_eq m.tag next.tag) && are_whole (next ∷ later)
 
--- what stands behind the arbiter: legal commands, with joined hosts as tags, that can be given to the agent
+-- what stands behind the arbiter: legal commands that can be given to the agent, each with a joined host as its tag
 pub record IsFit (system : System) (agent : ℕ) (port : Port) (end : ℕ) : Type 0 where
   pub legal : AreLegalAt port end
   pub lanes : HasLanes (target_of system agent) port end
-  pub tags : (c : ℕ) → c ≤ end → IsTrue (list_all (λ (m : Marked). is_joined system agent m.tag) (shown_at port c))
+  pub tags : BearsTags (is_joined system agent) port end
+  pub kinds : ServesKinds (system.agent agent) port end
 
 pub record ArbiterCarriesCommands (system : System) (agent hold : ℕ) (up : ℕ → Port) (down : TaggedPort) (end : ℕ) : Type 0 where
   pub carries : (h : ℕ) → h < system.hosts → Carries h hold 0 1 (port_flow (target_of system agent) (up h)) (tagged_flow h (target_of system agent) down.port) end
   pub whole : (c : ℕ) → c ≤ end → IsTrue (are_whole (shown_at down.port c))
   pub fit : IsFit system agent down.port end
 
-pub record ArbiterCarriesAnswers (system : System) (agent : ℕ) (up : ℕ → Port) (down : TaggedPort) (end : ℕ) : Type 0 where
+pub record ArbiterCarriesAnswers (responses : Responses) (system : System) (agent : ℕ) (up : ℕ → Port) (down : TaggedPort) (end : ℕ) : Type 0 where
   pub bytes : (h c : ℕ) → h < system.hosts → c ≤ end → IsPrefix (bytes_of (answers_at (target_of system agent) (up h) c)) (bytes_of (answers_with h (target_of system agent) down c))
-  pub codes : (h c : ℕ) → h < system.hosts → c ≤ end → IsPrefix (codes_of (answers_at (target_of system agent) (up h) c)) (codes_of (answers_with h (target_of system agent) down c))
+  pub codes : responses ≡ AreCodes → (h c : ℕ) → h < system.hosts → c ≤ end → IsPrefix (codes_of (answers_at (target_of system agent) (up h) c)) (codes_of (answers_with h (target_of system agent) down c))
   pub owed : (h : ℕ) → h < system.hosts → AnswersAreOwed (up h) end
 
-abbrev pub AreFitToAsk : System → ℕ → (ℕ → Port) → ℕ → Type 0
-AreFitToAsk system agent up end =
-    (h : ℕ) → h < system.hosts → AreLegalAt (up h) end × HasLanes (target_of system agent) (up h) end
+-- an asker's commands bear its number, and it asks only where it is joined
+pub record IsFitToAsk (system : System) (agent host : ℕ) (up : Port) (end : ℕ) : Type 0 where
+  pub legal : AreLegalAt up end
+  pub lanes : HasLanes (target_of system agent) up end
+  pub tag : (c : ℕ) → c < end → IsTrue (shows up.commands.signals c) → up.commands.tag c ≡ host
+  pub joined : (c : ℕ) → c < end → IsTrue (shows up.commands.signals c) → IsTrue (is_joined system agent host)
+  pub kinds : ServesKinds (system.agent agent) up end
 
-pub record IsArbiterLine (system : System) (agent hold : ℕ) (up : ℕ → Port) (down : TaggedPort) (end : ℕ) : Type 0 where
+abbrev pub AreFitToAsk : System → ℕ → (ℕ → Port) → ℕ → Type 0
+AreFitToAsk system agent up end = (h : ℕ) → h < system.hosts → IsFitToAsk system agent h (up h) end
+
+pub record IsArbiterLine (responses : Responses) (system : System) (agent hold : ℕ) (up : ℕ → Port) (down : TaggedPort) (end : ℕ) : Type 0 where
   pub commands : (c : ℕ) → c ≤ end → AreFitToAsk system agent up c → AreOwedByTag system down (c - 1) → ArbiterCarriesCommands system agent hold up down c
-  pub answers : (c : ℕ) → c ≤ end → AreFitToAsk system agent up c → AreOwedByTag system down c → ArbiterCarriesAnswers system agent up down c
+  pub answers : (c : ℕ) → c ≤ end → AreFitToAsk system agent up c → AreOwedByTag system down c → ArbiterCarriesAnswers responses system agent up down c
 
 -- ---- Pipe, with the registers for the answers' tags
 
@@ -311,6 +355,7 @@ pub record PipeCarriesCommands (system : System) (agent hold stages : ℕ) (up d
   pub held : (h c : ℕ) → h < system.hosts → c ≤ end →
       unreached (sizes_of ((tagged_flow h (target_of system agent) up.port).taken c)) (total (sizes_of ((tagged_flow h (target_of system agent) down.port).taken c))) ≤ hold
   pub legal : AreLegalAt down.port end
+  pub hands_on : HandsOn up.port down.port end
 
 abbrev pub AreDelayed : System → ℕ → TaggedPort → TaggedPort → ℕ → Type 0
 AreDelayed system stages up down end = (h c : ℕ) → h < system.hosts → c ≤ end → words_with h up c ≡ words_with h down (c - stages)
@@ -344,14 +389,14 @@ pub record AgentCarriesCommands (system : System) (run : Run) (agent hold : ℕ)
   pub tags : (c : ℕ) → c < end → IsTrue (agent_accepts (system.agent agent) (run.at_agent agent) c) → IsTrue (is_joined system agent ((run.at_agent agent).grant c))
   pub proper : IsProperAtAgent (system.agent agent) (run.at_agent agent) end
 
-pub record AgentCarriesAnswers (system : System) (run : Run) (agent : ℕ) (up : TaggedPort) (end : ℕ) : Type 0 where
+pub record AgentCarriesAnswers (responses : Responses) (system : System) (run : Run) (agent : ℕ) (up : TaggedPort) (end : ℕ) : Type 0 where
   pub bytes : (h c : ℕ) → h < system.hosts → c ≤ end → IsPrefix (bytes_of (answers_with h (target_of system agent) up c)) (bytes_of (answers_to h (answers system run agent c)))
-  pub codes : (h c : ℕ) → h < system.hosts → c ≤ end → IsPrefix (codes_of (answers_with h (target_of system agent) up c)) (codes_of (answers_to h (answers system run agent c)))
+  pub codes : responses ≡ AreCodes → (h c : ℕ) → h < system.hosts → c ≤ end → IsPrefix (codes_of (answers_with h (target_of system agent) up c)) (codes_of (answers_to h (answers system run agent c)))
   pub owed : AreOwedByTag system up end
 
-pub record IsAgentLine (system : System) (run : Run) (agent hold : ℕ) (up : TaggedPort) (end : ℕ) : Type 0 where
+pub record IsAgentLine (responses : Responses) (system : System) (run : Run) (agent hold : ℕ) (up : TaggedPort) (end : ℕ) : Type 0 where
   pub commands : (c : ℕ) → c ≤ end → IsFit system agent up.port c → IsLegalAgent (system.agent agent) (run.at_agent agent) (c - 1) → AgentCarriesCommands system run agent hold up c
-  pub answers : (c : ℕ) → c ≤ end → IsFit system agent up.port c → IsLegalAgent (system.agent agent) (run.at_agent agent) c → AgentCarriesAnswers system run agent up c
+  pub answers : (c : ℕ) → c ≤ end → IsFit system agent up.port c → IsLegalAgent (system.agent agent) (run.at_agent agent) c → AgentCarriesAnswers responses system run agent up c
 
 -- ---- all parts of a system
 
@@ -380,14 +425,15 @@ pub record Holds : Type 0 where
 
 -- each part keeps its line. What lies between two parts is one boundary, so one part's lower side is the next one's upper side
 pub record Wired (responses : Responses) (system : System) (run : Run) (inside : Inside) (holds : Holds) (end : ℕ) : Type 0 where
-  pub placed : (h : ℕ) (t : Transfer) (a : ℕ) → place_of system h t ≡ Some a → a < system.agents
+  pub room : ℕ → ℕ  -- of a host: more words than its reads may owe
+  pub placed : (h : ℕ) (t : Transfer) (a : ℕ) → h < system.hosts → place_of system h t ≡ Some a → a < system.agents
   pub joined : (a h : ℕ) → IsTrue (is_joined system a h) → h < system.hosts
   pub words : (h a : ℕ) → h < system.hosts → a < system.agents → pieces (inside.after_route h a).shape (inside.before_arbiter h a).shape ≤ pieces (system.host h).shape (system.agent a).shape
   pub few : ((((holds.host + holds.route) + holds.links) + holds.arbiter) + holds.pipe) + holds.agent ≤ 5 + 2 * system.stages
-  pub host : (h : ℕ) → h < system.hosts → IsHostLine responses system run h holds.host (inside.after_host h) end
-  pub route : (h : ℕ) → h < system.hosts → IsRouteLine system h holds.route (inside.after_host h) (inside.after_route h) end
+  pub host : (h : ℕ) → h < system.hosts → IsHostLine responses system run h holds.host (room h) (inside.after_host h) end
+  pub route : (h : ℕ) → h < system.hosts → IsRouteLine responses system h holds.route (room h) (inside.after_host h) (inside.after_route h) end
   pub links : (h a : ℕ) → h < system.hosts → a < system.agents → KeepsRow (target_of system a) holds.links (inside.after_route h a) (inside.before_arbiter h a) end
   pub lanes : (h a : ℕ) → h < system.hosts → a < system.agents → BringsLanes system run h a (inside.after_route h a) (inside.before_arbiter h a) end
-  pub arbiter : (a : ℕ) → a < system.agents → IsArbiterLine system a holds.arbiter (λ h. inside.before_arbiter h a) (inside.after_arbiter a) end
+  pub arbiter : (a : ℕ) → a < system.agents → IsArbiterLine responses system a holds.arbiter (λ h. inside.before_arbiter h a) (inside.after_arbiter a) end
   pub pipe : (a : ℕ) → a < system.agents → IsPipeLine system a holds.pipe system.stages (inside.after_arbiter a) (inside.before_agent a) end
-  pub agent : (a : ℕ) → a < system.agents → IsAgentLine system run a holds.agent (inside.before_agent a) end
+  pub agent : (a : ℕ) → a < system.agents → IsAgentLine responses system run a holds.agent (inside.before_agent a) end

@@ -4,7 +4,7 @@ ghost use Rattle.std.specs.Prelude.{◌≤◌, ◌+◌, ◌-◌, ◌∷◌, [], 
 ghost use Rattle.histories.specs.History.{unreached, AreWithin};
 ghost use Rattle.mm_machines.specs.LinkPair.{LinkPair, KeepLinkLaws, KeepRows, AddsNoPieces, BringsRightBytes};
 ghost use Rattle.mm_machines.specs.Link.{Target, Port, AreLegalAt, AnswersAreOwed, CarriesCommands, KeepsLinkLaw, shown_at, taken_at, sizes};
-ghost use Rattle.mm_machines.specs.Lines.{KeepsRow, IsWordForWord};
+ghost use Rattle.mm_machines.specs.Lines.{KeepsRow, IsWordForWord, HandsOn};
 
 /// Two links in a row are one link in all that is said of commands, and pass legality down and owed answers up.
 pub fn links_compose()
@@ -21,9 +21,10 @@ pub fn links_answer()
         → AnswersAreOwed pair.down end → BringsRightBytes pair.target pair.up pair.down end }
 {}
 
-/// One link is a row.
+/// One link that makes no tags and no kinds is a row.
 pub fn link_is_a_row()
     ensures { (target : Target) (hold : ℕ) (up down : Port) (end : ℕ) → KeepsLinkLaw target hold up down end
+        → ((c : ℕ) → c ≤ end → AreLegalAt up c → AnswersAreOwed down (c - 1) → HandsOn up down c)
         → KeepsRow target hold up down end }
 {}
 
