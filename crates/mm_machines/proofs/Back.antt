@@ -3,8 +3,7 @@ use Rattle.std.proofs.Common.{ℕ, zero, suc, ◌<◌, ◌≤◌, ◌≡◌, ◌
 use Rattle.std.proofs.lemmas.Option.{slice_get_within}
 use Rattle.histories.specs.Laws.{prefix_trans, prefix_map, prefix_filter, prefix_flat_map, before_extends, prefix_length}
 use Rattle.mm_machines.proofs.Pipes.{taken_above}
-use Rattle.mm_machines.proofs.ChainAnswers.{holds_below, zip_front}
-use Rattle.mm_machines.proofs.Wire.{prefix_get, prefix_take}
+use Rattle.mm_machines.proofs.ChainAnswers.{holds_below}
 use Rattle.mm_machines.proofs.Settle.{AllLegal, AllOwed, all_legal, all_owed, owed_before_all}
 use Rattle.histories.specs.History.{IsPrefix, only_if, is_raised}
 use Rattle.mm_runs.specs.Views.{Responses, System, Run}
@@ -15,6 +14,7 @@ use Rattle.mm_runs.specs.Order.{place_of, Answer, Asked, HoldsAnswers, IsDefault
 use Rattle.mm_machines.specs.Link.{Port, Marked, shown_at, taken_at, read_beats, words_at, answers_at, bytes_in}
 use Rattle.mm_machines.specs.Lines.{Inside, Holds, Wired, Sent, TaggedPort, with_tag, words_with, answers_with, bytes_of, asked_at, asked_among, sent_of, sent_by, target_of, IsRouted, PipeCarriesCommands, AreDelayed, AreOwedByTag, HostCarriesCommands, HostCarriesAnswers, RouteCarriesAnswers}
 use Rattle.mm_runs.specs.Whole.{IsLegalRun}
+use Rattle.mm_machines.specs.SideLaws.{zip_front, prefix_get, prefix_take}
 
 -- the pipe brings back just the answers of each tag
 pub pipe_answers : (system : System) (agent hold : ℕ) (up down : TaggedPort) (end h c : ℕ) → h < system.hosts → c ≤ end → up.shape ≡ down.shape →

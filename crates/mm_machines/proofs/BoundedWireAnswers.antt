@@ -15,10 +15,10 @@ use Rattle.mm_runs.specs.Commands.{Transfer, is_of_reads, reads_among, words_bef
 use Rattle.mm_runs.specs.Legal.{Word, given, IsLegalHost, IsLegalAgent}
 use Rattle.mm_runs.specs.Order.{Answer, Asked, HoldsAnswers, IsWordOf, KeepsReadOrder, ReturnsInCommandOrder, TaggedBeat, answers, answers_in, answers_to, asked, beat_operations, is_agent, is_read_beat, place_of, reads_for}
 use Rattle.mm_machines.specs.BoundedWire.{WireForm, IsWireForm, IsBoundedWire, host_side, agent_side, wire_system, wire_run}
-use Rattle.mm_machines.proofs.Wire.{same_counts, zip_push, zip_length, prefix_get, prefix_take, answer_of, own_bytes}
 use Rattle.mm_machines.proofs.BoundedWireCommands.{one_of, taken_beats, shown_beats, Fit, all_fit, host_presented}
 use Rattle.mm_machines.proofs.BoundedWireCount.{reads, reads_of_ones, words_few, words_given}
 use Rattle.mm_machines.proofs.BoundedWireOrder.{ops, lanes_are, beat_ops, place_is, tagged_beat, beats_are, front}
+use Rattle.mm_machines.specs.SideLaws.{same_counts, zip_push, zip_length, prefix_get, prefix_take, answer_of, own_bytes}
 
 -- a read of the host is a question to the agent
 abbrev pub question : Beat → Asked

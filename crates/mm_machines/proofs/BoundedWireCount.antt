@@ -9,8 +9,8 @@ use Rattle.mm_runs.specs.Operations.{Beat}
 use Rattle.mm_runs.specs.Commands.{Transfer, shows, words_before, is_of_reads, reads_among, read_beats, agent_accepts}
 use Rattle.mm_runs.specs.Legal.{host_accepts, given, unanswered, words_asked, IsLegalHost, IsLegalAgent, IsProperAtHost}
 use Rattle.mm_machines.specs.BoundedWire.{WireForm, IsWireForm, IsBoundedWire, host_side, agent_side, is_full, takes_read}
-use Rattle.mm_machines.proofs.Wire.{same_counts}
 use Rattle.mm_machines.proofs.BoundedWireCommands.{one_of, taken_beats, beat_at, host_accepted, agent_accepted}
+use Rattle.mm_machines.specs.SideLaws.{same_counts}
 
 -- the reads among beats
 abbrev pub reads : List Beat → List Beat

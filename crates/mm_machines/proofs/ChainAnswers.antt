@@ -4,7 +4,7 @@ use Rattle.std.proofs.lemmas.List.{map-append, length-map, drop_at, take-map, dr
 use Rattle.std.proofs.lemmas.Bool.{cases_Bool}
 use Rattle.mm_machines.proofs.Laws.{middle_legal, middle_owed, chain_owed}
 use Rattle.histories.specs.Laws.{prefix_trans, prefix_map, prefix_flat_map, before_extends}
-use Rattle.mm_machines.proofs.Wire.{Asks, asks_of, asked_shown, asked_taken, zip_push, zip_length, prefix_get, prefix_take, same_counts}
+use Rattle.mm_machines.proofs.Wire.{Asks, asks_of, asked_shown, asked_taken}
 use Rattle.histories.specs.History.{IsPrefix, is_raised}
 use Rattle.mm_runs.specs.Laws.{taken_ahead}
 use Rattle.mm_runs.specs.Operations.{Beat, filled_lanes, byte_at}
@@ -12,6 +12,7 @@ use Rattle.mm_runs.specs.Legal.{Word}
 use Rattle.mm_runs.specs.Order.{Answer, HoldsAnswers}
 use Rattle.mm_machines.specs.Link.{Target, Port, CarriesAnswers, AreLegalAt, AnswersAreOwed, taken_at, shown_at, read_beats, words_at, words_owed, answers_at, bytes_in, reads_of, beat_operations, IsAnswered, own_answers, HasGreatestCode, HasRightBytes, KeepsLinkLaw}
 use Rattle.mm_machines.specs.Lines.{bytes_of}
+use Rattle.mm_machines.specs.SideLaws.{zip_push, zip_length, prefix_get, prefix_take, same_counts, zip_front}
 
 -- new answers that are the next of the others keep a front a front
 front_grows : (some new others : List Answer) → IsPrefix (bytes_of some) (bytes_of others) → bytes_of new ≡ bytes_of (take (length new) (drop (length some) others)) →
@@ -26,13 +27,6 @@ front_grows some new others p next =
           ∙ append_assoc (bytes_of some) (take (length new) p.rest) (drop (length new) p.rest)
           ∙ ap (λ l. bytes_of some ++ l) (take-append-drop (length new) p.rest) ∙ p.joins;
     }
-
-pub zip_front : {A B : Type 0} (xs ys : List A) (ws : List B) → length ws ≤ length xs → zip (xs ++ ys) ws ≡ zip xs ws
-zip_front [] [] [] h = refl
-zip_front [] (y ∷ ys) [] h = refl
-zip_front [] ys (w ∷ ws) h = absurd (omega arith)
-zip_front (x ∷ xs) ys [] h = refl
-zip_front (x ∷ xs) ys (w ∷ ws) h = ap (λ l. (x, w) ∷ l) (zip_front xs ys ws (omega arith))
 
 zip_grows : {A B : Type 0} (xs more : List A) (ws further : List B) → IsPrefix (zip xs ws) (zip (xs ++ more) (ws ++ further))
 zip_grows [] more ws further = record { rest = zip more (ws ++ further); joins = refl }

@@ -3,8 +3,8 @@ use Rattle.std.proofs.Common.{ℕ, zero, suc, ◌<◌, ◌≤◌, ◌≡◌, [],
 use Rattle.std.proofs.lemmas.List.{map-append, length-map, take-map, drop-map}
 use Rattle.std.proofs.lemmas.Bool.{cases_Bool}
 use Rattle.histories.specs.Laws.{prefix_map}
-use Rattle.mm_machines.proofs.Wire.{Asks, asks_of, asked_shown, asked_taken, zip_push, prefix_get, same_counts}
-use Rattle.mm_machines.proofs.ChainAnswers.{zip_front, answers_extend, reads_before, bytes_below}
+use Rattle.mm_machines.proofs.Wire.{Asks, asks_of, asked_shown, asked_taken}
+use Rattle.mm_machines.proofs.ChainAnswers.{answers_extend, reads_before, bytes_below}
 use Rattle.mm_machines.proofs.Greatest.{greatest_grows, greatest_push, length_flat}
 use Rattle.mm_machines.specs.Blocks.{flat, sizes_of, highest, AreGreatest, codes_of, block, blocks_at}
 use Rattle.histories.specs.History.{is_raised, total}
@@ -12,6 +12,7 @@ use Rattle.mm_runs.specs.Operations.{Beat, filled_lanes, byte_at}
 use Rattle.mm_runs.specs.Legal.{Word}
 use Rattle.mm_runs.specs.Order.{Answer, HoldsAnswers, greatest_code}
 use Rattle.mm_machines.specs.Link.{Target, Port, CarriesAnswers, AreLegalAt, AnswersAreOwed, taken_at, shown_at, read_beats, words_at, words_owed, answers_at, bytes_in, reads_of, IsAnswered, own_answers, HasGreatestCode}
+use Rattle.mm_machines.specs.SideLaws.{zip_push, prefix_get, same_counts, zip_front}
 
 greatest_is_highest : (answers : List Answer) (n : ℕ) → fold (λ code (a : Answer). max code a.code) n answers ≡ max n (highest (codes_of answers))
 greatest_is_highest [] n = omega arith

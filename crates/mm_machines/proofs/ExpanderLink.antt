@@ -4,9 +4,9 @@ use Rattle.std.proofs.lemmas.Bool.{not-true, and_parts}
 use Rattle.histories.specs.Laws.{prefix_flat_map, prefix_filter, prefix_length, shown_is_accepted_and_standing}
 use Rattle.mm_runs.specs.Laws.{legal_keeps, accepts_shows}
 use Rattle.histories.specs.History.{standing, KeepsItems, only_if, IsPrefix, stands_on, AreWithin}
-use Rattle.mm_machines.proofs.Wire.{marked_keeps, total_sizes, all_reached}
+use Rattle.mm_machines.proofs.Wire.{total_sizes}
 use Rattle.mm_machines.proofs.Held.{within_trans}
-use Rattle.mm_machines.proofs.Stage.{burst_is, taken_is, marked_append, fit_when_shown, fits, fit_push, fit_at, prefix_behind, legal_when_shown}
+use Rattle.mm_machines.proofs.Stage.{burst_is, taken_is, marked_append, fits, fit_push, fit_at, prefix_behind}
 use Rattle.mm_machines.proofs.StageLink.{items_prefix, transfers_within}
 use Rattle.mm_machines.proofs.Expander.{expand_append, expand_fits, expand_items, expand_operations, expand_within, expand_beats}
 use Rattle.mm_runs.specs.Views.{Shape, levels_at}
@@ -15,6 +15,7 @@ use Rattle.mm_runs.specs.Operations.{pieces}
 use Rattle.mm_runs.specs.Commands.{Burst, burst_before, shows, is_held}
 use Rattle.mm_machines.specs.Link.{Target, Port, Marked, CarriesCommands, AreLegalAt, takes, marked_at, shown_at, taken_at, operations_in, operations_among, sizes, items, items_from, beats_with}
 use Rattle.mm_machines.specs.Machines.{Raw, raw_at, raws, idle, mark, burst_past, marked, burst_of, IsFitBeat, AreFit, port_of, expand, Expands, parts_at, IsExpanderRun}
+use Rattle.mm_machines.specs.SideLaws.{marked_keeps, all_reached, fit_when_shown, legal_when_shown}
 
 -- the beats that a side has shown before a cycle
 abbrev pub shown_raws : Port → ℕ → List Raw

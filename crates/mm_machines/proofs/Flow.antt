@@ -11,8 +11,8 @@ use Rattle.mm_machines.specs.Link.{Target, Port, Marked, Item, AreLegalAt, takes
 use Rattle.mm_machines.specs.Link.Item.{Acts, Ends}
 use Rattle.mm_machines.specs.Rank.{is_owed}
 use Rattle.histories.specs.Laws.{prefix_filter, prefix_flat_map, prefix_trans, prefix_length}
-use Rattle.mm_machines.proofs.Wire.{taken_is_shown, zip_length}
 use Rattle.std.proofs.lemmas.Bool.{and_from}
+use Rattle.mm_machines.specs.SideLaws.{taken_is_shown, zip_length}
 
 -- the operations among items
 ops_in : List Item → List Operation

@@ -1,5 +1,5 @@
 -- Laws of flows: they compose, and each part's line is one.
-use Rattle.std.proofs.Common.{ℕ, ◌≤◌, ◌≡◌, ◌+◌, ◌-◌, ◌*◌, [], ◌∷◌, ◌++◌, List, Bool, true, false, not, ◌&&◌, ◌||◌, if◌then◌else◌, arith, refl, sym, ap, ap₂, ◌∙◌, subst, length, take, map, filter, flat_map, append_assoc, append-nil, mul-le-mul_left, mul_assoc, nat_eq, length-append}
+use Rattle.std.proofs.Common.{ℕ, ◌≤◌, ◌≡◌, ◌+◌, ◌-◌, ◌*◌, [], ◌∷◌, ◌++◌, List, Bool, true, false, not, ◌&&◌, ◌||◌, if◌then◌else◌, arith, refl, sym, ap, ap₂, ◌∙◌, subst, length, take, map, filter, flat_map, append-nil, mul-le-mul_left, mul_assoc, nat_eq, length-append}
 use Rattle.std.proofs.lemmas.Grind.{flat_map-append}
 use Rattle.std.proofs.Math.Seq.{take-append_seam}
 use Rattle.histories.specs.Laws.{prefix_trans, prefix_map, prefix_flat_map}
@@ -10,6 +10,7 @@ use Rattle.mm_runs.specs.Operations.{Operation, pieces}
 use Rattle.mm_machines.specs.Link.{Target, Port, Marked, Item, items_from, items, closes, sizes, operations_in, operations_among, is_nonempty, beats_with, CarriesCommands, shown_at, taken_at}
 use Rattle.mm_machines.specs.Link.Item.{Acts, Ends}
 use Rattle.mm_machines.specs.Lines.{Flow, Carries, Group, items_among, sizes_of, operations_of_groups, beats_of, groups_of, port_flow}
+use Rattle.mm_machines.specs.SideLaws.{total_of}
 
 -- ---- two flows in a row
 
@@ -49,19 +50,6 @@ carries_trans tag first_hold second_hold first_delay second_delay f g up middle 
 
 -- ---- items and operations
 
-abbrev pub acted_by : Bool → List Group → Bool
-acted_by acted [] = acted
-acted_by acted (g ∷ later) = acted_by (not g.closes && (acted || is_nonempty g.operations)) later
-
-items_append : (acted : Bool) (xs ys : List Group) → items_among acted (xs ++ ys) ≡ items_among acted xs ++ items_among (acted_by acted xs) ys
-items_append acted [] ys = refl
-items_append acted (g ∷ xs) ys =
-    ap (λ l. (map (Acts g.tag) g.operations ++ only_if (g.closes && (acted || is_nonempty g.operations)) (Ends g.tag)) ++ l) (items_append (not g.closes && (acted || is_nonempty g.operations)) xs ys)
-    ∙ sym (append_assoc (map (Acts g.tag) g.operations ++ only_if (g.closes && (acted || is_nonempty g.operations)) (Ends g.tag)) _ _)
-
-pub prefix_items : (acted : Bool) {xs ys : List Group} → IsPrefix xs ys → IsPrefix (items_among acted xs) (items_among acted ys)
-prefix_items acted {xs} p = record { rest = items_among (acted_by acted xs) p.rest; joins = sym (items_append acted xs p.rest) ∙ ap (items_among acted) p.joins }
-
 abbrev pub act_of : Item → List Operation
 act_of (Acts tag operation) = operation ∷ []
 act_of (Ends tag) = []
@@ -100,10 +88,6 @@ items_same target shape acted (m ∷ ms) =
 sizes_same : (target : Target) (shape : Shape) (ms : List Marked) → sizes_of (groups_of target shape ms) ≡ sizes target shape ms
 sizes_same target shape [] = refl
 sizes_same target shape (m ∷ ms) = ap (λ l. length (operations_in target shape m) ∷ l) (sizes_same target shape ms)
-
-pub total_of : (groups : List Group) → total (sizes_of groups) ≡ length (operations_of_groups groups)
-total_of [] = refl
-total_of (g ∷ groups) = ap (λ n. length g.operations + n) (total_of groups) ∙ sym (length-append g.operations _)
 
 among_same : (target : Target) (shape : Shape) (ms : List Marked) → operations_of_groups (groups_of target shape ms) ≡ operations_among target shape ms
 among_same target shape [] = refl

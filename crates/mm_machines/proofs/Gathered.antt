@@ -5,7 +5,6 @@ use Rattle.std.proofs.lemmas.List.{map-append}
 use Rattle.std.proofs.lemmas.Bool.{and_parts}
 use Rattle.std.proofs.lemmas.List.Folds.{list_all-append}
 use Rattle.histories.specs.Laws.{prefix_trans, prefix_map, prefix_filter, prefix_flat_map, before_prefix}
-use Rattle.mm_machines.proofs.Flows.{prefix_items}
 use Rattle.mm_machines.proofs.Whole.{owners_of_groups, turn_after, acts_after, groups_whole, whole_together, all_of_copies}
 use Rattle.mm_machines.proofs.TurnOrder.{turns, prefix_turns, turns_of_groups, turn_of, host_turns, by_turns, by_turn, commands_with, together_front, together_back}
 use Rattle.mm_machines.proofs.Headline.{at_agent, arbiter_commands, arbiter_path, pipe_commands}
@@ -17,6 +16,7 @@ use Rattle.mm_runs.specs.Order.{Owner, are_together, Tagged, owners_taken, owner
 use Rattle.mm_machines.specs.Link.{Target, Port, Marked, shown_at, marked_at, takes, closes}
 use Rattle.mm_machines.specs.Lines.{Inside, Holds, Wired, Group, Sent, items_among, groups_of, group_of, with_tag, tagged_operations, target_of, tagged_flow, are_whole, placed_group, BearsTags}
 use Rattle.mm_runs.specs.Whole.{IsLegalRun}
+use Rattle.mm_machines.specs.SideLaws.{prefix_items}
 
 same_whole : (target : Target) (shape : Shape) (ms : List Marked) → are_whole ms ≡ groups_whole (groups_of target shape ms)
 same_whole target shape [] = refl

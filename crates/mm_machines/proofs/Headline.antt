@@ -5,7 +5,7 @@ use Rattle.std.proofs.lemmas.List.Elements.{filter-append}
 use Rattle.mm_machines.proofs.Laws.{same_number}
 use Rattle.histories.specs.Laws.{prefix_trans, prefix_map, prefix_filter, shown_is_accepted_and_standing, unreached_length}
 use Rattle.mm_machines.proofs.Flows.{carries_trans, carries_of_links, operations_front, counted}
-use Rattle.mm_machines.proofs.Parts.{port_fronts, tagged_fronts, placed_fronts, host_fronts, host_carries, pipe_carries, kept_length, of_host_same, issued_same}
+use Rattle.mm_machines.proofs.Parts.{port_fronts, tagged_fronts, placed_fronts, host_fronts, host_carries, pipe_carries, kept_length, issued_same}
 use Rattle.mm_machines.proofs.Settle.{legal_run_before}
 use Rattle.mm_runs.specs.Laws.{accepts_shows, legal_keeps}
 use Rattle.histories.specs.History.{standing, IsPrefix, unreached, only_if, stands_on}
@@ -18,6 +18,7 @@ use Rattle.mm_machines.specs.Link.{shown_at}
 use Rattle.mm_machines.specs.Lines.{Inside, Holds, Wired, Carries, Group, Sent, sizes_of, operations_of_groups, beats_of, groups_of, port_flow, tagged_flow, placed_flow, host_flow, placed, placed_group, sent_by, host_accepted, with_tag, target_of, AgentCarriesCommands, ArbiterCarriesCommands, PipeCarriesCommands}
 use Rattle.mm_runs.specs.Whole.{IsLegalRun}
 use Rattle.mm_machines.proofs.Back.{legal_everywhere, owed_earlier, host_commands}
+use Rattle.mm_machines.specs.SideLaws.{of_host_same}
 
 -- the beats for a place
 placed_beats : (system : System) (host agent : ℕ) (ts : List Transfer) → beats_of host (placed system host agent (sent_by ts)) ≡ length (flat_map (λ (t : Transfer). t.beats) (for_agent system host agent ts))

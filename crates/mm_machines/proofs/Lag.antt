@@ -3,9 +3,9 @@ use Rattle.std.proofs.Common.{ℕ, zero, suc, ◌≤◌, ◌+◌, ◌-◌, [], �
 use Rattle.std.proofs.lemmas.List.{map-append}
 use Rattle.histories.specs.Laws.{shown_is_accepted_and_standing}
 use Rattle.histories.specs.History.{standing, unreached, only_if, stands_on}
-use Rattle.mm_machines.proofs.Wire.{marked_keeps}
 use Rattle.mm_runs.specs.Commands.{shows}
 use Rattle.mm_machines.specs.Link.{Target, Port, Marked, AreLegalAt, shown_at, taken_at, sizes, takes, marked_at, operations_in}
+use Rattle.mm_machines.specs.SideLaws.{marked_keeps}
 
 one_more : (xs : List ℕ) (x n : ℕ) → unreached (xs ++ x ∷ []) n ≤ unreached xs n + 1
 one_more [] x n = grind (arith, tests)

@@ -1,20 +1,17 @@
 -- The lines of the parts as flows.
-use Rattle.std.proofs.Common.{ℕ, suc, ◌<◌, ◌≤◌, ◌≡◌, ◌+◌, ◌-◌, [], ◌∷◌, ◌++◌, List, Bool, true, false, if◌then◌else◌, arith, refl, sym, ap, ap₂, ◌∙◌, subst, length, map, filter, flat_map, nat_eq, nat_lt, tests, le_refl}
-use Rattle.std.proofs.lemmas.List.{map-append, length-map}
-use Rattle.std.proofs.lemmas.List.Elements.{filter-append}
+use Rattle.std.proofs.Common.{ℕ, suc, ◌<◌, ◌≤◌, ◌≡◌, ◌+◌, ◌-◌, [], ◌∷◌, ◌++◌, List, Bool, true, false, if◌then◌else◌, arith, refl, sym, ap, ◌∙◌, subst, length, map, filter, flat_map, nat_eq, nat_lt, tests}
+use Rattle.std.proofs.lemmas.List.{length-map}
 use Rattle.histories.specs.Laws.{before_prefix, prefix_trans, prefix_map, prefix_filter, accepted_prefix, unreached_length}
-use Rattle.mm_machines.proofs.Flows.{AreFronts, prefix_items}
+use Rattle.mm_machines.proofs.Flows.{AreFronts}
 use Rattle.mm_runs.specs.Laws.{accepts_shows, legal_keeps}
-use Rattle.mm_machines.proofs.Wire.{taken_is_shown}
-use Rattle.histories.specs.History.{IsPrefix, unreached, total, AreWithin}
-use Rattle.histories.specs.History.AreWithin.{all_placed, placed as room_placed, next_room}
-use Rattle.mm_runs.specs.Views.{System, Run, Shape}
-use Rattle.mm_runs.specs.Operations.{Operation}
+use Rattle.histories.specs.History.{IsPrefix, unreached, total}
+use Rattle.mm_runs.specs.Views.{System, Run}
 use Rattle.mm_runs.specs.Commands.{Transfer}
 use Rattle.mm_runs.specs.Legal.{IsLegalHost}
-use Rattle.mm_runs.specs.Order.{transfer_operations, for_agent, of_host, has_tag, Tagged, place_of, is_agent, host_transfers}
-use Rattle.mm_machines.specs.Link.{Target, Port, Marked, closes, AreLegalAt, shown_at, taken_at, operations_in}
-use Rattle.mm_machines.specs.Lines.{Carries, Group, Sent, items_among, sizes_of, operations_of_groups, groups_of, group_of, port_flow, tagged_flow, placed_flow, host_flow, host_accepted, placed_group, with_tag, placed, sent_by, sent_of, tagged_operations, TaggedPort, PipeCarriesCommands, HostCarriesCommands, target_of}
+use Rattle.mm_runs.specs.Order.{transfer_operations, for_agent, place_of, is_agent, host_transfers}
+use Rattle.mm_machines.specs.Link.{Target, Port, Marked, closes, AreLegalAt, shown_at, taken_at}
+use Rattle.mm_machines.specs.Lines.{Carries, Group, Sent, items_among, sizes_of, operations_of_groups, groups_of, group_of, port_flow, tagged_flow, placed_flow, host_flow, host_accepted, placed_group, with_tag, placed, sent_by, sent_of, TaggedPort, PipeCarriesCommands, HostCarriesCommands, target_of}
+use Rattle.mm_machines.specs.SideLaws.{prefix_items, taken_is_shown, total_front, prefix_within}
 
 -- ---- fronts
 
@@ -39,20 +36,6 @@ pub shown_grows : (port : Port) (c d : ℕ) → c ≤ d → IsPrefix (shown_at p
 shown_grows port c d h = before_prefix _ c d h
 
 -- ---- fronts in counts
-
-pub total_front : {xs ys : List ℕ} → IsPrefix xs ys → total xs ≤ total ys
-total_front {xs} p = subst (λ l. total xs ≤ total l) p.joins (below xs p.rest)
-  where
-    below : (xs ys : List ℕ) → total xs ≤ total (xs ++ ys)
-    below [] ys = omega arith
-    below (x ∷ xs) ys = let rest = below xs ys in omega (arith, rest)
-
-front_is_within : (xs ys : List ℕ) → AreWithin xs (xs ++ ys)
-front_is_within [] ys = all_placed
-front_is_within (x ∷ xs) ys = room_placed (le_refl x) (let none : x - x ≡ 0 = omega arith in rw none (next_room (front_is_within xs ys)))
-
-pub prefix_within : {xs ys : List ℕ} → IsPrefix xs ys → AreWithin xs ys
-prefix_within {xs} p = subst (λ l. AreWithin xs l) p.joins (front_is_within xs p.rest)
 
 pub kept_length : {A : Type 0} (size : A → ℕ) (test : A → Bool) (xs : List A) → length (map size (filter test xs)) ≤ length xs
 kept_length size test [] = omega arith
@@ -138,35 +121,6 @@ pipe_carries system agent hold host up down end is same carries = record {
         (prefix_map (group_of target up.shape) (prefix_filter (λ (m : Marked). nat_eq m.tag host) (carries.shown c low)))
 
 -- ---- the agent's own list
-
-abbrev tagged_all : ℕ → List Operation → List Tagged
-tagged_all tag operations = map (λ o. record { tag = tag; operation = o }) operations
-
-one_group : (host tag : ℕ) (operations : List Operation) → map (λ (t : Tagged). t.operation) (filter (has_tag host) (tagged_all tag operations)) ≡ (if nat_eq tag host then operations else [])
-one_group host tag operations = by_test (nat_eq tag host) refl operations
-  where
-    step : (b : Bool) → nat_eq tag host ≡ b → (o : Operation) (os : List Operation) → map (λ (t : Tagged). t.operation) (filter (has_tag host) (tagged_all tag os)) ≡ (if b then os else []) →
-        map (λ (t : Tagged). t.operation) (filter (has_tag host) (tagged_all tag (o ∷ os))) ≡ (if b then o ∷ os else [])
-    step true is o os rest = rw is (ap (λ l. o ∷ l) rest)
-    step false is o os rest = rw is rest
-
-    by_test : (b : Bool) → nat_eq tag host ≡ b → (operations : List Operation) → map (λ (t : Tagged). t.operation) (filter (has_tag host) (tagged_all tag operations)) ≡ (if nat_eq tag host then operations else [])
-    by_test true is [] = rw is refl
-    by_test false is [] = rw is refl
-    by_test b is (o ∷ os) = subst (λ x. map (λ (t : Tagged). t.operation) (filter (has_tag host) (tagged_all tag (o ∷ os))) ≡ (if x then o ∷ os else [])) (sym is) (step b is o os (subst (λ b. map (λ (t : Tagged). t.operation) (filter (has_tag host) (tagged_all tag os)) ≡ (if b then os else [])) is (by_test b is os)))
-
-pub of_host_same : (host : ℕ) (target : Target) (shape : Shape) (ms : List Marked) →
-    of_host host (tagged_operations (groups_of target shape ms)) ≡ operations_of_groups (groups_of target shape (with_tag host ms))
-of_host_same host target shape [] = refl
-of_host_same host target shape (m ∷ ms) =
-    ap (map (λ (t : Tagged). t.operation)) (filter-append (has_tag host) (tagged_all m.tag (operations_in target shape m)) (tagged_operations (groups_of target shape ms)))
-    ∙ map-append (λ (t : Tagged). t.operation) (filter (has_tag host) (tagged_all m.tag (operations_in target shape m))) (filter (has_tag host) (tagged_operations (groups_of target shape ms)))
-    ∙ ap₂ (λ a b. a ++ b) (one_group host m.tag (operations_in target shape m)) (of_host_same host target shape ms)
-    ∙ by_test (nat_eq m.tag host)
-  where
-    by_test : (b : Bool) → (if b then operations_in target shape m else []) ++ operations_of_groups (groups_of target shape (with_tag host ms)) ≡ operations_of_groups (groups_of target shape (if b then m ∷ with_tag host ms else with_tag host ms))
-    by_test true = refl
-    by_test false = refl
 
 pub issued_same : (system : System) (host agent : ℕ) (ts : List Transfer) →
     operations_of_groups (placed system host agent (sent_by ts)) ≡ flat_map (transfer_operations system host agent) (for_agent system host agent ts)

@@ -6,12 +6,13 @@ use Rattle.mm_machines.proofs.Laws.{legal_between, owed_between}
 use Rattle.mm_machines.specs.Shorter.{legal_at_before}
 use Rattle.histories.specs.Laws.{prefix_trans, prefix_refl}
 use Rattle.mm_machines.proofs.Held.{unreached_through, front_within, within_trans}
-use Rattle.mm_machines.proofs.Wire.{taken_is_shown, total_sizes, wire_is_link}
+use Rattle.mm_machines.proofs.Wire.{total_sizes, wire_is_link}
 use Rattle.mm_machines.proofs.ChainAnswers.{bytes_below}
 use Rattle.histories.specs.History.{IsPrefix, unreached, total, AreWithin}
 use Rattle.mm_runs.specs.Operations.{pieces}
 use Rattle.mm_machines.specs.Link.{Target, Port, Marked, KeepsLinkLaw, AreLegalAt, AnswersAreOwed, shown_at, taken_at, sizes, held_by, operations_among, operations_in, CarriesCommands}
 use Rattle.mm_machines.specs.Lines.{IsCarrier}
+use Rattle.mm_machines.specs.SideLaws.{taken_is_shown}
 
 -- one link
 pub carrier_of_link : (target : Target) (hold : ℕ) (up down : Port) (end : ℕ) → KeepsLinkLaw target hold up down end → IsCarrier target hold up down end

@@ -3,9 +3,8 @@ use Rattle.std.proofs.Common.{ℕ, zero, suc, ◌≤◌, ◌≡◌, ◌-◌, ◌
 use Rattle.mm_machines.specs.Shorter.{legal_at_before}
 use Rattle.histories.specs.Laws.{prefix_trans, prefix_map}
 use Rattle.std.proofs.Common.{le_of_eq, le_refl}
-use Rattle.mm_machines.proofs.Wire.{all_reached}
 use Rattle.mm_machines.proofs.Flows.{counted}
-use Rattle.mm_machines.proofs.Parts.{prefix_within, tagged_fronts, shown_grows}
+use Rattle.mm_machines.proofs.Parts.{tagged_fronts, shown_grows}
 use Rattle.histories.specs.Laws.{prefix_filter, prefix_refl}
 use Rattle.mm_machines.proofs.Pipes.{owed_above}
 use Rattle.mm_machines.proofs.Rows.{wire_hands_on, both_hand_on}
@@ -13,6 +12,7 @@ use Rattle.histories.specs.History.{IsPrefix, total}
 use Rattle.mm_runs.specs.Views.{System, Shape}
 use Rattle.mm_machines.specs.Link.{AreLegalAt, shown_at, taken_at}
 use Rattle.mm_machines.specs.Lines.{TaggedPort, IsPipeLine, AreOwedByTag, words_with, target_of, group_of, groups_of, with_tag, sizes_of, tagged_flow, Group}
+use Rattle.mm_machines.specs.SideLaws.{all_reached, prefix_within}
 
 module _ (system : System) (agent first_hold second_hold first_stages second_stages : ℕ) (up middle down : TaggedPort) (end : ℕ)
     (first : IsPipeLine system agent first_hold first_stages up middle end) (second : IsPipeLine system agent second_hold second_stages middle down end) where

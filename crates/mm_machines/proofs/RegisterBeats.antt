@@ -4,11 +4,11 @@ use Rattle.std.proofs.lemmas.Bool.{and_parts, and_right}
 use Rattle.histories.specs.Laws.{prefix_refl, shown_is_accepted_and_standing}
 use Rattle.mm_runs.specs.Laws.{accepts_shows}
 use Rattle.histories.specs.History.{KeepsItems, IsPrefix, only_if, is_raised}
-use Rattle.mm_machines.proofs.Wire.{taken_is_shown}
 use Rattle.mm_runs.specs.Views.{Shape, Levels, levels_at}
 use Rattle.mm_runs.specs.Commands.{Burst, shows, is_held, burst_before, burst_after, transfer_of}
 use Rattle.mm_machines.specs.Link.{Port, Marked, AreLegalAt, takes, marked_at, taken_at, shown_at}
 use Rattle.mm_machines.specs.Register.{IsRegister}
+use Rattle.mm_machines.specs.SideLaws.{taken_is_shown}
 
 abbrev pub shown_by : Levels → Bool
 shown_by levels = is_raised levels.read || is_raised levels.write

@@ -7,8 +7,6 @@ use Rattle.std.proofs.lemmas.List.Elements.{filter-append}
 use Rattle.mm_machines.proofs.Laws.{same_number}
 use Rattle.mm_machines.specs.Shorter.{legal_at_before}
 use Rattle.histories.specs.Laws.{prefix_trans, prefix_map, prefix_length}
-use Rattle.mm_machines.proofs.Parts.{total_front}
-use Rattle.mm_machines.proofs.Wire.{prefix_get, prefix_take, zip_push}
 use Rattle.mm_machines.proofs.Rows.{worded_total, greatest_before_worded, greatest_behind}
 use Rattle.mm_machines.proofs.ChainCodes.{total_blocks, highest_of, codes_within}
 use Rattle.mm_machines.proofs.Back.{asked_front, asked_placed, given_count, host_answers, host_commands, route_answers, piped_answers, legal_everywhere, owed_everywhere}
@@ -23,6 +21,7 @@ use Rattle.mm_runs.specs.Legal.{gives_word}
 use Rattle.mm_runs.specs.Views.Responses.{AreZero, AreCodes}
 use Rattle.mm_machines.specs.Lines.{HostResponds, Inside, Holds, Wired, bytes_of, asked_at, target_of, placed_block, placed_blocks, HasDefaultCode}
 use Rattle.mm_runs.specs.Whole.{IsLegalRun}
+use Rattle.mm_machines.specs.SideLaws.{total_front, prefix_get, prefix_take, zip_push}
 
 greatest_last : (xs : List Block) (b : Block) (codes : List ℕ) → AreGreatest (xs ++ b ∷ []) codes → 0 < b.size → b.code ≡ highest (take b.size (drop (total (sizes_of xs)) codes))
 greatest_last [] b codes g some = g.0 some

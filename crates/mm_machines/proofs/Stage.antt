@@ -1,15 +1,14 @@
 -- What a side takes is told by its list of beats; what a stage with a queue shows is legal, and was taken above before.
-use Rattle.std.proofs.Common.{ℕ, zero, suc, ◌<◌, ◌≤◌, ◌≡◌, [], ◌∷◌, ◌++◌, List, Bool, true, false, not, ◌&&◌, ◌||◌, IsTrue, IsFalse, arith, refl, sym, ap, ap₂, ◌∙◌, append_assoc, append-nil, subst, drop, if◌then◌else◌}
+use Rattle.std.proofs.Common.{ℕ, zero, suc, ◌<◌, ◌≤◌, ◌≡◌, [], ◌∷◌, ◌++◌, List, Bool, true, false, not, ◌&&◌, arith, refl, sym, ap, ap₂, ◌∙◌, append_assoc, append-nil, subst, drop, if◌then◌else◌}
 use Rattle.std.proofs.lemmas.Bool.{not-true, and_parts}
 use Rattle.histories.specs.Laws.{shown_is_accepted_and_standing}
-use Rattle.histories.specs.History.{standing, before, only_if, is_raised, IsPrefix}
-use Rattle.mm_machines.proofs.Wire.{marked_keeps}
+use Rattle.histories.specs.History.{standing, only_if, is_raised, IsPrefix}
 use Rattle.mm_runs.specs.Views.{Shape, levels_at}
 use Rattle.mm_machines.specs.Paths.{CommandView, AnswerView}
-use Rattle.mm_runs.specs.Commands.{Burst, burst_after, burst_before, shows, is_held, presents}
-use Rattle.mm_runs.specs.Legal.{is_under_way}
+use Rattle.mm_runs.specs.Commands.{Burst, burst_after, burst_before, shows, is_held}
 use Rattle.mm_machines.specs.Link.{Port, Marked, takes, marked_at, taken_at, shown_at, AreLegalAt}
 use Rattle.mm_machines.specs.Machines.{Raw, raw_at, raws, idle, mark, burst_past, marked, burst_of, IsFitBeat, ShowsHead, IsStageRun, port_of, AreFit}
+use Rattle.mm_machines.specs.SideLaws.{marked_keeps, fit_when_shown, legal_when_shown}
 
 pub burst_of_append : (shape : Shape) (burst : Burst) (xs ys : List Raw) → burst_of shape burst (xs ++ ys) ≡ burst_of shape (burst_of shape burst xs) ys
 burst_of_append shape burst [] ys = refl
@@ -39,42 +38,6 @@ mark_step port c false = refl
 pub taken_is : (port : Port) (c : ℕ) → taken_at port c ≡ marked port.shape idle (raws port c)
 taken_is port zero = refl
 taken_is port (suc c) = ap₂ (λ xs ys. xs ++ ys) (taken_is port c) (mark_step port c (takes port c)) ∙ sym (marked_append port.shape idle (raws port c) (only_if (takes port c) (raw_at port c)))
-
--- what a legal side shows is fit
-pub fit_when_shown : (port : Port) (end c : ℕ) → AreLegalAt port end → c < end → IsTrue (shows port.commands.signals c) →
-    IsFitBeat port.shape (burst_before port.shape port.commands.signals (takes port) c) (raw_at port c)
-fit_when_shown port end zero legal h shown = record {
-  one_kind = legal.legal.one_kind 0 h;
-  least = λ free. legal.legal.least 0 h shown free;
-  most = λ free. legal.legal.most 0 h shown free;
-  finished = λ busy. legal.legal.finished 0 h busy;
-  joined = legal.joined 0 h shown;
-}
-fit_when_shown port end (suc c) legal h shown =
-    by_test (is_held port.commands.signals (takes port) c) refl
-    (λ held. fit_when_shown port end c legal (omega arith) (and_parts (shows port.commands.signals c) (not (takes port c)) held).0)
-  where
-    by_test : (b : Bool) → is_held port.commands.signals (takes port) c ≡ b →
-        (is_held port.commands.signals (takes port) c ≡ true → IsFitBeat port.shape (burst_before port.shape port.commands.signals (takes port) c) (raw_at port c)) →
-        IsFitBeat port.shape (burst_before port.shape port.commands.signals (takes port) (suc c)) (raw_at port (suc c))
-    by_test true held before =
-        let same : levels_at port.commands.signals c ≡ levels_at port.commands.signals (suc c) = legal.legal.held c h held in
-        let not_accepted : takes port c ≡ false = not-true (takes port c) (and_parts (shows port.commands.signals c) (not (takes port c)) held).1 in
-        let burst : burst_before port.shape port.commands.signals (takes port) c ≡ burst_before port.shape port.commands.signals (takes port) (suc c) = rw not_accepted in
-        let raws_same : raw_at port c ≡ raw_at port (suc c) =
-        ap (λ l. record { levels = l; more = port.commands.more c; tag = port.commands.tag c }) same
-        ∙ ap₂ (λ m t. record { levels = levels_at port.commands.signals (suc c); more = m; tag = t }) (legal.more c h held) (legal.tag c h held) in
-        subst (λ b. IsFitBeat port.shape b (raw_at port (suc c))) burst
-        (subst (IsFitBeat port.shape (burst_before port.shape port.commands.signals (takes port) c)) raws_same (before held))
-    by_test false free before =
-        let presented : IsTrue (presents port.commands.signals (takes port) (suc c)) = rw (shown, free) refl in
-        record {
-          one_kind = legal.legal.one_kind (suc c) h;
-          least = λ free. legal.legal.least (suc c) h presented free;
-          most = λ free. legal.legal.most (suc c) h presented free;
-          finished = λ busy. legal.legal.finished (suc c) h busy;
-          joined = legal.joined (suc c) h shown;
-        }
 
 pub fit_push : (shape : Shape) (burst : Burst) (xs : List Raw) (raw : Raw) → AreFit shape burst xs → IsFitBeat shape (burst_of shape burst xs) raw → AreFit shape burst (xs ++ raw ∷ [])
 fit_push shape burst [] raw fits fit = (fit, tt)
@@ -112,40 +75,6 @@ module _ (depth : ℕ) (up down : Port) (queue : ℕ → List Raw) (run : IsStag
       ap (λ l. l ++ only_if (takes up c) (raw_at up c)) (all_there c ∙ ap (λ l. raws down c ++ l) (step c (takes down c) (queue c) refl (run.heads c)) ∙ sym (append_assoc (raws down c) (only_if (takes down c) (raw_at down c)) (drop (if takes down c then 1 else 0) (queue c))))
       ∙ append_assoc (raws down c ++ only_if (takes down c) (raw_at down c)) (drop (if takes down c then 1 else 0) (queue c)) (only_if (takes up c) (raw_at up c))
       ∙ ap (λ l. (raws down c ++ only_if (takes down c) (raw_at down c)) ++ l) (sym (run.next c))
-
--- a side is legal whose beats are fit, and are held while they wait
-module _ (shape : Shape) (dc : CommandView) (da : AnswerView) (end : ℕ)
-    (fit : (c : ℕ) → c < end → shows dc.signals c ≡ true → IsFitBeat shape (burst_before shape dc.signals (takes (port_of shape dc da)) c) (raw_at (port_of shape dc da) c))
-    (held : (c : ℕ) → suc c < end → is_held dc.signals (takes (port_of shape dc da)) c ≡ true → raw_at (port_of shape dc da) c ≡ raw_at (port_of shape dc da) (suc c)) where
-  neither : (r w : Bool) → (r || w) ≡ false → (r ≡ false) × (not (r && w) ≡ true)
-  neither true w h = cc
-  neither false w h = (refl, refl)
-
-  one_kind : (c : ℕ) → c < end → (b : Bool) → shows dc.signals c ≡ b → IsTrue (not (is_raised (dc.read c) && is_raised (dc.write c)))
-  one_kind c h true shown = (fit c h shown).one_kind
-  one_kind c h false shown = (neither (is_raised (dc.read c)) (is_raised (dc.write c)) shown).1
-
-  shown_of : (c : ℕ) → presents dc.signals (takes (port_of shape dc da)) c ≡ true → shows dc.signals c ≡ true
-  shown_of zero presented = presented
-  shown_of (suc c) presented = (and_parts (shows dc.signals (suc c)) (not (is_held dc.signals (takes (port_of shape dc da)) c)) presented).0
-
-  finished : (c : ℕ) → c < end → IsTrue (is_under_way shape dc.signals (takes (port_of shape dc da)) c) → (b : Bool) → shows dc.signals c ≡ b → IsFalse (is_raised (dc.read c))
-  finished c h busy true shown = (fit c h shown).finished busy
-  finished c h busy false shown = (neither (is_raised (dc.read c)) (is_raised (dc.write c)) shown).0
-
-  pub legal_when_shown : AreLegalAt (port_of shape dc da) end
-  legal_when_shown = record {
-    legal = record {
-      one_kind = λ c h. one_kind c h (shows dc.signals c) refl;
-      held = λ c h stands. ap (λ (r : Raw). r.levels) (held c h stands);
-      least = λ c h presented free. (fit c h (shown_of c presented)).least free;
-      most = λ c h presented free. (fit c h (shown_of c presented)).most free;
-      finished = λ c h busy. finished c h busy (shows dc.signals c) refl;
-    };
-    tag = λ c h stands. ap (λ (r : Raw). r.tag) (held c h stands);
-    more = λ c h stands. ap (λ (r : Raw). r.more) (held c h stands);
-    joined = λ c h shown. (fit c h shown).joined;
-  }
 
 -- the same, where both sides have one shape
 module _ (depth : ℕ) (shape : Shape) (uc dc : CommandView) (ua da : AnswerView) (queue : ℕ → List Raw) (run : IsStageRun depth (port_of shape uc ua) (port_of shape dc da) queue) where

@@ -4,7 +4,7 @@ use Rattle.std.proofs.lemmas.List.{map-append, length-map, take-append-le}
 use Rattle.std.proofs.lemmas.Bool.{le-ltb}
 use Rattle.std.proofs.Math.Seq.{drop-append_seam}
 use Rattle.histories.specs.Laws.{prefix_flat_map, prefix_filter, prefix_trans, before_extends, prefix_length, prefix_map, unreached_length}
-use Rattle.mm_machines.proofs.Wire.{own_bytes, own_code, taken_is_shown, total_sizes, zip_push, zip_length, same_counts, prefix_get, prefix_take, asks_of, asked_taken}
+use Rattle.mm_machines.proofs.Wire.{own_code, total_sizes, asks_of, asked_taken}
 use Rattle.mm_runs.specs.Laws.{same_pieces}
 use Rattle.mm_machines.proofs.ChainAnswers.{answers_extend}
 use Rattle.mm_machines.proofs.Stage.{prefix_behind, shown_front, stage_legal, taken_split}
@@ -17,7 +17,7 @@ use Rattle.mm_runs.specs.Legal.{Word}
 use Rattle.mm_runs.specs.Order.{Answer, HoldsAnswers, greatest_code}
 use Rattle.mm_machines.specs.Link.{Target, Marked, KeepsLinkLaw, AreLegalAt, AnswersAreOwed, takes, shown_at, taken_at, operations_in, operations_among, read_beats, words_at, answers_at, bytes_in, reads_of, beat_operations, IsAnswered, HasGreatestCode, sizes, held_by, items_from, items_of, acted_after}
 use Rattle.mm_machines.specs.Machines.{Raw, raw_at, raws, idle, burst_past, marked, burst_of, IsStageRun, port_of}
-use Rattle.mm_machines.proofs.Parts.{prefix_within}
+use Rattle.mm_machines.specs.SideLaws.{own_bytes, taken_is_shown, zip_push, zip_length, same_counts, prefix_get, prefix_take, prefix_within}
 
 items_front : (target : Target) (shape : Shape) (acted : Bool) (xs rest : List Marked) → IsPrefix (items_from target shape acted xs) (items_from target shape acted (xs ++ rest))
 items_front target shape acted [] rest = record { rest = items_from target shape acted rest; joins = refl }

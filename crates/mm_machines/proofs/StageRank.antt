@@ -2,7 +2,6 @@
 use Rattle.std.proofs.Common.{ℕ, suc, ◌<◌, ◌≤◌, ◌≡◌, [], ◌∷◌, ◌++◌, List, Bool, true, false, not, ◌&&◌, ◌||◌, IsTrue, arith, refl, sym, ap, ap₂, ◌∙◌, append-nil, subst, length, nat_lt, le_refl, ltb-true, lt-ltb}
 use Rattle.std.proofs.lemmas.Bool.{le-ltb, both_ways, or_parts, not-true}
 use Rattle.histories.specs.Laws.{shown_is_accepted_and_standing, prefix_length, before_extends}
-use Rattle.mm_machines.proofs.Wire.{marked_keeps}
 use Rattle.mm_machines.proofs.Stage.{taken_split}
 use Rattle.mm_machines.proofs.StageLink.{words_later}
 use Rattle.histories.specs.History.{one_if, only_if, is_raised}
@@ -12,6 +11,7 @@ use Rattle.mm_runs.specs.Commands.{shows, is_held}
 use Rattle.mm_machines.specs.Link.{Target, Port, AreLegalAt, takes, marked_at, shown_at, taken_at, operations_among, read_beats, words_at, is_last_joined, words_owed}
 use Rattle.mm_machines.specs.Machines.{Raw, raws, idle, marked, burst_of, ShowsHead, IsStageRun, port_of, owing_rank}
 use Rattle.mm_machines.specs.Rank.{is_excused, is_owed, is_writing, is_last_write, may_rest, LinkRankFalls, has_commands}
+use Rattle.mm_machines.specs.SideLaws.{marked_keeps}
 
 none_of : (a b d : Bool) → not (a || b || d) ≡ true → (a ≡ false) × (b ≡ false) × (d ≡ false)
 none_of true b d e = cc

@@ -5,7 +5,6 @@ use Rattle.std.proofs.lemmas.List.{map-append}
 use Rattle.std.proofs.lemmas.List.Elements.{filter-append}
 use Rattle.std.proofs.lemmas.Bool.{and_parts}
 use Rattle.std.proofs.lemmas.List.Folds.{list_all-append}
-use Rattle.mm_machines.proofs.Wire.{prefix_get}
 use Rattle.mm_machines.proofs.Whole.{owners_of_groups, turn_after, acts_after}
 use Rattle.histories.specs.History.{IsPrefix, only_if}
 use Rattle.mm_runs.specs.Views.{System}
@@ -15,6 +14,7 @@ use Rattle.mm_runs.specs.Order.{Owner, is_same_owner, stays_together, are_togeth
 use Rattle.mm_machines.specs.Link.{Item, is_nonempty}
 use Rattle.mm_machines.specs.Link.Item.{Acts, Ends}
 use Rattle.mm_machines.specs.Lines.{Group, Sent, items_among, placed, placed_group, sent_by}
+use Rattle.mm_machines.specs.SideLaws.{prefix_get}
 
 -- for each operation, how many joined commands have ended before it
 abbrev pub turns : ℕ → List Item → List ℕ

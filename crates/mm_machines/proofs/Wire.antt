@@ -1,45 +1,20 @@
 -- A wire keeps the law of a link, with hold 0.
-use Rattle.std.proofs.Common.{ℕ, zero, suc, ◌<◌, ◌≤◌, ◌≡◌, ◌+◌, ◌-◌, [], ◌∷◌, ◌++◌, List, Bool, true, false, IsTrue, arith, refl, sym, ap, ◌∙◌, append_assoc, append-nil, subst, ap₂, length, map, flat_map, take, drop, zip, Some, slice_get, MatchOption, le_refl, max, fold, nat_lt, length-append}
-use Rattle.std.proofs.lemmas.List.{take-append-le}
+use Rattle.std.proofs.Common.{ℕ, suc, ◌<◌, ◌≤◌, ◌≡◌, ◌+◌, ◌-◌, [], ◌∷◌, ◌++◌, List, IsTrue, arith, refl, sym, ap, ◌∙◌, subst, ap₂, length, map, flat_map, take, drop, zip, Some, slice_get, MatchOption, le_refl, max, fold, length-append}
 use Rattle.std.proofs.Common.{le_of_eq, get_or}
 use Rattle.std.proofs.lemmas.Option.{slice_get-get_or}
 use Rattle.mm_runs.specs.Views.Kind.{Reads}
-use Rattle.std.proofs.lemmas.Bool.{le-ltb}
 use Rattle.std.proofs.lemmas.List.{length-map}
 use Rattle.std.proofs.Math.Seq.{drop-append_seam}
-use Rattle.histories.specs.Laws.{prefix_refl, prefix_flat_map, prefix_filter, prefix_trans, before_extends, accepted_prefix}
-use Rattle.mm_runs.specs.Laws.{same_pieces, accepts_shows, legal_keeps}
-use Rattle.histories.specs.History.{KeepsItems, before, only_if, is_raised, unreached, total, AreWithin, IsPrefix}
+use Rattle.histories.specs.Laws.{prefix_refl, prefix_flat_map, prefix_filter, prefix_trans, before_extends}
+use Rattle.mm_runs.specs.Laws.{same_pieces}
+use Rattle.histories.specs.History.{is_raised, total, AreWithin, IsPrefix}
 use Rattle.histories.specs.History.AreWithin.{all_placed, placed, next_room}
 use Rattle.mm_runs.specs.Views.{Shape}
-use Rattle.mm_runs.specs.Operations.{Beat, filled_lanes, byte_at}
-use Rattle.mm_runs.specs.Commands.{shows}
+use Rattle.mm_runs.specs.Operations.{Beat, filled_lanes}
 use Rattle.mm_runs.specs.Legal.{Word}
 use Rattle.mm_runs.specs.Order.{Answer, HoldsAnswers, greatest_code}
-use Rattle.mm_machines.specs.Link.{Target, Port, Marked, KeepsLinkLaw, AreLegalAt, AnswersAreOwed, takes, marked_at, shown_at, taken_at, operations_in, operations_among, read_beats, words_at, words_owed, answers_at, bytes_in, reads_of, beat_operations, IsAnswered, HasGreatestCode, sizes, held_by}
-
-pub marked_keeps : (port : Port) (end : ℕ) → AreLegalAt port end → KeepsItems (shows port.commands.signals) (takes port) (marked_at port) end
-marked_keeps port end legal =
-    let keeps = legal_keeps port.shape port.commands.signals (takes port) end (accepts_shows port.commands.signals port.commands.waitrequest) legal.legal in
-    record {
-      accepted = keeps.accepted;
-      held = λ c h stands.
-          let same = (keeps.held c h stands).1 in
-          let tag = legal.tag c h stands in
-          let more = ap is_raised (legal.more c h stands) in
-          ((keeps.held c h stands).0, cc);
-    }
-
--- what a legal side has taken is the front of what it has shown
-pub taken_is_shown : (port : Port) (end c : ℕ) → AreLegalAt port end → c ≤ end → IsPrefix (taken_at port c) (shown_at port c)
-taken_is_shown port end c legal h = accepted_prefix _ _ _ end c (marked_keeps port end legal) h
-
-pub all_reached : (sizes : List ℕ) (n : ℕ) → total sizes ≤ n → unreached sizes n ≡ 0
-all_reached [] n h = refl
-all_reached (size ∷ sizes) n h =
-    let first : nat_lt n size ≡ false = le-ltb n size (omega arith) in
-    let rest = all_reached sizes (n - size) (omega arith) in
-    rw (first, rest)
+use Rattle.mm_machines.specs.Link.{Target, Port, Marked, KeepsLinkLaw, AreLegalAt, AnswersAreOwed, shown_at, taken_at, operations_in, operations_among, read_beats, words_at, words_owed, answers_at, bytes_in, reads_of, beat_operations, IsAnswered, HasGreatestCode, sizes, held_by}
+use Rattle.mm_machines.specs.SideLaws.{taken_is_shown, all_reached, same_counts, zip_push, zip_length, prefix_get, prefix_take, answer_of, own_bytes}
 
 -- the sizes of the transfers sum up to their operations
 pub total_sizes : (target : Target) (shape : Shape) (transfers : List Marked) → total (sizes target shape transfers) ≡ length (operations_among target shape transfers)
@@ -49,51 +24,6 @@ total_sizes target shape (m ∷ later) = ap (λ n. length (operations_in target 
 pub same_within : (sizes : List ℕ) → AreWithin sizes sizes
 same_within [] = all_placed
 same_within (size ∷ sizes) = placed (le_refl size) (let none : size - size ≡ 0 = omega arith in rw none (next_room (same_within sizes)))
-
--- one more word answers one more beat
-pub zip_push : {A B C : Type 0} (g : A × B → List C) (xs : List A) (ws : List B) (w : B) (x : A) → slice_get xs (length ws) ≡ Some x →
-    flat_map g (zip xs (ws ++ w ∷ [])) ≡ flat_map g (zip xs ws) ++ g (x, w)
-zip_push g [] ws w x h = cc
-zip_push g (y ∷ []) [] w x h = let same : y ≡ x = cc in ap (λ y. g (y, w) ++ []) same ∙ append-nil _
-zip_push g (y ∷ z ∷ ys) [] w x h = let same : y ≡ x = cc in ap (λ y. g (y, w) ++ []) same ∙ append-nil _
-zip_push g (y ∷ ys) (v ∷ vs) w x h = ap (λ l. g (y, v) ++ l) (zip_push g ys vs w x h) ∙ sym (append_assoc (g (y, v)) (flat_map g (zip ys vs)) (g (x, w)))
-
-pub zip_length : {A B C D : Type 0} (g : A × B → List C) (f : A → List D) → ((x : A) (w : B) → length (g (x, w)) ≡ length (f x)) →
-    (xs : List A) (ws : List B) → length (flat_map g (zip xs ws)) ≡ length (flat_map f (take (length ws) xs))
-zip_length g f same [] [] = refl
-zip_length g f same [] (v ∷ vs) = refl
-zip_length g f same (y ∷ ys) [] = refl
-zip_length g f same (y ∷ ys) (v ∷ vs) =
-    length-append (g (y, v)) _ ∙ ap₂ (λ a b. a + b) (same y v) (zip_length g f same ys vs) ∙ sym (length-append (f y) _)
-
-pub same_counts : {A B : Type 0} (test : ℕ → Bool) (f : ℕ → A) (g : ℕ → B) (c : ℕ) →
-    length (before (λ c. only_if (test c) (f c)) c) ≡ length (before (λ c. only_if (test c) (g c)) c)
-same_counts test f g zero = refl
-same_counts test f g (suc c) =
-    length-append (before (λ c. only_if (test c) (f c)) c) _ ∙ ap₂ (λ a b. a + b) (same_counts test f g c) (one (test c) (f c) (g c)) ∙ sym (length-append (before (λ c. only_if (test c) (g c)) c) _)
-  where
-    one : {A B : Type 0} (b : Bool) (x : A) (y : B) → length (only_if b x) ≡ length (only_if b y)
-    one true x y = refl
-    one false x y = refl
-
-get_append : {A : Type 0} (xs rest : List A) (j : ℕ) (x : A) → slice_get xs j ≡ Some x → slice_get (xs ++ rest) j ≡ Some x
-get_append [] rest j x h = cc
-get_append (y ∷ ys) rest zero x h = h
-get_append (y ∷ ys) rest (suc j) x h = get_append ys rest j x h
-
-pub prefix_get : {A : Type 0} {xs ys : List A} → IsPrefix xs ys → (j : ℕ) (x : A) → slice_get xs j ≡ Some x → slice_get ys j ≡ Some x
-prefix_get {A} {xs} p j x h = subst (λ l. slice_get l j ≡ Some x) p.joins (get_append xs p.rest j x h)
-
-pub prefix_take : {A : Type 0} {xs ys : List A} → IsPrefix xs ys → (j : ℕ) → j ≤ length xs → take j ys ≡ take j xs
-prefix_take {A} {xs} p j h = subst (λ l. take j l ≡ take j xs) p.joins (take-append-le j xs p.rest h)
-
--- the answers of one word hold themselves
-abbrev pub answer_of : Word → ℕ → Answer
-answer_of given lane = record { tag = 0; byte = byte_at given.word lane; code = given.code }
-
-pub own_bytes : (given : Word) (lanes : List ℕ) → map (byte_at given.word) lanes ≡ map (λ (a : Answer). a.byte) (take (length lanes) (map (answer_of given) lanes))
-own_bytes given [] = refl
-own_bytes given (lane ∷ lanes) = ap (λ l. byte_at given.word lane ∷ l) (own_bytes given lanes)
 
 own_codes : (given : Word) (lanes : List ℕ) → fold (λ code (answer : Answer). max code answer.code) given.code (take (length lanes) (map (answer_of given) lanes)) ≡ given.code
 own_codes given [] = refl

@@ -9,8 +9,8 @@ use Rattle.mm_runs.specs.Legal.{Word}
 use Rattle.mm_machines.specs.Link.{Target, Port, Marked, AreLegalAt, closes, operations_in, operations_among, taken_at, read_beats, words_at, words_owed, answers_at, bytes_in, reads_of, beat_operations}
 use Rattle.mm_machines.specs.Rank.{AnswersPromptly}
 use Rattle.mm_machines.specs.PartRanks.{Accepted, held_back, HoldsBack, KeepsMoving}
-use Rattle.mm_machines.proofs.Wire.{zip_length}
 use Rattle.mm_machines.proofs.WireRank.{wire_falls}
+use Rattle.mm_machines.specs.SideLaws.{zip_length}
 
 abbrev accepted_of : Target → Shape → Marked → Accepted
 accepted_of target shape m = record { size = length (operations_in target shape m); closes = closes m }

@@ -5,8 +5,8 @@ use Rattle.mm_runs.specs.Commands.{is_held, shows}
 use Rattle.mm_machines.specs.Link.{Target, Port, AreLegalAt, takes, taken_at, shown_at, marked_at, operations_among}
 use Rattle.mm_machines.specs.Rank.{is_last_write, is_writing, is_owed, is_unclosed, may_rest, is_excused, has_commands, LinkRankFalls}
 use Rattle.histories.specs.Laws.{shown_is_accepted_and_standing}
-use Rattle.mm_machines.proofs.Wire.{marked_keeps}
 use Rattle.std.proofs.lemmas.Bool.{both_ways}
+use Rattle.mm_machines.specs.SideLaws.{marked_keeps}
 
 -- where nothing stands, all that was shown is taken
 pub all_taken : (port : Port) (end c : ℕ) → AreLegalAt port end → suc c ≤ end → IsFalse (is_held port.commands.signals (takes port) c) → shown_at port (suc c) ≡ taken_at port (suc c)

@@ -12,3 +12,5 @@ pub mod Gate
 pub mod BoundedWire
 pub mod Machines
 pub mod Shorter
+pub mod SideLaws
+pub mod ReadLaws
