@@ -1,0 +1,212 @@
+-- In each cycle the arbiter shows the beat of the one that it chooses, and takes it from that one alone.
+use Rattle.std.proofs.Common.{ℕ, zero, suc, ◌<◌, ◌≡◌, Bool, true, false, not, ◌&&◌, ◌||◌, IsTrue, IsFalse, if◌then◌else◌, nat_eq, arith, tests, refl, sym, ap, ap₂, ◌∙◌, subst, Option, Some, None, MatchOption}
+use Rattle.std.proofs.lemmas.Bool.{and_parts, eqb-true, eqb-false}
+use Rattle.histories.specs.History.{is_raised}
+use Rattle.mm_runs.specs.Views.{System, levels_at}
+use Rattle.mm_runs.specs.Commands.{Burst, shows, burst_before, burst_after}
+use Rattle.mm_runs.specs.Order.{is_agent, is_joined}
+use Rattle.mm_machines.specs.Link.{Port, takes, marked_at, closes}
+use Rattle.mm_machines.specs.Lines.{TaggedPort}
+use Rattle.mm_machines.specs.Machines.{Raw, raw_at, mark}
+use Rattle.mm_machines.specs.Turns.{Grant, chosen, choice_of, open_after, asks_at, ends_at, seats_of}
+use Rattle.ranks.specs.Turns.{Round}
+use Rattle.mm_machines.specs.SideLaws.{fit_when_shown}
+use Rattle.mm_parts.specs.PartLines.{AreFitToAsk}
+use Rattle.mm_parts.specs.Arbiter.{IsArbiterMachine}
+use Rattle.mm_parts.proofs.Rounds.{GrantFits, ChoiceFits, choice_fits, grant_fits, all_seated}
+use Rattle.mm_parts.proofs.Shared.{IsSameBurst, both_idle, same_after, same_transfer, ended_idle}
+
+abbrev Below : ℕ → ℕ → Type 0
+Below hosts h = h < hosts
+
+pub of_open : (holder : Option ℕ) (asks : ℕ → Bool) (round : Round) (k h : ℕ) → holder ≡ Some k → (choice_of holder asks round).host ≡ Some h → h ≡ k
+of_open None asks round k h one two = cc
+of_open (Some host) asks round k h one two = by_test (asks host) refl two
+  where
+    by_test : (b : Bool) → asks host ≡ b → (if b then Some host else None) ≡ Some h → h ≡ k
+    by_test true is e = cc
+    by_test false is e = cc
+
+module _ (system : System) (agent : ℕ) (up : ℕ → Port) (down : TaggedPort) (grant : ℕ → Grant) (end : ℕ) (m : IsArbiterMachine (seats_of system agent) system.hosts up down grant end)
+    (joined : (h : ℕ) → IsTrue (is_joined system agent h) → h < system.hosts) (fit : AreFitToAsk system agent up end) where
+  abbrev pub choice : ℕ → Option ℕ
+  choice c = (chosen (grant c) (asks_at up c)).host
+
+  abbrev pub bu : ℕ → ℕ → Burst
+  bu h c = burst_before (up h).shape (up h).commands.signals (takes (up h)) c
+
+  abbrev pub bd : ℕ → Burst
+  bd c = burst_before down.shape down.commands.signals (takes down.port) c
+
+  grants : (c : ℕ) → c < end → GrantFits (Below system.hosts) (grant c)
+  grants zero low = subst (GrantFits (Below system.hosts)) (sym m.begins) (record { holder = tt; round = record { all = all_seated system agent (Below system.hosts) joined; last = λ e. cc } })
+  grants (suc c) low = subst (GrantFits (Below system.hosts)) (sym (m.next c low)) (grant_fits (Below system.hosts) (grant c) (asks_at up c) (ends_at up down.port c) (grants c (omega arith)))
+
+  -- who is chosen is a host that asks
+  pub of_choice : (c h : ℕ) → c < end → choice c ≡ Some h → (h < system.hosts) × (shows (up h).commands.signals c ≡ true)
+  of_choice c h low is =
+      let fits = grants c low in
+      subst (ChoiceFits (Below system.hosts) (asks_at up c)) is (choice_fits (Below system.hosts) (grant c).open_host (asks_at up c) (grant c).round fits.holder fits.round).0
+
+  pub same_raw : (c h : ℕ) → c < end → choice c ≡ Some h → raw_at down.port c ≡ raw_at (up h) c
+  same_raw c h low is = subst (λ o. MatchOption o (IsFalse (shows down.commands.signals c)) (λ host. raw_at down.port c ≡ raw_at (up host) c)) is (m.shown c low)
+
+  pub none_shown : (c : ℕ) → c < end → choice c ≡ None → shows down.commands.signals c ≡ false
+  none_shown c low is = subst (λ o. MatchOption o (IsFalse (shows down.commands.signals c)) (λ host. raw_at down.port c ≡ raw_at (up host) c)) is (m.shown c low)
+
+  pub some_shown : (c h : ℕ) → c < end → choice c ≡ Some h → shows down.commands.signals c ≡ true
+  some_shown c h low is = ap (λ (r : Raw). is_raised r.levels.read || is_raised r.levels.write) (same_raw c h low is) ∙ (of_choice c h low is).1
+
+  pub takes_up : (h c : ℕ) → h < system.hosts → c < end → takes (up h) c ≡ (takes down.port c && is_agent h (choice c))
+  takes_up h c there low = by_choice (choice c) refl
+    where
+      wait : is_raised ((up h).commands.waitrequest c) ≡ not (is_agent h (choice c)) || is_raised (down.commands.waitrequest c)
+      wait = m.wait h c there low
+
+      refused : is_agent h (choice c) ≡ false → takes (up h) c ≡ (takes down.port c && is_agent h (choice c))
+      refused e =
+          ap (λ w. shows (up h).commands.signals c && not w) (wait ∙ ap (λ b. not b || is_raised (down.commands.waitrequest c)) e) ∙ none (shows (up h).commands.signals c)
+          ∙ sym (ap (λ b. takes down.port c && b) e ∙ none (takes down.port c))
+        where
+          none : (b : Bool) → (b && false) ≡ false
+          none true = refl
+          none false = refl
+
+      by_same : (k : ℕ) → choice c ≡ Some k → (b : Bool) → nat_eq h k ≡ b → takes (up h) c ≡ (takes down.port c && is_agent h (choice c))
+      by_same k is false e = refused (ap (is_agent h) is ∙ e)
+      by_same k is true e =
+          let same : h ≡ k = eqb-true h k e in
+          let it : is_agent h (choice c) ≡ true = ap (is_agent h) is ∙ e in
+          let here : choice c ≡ Some h = is ∙ ap Some (sym same) in
+          ap₂ (λ s w. s && not w) ((of_choice c h low here).1) (wait ∙ ap (λ b. not b || is_raised (down.commands.waitrequest c)) it)
+          ∙ sym (ap₂ (λ s b. (s && not (is_raised (down.commands.waitrequest c))) && b) (some_shown c h low here) it ∙ whole (not (is_raised (down.commands.waitrequest c))))
+        where
+          whole : (b : Bool) → (b && true) ≡ b
+          whole true = refl
+          whole false = refl
+
+      by_choice : (o : Option ℕ) → choice c ≡ o → takes (up h) c ≡ (takes down.port c && is_agent h (choice c))
+      by_choice None is = refused (ap (is_agent h) is)
+      by_choice (Some k) is = by_same k is (nat_eq h k) refl
+
+  -- where the bursts stand
+  pub record Bursts (c : ℕ) : Type 0 where
+    pub held : (h : ℕ) → h < system.hosts → (grant c).open_host ≡ Some h → IsSameBurst (bu h c) (bd c)
+    pub others : (h : ℕ) → h < system.hosts → ((grant c).open_host ≡ Some h → ⊥) → (bu h c).left ≡ 0
+    pub free : (grant c).open_host ≡ None → (bd c).left ≡ 0
+
+  chosen_same : (c h : ℕ) → c < end → Bursts c → choice c ≡ Some h → IsSameBurst (bu h c) (bd c)
+  chosen_same c h low bursts is = by_open (grant c).open_host refl
+    where
+      by_open : (o : Option ℕ) → (grant c).open_host ≡ o → IsSameBurst (bu h c) (bd c)
+      by_open None e = both_idle (bu h c) (bd c) (bursts.others h (of_choice c h low is).0 (λ other. let bad : ⊥ = cc in bad)) (bursts.free e)
+      by_open (Some k) e =
+          let same : h ≡ k = of_open (grant c).open_host (asks_at up c) (grant c).round k h e is in
+          bursts.held h (of_choice c h low is).0 (e ∙ ap Some (sym same))
+
+  -- a host that isn't chosen has no beat taken, and where another is chosen it isn't the open one
+  not_open : (c h k : ℕ) → choice c ≡ Some k → (h ≡ k → ⊥) → (grant c).open_host ≡ Some h → ⊥
+  not_open c h k is other e = other (sym (of_open (grant c).open_host (asks_at up c) (grant c).round h k e is))
+
+  pub open_next : (c : ℕ) → suc c < end → (grant (suc c)).open_host ≡ open_after (grant c).open_host (choice c) (ends_at up down.port c)
+  open_next c low = ap (λ (g : Grant). g.open_host) (m.next c low)
+
+  still_up : (h c : ℕ) → takes (up h) c ≡ false → bu h (suc c) ≡ bu h c
+  still_up h c none = ap (λ b. burst_after (up h).shape (levels_at (up h).commands.signals c) b (bu h c)) none
+
+  step : (c : ℕ) → suc c < end → Bursts c → Bursts (suc c)
+  step c low bursts = by_choice (choice c) refl
+    where
+      by_choice : (o : Option ℕ) → choice c ≡ o → Bursts (suc c)
+      by_choice None is =
+          let same : (grant (suc c)).open_host ≡ (grant c).open_host = open_next c low ∙ ap (λ o. open_after (grant c).open_host o (ends_at up down.port c)) is in
+          let quiet : takes down.port c ≡ false = ap (λ s. s && not (is_raised (down.commands.waitrequest c))) (none_shown c (omega arith) is) in
+          let below : bd (suc c) ≡ bd c = ap (λ b. burst_after down.shape (levels_at down.commands.signals c) b (bd c)) quiet in
+          record {
+            held = λ h there e. subst (λ b. IsSameBurst b (bd (suc c))) (sym (above h there quiet)) (subst (IsSameBurst (bu h c)) (sym below) (bursts.held h there (sym same ∙ e)));
+            others = λ h there e. ap (λ (b : Burst). b.left) (above h there quiet) ∙ bursts.others h there (λ other. e (same ∙ other));
+            free = λ e. ap (λ (b : Burst). b.left) below ∙ bursts.free (sym same ∙ e);
+          }
+        where
+          above : (h : ℕ) → h < system.hosts → takes down.port c ≡ false → bu h (suc c) ≡ bu h c
+          above h there quiet = still_up h c (takes_up h c there (omega arith) ∙ ap (λ b. b && is_agent h (choice c)) quiet)
+      by_choice (Some k) is = by_ends (ends_at up down.port c k) refl
+        where
+          there_k : k < system.hosts
+          there_k = (of_choice c k (omega arith) is).0
+
+          taken : takes (up k) c ≡ takes down.port c
+          taken = takes_up k c there_k (omega arith) ∙ ap (λ b. takes down.port c && b) (ap (is_agent k) is ∙ same_self k) ∙ whole (takes down.port c)
+            where
+              same_self : (n : ℕ) → nat_eq n n ≡ true
+              same_self n = grind (arith, tests)
+
+              whole : (b : Bool) → (b && true) ≡ b
+              whole true = refl
+              whole false = refl
+
+          now : IsSameBurst (bu k (suc c)) (bd (suc c))
+          now =
+              let same = chosen_same c k (omega arith) bursts is in
+              let raw = same_raw c k (omega arith) is in
+              let next = same_after down.shape (levels_at down.commands.signals c) (takes down.port c) (bu k c) (bd c) same in
+              subst (λ b. IsSameBurst b (bd (suc c))) (sym (ap₂ (λ s l. burst_after s l (takes (up k) c) (bu k c)) (m.shapes k there_k) (ap (λ (r : Raw). r.levels) (sym raw)) ∙ ap (λ t. burst_after down.shape (levels_at down.commands.signals c) t (bu k c)) taken)) next
+
+          other_left : (h : ℕ) → h < system.hosts → (h ≡ k → ⊥) → (bu h (suc c)).left ≡ 0
+          other_left h there other =
+              let none : takes (up h) c ≡ false = takes_up h c there (omega arith) ∙ ap (λ b. takes down.port c && b) (ap (is_agent h) is ∙ apart h other) ∙ nothing (takes down.port c) in
+              ap (λ (b : Burst). b.left) (still_up h c none) ∙ bursts.others h there (not_open c h k is other)
+            where
+              apart : (h : ℕ) → (h ≡ k → ⊥) → nat_eq h k ≡ false
+              apart h other = by_test (nat_eq h k) refl
+                where
+                  by_test : (b : Bool) → nat_eq h k ≡ b → nat_eq h k ≡ false
+                  by_test false e = e
+                  by_test true e = absurd (other (eqb-true h k e))
+
+              nothing : (b : Bool) → (b && false) ≡ false
+              nothing true = refl
+              nothing false = refl
+
+          opened : (grant (suc c)).open_host ≡ (if ends_at up down.port c k then None else Some k)
+          opened = open_next c low ∙ ap (λ o. open_after (grant c).open_host o (ends_at up down.port c)) is
+
+          by_ends : (b : Bool) → ends_at up down.port c k ≡ b → Bursts (suc c)
+          by_ends true ends =
+              let parts = and_parts (takes down.port c) (closes (marked_at (up k) c)) ends in
+              let shown = (of_choice c k (omega arith) is).1 in
+              let fits = fit_when_shown (up k) end c (fit k there_k).legal (omega arith) shown in
+              let last = (and_parts (marked_at (up k) c).transfer.ends (not (is_raised ((up k).commands.more c))) parts.1).0 in
+              let idle : (bu k (suc c)).left ≡ 0 = ap (λ t. (burst_after (up k).shape (levels_at (up k).commands.signals c) t (bu k c)).left) (taken ∙ parts.0) ∙ ended_idle (up k).shape (raw_at (up k) c) (bu k c) fits shown last in
+              let shut : (grant (suc c)).open_host ≡ None = opened ∙ ap (λ b. if b then None else Some k) ends in
+              record {
+                held = λ h there e. (let bad : ⊥ = cc in absurd bad);
+                others = λ h there e. by_same h there (nat_eq h k) refl idle;
+                free = λ e. sym now.left ∙ idle;
+              }
+            where
+              by_same : (h : ℕ) → h < system.hosts → (b : Bool) → nat_eq h k ≡ b → (bu k (suc c)).left ≡ 0 → (bu h (suc c)).left ≡ 0
+              by_same h there true e idle = subst (λ k. (bu k (suc c)).left ≡ 0) (sym (eqb-true h k e)) idle
+              by_same h there false e idle = other_left h there (λ same. eqb-false h k e same)
+          by_ends false ends =
+              let held_on : (grant (suc c)).open_host ≡ Some k = opened ∙ ap (λ b. if b then None else Some k) ends in
+              record {
+                held = λ h there e. (let same : k ≡ h = cc in subst (λ h. IsSameBurst (bu h (suc c)) (bd (suc c))) same now);
+                others = λ h there e. other_left h there (λ same. e (held_on ∙ ap Some (sym same)));
+                free = λ e. (let bad : ⊥ = cc in absurd bad);
+              }
+
+  pub bursts_at : (c : ℕ) → c < end → Bursts c
+  bursts_at zero low = record { held = λ h there e. both_idle (bu h 0) (bd 0) refl refl; others = λ h there e. refl; free = λ e. refl }
+  bursts_at (suc c) low = step c low (bursts_at c (omega arith))
+
+  pub burst_same : (c h : ℕ) → c < end → choice c ≡ Some h → IsSameBurst (bu h c) (bd c)
+  burst_same c h low is = chosen_same c h low (bursts_at c low) is
+
+  -- the beat below is the chosen one's
+  pub same_marked : (c h : ℕ) → c < end → choice c ≡ Some h → marked_at down.port c ≡ marked_at (up h) c
+  same_marked c h low is =
+      let raw = same_raw c h low is in
+      ap (λ (r : Raw). mark down.shape (bd c) r) raw
+      ∙ ap (λ t. record { tag = (up h).commands.tag c; more = is_raised ((up h).commands.more c); transfer = t }) (sym (same_transfer down.shape (levels_at (up h).commands.signals c) (bu h c) (bd c) (burst_same c h low is)))
+      ∙ ap (λ s. mark s (bu h c) (raw_at (up h) c)) (sym (m.shapes h (of_choice c h low is).0))

@@ -1,0 +1,6 @@
+pub mod PartLines
+pub mod Queue
+pub mod Agent
+pub mod Arbiter
+pub mod Route
+pub mod Host

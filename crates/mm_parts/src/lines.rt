@@ -1,0 +1,57 @@
+//! Each machine keeps the whole of its line and holds nothing.
+
+ghost use Rattle.std.specs.Prelude.{◌≤◌, ◌<◌, ◌-◌, ◌*◌, ℕ, IsTrue};
+ghost use Rattle.mm_runs.specs.Views.{Responses, System, Run};
+ghost use Rattle.mm_runs.specs.Commands.{longest_burst};
+ghost use Rattle.mm_runs.specs.Legal.{IsLegalHost};
+ghost use Rattle.mm_runs.specs.Order.{is_joined};
+ghost use Rattle.mm_machines.specs.Link.{Port, AnswersAreOwed};
+ghost use Rattle.mm_machines.specs.Lines.{TaggedPort, IsHostLine};
+ghost use Rattle.mm_machines.specs.Turns.{Grant, seats_of};
+ghost use Rattle.mm_parts.specs.PartLines.{IsAgentLine, IsArbiterLine, IsRouteLine, AreSingle, OwesBelow};
+ghost use Rattle.mm_parts.specs.Host.{HostState, IsHostMachine, ReadsWords};
+ghost use Rattle.mm_parts.specs.Route.{RouteState, IsRoutePlan, IsRouteMachine};
+ghost use Rattle.mm_parts.specs.Arbiter.{IsArbiterMachine};
+ghost use Rattle.mm_parts.specs.Agent.{AgentState, IsAgentPlan, IsAgentMachine};
+
+/// The part next to an agent keeps its line, for every timing of the agent.
+pub fn agent_machine_keeps_its_line()
+    ensures { (responses : Responses) (system : System) (run : Run) (agent : ℕ) (up : TaggedPort) (state : AgentState) (end : ℕ)
+        → IsAgentPlan (system.agent agent) → IsAgentMachine responses (system.agent agent) (run.at_agent agent) up state end
+        → IsAgentLine responses system run agent 0 up end }
+{
+    mm_machines::lines::tags_in_order()
+}
+
+/// The arbiter keeps its line, over bursts and joined commands.
+pub fn arbiter_machine_keeps_its_line()
+    ensures { (responses : Responses) (system : System) (agent : ℕ) (up : ℕ → Port) (down : TaggedPort) (grant : ℕ → Grant) (end : ℕ)
+        → ((h : ℕ) → IsTrue (is_joined system agent h) → h < system.hosts)
+        → IsArbiterMachine (seats_of system agent) system.hosts up down grant end
+        → IsArbiterLine responses system agent 0 up down end }
+{}
+
+/// The route keeps its line: decoder, limiter, default agent and collector.
+pub fn route_machine_keeps_its_line()
+    ensures { (responses : Responses) (system : System) (host room : ℕ) (up : Port) (down : ℕ → Port) (state : RouteState) (end : ℕ)
+        → IsRoutePlan system host up.shape → IsRouteMachine responses system host room up down state end
+        → IsRouteLine responses system host 0 room up down end }
+{
+    mm_runs::base_is_free()
+}
+
+/// The part next to a host keeps its line, and what a route needs of it, for hosts with and without readdatavalid.
+pub fn host_machine_keeps_its_line()
+    ensures line { (responses : Responses) (system : System) (run : Run) (host : ℕ) (down : Port) (state : HostState) (end : ℕ)
+        → IsHostMachine responses (system.host host) (run.at_host host) down state end → ReadsWords (system.host host) (run.at_host host) end
+        → IsHostLine responses system run host 0 down end }
+    ensures single { (responses : Responses) (system : System) (run : Run) (host : ℕ) (down : Port) (state : HostState) (end : ℕ)
+        → IsHostMachine responses (system.host host) (run.at_host host) down state end → ReadsWords (system.host host) (run.at_host host) end
+        → (c : ℕ) → c ≤ end → IsLegalHost (system.host host) (run.at_host host) c → AnswersAreOwed down (c - 1)
+        → AreSingle down c }
+    ensures debt { (responses : Responses) (system : System) (run : Run) (host : ℕ) (down : Port) (state : HostState) (end : ℕ)
+        → IsHostMachine responses (system.host host) (run.at_host host) down state end → ReadsWords (system.host host) (run.at_host host) end
+        → (room : ℕ) → 16 * longest_burst down.shape.burst_bits < room → 1 < room
+        → (c : ℕ) → c ≤ end → IsLegalHost (system.host host) (run.at_host host) c → AnswersAreOwed down (c - 1)
+        → OwesBelow room down c }
+{}
