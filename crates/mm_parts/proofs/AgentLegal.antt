@@ -3,11 +3,8 @@ use Rattle.std.proofs.Common.{ℕ, zero, suc, ◌<◌, ◌≤◌, ◌≡◌, ◌
 use Rattle.std.proofs.lemmas.Bool.{and_parts, not-true, ltb-true, ltb-false, lt-ltb}
 use Rattle.std.proofs.Math.Nat.{mul-div_cancel}
 use Rattle.std.proofs.lemmas.List.{map-append, length-map}
-use Rattle.mm_machines.specs.SideLaws.{total_append}
-use Rattle.std.proofs.lemmas.List.Elements.{All-head}
 use Rattle.std.proofs.lemmas.List.Elements.{filter-append}
 use Rattle.histories.specs.History.{is_raised, only_if, numbers, unreached, total}
-use Rattle.histories.specs.Laws.{unreached_falls}
 use Rattle.mm_runs.specs.Views.{AgentSide, AgentView, Levels, levels_at}
 use Rattle.mm_runs.specs.Commands.{Burst, Transfer, shows, is_held, presents, byte_address, burst_before, transfer_at, agent_accepts, accepted, reads_among, is_of_reads, read_beats, words_before, read_beat}
 use Rattle.mm_runs.specs.Legal.{IsLegalAgent, IsProperAtAgent, is_under_way, unanswered, words_asked}
@@ -19,7 +16,8 @@ use Rattle.mm_parts.specs.PartLines.{ServesKinds}
 use Rattle.mm_parts.specs.Queue.{Entry, takes_read, entry_at, entries, left_after, answered}
 use Rattle.mm_parts.specs.Agent.{AgentState, ShowsToAgent, IsAgentPlan, is_full}
 use Rattle.mm_parts.proofs.AgentShown.{same_takes, same_burst, count_is, write_is, read_is, shows_is, aligned_rest}
-use Rattle.mm_parts.proofs.Queued.{words_of, all_ask, queue_is, unreached_is, answered_length, entries_more, HasWords, word_more, numbers_length, left_push, asks_some}
+use Rattle.mm_parts.proofs.QueueBound.{unanswered_few}
+use Rattle.mm_parts.proofs.Queued.{words_of, queue_is, answered_length, entries_more, numbers_length}
 
 shown_over : (f r w : Bool) → ((not f && r) || w) ≡ true → (r || w) ≡ true
 shown_over true true w shown = refl
@@ -224,62 +222,13 @@ module _ (side : AgentSide) (view : AgentView) (up : TaggedPort) (state : AgentS
         first_false true false b read e = sym read
         first_false false r b read e = refl
 
-    room : side.has_readdatavalid ≡ true → (c : ℕ) → c < end → (length (state.queue c) ≤ side.pending) × (length (state.queue c ++ only_if (takes_read up.port c) (entry_at up.port c)) ≤ side.pending)
-    room has c low = (first, both (takes_read up.port c) refl)
-      where
-        grow : (q : List Entry) (e : Entry) → length (q ++ e ∷ []) ≡ length q + 1
-        grow q e = length-append q (e ∷ [])
-
-        none : (q : List Entry) → length (q ++ []) ≡ length q
-        none q = ap length (append-nil q)
-
-        upto : (k : ℕ) → k ≤ c → length (state.queue k) ≤ side.pending
-        upto zero less = let begins = ap length (m.queues has).begins in let some = plan.pending in omega (arith, begins)
-        upto (suc k) less = by_taken (takes_read up.port k) refl (upto k (omega arith))
-          where
-            by_taken : (b : Bool) → takes_read up.port k ≡ b → length (state.queue k) ≤ side.pending → length (state.queue (suc k)) ≤ side.pending
-            by_taken b is ih =
-                let next = ap length ((m.queues has).next k (omega (arith, low, less))) ∙ ap (λ t. length (answered (is_raised (view.readdatavalid k)) (state.queue k) ++ only_if t (entry_at up.port k))) is in
-                let fewer = answered_length (is_raised (view.readdatavalid k)) (state.queue k) in
-                one b is next fewer
-              where
-                one : (b : Bool) → takes_read up.port k ≡ b → length (state.queue (suc k)) ≡ length (answered (is_raised (view.readdatavalid k)) (state.queue k) ++ only_if b (entry_at up.port k)) →
-                    length (answered (is_raised (view.readdatavalid k)) (state.queue k)) ≤ length (state.queue k) → length (state.queue (suc k)) ≤ side.pending
-                one true is next fewer = let free = free_to_read has k (omega (arith, low, less)) is in let sum = grow (answered (is_raised (view.readdatavalid k)) (state.queue k)) (entry_at up.port k) in omega (arith, next, fewer, free, sum)
-                one false is next fewer = let sum = none (answered (is_raised (view.readdatavalid k)) (state.queue k)) in omega (arith, next, fewer, ih, sum)
-
-        first : length (state.queue c) ≤ side.pending
-        first = upto c (omega arith)
-
-        both : (b : Bool) → takes_read up.port c ≡ b → length (state.queue c ++ only_if b (entry_at up.port c)) ≤ side.pending
-        both true is = let free = free_to_read has c low is in let sum = grow (state.queue c) (entry_at up.port c) in omega (arith, free, sum)
-        both false is = let sum = none (state.queue c) in let few = first in omega (arith, sum, few)
-
-    words_few : side.has_readdatavalid ≡ true → (c : ℕ) → c < end → words_before view.readdatavalid c ≤ words_of (entries (taken_at up.port c))
-    words_few has zero low = omega arith
-    words_few has (suc c) low =
-        let few = proper.owed has c (omega arith) in
-        let asked = asked_is c (omega arith) in
-        let more : words_of (entries (taken_at up.port (suc c))) ≡ words_of (entries (taken_at up.port c)) + words_of (only_if (takes_read up.port c) (entry_at up.port c)) =
-        ap words_of (entries_more up.port end legal c (omega arith)) ∙ ap total (map-append (λ (e : Entry). e.left) (entries (taken_at up.port c)) (only_if (takes_read up.port c) (entry_at up.port c))) ∙ total_append (map (λ (e : Entry). e.left) (entries (taken_at up.port c))) (map (λ (e : Entry). e.left) (only_if (takes_read up.port c) (entry_at up.port c))) in
-        omega (arith, few, asked, more)
+    owed_words : side.has_readdatavalid ≡ true → (c : ℕ) → suc c < end → words_before view.readdatavalid (suc c) ≤ words_of (entries (taken_at up.port c))
+    owed_words has c low = let few = proper.owed has c (omega arith) in let asked = asked_is c (omega arith) in omega (arith, few, asked)
 
     bounded : side.has_readdatavalid ≡ true → (c : ℕ) → c < end → unanswered side.shape view.signals (agent_accepts side view) (words_before view.readdatavalid (suc c)) (suc c) ≤ side.pending
     bounded has c low =
-        let grows : words_before view.readdatavalid c ≤ words_before view.readdatavalid (suc c) = (let sum = word_more view.readdatavalid c in omega (arith, sum)) in
-        let later = unreached_falls (map (λ (t : Transfer). length t.beats) (reads_among (accepted side.shape view.signals (agent_accepts side view) (suc c)))) (words_before view.readdatavalid c) (words_before view.readdatavalid (suc c)) grows in
-        let same : unreached (map (λ (t : Transfer). length t.beats) (reads_among (accepted side.shape view.signals (agent_accepts side view) (suc c)))) (words_before view.readdatavalid c) ≡ length (state.queue c ++ only_if (takes_read up.port c) (entry_at up.port c)) =
-        ap (λ l. unreached l (words_before view.readdatavalid c)) (lengths_are (suc c) low)
-        ∙ unreached_is (entries (taken_at up.port (suc c))) (words_before view.readdatavalid c) (all_ask up.port end legal (suc c) low)
-        ∙ ap length (ap (λ l. left_after l (words_before view.readdatavalid c)) (entries_more up.port end legal c low) ∙ push (takes_read up.port c) refl) in
-        let few = (room has c low).1 in
-        omega (arith, later, same, few)
-      where
-        push : (b : Bool) → takes_read up.port c ≡ b → left_after (entries (taken_at up.port c) ++ only_if b (entry_at up.port c)) (words_before view.readdatavalid c) ≡ state.queue c ++ only_if b (entry_at up.port c)
-        push true is =
-            left_push (entries (taken_at up.port c)) (entry_at up.port c) (words_before view.readdatavalid c) (words_few has c low) (All-head HasWords (entry_at up.port c) [] (asks_some up.port end legal c low true is))
-            ∙ ap (λ q. q ++ entry_at up.port c ∷ []) (sym (queue_holds has c low))
-        push false is = ap (λ l. left_after l (words_before view.readdatavalid c)) (append-nil (entries (taken_at up.port c))) ∙ sym (queue_holds has c low) ∙ sym (append-nil (state.queue c))
+        subst (λ l. unreached l (words_before view.readdatavalid (suc c)) ≤ side.pending) (sym (lengths_are (suc c) low))
+        (unanswered_few up.port end legal view.readdatavalid state.queue (m.queues has) (owed_words has) side.pending (free_to_read has) c low)
 
     pub proper_at_agent : IsProperAtAgent side view end
     proper_at_agent = record {

@@ -1,25 +1,24 @@
 -- The words that a host is given are those that come, each in its cycle, and at most 16 of its reads are unanswered.
-use Rattle.std.proofs.Common.{ℕ, zero, suc, ◌<◌, ◌≤◌, ◌≡◌, ◌+◌, ◌-◌, [], ◌∷◌, ◌++◌, List, Bool, true, false, not, ◌&&◌, ◌||◌, if◌then◌else◌, nat_lt, arith, refl, sym, ap, ap₂, ◌∙◌, subst, length, map, filter, append-nil, length-append, le_of_eq}
-use Rattle.std.proofs.lemmas.Bool.{and_parts, ltb-true}
+use Rattle.std.proofs.Common.{ℕ, zero, suc, ◌<◌, ◌≤◌, ◌≡◌, ◌+◌, ◌-◌, [], ◌∷◌, ◌++◌, List, Bool, true, false, not, ◌&&◌, ◌||◌, if◌then◌else◌, arith, refl, sym, ap, ap₂, ◌∙◌, subst, length, map, filter, append-nil, length-append, le_of_eq}
 use Rattle.std.proofs.lemmas.List.{map-append, length-map}
-use Rattle.std.proofs.lemmas.List.Elements.{filter-append, All-head}
+use Rattle.std.proofs.lemmas.List.Elements.{filter-append}
 use Rattle.histories.specs.History.{only_if, one_if, is_raised, unreached, total, numbers}
-use Rattle.histories.specs.Laws.{unreached_falls}
 use Rattle.mm_runs.specs.Views.{HostSide, HostView, System, Run, Responses, levels_at}
 use Rattle.mm_runs.specs.Views.Responses.{AreZero, AreCodes}
 use Rattle.mm_runs.specs.Commands.{Transfer, accepted, reads_among, is_of_reads, words_before, read_beat}
 use Rattle.mm_runs.specs.Legal.{host_accepts, gives_word, given, Word, IsLegalHost, IsProperAtHost, unanswered}
-use Rattle.mm_machines.specs.Link.{Port, Marked, AreLegalAt, AnswersAreOwed, takes, taken_at, read_beats}
+use Rattle.mm_machines.specs.Link.{Port, Marked, AreLegalAt, AnswersAreOwed, taken_at, read_beats}
 use Rattle.mm_machines.specs.Lines.{Sent, sent_of, sent_by, HostResponds, HostCarriesAnswers, IsHostLine}
 use Rattle.mm_machines.specs.SideLaws.{all_reached}
 use Rattle.mm_machines.specs.SideLaws.{total_append}
-use Rattle.mm_parts.specs.Queue.{Entry, takes_read, answered, entry_at, entries, left_after}
-use Rattle.mm_parts.specs.Host.{HostState, IsHostMachine, ReadsWords, is_shut}
+use Rattle.mm_parts.specs.Queue.{Entry, takes_read, entries}
+use Rattle.mm_parts.specs.Host.{HostState, IsHostMachine, ReadsWords}
 use Rattle.mm_parts.proofs.AgentLegal.{words_total}
 use Rattle.mm_parts.proofs.HalfLines.{host_commands, host_shorter, reads_shorter}
 use Rattle.mm_parts.proofs.RouteDebts.{reads_more}
-use Rattle.mm_parts.proofs.Queued.{words_of, word_more, numbers_length, HasWords, all_ask, asks_some, entries_more, queue_is, left_push, unreached_is, answered_length}
-use Rattle.mm_parts.proofs.HostLine.{kb, Asks, asks_at, read_accepts, read_stands, stands_on_host, asked_now, read_shown, no_read, kb_next, without, standing_read, taken_same, legal_below, from_host, own, read_is}
+use Rattle.mm_parts.proofs.QueueBound.{owed_is, unanswered_few}
+use Rattle.mm_parts.proofs.Queued.{words_of, word_more, numbers_length}
+use Rattle.mm_parts.proofs.HostLine.{free_to_read, kb, Asks, asks_at, read_accepts, read_stands, stands_on_host, asked_now, read_shown, no_read, kb_next, without, standing_read, taken_same, legal_below, from_host, own}
 
 abbrev lens_of : List Sent → List ℕ
 lens_of ss = map (λ (s : Sent). length s.transfer.beats) (filter (λ (s : Sent). is_of_reads s.transfer.kind) ss)
@@ -41,14 +40,6 @@ lens_by (t ∷ ts) = by_test (is_of_reads t.kind) refl (lens_by ts)
   where
     by_test : (b : Bool) → is_of_reads t.kind ≡ b → lens_of (sent_by ts) ≡ map (λ (t : Transfer). length t.beats) (reads_among ts) → lens_of (sent_by (t ∷ ts)) ≡ map (λ (t : Transfer). length t.beats) (reads_among (t ∷ ts))
     by_test true e ih = rw e (ap (λ l. length t.beats ∷ l) ih)
-    by_test false e ih = rw e ih
-
-owed_is : (ms : List Marked) → length (read_beats ms) ≡ words_of (entries ms)
-owed_is [] = refl
-owed_is (m ∷ ms) = by_test (is_of_reads m.transfer.kind) refl (owed_is ms)
-  where
-    by_test : (b : Bool) → is_of_reads m.transfer.kind ≡ b → length (read_beats ms) ≡ words_of (entries ms) → length (read_beats (m ∷ ms)) ≡ words_of (entries (m ∷ ms))
-    by_test true e ih = rw e (length-append m.transfer.beats (read_beats ms) ∙ ap (λ n. length m.transfer.beats + n) ih)
     by_test false e ih = rw e ih
 
 module _ (responses : Responses) (side : HostSide) (view : HostView) (down : Port) (state : HostState) (end : ℕ) (m : IsHostMachine responses side view down state end)
@@ -138,70 +129,13 @@ module _ (responses : Responses) (side : HostSide) (view : HostView) (down : Por
   legal_down : AreLegalAt down end
   legal_down = legal_below responses side view down state end m legal single early
 
-  free_to_read : side.has_readdatavalid ≡ true → (c : ℕ) → c < end → takes_read down c ≡ true → length (state.queue c) < 16
-  free_to_read has c low taken =
-      let seen = sym (read_is responses side view down state end m legal single early c low) ∙ (and_parts (takes down c) (is_raised (down.commands.read c)) taken).1 in
-      let gate = (and_parts (not (is_shut side state c)) (is_raised (view.read c)) seen).0 in
-      ltb-true (length (state.queue c)) 16 (twice (nat_lt (length (state.queue c)) 16) (ap (λ h. not (if h then not (nat_lt (length (state.queue c)) 16) else state.asked c)) (sym has) ∙ gate))
-    where
-      twice : (b : Bool) → not (not b) ≡ true → b ≡ true
-      twice true e = refl
-      twice false e = e
-
-  grow : (q : List Entry) (e : Entry) → length (q ++ e ∷ []) ≡ length q + 1
-  grow q e = length-append q (e ∷ [])
-
-  none_more : (q : List Entry) → length (q ++ []) ≡ length q
-  none_more q = ap length (append-nil q)
-
-  upto : side.has_readdatavalid ≡ true → (k : ℕ) → k < end → length (state.queue k) ≤ 16
-  upto has zero low = let begins = ap length (m.queues has).begins in omega (arith, begins)
-  upto has (suc k) low = by_taken (takes_read down k) refl (upto has k (omega arith))
-    where
-      by_taken : (b : Bool) → takes_read down k ≡ b → length (state.queue k) ≤ 16 → length (state.queue (suc k)) ≤ 16
-      by_taken true is ih =
-          let next = ap length ((m.queues has).next k low) ∙ ap (λ t. length (answered (is_raised (down.answers.valid k)) (state.queue k) ++ only_if t (entry_at down k))) is in
-          let fewer = answered_length (is_raised (down.answers.valid k)) (state.queue k) in
-          let free = free_to_read has k (omega arith) is in
-          let sum = grow (answered (is_raised (down.answers.valid k)) (state.queue k)) (entry_at down k) in
-          omega (arith, next, fewer, free, sum)
-      by_taken false is ih =
-          let next = ap length ((m.queues has).next k low) ∙ ap (λ t. length (answered (is_raised (down.answers.valid k)) (state.queue k) ++ only_if t (entry_at down k))) is in
-          let fewer = answered_length (is_raised (down.answers.valid k)) (state.queue k) in
-          let sum = none_more (answered (is_raised (down.answers.valid k)) (state.queue k)) in
-          omega (arith, next, fewer, ih, sum)
-
-  words_few : (c : ℕ) → c < end → words c ≤ words_of (entries (taken_at down c))
-  words_few zero low = omega arith
-  words_few (suc c) low =
-      let few = owed c (omega arith) in
-      let asked = owed_is (taken_at down c) in
-      let more : words_of (entries (taken_at down (suc c))) ≡ words_of (entries (taken_at down c)) + words_of (only_if (takes_read down c) (entry_at down c)) =
-      ap words_of (entries_more down end legal_down c (omega arith)) ∙ ap total (map-append (λ (e : Entry). e.left) (entries (taken_at down c)) (only_if (takes_read down c) (entry_at down c))) ∙ total_append (map (λ (e : Entry). e.left) (entries (taken_at down c))) (map (λ (e : Entry). e.left) (only_if (takes_read down c) (entry_at down c))) in
-      omega (arith, few, asked, more)
-
-  queue_holds : side.has_readdatavalid ≡ true → (c : ℕ) → c < end → state.queue c ≡ left_after (entries (taken_at down c)) (words c)
-  queue_holds has = queue_is down end legal_down down.answers.valid state.queue (m.queues has) (λ c low. let few = owed c (omega arith) in let asked = owed_is (taken_at down c) in omega (arith, few, asked))
+  owed_words : (c : ℕ) → suc c < end → words (suc c) ≤ words_of (entries (taken_at down c))
+  owed_words c low = let few = owed c (omega arith) in let asked = owed_is (taken_at down c) in omega (arith, few, asked)
 
   bounded_valid : side.has_readdatavalid ≡ true → (c : ℕ) → c < end → unreached (accepted_by (suc c)) (words (suc c)) ≤ 16
   bounded_valid has c low =
-      let grows : words c ≤ words (suc c) = (let sum = word_more down.answers.valid c in omega (arith, sum)) in
-      let later = unreached_falls (accepted_by (suc c)) (words c) (words (suc c)) grows in
-      let same : unreached (accepted_by (suc c)) (words c) ≡ length (state.queue c ++ only_if (takes_read down c) (entry_at down c)) =
-      ap (λ l. unreached l (words c)) (sym (lens_valid has (suc c) low)) ∙ unreached_is (entries (taken_at down (suc c))) (words c) (all_ask down end legal_down (suc c) low)
-      ∙ ap length (ap (λ l. left_after l (words c)) (entries_more down end legal_down c low) ∙ push (takes_read down c) refl) in
-      let few = both (takes_read down c) refl in
-      omega (arith, later, same, few)
-    where
-      push : (b : Bool) → takes_read down c ≡ b → left_after (entries (taken_at down c) ++ only_if b (entry_at down c)) (words c) ≡ state.queue c ++ only_if b (entry_at down c)
-      push true is =
-          left_push (entries (taken_at down c)) (entry_at down c) (words c) (words_few c low) (All-head HasWords (entry_at down c) [] (asks_some down end legal_down c low true is))
-          ∙ ap (λ q. q ++ entry_at down c ∷ []) (sym (queue_holds has c low))
-      push false is = ap (λ l. left_after l (words c)) (append-nil (entries (taken_at down c))) ∙ sym (queue_holds has c low) ∙ sym (append-nil (state.queue c))
-
-      both : (b : Bool) → takes_read down c ≡ b → length (state.queue c ++ only_if (takes_read down c) (entry_at down c)) ≤ 16
-      both true is = let free = free_to_read has c low is in let sum = ap (λ b. length (state.queue c ++ only_if b (entry_at down c))) is ∙ grow (state.queue c) (entry_at down c) in omega (arith, free, sum)
-      both false is = let few = upto has c low in let sum = ap (λ b. length (state.queue c ++ only_if b (entry_at down c))) is ∙ none_more (state.queue c) in omega (arith, few, sum)
+      subst (λ l. unreached l (words (suc c)) ≤ 16) (lens_valid has (suc c) low)
+      (unanswered_few down end legal_down down.answers.valid state.queue (m.queues has) owed_words 16 (free_to_read responses side view down state end m legal single early has) c low)
 
   -- ---- without readdatavalid: each accepted read has its word
 

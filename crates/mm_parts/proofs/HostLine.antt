@@ -645,3 +645,14 @@ module _ (responses : Responses) (side : HostSide) (view : HostView) (down : Por
       one : (b : Bool) → is_raised (one_if (not b)) ≡ not b
       one true = refl
       one false = refl
+
+  -- a read is taken only where fewer than 16 are unanswered
+  pub free_to_read : side.has_readdatavalid ≡ true → (c : ℕ) → c < end → takes_read down c ≡ true → length (state.queue c) < 16
+  free_to_read has c low taken =
+      let seen = sym (read_is c low) ∙ (and_parts (takes down c) (is_raised (down.commands.read c)) taken).1 in
+      let gate = (and_parts (not (is_shut side state c)) (is_raised (view.read c)) seen).0 in
+      ltb-true (length (state.queue c)) 16 (twice (nat_lt (length (state.queue c)) 16) (ap (λ h. not (if h then not (nat_lt (length (state.queue c)) 16) else state.asked c)) (sym has) ∙ gate))
+    where
+      twice : (b : Bool) → not (not b) ≡ true → b ≡ true
+      twice true e = refl
+      twice false e = e

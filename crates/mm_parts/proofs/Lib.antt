@@ -4,6 +4,7 @@ mod AgentBeats
 mod Queued
 mod AgentLegal
 mod AgentLine
+mod QueueBound
 mod Tags
 mod Pairs
 mod AgentWords
