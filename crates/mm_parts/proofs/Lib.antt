@@ -12,6 +12,7 @@ mod AgentRow
 mod AgentMachine
 mod Rounds
 mod Shared
+mod ArbiterRule
 mod ArbiterTurns
 mod ArbiterLine
 mod ArbiterMachine

@@ -1,13 +1,14 @@
 //! Each machine keeps the whole of its line and holds nothing.
 
-ghost use Rattle.std.specs.Prelude.{◌≤◌, ◌<◌, ◌-◌, ◌*◌, ℕ, IsTrue};
+ghost use Rattle.std.specs.Prelude.{◌≤◌, ◌<◌, ◌-◌, ◌*◌, ℕ, IsTrue, List};
 ghost use Rattle.mm_runs.specs.Views.{Responses, System, Run};
 ghost use Rattle.mm_runs.specs.Commands.{longest_burst};
 ghost use Rattle.mm_runs.specs.Legal.{IsLegalHost};
 ghost use Rattle.mm_runs.specs.Order.{is_joined};
 ghost use Rattle.mm_machines.specs.Link.{Port, AnswersAreOwed};
 ghost use Rattle.mm_machines.specs.Lines.{TaggedPort, IsHostLine};
-ghost use Rattle.mm_machines.specs.Turns.{Grant, seats_of};
+ghost use Rattle.mm_machines.specs.Turns.{Grant, seats_of, TakesTurnsByRule};
+ghost use Rattle.ranks.specs.Turns.{Seat};
 ghost use Rattle.mm_parts.specs.PartLines.{IsAgentLine, IsArbiterLine, IsRouteLine, AreSingle, OwesBelow};
 ghost use Rattle.mm_parts.specs.Host.{HostState, IsHostMachine, ReadsWords};
 ghost use Rattle.mm_parts.specs.Route.{RouteState, IsRoutePlan, IsRouteMachine};
@@ -29,6 +30,12 @@ pub fn arbiter_machine_keeps_its_line()
         → ((h : ℕ) → IsTrue (is_joined system agent h) → h < system.hosts)
         → IsArbiterMachine (seats_of system agent) system.hosts up down grant end
         → IsArbiterLine responses system agent 0 up down end }
+{}
+
+/// The arbiter takes turns by the rule, whatever seats it has.
+pub fn arbiter_machine_takes_turns()
+    ensures { (seats : List Seat) (hosts : ℕ) (up : ℕ → Port) (down : TaggedPort) (grant : ℕ → Grant) (end : ℕ)
+        → IsArbiterMachine seats hosts up down grant end → TakesTurnsByRule seats up down.port end }
 {}
 
 /// The route keeps its line: decoder, limiter, default agent and collector.
