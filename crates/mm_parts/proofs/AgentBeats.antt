@@ -14,7 +14,7 @@ use Rattle.mm_runs.specs.Order.{TaggedBeat, beats_taken, beats_taken_in}
 use Rattle.mm_machines.specs.Link.{Marked, takes, marked_at, taken_at, shown_at, AreLegalAt, beat_operations, is_nonempty}
 use Rattle.mm_machines.specs.Lines.{TaggedPort, HasLanes, target_of}
 use Rattle.mm_machines.specs.SideLaws.{taken_is_shown}
-use Rattle.mm_parts.specs.PartLines.{ServesKinds}
+use Rattle.mm_machines.specs.Lines.{ServesKinds}
 use Rattle.mm_parts.specs.Agent.{AgentState, ShowsToAgent, IsAgentPlan}
 use Rattle.mm_parts.proofs.Alike.{AreAlike, alike_append, tag_all, tagged_beats, keeps_all, all_set, filled_are}
 use Rattle.mm_parts.proofs.Alike.AreAlike.{no_beats, one_more}

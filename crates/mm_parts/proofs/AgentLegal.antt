@@ -12,7 +12,7 @@ use Rattle.mm_machines.specs.Link.{takes, taken_at, AreLegalAt}
 use Rattle.mm_machines.specs.Lines.{TaggedPort}
 use Rattle.mm_machines.specs.Machines.{IsFitBeat, raw_at}
 use Rattle.mm_machines.specs.SideLaws.{fit_when_shown}
-use Rattle.mm_parts.specs.PartLines.{ServesKinds}
+use Rattle.mm_machines.specs.Lines.{ServesKinds}
 use Rattle.mm_parts.specs.Queue.{Entry, takes_read, entry_at, entries, left_after, answered}
 use Rattle.mm_parts.specs.Agent.{AgentState, ShowsToAgent, IsAgentPlan, is_full}
 use Rattle.mm_parts.proofs.AgentShown.{same_takes, same_burst, count_is, write_is, read_is, shows_is, aligned_rest}

@@ -12,7 +12,7 @@ use Rattle.mm_machines.specs.Lines.{TaggedPort, Group, AgentCarriesCommands, gro
 use Rattle.mm_machines.specs.SideLaws.{taken_is_shown, all_reached}
 use Rattle.mm_machines.specs.SideLaws.{total_of}
 use Rattle.mm_machines.specs.SideLaws.{of_host_same, total_front}
-use Rattle.mm_parts.specs.PartLines.{IsFit}
+use Rattle.mm_machines.specs.Lines.{IsFit}
 use Rattle.mm_parts.specs.Agent.{AgentState, ShowsToAgent, IsAgentPlan}
 use Rattle.mm_parts.proofs.Alike.{acts_alike, acts_of_groups, counts_alike, counts_of_groups, tagged_beats}
 use Rattle.mm_parts.proofs.AgentShown.{same_takes}

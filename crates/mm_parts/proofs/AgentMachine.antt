@@ -4,7 +4,7 @@ use Rattle.mm_runs.specs.Views.{System, Run, Responses, AgentSide, AgentView}
 use Rattle.mm_runs.specs.Legal.{IsLegalAgent}
 use Rattle.mm_machines.specs.Lines.{AreOwedByTag, AreTaggedInOrder, TaggedPort}
 use Rattle.mm_parts.specs.Queue.{Entry, QueuesReads}
-use Rattle.mm_parts.specs.PartLines.{IsFit, IsAgentLine, AgentCarriesAnswers}
+use Rattle.mm_machines.specs.Lines.{IsFit, IsAgentLine, AgentCarriesAnswers}
 use Rattle.mm_parts.specs.Agent.{AgentState, ShowsToAgent, GivesQueued, GivesFixed, IsAgentMachine, IsAgentPlan}
 use Rattle.mm_parts.proofs.AgentLine.{carries_commands}
 use Rattle.mm_parts.proofs.AgentWords.{GivesInOrder, bytes_front, codes_front, queued_in_order}

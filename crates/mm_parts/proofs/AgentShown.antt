@@ -10,7 +10,7 @@ use Rattle.mm_runs.specs.Commands.{Burst, shows, byte_address, stood_before, sto
 use Rattle.mm_machines.specs.Link.{takes, AreLegalAt}
 use Rattle.mm_machines.specs.Lines.{TaggedPort}
 use Rattle.mm_machines.specs.SideLaws.{fit_when_shown}
-use Rattle.mm_parts.specs.PartLines.{ServesKinds}
+use Rattle.mm_machines.specs.Lines.{ServesKinds}
 use Rattle.mm_parts.specs.Agent.{AgentState, ShowsToAgent, IsAgentPlan, is_full, is_busy}
 
 gated : (b : Bool) (n : ℕ) → is_raised (if b then 0 else n) ≡ not b && is_raised n

@@ -13,7 +13,7 @@ use Rattle.mm_machines.specs.Machines.{Raw, raw_at, IsFitBeat}
 use Rattle.mm_machines.specs.Turns.{Grant, choice_of, open_after, asks_at, ends_at, seats_of}
 use Rattle.mm_machines.specs.SideLaws.{marked_keeps}
 use Rattle.mm_machines.specs.SideLaws.{fit_when_shown, legal_when_shown}
-use Rattle.mm_parts.specs.PartLines.{AreFitToAsk}
+use Rattle.mm_machines.specs.Lines.{AreFitToAsk}
 use Rattle.mm_parts.specs.Arbiter.{IsArbiterMachine}
 use Rattle.mm_parts.proofs.Shared.{same_fit}
 use Rattle.mm_parts.proofs.ArbiterTurns.{choice, bu, bd, of_choice, same_raw, none_shown, takes_up, burst_same, same_marked, open_next, of_open}

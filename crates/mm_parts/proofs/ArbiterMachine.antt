@@ -19,7 +19,7 @@ use Rattle.ranks.specs.Turns.{Seat}
 use Rattle.mm_machines.specs.SideLaws.{all_reached, same_counts}
 use Rattle.mm_machines.specs.SideLaws.{prefix_items}
 use Rattle.mm_machines.specs.SideLaws.{prefix_within, total_front}
-use Rattle.mm_parts.specs.PartLines.{AreFitToAsk, IsArbiterLine, ArbiterCarriesCommands, ArbiterCarriesAnswers, serves_at, ServesKinds}
+use Rattle.mm_machines.specs.Lines.{AreFitToAsk, IsArbiterLine, ArbiterCarriesCommands, ArbiterCarriesAnswers, serves_at, ServesKinds}
 use Rattle.mm_parts.specs.Arbiter.{IsArbiterMachine}
 use Rattle.mm_parts.proofs.Shared.{shown_passes}
 use Rattle.mm_parts.proofs.ArbiterTurns.{same_raw}

@@ -11,7 +11,7 @@ use Rattle.mm_machines.specs.Machines.{Raw, raw_at, mark}
 use Rattle.mm_machines.specs.Turns.{Grant, chosen, choice_of, open_after, asks_at, ends_at, seats_of}
 use Rattle.ranks.specs.Turns.{Round}
 use Rattle.mm_machines.specs.SideLaws.{fit_when_shown}
-use Rattle.mm_parts.specs.PartLines.{AreFitToAsk}
+use Rattle.mm_machines.specs.Lines.{AreFitToAsk}
 use Rattle.mm_parts.specs.Arbiter.{IsArbiterMachine}
 use Rattle.mm_parts.proofs.Rounds.{GrantFits, ChoiceFits, choice_fits, grant_fits, all_seated}
 use Rattle.mm_parts.proofs.Shared.{IsSameBurst, both_idle, same_after, same_transfer, ended_idle}

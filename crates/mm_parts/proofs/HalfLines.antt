@@ -1,11 +1,12 @@
 -- The command halves of the route's and the host's lines, and what is proved of the route's answers.
-use Rattle.std.proofs.Common.{ℕ, ◌<◌, ◌≤◌, ◌-◌, ◌*◌, ◌^◌, List, arith}
+use Rattle.std.proofs.Common.{ℕ, ◌<◌, ◌≤◌, ◌-◌, ◌*◌, List, arith}
 use Rattle.mm_runs.specs.Views.{System, Run, Responses, HostSide, HostView}
+use Rattle.mm_runs.specs.Commands.{longest_burst}
 use Rattle.mm_runs.specs.Legal.{IsLegalHost}
 use Rattle.mm_machines.specs.Link.{Port, AreLegalAt, AnswersAreOwed}
 use Rattle.mm_machines.specs.Lines.{HostCarriesCommands}
 use Rattle.mm_parts.specs.Queue.{Entry, QueuesReads}
-use Rattle.mm_parts.specs.PartLines.{AreSingle, OwesBelow, RouteCarriesCommands}
+use Rattle.mm_machines.specs.Lines.{AreSingle, OwesBelow, RouteCarriesCommands}
 use Rattle.mm_parts.proofs.RoutePlan.{RoutePlan}
 use Rattle.mm_parts.specs.Route.{RouteState, IsRouteMachine}
 use Rattle.mm_parts.specs.Host.{HostState, IsHostMachine, ReadsWords}
@@ -89,6 +90,6 @@ host_single responses system run host down state end machine single c low legal 
     single_below responses (system.host host) (run.at_host host) down state c (host_shorter responses (system.host host) (run.at_host host) down state end c low machine) legal (reads_shorter (system.host host) (run.at_host host) end c low single) owed
 
 pub host_debt : (responses : Responses) (system : System) (run : Run) (host : ℕ) (down : Port) (state : HostState) (end : ℕ) → IsHostMachine responses (system.host host) (run.at_host host) down state end → ReadsWords (system.host host) (run.at_host host) end →
-    (room : ℕ) → 16 * 2 ^ (down.shape.burst_bits - 1) < room → 1 < room → (c : ℕ) → c ≤ end → IsLegalHost (system.host host) (run.at_host host) c → AnswersAreOwed down (c - 1) → OwesBelow room down c
-host_debt responses system run host down state end machine single room large some c low legal owed =
-    owes_below responses (system.host host) (run.at_host host) down state c (host_shorter responses (system.host host) (run.at_host host) down state end c low machine) legal (reads_shorter (system.host host) (run.at_host host) end c low single) owed room large some
+    (room : ℕ) → 16 * longest_burst down.shape.burst_bits < room → (c : ℕ) → c ≤ end → IsLegalHost (system.host host) (run.at_host host) c → AnswersAreOwed down (c - 1) → OwesBelow room down c
+host_debt responses system run host down state end machine single room large c low legal owed =
+    owes_below responses (system.host host) (run.at_host host) down state c (host_shorter responses (system.host host) (run.at_host host) down state end c low machine) legal (reads_shorter (system.host host) (run.at_host host) end c low single) owed room large

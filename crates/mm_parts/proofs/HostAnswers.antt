@@ -1,11 +1,11 @@
 -- The words that a host is given are those that come, each in its cycle, and at most 16 of its reads are unanswered.
-use Rattle.std.proofs.Common.{ℕ, zero, suc, ◌<◌, ◌≤◌, ◌≡◌, ◌+◌, ◌-◌, [], ◌∷◌, ◌++◌, List, Bool, true, false, not, ◌&&◌, ◌||◌, if◌then◌else◌, arith, refl, sym, ap, ap₂, ◌∙◌, subst, length, map, filter, append-nil, length-append, le_of_eq}
+use Rattle.std.proofs.Common.{ℕ, ◌*◌, zero, suc, ◌<◌, ◌≤◌, ◌≡◌, ◌+◌, ◌-◌, [], ◌∷◌, ◌++◌, List, Bool, true, false, not, ◌&&◌, ◌||◌, if◌then◌else◌, arith, refl, sym, ap, ap₂, ◌∙◌, subst, length, map, filter, append-nil, length-append, le_of_eq}
 use Rattle.std.proofs.lemmas.List.{map-append, length-map}
 use Rattle.std.proofs.lemmas.List.Elements.{filter-append}
 use Rattle.histories.specs.History.{only_if, one_if, is_raised, unreached, total, numbers}
 use Rattle.mm_runs.specs.Views.{HostSide, HostView, System, Run, Responses, levels_at}
 use Rattle.mm_runs.specs.Views.Responses.{AreZero, AreCodes}
-use Rattle.mm_runs.specs.Commands.{Transfer, accepted, reads_among, is_of_reads, words_before, read_beat}
+use Rattle.mm_runs.specs.Commands.{longest_burst, Transfer, accepted, reads_among, is_of_reads, words_before, read_beat}
 use Rattle.mm_runs.specs.Legal.{host_accepts, gives_word, given, Word, IsLegalHost, IsProperAtHost, unanswered}
 use Rattle.mm_machines.specs.Link.{Port, Marked, AreLegalAt, AnswersAreOwed, taken_at, read_beats}
 use Rattle.mm_machines.specs.Lines.{Sent, sent_of, sent_by, HostResponds, HostCarriesAnswers, IsHostLine}
@@ -14,7 +14,7 @@ use Rattle.mm_machines.specs.SideLaws.{total_append}
 use Rattle.mm_parts.specs.Queue.{Entry, takes_read, entries}
 use Rattle.mm_parts.specs.Host.{HostState, IsHostMachine, ReadsWords}
 use Rattle.mm_parts.proofs.AgentLegal.{words_total}
-use Rattle.mm_parts.proofs.HalfLines.{host_commands, host_shorter, reads_shorter}
+use Rattle.mm_parts.proofs.HalfLines.{host_single, host_debt, host_commands, host_shorter, reads_shorter}
 use Rattle.mm_parts.proofs.RouteDebts.{reads_more}
 use Rattle.mm_parts.proofs.QueueBound.{owed_is, unanswered_few}
 use Rattle.mm_parts.proofs.Queued.{words_of, word_more, numbers_length}
@@ -227,9 +227,11 @@ carries_answers responses system run host down state end m legal single owed = r
   responds = host_responds responses system run host down state end m;
 }
 
-pub host_line : (responses : Responses) (system : System) (run : Run) (host : ℕ) (down : Port) (state : HostState) (end : ℕ) → IsHostMachine responses (system.host host) (run.at_host host) down state end → ReadsWords (system.host host) (run.at_host host) end →
-    IsHostLine responses system run host 0 down end
-host_line responses system run host down state end machine single = record {
+pub host_line : (responses : Responses) (system : System) (run : Run) (host room : ℕ) (down : Port) (state : HostState) (end : ℕ) → 16 * longest_burst down.shape.burst_bits < room → ReadsWords (system.host host) (run.at_host host) end →
+    IsHostMachine responses (system.host host) (run.at_host host) down state end → IsHostLine responses system run host 0 room down end
+host_line responses system run host room down state end large single machine = record {
   commands = host_commands responses system run host down state end machine single;
+  single = host_single responses system run host down state end machine single;
+  debt = host_debt responses system run host down state end machine single room large;
   answers = λ c low legal owed. carries_answers responses system run host down state c (host_shorter responses (system.host host) (run.at_host host) down state end c low machine) legal (reads_shorter (system.host host) (run.at_host host) end c low single) owed;
 }

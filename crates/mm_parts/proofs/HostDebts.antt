@@ -1,17 +1,18 @@
 -- What the host translator owes below its part stays below a bound.
-use Rattle.std.proofs.Common.{ℕ, zero, suc, ◌<◌, ◌≤◌, ◌≡◌, ◌+◌, ◌-◌, ◌*◌, ◌^◌, [], ◌∷◌, List, Bool, true, false, not, if◌then◌else◌, nat_lt, arith, refl, sym, ap, ◌∙◌, subst, length, mul-le-mul_right}
+use Rattle.std.proofs.Common.{ℕ, zero, suc, ◌<◌, ◌≤◌, ◌≡◌, ◌+◌, ◌-◌, ◌*◌, [], ◌∷◌, List, Bool, true, false, not, if◌then◌else◌, nat_lt, arith, refl, sym, ap, ◌∙◌, subst, length, mul-le-mul_right}
 use Rattle.std.specs.List.{All}
 use Rattle.std.proofs.lemmas.Bool.{and_parts, ltb-true, ltb-false}
 use Rattle.std.proofs.lemmas.List.Elements.{All-head, All-tail, All-append, All-cons, All-nil}
+use Rattle.std.proofs.lemmas.Nat.{pow_pos}
 use Rattle.histories.specs.History.{only_if, one_if, is_raised}
 use Rattle.mm_runs.specs.Views.{HostSide, HostView, Responses}
-use Rattle.mm_runs.specs.Commands.{shows, words_before, burst_before}
+use Rattle.mm_runs.specs.Commands.{longest_burst, shows, words_before, burst_before}
 use Rattle.mm_runs.specs.Legal.{IsLegalHost}
 use Rattle.mm_machines.specs.Link.{Port, AreLegalAt, AnswersAreOwed, takes, taken_at, read_beats, words_at}
 use Rattle.mm_machines.specs.SideLaws.{same_counts}
 use Rattle.mm_machines.specs.SideLaws.{fit_when_shown}
 use Rattle.mm_parts.specs.Queue.{Entry, takes_read, entry_at, entries, left_after}
-use Rattle.mm_parts.specs.PartLines.{OwesBelow}
+use Rattle.mm_machines.specs.Lines.{OwesBelow}
 use Rattle.mm_parts.specs.Host.{HostState, IsHostMachine, ReadsWords}
 use Rattle.mm_parts.proofs.RouteDebts.{reads_more}
 use Rattle.mm_parts.proofs.QueueBound.{owed_is, words_few, words_more, left_now, all_few as queue_all_few}
@@ -50,7 +51,7 @@ module _ (responses : Responses) (side : HostSide) (view : HostView) (down : Por
   words c = words_before down.answers.valid c
 
   abbrev longest : ℕ
-  longest = 2 ^ (down.shape.burst_bits - 1)
+  longest = longest_burst down.shape.burst_bits
 
   -- ---- with readdatavalid: the queue holds at most 16 reads
 
@@ -106,12 +107,16 @@ module _ (responses : Responses) (side : HostSide) (view : HostView) (down : Por
           omega (arith, count, one, sum, word)
       by_both false false k t asked count more = let one = ap one_if k in let sum = more ∙ ap (λ b. length (read_beats (taken_at down c)) + (if b then view.count c else 0)) t in omega (arith, count, one, sum)
 
-  pub owes_below : (room : ℕ) → 16 * longest < room → 1 < room → OwesBelow room down end
-  owes_below room large some c low = by_valid side.has_readdatavalid refl
+  -- a burst has a beat at least
+  some_beat : 0 < longest
+  some_beat = pow_pos (down.shape.burst_bits - 1)
+
+  pub owes_below : (room : ℕ) → 16 * longest < room → OwesBelow room down end
+  owes_below room large c low = by_valid side.has_readdatavalid refl
     where
       count : length (words_at down c) ≡ words c
       count = same_counts (λ c. is_raised (down.answers.valid c)) (λ c. record { word = down.answers.word c; code = down.answers.code c }) (λ c. c) c
 
       by_valid : (b : Bool) → side.has_readdatavalid ≡ b → length (read_beats (taken_at down (suc c))) < length (words_at down c) + room
       by_valid true has = let few = few_valid has c low in let same = count in omega (arith, few, same, large)
-      by_valid false has = let few = few_plain has c low in let same = count in omega (arith, few, same, some)
+      by_valid false has = let few = few_plain has c low in let same = count in let some = some_beat in omega (arith, few, same, large, some)

@@ -19,7 +19,7 @@ use Rattle.mm_runs.specs.Laws.{accepts_shows, legal_keeps}
 use Rattle.mm_machines.specs.SideLaws.{marked_keeps}
 use Rattle.mm_machines.specs.SideLaws.{fit_when_shown, legal_when_shown}
 use Rattle.mm_parts.specs.Queue.{takes_read, answered, entry_at}
-use Rattle.mm_parts.specs.PartLines.{AreSingle}
+use Rattle.mm_machines.specs.Lines.{AreSingle}
 use Rattle.mm_parts.specs.Host.{HostState, IsHostMachine, ReadsWords, is_shut, ends_now, left_past}
 use Rattle.mm_parts.proofs.Queued.{answered_length, word_more, numbers_length}
 use Rattle.mm_parts.proofs.RouteDebts.{reads_more}

@@ -16,7 +16,7 @@ use Rattle.mm_machines.specs.Lines.{asked_among, asked_at, target_of, placed_blo
 use Rattle.mm_machines.specs.SideLaws.{prefix_get}
 use Rattle.mm_machines.specs.SideLaws.{zip_front}
 use Rattle.mm_parts.specs.Queue.{by_option}
-use Rattle.mm_parts.specs.PartLines.{AreSingle, OwesBelow, RouteCarriesAnswers, IsRouteLine}
+use Rattle.mm_machines.specs.Lines.{AreSingle, OwesBelow, RouteCarriesAnswers, IsRouteLine}
 use Rattle.mm_parts.proofs.RoutePlan.{RoutePlan}
 use Rattle.mm_parts.specs.Route.{RouteState, IsRouteMachine, default_code_by}
 use Rattle.mm_parts.proofs.RouteLine.{taken_same}

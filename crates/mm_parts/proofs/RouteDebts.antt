@@ -11,7 +11,7 @@ use Rattle.mm_runs.specs.Order.{is_agent}
 use Rattle.mm_machines.specs.Link.{Port, Marked, takes, marked_at, taken_at, AreLegalAt, AnswersAreOwed, read_beats, words_at}
 use Rattle.mm_machines.specs.SideLaws.{same_counts}
 use Rattle.mm_parts.specs.Queue.{takes_read, by_option}
-use Rattle.mm_parts.specs.PartLines.{AreSingle, OwesBelow}
+use Rattle.mm_machines.specs.Lines.{AreSingle, OwesBelow}
 use Rattle.mm_parts.proofs.RoutePlan.{RoutePlan}
 use Rattle.mm_parts.specs.Route.{RouteState, IsRouteMachine, is_same_place, read_count}
 use Rattle.mm_parts.proofs.Queued.{word_more, numbers_length}

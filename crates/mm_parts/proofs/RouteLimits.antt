@@ -14,7 +14,7 @@ use Rattle.mm_machines.specs.Link.{Port, Marked, takes, marked_at, taken_at, sho
 use Rattle.mm_machines.specs.Lines.{asked_among, asked_at, KeepsReadOrderAt, port_flow, target_of, operations_of_groups, groups_of}
 use Rattle.mm_machines.specs.SideLaws.{marked_keeps}
 use Rattle.mm_machines.specs.ReadLaws.{AllUniform, uniform_append, of_transfer, for_append, reads_match}
-use Rattle.mm_parts.specs.PartLines.{AreSingle, OwesBelow}
+use Rattle.mm_machines.specs.Lines.{AreSingle, OwesBelow}
 use Rattle.mm_parts.proofs.RoutePlan.{RoutePlan}
 use Rattle.mm_parts.specs.Route.{RouteState, IsRouteMachine, is_same_place}
 use Rattle.mm_parts.proofs.RouteTurns.{place, gate, goes, shows_down, same_marked, place_is, inside_at}

@@ -20,7 +20,7 @@ use Rattle.mm_machines.specs.SideLaws.{marked_keeps, all_reached}
 use Rattle.mm_machines.specs.SideLaws.{fit_when_shown, legal_when_shown}
 use Rattle.mm_machines.specs.SideLaws.{prefix_items}
 use Rattle.mm_machines.specs.SideLaws.{prefix_within, total_front}
-use Rattle.mm_parts.specs.PartLines.{AreSingle, OwesBelow, RouteCarriesCommands, serves_at, ServesKinds}
+use Rattle.mm_machines.specs.Lines.{AreSingle, OwesBelow, RouteCarriesCommands, serves_at, ServesKinds}
 use Rattle.mm_parts.proofs.RoutePlan.{RoutePlan}
 use Rattle.mm_parts.specs.Route.{RouteState, IsRouteMachine, is_same_place, kind_at, read_count}
 use Rattle.mm_parts.specs.Queue.{takes_read}

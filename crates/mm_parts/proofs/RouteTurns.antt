@@ -10,7 +10,7 @@ use Rattle.mm_machines.specs.Link.{Port, Marked, takes, marked_at, AreLegalAt}
 use Rattle.mm_machines.specs.Machines.{IsFitBeat, raw_at}
 use Rattle.mm_machines.specs.SideLaws.{fit_when_shown}
 use Rattle.mm_parts.specs.Queue.{by_option}
-use Rattle.mm_parts.specs.PartLines.{AreSingle}
+use Rattle.mm_machines.specs.Lines.{AreSingle}
 use Rattle.mm_parts.specs.Route.{RouteState, IsRouteMachine, place_now, is_open, goes_to, kind_at}
 use Rattle.mm_parts.proofs.Shared.{IsSameBurst, both_idle, same_after, same_transfer}
 

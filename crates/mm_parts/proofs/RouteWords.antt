@@ -18,7 +18,7 @@ use Rattle.mm_machines.specs.Link.{Port, Marked, takes, marked_at, taken_at, Are
 use Rattle.mm_machines.specs.Lines.{target_of, asked_among, asked_at, IsRouted}
 use Rattle.mm_machines.specs.SideLaws.{taken_is_shown, same_counts, zip_push, zip_length, prefix_get, prefix_take, own_bytes, answer_of}
 use Rattle.mm_parts.specs.Queue.{takes_read, by_option}
-use Rattle.mm_parts.specs.PartLines.{AreSingle, OwesBelow}
+use Rattle.mm_machines.specs.Lines.{AreSingle, OwesBelow}
 use Rattle.mm_parts.proofs.RoutePlan.{RoutePlan}
 use Rattle.mm_parts.specs.Route.{RouteState, IsRouteMachine, is_same_place, default_code_by}
 use Rattle.mm_parts.proofs.Queued.{word_more}

@@ -1,4 +1,3 @@
-pub mod PartLines
 pub mod Queue
 pub mod Agent
 pub mod Arbiter

@@ -1,15 +1,13 @@
 //! Each machine keeps the whole of its line and holds nothing.
 
-ghost use Rattle.std.specs.Prelude.{◌≤◌, ◌<◌, ◌-◌, ◌*◌, ℕ, IsTrue, List};
+ghost use Rattle.std.specs.Prelude.{◌<◌, ◌*◌, ℕ, IsTrue, List};
 ghost use Rattle.mm_runs.specs.Views.{Responses, System, Run};
 ghost use Rattle.mm_runs.specs.Commands.{longest_burst};
-ghost use Rattle.mm_runs.specs.Legal.{IsLegalHost};
 ghost use Rattle.mm_runs.specs.Order.{is_joined};
-ghost use Rattle.mm_machines.specs.Link.{Port, AnswersAreOwed};
-ghost use Rattle.mm_machines.specs.Lines.{TaggedPort, IsHostLine};
+ghost use Rattle.mm_machines.specs.Link.{Port};
 ghost use Rattle.mm_machines.specs.Turns.{Grant, seats_of, TakesTurnsByRule};
 ghost use Rattle.ranks.specs.Turns.{Seat};
-ghost use Rattle.mm_parts.specs.PartLines.{IsAgentLine, IsArbiterLine, IsRouteLine, AreSingle, OwesBelow};
+ghost use Rattle.mm_machines.specs.Lines.{TaggedPort, IsHostLine, IsRouteLine, IsArbiterLine, IsAgentLine};
 ghost use Rattle.mm_parts.specs.Host.{HostState, IsHostMachine, ReadsWords};
 ghost use Rattle.mm_parts.specs.Route.{RouteState, IsRoutePlan, IsRouteMachine};
 ghost use Rattle.mm_parts.specs.Arbiter.{IsArbiterMachine};
@@ -47,18 +45,10 @@ pub fn route_machine_keeps_its_line()
     mm_runs::base_is_free()
 }
 
-/// The part next to a host keeps its line, and what a route needs of it, for hosts with and without readdatavalid.
+/// The part next to a host keeps its line, with and without readdatavalid. It owes no more words than 16 longest bursts.
 pub fn host_machine_keeps_its_line()
-    ensures line { (responses : Responses) (system : System) (run : Run) (host : ℕ) (down : Port) (state : HostState) (end : ℕ)
-        → IsHostMachine responses (system.host host) (run.at_host host) down state end → ReadsWords (system.host host) (run.at_host host) end
-        → IsHostLine responses system run host 0 down end }
-    ensures single { (responses : Responses) (system : System) (run : Run) (host : ℕ) (down : Port) (state : HostState) (end : ℕ)
-        → IsHostMachine responses (system.host host) (run.at_host host) down state end → ReadsWords (system.host host) (run.at_host host) end
-        → (c : ℕ) → c ≤ end → IsLegalHost (system.host host) (run.at_host host) c → AnswersAreOwed down (c - 1)
-        → AreSingle down c }
-    ensures debt { (responses : Responses) (system : System) (run : Run) (host : ℕ) (down : Port) (state : HostState) (end : ℕ)
-        → IsHostMachine responses (system.host host) (run.at_host host) down state end → ReadsWords (system.host host) (run.at_host host) end
-        → (room : ℕ) → 16 * longest_burst down.shape.burst_bits < room → 1 < room
-        → (c : ℕ) → c ≤ end → IsLegalHost (system.host host) (run.at_host host) c → AnswersAreOwed down (c - 1)
-        → OwesBelow room down c }
+    ensures { (responses : Responses) (system : System) (run : Run) (host room : ℕ) (down : Port) (state : HostState) (end : ℕ)
+        → 16 * longest_burst down.shape.burst_bits < room → ReadsWords (system.host host) (run.at_host host) end
+        → IsHostMachine responses (system.host host) (run.at_host host) down state end
+        → IsHostLine responses system run host 0 room down end }
 {}
