@@ -1,5 +1,5 @@
 -- A wire that holds reads back at the agent's bound keeps all that is promised, and its plan is one.
-use Rattle.std.proofs.Common.{ℕ, ◌<◌, ◌≤◌, ◌≡◌, ◌+◌, ◌^◌, Bool, true, false, ◌||◌, IsTrue, if◌then◌else◌, arith, tests, refl, sym, ap, ◌∙◌, subst, nat_lt, nat_eq, Some, None, mul_comm}
+use Rattle.std.proofs.Common.{ℕ, ◌<◌, ◌≤◌, ◌≡◌, ◌+◌, ◌^◌, Bool, true, false, ◌||◌, IsTrue, if◌then◌else◌, arith, tests, refl, sym, ap, ◌∙◌, subst, nat_lt, nat_eq, Some, None, mul_comm, inl, inr}
 use Rattle.std.proofs.lemmas.Nat.{pow-add}
 use Rattle.std.proofs.lemmas.Bool.{lt-ltb, ltb-true}
 use Rattle.std.proofs.Math.Nat.{one-le-pow}
@@ -58,15 +58,21 @@ in_footprint form h a address there low = record {
 
 pub wire_plan : (form : WireForm) → IsWireForm form → IsMemoryPlan (wire_system form)
 wire_plan form is = record {
-  hosts = λ h there. record { word = omega arith; unit = omega arith; burst = omega arith };
-  agents = λ a there. record { word = omega arith; unit = omega arith; burst = omega arith };
+  hosts = λ h there. record { word = (2, refl); unit = inl refl; burst = omega arith };
+  agents = λ a there. record { word = (2, refl); unit = inr refl; burst = omega arith };
   plain = λ h there none. refl;
   plain_agent = λ a there none. refl;
   pending = λ a there. is.some_read;
-  fixed = λ a there none. refl;
-  span = λ a there. (form.address_bits + 2, mul_comm 4 (2 ^ form.address_bits) ∙ sym (pow-add 2 form.address_bits 2), word_fits form);
+  fixed = λ a there read none. refl;
+  reads = λ a there valid. refl;
+  waits = λ a there burst. refl;
+  span = λ a there. ((form.address_bits + 2, mul_comm 4 (2 ^ form.address_bits) ∙ sym (pow-add 2 form.address_bits 2)), word_fits form);
+  wider = λ a h joined less. absurd (omega (arith, less));
   joined = λ a h joined. let first = joined_first form a h joined in omega arith;
   shares = λ a h joined. omega arith;
+  few_shares = λ a h joined. omega arith;
+  few_hosts = omega arith;
+  few_stages = omega arith;
   base = λ h a joined. (0, omega arith);
   place = λ h a address kind there. (to h a address kind there, from h a address kind there);
 }
