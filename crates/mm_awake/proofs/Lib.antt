@@ -1,0 +1,13 @@
+pub mod Bits
+pub mod Arbiter
+pub mod Owed
+pub mod Assemble
+pub mod Wanted
+pub mod Fronts
+pub mod Small
+pub mod Numbers
+pub mod Final
+pub mod Prompt
+pub mod Defaults
+pub mod Wired
+pub mod StageGoes

@@ -1,0 +1,5 @@
+pub mod Parts
+pub mod Ways
+pub mod Front
+pub mod HostRoute
+pub mod Sizes

@@ -1,0 +1,112 @@
+-- All parts that lead to one agent, as paths of parts.
+use Rattle.std.specs.Prelude.{◌≡◌, ℕ, zero, suc, ◌+◌, ◌-◌, ◌<◌, ◌≤◌, Bool, true, false, not, ◌&&◌, ◌||◌, List, [], length, nat_eq, nat_lt, nat_le, IsTrue, IsFalse}
+use Rattle.histories.specs.History.{is_raised, numbers}
+use Rattle.mm_runs.specs.Views.{System, Run}
+use Rattle.mm_runs.specs.Commands.{shows, agent_accepts}
+use Rattle.mm_runs.specs.Order.{taken}
+use Rattle.mm_runs.specs.Awake.{owes}
+use Rattle.mm_machines.specs.Link.{Target, Port, takes, taken_at, shown_at, operations_among}
+use Rattle.mm_machines.specs.Lines.{TaggedPort, target_of}
+use Rattle.mm_machines.specs.Rank.{is_owed, is_unclosed, is_last_write, moves_commands, path_at}
+use Rattle.ranks.specs.Path.{Path}
+use Rattle.ranks.specs.Window.{moves_before, Budget, allowances}
+use Rattle.ranks.specs.Junction.{Junctions, Ranked, all_budgets, arbiter_budget, lower_budget, upper_budget, has_work}
+use Rattle.mm_awake.specs.Parts.{is_behind, KeepsGoing, IsArbiterPart, IsAgentPart}
+
+-- the boundaries that lead to one agent
+pub record Ways : Type 0 where
+  pub stages : ℕ
+  pub lower : ℕ → Port  -- 0 is before the agent's part, `stages` behind the arbiter
+  pub answer_tag : ℕ → ℕ → ℕ
+  pub above : ℕ → ℕ  -- the links of a host
+  pub upper : ℕ → ℕ → Port  -- of a host: 0 is before the arbiter, `above` behind the route
+
+abbrev pub tagged : Ways → ℕ → TaggedPort
+tagged ways i = record { port = ways.lower i; answer_tag = ways.answer_tag i }
+
+-- ranks, and how often each part moves at most in a window
+pub record Standing : Type 0 where
+  pub rank : ℕ → ℕ
+  pub largest : ℕ
+  pub few : ℕ
+
+pub record Standings : Type 0 where
+  pub agent : Standing
+  pub lower : ℕ → Standing
+  pub arbiter_few : ℕ
+  pub upper : ℕ → ℕ → Standing
+
+-- every part that leads to an agent keeps what it promises
+pub record KeepsAwake (system : System) (run : Run) (agent : ℕ) (ways : Ways) (standings : Standings) (end : ℕ) : Type 0 where
+  pub agent_part : IsAgentPart system run agent (tagged ways 0) standings.agent.rank standings.agent.largest end
+  pub lower : (i : ℕ) → i < ways.stages → KeepsGoing (target_of system agent) (ways.lower (suc i)) (ways.lower i) (standings.lower i).rank (standings.lower i).largest end
+  pub arbiter : IsArbiterPart system agent (λ h. ways.upper h 0) (tagged ways ways.stages) end
+  pub upper : (h i : ℕ) → h < system.hosts → i < ways.above h → KeepsGoing (target_of system agent) (ways.upper h (suc i)) (ways.upper h i) (standings.upper h i).rank (standings.upper h i).largest end
+
+abbrev pub at_port : {A : Type 0} → A → (ℕ → A) → ℕ → A
+at_port {A} x f zero = x
+at_port {A} x f (suc p) = f p
+
+-- one cycle of a path of links
+abbrev pub links_at : Target → (ℕ → Port) → ℕ → Path
+links_at target ports c = record (path_at target ports c) { untaken = λ i. is_behind target (ports (suc i)) (ports i) c; ready = λ i. moves_commands (ports (suc i)) (ports i) c || is_raised ((ports (suc i)).answers.valid (suc c)) }
+
+-- below the arbiter: port 0 is the agent's own
+abbrev pub lower_at : System → Run → ℕ → Ways → ℕ → Path
+lower_at system run agent ways c =
+    let links = links_at (target_of system agent) ways.lower c in
+    record {
+      shown = at_port ((system.agent agent).has_waitrequest && shows (run.at_agent agent).signals c) links.shown;
+      taken = at_port (agent_accepts (system.agent agent) (run.at_agent agent) c) links.taken;
+      owed = at_port (owes system run agent c) links.owed;
+      unclosed = at_port false links.unclosed;
+      last_writes = at_port false links.last_writes;
+      untaken = at_port (nat_lt (length (taken system run agent (suc c))) (length (operations_among (target_of system agent) (ways.lower 0).shape (shown_at (ways.lower 0) (suc c))))) links.untaken;
+      ready = at_port (agent_accepts (system.agent agent) (run.at_agent agent) c) links.ready;
+    }
+
+-- a beat is taken or accepted, or a word comes up in the next cycle
+abbrev pub moves_at : Port → Port → ℕ → Bool
+moves_at up down c = moves_commands up down c || is_raised (up.answers.valid (suc c))
+
+abbrev pub agent_moves : System → Run → ℕ → Ways → ℕ → Bool
+agent_moves system run agent ways c =
+    agent_accepts (system.agent agent) (run.at_agent agent) c || takes (ways.lower 0) c
+
+abbrev pub ranked : Standing → (ℕ → Bool) → ℕ → Ranked
+ranked standing moves from = record { rank = λ c. standing.rank (from + c); largest = standing.largest; moves = λ c. moves (from + c); few = standing.few }
+
+-- a window of all parts that lead to an agent
+abbrev pub window : System → Run → ℕ → Ways → Standings → ℕ → Junctions
+window system run agent ways standings from = record {
+  below = ways.stages;
+  hosts = system.hosts;
+  above = ways.above;
+  lower = λ c. lower_at system run agent ways (from + c);
+  upper = λ h c. links_at (target_of system agent) (ways.upper h) (from + c);
+  untaken = λ h c. false;
+  ready = λ h c. false;
+  lower_rank = at_port (ranked standings.agent (agent_moves system run agent ways) from) (λ i. ranked (standings.lower i) (moves_at (ways.lower (suc i)) (ways.lower i)) from);
+  arbiter_rank = record { rank = λ c. 0; largest = 0; moves = λ c. takes (ways.lower ways.stages) (from + c); few = standings.arbiter_few };
+  upper_rank = λ h i. ranked (standings.upper h i) (moves_at (ways.upper h (suc i)) (ways.upper h i)) from;
+}
+
+abbrev pub all_hosts : System → List ℕ
+all_hosts system = numbers 0 system.hosts
+
+-- each part moves few times in the window
+pub record AreFew (system : System) (run : Run) (agent : ℕ) (ways : Ways) (standings : Standings) (from size : ℕ) : Type 0 where
+  pub lower : (i : ℕ) → i < suc ways.stages → moves_before (lower_budget (window system run agent ways standings from) i).part size ≤ (lower_budget (window system run agent ways standings from) i).few
+  pub arbiter : moves_before (arbiter_budget (window system run agent ways standings from)).part size ≤ standings.arbiter_few
+  pub upper : (h i : ℕ) → h < system.hosts → i < ways.above h → moves_before (upper_budget (window system run agent ways standings from) h i).part size ≤ (standings.upper h i).few
+
+-- a window in which a host has work on its way, the agent neither waits nor owes, and each host shows the rest of what it left open
+pub record IsAtWork (system : System) (run : Run) (agent : ℕ) (ways : Ways) (standings : Standings) (host from size : ℕ) : Type 0 where
+  pub host_is : host < system.hosts
+  pub ready : (c : ℕ) → c < size → IsFalse ((system.agent agent).has_waitrequest && shows (run.at_agent agent).signals (from + c) && not (agent_accepts (system.agent agent) (run.at_agent agent) (from + c)))
+  pub answered : (c : ℕ) → c < size → IsFalse (owes system run agent (from + c))
+  pub bursts : (h c : ℕ) → h < system.hosts → c < size → IsTrue (is_unclosed (ways.upper h (ways.above h)) (from + c)) → IsTrue (shows (ways.upper h (ways.above h)).commands.signals (from + c))
+  pub work : (c : ℕ) → c < size → IsTrue (has_work (window system run agent ways standings from) host c)
+
+abbrev pub longest : System → Run → ℕ → Ways → Standings → ℕ → ℕ
+longest system run agent ways standings from = allowances (all_budgets (window system run agent ways standings from) (all_hosts system))
