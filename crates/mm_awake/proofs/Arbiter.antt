@@ -1,16 +1,14 @@
 -- An arbiter that keeps the turn rule and is wired through always moves, or is excused.
-use Rattle.std.proofs.Common.{ℕ, zero, suc, ◌<◌, ◌≤◌, ◌≡◌, ◌+◌, ◌-◌, Bool, true, false, not, ◌||◌, ◌&&◌, List, [], ◌∷◌, ◌++◌, map, arith, refl, sym, ap, subst, ◌∙◌, nat_lt, nat_eq, length, IsTrue, IsFalse, tests, inl, inr, ◌⊎◌, Option, Some, None, MatchOption, if◌then◌else◌}
-use Rattle.std.proofs.lemmas.Bool.{or_left, or_right, and_parts, or_parts}
+use Rattle.std.proofs.Common.{ℕ, zero, suc, ◌<◌, ◌≤◌, ◌≡◌, ◌-◌, Bool, true, false, not, ◌||◌, ◌&&◌, List, [], ◌∷◌, ◌++◌, map, arith, refl, sym, ap, subst, ◌∙◌, nat_lt, nat_eq, IsTrue, IsFalse, tests, inl, inr, ◌⊎◌, Option, Some, None, MatchOption, if◌then◌else◌}
+use Rattle.std.proofs.lemmas.Bool.{or_left, or_right}
 use Rattle.std.specs.List.{list_any}
-use Rattle.histories.specs.History.{is_raised}
 use Rattle.mm_runs.specs.Views.{System}
 use Rattle.mm_runs.specs.Commands.{shows, is_held, is_of_reads}
-use Rattle.mm_machines.specs.Link.{Port, Marked, takes, taken_at, marked_at, closes, is_last_joined, AreLegalAt}
-use Rattle.mm_runs.specs.Order.{is_joined}
+use Rattle.mm_machines.specs.Link.{Port, Marked, takes, taken_at, marked_at, closes, is_last_joined}
 use Rattle.mm_machines.specs.Lines.{TaggedPort}
-use Rattle.mm_machines.specs.Rank.{is_unclosed, is_last_write, is_owed, is_writing, may_rest}
-use Rattle.mm_machines.specs.Turns.{seats_of, chosen, choice_by, choice_of, grant_before, asks_at, ends_at, open_after, Grant, Choice}
-use Rattle.ranks.specs.Turns.{Seat, Round, Turn, turn_of, next_asking, IsOfAsker, AllShare, IsRoundOf, round_after, is_seated, last_host, last_shares}
+use Rattle.mm_machines.specs.Rank.{is_unclosed, is_last_write}
+use Rattle.mm_machines.specs.Turns.{seats_of, chosen, choice_by, choice_of, grant_before, asks_at, ends_at, open_after, Grant}
+use Rattle.ranks.specs.Turns.{Seat, Round, Turn, turn_of, next_asking, IsOfAsker, AllShare, IsRoundOf, round_after, is_seated, last_host}
 use Rattle.ranks.specs.Turns.Turn.{Nobody, Begins}
 use Rattle.mm_awake.specs.Parts.{IsArbiterPart}
 use Rattle.mm_awake.proofs.Bits.{last_joined_end, last_write_end, none_taken, one_taken, not_shown, shown_again, holds, no_true}

@@ -1,6 +1,6 @@
 -- The parts that lead to an agent, as the junction of the law of ranks.
-use Rattle.std.proofs.Common.{ℕ, zero, suc, ◌<◌, ◌≤◌, ◌≡◌, ◌+◌, Bool, true, false, not, ◌||◌, ◌&&◌, List, [], ◌∷◌, ◌++◌, arith, refl, sym, subst, ◌∙◌, nat_lt, nat_eq, length, IsTrue, IsFalse, tests, flat_map, inl, inr, ◌⊎◌}
-use Rattle.std.proofs.lemmas.Bool.{or_left, or_right, and_parts, or_parts, both_ways}
+use Rattle.std.proofs.Common.{ℕ, zero, suc, ◌<◌, ◌≤◌, ◌≡◌, ◌+◌, Bool, true, false, not, ◌||◌, ◌&&◌, List, [], ◌∷◌, ◌++◌, arith, refl, sym, subst, ◌∙◌, nat_lt, nat_eq, length, IsTrue, IsFalse, tests, ap, if◌then◌else◌}
+use Rattle.std.proofs.lemmas.Bool.{or_left, or_right, or_parts, both_ways}
 use Rattle.histories.specs.History.{numbers, is_raised}
 use Rattle.histories.specs.Laws.{prefix_flat_map, prefix_length}
 use Rattle.mm_runs.specs.Views.{System, Run}
@@ -11,23 +11,30 @@ use Rattle.mm_runs.specs.Awake.{owes}
 use Rattle.mm_machines.specs.Lines.{target_of}
 use Rattle.mm_machines.specs.Link.{Target, Port, takes, taken_at, shown_at, operations_among, operations_in, AreLegalAt, is_last_joined}
 use Rattle.mm_machines.specs.Shorter.{legal_at_before}
-use Rattle.mm_machines.specs.Rank.{link_part, has_commands, LinkRankFalls, moves_commands, is_unclosed, is_owed, is_last_write, commands_at, may_rest, is_writing}
-use Rattle.mm_machines.specs.PartRanks.{AgentRankFalls}
+use Rattle.mm_machines.specs.Rank.{link_part, has_commands, LinkRankFalls, moves_commands, is_unclosed, is_owed, is_last_write, may_rest}
 use Rattle.mm_machines.specs.Turns.{seats_of}
 use Rattle.ranks.specs.Turns.{AllShare}
-use Rattle.ranks.specs.Path.{works, excused, stands, waits_for_rest, writing, AnswersFlow}
-use Rattle.ranks.specs.Window.{Part, KeepsRank, Budget, AllKeep, Keeps, allowances}
+use Rattle.ranks.specs.Path.{works, excused, stands, writing, AnswersFlow}
+use Rattle.ranks.specs.Window.{Part, moves_before, KeepsRank, Budget, AllKeep, Keeps, allowances}
 use Rattle.ranks.specs.Junction.{Junctions, IsStuck, IsSoundJunction, all_budgets, budgets, budgets_of_hosts, upper_budget, lower_budget, arbiter_budget, moment, is_among, waits_for, any_below, asks, arbiter_works, arbiter_excused}
-use Rattle.mm_awake.specs.Parts.{KeepsGoing, IsArbiterPart, IsAgentPart, is_untaken}
-use Rattle.mm_awake.specs.Ways.{Ways, Standings, KeepsAwake, AreFew, IsAtWork, longest, window, all_hosts, tagged, links_at, lower_at, moves_at, agent_moves}
+use Rattle.mm_awake.specs.Parts.{KeepsGoing, is_untaken}
+use Rattle.mm_awake.specs.Ways.{Ways, Standings, count_in, KeepsAwake, IsAtWork, longest, window, all_hosts, tagged, links_at, lower_at, moves_at, agent_moves}
 use Rattle.mm_awake.proofs.Arbiter.{TurnLaws, Idles, idles, Idles.beat_stands, Idles.rests, Idles.nothing}
 use Rattle.mm_awake.proofs.Owed.{owed_below as below}
-use Rattle.mm_awake.proofs.Bits.{none_taken, not_shown, shown_again, held_or_taken, holds, shown_extends, lt_grows, taken_still, not_by, no_true}
+use Rattle.mm_awake.proofs.Bits.{none_taken, shown_again, holds, shown_extends, lt_grows, taken_still, not_by, no_true}
 
 pub record Laws : Type 0 where
   pub stuck : (run : Junctions) (host size : ℕ) (seen : List ℕ) → IsStuck run host size seen → size ≤ allowances (all_budgets run seen)
   pub rank : (target : Target) (ports : ℕ → Port) (i : ℕ) (rank : ℕ → ℕ) (largest from size : ℕ) → AreLegalAt (ports (suc i)) (from + size + 1) → LinkRankFalls target (ports (suc i)) (ports i) rank largest (from + size) → KeepsRank (link_part target ports i rank largest from) size
   pub turns : TurnLaws
+
+-- a part moves as often as its moves are counted
+moves_counted : (part : Part) (moves : ℕ → Bool) (from size : ℕ) → ((c : ℕ) → part.moves c ≡ moves (from + c)) → moves_before part size ≤ count_in moves from size
+moves_counted part moves from zero same = omega arith
+moves_counted part moves from (suc size) same =
+    let more = moves_counted part moves from size same in
+    let last : (if part.moves size then 1 else 0) ≡ (if moves (from + size) then suc zero else zero) = ap {B = ℕ} (λ b. if b then 1 else 0) (same size) in
+    omega (arith, more, last)
 
 -- wider work and wider moves
 pub widen : (part : Part) (works moves : ℕ → Bool) (size : ℕ) → KeepsRank part size →
@@ -117,9 +124,9 @@ three_of false false true h fa fb fc = fc refl
 three_of false false false h fa fb fc = absurd (no_true h)
 
 module _ (laws : Laws) (system : System) (run : Run) (agent : ℕ) (ways : Ways) (standings : Standings) (host from size end : ℕ) (fits : from + size + 2 ≤ end) (share : AllShare (seats_of system agent))
-    (keeps : KeepsAwake system run agent ways standings end) (few : AreFew system run agent ways standings from size) (at_work : IsAtWork system run agent ways standings host from size) where
+    (keeps : KeepsAwake system run agent ways standings end) (at_work : IsAtWork system run agent ways standings host from size) where
   abbrev j : Junctions
-  j = window system run agent ways standings from
+  j = window system run agent ways standings from size
 
   next : (c : ℕ) → from + suc c ≡ suc (from + c)
   next c = omega arith
@@ -237,11 +244,11 @@ module _ (laws : Laws) (system : System) (run : Run) (agent : ℕ) (ways : Ways)
       work c w m = agent_work (stands (lower_at system run agent ways c) 1) (agent_untaken c) (agent_accepts (system.agent agent) (run.at_agent agent) c) (takes low_port c) w m
 
   lower_keeps : (i : ℕ) → i < suc ways.stages → Keeps (lower_budget j i) size
-  lower_keeps zero h = (agent_keeps, few.lower 0 h)
-  lower_keeps (suc i) h = (link_keeps (target_of system agent) ways.lower i (standings.lower i).rank (standings.lower i).largest (keeps.lower i (omega (arith, h))), few.lower (suc i) h)
+  lower_keeps zero h = (agent_keeps, moves_counted (lower_budget j 0).part (agent_moves system run agent ways) from size (λ c. refl))
+  lower_keeps (suc i) h = (link_keeps (target_of system agent) ways.lower i (standings.lower i).rank (standings.lower i).largest (keeps.lower i (omega (arith, h))), moves_counted (lower_budget j (suc i)).part (moves_at (ways.lower (suc i)) (ways.lower i)) from size (λ c. refl))
 
   upper_keeps : (h i : ℕ) → h < system.hosts → i < ways.above h → Keeps (upper_budget j h i) size
-  upper_keeps h i low in_path = (link_keeps (target_of system agent) (ways.upper h) i (standings.upper h i).rank (standings.upper h i).largest (keeps.upper h i low in_path), few.upper h i low in_path)
+  upper_keeps h i low in_path = (link_keeps (target_of system agent) (ways.upper h) i (standings.upper h i).rank (standings.upper h i).largest (keeps.upper h i low in_path), moves_counted (upper_budget j h i).part (moves_at (ways.upper h (suc i)) (ways.upper h i)) from size (λ c. refl))
 
   owed_below : (h c : ℕ) → h < system.hosts → suc c < end → IsTrue (is_owed (ways.upper h 0) c) → IsTrue (is_owed (ways.lower ways.stages) c)
   owed_below h c low fit owed = below system agent (λ h. ways.upper h 0) (tagged ways ways.stages) end keeps.arbiter h c low fit owed
@@ -344,7 +351,7 @@ module _ (laws : Laws) (system : System) (run : Run) (agent : ℕ) (ways : Ways)
       stays = λ c h w m. omega arith;
       lasts = λ c h w m. arbiter_lasts c h w m;
     },
-    few.arbiter,
+    moves_counted (arbiter_budget j).part (takes down) from size (λ c. refl),
   )
 
   sound : (c : ℕ) → c < size → IsSoundJunction (moment j c)
@@ -359,7 +366,7 @@ module _ (laws : Laws) (system : System) (run : Run) (agent : ℕ) (ways : Ways)
       lower_flow zero low owed = keeps.agent_part.words (from + c) (omega (arith, fits, h)) owed
       lower_flow (suc i) low owed = (keeps.lower i (omega (arith, low))).words (from + c) (omega (arith, fits, h)) owed
 
-  pub work_is_short : size ≤ longest system run agent ways standings from
+  pub work_is_short : size ≤ longest system run agent ways standings from size
   work_is_short = laws.stuck j host size (all_hosts system) (record {
     is_host = at_work.host_is;
     is_seen = is_among_numbers 0 system.hosts host (omega arith) (let is = at_work.host_is in omega (arith, is));

@@ -1,12 +1,12 @@
 -- Small facts on lists of transfers and on tests.
-use Rattle.std.proofs.Common.{ℕ, zero, suc, ◌<◌, ◌≤◌, ◌≡◌, ◌+◌, Bool, true, false, not, ◌||◌, ◌&&◌, List, [], ◌∷◌, ◌++◌, arith, refl, sym, ap, subst, ◌∙◌, nat_lt, nat_eq, length, flat_map, IsTrue, IsFalse, tests, append-nil}
+use Rattle.std.proofs.Common.{ℕ, suc, ◌<◌, ◌≤◌, ◌≡◌, Bool, true, false, not, ◌||◌, ◌&&◌, List, [], ◌∷◌, ◌++◌, arith, refl, sym, ap, ◌∙◌, nat_lt, IsTrue, IsFalse, tests, append-nil}
 use Rattle.std.proofs.lemmas.Bool.{and_parts}
-use Rattle.histories.specs.History.{only_if, is_raised, IsPrefix}
-use Rattle.histories.specs.Laws.{before_extends, prefix_flat_map, prefix_length}
+use Rattle.histories.specs.History.{is_raised, IsPrefix}
+use Rattle.histories.specs.Laws.{before_extends}
 use Rattle.mm_runs.specs.Views.{Levels, System, Run}
 use Rattle.mm_runs.specs.Commands.{is_held, shows, agent_accepts, is_of_reads}
 use Rattle.mm_runs.specs.Order.{taken}
-use Rattle.mm_machines.specs.Link.{Target, Port, Marked, AreLegalAt, takes, taken_at, shown_at, marked_at, operations_among, operations_in, is_last_joined}
+use Rattle.mm_machines.specs.Link.{Port, Marked, AreLegalAt, takes, taken_at, shown_at, marked_at, is_last_joined}
 use Rattle.mm_machines.specs.Rank.{is_last_write}
 
 pub last_joined_end : (xs : List Marked) (m : Marked) → is_last_joined (xs ++ m ∷ []) ≡ m.more

@@ -1,21 +1,21 @@
 -- The part next to a host and the route serve the default agent.
-use Rattle.std.proofs.Common.{ℕ, zero, suc, ◌<◌, ◌≤◌, ◌≡◌, ◌+◌, Bool, true, false, not, ◌||◌, ◌&&◌, List, [], ◌∷◌, ◌++◌, arith, refl, sym, ap, subst, ◌∙◌, nat_le, nat_lt, length, map, take, drop, filter, flat_map, IsTrue, IsFalse, tests, Option, Some, None, append-nil, if◌then◌else◌}
+use Rattle.std.proofs.Common.{ℕ, zero, suc, ◌<◌, ◌≤◌, ◌≡◌, ◌+◌, Bool, true, false, ◌||◌, ◌&&◌, List, [], ◌∷◌, ◌++◌, arith, refl, sym, ap, subst, ◌∙◌, length, map, take, drop, filter, flat_map, IsTrue, IsFalse, tests, Option, Some, None, if◌then◌else◌}
 use Rattle.std.proofs.lemmas.Bool.{or_left, or_right, and_parts}
 use Rattle.std.proofs.lemmas.List.Elements.{filter-append}
 use Rattle.std.proofs.lemmas.Grind.{flat_map-append}
 use Rattle.std.specs.List.{list_any, list_all}
 use Rattle.histories.specs.History.{is_raised, only_if, numbers}
-use Rattle.mm_runs.specs.Views.{System, Run, Levels, levels_at}
+use Rattle.mm_runs.specs.Views.{System, Run, levels_at}
 use Rattle.mm_runs.specs.Operations.{Beat}
-use Rattle.mm_runs.specs.Commands.{Transfer, shows, transfer_at, transfer_of, read_transfer, read_beat, read_beats, reads_among, is_of_reads, burst_before}
+use Rattle.mm_runs.specs.Commands.{Transfer, shows, transfer_at, read_transfer, read_beat, read_beats, reads_among, is_of_reads}
 use Rattle.mm_runs.specs.Legal.{host_accepts, is_under_way}
-use Rattle.mm_runs.specs.Order.{Asked, place_of, host_transfers}
+use Rattle.mm_runs.specs.Order.{Asked, place_of}
 use Rattle.mm_runs.specs.Awake.{is_place, is_given_from, is_written_to}
 use Rattle.mm_machines.specs.Link.{Port, Marked, takes, taken_at, marked_at, words_at}
 use Rattle.mm_machines.specs.Lines.{asked_among, host_accepted}
-use Rattle.mm_awake.specs.Front.{IsDefaultFront, shows_for, are_all_given, owes_next, given_before, has_room}
-use Rattle.mm_awake.specs.HostRoute.{IsHostPart, IsRoutePart, is_open, owed_places, place_shown, comes, comes_from}
-use Rattle.mm_awake.proofs.Fronts.{both, some_beat, writes_on, all_reached, reads_total, asked_length, drop_all, drop_front, same_taken, same_words, to_middle, place_now, one_word, counts, asks_end, takes_shows, next_is}
+use Rattle.mm_awake.specs.Front.{IsDefaultFront, shows_for, are_all_given, given_before, has_room}
+use Rattle.mm_awake.specs.HostRoute.{IsHostPart, IsRoutePart, owed_places, place_shown, comes, comes_from}
+use Rattle.mm_awake.proofs.Fronts.{both, some_beat, writes_on, all_reached, reads_total, asked_length, drop_all, drop_front, same_taken, same_words, to_middle, place_now, one_word, counts, asks_end, next_is}
 use Rattle.mm_awake.proofs.Numbers.{next_stays, same_place, presented_is}
 use Rattle.mm_awake.proofs.Bits.{no_true}
 

@@ -1,25 +1,23 @@
 -- A wanted agent, and the default agent, are served, in the words of the definitions at the ports.
-use Rattle.std.proofs.Common.{ℕ, zero, suc, ◌<◌, ◌≤◌, ◌≡◌, ◌+◌, ◌-◌, Bool, true, false, not, ◌||◌, ◌&&◌, arith, refl, sym, ap, subst, ◌∙◌, nat_le, nat_eq, length, IsTrue, IsFalse, tests, inl, inr, ◌⊎◌, Option, Some, None}
-use Rattle.std.proofs.lemmas.Bool.{or_left, or_right, and_parts, both_ways}
-use Rattle.std.specs.List.{list_any, list_all}
-use Rattle.histories.specs.History.{numbers}
+use Rattle.std.proofs.Common.{ℕ, zero, suc, ◌<◌, ◌≤◌, ◌≡◌, ◌+◌, ◌-◌, Bool, true, false, not, ◌||◌, ◌&&◌, arith, subst, nat_le, length, IsTrue, IsFalse, inl, inr, Option, Some, None}
+use Rattle.std.proofs.lemmas.Bool.{or_left, and_parts, both_ways}
 use Rattle.mm_runs.specs.Views.{System, Run}
 use Rattle.mm_runs.specs.Commands.{shows, agent_accepts}
 use Rattle.mm_runs.specs.Legal.{IsLegalHost}
-use Rattle.mm_runs.specs.Awake.{count_for, serves, is_given_from, is_written_to, Throughout, Sometime, IsWanted, ServesWithin, ServesDefaultWithin, is_oldest, is_for, shows_its_burst, is_wanted_at_default, is_finished, are_finished_before, commands_begun}
+use Rattle.mm_runs.specs.Awake.{count_for, serves, is_given_from, is_written_to, Throughout, Sometime, ServesWithin, ServesDefaultWithin, is_oldest, is_for, shows_its_burst, is_finished, are_finished_before, commands_begun}
 use Rattle.mm_runs.specs.Order.{of_host, taken}
 use Rattle.mm_machines.specs.Lines.{host_accepted}
 use Rattle.mm_machines.specs.Turns.{seats_of}
 use Rattle.ranks.specs.Turns.{AllShare}
-use Rattle.mm_awake.specs.Ways.{Ways, Standings, KeepsAwake, AreFew, longest}
-use Rattle.mm_awake.specs.Front.{KeepsWhole, Wants, Wants.a_beat as wants_beat, Wants.an_operation as wants_operation, Wants.a_word as wants_word, IsWantedAt, is_bursting, AreFewUnserved, IsDefaultFront, WantsDefault, WantsDefault.beat, WantsDefault.word}
+use Rattle.mm_awake.specs.Ways.{Ways, Standings, longest}
+use Rattle.mm_awake.specs.Front.{KeepsWhole, Wants, Wants.a_beat as wants_beat, Wants.an_operation as wants_operation, Wants.a_word as wants_word, IsWantedAt, is_bursting, AllowLessThan, IsDefaultFront, WantsDefault, WantsDefault.beat, WantsDefault.word}
 use Rattle.mm_awake.proofs.Wanted.{some_or_none, listed, three_parts}
 use Rattle.mm_awake.proofs.Numbers.{Outcome, Outcome.a_beat, Outcome.an_operation, Outcome.a_word, Outcome.a_given, outcome, each_holds}
 use Rattle.mm_awake.proofs.Bits.{no_true}
 
 pub record Laws : Type 0 where
   pub served : (system : System) (run : Run) (agent : ℕ) (ways : Ways) (standings : Standings) (host from size end : ℕ) → from + size + 2 ≤ end → host < system.hosts → AllShare (seats_of system agent) →
-      KeepsWhole system run agent ways standings end → AreFew system run agent ways standings from size → longest system run agent ways standings from < size →
+      KeepsWhole system run agent ways standings end → longest system run agent ways standings from size < size →
       Throughout from size (IsWantedAt system run agent host) → Sometime from size (λ c. IsTrue (serves system run agent c))
 
 shown_burst : (under shown : Bool) → IsTrue (not under || shown) → IsTrue under → IsTrue shown
@@ -45,11 +43,11 @@ wants_of system run agent host c (a_word owing) none = wants_word owing
 wants_of system run agent host c (a_given given) none = absurd (none given)
 
 pub served_within : Laws → (system : System) (run : Run) (agent : ℕ) (ways : Ways) (standings : Standings) (size end longer : ℕ) → end + 2 ≤ longer → AllShare (seats_of system agent) → KeepsWhole system run agent ways standings longer →
-    ((h : ℕ) → h < system.hosts → IsLegalHost (system.host h) (run.at_host h) longer) → AreFewUnserved system run agent ways standings size end → ((from : ℕ) → longest system run agent ways standings from < size) → ServesWithin size system run agent end
-served_within laws system run agent ways standings size end longer fits share keeps legal few short from host number inside host_is wanted =
+    ((h : ℕ) → h < system.hosts → IsLegalHost (system.host h) (run.at_host h) longer) → AllowLessThan size system run agent ways standings end → ServesWithin size system run agent end
+served_within laws system run agent ways standings size end longer fits share keeps legal short from host number inside host_is wanted =
     elim (some_or_none (λ c. serves system run agent (from + c)) size) [
       | inl found ↦ (from + found.0, omega arith, omega (arith, found.1), found.2)
-      | inr none ↦ laws.served system run agent ways standings host from size longer (omega (arith, inside, fits)) host_is share keeps (few from inside none) (short from) (λ c low high. now none c low high)
+      | inr none ↦ laws.served system run agent ways standings host from size longer (omega (arith, inside, fits)) host_is share keeps (short from inside (record { none = none; answered = λ c h. (wanted (from + c) (omega arith) (omega (arith, h))).answered })) (λ c low high. now none c low high)
     ]
   where
     is_none : ((c : ℕ) → c < size → IsFalse (serves system run agent (from + c))) → (c : ℕ) → from ≤ c → c < from + size → IsFalse (serves system run agent c)

@@ -1,6 +1,6 @@
 -- The part next to a host and the route are a front for each agent.
-use Rattle.std.proofs.Common.{ℕ, zero, suc, ◌<◌, ◌≤◌, ◌≡◌, ◌+◌, ◌-◌, Bool, true, false, not, ◌||◌, ◌&&◌, List, [], ◌∷◌, ◌++◌, arith, refl, sym, ap, ap₂, subst, ◌∙◌, nat_lt, nat_le, nat_eq, length, map, take, drop, filter, flat_map, IsTrue, IsFalse, tests, inl, inr, ◌⊎◌, if◌then◌else◌, append-nil, length-append, ltb-false, ltb-true, lt-ltb, le-leb, Option, Some, None}
-use Rattle.std.proofs.lemmas.Bool.{or_left, or_right, and_parts, or_parts, both_ways, not-true}
+use Rattle.std.proofs.Common.{ℕ, zero, suc, ◌<◌, ◌≤◌, ◌≡◌, ◌+◌, ◌-◌, Bool, true, false, not, ◌||◌, ◌&&◌, List, [], ◌∷◌, ◌++◌, arith, refl, sym, ap, ap₂, subst, ◌∙◌, nat_lt, nat_eq, length, map, take, drop, filter, flat_map, IsTrue, IsFalse, tests, inl, inr, ◌⊎◌, if◌then◌else◌, append-nil, length-append, lt-ltb, Option, Some, None}
+use Rattle.std.proofs.lemmas.Bool.{or_left, or_right, and_parts, both_ways}
 use Rattle.std.proofs.lemmas.List.{length-map}
 use Rattle.std.proofs.lemmas.List.Elements.{filter-append}
 use Rattle.std.proofs.lemmas.Grind.{flat_map-append}
@@ -8,9 +8,9 @@ use Rattle.std.specs.List.{list_any, list_all}
 use Rattle.histories.specs.History.{is_raised, numbers, before, total, unreached, only_if}
 use Rattle.mm_runs.specs.Views.{System, Run, Shape, Signals, Levels, levels_at}
 use Rattle.mm_runs.specs.Views.Kind.{Writes}
-use Rattle.mm_runs.specs.Operations.{Beat, filled_lanes, operation_at}
-use Rattle.mm_runs.specs.Commands.{is_held, Transfer, Burst, shows, transfer_at, transfer_of, burst_before, burst_after, next_burst, read_beats as reads_in, read_transfer, read_beat, is_of_reads, byte_address, reads_among, words_before}
-use Rattle.mm_runs.specs.Legal.{AreLegal, AreOwed, host_accepts, gives_word, given, Word, is_under_way}
+use Rattle.mm_runs.specs.Operations.{Beat, filled_lanes}
+use Rattle.mm_runs.specs.Commands.{is_held, Transfer, Burst, shows, transfer_at, transfer_of, burst_before, burst_after, read_beats as reads_in, read_transfer, read_beat, is_of_reads, reads_among, words_before}
+use Rattle.mm_runs.specs.Legal.{AreLegal, host_accepts, given, is_under_way}
 use Rattle.mm_runs.specs.Order.{Asked, is_agent, place_of, transfer_operations, beat_operations as placed_operations}
 use Rattle.mm_runs.specs.Awake.{is_place, count_for, is_written_to}
 use Rattle.mm_machines.specs.Link.{Target, Port, Marked, takes, taken_at, marked_at, operations_among, operations_in, words_at, is_last_joined, beat_operations, read_beats, words_owed}
@@ -18,7 +18,7 @@ use Rattle.mm_machines.specs.Lines.{target_of, host_accepted, asked_among}
 use Rattle.mm_machines.specs.Rank.{is_owed, is_unclosed}
 use Rattle.mm_awake.specs.Front.{IsFront, is_bursting, shows_for, are_all_given, owes_next, given_before, has_room, owes_alone}
 use Rattle.mm_awake.specs.HostRoute.{IsHostPart, IsRoutePart, is_open, owed_places, place_shown, comes, comes_from}
-use Rattle.mm_awake.proofs.Bits.{none_taken, one_taken, holds, no_true, last_joined_end, not_by}
+use Rattle.mm_awake.proofs.Bits.{none_taken, one_taken, no_true, last_joined_end, not_by}
 
 pub all_reached : (sizes : List ℕ) (n : ℕ) → total sizes ≤ n → unreached sizes n ≡ 0
 all_reached [] n h = refl

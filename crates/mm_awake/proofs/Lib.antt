@@ -4,10 +4,13 @@ pub mod Owed
 pub mod Assemble
 pub mod Wanted
 pub mod Fronts
-pub mod Small
+pub mod DefaultServed
+pub mod Fits
 pub mod Numbers
 pub mod Final
 pub mod Prompt
 pub mod Defaults
-pub mod Wired
 pub mod StageGoes
+pub mod Few
+pub mod Whole
+pub mod Passing

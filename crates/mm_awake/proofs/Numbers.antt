@@ -1,6 +1,6 @@
 -- What is unfinished by the numbers of the commands is wanted at the host's port.
 use Rattle.std.proofs.Common.{ℕ, zero, suc, ◌<◌, ◌≤◌, ◌≡◌, ◌+◌, ◌-◌, Bool, true, false, not, ◌||◌, ◌&&◌, List, [], ◌∷◌, ◌++◌, arith, refl, sym, ap, ap₂, subst, ◌∙◌, nat_lt, nat_le, nat_eq, length, map, take, drop, filter, flat_map, zip, IsTrue, IsFalse, tests, inl, inr, ◌⊎◌, if◌then◌else◌, append-nil, append_assoc, length-append, le-leb, ltb-true, ltb-false, Option, Some, None}
-use Rattle.std.proofs.lemmas.Bool.{or_left, or_right, and_parts, or_parts, both_ways}
+use Rattle.std.proofs.lemmas.Bool.{or_left, and_parts, or_parts, both_ways}
 use Rattle.std.specs.List.{list_any, list_all}
 use Rattle.mm_runs.specs.Views.{System}
 use Rattle.mm_runs.specs.Operations.{Beat}
@@ -10,12 +10,12 @@ use Rattle.mm_runs.specs.Awake.{is_place, up_to, of_command, count_for}
 use Rattle.mm_machines.specs.Lines.{asked_among}
 use Rattle.std.proofs.lemmas.List.Elements.{filter-append}
 use Rattle.std.proofs.lemmas.Grind.{flat_map-append}
-use Rattle.histories.specs.History.{is_raised, numbers, only_if, first_shown, all_accepted, standing, stands_on, KeepsItems}
+use Rattle.histories.specs.History.{is_raised, numbers, only_if, KeepsItems}
 use Rattle.histories.specs.Laws.{shown_is_accepted_and_standing}
 use Rattle.mm_runs.specs.Views.{Run, Shape, Signals, Levels, levels_at}
 use Rattle.mm_runs.specs.Views.Kind.{Writes}
-use Rattle.mm_runs.specs.Commands.{Burst, shows, is_held, transfer_at, transfer_of, burst_before, burst_after}
-use Rattle.mm_runs.specs.Legal.{IsLegalHost, host_accepts, given, gives_word, is_under_way}
+use Rattle.mm_runs.specs.Commands.{Burst, shows, transfer_at, transfer_of, burst_before, burst_after}
+use Rattle.mm_runs.specs.Legal.{IsLegalHost, host_accepts, given, gives_word}
 use Rattle.mm_runs.specs.Order.{host_transfers, of_host, taken}
 use Rattle.mm_runs.specs.Awake.{is_for, is_oldest, is_finished, are_taken, are_given, are_finished_before, commands_begun, is_given_from}
 use Rattle.mm_machines.specs.Lines.{host_accepted}

@@ -1,11 +1,10 @@
 -- A word that is owed above the arbiter is owed below it.
-use Rattle.std.proofs.Common.{ℕ, zero, suc, ◌<◌, ◌≤◌, ◌≡◌, ◌+◌, Bool, true, false, ◌&&◌, List, [], ◌∷◌, ◌++◌, map, arith, refl, sym, ap, subst, ◌∙◌, nat_lt, nat_eq, length, filter, flat_map, IsTrue, IsFalse, tests, append-nil, length-append, lt-ltb, ltb-true, if◌then◌else◌}
+use Rattle.std.proofs.Common.{ℕ, zero, suc, ◌<◌, ◌≤◌, ◌≡◌, ◌+◌, Bool, true, false, ◌&&◌, List, [], ◌∷◌, ◌++◌, map, arith, refl, sym, ap, subst, ◌∙◌, nat_eq, length, filter, flat_map, IsTrue, IsFalse, tests, append-nil, length-append, lt-ltb, ltb-true, if◌then◌else◌}
 use Rattle.std.proofs.lemmas.List.Elements.{filter-append}
 use Rattle.std.proofs.lemmas.Grind.{flat_map-append}
-use Rattle.histories.specs.History.{IsPrefix, only_if, is_raised, before}
+use Rattle.histories.specs.History.{IsPrefix, only_if, is_raised}
 use Rattle.histories.specs.Laws.{prefix_trans, prefix_flat_map, prefix_filter, before_extends}
-use Rattle.mm_runs.specs.Views.{System, Kind}
-use Rattle.mm_runs.specs.Views.Kind.{Reads, Writes}
+use Rattle.mm_runs.specs.Views.{System}
 use Rattle.mm_runs.specs.Operations.{Beat}
 use Rattle.mm_runs.specs.Commands.{is_of_reads}
 use Rattle.mm_machines.specs.Link.{Port, Marked, takes, taken_at, marked_at, read_beats, words_at, words_owed}

@@ -1,5 +1,5 @@
 -- A link that answers promptly gives what has come.
-use Rattle.std.proofs.Common.{ℕ, zero, suc, ◌<◌, ◌≤◌, ◌≡◌, ◌+◌, Bool, true, false, ◌||◌, ◌&&◌, List, ◌++◌, arith, refl, sym, ap, subst, ◌∙◌, nat_lt, nat_le, length, take, IsTrue, IsFalse, tests, ltb-true, ltb-false, le-leb}
+use Rattle.std.proofs.Common.{ℕ, suc, ◌≤◌, ◌≡◌, Bool, true, false, ◌||◌, ◌&&◌, arith, refl, sym, ap, subst, ◌∙◌, nat_lt, nat_le, length, take, IsTrue, IsFalse, ltb-true, ltb-false, le-leb}
 use Rattle.std.proofs.lemmas.Bool.{or_left, or_right, and_parts}
 use Rattle.std.proofs.lemmas.List.{take-append-le}
 use Rattle.histories.specs.History.{IsPrefix, is_raised}

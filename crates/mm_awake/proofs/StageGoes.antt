@@ -1,13 +1,13 @@
 -- A stage with a queue and an answer register keeps going.
-use Rattle.std.proofs.Common.{ℕ, zero, suc, ◌<◌, ◌≤◌, ◌≡◌, ◌+◌, Bool, true, false, not, ◌||◌, ◌&&◌, List, [], ◌∷◌, ◌++◌, arith, refl, sym, ap, subst, ◌∙◌, nat_lt, length, drop, IsTrue, IsFalse, tests, append-nil, append_assoc, length-append, ltb-true, ltb-false, lt-ltb, le-ltb, if◌then◌else◌}
+use Rattle.std.proofs.Common.{ℕ, zero, suc, ◌<◌, ◌≤◌, ◌≡◌, ◌+◌, Bool, true, false, not, ◌||◌, ◌&&◌, List, [], ◌∷◌, ◌++◌, arith, refl, sym, ap, ◌∙◌, nat_lt, length, drop, IsTrue, IsFalse, append-nil, append_assoc, length-append, ltb-true, ltb-false, lt-ltb, if◌then◌else◌}
 use Rattle.std.proofs.lemmas.Bool.{or_left, or_right, and_parts, or_parts, both_ways}
 use Rattle.histories.specs.History.{is_raised, only_if, one_if}
 use Rattle.mm_runs.specs.Commands.{shows, is_held}
 use Rattle.mm_machines.specs.Link.{Target, Port, AreLegalAt, takes, taken_at, read_beats, words_at, words_owed}
 use Rattle.mm_machines.specs.Rank.{LinkRankFalls, has_commands, moves_commands, is_excused, is_owed}
 use Rattle.mm_machines.specs.Machines.{raws, raw_at, Raw, marked, idle, ShowsHead, Stage, above, below, RunsAsStage, WaitsOnlyWhenFull, owing_rank}
-use Rattle.mm_awake.specs.Parts.{KeepsGoing, has_link_work, GivesWhatHasCome, is_behind, is_untaken}
-use Rattle.mm_awake.proofs.Bits.{none_taken, no_true, not_by}
+use Rattle.mm_awake.specs.Parts.{KeepsGoing, GivesWhatHasCome, is_behind, is_untaken}
+use Rattle.mm_awake.proofs.Bits.{none_taken, no_true}
 
 pub record Laws : Type 0 where
   pub rank : (stage : Stage) → RunsAsStage stage → 0 < stage.depth → WaitsOnlyWhenFull stage → (target : Target) (end : ℕ) → AreLegalAt (above stage) end → LinkRankFalls target (above stage) (below stage) (owing_rank (below stage)) 1 end

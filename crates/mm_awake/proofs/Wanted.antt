@@ -1,16 +1,16 @@
 -- A wanted agent is served: what a host wants is work of some part on its way.
-use Rattle.std.proofs.Common.{ℕ, zero, suc, ◌<◌, ◌≤◌, ◌≡◌, ◌+◌, ◌/◌, Bool, true, false, not, ◌||◌, ◌&&◌, List, [], ◌∷◌, ◌++◌, arith, refl, sym, ap, subst, ◌∙◌, nat_lt, nat_le, nat_eq, length, map, filter, flat_map, IsTrue, IsFalse, tests, inl, inr, ◌⊎◌, if◌then◌else◌, Some, append-nil, length-append, ltb-false, ltb-true, lt-ltb}
+use Rattle.std.proofs.Common.{ℕ, zero, suc, ◌<◌, ◌≤◌, ◌≡◌, ◌+◌, Bool, true, false, not, ◌||◌, ◌&&◌, List, [], ◌∷◌, ◌++◌, arith, refl, sym, ap, subst, ◌∙◌, nat_lt, nat_eq, length, map, filter, IsTrue, IsFalse, tests, inl, inr, ◌⊎◌, if◌then◌else◌, Some, append-nil, length-append, ltb-false}
 use Rattle.std.proofs.lemmas.Bool.{or_left, or_right, and_parts, or_parts, both_ways, not-true}
 use Rattle.std.proofs.lemmas.List.{length-map}
 use Rattle.std.specs.List.{list_any}
 use Rattle.histories.specs.History.{numbers, is_raised, IsPrefix, KeepsItems}
-use Rattle.histories.specs.Laws.{prefix_flat_map, prefix_filter, prefix_length, prefix_trans, accepted_prefix, before_extends}
+use Rattle.histories.specs.Laws.{prefix_flat_map, prefix_filter, prefix_length, accepted_prefix, before_extends}
 use Rattle.mm_runs.specs.Views.{System, Run, Shape, Levels}
-use Rattle.mm_runs.specs.Commands.{shows, is_held, agent_accepts, transfer_of, burst_before, burst_after}
+use Rattle.mm_runs.specs.Commands.{shows, is_held, agent_accepts, burst_before}
 use Rattle.mm_runs.specs.Operations.{Operation}
 use Rattle.mm_runs.specs.Order.{taken, of_host, Tagged, has_tag}
-use Rattle.mm_runs.specs.Awake.{owes, serves, is_given_from, is_written_to, count_for, Throughout, Sometime}
-use Rattle.mm_machines.specs.Lines.{target_of, host_accepted, tagged_operations, groups_of, with_tag, TaggedPort}
+use Rattle.mm_runs.specs.Awake.{owes, serves, is_given_from, is_written_to, Throughout, Sometime}
+use Rattle.mm_machines.specs.Lines.{target_of, tagged_operations, groups_of, with_tag, TaggedPort}
 use Rattle.mm_machines.specs.Link.{Target, Port, Marked, takes, taken_at, shown_at, marked_at, operations_among, operations_in, AreLegalAt}
 use Rattle.mm_machines.specs.Rank.{is_unclosed, is_owed}
 use Rattle.mm_machines.specs.Turns.{seats_of}
@@ -18,10 +18,10 @@ use Rattle.ranks.specs.Turns.{AllShare}
 use Rattle.ranks.specs.Path.{works, stands}
 use Rattle.ranks.specs.Junction.{Junctions, any_below, has_work, moment, arbiter_works}
 use Rattle.mm_awake.specs.Parts.{is_untaken, is_behind, IsArbiterPart}
-use Rattle.mm_awake.specs.Ways.{Ways, Standings, KeepsAwake, AreFew, IsAtWork, longest, window, links_at, lower_at, tagged, moves_at}
-use Rattle.mm_awake.specs.Front.{IsFront, KeepsWhole, Wants, Wants.a_beat, Wants.an_operation, Wants.a_word, IsWantedAt, is_bursting, shows_for, are_all_given}
+use Rattle.mm_awake.specs.Ways.{Ways, Standings, KeepsAwake, IsAtWork, longest, window, links_at, lower_at, tagged, moves_at}
+use Rattle.mm_awake.specs.Front.{KeepsWhole, Wants, Wants.a_beat, Wants.an_operation, Wants.a_word, IsWantedAt, is_bursting}
 use Rattle.mm_awake.proofs.Owed.{owed_below}
-use Rattle.mm_awake.proofs.Bits.{none_taken, one_taken, taken_still, holds, no_true, shown_extends, not_by}
+use Rattle.mm_awake.proofs.Bits.{none_taken, one_taken, taken_still, holds, no_true}
 
 pub marked_keeps : (port : Port) (end : ℕ) → AreLegalAt port end → KeepsItems (shows port.commands.signals) (takes port) (marked_at port) end
 marked_keeps port end legal = record {
@@ -238,7 +238,7 @@ module _ (system : System) (run : Run) (agent : ℕ) (ways : Ways) (standings : 
     (keeps : KeepsWhole system run agent ways standings end) (wanted : Throughout from size (IsWantedAt system run agent host))
     (none : (c : ℕ) → c < size → IsFalse (serves system run agent (from + c))) where
   abbrev j : Junctions
-  j = window system run agent ways standings from
+  j = window system run agent ways standings from size
 
   abbrev target : Target
   target = target_of system agent
@@ -389,14 +389,14 @@ module _ (system : System) (run : Run) (agent : ℕ) (ways : Ways) (standings : 
   }
 
 pub record Laws : Type 0 where
-  pub work : (system : System) (run : Run) (agent : ℕ) (ways : Ways) (standings : Standings) (host from size end : ℕ) → from + size + 2 ≤ end → AllShare (seats_of system agent) → KeepsAwake system run agent ways standings end → AreFew system run agent ways standings from size → IsAtWork system run agent ways standings host from size → size ≤ longest system run agent ways standings from
+  pub work : (system : System) (run : Run) (agent : ℕ) (ways : Ways) (standings : Standings) (host from size end : ℕ) → from + size + 2 ≤ end → AllShare (seats_of system agent) → KeepsAwake system run agent ways standings end → IsAtWork system run agent ways standings host from size → size ≤ longest system run agent ways standings from size
 
 pub served : Laws → (system : System) (run : Run) (agent : ℕ) (ways : Ways) (standings : Standings) (host from size end : ℕ) → from + size + 2 ≤ end → host < system.hosts → AllShare (seats_of system agent) →
-    KeepsWhole system run agent ways standings end → AreFew system run agent ways standings from size → longest system run agent ways standings from < size →
+    KeepsWhole system run agent ways standings end → longest system run agent ways standings from size < size →
     Throughout from size (IsWantedAt system run agent host) → Sometime from size (λ c. IsTrue (serves system run agent c))
-served laws system run agent ways standings host from size end fits host_is share keeps few more wanted = elim (some_or_none (λ c. serves system run agent (from + c)) size) [
+served laws system run agent ways standings host from size end fits host_is share keeps more wanted = elim (some_or_none (λ c. serves system run agent (from + c)) size) [
   | inl found ↦ (from + found.0, omega arith, omega (arith, found.1), found.2)
   | inr none ↦
-      let short = laws.work system run agent ways standings host from size end fits share keeps.awake few (at_work system run agent ways standings host from size end fits host_is keeps wanted none) in
+      let short = laws.work system run agent ways standings host from size end fits share keeps.awake (at_work system run agent ways standings host from size end fits host_is keeps wanted none) in
       absurd (omega (arith, short, more))
 ]

@@ -1,17 +1,17 @@
 -- What stands between a host's port and the boundary behind its route, for one agent: the part next to the host and the route, both wired through.
-use Rattle.std.specs.Prelude.{◌≡◌, ℕ, suc, ◌+◌, ◌<◌, ◌≤◌, Bool, not, ◌&&◌, ◌||◌, List, length, take, drop, filter, nat_eq, nat_le, nat_lt, IsTrue, IsFalse, Option, Some, None}
+use Rattle.std.specs.Prelude.{◌≡◌, ℕ, suc, ◌+◌, ◌<◌, ◌≤◌, Bool, ◌&&◌, ◌||◌, length, take, drop, nat_le, nat_lt, IsTrue, IsFalse, Option, Some, None}
 use Rattle.std.specs.List.{list_any, list_all}
 use Rattle.histories.specs.History.{is_raised, IsPrefix}
 use Rattle.mm_runs.specs.Views.{System, Run}
 use Rattle.mm_runs.specs.Views.Kind.{Writes}
 use Rattle.mm_runs.specs.Commands.{shows, transfer_at, burst_before, read_beats}
-use Rattle.mm_runs.specs.Legal.{host_accepts, given, is_under_way, unanswered}
-use Rattle.mm_runs.specs.Order.{place_of, of_host, taken, is_joined}
-use Rattle.mm_runs.specs.Awake.{owes, is_place, count_for, serves, is_given_from, is_written_to, Throughout, Sometime}
+use Rattle.mm_runs.specs.Legal.{IsLegalHost, host_accepts, given, is_under_way, unanswered}
+use Rattle.mm_runs.specs.Order.{place_of, of_host, taken}
+use Rattle.mm_runs.specs.Awake.{owes, is_place, count_for, serves, is_given_from, is_written_to, Sometime}
 use Rattle.mm_machines.specs.Link.{Port, takes, taken_at, shown_at, operations_among}
 use Rattle.mm_machines.specs.Lines.{target_of, asked_among, host_accepted, tagged_operations, groups_of}
 use Rattle.mm_machines.specs.Rank.{is_owed, is_unclosed}
-use Rattle.mm_awake.specs.Ways.{Ways, Standings, KeepsAwake, AreFew, longest}
+use Rattle.mm_awake.specs.Ways.{Ways, Standings, KeepsAwake, longest}
 
 -- a host shows a beat for a place
 abbrev pub shows_for : System → Run → ℕ → Option ℕ → ℕ → Bool
@@ -105,14 +105,24 @@ pub data WantsDefault (system : System) (run : Run) (host c : ℕ) : Type 0 wher
   beat : IsTrue (shows_for system run host None c) → IsTrue (are_all_given system run host c) → WantsDefault system run host c
   word : IsTrue (owes_next system run host None c) → WantsDefault system run host c
 
--- in each window in which nothing is served, the parts move few times
-abbrev pub AreFewUnserved : System → Run → ℕ → Ways → Standings → ℕ → ℕ → Type 0
-AreFewUnserved system run agent ways standings size end =
-    (from : ℕ) → from + size ≤ end → ((c : ℕ) → c < size → IsFalse (serves system run agent (from + c))) → AreFew system run agent ways standings from size
+-- every host is legal in the cycles before `end`
+abbrev pub AreLegalHosts : System → Run → ℕ → Type 0
+AreLegalHosts system run end = (h : ℕ) → h < system.hosts → IsLegalHost (system.host h) (run.at_host h) end
 
--- no stage and no adapter: each host's link is a wire
-pub record IsWired (system : System) (ways : Ways) (standings : Standings) : Type 0 where
-  pub stages : ways.stages ≡ 0
-  pub above : (h : ℕ) → h < system.hosts → ways.above h ≡ 1
-  pub wire : (h : ℕ) → h < system.hosts → ways.upper h 1 ≡ ways.upper h 0
-  pub few : (h : ℕ) → h < system.hosts → 1 ≤ (standings.upper h 0).few
+-- an agent, or the default agent for a host, is served in some cycle of a window
+abbrev pub IsServedIn : System → Run → ℕ → ℕ → ℕ → Type 0
+IsServedIn system run agent from size = Sometime from size (λ c. IsTrue (serves system run agent c))
+
+abbrev pub IsDefaultServedIn : System → Run → ℕ → ℕ → ℕ → Type 0
+IsDefaultServedIn system run host from size =
+    Sometime from size (λ c. IsTrue (is_given_from system run None c host || is_written_to system run None c host))
+
+-- nothing is served in so many cycles, though the agent owes no answer
+pub record IsUnserved (system : System) (run : Run) (agent from size : ℕ) : Type 0 where
+  pub none : (c : ℕ) → c < size → IsFalse (serves system run agent (from + c))
+  pub answered : (c : ℕ) → c < size → IsFalse (owes system run agent (from + c))
+
+-- in each window of this size in which nothing is served, the ranks and moves of the parts allow less
+abbrev pub AllowLessThan : ℕ → System → Run → ℕ → Ways → Standings → ℕ → Type 0
+AllowLessThan size system run agent ways standings end =
+    (from : ℕ) → from + size ≤ end → IsUnserved system run agent from size → longest system run agent ways standings from size < size

@@ -1,15 +1,15 @@
 -- The part next to a host with readdatavalid, and the route: exact equations of one cycle.
-use Rattle.std.specs.Prelude.{◌≡◌, ℕ, suc, ◌+◌, ◌<◌, ◌≤◌, Bool, true, false, not, ◌&&◌, ◌||◌, List, [], ◌∷◌, length, take, drop, map, nat_lt, IsTrue, IsFalse, Option, Some, None}
+use Rattle.std.specs.Prelude.{◌≡◌, ℕ, ◌<◌, Bool, true, false, not, ◌&&◌, ◌||◌, List, [], ◌∷◌, length, drop, map, IsTrue, Option, Some, None}
 use Rattle.std.specs.List.{list_all}
 use Rattle.histories.specs.History.{is_raised}
-use Rattle.mm_runs.specs.Views.{System, Run, HostSide, HostView}
+use Rattle.mm_runs.specs.Views.{System, Run}
 use Rattle.mm_runs.specs.Commands.{shows, transfer_at}
-use Rattle.mm_runs.specs.Legal.{IsLegalHost, host_accepts, gives_word, unanswered}
+use Rattle.mm_runs.specs.Legal.{IsLegalHost, host_accepts, gives_word}
 use Rattle.mm_runs.specs.Order.{Asked, place_of, is_agent}
 use Rattle.mm_runs.specs.Awake.{is_place}
 use Rattle.mm_machines.specs.Link.{Port, Marked, takes, taken_at, marked_at, words_at, AreLegalAt, AnswersAreOwed}
-use Rattle.mm_machines.specs.Lines.{asked_among, host_accepted}
-use Rattle.mm_awake.specs.Front.{given_before, has_room}
+use Rattle.mm_machines.specs.Lines.{asked_among}
+use Rattle.mm_awake.specs.Front.{has_room}
 
 pub record IsHostPart (system : System) (run : Run) (host : ℕ) (down : Port) (end : ℕ) : Type 0 where
   pub valid : IsTrue (system.host host).has_readdatavalid

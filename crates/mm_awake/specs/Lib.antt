@@ -3,3 +3,5 @@ pub mod Ways
 pub mod Front
 pub mod HostRoute
 pub mod Sizes
+pub mod Slack
+pub mod Theorem

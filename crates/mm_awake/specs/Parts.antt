@@ -1,11 +1,11 @@
 -- What the parts promise so that a system never idles.
-use Rattle.std.specs.Prelude.{◌≡◌, ℕ, zero, suc, ◌+◌, ◌-◌, ◌<◌, ◌≤◌, Bool, true, false, not, ◌&&◌, ◌||◌, List, [], length, nat_eq, nat_lt, nat_le, IsTrue, IsFalse, Option, Some, None}
-use Rattle.histories.specs.History.{is_raised}
+use Rattle.std.specs.Prelude.{◌≡◌, ℕ, suc, ◌<◌, ◌≤◌, Bool, ◌&&◌, ◌||◌, length, nat_eq, nat_lt, IsTrue, IsFalse, filter}
+use Rattle.histories.specs.History.{before, is_raised}
 use Rattle.mm_runs.specs.Views.{System, Run}
 use Rattle.mm_runs.specs.Commands.{shows, is_held, agent_accepts}
-use Rattle.mm_runs.specs.Order.{is_joined, taken}
+use Rattle.mm_runs.specs.Order.{is_joined, taken, beats_taken, is_read_beat, words_given_in}
 use Rattle.mm_runs.specs.Awake.{owes}
-use Rattle.mm_machines.specs.Link.{Target, Port, takes, taken_at, shown_at, marked_at, operations_among, AreLegalAt}
+use Rattle.mm_machines.specs.Link.{Target, Port, takes, taken_at, shown_at, marked_at, operations_among, words_at, AreLegalAt}
 use Rattle.mm_machines.specs.Lines.{TaggedPort, target_of, AreTaggedInOrder}
 use Rattle.mm_machines.specs.Rank.{Falls, is_owed, has_commands, moves_commands, is_excused}
 use Rattle.mm_machines.specs.PartRanks.{AgentRankFalls}
@@ -53,10 +53,19 @@ pub record IsArbiterPart (system : System) (agent : ℕ) (up : ℕ → Port) (do
 
 -- ---- next to the agent
 
--- hold 0: it accepts exactly when the agent does. By number of words: where a word is owed above by the end of a cycle, the agent owes one, or an operation is untaken, or the agent accepts in this cycle (at latency 0 the word goes up one cycle later). So no word resets the rank, whose largest value is the wait time plus 1
+-- the words that an agent has given before a cycle
+abbrev pub words_from_agent : System → Run → ℕ → ℕ → ℕ
+words_from_agent system run agent c = length (before (words_given_in system run agent) c)
+
 pub record IsAgentPart (system : System) (run : Run) (agent : ℕ) (up : TaggedPort) (rank : ℕ → ℕ) (largest end : ℕ) : Type 0 where
   pub legal : AreLegalAt up.port end
   pub falls : AgentRankFalls system run agent up rank largest end
+  -- nothing is kept: it accepts exactly when the agent does
   pub accepted : (c : ℕ) → c < end → takes up.port c ≡ agent_accepts (system.agent agent) (run.at_agent agent) c
+  -- where a word is owed above by the end of a cycle, an operation is untaken, or the agent accepts in this cycle (at latency 0 the word goes up one cycle later), or the agent owes one
   pub words : (c : ℕ) → c < end → IsTrue (is_owed up.port c) →
       IsTrue (nat_lt (length (taken system run agent (suc c))) (length (operations_among (target_of system agent) up.shape (shown_at up.port (suc c)))) || agent_accepts (system.agent agent) (run.at_agent agent) c || owes system run agent c)
+  -- a word goes up in its cycle, or in the next where the agent accepts in its cycle; and the agent gives none that isn't asked
+  pub given : (c : ℕ) → c ≤ end → length (words_at up.port c) ≤ words_from_agent system run agent c
+  pub come : (c : ℕ) → c < end → IsFalse (agent_accepts (system.agent agent) (run.at_agent agent) c) → words_from_agent system run agent (suc c) ≤ length (words_at up.port (suc c))
+  pub asked : (c : ℕ) → c ≤ end → words_from_agent system run agent c ≤ length (filter is_read_beat (beats_taken system run agent c))

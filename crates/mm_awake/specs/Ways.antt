@@ -1,16 +1,16 @@
 -- All parts that lead to one agent, as paths of parts.
-use Rattle.std.specs.Prelude.{◌≡◌, ℕ, zero, suc, ◌+◌, ◌-◌, ◌<◌, ◌≤◌, Bool, true, false, not, ◌&&◌, ◌||◌, List, [], length, nat_eq, nat_lt, nat_le, IsTrue, IsFalse}
-use Rattle.histories.specs.History.{is_raised, numbers}
+use Rattle.std.specs.Prelude.{ℕ, zero, suc, ◌+◌, ◌<◌, Bool, false, not, ◌&&◌, ◌||◌, List, length, nat_lt, IsTrue, IsFalse}
+use Rattle.histories.specs.History.{is_raised, numbers, one_if}
 use Rattle.mm_runs.specs.Views.{System, Run}
 use Rattle.mm_runs.specs.Commands.{shows, agent_accepts}
 use Rattle.mm_runs.specs.Order.{taken}
 use Rattle.mm_runs.specs.Awake.{owes}
-use Rattle.mm_machines.specs.Link.{Target, Port, takes, taken_at, shown_at, operations_among}
+use Rattle.mm_machines.specs.Link.{Target, Port, takes, shown_at, operations_among}
 use Rattle.mm_machines.specs.Lines.{TaggedPort, target_of}
-use Rattle.mm_machines.specs.Rank.{is_owed, is_unclosed, is_last_write, moves_commands, path_at}
+use Rattle.mm_machines.specs.Rank.{is_unclosed, moves_commands, path_at}
 use Rattle.ranks.specs.Path.{Path}
-use Rattle.ranks.specs.Window.{moves_before, Budget, allowances}
-use Rattle.ranks.specs.Junction.{Junctions, Ranked, all_budgets, arbiter_budget, lower_budget, upper_budget, has_work}
+use Rattle.ranks.specs.Window.{allowances}
+use Rattle.ranks.specs.Junction.{Junctions, Ranked, all_budgets, has_work}
 use Rattle.mm_awake.specs.Parts.{is_behind, KeepsGoing, IsArbiterPart, IsAgentPart}
 
 -- the boundaries that lead to one agent
@@ -24,16 +24,14 @@ pub record Ways : Type 0 where
 abbrev pub tagged : Ways → ℕ → TaggedPort
 tagged ways i = record { port = ways.lower i; answer_tag = ways.answer_tag i }
 
--- ranks, and how often each part moves at most in a window
+-- a part's rank and its largest value
 pub record Standing : Type 0 where
   pub rank : ℕ → ℕ
   pub largest : ℕ
-  pub few : ℕ
 
 pub record Standings : Type 0 where
   pub agent : Standing
   pub lower : ℕ → Standing
-  pub arbiter_few : ℕ
   pub upper : ℕ → ℕ → Standing
 
 -- every part that leads to an agent keeps what it promises
@@ -73,12 +71,20 @@ abbrev pub agent_moves : System → Run → ℕ → Ways → ℕ → Bool
 agent_moves system run agent ways c =
     agent_accepts (system.agent agent) (run.at_agent agent) c || takes (ways.lower 0) c
 
-abbrev pub ranked : Standing → (ℕ → Bool) → ℕ → Ranked
-ranked standing moves from = record { rank = λ c. standing.rank (from + c); largest = standing.largest; moves = λ c. moves (from + c); few = standing.few }
+-- in how many of so many cycles a test holds
+abbrev pub count_in : (ℕ → Bool) → ℕ → ℕ → ℕ
+count_in test from zero = 0
+count_in test from (suc size) = count_in test from size + one_if (test (from + size))
 
--- a window of all parts that lead to an agent
-abbrev pub window : System → Run → ℕ → Ways → Standings → ℕ → Junctions
-window system run agent ways standings from = record {
+abbrev pub ranked : Standing → (ℕ → Bool) → ℕ → ℕ → Ranked
+ranked standing moves from size = record { rank = λ c. standing.rank (from + c); largest = standing.largest; moves = λ c. moves (from + c); few = count_in moves from size }
+
+abbrev pub unranked : Standing
+unranked = record { rank = λ c. 0; largest = 0 }
+
+-- a window of all parts that lead to an agent. The arbiter's rank is always 0
+abbrev pub window : System → Run → ℕ → Ways → Standings → ℕ → ℕ → Junctions
+window system run agent ways standings from size = record {
   below = ways.stages;
   hosts = system.hosts;
   above = ways.above;
@@ -86,19 +92,13 @@ window system run agent ways standings from = record {
   upper = λ h c. links_at (target_of system agent) (ways.upper h) (from + c);
   untaken = λ h c. false;
   ready = λ h c. false;
-  lower_rank = at_port (ranked standings.agent (agent_moves system run agent ways) from) (λ i. ranked (standings.lower i) (moves_at (ways.lower (suc i)) (ways.lower i)) from);
-  arbiter_rank = record { rank = λ c. 0; largest = 0; moves = λ c. takes (ways.lower ways.stages) (from + c); few = standings.arbiter_few };
-  upper_rank = λ h i. ranked (standings.upper h i) (moves_at (ways.upper h (suc i)) (ways.upper h i)) from;
+  lower_rank = at_port (ranked standings.agent (agent_moves system run agent ways) from size) (λ i. ranked (standings.lower i) (moves_at (ways.lower (suc i)) (ways.lower i)) from size);
+  arbiter_rank = ranked unranked (takes (ways.lower ways.stages)) from size;
+  upper_rank = λ h i. ranked (standings.upper h i) (moves_at (ways.upper h (suc i)) (ways.upper h i)) from size;
 }
 
 abbrev pub all_hosts : System → List ℕ
 all_hosts system = numbers 0 system.hosts
-
--- each part moves few times in the window
-pub record AreFew (system : System) (run : Run) (agent : ℕ) (ways : Ways) (standings : Standings) (from size : ℕ) : Type 0 where
-  pub lower : (i : ℕ) → i < suc ways.stages → moves_before (lower_budget (window system run agent ways standings from) i).part size ≤ (lower_budget (window system run agent ways standings from) i).few
-  pub arbiter : moves_before (arbiter_budget (window system run agent ways standings from)).part size ≤ standings.arbiter_few
-  pub upper : (h i : ℕ) → h < system.hosts → i < ways.above h → moves_before (upper_budget (window system run agent ways standings from) h i).part size ≤ (standings.upper h i).few
 
 -- a window in which a host has work on its way, the agent neither waits nor owes, and each host shows the rest of what it left open
 pub record IsAtWork (system : System) (run : Run) (agent : ℕ) (ways : Ways) (standings : Standings) (host from size : ℕ) : Type 0 where
@@ -106,7 +106,8 @@ pub record IsAtWork (system : System) (run : Run) (agent : ℕ) (ways : Ways) (s
   pub ready : (c : ℕ) → c < size → IsFalse ((system.agent agent).has_waitrequest && shows (run.at_agent agent).signals (from + c) && not (agent_accepts (system.agent agent) (run.at_agent agent) (from + c)))
   pub answered : (c : ℕ) → c < size → IsFalse (owes system run agent (from + c))
   pub bursts : (h c : ℕ) → h < system.hosts → c < size → IsTrue (is_unclosed (ways.upper h (ways.above h)) (from + c)) → IsTrue (shows (ways.upper h (ways.above h)).commands.signals (from + c))
-  pub work : (c : ℕ) → c < size → IsTrue (has_work (window system run agent ways standings from) host c)
+  pub work : (c : ℕ) → c < size → IsTrue (has_work (window system run agent ways standings from size) host c)
 
-abbrev pub longest : System → Run → ℕ → Ways → Standings → ℕ → ℕ
-longest system run agent ways standings from = allowances (all_budgets (window system run agent ways standings from) (all_hosts system))
+-- the longest time that the ranks and the moves of the parts in a window allow
+abbrev pub longest : System → Run → ℕ → Ways → Standings → ℕ → ℕ → ℕ
+longest system run agent ways standings from size = allowances (all_budgets (window system run agent ways standings from size) (all_hosts system))

@@ -1,10 +1,9 @@
--- The default agent is served, and the sizes fit.
-use Rattle.std.proofs.Common.{ℕ, zero, suc, ◌<◌, ◌≤◌, ◌≡◌, ◌+◌, ◌*◌, Bool, true, false, not, ◌||◌, ◌&&◌, arith, refl, IsTrue, IsFalse, tests, None, inl, inr, ◌⊎◌}
-use Rattle.std.proofs.lemmas.Bool.{or_left, or_right}
+-- The default agent is served.
+use Rattle.std.proofs.Common.{ℕ, suc, ◌≤◌, ◌+◌, Bool, true, false, ◌||◌, arith, refl, IsTrue, None, inl, inr, ◌⊎◌}
+use Rattle.std.proofs.lemmas.Bool.{or_left}
 use Rattle.mm_runs.specs.Views.{System, Run}
 use Rattle.mm_runs.specs.Awake.{Throughout, Sometime, is_given_from, is_written_to}
 use Rattle.mm_awake.specs.Front.{IsDefaultFront, WantsDefault, WantsDefault.beat, WantsDefault.word}
-use Rattle.mm_awake.specs.Sizes.{all_cycles, stage_cycles, allows, links_cycles}
 
 two_or_one : (a b d : Bool) → IsTrue (a || b || d) → IsTrue (a || b) ⊎ IsTrue d
 two_or_one true b d h = inl refl
@@ -24,14 +23,3 @@ default_served system run host from size end fits long front wanted = by_want (w
       | inr due ↦ next due
     ]
     by_want (word owing) = next (front.owed from (omega (arith, fits, long)) owing)
-
-stages_fit : (stages : ℕ) → stages ≤ 4 → stage_cycles stages ≤ 26 * stages
-stages_fit zero h = omega arith
-stages_fit (suc zero) h = omega arith
-stages_fit (suc (suc zero)) h = omega arith
-stages_fit (suc (suc (suc zero))) h = omega arith
-stages_fit (suc (suc (suc (suc zero)))) h = omega arith
-stages_fit (suc (suc (suc (suc (suc n))))) h = absurd (omega (arith, h))
-
-pub fits : (stages wait hosts : ℕ) → stages ≤ 4 → hosts ≤ 16 → all_cycles stages wait hosts < 64 * (4 + stages) + 2 * wait
-fits stages wait hosts h k = let s = stages_fit stages h in omega (arith, s, h, k)

@@ -1,0 +1,61 @@
+-- Modest ranks and slacks fit in an agent's window.
+use Rattle.std.proofs.Common.{ℕ, zero, suc, ◌<◌, ◌≤◌, ◌≡◌, ◌+◌, ◌*◌, arith}
+use Rattle.mm_runs.specs.Views.{System}
+use Rattle.mm_runs.specs.Awake.{agent_window}
+use Rattle.ranks.specs.Sizes.{sum_below}
+use Rattle.mm_awake.specs.Ways.{Ways, Standings}
+use Rattle.mm_awake.specs.Sizes.{allows}
+use Rattle.mm_awake.specs.Slack.{Slacks, AreModest, lower_beats, lower_words, stage_allows, host_allows, all_allow}
+use Rattle.mm_awake.proofs.Few.{sum_most}
+
+-- the sum over the stages, for each number of them
+stages_sum : (stages : ℕ) → stages ≤ 4 → sum_below (λ i. 10 * i + 9) stages ≤ 24 * stages
+stages_sum zero h = omega arith
+stages_sum (suc zero) h = omega arith
+stages_sum (suc (suc zero)) h = omega arith
+stages_sum (suc (suc (suc zero))) h = omega arith
+stages_sum (suc (suc (suc (suc zero)))) h = omega arith
+stages_sum (suc (suc (suc (suc (suc n))))) h = absurd (omega (arith, h))
+
+sum_of_one : (n hosts : ℕ) → sum_below (λ h. n) hosts ≡ n * hosts
+sum_of_one n zero = omega arith
+sum_of_one n (suc hosts) = let more = sum_of_one n hosts in let next = times_next n hosts in omega (arith, more, next)
+  where
+    times_next : (n k : ℕ) → n * suc k ≡ n * k + n
+    times_next n k = grind arith
+
+two_ranks : (moves largest : ℕ) → largest ≤ 1 → allows moves largest ≤ moves * 2 + 1
+two_ranks moves zero h = omega arith
+two_ranks moves (suc zero) h = omega arith
+two_ranks moves (suc (suc n)) h = absurd (omega (arith, h))
+
+module _ (system : System) (agent : ℕ) (ways : Ways) (standings : Standings) (slacks : Slacks) (modest : AreModest system agent ways standings slacks) where
+  few_beats : (i : ℕ) → i ≤ ways.stages → lower_beats slacks i ≤ 2 * i
+  few_beats zero h = omega arith
+  few_beats (suc i) h = let more = few_beats i (omega (arith, h)) in let own = (modest.lower i h).hold in omega (arith, more, own)
+
+  few_words : (i : ℕ) → i ≤ ways.stages → lower_words slacks i ≤ 1 + i
+  few_words zero h = omega arith
+  few_words (suc i) h = let more = few_words i (omega (arith, h)) in let own = (modest.lower i h).kept in omega (arith, more, own)
+
+  stage_fits : (i : ℕ) → i < ways.stages → stage_allows standings slacks i ≤ 10 * i + 9
+  stage_fits i h =
+      let below = few_beats i (omega (arith, h)) in
+      let above = few_beats (suc i) h in
+      let words = few_words (suc i) h in
+      let most = two_ranks ((lower_beats slacks i + lower_beats slacks (suc i)) + lower_words slacks (suc i)) (standings.lower i).largest (modest.lower i h).rank in
+      omega (arith, below, above, words, most)
+
+  pub fits : all_allow system ways standings slacks 5 < agent_window system agent
+  fits =
+      let same = modest.stages in
+      let few = modest.few_stages in
+      let hosts = modest.few_hosts in
+      let wait = modest.wait in
+      let stages = sum_most (stage_allows standings slacks) (λ i. 10 * i + 9) ways.stages stage_fits in
+      let whole = stages_sum ways.stages (omega (arith, same, few)) in
+      let beats = few_beats ways.stages (omega arith) in
+      let words = few_words ways.stages (omega arith) in
+      let links = sum_most (host_allows system ways standings slacks) (λ h. 15) system.hosts modest.upper in
+      let all = sum_of_one 15 system.hosts in
+      omega (arith, same, few, hosts, wait, stages, whole, beats, words, links, all)
