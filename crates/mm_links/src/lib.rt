@@ -1,0 +1,4 @@
+//! Links as machines: each keeps the whole record of a link, and two in a row keep it as one.
+#![tactic(auto)]
+
+pub mod rows;

@@ -1,0 +1,23 @@
+//! A wire is a link, and links in a row are one link.
+
+ghost use Rattle.std.specs.Prelude.{◌<◌, ℕ, Bool};
+ghost use Rattle.mm_machines.specs.Link.{Target, Port};
+ghost use Rattle.mm_links.specs.Links.{LinkForm, IsLink, IsStraightLink, FormsFit, chain_form, pass_form};
+
+/// A wire keeps all of it: it holds nothing, its rank is always 0, and each word is a word from below.
+pub fn pass_is_a_link()
+    ensures link { (target : Target) (port : Port) (end : ℕ) → 0 < port.shape.word_bytes → IsLink (pass_form target) port port end }
+    ensures straight { (ahead may_burst : Bool) (target : Target) (port : Port) (end : ℕ) → IsStraightLink ahead may_burst target port port end }
+{
+    mm_machines::wires::wire_is_a_row();
+    mm_machines::wires::wire_is_straight();
+    mm_machines::wires::wire_keeps_moving()
+}
+
+/// Two links in a row that fit are one link, whose holds add up and whose ranks stand in a row.
+pub fn chain_is_a_link()
+    ensures { (first second : LinkForm) (up middle down : Port) (end : ℕ) → FormsFit first second up middle down
+        → IsLink first up middle end → IsLink second middle down end → IsLink (chain_form first second) up down end }
+{
+    mm_machines::links::rows_compose()
+}
