@@ -6,11 +6,11 @@ use Rattle.mm_machines.specs.Link.{Target, Port, AreLegalAt, AnswersAreOwed}
 use Rattle.mm_machines.specs.LinkPair.{LinkPair, KeepRows, AddsNoPieces}
 use Rattle.mm_machines.specs.Lines.{IsCarrier, IsWordForWord, KeepsRow}
 use Rattle.mm_links.specs.Going.{Pace, RowGoesOn}
-use Rattle.mm_links.specs.Going.RowGoesOn.{none, further}
+use Rattle.mm_links.specs.Going.RowGoesOn.{at_end, further}
 use Rattle.mm_links.specs.Links.{LinkForm, IsLink, FormsFit, HandsOnTags, BringsLanesDown, HandsOnJoins, OwesNothingBelow, chain_form}
 
 pub rows_join : {target : Target} {end : ℕ} {first second : List Pace} {up middle down : Port} → RowGoesOn target end first up middle → RowGoesOn target end second middle down → RowGoesOn target end (first ++ second) up down
-rows_join none second = second
+rows_join at_end second = second
 rows_join (further one rest) second = further one (rows_join rest second)
 
 module _ (target : Target) (first_hold second_hold : ℕ) (up middle down : Port) (end : ℕ)
@@ -43,6 +43,7 @@ module _ (target : Target) (first_hold second_hold : ℕ) (up middle down : Port
           by_then = omega (arith, lower.1.by_then, there_first.1.by_then);
           shown = there_first.1.shown;
           tag = lower.1.tag ∙ there_first.1.tag;
+          reads = lower.1.reads ∙ there_first.1.reads;
           writes = lower.1.writes ∙ there_first.1.writes;
         },
       )

@@ -9,7 +9,7 @@ use Rattle.mm_machines.specs.PartRanks.{KeepsMoving}
 use Rattle.mm_machines.specs.Lines.{KeepsRow}
 use Rattle.mm_machines.specs.Straight.{GoesStraightThrough, IsShownPromptly}
 use Rattle.mm_links.specs.Going.{KeepsGoing}
-use Rattle.mm_links.specs.Going.RowGoesOn.{none, further}
+use Rattle.mm_links.specs.Going.RowGoesOn.{at_end, further}
 use Rattle.mm_links.specs.Links.{IsLink, IsStraightLink, pass_form}
 
 -- a beat that stands below excuses, so that it is work costs a rank nothing
@@ -41,12 +41,12 @@ pass_is_link row moves target port end some = record {
   row = row target port end some;
   words = λ is c low legal owed. prefix_refl _;
   lanes = λ c low legal owed has. has refl;
-  tags = λ c low legal owed d less shown. (d, record { by_then = le_refl d; shown = shown; tag = refl; writes = refl });
+  tags = λ c low legal owed d less shown. (d, record { by_then = le_refl d; shown = shown; tag = refl; reads = refl; writes = refl });
   joins = λ c low legal owed alike. alike;
   quiet = λ c low legal owed answered. answered;
   goes_on = λ legal owed.
       let keeps = moves target port end legal in
-      further (record { rank = λ c. 0; going = wire_going target port end legal keeps.falls; holds = keeps.holds }) none;
+      further (record { rank = λ c. 0; going = wire_going target port end legal keeps.falls; holds = keeps.holds }) at_end;
 }
 
 pub pass_is_straight : ((ahead : ℕ → Bool) (target : Target) (port : Port) (end : ℕ) → GoesStraightThrough ahead target port port end) →

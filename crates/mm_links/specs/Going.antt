@@ -43,6 +43,6 @@ pub record GoesOn (target : Target) (pace : Pace) (up down : Port) (end : ℕ) :
 
 -- links in a row, the highest first: each has a rank between its own sides
 pub data RowGoesOn (target : Target) (end : ℕ) : List Pace → Port → Port → Type 0 where
-  none : {port : Port} → RowGoesOn target end [] port port
+  at_end : {port : Port} → RowGoesOn target end [] port port
   further : {pace : Pace} {paces : List Pace} {up middle down : Port} → GoesOn target pace up middle end → RowGoesOn target end paces middle down →
       RowGoesOn target end (pace ∷ paces) up down

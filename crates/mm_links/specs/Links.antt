@@ -14,6 +14,7 @@ pub record IsShownFor (up down : Port) (below above : ℕ) : Type 0 where
   pub by_then : above ≤ below
   pub shown : IsTrue (shows up.commands.signals above)
   pub tag : down.commands.tag below ≡ up.commands.tag above
+  pub reads : is_raised (down.commands.read below) ≡ is_raised (up.commands.read above)
   pub writes : is_raised (down.commands.write below) ≡ is_raised (up.commands.write above)
 
 abbrev pub HandsOnTags : Port → Port → ℕ → Type 0

@@ -1,4 +1,5 @@
 //! Links as machines: each keeps the whole record of a link, and two in a row keep it as one.
 #![tactic(auto)]
 
+pub mod pipes;
 pub mod rows;
