@@ -9,5 +9,6 @@ pub mod Whole
 pub mod Plan
 pub mod Moment
 pub mod Shorter
+pub mod Beginnings
 pub mod Values
 pub mod Laws

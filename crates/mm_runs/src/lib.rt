@@ -11,6 +11,7 @@ ghost use Rattle.mm_runs.specs.Operations.{Beat, own_operations, operations_of};
 ghost use Rattle.mm_runs.specs.Legal.{AreLegal};
 ghost use Rattle.mm_runs.specs.Awake.{NeverIdles, IsFair};
 ghost use Rattle.mm_runs.specs.Order.{ActsAsMemory, ReadsFromMemory, ReturnsInCommandOrder, from_base, issued, taken, are_together, Owner, is_same_owner, StandsBetween};
+ghost use Rattle.mm_runs.specs.Beginnings.{RunsAgreeBefore};
 ghost use Rattle.mm_runs.specs.Whole.{IsLegalRun, IsSafe};
 
 pub use plain::{
@@ -38,6 +39,20 @@ pub fn shorter_runs()
         → NeverIdles system run end → NeverIdles system run shorter }
     ensures fair { (shorter end : ℕ) → shorter ≤ end → (system : System) (run : Run) → IsFair system run end
         → IsFair system run shorter }
+{}
+
+/// What is asked of a run and what is promised of it up to a cycle depends on the cycles up to it alone:
+/// it holds of a run where it holds of one that shows the same before that cycle.
+pub fn same_beginnings()
+    ensures turned { (one two : Run) (end : ℕ) → RunsAgreeBefore one two end → RunsAgreeBefore two one end }
+    ensures legal { (system : System) (one two : Run) (end : ℕ) → RunsAgreeBefore one two end
+        → IsLegalRun system one end → IsLegalRun system two end }
+    ensures safe { (responses : Responses) (system : System) (one two : Run) (end : ℕ)
+        → RunsAgreeBefore one two end → IsSafe responses system one end → IsSafe responses system two end }
+    ensures awake { (system : System) (one two : Run) (end : ℕ) → RunsAgreeBefore one two end
+        → NeverIdles system one end → NeverIdles system two end }
+    ensures fair { (system : System) (one two : Run) (end : ℕ) → RunsAgreeBefore one two end
+        → IsFair system one end → IsFair system two end }
 {}
 
 /// Where an agent acts as memory, every byte that a host is given from it is what the writes before its read have left.
