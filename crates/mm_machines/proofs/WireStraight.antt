@@ -1,5 +1,5 @@
 -- A wire is straight and prompt.
-use Rattle.std.proofs.Common.{ℕ, zero, suc, ◌<◌, ◌≤◌, ◌≡◌, ◌+◌, List, [], ◌∷◌, ◌++◌, Bool, true, false, not, ◌&&◌, ◌||◌, arith, refl, sym, ap, ◌∙◌, length, length-append, take, slice_get, Some, IsTrue, nat_lt, lt-ltb, map, flat_map, inl, inr, ◌⊎◌}
+use Rattle.std.proofs.Common.{ℕ, zero, suc, ◌<◌, ◌≤◌, ◌≡◌, ◌+◌, List, [], ◌∷◌, ◌++◌, Bool, true, false, not, ◌&&◌, ◌||◌, arith, refl, sym, ap, ◌∙◌, length, length-append, take, slice_get, Some, IsTrue, nat_lt, lt-ltb, le-leb, le_refl, map, flat_map, inl, inr, ◌⊎◌}
 use Rattle.std.specs.List.{list_any, list_all}
 use Rattle.std.proofs.lemmas.Bool.{and_parts, true≢false}
 use Rattle.std.proofs.Math.Nat.{eq-or-lt_of_le, le_of_suc-le-suc}
@@ -15,6 +15,7 @@ pub wire_is_straight : (ahead : ℕ → Bool) (target : Target) (port : Port) (e
 wire_is_straight ahead target port end = record {
   shown = λ c h same plain next. ((and_parts (shows port.commands.signals c) (is_plain port.shape (earlier_shown port c) (marked_at port c)) plain).0, refl);
   accepted = λ c h same plain next. refl;
+  kept = λ c h same plain taken. le-leb _ _ (le_refl _);
 }
 
 some_of : (lanes : List ℕ) (test : ℕ → Bool) (f : ℕ → Operation) (rest : List Operation) → IsTrue (list_any test lanes) → 0 < length (map f lanes ++ rest)
@@ -79,13 +80,13 @@ shown_later shown accepts item c (suc d) taken later here = by_test (stands_on s
         by_cycle (inl same) parts more ih = absurd (true≢false (sym parts.1 ∙ ap (λ k. not (accepts k)) (sym same) ∙ ap not taken))
         by_cycle (inr less) parts more ih = let there = ih less in omega (arith, there, more)
 
-pub wire_is_prompt : (may_burst : Bool) (target : Target) (port : Port) (end : ℕ) → IsShownPromptly may_burst target port port end
-wire_is_prompt may_burst target port end = record {
+pub wire_is_prompt : (few : ℕ) (may_burst : Bool) (target : Target) (port : Port) (end : ℕ) → IsShownPromptly few may_burst target port port end
+wire_is_prompt few may_burst target port end = record {
   shown = λ c number m low got begins done.
       let first = (and_parts (begins_alone (take number (shown_at port (suc c))) m && may_be_prompt may_burst m) (has_first_lane target port.shape port.shape m) begins).1 in
       let some = some_operation target port.shape port.shape m first in
       let here = within target port.shape (shown_at port (suc c)) number m got in
-      let more = prefix_length (prefix_flat_map (operations_in target port.shape) (before_prefix (λ k. only_if (is_first (shows port.commands.signals) (takes port) k) (marked_at port k)) (suc c) (suc (c + 3)) (omega arith))) in
+      let more = prefix_length (prefix_flat_map (operations_in target port.shape) (before_prefix (λ k. only_if (is_first (shows port.commands.signals) (takes port) k) (marked_at port k)) (suc c) (suc (c + few)) (omega arith))) in
       lt-ltb _ _ (omega (arith, some, here, more));
   empty = λ c d low high empty same shown.
       let takes_it = (and_parts (takes port c) (closes (marked_at port c)) (and_parts (takes port c && closes (marked_at port c)) (list_all (λ n. not (is_of_reads n.transfer.kind) && not (has_lane port.shape n)) (last_command (taken_at port (suc c)))) empty).0).0 in

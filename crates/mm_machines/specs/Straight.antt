@@ -40,6 +40,10 @@ are_just_taken target up down earlier c =
     nat_eq (length (operations_among target down.shape (taken_at down c))) (length (operations_among target up.shape earlier))
     && list_all (λ m. is_nonempty (operations_in target down.shape m)) (standing (shows down.commands.signals) (takes down) (marked_at down) c)
 
+-- as the cycle begins, these commands are wholly taken below
+abbrev pub are_taken_below : Target → Port → Port → List Marked → ℕ → Bool
+are_taken_below target up down earlier c = nat_le (length (operations_among target up.shape earlier)) (length (operations_among target down.shape (taken_at down c)))
+
 -- ---- a link
 
 -- a plain command at equal words goes through in the cycle in which it is shown. Its earlier commands are taken, and answered but where `ahead` lifts this
@@ -50,6 +54,9 @@ pub record GoesStraightThrough (ahead : ℕ → Bool) (target : Target) (up down
   pub accepted : (c : ℕ) → c < end → up.shape.word_bytes ≡ down.shape.word_bytes → IsTrue (shows_plain up c) →
       IsTrue (are_just_taken target up down (earlier_shown up c) c && (ahead c || are_answered up (earlier_shown up c) c)) →
       takes up c ≡ takes down c
+  -- whatever waits: it isn't accepted above before it is taken below
+  pub kept : (c : ℕ) → c < end → up.shape.word_bytes ≡ down.shape.word_bytes → IsTrue (shows_plain up c) → IsTrue (takes up c) →
+      IsTrue (are_taken_below target up down (taken_at up (suc c)) (suc c))
 
 -- an operation of the beat lies in the first word of the lower size that it covers
 abbrev pub has_first_lane : Target → Shape → Shape → Marked → Bool
@@ -59,10 +66,6 @@ has_first_lane target up down marked =
 -- a read, a write of one beat, or, where the host has no byte enables or the agent has them, a write burst
 abbrev pub may_be_prompt : Bool → Marked → Bool
 may_be_prompt may_burst marked = is_of_reads marked.transfer.kind || closes marked || may_burst
-
--- as the cycle begins, these commands are wholly taken below
-abbrev pub are_taken_below : Target → Port → Port → List Marked → ℕ → Bool
-are_taken_below target up down earlier c = nat_le (length (operations_among target up.shape earlier)) (length (operations_among target down.shape (taken_at down c)))
 
 -- by the end of the cycle a beat with an operation of a later command has been shown below
 abbrev pub shows_after : Target → Port → Port → List Marked → ℕ → Bool
@@ -83,12 +86,13 @@ abbrev pub shows_empty_write : Target → Port → ℕ → Bool
 shows_empty_write target port c =
     shows port.commands.signals c && not (is_of_reads (marked_at port c).transfer.kind) && not (is_nonempty (operations_in target port.shape (marked_at port c)))
 
-pub record IsShownPromptly (may_burst : Bool) (target : Target) (up down : Port) (end : ℕ) : Type 0 where
-  -- a command that begins in an enabled lane, once all earlier ones are taken and answered, is shown within three cycles, whatever waits below
-  pub shown : (c number : ℕ) (m : Marked) → c + 3 < end → slice_get (shown_at up (suc c)) number ≡ Some m →
+-- `few`: cycles, 0 where a command is shown in its own cycle
+pub record IsShownPromptly (few : ℕ) (may_burst : Bool) (target : Target) (up down : Port) (end : ℕ) : Type 0 where
+  -- a command that begins in an enabled lane, once all earlier ones are taken and answered, is shown within a few cycles, whatever waits below
+  pub shown : (c number : ℕ) (m : Marked) → c + few < end → slice_get (shown_at up (suc c)) number ≡ Some m →
       IsTrue (begins_alone (take number (shown_at up (suc c))) m && may_be_prompt may_burst m && has_first_lane target up.shape down.shape m) →
       IsTrue (are_taken_below target up down (take number (shown_at up (suc c))) c && are_answered up (take number (shown_at up (suc c))) c) →
-      IsTrue (shows_after target up down (take number (shown_at up (suc c))) (c + 3))
+      IsTrue (shows_after target up down (take number (shown_at up (suc c))) (c + few))
   -- of a write without an enabled lane no beat is left to be taken once its last one is accepted, until another command is presented
   pub empty : (c d : ℕ) → c ≤ d → d < end → IsTrue (accepts_empty_write up c) → length (shown_at up (suc d)) ≡ length (shown_at up (suc c)) →
       IsTrue (shows_empty_write target down d) → (d ≡ c) × IsTrue (takes down c)
@@ -127,11 +131,11 @@ pub record HostGoesStraightThrough (side : HostSide) (view : HostView) (host : �
   pub accepted : (c : ℕ) → c < end → IsTrue (shows_plain (port_of_host side view host) c) → IsTrue (host_may_go_on (port_of_host side view host) down c) →
       IsTrue (side.has_readdatavalid || is_raised (view.write c)) → takes (port_of_host side view host) c ≡ takes down c
 
-pub record HostIsPrompt (side : HostSide) (view : HostView) (host : ℕ) (down : Port) (end : ℕ) : Type 0 where
-  pub shown : (c number : ℕ) (m : Marked) → c + 3 < end → slice_get (shown_at (port_of_host side view host) (suc c)) number ≡ Some m →
+pub record HostIsPrompt (few : ℕ) (side : HostSide) (view : HostView) (host : ℕ) (down : Port) (end : ℕ) : Type 0 where
+  pub shown : (c number : ℕ) (m : Marked) → c + few < end → slice_get (shown_at (port_of_host side view host) (suc c)) number ≡ Some m →
       IsTrue (m.transfer.begins) → number ≤ length (taken_at down c) →
       IsTrue (are_answered (port_of_host side view host) (take number (shown_at (port_of_host side view host) (suc c))) c) →
-      number < length (shown_at down (suc (c + 3)))
+      number < length (shown_at down (suc (c + few)))
   pub empty : (c : ℕ) → c < end → IsTrue (accepts_empty_write (port_of_host side view host) c) →
       length (taken_at down (suc c)) ≡ length (taken_at (port_of_host side view host) (suc c))
 
@@ -169,12 +173,12 @@ pub record RouteGoesStraightThrough (system : System) (host agent : ℕ) (up : P
 abbrev pub may_burst_to : System → ℕ → ℕ → Bool
 may_burst_to system host agent = not (system.host host).has_enables || (system.agent agent).has_enables
 
-pub record RouteIsPrompt (system : System) (host agent : ℕ) (up : Port) (down : ℕ → Port) (end : ℕ) : Type 0 where
-  pub shown : (c number : ℕ) (m : Marked) → c + 3 < end → slice_get (shown_at up (suc c)) number ≡ Some m → IsTrue (is_agent agent (place_of system host m.transfer)) →
+pub record RouteIsPrompt (few : ℕ) (system : System) (host agent : ℕ) (up : Port) (down : ℕ → Port) (end : ℕ) : Type 0 where
+  pub shown : (c number : ℕ) (m : Marked) → c + few < end → slice_get (shown_at up (suc c)) number ≡ Some m → IsTrue (is_agent agent (place_of system host m.transfer)) →
       IsTrue (begins_alone (take number (shown_at up (suc c))) m && may_be_prompt (may_burst_to system host agent) m && has_lane up.shape (record m { transfer = record m.transfer { beats = take 1 m.transfer.beats } })) →
       IsTrue (list_all (λ a. nat_le (operations_for system host a (take number (shown_at up (suc c)))) (length (operations_among (target_of system a) (down a).shape (taken_at (down a) c)))) (numbers 0 system.agents)
       && are_answered up (take number (shown_at up (suc c))) c) →
-      operations_for system host agent (take number (shown_at up (suc c))) < length (operations_among (target_of system agent) (down agent).shape (shown_at (down agent) (suc (c + 3))))
+      operations_for system host agent (take number (shown_at up (suc c))) < length (operations_among (target_of system agent) (down agent).shape (shown_at (down agent) (suc (c + few))))
   pub empty : (c d : ℕ) → c ≤ d → d < end → IsTrue (accepts_empty_write up c) → length (shown_at up (suc d)) ≡ length (shown_at up (suc c)) →
       IsTrue (is_agent agent (place_of system host (marked_at up c).transfer)) →
       IsTrue (shows_empty_write (target_of system agent) (down agent) d) → (d ≡ c) × IsTrue (takes (down agent) c)

@@ -27,8 +27,8 @@ pub fn wire_is_a_row()
 pub fn wire_is_straight()
     ensures straight { (ahead : ℕ → Bool) (target : Target) (port : Port) (end : ℕ)
         → GoesStraightThrough ahead target port port end }
-    ensures prompt { (may_burst : Bool) (target : Target) (port : Port) (end : ℕ)
-        → IsShownPromptly may_burst target port port end }
+    ensures prompt { (few : ℕ) (may_burst : Bool) (target : Target) (port : Port) (end : ℕ)
+        → IsShownPromptly few may_burst target port port end }
 {}
 
 /// A wire keeps the clause for commands with a rank that is always 0.
