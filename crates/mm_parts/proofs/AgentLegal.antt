@@ -13,7 +13,8 @@ use Rattle.mm_machines.specs.Lines.{TaggedPort}
 use Rattle.mm_machines.specs.Machines.{IsFitBeat, raw_at}
 use Rattle.mm_machines.specs.SideLaws.{fit_when_shown}
 use Rattle.mm_machines.specs.Lines.{ServesKinds}
-use Rattle.mm_parts.specs.Queue.{Entry, takes_read, entry_at, entries, left_after, answered}
+use Rattle.mm_parts.specs.Queue.{Entry, takes_read, entry_at, answered}
+use Rattle.mm_parts.proofs.Queued.{entries, left_after}
 use Rattle.mm_parts.specs.Agent.{AgentState, ShowsToAgent, IsAgentPlan, is_full}
 use Rattle.mm_parts.proofs.AgentShown.{same_takes, same_burst, count_is, write_is, read_is, shows_is, aligned_rest}
 use Rattle.mm_parts.proofs.QueueBound.{unanswered_few}

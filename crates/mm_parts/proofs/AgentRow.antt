@@ -12,7 +12,8 @@ use Rattle.mm_runs.specs.Order.{words_given_in}
 use Rattle.mm_machines.specs.Link.{takes, taken_at}
 use Rattle.mm_machines.specs.Lines.{TaggedPort, asked_tags, word_tags}
 use Rattle.mm_machines.specs.SideLaws.{fit_when_shown}
-use Rattle.mm_parts.specs.Queue.{Entry, entries, entry_at, takes_read, by_option}
+use Rattle.mm_parts.specs.Queue.{Entry, entry_at, takes_read, by_option}
+use Rattle.mm_parts.proofs.Queued.{entries}
 use Rattle.mm_machines.specs.Lines.{IsFit}
 use Rattle.mm_parts.specs.Agent.{AgentState, ShowsToAgent, GivesFixed, IsAgentPlan, row_places}
 use Rattle.mm_parts.proofs.AgentShown.{same_takes, read_is, reads_none}

@@ -14,7 +14,8 @@ use Rattle.mm_runs.specs.Order.{Answer, TaggedBeat, is_read_beat, beats_taken, w
 use Rattle.mm_machines.specs.Link.{Port, Marked, takes, marked_at, taken_at, bytes_in}
 use Rattle.mm_machines.specs.Lines.{TaggedPort, asked_tags, word_tags, answers_with, target_of, bytes_of}
 use Rattle.mm_machines.specs.Blocks.{codes_of}
-use Rattle.mm_parts.specs.Queue.{Entry, entries, left_after, head_tag}
+use Rattle.mm_parts.specs.Queue.{Entry, head_tag}
+use Rattle.mm_parts.proofs.Queued.{entries, left_after}
 use Rattle.mm_machines.specs.Lines.{IsFit}
 use Rattle.mm_parts.specs.Agent.{AgentState, ShowsToAgent, GivesQueued, IsAgentPlan, code_by}
 use Rattle.mm_parts.proofs.Alike.{AreAlike, tag_all, tagged_beats}

@@ -11,7 +11,8 @@ use Rattle.mm_machines.specs.Link.{Port, Marked, AreLegalAt, AnswersAreOwed, tak
 use Rattle.mm_machines.specs.Lines.{Sent, sent_of, sent_by, HostResponds, HostCarriesAnswers, IsHostLine}
 use Rattle.mm_machines.specs.SideLaws.{all_reached}
 use Rattle.mm_machines.specs.SideLaws.{total_append}
-use Rattle.mm_parts.specs.Queue.{Entry, takes_read, entries}
+use Rattle.mm_parts.specs.Queue.{Entry, takes_read}
+use Rattle.mm_parts.proofs.Queued.{entries}
 use Rattle.mm_parts.specs.Host.{HostState, IsHostMachine, ReadsWords}
 use Rattle.mm_parts.proofs.AgentLegal.{words_total}
 use Rattle.mm_parts.proofs.HalfLines.{host_single, host_debt, host_commands, host_shorter, reads_shorter}

@@ -11,7 +11,8 @@ use Rattle.mm_runs.specs.Legal.{IsLegalHost}
 use Rattle.mm_machines.specs.Link.{Port, AreLegalAt, AnswersAreOwed, takes, taken_at, read_beats, words_at}
 use Rattle.mm_machines.specs.SideLaws.{same_counts}
 use Rattle.mm_machines.specs.SideLaws.{fit_when_shown}
-use Rattle.mm_parts.specs.Queue.{Entry, takes_read, entry_at, entries, left_after}
+use Rattle.mm_parts.specs.Queue.{Entry, takes_read, entry_at}
+use Rattle.mm_parts.proofs.Queued.{entries, left_after}
 use Rattle.mm_machines.specs.Lines.{OwesBelow}
 use Rattle.mm_parts.specs.Host.{HostState, IsHostMachine, ReadsWords}
 use Rattle.mm_parts.proofs.RouteDebts.{reads_more}

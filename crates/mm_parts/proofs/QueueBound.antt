@@ -7,7 +7,8 @@ use Rattle.histories.specs.Laws.{unreached_falls}
 use Rattle.mm_runs.specs.Commands.{is_of_reads, words_before}
 use Rattle.mm_machines.specs.Link.{Port, Marked, taken_at, AreLegalAt, read_beats}
 use Rattle.mm_machines.specs.SideLaws.{total_append}
-use Rattle.mm_parts.specs.Queue.{Entry, QueuesReads, takes_read, entry_at, entries, left_after, answered}
+use Rattle.mm_parts.specs.Queue.{Entry, QueuesReads, takes_read, entry_at, answered}
+use Rattle.mm_parts.proofs.Queued.{entries, left_after}
 use Rattle.mm_parts.proofs.Queued.{words_of, all_ask, queue_is, unreached_is, answered_length, entries_more, HasWords, word_more, left_push, asks_some}
 
 -- the words that are asked are those of the reads

@@ -8,7 +8,21 @@ use Rattle.histories.specs.History.{before, only_if, one_if, is_raised, unreache
 use Rattle.mm_runs.specs.Commands.{shows, is_of_reads, words_before, burst_before}
 use Rattle.mm_machines.specs.Link.{Port, Marked, AreLegalAt, takes, marked_at, taken_at}
 use Rattle.mm_machines.specs.SideLaws.{fit_when_shown}
-use Rattle.mm_parts.specs.Queue.{Entry, answered, takes_read, entry_at, QueuesReads, entry_of, entries, left_after}
+use Rattle.mm_parts.specs.Queue.{Entry, answered, takes_read, entry_at, QueuesReads}
+
+-- the entries of all reads of a list
+abbrev pub entry_of : Marked → Entry
+entry_of m = record { tag = m.tag; left = length m.transfer.beats }
+
+abbrev pub entries : List Marked → List Entry
+entries ms = map entry_of (filter (λ (m : Marked). is_of_reads m.transfer.kind) ms)
+
+-- the entries that are left of a list after so many words
+abbrev pub left_after : List Entry → ℕ → List Entry
+left_after [] words = []
+left_after (e ∷ later) words =
+    if nat_lt words e.left then record { tag = e.tag; left = e.left - words } ∷ later
+    else left_after later (words - e.left)
 
 abbrev pub words_of : List Entry → ℕ
 words_of es = total (map (λ (e : Entry). e.left) es)

@@ -8,7 +8,8 @@ use Rattle.mm_runs.specs.Operations.{Beat}
 use Rattle.mm_runs.specs.Commands.{is_of_reads}
 use Rattle.mm_machines.specs.Link.{Marked}
 use Rattle.mm_machines.specs.Lines.{asked_tags}
-use Rattle.mm_parts.specs.Queue.{Entry, entries, left_after, head_tag}
+use Rattle.mm_parts.specs.Queue.{Entry, head_tag}
+use Rattle.mm_parts.proofs.Queued.{entries, left_after}
 use Rattle.mm_parts.proofs.Queued.{AllAsk, HasWords, words_of}
 
 abbrev pub tags_of : List Entry → List ℕ

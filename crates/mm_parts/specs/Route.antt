@@ -10,11 +10,11 @@ use Rattle.mm_runs.specs.Plan.{serves_kind}
 use Rattle.mm_machines.specs.Link.{Port, takes}
 use Rattle.mm_parts.specs.Queue.{takes_read, by_option}
 
--- the registers
+-- the registers, as functions of the cycle
 pub record RouteState : Type 0 where
   pub inside : ℕ → Bool  -- the last beat that was taken had `more` high
   pub kept : ℕ → Option ℕ  -- the place of the last cycle
-  pub owed : ℕ → ℕ  -- words that are owed above as the cycle begins
+  pub owed : ℕ → ℕ  -- the words that are owed above as the cycle begins
   pub owing : ℕ → Option ℕ  -- the place of the last read that was taken
 
 abbrev pub kind_at : Port → ℕ → Kind
@@ -45,10 +45,10 @@ abbrev pub default_code_by : Responses → ℕ
 default_code_by AreZero = 0
 default_code_by AreCodes = 3
 
--- the debt fits its register where it stays below `room`
+-- `room`: the register `owed` counts below it
 pub record IsRouteMachine (responses : Responses) (system : System) (host room : ℕ) (up : Port) (down : ℕ → Port) (state : RouteState) (end : ℕ) : Type 0 where
   pub shapes : (a : ℕ) → a < system.agents → (down a).shape ≡ up.shape
-  -- the commands
+  -- the commands: shown to the place of their first address, with the host's number as their tag
   pub read : (a c : ℕ) → a < system.agents → c < end → (down a).commands.read c ≡ (if goes_to system host up state a c then up.commands.read c else 0)
   pub write : (a c : ℕ) → a < system.agents → c < end → (down a).commands.write c ≡ (if goes_to system host up state a c then up.commands.write c else 0)
   pub address : (a c : ℕ) → a < system.agents → c < end → (down a).commands.address c ≡ up.commands.address c
