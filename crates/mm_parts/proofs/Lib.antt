@@ -1,3 +1,4 @@
+mod MachineRuns
 mod AgentShown
 mod Alike
 mod AgentBeats

@@ -5,6 +5,7 @@ use Rattle.histories.specs.History.{is_raised, one_if}
 use Rattle.mm_runs.specs.Views.{HostSide, HostView, Responses}
 use Rattle.mm_runs.specs.Views.Responses.{AreZero, AreCodes}
 use Rattle.mm_runs.specs.Commands.{byte_address}
+use Rattle.mm_machines.specs.Paths.{AnswerView}
 use Rattle.mm_machines.specs.Link.{Port, takes}
 use Rattle.mm_parts.specs.Queue.{Entry, QueuesReads, takes_read}
 
@@ -25,9 +26,9 @@ ends_now view state c =
     not (is_raised (view.write c)) || (if nat_eq (state.left c) 0 then nat_eq (view.count c) 1 else nat_eq (state.left c) 1)
 
 -- `response` is 0 in a cycle without a word
-abbrev pub response_by : Responses → HostSide → Port → ℕ → ℕ
-response_by AreZero side down c = 0
-response_by AreCodes side down c = if side.has_response && is_raised (down.answers.valid c) then down.answers.code c else 0
+abbrev pub response_by : Responses → HostSide → AnswerView → ℕ → ℕ
+response_by AreZero side answers c = 0
+response_by AreCodes side answers c = if side.has_response && is_raised (answers.valid c) then answers.code c else 0
 
 abbrev pub left_past : HostView → HostState → ℕ → ℕ
 left_past view state c = if nat_eq (state.left c) 0 then view.count c - 1 else state.left c - 1
@@ -56,7 +57,7 @@ pub record IsHostMachine (responses : Responses) (side : HostSide) (view : HostV
   -- the answers
   pub valid : (c : ℕ) → c < end → IsTrue side.has_readdatavalid → is_raised (view.readdatavalid c) ≡ is_raised (down.answers.valid c)
   pub answer : (c : ℕ) → c < end → view.readdata c ≡ down.answers.word c
-  pub response : (c : ℕ) → c < end → view.response c ≡ response_by responses side down c
+  pub response : (c : ℕ) → c < end → view.response c ≡ response_by responses side down.answers c
 
 -- a host without readdatavalid reads one word at a time: bursts of reads need readdatavalid
 abbrev pub ReadsWords : HostSide → HostView → ℕ → Type 0

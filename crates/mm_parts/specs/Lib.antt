@@ -3,3 +3,8 @@ pub mod Agent
 pub mod Arbiter
 pub mod Route
 pub mod Host
+pub mod Inputs
+pub mod AgentRun
+pub mod ArbiterRun
+pub mod RouteRun
+pub mod HostRun

@@ -1,4 +1,5 @@
-//! Hosts, routes, arbiters and agents as machines, and the lines that they keep.
+//! Hosts, routes, arbiters and agents as machines: the lines that they keep, and their runs.
 #![tactic(auto)]
 
 pub mod lines;
+pub mod runs;

@@ -1,0 +1,222 @@
+-- The runs of the machines obey their equations.
+use Rattle.std.proofs.Common.{ℕ, zero, suc, ◌<◌, ◌≤◌, ◌≡◌, ◌+◌, ◌-◌, ◌*◌, ◌/◌, ◌%◌, ◌^◌, List, Bool, true, false, ◌&&◌, ◌||◌, if◌then◌else◌, nat_eq, arith, refl, sym, ap, ◌∙◌, Option, Some, None, IsTrue, IsFalse, MatchOption, mul_assoc}
+use Rattle.std.proofs.lemmas.Bool.{ne_eqb}
+use Rattle.std.proofs.lemmas.Nat.{pow_pos}
+use Rattle.std.proofs.Math.Nat.{div-add-mod', mul-div_cancel}
+use Rattle.ranks.specs.Turns.{Seat}
+use Rattle.histories.specs.History.{is_raised, one_if}
+use Rattle.mm_runs.specs.Views.{Responses, System, HostSide, AgentSide, AgentView, levels_at}
+use Rattle.mm_runs.specs.Commands.{burst_after, burst_before, byte_address, shows}
+use Rattle.mm_machines.specs.Link.{Port, takes, closes}
+use Rattle.mm_machines.specs.Lines.{TaggedPort}
+use Rattle.mm_machines.specs.Machines.{raw_at, mark}
+use Rattle.mm_machines.specs.Turns.{Grant, chosen, open_after, ends_at}
+use Rattle.mm_parts.specs.Queue.{by_option}
+use Rattle.mm_parts.specs.Host.{IsHostMachine}
+use Rattle.mm_parts.specs.HostRun.{HostInputs, host_registers, host_state, host_view, host_lower, host_waits}
+use Rattle.mm_parts.specs.Route.{RouteState, IsRouteMachine}
+use Rattle.mm_parts.specs.RouteRun.{RouteInputs, route_registers, route_state, route_upper, route_lower}
+use Rattle.mm_parts.specs.Arbiter.{IsArbiterMachine}
+use Rattle.mm_parts.specs.ArbiterRun.{ArbiterInputs, arbiter_registers, arbiter_grant, arbiter_upper, arbiter_lower, asks_now}
+use Rattle.mm_parts.specs.Agent.{AgentState, ShowsToAgent, GivesQueued, GivesFixed, IsAgentMachine, code_by}
+use Rattle.mm_parts.specs.AgentRun.{AgentInputs, SuitsAgent, agent_registers, agent_state, agent_view, agent_upper, timed}
+use Rattle.mm_parts.proofs.AgentShown.{aligned_rest}
+
+pub raised : (b : Bool) → is_raised (one_if b) ≡ b
+raised true = refl
+raised false = refl
+
+pub host_runs : (responses : Responses) (side : HostSide) (inputs : HostInputs) (end : ℕ) →
+    IsHostMachine responses side (host_view responses side inputs (host_state (host_registers responses side inputs)))
+    (host_lower side inputs (host_view responses side inputs (host_state (host_registers responses side inputs))) (host_state (host_registers responses side inputs)))
+    (host_state (host_registers responses side inputs)) end
+host_runs responses side inputs end = record {
+  words = refl;
+  units = refl;
+  bursts = refl;
+  read = λ c low. refl;
+  write = λ c low. refl;
+  address = λ c low. refl;
+  word = λ c low. refl;
+  enables = λ c low. refl;
+  count = λ c low. refl;
+  more = λ c low. refl;
+  tag = λ c low. refl;
+  wait = λ c low. raised (host_waits side inputs (host_state (host_registers responses side inputs)) c);
+  starts = refl;
+  lasts = λ c low. refl;
+  quiet = refl;
+  asks = λ c low has. refl;
+  queues = λ has. record { begins = refl; next = λ c low. refl };
+  valid = λ c low has. ap (λ b. is_raised (if b then inputs.answers.valid c else 0)) has;
+  answer = λ c low. refl;
+  response = λ c low. refl;
+}
+
+module _ (responses : Responses) (system : System) (host room : ℕ) (inputs : RouteInputs) (end : ℕ) where
+  abbrev state : RouteState
+  state = route_state (route_registers responses system host inputs)
+
+  owed_next : (x y : ℕ) → y ≤ x → (x - y) + y ≡ x
+  owed_next x y low = omega (arith, low)
+
+  pub route_runs : IsRouteMachine responses system host room (route_upper responses system host inputs state) (route_lower system host inputs state) state end
+  route_runs = record {
+    shapes = λ a there. refl;
+    read = λ a c there low. refl;
+    write = λ a c there low. refl;
+    address = λ a c there low. refl;
+    word = λ a c there low. refl;
+    enables = λ a c there low. refl;
+    count = λ a c there low. refl;
+    more = λ a c there low. refl;
+    tag = λ a c there low. refl;
+    wait = λ c low. raised _;
+    outside = refl;
+    stays = λ c low. refl;
+    keeps = λ c low. refl;
+    nothing = refl;
+    nobody = refl;
+    counts = λ c low few some. owed_next _ _ some;
+    owes = λ c low. refl;
+    valid = λ c low. raised _;
+    answer = λ c low. refl;
+    code = λ c low. refl;
+  }
+
+module _ (seats : List Seat) (hosts : ℕ) (inputs : ArbiterInputs) (end : ℕ) where
+  abbrev grant : ℕ → Grant
+  grant = arbiter_grant seats inputs
+
+  abbrev above : ℕ → Port
+  above = arbiter_upper inputs grant
+
+  abbrev below : Port
+  below = (arbiter_lower inputs grant).port
+
+  -- the bursts of the askers stand where the registers tell
+  bursts_are : (h c : ℕ) → burst_before (above h).shape (above h).commands.signals (takes (above h)) c ≡ (arbiter_registers seats inputs c).bursts h
+  bursts_are h zero = refl
+  bursts_are h (suc c) = ap (burst_after inputs.shape (levels_at (inputs.asker h).signals c) (takes (above h) c)) (bursts_are h c)
+
+  ends_same : (c h : ℕ) → takes below c && closes (mark inputs.shape ((arbiter_registers seats inputs c).bursts h) (raw_at (above h) c)) ≡ ends_at above below c h
+  ends_same c h = ap (λ b. takes below c && closes (mark inputs.shape b (raw_at (above h) c))) (sym (bursts_are h c))
+
+  open_same : (open_host choice : Option ℕ) (one other : ℕ → Bool) → ((h : ℕ) → one h ≡ other h) → open_after open_host choice one ≡ open_after open_host choice other
+  open_same open_host None one other same = refl
+  open_same open_host (Some host) one other same = ap (λ b. if b then None else Some host) (same host)
+
+  shows_choice : (c : ℕ) (o : Option ℕ) → (chosen (grant c) (asks_now inputs c)).host ≡ o →
+      MatchOption o (IsFalse (shows below.commands.signals c)) (λ host. raw_at below c ≡ raw_at (above host) c)
+  shows_choice c None is = ap (λ o. is_raised (by_option o 0 (λ host. (inputs.asker host).signals.read c)) || is_raised (by_option o 0 (λ host. (inputs.asker host).signals.write c))) is
+  shows_choice c (Some host) is = ap (λ o. record {
+    levels = record {
+      read = by_option o 0 (λ host. (inputs.asker host).signals.read c);
+      write = by_option o 0 (λ host. (inputs.asker host).signals.write c);
+      address = by_option o 0 (λ host. (inputs.asker host).signals.address c);
+      word = by_option o 0 (λ host. (inputs.asker host).signals.word c);
+      enables = by_option o 0 (λ host. (inputs.asker host).signals.enables c);
+      count = by_option o 0 (λ host. (inputs.asker host).signals.count c);
+    };
+    more = by_option o 0 (λ host. (inputs.asker host).more c);
+    tag = by_option o 0 (λ host. (inputs.asker host).tag c);
+  }) is
+
+  pub arbiter_runs : IsArbiterMachine seats hosts above (arbiter_lower inputs grant) grant end
+  arbiter_runs = record {
+    shapes = λ h there. refl;
+    begins = refl;
+    next = λ c low. ap (λ o. record { open_host = o; round = (chosen (grant c) (asks_now inputs c)).round }) (open_same (grant c).open_host (chosen (grant c) (asks_now inputs c)).host _ _ (ends_same c));
+    shown = λ c low. shows_choice c (chosen (grant c) (asks_now inputs c)).host refl;
+    wait = λ h c there low. raised _;
+    valid = λ h c there low. raised _;
+    word = λ h c there low. refl;
+    code = λ h c there low. refl;
+  }
+
+-- an offset in whole words is one in whole units
+in_units : (offset word unit units : ℕ) → 0 < word → 0 < unit → word ≡ units * unit → offset % word ≡ 0 → (offset / unit) * unit ≡ offset
+in_units offset word unit units some one whole aligned =
+    let words = div-add-mod' offset word in
+    let all : offset ≡ (offset / word) * word = omega (arith, words, aligned) in
+    let units_all : offset ≡ (offset / word * units) * unit = all ∙ ap (λ w. (offset / word) * w) whole ∙ sym (mul_assoc (offset / word) units unit) in
+    ap (λ n. (n / unit) * unit) units_all ∙ ap (λ n. n * unit) (mul-div_cancel (offset / word * units) one) ∙ sym units_all
+
+gate : {A : Type 0} (b : Bool) (x y : A) → b ≡ true → (if b then x else y) ≡ x
+gate true x y e = refl
+gate false x y e = cc
+
+shut : {A : Type 0} (b : Bool) (x y : A) → b ≡ false → (if b then x else y) ≡ y
+shut false x y e = refl
+shut true x y e = cc
+
+module _ (responses : Responses) (side : AgentSide) (inputs : AgentInputs) (end : ℕ) (suits : SuitsAgent side inputs.shape) where
+  abbrev registers : AgentState
+  registers = agent_state (agent_registers responses side inputs)
+
+  abbrev view : AgentView
+  view = agent_view side inputs registers
+
+  abbrev upper : TaggedPort
+  upper = agent_upper responses side inputs registers
+
+  address_is : (c : ℕ) → view.address c * side.unit_bytes ≡ byte_address inputs.shape (inputs.commands.signals.address c) % side.span
+  address_is c =
+      let at = inputs.commands.signals.address c * inputs.shape.unit_bytes in
+      let plan = suits.plan in
+      in_units (byte_address inputs.shape (inputs.commands.signals.address c) % side.span) side.word_bytes side.unit_bytes suits.units plan.word plan.unit suits.whole
+      (ap (λ w. ((at - at % w) % side.span) % side.word_bytes) suits.words ∙ aligned_rest at side.word_bytes plan.span side.span plan.spans)
+
+  all_ones : (bytes : ℕ) → (2 ^ bytes - 1) + 1 ≡ 2 ^ bytes
+  all_ones bytes = let some = pow_pos bytes in omega (arith, some)
+
+  commands_run : ShowsToAgent side view upper registers end
+  commands_run = record {
+    words = suits.words;
+    bursts = suits.bursts;
+    plain = suits.plain;
+    read = λ c low has. gate side.has_read _ 0 has;
+    no_read = λ c low has. shut side.has_read _ 0 has;
+    write = λ c low has. gate side.has_write _ 0 has;
+    no_write = λ c low has. shut side.has_write _ 0 has;
+    address = λ c low. address_is c;
+    word = λ c low. refl;
+    enables = λ c low has. gate side.has_enables _ _ has;
+    all_lanes = λ c low has. ap (λ n. n + 1) (shut side.has_enables _ _ has) ∙ all_ones side.word_bytes;
+    count = λ c low. refl;
+    grant = λ c low. refl;
+    wait = λ c low. raised _;
+    stood_first = refl;
+    stood_next = λ c low has. refl;
+    queues = λ has. record { begins = refl; next = λ c low. refl };
+  }
+
+  queued_run : IsTrue side.has_readdatavalid → GivesQueued responses view upper registers end
+  queued_run has = record {
+    valid = λ c low. ap is_raised (gate side.has_readdatavalid _ _ has);
+    word = λ c low. gate side.has_readdatavalid _ _ has;
+    code = λ c low. gate side.has_readdatavalid _ _ has;
+    tag = λ c low. gate side.has_readdatavalid _ _ has;
+  }
+
+  at_once : (level : ℕ → ℕ) (c : ℕ) → IsFalse side.has_readdatavalid → 1 ≤ side.read_latency → timed side level c ≡ level c
+  at_once level c has some = shut side.has_readdatavalid _ _ has ∙ shut (nat_eq side.read_latency 0) _ _ (ne_eqb side.read_latency 0 (λ none. omega (arith, none, some)))
+
+  late : (level : ℕ → ℕ) (c : ℕ) → IsFalse side.has_readdatavalid → side.read_latency ≡ 0 → timed side level (suc c) ≡ level c
+  late level c has none = shut side.has_readdatavalid _ _ has ∙ gate (nat_eq side.read_latency 0) _ _ (ap (λ n. nat_eq n 0) none)
+
+  fixed_run : IsFalse side.has_readdatavalid → GivesFixed responses side view upper registers end
+  fixed_run has = record {
+    empty = λ i. refl;
+    first = λ c low. refl;
+    next = λ c i low. refl;
+    valid = λ c low. ap is_raised (shut side.has_readdatavalid _ _ has) ∙ raised _;
+    tag = λ c low. shut side.has_readdatavalid _ _ has;
+    word = λ c low some. at_once inputs.readdata c has some;
+    code = λ c low some. at_once (λ c. code_by responses (inputs.response c)) c has some;
+    word_late = λ c low none. late inputs.readdata c has none;
+    code_late = λ c low none. late (λ c. code_by responses (inputs.response c)) c has none;
+  }
+
+  pub agent_runs : IsAgentMachine responses side view upper registers end
+  agent_runs = record { commands = commands_run; queued = queued_run; fixed = fixed_run }
