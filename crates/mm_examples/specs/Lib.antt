@@ -9,3 +9,4 @@ pub mod TurnRows
 pub mod DefaultRows
 pub mod WidthRows
 pub mod WireRows
+pub mod PartRows

@@ -1,6 +1,8 @@
 //! Small runs, right and wrong: each definition of memory-mapped runs computed on worked rows.
 #![tactic(auto)]
 
+pub mod parts;
+
 ghost use Rattle.std.specs.Prelude.{◌≡◌, ◌-◌, ◌∷◌, ◌++◌, [], true, false, ℕ, None, map, length, replicate};
 ghost use Rattle.histories.specs.History.{before, numbers};
 ghost use Rattle.mm_runs.specs.Commands.{agent_accepts, longest_burst};

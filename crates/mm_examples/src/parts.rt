@@ -1,0 +1,71 @@
+//! Rows of the machines of agent, host, route and arbiter, computed.
+
+ghost use Rattle.std.specs.Prelude.{◌≡◌, ◌∷◌, ◌++◌, [], ℕ, true, replicate};
+ghost use Rattle.mm_machines.specs.Lines.{word_tags};
+ghost use Rattle.mm_examples.specs.Examples.{host_of};
+ghost use Rattle.mm_examples.specs.MoreExamples.{agent_with_bound};
+ghost use Rattle.mm_examples.specs.PartRows.{levels, at_agent, above_agent, two_reads_in, three_reads_in, stalled_in, timed_agent};
+ghost use Rattle.mm_examples.specs.PartRows.{write_then_read_in, fixed_reads_in, burst_reads_in, at_host, below_host, burst_writes_in};
+ghost use Rattle.mm_examples.specs.PartRows.{many_reads_in, waiting_host, waiting_read_in, above_route, below_route, other_read_in};
+ghost use Rattle.mm_examples.specs.PartRows.{default_read_in, placed_burst_in, above_arbiter, below_arbiter, two_writers_in};
+
+/// At a bound of one the second read is held back until the first is answered; at two the third one is.
+pub fn agent_holds_reads_back()
+    ensures second { levels (at_agent (agent_with_bound 1) two_reads_in).read 5 ≡ 1 ∷ 0 ∷ 0 ∷ 1 ∷ 0 ∷ [] }
+    ensures waits { levels (above_agent (agent_with_bound 1) two_reads_in).commands.waitrequest 5 ≡ 0 ∷ 1 ∷ 1 ∷ 0 ∷ 0 ∷ [] }
+    ensures tags { word_tags (above_agent (agent_with_bound 1) two_reads_in) 5 ≡ 0 ∷ 1 ∷ [] }
+    ensures third { levels (at_agent (agent_with_bound 2) three_reads_in).read 6 ≡ 1 ∷ 1 ∷ 0 ∷ 0 ∷ 1 ∷ 0 ∷ [] }
+    ensures third_tags { word_tags (above_agent (agent_with_bound 2) three_reads_in) 7 ≡ 0 ∷ 1 ∷ 0 ∷ [] }
+{}
+
+/// A write stands while the agent waits, and for its wait states.
+pub fn agent_waits()
+    ensures stall { levels (above_agent (agent_with_bound 1) stalled_in).commands.waitrequest 4 ≡ 1 ∷ 1 ∷ 0 ∷ 0 ∷ [] }
+    ensures shown { levels (at_agent (agent_with_bound 1) stalled_in).write 4 ≡ 1 ∷ 1 ∷ 1 ∷ 0 ∷ [] }
+    ensures three_and_none { levels (above_agent (timed_agent 0 0 3) write_then_read_in).commands.waitrequest 6 ≡ 1 ∷ 1 ∷ 1 ∷ 0 ∷ 0 ∷ 0 ∷ [] }
+{}
+
+/// At fixed latency a word goes up so many cycles after its read, and at latency 0 one cycle after.
+pub fn agent_answers_in_time()
+    ensures at_none { levels (above_agent (timed_agent 0 0 0) fixed_reads_in).answers.valid 4 ≡ 0 ∷ 1 ∷ 1 ∷ 0 ∷ [] }
+    ensures words_at_none { levels (above_agent (timed_agent 0 0 0) fixed_reads_in).answers.word 3 ≡ 0 ∷ 0x10 ∷ 0x11 ∷ [] }
+    ensures at_one { levels (above_agent (timed_agent 1 0 0) fixed_reads_in).answers.valid 4 ≡ 0 ∷ 1 ∷ 1 ∷ 0 ∷ [] }
+    ensures words_at_one { levels (above_agent (timed_agent 1 0 0) fixed_reads_in).answers.word 3 ≡ 0x10 ∷ 0x11 ∷ 0x12 ∷ [] }
+    ensures at_five { levels (above_agent (timed_agent 5 0 0) fixed_reads_in).answers.valid 8 ≡ 0 ∷ 0 ∷ 0 ∷ 0 ∷ 0 ∷ 1 ∷ 1 ∷ 0 ∷ [] }
+    ensures tags_at_five { word_tags (above_agent (timed_agent 5 0 0) fixed_reads_in) 8 ≡ 0 ∷ 1 ∷ [] }
+{}
+
+/// The words of bursts of one to four bear the tags of their reads.
+pub fn agent_answers_bursts()
+    ensures { word_tags (above_agent (agent_with_bound 4) burst_reads_in) 14 ≡ 0 ∷ 1 ∷ 1 ∷ 0 ∷ 0 ∷ 0 ∷ 1 ∷ 1 ∷ 1 ∷ 1 ∷ [] }
+{}
+
+/// `more` is low on the last beat of each burst; a 17th read waits; without readdatavalid a read is shown until it is taken and waits for its word.
+pub fn host_rows()
+    ensures bursts { levels (below_host (host_of 4 true) burst_writes_in).commands.more 10 ≡ 0 ∷ 1 ∷ 0 ∷ 1 ∷ 1 ∷ 0 ∷ 1 ∷ 1 ∷ 1 ∷ 0 ∷ [] }
+    ensures full { levels (at_host (host_of 4 true) many_reads_in).waitrequest 17 ≡ replicate 16 0 ++ 1 ∷ [] }
+    ensures shut { levels (below_host (host_of 4 true) many_reads_in).commands.read 17 ≡ replicate 16 1 ++ 0 ∷ [] }
+    ensures once { levels (below_host waiting_host waiting_read_in).commands.read 5 ≡ 1 ∷ 1 ∷ 0 ∷ 0 ∷ 0 ∷ [] }
+    ensures waits { levels (at_host waiting_host waiting_read_in).waitrequest 4 ≡ 1 ∷ 1 ∷ 1 ∷ 0 ∷ [] }
+    ensures address { levels (below_host waiting_host waiting_read_in).commands.address 1 ≡ 12 ∷ [] }
+{}
+
+/// A read of another agent waits for the word that is owed; the default agent answers from the next cycle on; a burst keeps its place.
+pub fn route_rows()
+    ensures first { levels (below_route other_read_in 0).commands.read 5 ≡ 1 ∷ 0 ∷ 0 ∷ 0 ∷ 0 ∷ [] }
+    ensures second { levels (below_route other_read_in 1).commands.read 5 ≡ 0 ∷ 0 ∷ 0 ∷ 1 ∷ 0 ∷ [] }
+    ensures waits { levels (above_route other_read_in).commands.waitrequest 4 ≡ 0 ∷ 1 ∷ 1 ∷ 0 ∷ [] }
+    ensures words { levels (above_route other_read_in).answers.valid 5 ≡ 0 ∷ 0 ∷ 1 ∷ 0 ∷ 1 ∷ [] }
+    ensures default { levels (above_route default_read_in).answers.valid 5 ≡ 0 ∷ 1 ∷ 1 ∷ 1 ∷ 0 ∷ [] }
+    ensures codes { levels (above_route default_read_in).answers.code 2 ≡ 3 ∷ 3 ∷ [] }
+    ensures kept { levels (below_route placed_burst_in 1).commands.write 4 ≡ 1 ∷ 1 ∷ 1 ∷ 0 ∷ [] }
+    ensures back { levels (below_route placed_burst_in 0).commands.write 4 ≡ 0 ∷ 0 ∷ 0 ∷ 1 ∷ [] }
+{}
+
+/// Shares of one and three: 0 1 1 1 0 1 1 1; a beat that waits stays; a word goes to the host whose tag it bears.
+pub fn arbiter_rows()
+    ensures shares { levels (below_arbiter (two_writers_in [] [] [])).commands.tag 8 ≡ 0 ∷ 1 ∷ 1 ∷ 1 ∷ 0 ∷ 1 ∷ 1 ∷ 1 ∷ [] }
+    ensures waits { levels (above_arbiter (two_writers_in [] [] []) 0).commands.waitrequest 8 ≡ 0 ∷ 1 ∷ 1 ∷ 1 ∷ 0 ∷ 1 ∷ 1 ∷ 1 ∷ [] }
+    ensures stall { levels (below_arbiter (two_writers_in (0 ∷ 1 ∷ []) [] [])).commands.tag 6 ≡ 0 ∷ 1 ∷ 1 ∷ 1 ∷ 1 ∷ 0 ∷ [] }
+    ensures words { levels (above_arbiter (two_writers_in [] (1 ∷ 1 ∷ []) (1 ∷ 0 ∷ [])) 1).answers.valid 2 ≡ 1 ∷ 0 ∷ [] }
+{}
