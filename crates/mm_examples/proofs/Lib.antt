@@ -13,3 +13,6 @@ pub mod SplitterRun
 pub mod DefaultTraces
 pub mod WidthTraces
 pub mod WireTraces
+pub mod IdleRuns
+pub mod SmallKept
+pub mod EmptyRead

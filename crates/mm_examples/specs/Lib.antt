@@ -10,3 +10,5 @@ pub mod DefaultRows
 pub mod WidthRows
 pub mod WireRows
 pub mod PartRows
+pub mod IdleRows
+pub mod SmallSystem

@@ -1,6 +1,7 @@
 //! Small runs, right and wrong: each definition of memory-mapped runs computed on worked rows.
 #![tactic(auto)]
 
+pub mod awake;
 pub mod parts;
 
 ghost use Rattle.std.specs.Prelude.{◌≡◌, ◌-◌, ◌∷◌, ◌++◌, [], true, false, ℕ, None, map, length, replicate};

@@ -1,0 +1,62 @@
+//! Runs in which a part lets a wanted agent wait for ever, each refused by the record of that part, and right runs that keep the records.
+
+ghost use Rattle.std.specs.Prelude.{ℕ, ◌<◌};
+ghost use Rattle.mm_runs.specs.Awake.{ServesWithin, ServesDefaultWithin};
+ghost use Rattle.mm_machines.specs.Lines.{TaggedPort, target_of};
+ghost use Rattle.mm_machines.specs.Rank.{AnswersPromptly, LinkRankFalls};
+ghost use Rattle.mm_awake.specs.Front.{IsFront, IsDefaultFront, KeepsWhole};
+ghost use Rattle.mm_awake.specs.HostRoute.{IsRoutePart};
+ghost use Rattle.mm_awake.specs.Parts.{IsArbiterPart, GivesWhatHasCome};
+ghost use Rattle.mm_examples.specs.IdleRows.{pair_system, held_run, held_below, read_port, swallow_run, stray_system, stray_run, two_places};
+ghost use Rattle.mm_examples.specs.IdleRows.{passing_run, passing_down, mistagged, limited_top, limited_down, sets_top, sets_down};
+ghost use Rattle.mm_examples.specs.MoreExamples.{byte_target};
+ghost use Rattle.mm_examples.specs.SmallSystem.{stage_top, stage_low, small_system, small_run, small_ways, small_standings};
+
+/// A route holds the last beat of a burst, which has no lane, and the arbiter waits for it: host 1 is never served.
+pub fn held_empty_beat()
+    ensures asleep { ServesWithin 3 pair_system held_run 0 5 → ⊥ }
+    ensures refused { IsFront pair_system held_run 0 0 (held_below 0) 5 → ⊥ }
+{}
+
+/// A route swallows a word.
+pub fn swallowed_word()
+    ensures asleep { ServesWithin 3 pair_system swallow_run 0 5 → ⊥ }
+    ensures refused { IsFront pair_system swallow_run 0 0 (read_port 1) 5 → ⊥ }
+{}
+
+/// A route keeps one write and lets those for another agent pass for ever.
+pub fn starved_agent()
+    ensures asleep { ServesWithin 3 two_places passing_run 0 5 → ⊥ }
+    ensures refused { IsFront two_places passing_run 0 0 (passing_down 0) 5 → ⊥ }
+{}
+
+/// A route never accepts a write to the default agent.
+pub fn sleeping_default_agent()
+    ensures asleep { ServesDefaultWithin 3 stray_system stray_run 5 → ⊥ }
+    ensures refused { IsDefaultFront stray_system stray_run 0 5 → ⊥ }
+{}
+
+/// An asker bears the tag of no host.
+pub fn tag_of_no_host()
+    ensures { (down : TaggedPort) → IsArbiterPart pair_system 0 mistagged down 1 → ⊥ }
+{}
+
+/// A limiter that looks at a register is a right route. A splitter that waits for the words of other lanes has no rank that is always 0.
+pub fn registered_gates()
+    ensures route { IsRoutePart two_places 0 limited_top limited_down 4 }
+    ensures splitter { (rank : ℕ → ℕ) → LinkRankFalls byte_target sets_top sets_down rank 0 4 → ⊥ }
+{}
+
+/// A stage that holds a read without lanes doesn't answer promptly by the number of its answers, and gives what has come by the number of its words.
+pub fn held_empty_read()
+    ensures prompt { AnswersPromptly (target_of small_system 0) stage_top stage_low 6 → ⊥ }
+    ensures given { GivesWhatHasCome (target_of small_system 0) stage_top stage_low 6 }
+{}
+
+/// Two hosts, two agents and the default agent, wired, keep every record.
+pub fn small_system_keeps_all()
+    ensures agents { (a : ℕ) → a < 2 → KeepsWhole small_system small_run a (small_ways a) small_standings 4 }
+    ensures default { IsDefaultFront small_system small_run 0 4 }
+{
+    mm_awake::host_and_route_are_a_front()
+}
