@@ -37,6 +37,7 @@ pub mod StageLink
 pub mod Pieces
 pub mod Expander
 pub mod ExpanderLink
+mod Alike
 pub mod Joined
 pub mod Split
 pub mod StageRank

@@ -1,13 +1,15 @@
 //! What must go on: ranks that fall, and turns.
 
-ghost use Rattle.std.specs.Prelude.{suc, ◌≤◌, ◌+◌, ℕ, List, IsTrue};
+ghost use Rattle.std.specs.Prelude.{suc, ◌≡◌, ◌<◌, ◌≤◌, ◌+◌, ℕ, List, IsTrue};
 ghost use Rattle.histories.specs.History.{IsPrefix};
 ghost use Rattle.mm_machines.specs.Rank.{HoldsOneBeat, LinkRankFalls, link_part, link_budget, is_owed, is_on_its_way, PartRankFalls, IsStuckChain};
 ghost use Rattle.mm_machines.specs.Turns.{IsFairArbiter, AsksInVain, others_begun};
 ghost use Rattle.ranks.specs.Junction.{budgets};
 ghost use Rattle.ranks.specs.Turns.{Seat, shares_of_others};
 ghost use Rattle.ranks.specs.Window.{KeepsRank, allowances};
-ghost use Rattle.mm_machines.specs.Link.{Target, Port, AreLegalAt, items};
+ghost use Rattle.mm_machines.specs.Link.{Target, Port, AreLegalAt, items, shown_at};
+ghost use Rattle.mm_machines.specs.Lines.{AreSingle, are_whole, with_tag};
+ghost use Rattle.mm_machines.specs.PartRanks.{JoinsAlike, are_joined_alike};
 
 /// A link whose rank falls is a part of the law of windows.
 pub fn link_keeps_rank()
@@ -48,3 +50,14 @@ pub fn turn_rule_is_fair()
     ranks::passes_within_shares();
     ranks::turns_keep_seats()
 }
+
+/// Joined commands are alike behind a route, whose commands are single and bear one tag, and behind an arbiter,
+/// where those of each host are and whole commands follow one another.
+pub fn joins_are_alike()
+    ensures single { (target : Target) (port : Port) (tag end : ℕ) → AreLegalAt port end → AreSingle port end
+        → ((c : ℕ) → c < end → port.commands.tag c ≡ tag) → JoinsAlike target port end }
+    ensures whole { (target : Target) (port : Port) (end : ℕ)
+        → ((c : ℕ) → c ≤ end → IsTrue (are_whole (shown_at port c)))
+        → ((h c : ℕ) → c ≤ end → IsTrue (are_joined_alike target port (with_tag h (shown_at port c))))
+        → JoinsAlike target port end }
+{}
