@@ -16,3 +16,4 @@ pub mod WireTraces
 pub mod IdleRuns
 pub mod SmallKept
 pub mod EmptyRead
+pub mod LineRuns

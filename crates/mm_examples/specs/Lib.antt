@@ -12,3 +12,4 @@ pub mod WireRows
 pub mod PartRows
 pub mod IdleRows
 pub mod SmallSystem
+pub mod LineRows

@@ -37,8 +37,10 @@ ghost use Rattle.mm_machines.specs.Link.{items, CarriesCommands, shown_at, taken
 ghost use Rattle.mm_examples.specs.Faults.{laneless_system, laneless_run, laneless_port, split_system, split_run, split_port};
 ghost use Rattle.mm_examples.specs.Joint.{joint_system, joint_run, joint_inside, joint_holds};
 ghost use Rattle.mm_runs.specs.Views.Kind.{Reads, Writes};
-ghost use Rattle.mm_runs.specs.Views.Responses.{AreZero};
-ghost use Rattle.mm_machines.specs.Lines.{target_of, Wired};
+ghost use Rattle.mm_runs.specs.Views.Responses.{AreZero, AreCodes};
+ghost use Rattle.mm_machines.specs.Lines.{target_of, Wired, AgentCarriesAnswers, AreFitToAsk, AreSingle, IsFit, OwesBelow, RouteCarriesCommands};
+ghost use Rattle.mm_runs.specs.Plan.{IsMemoryPlan};
+ghost use Rattle.mm_examples.specs.LineRows.{marked_side, empty_write, mistagged, some_reads, writing_system, odd_system, answering_system, answering_run, answered_side};
 ghost use Rattle.mm_machines.specs.BoundedWire.{IsBoundedWire, IsWireForm, agent_side};
 ghost use Rattle.mm_runs.specs.Whole.{IsLegalRun, IsSafe};
 ghost use Rattle.mm_examples.specs.Examples.{host_of, shape_of, system_of, run_of, no_host, narrow_system, narrow_run, narrow_host, all_lanes_run};
@@ -337,3 +339,21 @@ pub fn wire_holds_read_back()
 {
     mm_machines::wires::bounded_wire_is_safe()
 }
+
+/// An asker and a route under another host's tag, a read before an agent that only writes, a last beat with `more`, a second word that is owed
+/// where there is room for one, and codes that aren't the agent's are refused. Where codes aren't read, nothing is said of them.
+pub fn lines_refuse()
+    ensures asker { AreFitToAsk joint_system 0 mistagged 1 → ⊥ }
+    ensures route { RouteCarriesCommands joint_system 0 0 (mistagged 0) (λ a. mistagged 0) 1 → ⊥ }
+    ensures kind { IsFit writing_system 0 (marked_side some_reads 0 0) 1 → ⊥ }
+    ensures more { AreSingle (marked_side empty_write 1 0) 1 → ⊥ }
+    ensures debt { OwesBelow 2 (marked_side some_reads 0 0) 2 → ⊥ }
+    ensures codes { AgentCarriesAnswers AreCodes answering_system answering_run 0 answered_side 4 → ⊥ }
+    ensures zero { AgentCarriesAnswers AreZero answering_system answering_run 0 answered_side 4 }
+{}
+
+/// An agent that only writes may have bursts; words of three bytes are in no plan.
+pub fn plans()
+    ensures writer { IsMemoryPlan writing_system }
+    ensures odd { IsMemoryPlan odd_system → ⊥ }
+{}
