@@ -17,3 +17,4 @@ pub mod IdleRuns
 pub mod SmallKept
 pub mod EmptyRead
 pub mod LineRuns
+pub mod PartTwins

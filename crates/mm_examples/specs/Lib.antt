@@ -13,3 +13,4 @@ pub mod PartRows
 pub mod IdleRows
 pub mod SmallSystem
 pub mod LineRows
+pub mod PartTwins

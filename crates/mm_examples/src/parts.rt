@@ -1,9 +1,13 @@
 //! Rows of the machines of agent, host, route and arbiter, computed.
 
 ghost use Rattle.std.specs.Prelude.{◌≡◌, ◌∷◌, ◌++◌, [], ℕ, true, replicate};
-ghost use Rattle.mm_machines.specs.Lines.{word_tags};
+ghost use Rattle.mm_runs.specs.Views.Responses.{AreZero};
+ghost use Rattle.mm_machines.specs.Lines.{word_tags, IsAgentLine, IsArbiterLine, IsRouteLine, IsHostLine};
 ghost use Rattle.mm_examples.specs.Examples.{host_of};
-ghost use Rattle.mm_examples.specs.MoreExamples.{agent_with_bound};
+ghost use Rattle.mm_examples.specs.MoreExamples.{agent_with_bound, two_agents};
+ghost use Rattle.mm_examples.specs.PartTwins.{bounded_system, reads_run, past_bound, newest_tag, both_joined, pausing_askers, inside_burst};
+ghost use Rattle.mm_examples.specs.PartTwins.{read_of_first, given_to_both, two_places, without_limiter, writes_at, by_each_address};
+ghost use Rattle.mm_examples.specs.PartTwins.{waiting_system, host_run, waiting_view, read_twice, burst_view, ends_early};
 ghost use Rattle.mm_examples.specs.PartRows.{levels, at_agent, above_agent, two_reads_in, three_reads_in, stalled_in, timed_agent};
 ghost use Rattle.mm_examples.specs.PartRows.{write_then_read_in, fixed_reads_in, burst_reads_in, at_host, below_host, burst_writes_in};
 ghost use Rattle.mm_examples.specs.PartRows.{many_reads_in, waiting_host, waiting_read_in, above_route, below_route, other_read_in};
@@ -68,4 +72,28 @@ pub fn arbiter_rows()
     ensures waits { levels (above_arbiter (two_writers_in [] [] []) 0).commands.waitrequest 8 ≡ 0 ∷ 1 ∷ 1 ∷ 1 ∷ 0 ∷ 1 ∷ 1 ∷ 1 ∷ [] }
     ensures stall { levels (below_arbiter (two_writers_in (0 ∷ 1 ∷ []) [] [])).commands.tag 6 ≡ 0 ∷ 1 ∷ 1 ∷ 1 ∷ 1 ∷ 0 ∷ [] }
     ensures words { levels (above_arbiter (two_writers_in [] (1 ∷ 1 ∷ []) (1 ∷ 0 ∷ [])) 1).answers.valid 2 ≡ 1 ∷ 0 ∷ [] }
+{}
+
+/// A read past the agent's bound, and a word with the tag of the newest read in place of the oldest, break the agent's line.
+pub fn wrong_agents()
+    ensures past_bound { IsAgentLine AreZero (bounded_system 1) (reads_run []) 0 0 past_bound 2 → ⊥ }
+    ensures newest_tag { IsAgentLine AreZero (bounded_system 2) (reads_run (0 ∷ 0 ∷ 1 ∷ [])) 0 0 newest_tag 3 → ⊥ }
+{}
+
+/// A write inside another host's burst, and a word that goes to two hosts, break the arbiter's line.
+pub fn wrong_arbiters()
+    ensures inside_burst { IsArbiterLine AreZero both_joined 0 0 pausing_askers inside_burst 2 → ⊥ }
+    ensures given_to_both { IsArbiterLine AreZero both_joined 0 0 read_of_first given_to_both 2 → ⊥ }
+{}
+
+/// A read of another agent while a word is owed, and a beat of a burst that goes by its own address, break the route's line.
+pub fn wrong_routes()
+    ensures without_limiter { IsRouteLine AreZero two_agents 0 0 8 two_places without_limiter 2 → ⊥ }
+    ensures by_each_address { IsRouteLine AreZero two_agents 0 0 8 (writes_at (1 ∷ 1 ∷ [])) by_each_address 2 → ⊥ }
+{}
+
+/// A read that is shown once more after it was taken, and a burst whose first beat is said to be its last, break the host's line.
+pub fn wrong_hosts()
+    ensures read_twice { IsHostLine AreZero waiting_system (host_run waiting_view) 0 0 1000 read_twice 2 → ⊥ }
+    ensures ends_early { IsHostLine AreZero both_joined (host_run burst_view) 0 0 1000 ends_early 2 → ⊥ }
 {}
