@@ -1,4 +1,5 @@
 mod MachineRuns
+mod PlanLaws
 mod AgentShown
 mod Alike
 mod AgentBeats

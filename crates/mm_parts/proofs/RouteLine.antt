@@ -91,7 +91,7 @@ module _ (system : System) (host a : ℕ) (shape : Shape) (plan : RoutePlan syst
       by_place true e ih =
           let at = of_agent a (place_of system host x.transfer) e in
           let base = plan.base x.transfer.kind x.transfer.first a at in
-          let same = beats_same x.transfer.beats x.transfer.first (plan.times a) base.0 base.1 (All-head IsFrom x xs all) in
+          let same = beats_same x.transfer.beats x.transfer.first base.0 base.1 base.2 (All-head IsFrom x xs all) in
           rw e (ap₂ (λ o l. record { tag = host; operations = o; closes = closes x; beats = length x.transfer.beats } ∷ l) (sym same) ih)
 
   abbrev acts : Shape → Marked → Bool

@@ -78,5 +78,5 @@ pub record IsRoutePlan (system : System) (host : ℕ) (shape : Shape) : Type 0 w
   pub agents : (kind : Kind) (address a : ℕ) → system.place host kind address ≡ Some a → a < system.agents
   pub serves : (kind : Kind) (address a : ℕ) → system.place host kind address ≡ Some a → IsTrue (serves_kind (system.agent a) kind)
   pub joined : (kind : Kind) (address a : ℕ) → system.place host kind address ≡ Some a → IsTrue (is_joined system a host)
-  pub times : ℕ → ℕ  -- by how many spans a base stands off
-  pub base : (kind : Kind) (address a : ℕ) → system.place host kind address ≡ Some a → (system.base host a ≡ times a * (system.agent a).span) × (system.base host a ≤ address)
+  -- the base is a whole number of spans
+  pub base : (kind : Kind) (address a : ℕ) → system.place host kind address ≡ Some a → (spans : ℕ) × (system.base host a ≡ spans * (system.agent a).span) × (system.base host a ≤ address)

@@ -2,4 +2,5 @@
 #![tactic(auto)]
 
 pub mod lines;
+pub mod plans;
 pub mod runs;
