@@ -1,4 +1,5 @@
 mod MachineRuns
+mod SameMoment
 mod PlanLaws
 mod AgentShown
 mod Alike

@@ -8,3 +8,4 @@ pub mod AgentRun
 pub mod ArbiterRun
 pub mod RouteRun
 pub mod HostRun
+pub mod Moments

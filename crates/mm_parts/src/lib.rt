@@ -2,5 +2,6 @@
 #![tactic(auto)]
 
 pub mod lines;
+pub mod moments;
 pub mod plans;
 pub mod runs;
