@@ -39,7 +39,7 @@ nonempty_map : {A B : Type 0} (f : A → B) (xs : List A) → is_nonempty (map f
 nonempty_map f [] = refl
 nonempty_map f (x ∷ xs) = refl
 
-module _ (system : System) (run : Run) (agent : ℕ) (up : TaggedPort) (state : AgentState) (end : ℕ) (m : ShowsToAgent (system.agent agent) (run.at_agent agent) up state end) (plan : IsAgentPlan (system.agent agent))
+module _ (system : System) (run : Run) (agent : ℕ) (up : TaggedPort) (state : AgentState) (end : ℕ) (machine : ShowsToAgent (system.agent agent) (run.at_agent agent) up state end) (plan : IsAgentPlan (system.agent agent))
     (legal : AreLegalAt up.port end) (kinds : ServesKinds (system.agent agent) up.port end) (lanes : HasLanes (target_of system agent) up.port end) where
   abbrev side : AgentSide
   side = system.agent agent
@@ -68,14 +68,14 @@ module _ (system : System) (run : Run) (agent : ℕ) (up : TaggedPort) (state : 
     where
       by_has : (h : Bool) → side.has_enables ≡ h → filter (is_enabled (view.enables c)) (numbers 0 side.word_bytes) ≡ filled_lanes up.shape side.shape b.enables
       by_has true has =
-          ap (λ n. filter (is_enabled n) (numbers 0 side.word_bytes)) (m.enables c low has ∙ sym e)
-          ∙ sym (filled_are up.shape side.shape b.enables m.words plan.word ∙ ap (λ t. if t then filter (is_enabled b.enables) (numbers 0 side.word_bytes) else if list_any (is_enabled b.enables) (numbers 0 side.word_bytes) then numbers 0 side.word_bytes else []) has)
+          ap (λ n. filter (is_enabled n) (numbers 0 side.word_bytes)) (machine.enables c low has ∙ sym e)
+          ∙ sym (filled_are up.shape side.shape b.enables machine.words plan.word ∙ ap (λ t. if t then filter (is_enabled b.enables) (numbers 0 side.word_bytes) else if list_any (is_enabled b.enables) (numbers 0 side.word_bytes) then numbers 0 side.word_bytes else []) has)
       by_has false has =
           let filled : filled_lanes up.shape side.shape b.enables ≡ (if list_any (is_enabled b.enables) (numbers 0 side.word_bytes) then numbers 0 side.word_bytes else []) =
-          filled_are up.shape side.shape b.enables m.words plan.word ∙ ap (λ t. if t then filter (is_enabled b.enables) (numbers 0 side.word_bytes) else if list_any (is_enabled b.enables) (numbers 0 side.word_bytes) then numbers 0 side.word_bytes else []) has in
+          filled_are up.shape side.shape b.enables machine.words plan.word ∙ ap (λ t. if t then filter (is_enabled b.enables) (numbers 0 side.word_bytes) else if list_any (is_enabled b.enables) (numbers 0 side.word_bytes) then numbers 0 side.word_bytes else []) has in
           let own : acts b ≡ true = ap (λ t. t || acts b) (sym has) ∙ some in
           let any : list_any (is_enabled b.enables) (numbers 0 side.word_bytes) ≡ true = none_of (is_enabled b.enables) (numbers 0 side.word_bytes) (ap is_nonempty (sym filled) ∙ sym (nonempty_map _ (filled_lanes up.shape side.shape b.enables)) ∙ own) in
-          keeps_all (is_enabled (view.enables c)) 0 side.word_bytes (λ lane there. all_set side.word_bytes (view.enables c) lane (m.all_lanes c low has) (omega (arith, there)))
+          keeps_all (is_enabled (view.enables c)) 0 side.word_bytes (λ lane there. all_set side.word_bytes (view.enables c) lane (machine.all_lanes c low has) (omega (arith, there)))
           ∙ sym (filled ∙ ap (λ t. if t then numbers 0 side.word_bytes else []) any)
 
   abbrev over : ℕ → Burst
@@ -85,7 +85,7 @@ module _ (system : System) (run : Run) (agent : ℕ) (up : TaggedPort) (state : 
   below c = transfer_at side.shape view.signals (agent_accepts side view) c
 
   is_below : (c : ℕ) → c < end → below c ≡ transfer_of side.shape (levels_at view.signals c) (cut side.span (over c))
-  is_below c low = ap (transfer_of side.shape (levels_at view.signals c)) (same_burst side view up state end m plan legal kinds c (omega arith))
+  is_below c low = ap (transfer_of side.shape (levels_at view.signals c)) (same_burst side view up state end machine plan legal kinds c (omega arith))
 
   abbrev Like : List TaggedBeat → List TaggedBeat → Type 0
   Like = AreAlike up.shape side.shape side.span
@@ -96,9 +96,9 @@ module _ (system : System) (run : Run) (agent : ℕ) (up : TaggedPort) (state : 
   reads_alike c low [] some = no_beats
   reads_alike c low (x ∷ xs) some =
       let parts = split side.has_enables (acts (read_beat up.shape (levels_at up.commands.signals c) x)) (list_all acts (map (read_beat up.shape (levels_at up.commands.signals c)) xs)) some in
-      let at = address_is side view up state end m plan legal kinds c low in
-      let words = m.words in
-      one_more (m.grant c low) (record {
+      let at = address_is side view up state end machine plan legal kinds c low in
+      let words = machine.words in
+      one_more (machine.grant c low) (record {
         kind = refl;
         place = ap₂ (λ a w. (a + x * w) % side.span) at (sym words) ∙ mod-add-mod (byte_address up.shape (up.commands.address c)) side.span (x * up.shape.word_bytes);
         word = refl;
@@ -130,20 +130,20 @@ module _ (system : System) (run : Run) (agent : ℕ) (up : TaggedPort) (state : 
       write_place : (b : Bool) → nat_eq (over c).left 0 ≡ b → ((if nat_eq (over c).left 0 then byte_address side.shape (view.address c) else (over c).first % side.span) + (if nat_eq (over c).left 0 then 0 else (over c).done) * side.word_bytes) % side.span
           ≡ ((if nat_eq (over c).left 0 then byte_address up.shape (up.commands.address c) else (over c).first) + (if nat_eq (over c).left 0 then 0 else (over c).done) * up.shape.word_bytes) % side.span
       write_place true e =
-          let words = m.words in
-          rw e (ap₂ (λ a w. (a + 0 * w) % side.span) (address_is side view up state end m plan legal kinds c low) (sym words) ∙ mod-add-mod (byte_address up.shape (up.commands.address c)) side.span (0 * up.shape.word_bytes))
+          let words = machine.words in
+          rw e (ap₂ (λ a w. (a + 0 * w) % side.span) (address_is side view up state end machine plan legal kinds c low) (sym words) ∙ mod-add-mod (byte_address up.shape (up.commands.address c)) side.span (0 * up.shape.word_bytes))
       write_place false e =
-          let words = m.words in
+          let words = machine.words in
           rw e (ap (λ w. ((over c).first % side.span + (over c).done * w) % side.span) (sym words) ∙ mod-add-mod (over c).first side.span ((over c).done * up.shape.word_bytes))
 
       write_beats : (b : Bool) → is_raised (up.commands.write c) ≡ true → Like (tag_all (up.commands.tag c) (write_transfer up.shape (levels_at up.commands.signals c) (over c)).beats) (tag_all (view.grant c) (write_transfer side.shape (levels_at view.signals c) (cut side.span (over c))).beats)
       write_beats b e =
           let some : IsTrue (side.has_enables || list_all acts (write_transfer up.shape (levels_at up.commands.signals c) (over c)).beats) =
           ap (λ t. side.has_enables || list_all acts (if t then write_transfer up.shape (levels_at up.commands.signals c) (over c) else read_transfer up.shape (levels_at up.commands.signals c)).beats) (sym e) ∙ has_acts c low taken in
-          one_more (m.grant c low) (record {
+          one_more (machine.grant c low) (record {
             kind = refl;
             place = write_place (nat_eq (over c).left 0) refl;
-            word = m.word c low;
+            word = machine.word c low;
             lanes = same_lanes c low (written c) refl (first side.has_enables (acts (written c)) some);
           }) no_beats
         where
@@ -165,15 +165,15 @@ module _ (system : System) (run : Run) (agent : ℕ) (up : TaggedPort) (state : 
               let bad : ⊥ = cc in
               absurd bad
           by_left false free =
-              subst (λ n. Like (tag_all (up.commands.tag c) (read_transfer up.shape (levels_at up.commands.signals c)).beats) (tag_all (view.grant c) (map (read_beat side.shape (levels_at view.signals c)) (numbers 0 n)))) (sym (count_is side view up state end m plan legal kinds c low (shown_above c taken) free))
+              subst (λ n. Like (tag_all (up.commands.tag c) (read_transfer up.shape (levels_at up.commands.signals c)).beats) (tag_all (view.grant c) (map (read_beat side.shape (levels_at view.signals c)) (numbers 0 n)))) (sym (count_is side view up state end machine plan legal kinds c low (shown_above c taken) free))
               (reads_alike c low (numbers 0 (up.commands.count c)) some)
 
       by_kind : (b : Bool) → is_raised (up.commands.write c) ≡ b → Like (tag_all (up.commands.tag c) (marked_at up.port c).transfer.beats) (tag_all (view.grant c) (transfer_of side.shape (levels_at view.signals c) (cut side.span (over c))).beats)
       by_kind true e =
-          let lower : is_raised (view.write c) ≡ true = write_is side view up state end m plan legal kinds c low ∙ e in
+          let lower : is_raised (view.write c) ≡ true = write_is side view up state end machine plan legal kinds c low ∙ e in
           rw (e, lower) (write_beats true e)
       by_kind false e =
-          let lower : is_raised (view.write c) ≡ false = write_is side view up state end m plan legal kinds c low ∙ e in
+          let lower : is_raised (view.write c) ≡ false = write_is side view up state end machine plan legal kinds c low ∙ e in
           rw (e, lower) (read_beats_alike e)
 
   -- all that was accepted
@@ -181,7 +181,7 @@ module _ (system : System) (run : Run) (agent : ℕ) (up : TaggedPort) (state : 
   all_alike zero low = no_beats
   all_alike (suc c) low =
       subst (λ l. Like l (beats_taken system run agent c ++ beats_taken_in system run agent c)) (sym (flat_map-append (λ (m : Marked). tag_all m.tag m.transfer.beats) (taken_at up.port c) (only_if (takes up.port c) (marked_at up.port c))))
-      (alike_append up.shape side.shape side.span (all_alike c (omega arith)) (subst (λ a. Like (tagged_beats (only_if (takes up.port c) (marked_at up.port c))) (tag_all (view.grant c) (flat_map (λ (t : Transfer). t.beats) (only_if a (below c))))) (same_takes side view up state end m plan legal kinds c low) (one (takes up.port c) refl)))
+      (alike_append up.shape side.shape side.span (all_alike c (omega arith)) (subst (λ a. Like (tagged_beats (only_if (takes up.port c) (marked_at up.port c))) (tag_all (view.grant c) (flat_map (λ (t : Transfer). t.beats) (only_if a (below c))))) (same_takes side view up state end machine plan legal kinds c low) (one (takes up.port c) refl)))
     where
       one : (b : Bool) → takes up.port c ≡ b → Like (tagged_beats (only_if b (marked_at up.port c))) (tag_all (view.grant c) (flat_map (λ (t : Transfer). t.beats) (only_if b (below c))))
       one true e =

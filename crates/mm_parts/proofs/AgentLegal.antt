@@ -54,7 +54,7 @@ words_total (t ∷ ts) = by_test (is_of_reads t.kind) (words_total ts)
     by_test true ih = length-append t.beats (read_beats ts) ∙ ap (λ n. length t.beats + n) ih
     by_test false ih = ih
 
-module _ (side : AgentSide) (view : AgentView) (up : TaggedPort) (state : AgentState) (end : ℕ) (m : ShowsToAgent side view up state end) (plan : IsAgentPlan side)
+module _ (side : AgentSide) (view : AgentView) (up : TaggedPort) (state : AgentState) (end : ℕ) (machine : ShowsToAgent side view up state end) (plan : IsAgentPlan side)
     (legal : AreLegalAt up.port end) (kinds : ServesKinds side up.port end) where
   abbrev over : ℕ → Burst
   over c = burst_before up.shape up.commands.signals (takes up.port) c
@@ -66,14 +66,14 @@ module _ (side : AgentSide) (view : AgentView) (up : TaggedPort) (state : AgentS
   full c = is_full side state c
 
   shown_up : (c : ℕ) → c < end → shows view.signals c ≡ true → shows up.commands.signals c ≡ true
-  shown_up c low shown = shown_over (full c) (is_raised (up.commands.read c)) (is_raised (up.commands.write c)) (sym (shows_is side view up state end m plan legal kinds c low) ∙ shown)
+  shown_up c low shown = shown_over (full c) (is_raised (up.commands.read c)) (is_raised (up.commands.write c)) (sym (shows_is side view up state end machine plan legal kinds c low) ∙ shown)
 
   shown_first : (c : ℕ) → presents view.signals (agent_accepts side view) c ≡ true → shows view.signals c ≡ true
   shown_first zero shown = shown
   shown_first (suc c) shown = (and_parts (shows view.signals (suc c)) (not (is_held view.signals (agent_accepts side view) c)) shown).0
 
   left_is : (c : ℕ) → c ≤ end → (burst_before side.shape view.signals (agent_accepts side view) c).left ≡ (over c).left
-  left_is c low = ap (λ (b : Burst). b.left) (same_burst side view up state end m plan legal kinds c low)
+  left_is c low = ap (λ (b : Burst). b.left) (same_burst side view up state end machine plan legal kinds c low)
 
   -- a beat that the agent leaves waiting stands above
   record Waits (c : ℕ) : Type 0 where
@@ -84,11 +84,11 @@ module _ (side : AgentSide) (view : AgentView) (up : TaggedPort) (state : AgentS
   waits : (c : ℕ) → c < end → is_held view.signals (agent_accepts side view) c ≡ true → Waits c
   waits c low held =
       let parts = and_parts (shows view.signals c) (not (agent_accepts side view c)) held in
-      let none : takes up.port c ≡ false = same_takes side view up state end m plan legal kinds c low ∙ not-true (agent_accepts side view c) parts.1 in
+      let none : takes up.port c ≡ false = same_takes side view up state end machine plan legal kinds c low ∙ not-true (agent_accepts side view c) parts.1 in
       record {
         above = ap₂ (λ s a. s && not a) (shown_up c low parts.0) none;
         none = none;
-        free = let_through (full c) (is_raised (up.commands.read c)) (is_raised (up.commands.write c)) (legal.legal.one_kind c low) (sym (shows_is side view up state end m plan legal kinds c low) ∙ parts.0);
+        free = let_through (full c) (is_raised (up.commands.read c)) (is_raised (up.commands.write c)) (legal.legal.one_kind c low) (sym (shows_is side view up state end machine plan legal kinds c low) ∙ parts.0);
       }
 
   -- a read that has been shown stays shown: the queue grows by accepted reads alone
@@ -100,7 +100,7 @@ module _ (side : AgentSide) (view : AgentView) (up : TaggedPort) (state : AgentS
       by_valid true has =
           let room : nat_lt (length (state.queue c)) side.pending ≡ true = not_false (nat_lt (length (state.queue c)) side.pending) (ap (λ b. b && not (nat_lt (length (state.queue c)) side.pending)) (sym has) ∙ free) in
           let few = ltb-true (length (state.queue c)) side.pending room in
-          let next = (m.queues has).next c low ∙ ap (λ b. answered (is_raised (view.readdatavalid c)) (state.queue c) ++ only_if (b && is_raised (up.commands.read c)) (entry_at up.port c)) none in
+          let next = (machine.queues has).next c low ∙ ap (λ b. answered (is_raised (view.readdatavalid c)) (state.queue c) ++ only_if (b && is_raised (up.commands.read c)) (entry_at up.port c)) none in
           let less = answered_length (is_raised (view.readdatavalid c)) (state.queue c) in
           let same : length (state.queue (suc c)) ≡ length (answered (is_raised (view.readdatavalid c)) (state.queue c)) = ap length next ∙ ap length (append-nil (answered (is_raised (view.readdatavalid c)) (state.queue c))) in
           rw has (ap not (lt-ltb (length (state.queue (suc c))) side.pending (omega (arith, few, less, same))))
@@ -116,28 +116,28 @@ module _ (side : AgentSide) (view : AgentView) (up : TaggedPort) (state : AgentS
       by_read has true high =
           let free = stands.free high in
           let later = still_free c low stands.none free in
-          m.read c (omega arith) has ∙ ap (λ b. if b then 0 else up.commands.read c) free ∙ same ∙ sym (m.read (suc c) low has ∙ ap (λ b. if b then 0 else up.commands.read (suc c)) later)
+          machine.read c (omega arith) has ∙ ap (λ b. if b then 0 else up.commands.read c) free ∙ same ∙ sym (machine.read (suc c) low has ∙ ap (λ b. if b then 0 else up.commands.read (suc c)) later)
       by_read has false quiet =
           let none = is_low (up.commands.read c) quiet in
-          m.read c (omega arith) has ∙ gate_of_zero (full c) (up.commands.read c) none ∙ sym (m.read (suc c) low has ∙ gate_of_zero (full (suc c)) (up.commands.read (suc c)) (sym same ∙ none))
+          machine.read c (omega arith) has ∙ gate_of_zero (full c) (up.commands.read c) none ∙ sym (machine.read (suc c) low has ∙ gate_of_zero (full (suc c)) (up.commands.read (suc c)) (sym same ∙ none))
 
       by_has : (b : Bool) → side.has_read ≡ b → view.read c ≡ view.read (suc c)
       by_has true has = by_read has (is_raised (up.commands.read c)) refl
-      by_has false has = m.no_read c (omega arith) has ∙ sym (m.no_read (suc c) low has)
+      by_has false has = machine.no_read c (omega arith) has ∙ sym (machine.no_read (suc c) low has)
 
   same_write : (c : ℕ) → suc c < end → up.commands.write c ≡ up.commands.write (suc c) → view.write c ≡ view.write (suc c)
   same_write c low same = by_has side.has_write refl
     where
       by_has : (b : Bool) → side.has_write ≡ b → view.write c ≡ view.write (suc c)
-      by_has true has = m.write c (omega arith) has ∙ same ∙ sym (m.write (suc c) low has)
-      by_has false has = m.no_write c (omega arith) has ∙ sym (m.no_write (suc c) low has)
+      by_has true has = machine.write c (omega arith) has ∙ same ∙ sym (machine.write (suc c) low has)
+      by_has false has = machine.no_write c (omega arith) has ∙ sym (machine.no_write (suc c) low has)
 
   same_enables : (c : ℕ) → suc c < end → up.commands.enables c ≡ up.commands.enables (suc c) → view.enables c ≡ view.enables (suc c)
   same_enables c low same = by_has side.has_enables refl
     where
       by_has : (b : Bool) → side.has_enables ≡ b → view.enables c ≡ view.enables (suc c)
-      by_has true has = m.enables c (omega arith) has ∙ same ∙ sym (m.enables (suc c) low has)
-      by_has false has = let one = m.all_lanes c (omega arith) has in let other = m.all_lanes (suc c) low has in omega (arith, one, other)
+      by_has true has = machine.enables c (omega arith) has ∙ same ∙ sym (machine.enables (suc c) low has)
+      by_has false has = let one = machine.all_lanes c (omega arith) has in let other = machine.all_lanes (suc c) low has in omega (arith, one, other)
 
   held_levels : (c : ℕ) → suc c < end → is_held view.signals (agent_accepts side view) c ≡ true → levels_at view.signals c ≡ levels_at view.signals (suc c)
   held_levels c low held =
@@ -145,11 +145,11 @@ module _ (side : AgentSide) (view : AgentView) (up : TaggedPort) (state : AgentS
       let same = legal.legal.held c low stands.above in
       let read = same_read c low stands (ap (λ (l : Levels). l.read) same) in
       let write = same_write c low (ap (λ (l : Levels). l.write) same) in
-      let places : view.address c * side.unit_bytes ≡ view.address (suc c) * side.unit_bytes = m.address c (omega arith) ∙ ap (λ (l : Levels). byte_address up.shape l.address % side.span) same ∙ sym (m.address (suc c) low) in
+      let places : view.address c * side.unit_bytes ≡ view.address (suc c) * side.unit_bytes = machine.address c (omega arith) ∙ ap (λ (l : Levels). byte_address up.shape l.address % side.span) same ∙ sym (machine.address (suc c) low) in
       let address = cancel (view.address c) (view.address (suc c)) side.unit_bytes plan.unit places in
-      let word : view.word c ≡ view.word (suc c) = m.word c (omega arith) ∙ ap (λ (l : Levels). l.word) same ∙ sym (m.word (suc c) low) in
+      let word : view.word c ≡ view.word (suc c) = machine.word c (omega arith) ∙ ap (λ (l : Levels). l.word) same ∙ sym (machine.word (suc c) low) in
       let enables = same_enables c low (ap (λ (l : Levels). l.enables) same) in
-      let beats : view.count c ≡ view.count (suc c) = m.count c (omega arith) ∙ ap (λ (l : Levels). if side.has_burst then l.count else 1) same ∙ sym (m.count (suc c) low) in
+      let beats : view.count c ≡ view.count (suc c) = machine.count c (omega arith) ∙ ap (λ (l : Levels). if side.has_burst then l.count else 1) same ∙ sym (machine.count (suc c) low) in
       cc
     where
       cancel : (a b k : ℕ) → 0 < k → a * k ≡ b * k → a ≡ b
@@ -158,12 +158,12 @@ module _ (side : AgentSide) (view : AgentView) (up : TaggedPort) (state : AgentS
   -- a command that begins has the count of the one above
   begin_count : (P : ℕ → Type 0) (c : ℕ) → c < end → presents view.signals (agent_accepts side view) c ≡ true → IsFalse (is_under_way side.shape view.signals (agent_accepts side view) c) → P (up.commands.count c) → P (view.count c)
   begin_count P c low shown free holds =
-      subst P (sym (count_is side view up state end m plan legal kinds c low (shown_up c low (shown_first c shown)) (ap (nat_lt 0) (sym (left_is c (omega arith))) ∙ free))) holds
+      subst P (sym (count_is side view up state end machine plan legal kinds c low (shown_up c low (shown_first c shown)) (ap (nat_lt 0) (sym (left_is c (omega arith))) ∙ free))) holds
 
   pub agent_legal_reads : (c : ℕ) → c < end → is_under_way side.shape view.signals (agent_accepts side view) c ≡ true → is_raised (view.read c) ≡ false
   agent_legal_reads c low under =
       let quiet = legal.legal.finished c low (ap (nat_lt 0) (sym (left_is c (omega arith))) ∙ under) in
-      read_is side view up state end m plan legal kinds c low ∙ ap (λ r. not (full c) && r) quiet ∙ none (not (full c))
+      read_is side view up state end machine plan legal kinds c low ∙ ap (λ r. not (full c) && r) quiet ∙ none (not (full c))
     where
       none : (b : Bool) → (b && false) ≡ false
       none true = refl
@@ -175,7 +175,7 @@ module _ (side : AgentSide) (view : AgentView) (up : TaggedPort) (state : AgentS
   lengths_are (suc c) low =
       ap (map (λ (t : Transfer). length t.beats)) (filter-append (λ (t : Transfer). is_of_reads t.kind) (accepted side.shape view.signals (agent_accepts side view) c) (only_if (agent_accepts side view c) (below c)))
       ∙ map-append (λ (t : Transfer). length t.beats) (reads_among (accepted side.shape view.signals (agent_accepts side view) c)) (reads_among (only_if (agent_accepts side view c) (below c)))
-      ∙ ap₂ (λ x y. x ++ y) (lengths_are c (omega arith)) (ap (λ a. map (λ (t : Transfer). length t.beats) (reads_among (only_if a (below c)))) (sym (same_takes side view up state end m plan legal kinds c low))
+      ∙ ap₂ (λ x y. x ++ y) (lengths_are c (omega arith)) (ap (λ a. map (λ (t : Transfer). length t.beats) (reads_among (only_if a (below c)))) (sym (same_takes side view up state end machine plan legal kinds c low))
       ∙ one (takes up.port c) (is_raised (up.commands.read c)) (is_raised (up.commands.write c)) refl refl refl)
       ∙ sym (map-append (λ (e : Entry). e.left) (entries (taken_at up.port c)) (only_if (takes_read up.port c) (entry_at up.port c)))
       ∙ sym (ap (map (λ (e : Entry). e.left)) (entries_more up.port end legal c low))
@@ -185,14 +185,14 @@ module _ (side : AgentSide) (view : AgentView) (up : TaggedPort) (state : AgentS
       one false r w taken read write = refl
       one true true true taken read write = let two = legal.legal.one_kind c low in let bad : ⊥ = cc in absurd bad
       one true true false taken read write =
-          let lower : is_raised (view.write c) ≡ false = write_is side view up state end m plan legal kinds c low ∙ write in
+          let lower : is_raised (view.write c) ≡ false = write_is side view up state end machine plan legal kinds c low ∙ write in
           rw lower (ap (λ n. n ∷ []) (length-map (numbers 0 (view.count c)) (read_beat side.shape (levels_at view.signals c)) ∙ numbers_length 0 (view.count c)
-          ∙ count_is side view up state end m plan legal kinds c low (and_parts (shows up.commands.signals c) (not (is_raised (up.commands.waitrequest c))) taken).0 (idle (nat_lt 0 (over c).left) refl)))
+          ∙ count_is side view up state end machine plan legal kinds c low (and_parts (shows up.commands.signals c) (not (is_raised (up.commands.waitrequest c))) taken).0 (idle (nat_lt 0 (over c).left) refl)))
         where
           idle : (b : Bool) → nat_lt 0 (over c).left ≡ b → nat_lt 0 (over c).left ≡ false
           idle false e = e
           idle true e = let quiet = legal.legal.finished c low e in let bad : ⊥ = cc in absurd bad
-      one true false true taken read write = let lower : is_raised (view.write c) ≡ true = write_is side view up state end m plan legal kinds c low ∙ write in rw lower refl
+      one true false true taken read write = let lower : is_raised (view.write c) ≡ true = write_is side view up state end machine plan legal kinds c low ∙ write in rw lower refl
       one true false false taken read write = let shown = (and_parts (shows up.commands.signals c) (not (is_raised (up.commands.waitrequest c))) taken).0 in let bad : ⊥ = cc in absurd bad
 
   pub asked_is : (c : ℕ) → c ≤ end → words_asked side.shape view.signals (agent_accepts side view) c ≡ words_of (entries (taken_at up.port c))
@@ -200,14 +200,14 @@ module _ (side : AgentSide) (view : AgentView) (up : TaggedPort) (state : AgentS
 
   module _ (proper : IsLegalAgent side view (end - 1)) where
     pub queue_holds : side.has_readdatavalid ≡ true → (c : ℕ) → c < end → state.queue c ≡ left_after (entries (taken_at up.port c)) (words_before view.readdatavalid c)
-    queue_holds has = queue_is up.port end legal view.readdatavalid state.queue (m.queues has) (λ c low. subst (λ n. words_before view.readdatavalid (suc c) ≤ n) (asked_is c (omega arith)) (proper.owed has c (omega arith)))
+    queue_holds has = queue_is up.port end legal view.readdatavalid state.queue (machine.queues has) (λ c low. subst (λ n. words_before view.readdatavalid (suc c) ≤ n) (asked_is c (omega arith)) (proper.owed has c (omega arith)))
 
     -- as a cycle ends, no more reads are unanswered than the agent bears
     free_to_read : side.has_readdatavalid ≡ true → (c : ℕ) → c < end → takes_read up.port c ≡ true → length (state.queue c) < side.pending
     free_to_read has c low taken =
         let parts = and_parts (takes up.port c) (is_raised (up.commands.read c)) taken in
         let calm = not_true' (is_raised (up.commands.waitrequest c)) (and_parts (shows up.commands.signals c) (not (is_raised (up.commands.waitrequest c))) parts.0).1 in
-        let gate = first_false (full c) (is_raised (up.commands.read c)) _ parts.1 (sym (m.wait c low) ∙ calm) in
+        let gate = first_false (full c) (is_raised (up.commands.read c)) _ parts.1 (sym (machine.wait c low) ∙ calm) in
         ltb-true (length (state.queue c)) side.pending (not_false (nat_lt (length (state.queue c)) side.pending) (ap (λ b. b && not (nat_lt (length (state.queue c)) side.pending)) (sym has) ∙ gate))
       where
         not_true' : (b : Bool) → not b ≡ true → b ≡ false
@@ -229,21 +229,21 @@ module _ (side : AgentSide) (view : AgentView) (up : TaggedPort) (state : AgentS
     bounded : side.has_readdatavalid ≡ true → (c : ℕ) → c < end → unanswered side.shape view.signals (agent_accepts side view) (words_before view.readdatavalid (suc c)) (suc c) ≤ side.pending
     bounded has c low =
         subst (λ l. unreached l (words_before view.readdatavalid (suc c)) ≤ side.pending) (sym (lengths_are (suc c) low))
-        (unanswered_few up.port end legal view.readdatavalid state.queue (m.queues has) (owed_words has) side.pending (free_to_read has) c low)
+        (unanswered_few up.port end legal view.readdatavalid state.queue (machine.queues has) (owed_words has) side.pending (free_to_read has) c low)
 
     pub proper_at_agent : IsProperAtAgent side view end
     proper_at_agent = record {
       legal = record {
-        one_kind = λ c low. ap₂ (λ r w. not (r && w)) (read_is side view up state end m plan legal kinds c low) (write_is side view up state end m plan legal kinds c low)
+        one_kind = λ c low. ap₂ (λ r w. not (r && w)) (read_is side view up state end machine plan legal kinds c low) (write_is side view up state end machine plan legal kinds c low)
             ∙ still_one (full c) (is_raised (up.commands.read c)) (is_raised (up.commands.write c)) (legal.legal.one_kind c low);
         held = held_levels;
         least = λ c low shown free. begin_count (λ n. 1 ≤ n) c low shown free ((fit_of c low shown).least (ap (nat_lt 0) (sym (left_is c (omega arith))) ∙ free));
-        most = λ c low shown free. begin_count (λ n. n ≤ 2 ^ (side.burst_bits - 1)) c low shown free (subst (λ b. up.commands.count c ≤ 2 ^ (b - 1)) m.bursts ((fit_of c low shown).most (ap (nat_lt 0) (sym (left_is c (omega arith))) ∙ free)));
+        most = λ c low shown free. begin_count (λ n. n ≤ 2 ^ (side.burst_bits - 1)) c low shown free (subst (λ b. up.commands.count c ≤ 2 ^ (b - 1)) machine.bursts ((fit_of c low shown).most (ap (nat_lt 0) (sym (left_is c (omega arith))) ∙ free)));
         finished = agent_legal_reads;
       };
       aligned = λ c low shown.
           let y = up.commands.address c * up.shape.unit_bytes in
-          ap (λ n. n % side.word_bytes) (m.address c low) ∙ ap (λ w. ((y - y % w) % side.span) % side.word_bytes) m.words ∙ aligned_rest y side.word_bytes plan.span side.span plan.spans;
+          ap (λ n. n % side.word_bytes) (machine.address c low) ∙ ap (λ w. ((y - y % w) % side.span) % side.word_bytes) machine.words ∙ aligned_rest y side.word_bytes plan.span side.span plan.spans;
       bounded = λ c low has. bounded has c low;
     }
       where

@@ -27,7 +27,7 @@ beats_of_tagged target shape h (m ∷ ms) = by_test (nat_eq m.tag h) refl (beats
     by_test true is ih = rw is (rw is (ap (λ n. length m.transfer.beats + n) ih))
     by_test false is ih = rw is ih
 
-module _ (system : System) (run : Run) (agent : ℕ) (up : TaggedPort) (state : AgentState) (end : ℕ) (m : ShowsToAgent (system.agent agent) (run.at_agent agent) up state end) (plan : IsAgentPlan (system.agent agent))
+module _ (system : System) (run : Run) (agent : ℕ) (up : TaggedPort) (state : AgentState) (end : ℕ) (machine : ShowsToAgent (system.agent agent) (run.at_agent agent) up state end) (plan : IsAgentPlan (system.agent agent))
     (fit : IsFit system agent up.port end) (proper : IsLegalAgent (system.agent agent) (run.at_agent agent) (end - 1)) where
   abbrev target : Target
   target = target_of system agent
@@ -35,12 +35,12 @@ module _ (system : System) (run : Run) (agent : ℕ) (up : TaggedPort) (state : 
   -- what the agent has taken is what was taken above
   pub taken_is : (c : ℕ) → c ≤ end → taken system run agent c ≡ tagged_operations (groups_of target up.shape (taken_at up.port c))
   taken_is c low =
-      acts_alike up.shape (system.agent agent).shape (system.agent agent).span (tagged_beats (taken_at up.port c)) (beats_taken system run agent c) (all_alike system run agent up state end m plan fit.legal fit.kinds fit.lanes c low)
+      acts_alike up.shape (system.agent agent).shape (system.agent agent).span (tagged_beats (taken_at up.port c)) (beats_taken system run agent c) (all_alike system run agent up state end machine plan fit.legal fit.kinds fit.lanes c low)
       ∙ acts_of_groups target up.shape (taken_at up.port c)
 
   counts : (h c : ℕ) → c ≤ end → length (filter (λ (b : TaggedBeat). nat_eq b.tag h) (beats_taken system run agent c)) ≡ beats_of h (groups_of target up.shape (taken_at up.port c))
   counts h c low =
-      counts_alike up.shape (system.agent agent).shape (system.agent agent).span h (tagged_beats (taken_at up.port c)) (beats_taken system run agent c) (all_alike system run agent up state end m plan fit.legal fit.kinds fit.lanes c low)
+      counts_alike up.shape (system.agent agent).shape (system.agent agent).span h (tagged_beats (taken_at up.port c)) (beats_taken system run agent c) (all_alike system run agent up state end machine plan fit.legal fit.kinds fit.lanes c low)
       ∙ counts_of_groups target up.shape h (taken_at up.port c)
 
   front : (c : ℕ) → c ≤ end → IsPrefix (groups_of target up.shape (taken_at up.port c)) (groups_of target up.shape (shown_at up.port c))
@@ -59,7 +59,7 @@ module _ (system : System) (run : Run) (agent : ℕ) (up : TaggedPort) (state : 
         ap (λ l. length (of_host h l)) (taken_is c low) ∙ ap length (of_host_same h target up.shape (taken_at up.port c)) ∙ sym (total_of (groups_of target up.shape (with_tag h (taken_at up.port c)))) in
         le_of_eq (all_reached (sizes_of (groups_of target up.shape (with_tag h (taken_at up.port c)))) (length (of_host h (taken system run agent c))) (le_of_eq (sym reached)));
     tags = λ c low accepted.
-        let taken = same_takes (system.agent agent) (run.at_agent agent) up state end m plan fit.legal fit.kinds c low ∙ accepted in
-        subst (λ g. IsTrue (is_joined system agent g)) (sym (m.grant c low)) (fit.tags c low (and_parts (shows up.commands.signals c) (not (is_raised (up.commands.waitrequest c))) taken).0);
-    proper = proper_at_agent (system.agent agent) (run.at_agent agent) up state end m plan fit.legal fit.kinds proper;
+        let taken = same_takes (system.agent agent) (run.at_agent agent) up state end machine plan fit.legal fit.kinds c low ∙ accepted in
+        subst (λ g. IsTrue (is_joined system agent g)) (sym (machine.grant c low)) (fit.tags c low (and_parts (shows up.commands.signals c) (not (is_raised (up.commands.waitrequest c))) taken).0);
+    proper = proper_at_agent (system.agent agent) (run.at_agent agent) up state end machine plan fit.legal fit.kinds proper;
   }

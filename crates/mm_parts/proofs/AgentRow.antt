@@ -45,7 +45,7 @@ and_assoc false b c = refl
 same_le : (k c : ℕ) → nat_le (suc k) c ≡ nat_lt k c
 same_le k c = grind (arith, tests)
 
-module _ (system : System) (run : Run) (agent : ℕ) (up : TaggedPort) (state : AgentState) (end : ℕ) (m : ShowsToAgent (system.agent agent) (run.at_agent agent) up state end) (plan : IsAgentPlan (system.agent agent))
+module _ (system : System) (run : Run) (agent : ℕ) (up : TaggedPort) (state : AgentState) (end : ℕ) (machine : ShowsToAgent (system.agent agent) (run.at_agent agent) up state end) (plan : IsAgentPlan (system.agent agent))
     (fit : IsFit system agent up.port end) (responses : Responses) (fixed : (system.agent agent).has_readdatavalid ≡ false) (g : GivesFixed responses (system.agent agent) (run.at_agent agent) up state end) where
   abbrev side : AgentSide
   side = system.agent agent
@@ -102,7 +102,7 @@ module _ (system : System) (run : Run) (agent : ℕ) (up : TaggedPort) (state : 
       by_left has false free =
           let fits = fit_when_shown up.port end c fit.legal low (and_parts (shows up.commands.signals c) (not (is_raised (up.commands.waitrequest c))) parts.0).0 in
           let least = fits.least free in
-          let most : up.commands.count c ≤ 2 ^ (1 - 1) = subst (λ b. up.commands.count c ≤ 2 ^ (b - 1)) (m.bursts ∙ plan.one_word fixed has) (fits.most free) in
+          let most : up.commands.count c ≤ 2 ^ (1 - 1) = subst (λ b. up.commands.count c ≤ 2 ^ (b - 1)) (machine.bursts ∙ plan.one_word fixed has) (fits.most free) in
           omega (arith, least, most)
 
       by_read : (b : Bool) → side.has_read ≡ b → up.commands.count c ≡ 1
@@ -123,7 +123,7 @@ module _ (system : System) (run : Run) (agent : ℕ) (up : TaggedPort) (state : 
   -- the agent gives a word for each read, as many cycles later
   gives_read : (c : ℕ) → c < end → (is_raised (view.read c) && agent_accepts side view c) ≡ reads c
   gives_read c low =
-      ap₂ (λ r a. r && a) (read_is side view up state end m plan fit.legal fit.kinds c low) (sym (same_takes side view up state end m plan fit.legal fit.kinds c low))
+      ap₂ (λ r a. r && a) (read_is side view up state end machine plan fit.legal fit.kinds c low) (sym (same_takes side view up state end machine plan fit.legal fit.kinds c low))
       ∙ ap (λ b. (not (b && not (nat_lt (length (state.queue c)) side.pending)) && is_raised (up.commands.read c)) && takes up.port c) fixed ∙ swap (is_raised (up.commands.read c)) (takes up.port c)
     where
       swap : (a b : Bool) → (a && b) ≡ (b && a)

@@ -56,7 +56,7 @@ aligned_rest y w k s e =
 abbrev pub cut : ℕ → Burst → Burst
 cut span b = record { left = b.left; done = b.done; first = b.first % span }
 
-module _ (side : AgentSide) (view : AgentView) (up : TaggedPort) (state : AgentState) (end : ℕ) (m : ShowsToAgent side view up state end) (plan : IsAgentPlan side)
+module _ (side : AgentSide) (view : AgentView) (up : TaggedPort) (state : AgentState) (end : ℕ) (machine : ShowsToAgent side view up state end) (plan : IsAgentPlan side)
     (legal : AreLegalAt up.port end) (kinds : ServesKinds side up.port end) where
   abbrev pub full : ℕ → Bool
   full c = is_full side state c
@@ -68,24 +68,24 @@ module _ (side : AgentSide) (view : AgentView) (up : TaggedPort) (state : AgentS
   read_is c low = by_has side.has_read refl
     where
       by_has : (b : Bool) → side.has_read ≡ b → is_raised (view.read c) ≡ not (full c) && is_raised (up.commands.read c)
-      by_has true has = ap is_raised (m.read c low has) ∙ gated (full c) (up.commands.read c)
+      by_has true has = ap is_raised (machine.read c low has) ∙ gated (full c) (up.commands.read c)
       by_has false has =
           let none = reads_none (is_raised (up.commands.read c)) (is_raised (up.commands.write c)) side.has_read side.has_write has (kinds c low) in
-          ap is_raised (m.no_read c low has) ∙ sym (ap (λ r. not (full c) && r) none ∙ and_none (not (full c)))
+          ap is_raised (machine.no_read c low has) ∙ sym (ap (λ r. not (full c) && r) none ∙ and_none (not (full c)))
 
   pub write_is : (c : ℕ) → c < end → is_raised (view.write c) ≡ is_raised (up.commands.write c)
   write_is c low = by_has side.has_write refl
     where
       by_has : (b : Bool) → side.has_write ≡ b → is_raised (view.write c) ≡ is_raised (up.commands.write c)
-      by_has true has = ap is_raised (m.write c low has)
-      by_has false has = ap is_raised (m.no_write c low has) ∙ sym (writes_none (is_raised (up.commands.read c)) (is_raised (up.commands.write c)) side.has_read side.has_write has (kinds c low))
+      by_has true has = ap is_raised (machine.write c low has)
+      by_has false has = ap is_raised (machine.no_write c low has) ∙ sym (writes_none (is_raised (up.commands.read c)) (is_raised (up.commands.write c)) side.has_read side.has_write has (kinds c low))
 
   pub shows_is : (c : ℕ) → c < end → shows view.signals c ≡ ((not (full c) && is_raised (up.commands.read c)) || is_raised (up.commands.write c))
   shows_is c low = ap₂ (λ r w. r || w) (read_is c low) (write_is c low)
 
   stood_is : IsFalse side.has_waitrequest → (c : ℕ) → c < end → state.stood c ≡ stood_before side view c
-  stood_is fixed zero low = m.stood_first
-  stood_is fixed (suc c) low = m.stood_next c low fixed ∙ ap (stood_after side view c) (stood_is fixed c (omega arith))
+  stood_is fixed zero low = machine.stood_first
+  stood_is fixed (suc c) low = machine.stood_next c low fixed ∙ ap (stood_after side view c) (stood_is fixed c (omega arith))
 
   accepts_is : (c : ℕ) → c < end → accepts c ≡ (shows view.signals c && not (is_busy side view state c))
   accepts_is c low = by_has side.has_waitrequest refl
@@ -97,29 +97,29 @@ module _ (side : AgentSide) (view : AgentView) (up : TaggedPort) (state : AgentS
   -- a beat is taken above just where the agent accepts it
   pub same_takes : (c : ℕ) → c < end → takes up.port c ≡ accepts c
   same_takes c low =
-      ap (λ w. shows up.commands.signals c && not w) (m.wait c low)
+      ap (λ w. shows up.commands.signals c && not w) (machine.wait c low)
       ∙ same_test (full c) (is_raised (up.commands.read c)) (is_raised (up.commands.write c)) (is_busy side view state c) (legal.legal.one_kind c low)
       ∙ ap (λ s. s && not (is_busy side view state c)) (sym (shows_is c low)) ∙ sym (accepts_is c low)
 
   pub address_is : (c : ℕ) → c < end → byte_address side.shape (view.address c) ≡ byte_address up.shape (up.commands.address c) % side.span
   address_is c low =
-      let at = m.address c low in
+      let at = machine.address c low in
       let y = up.commands.address c * up.shape.unit_bytes in
-      let words = m.words in
+      let words = machine.words in
       let aligned : (byte_address up.shape (up.commands.address c) % side.span) % side.word_bytes ≡ 0 =
       ap (λ w. ((y - y % w) % side.span) % side.word_bytes) words ∙ aligned_rest y side.word_bytes plan.span side.span plan.spans in
       ap (λ n. n - n % side.word_bytes) at ∙ ap (λ n. byte_address up.shape (up.commands.address c) % side.span - n) aligned ∙ minus_none (byte_address up.shape (up.commands.address c) % side.span)
 
   -- where a command begins, its count is right
   pub count_is : (c : ℕ) → c < end → shows up.commands.signals c ≡ true → nat_lt 0 (burst_before up.shape up.commands.signals (takes up.port) c).left ≡ false → view.count c ≡ up.commands.count c
-  count_is c low shown free = m.count c low ∙ by_has side.has_burst refl
+  count_is c low shown free = machine.count c low ∙ by_has side.has_burst refl
     where
       by_has : (b : Bool) → side.has_burst ≡ b → (if side.has_burst then up.commands.count c else 1) ≡ up.commands.count c
       by_has true has = rw has refl
       by_has false has =
           let fit = fit_when_shown up.port end c legal low shown in
           let least = fit.least free in
-          let bits : up.shape.burst_bits ≡ 1 = m.bursts ∙ m.plain has in
+          let bits : up.shape.burst_bits ≡ 1 = machine.bursts ∙ machine.plain has in
           let most : up.commands.count c ≤ 2 ^ (1 - 1) = subst (λ b. up.commands.count c ≤ 2 ^ (b - 1)) bits (fit.most free) in
           rw has (omega (arith, least, most))
 

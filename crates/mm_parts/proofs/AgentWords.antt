@@ -117,7 +117,7 @@ pub record GivesInOrder (responses : Responses) (system : System) (run : Run) (a
   pub words : (c : ℕ) → c ≤ end → IsPrefix (map (λ (w : TaggedWord). w.word) (words_up up c)) (map (strip responses) (given_by system run agent c))
   pub tags : (c : ℕ) → c < end → IsPrefix (word_tags up (suc c)) (asked_tags (taken_at up.port c))
 
-module _ (system : System) (run : Run) (agent : ℕ) (up : TaggedPort) (state : AgentState) (end : ℕ) (m : ShowsToAgent (system.agent agent) (run.at_agent agent) up state end) (plan : IsAgentPlan (system.agent agent))
+module _ (system : System) (run : Run) (agent : ℕ) (up : TaggedPort) (state : AgentState) (end : ℕ) (machine : ShowsToAgent (system.agent agent) (run.at_agent agent) up state end) (plan : IsAgentPlan (system.agent agent))
     (fit : IsFit system agent up.port end) where
   abbrev side : AgentSide
   side = system.agent agent
@@ -137,7 +137,7 @@ module _ (system : System) (run : Run) (agent : ℕ) (up : TaggedPort) (state : 
         front (suc c) low = prefix_trans (gives.tags c low) (later_asked c)
 
     alike : (c : ℕ) → c ≤ end → AreAlike up.shape side.shape side.span (reads_up (taken_at up.port c)) (filter is_read_beat (beats_taken system run agent c))
-    alike c low = subst (λ l. AreAlike up.shape side.shape side.span l (filter is_read_beat (beats_taken system run agent c))) (sym (reads_split up.port c)) (alike_reads up.shape side.shape side.span (tagged_beats (taken_at up.port c)) (beats_taken system run agent c) (all_alike system run agent up state end m plan fit.legal fit.kinds fit.lanes c low))
+    alike c low = subst (λ l. AreAlike up.shape side.shape side.span l (filter is_read_beat (beats_taken system run agent c))) (sym (reads_split up.port c)) (alike_reads up.shape side.shape side.span (tagged_beats (taken_at up.port c)) (beats_taken system run agent c) (all_alike system run agent up state end machine plan fit.legal fit.kinds fit.lanes c low))
 
     abbrev down : ℕ → ℕ → List Word → List Answer
     down h c ws = answers_to h (flat_map (λ (p : TaggedBeat × Word). answers_in side.shape p.0 p.1) (zip (filter is_read_beat (beats_taken system run agent c)) ws))
@@ -192,11 +192,11 @@ module _ (system : System) (run : Run) (agent : ℕ) (up : TaggedPort) (state : 
         let valid : is_raised (up.answers.valid c) ≡ true = g.valid c low ∙ is in
         let more = word_more view.readdatavalid c ∙ ap (λ b. words_before view.readdatavalid c + one_if b) is in
         let few = proper.owed has c low in
-        let asked = asked_is side view up state end m plan fit.legal fit.kinds c (omega arith) in
+        let asked = asked_is side view up state end machine plan fit.legal fit.kinds c (omega arith) in
         let es : List Entry = entries (taken_at up.port c) in
         let within : length (word_tags up c) < words_of es = omega (arith, more, few, asked, counted) in
         let tag : up.answer_tag c ≡ head_tag (left_after es (length (word_tags up c))) =
-        g.tag c low ∙ ap head_tag (queue_holds side view up state end m plan fit.legal fit.kinds less has c low ∙ ap (left_after es) (sym counted)) in
+        g.tag c low ∙ ap head_tag (queue_holds side view up state end machine plan fit.legal fit.kinds less has c low ∙ ap (left_after es) (sym counted)) in
         let next = tag_in_order es (word_tags up c) (all_ask up.port end fit.legal c (omega arith)) (subst (IsPrefix (word_tags up c)) (asked_are (taken_at up.port c)) p) within in
         let tags : word_tags up (suc c) ≡ word_tags up c ++ head_tag (left_after es (length (word_tags up c))) ∷ [] = ap₂ (λ b t. word_tags up c ++ only_if b t) valid tag in
         let size = ap length tags ∙ length-append (word_tags up c) (head_tag (left_after es (length (word_tags up c))) ∷ []) in (

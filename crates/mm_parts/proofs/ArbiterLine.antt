@@ -16,7 +16,7 @@ use Rattle.mm_machines.specs.SideLaws.{fit_when_shown, legal_when_shown}
 use Rattle.mm_machines.specs.Lines.{AreFitToAsk}
 use Rattle.mm_parts.specs.Arbiter.{IsArbiterMachine}
 use Rattle.mm_parts.proofs.Shared.{same_fit}
-use Rattle.mm_parts.proofs.ArbiterTurns.{choice, bu, bd, of_choice, same_raw, none_shown, takes_up, burst_same, same_marked, open_next, of_open}
+use Rattle.mm_parts.proofs.ArbiterTurns.{choice, burst_above, burst_below, of_choice, same_raw, none_shown, takes_up, burst_same, same_marked, open_next, of_open}
 
 self_eq : (n : ℕ) → nat_eq n n ≡ true
 self_eq n = grind (arith, tests)
@@ -66,10 +66,10 @@ closes_push [] m = refl
 closes_push (x ∷ []) m = refl
 closes_push (x ∷ y ∷ later) m = closes_push (y ∷ later) m
 
-module _ (system : System) (agent : ℕ) (up : ℕ → Port) (down : TaggedPort) (grant : ℕ → Grant) (end : ℕ) (m : IsArbiterMachine (seats_of system agent) system.hosts up down grant end)
+module _ (system : System) (agent : ℕ) (up : ℕ → Port) (down : TaggedPort) (grant : ℕ → Grant) (end : ℕ) (machine : IsArbiterMachine (seats_of system agent) system.hosts up down grant end)
     (joined : (h : ℕ) → IsTrue (is_joined system agent h) → h < system.hosts) (fit : AreFitToAsk system agent up end) where
   abbrev pub chose : ℕ → Option ℕ
-  chose c = choice system agent up down grant end m joined fit c
+  chose c = choice system agent up down grant end machine joined fit c
 
   -- a beat below is that of the one that is chosen
   pub record Chosen (c : ℕ) : Type 0 where
@@ -84,23 +84,23 @@ module _ (system : System) (agent : ℕ) (up : ℕ → Port) (down : TaggedPort)
   whom c low shown = by_choice (chose c) refl
     where
       by_choice : (o : Option ℕ) → chose c ≡ o → Chosen c
-      by_choice None is = let none = none_shown system agent up down grant end m joined fit c low is in let bad : ⊥ = cc in absurd bad
+      by_choice None is = let none = none_shown system agent up down grant end machine joined fit c low is in let bad : ⊥ = cc in absurd bad
       by_choice (Some k) is =
-          let of = of_choice system agent up down grant end m joined fit c k low is in
+          let of = of_choice system agent up down grant end machine joined fit c k low is in
           record {
             host = k;
             is = is;
             there = of.0;
             asks = of.1;
-            same = same_marked system agent up down grant end m joined fit c k low is;
-            tag = ap (λ (r : Raw). r.tag) (same_raw system agent up down grant end m joined fit c k low is) ∙ (fit k of.0).tag c low of.1;
+            same = same_marked system agent up down grant end machine joined fit c k low is;
+            tag = ap (λ (r : Raw). r.tag) (same_raw system agent up down grant end machine joined fit c k low is) ∙ (fit k of.0).tag c low of.1;
           }
 
   taken_shows : (c : ℕ) → takes down.port c ≡ true → shows down.commands.signals c ≡ true
   taken_shows c taken = (and_parts (shows down.commands.signals c) (not (is_raised (down.commands.waitrequest c))) taken).0
 
   takes_of : (h c : ℕ) → h < system.hosts → c < end → (w : Chosen c) → takes (up h) c ≡ (takes down.port c && nat_eq h w.host)
-  takes_of h c there low w = takes_up system agent up down grant end m joined fit h c there low ∙ ap (λ o. takes down.port c && is_agent h o) w.is
+  takes_of h c there low w = takes_up system agent up down grant end machine joined fit h c there low ∙ ap (λ o. takes down.port c && is_agent h o) w.is
 
   -- what is taken below under a tag is what is taken from that asker
   pub taken_same : (h c : ℕ) → h < system.hosts → c ≤ end → with_tag h (taken_at down.port c) ≡ taken_at (up h) c
@@ -111,7 +111,7 @@ module _ (system : System) (agent : ℕ) (up : ℕ → Port) (down : TaggedPort)
     where
       by_taken : (b : Bool) → takes down.port c ≡ b → with_tag h (only_if (takes down.port c) (marked_at down.port c)) ≡ only_if (takes (up h) c) (marked_at (up h) c)
       by_taken false is =
-          let none : takes (up h) c ≡ false = takes_up system agent up down grant end m joined fit h c there low ∙ ap (λ b. b && is_agent h (chose c)) is in
+          let none : takes (up h) c ≡ false = takes_up system agent up down grant end machine joined fit h c there low ∙ ap (λ b. b && is_agent h (chose c)) is in
           ap (λ b. with_tag h (only_if b (marked_at down.port c))) is ∙ sym (ap (λ b. only_if b (marked_at (up h) c)) none)
       by_taken true is =
           let w = whom c low (taken_shows c is) in
@@ -133,14 +133,14 @@ module _ (system : System) (agent : ℕ) (up : ℕ → Port) (down : TaggedPort)
   fit_below c low shown =
       let w = whom c low shown in
       let above = fit_when_shown (up w.host) end c (fit w.host w.there).legal low w.asks in
-      let moved = subst (λ s. IsFitBeat s (bu system agent up down grant end m joined fit w.host c) (raw_at (up w.host) c)) (m.shapes w.host w.there) above in
-      subst (IsFitBeat down.shape (bd system agent up down grant end m joined fit c)) (sym (same_raw system agent up down grant end m joined fit c w.host low w.is))
-      (same_fit down.shape (raw_at (up w.host) c) (bu system agent up down grant end m joined fit w.host c) (bd system agent up down grant end m joined fit c) (burst_same system agent up down grant end m joined fit c w.host low w.is) moved)
+      let moved = subst (λ s. IsFitBeat s (burst_above system agent up down grant end machine joined fit w.host c) (raw_at (up w.host) c)) (machine.shapes w.host w.there) above in
+      subst (IsFitBeat down.shape (burst_below system agent up down grant end machine joined fit c)) (sym (same_raw system agent up down grant end machine joined fit c w.host low w.is))
+      (same_fit down.shape (raw_at (up w.host) c) (burst_above system agent up down grant end machine joined fit w.host c) (burst_below system agent up down grant end machine joined fit c) (burst_same system agent up down grant end machine joined fit c w.host low w.is) moved)
 
   -- the host of a beat that waits goes on
   stays_open : (c h : ℕ) → suc c < end → chose c ≡ Some h → takes down.port c ≡ false → (grant (suc c)).open_host ≡ Some h
   stays_open c h low is none =
-      open_next system agent up down grant end m joined fit c low ∙ ap (λ o. open_after (grant c).open_host o (ends_at up down.port c)) is
+      open_next system agent up down grant end machine joined fit c low ∙ ap (λ o. open_after (grant c).open_host o (ends_at up down.port c)) is
       ∙ ap (λ b. if b && closes (marked_at (up h) c) then None else Some h) none
 
   chosen_open : (c h : ℕ) → (grant c).open_host ≡ Some h → shows (up h).commands.signals c ≡ true → chose c ≡ Some h
@@ -158,10 +158,10 @@ module _ (system : System) (agent : ℕ) (up : ℕ → Port) (down : TaggedPort)
       let levels = legal.legal.held c low stands in
       let on : shows (up w.host).commands.signals (suc c) ≡ true = ap (λ (l : Levels). is_raised l.read || is_raised l.write) (sym levels) ∙ w.asks in
       let next = chosen_open (suc c) w.host (stays_open c w.host low w.is none) on in
-      same_raw system agent up down grant end m joined fit c w.host (omega arith) w.is
+      same_raw system agent up down grant end machine joined fit c w.host (omega arith) w.is
       ∙ ap (λ l. record { levels = l; more = (up w.host).commands.more c; tag = (up w.host).commands.tag c }) levels
-      ∙ ap₂ (λ m t. record { levels = levels_at (up w.host).commands.signals (suc c); more = m; tag = t }) (legal.more c low stands) (legal.tag c low stands)
-      ∙ sym (same_raw system agent up down grant end m joined fit (suc c) w.host low next)
+      ∙ ap₂ (λ machine t. record { levels = levels_at (up w.host).commands.signals (suc c); more = machine; tag = t }) (legal.more c low stands) (legal.tag c low stands)
+      ∙ sym (same_raw system agent up down grant end machine joined fit (suc c) w.host low next)
 
   pub legal_below : AreLegalAt down.port end
   legal_below = legal_when_shown down.shape down.commands down.answers end fit_below held_below
@@ -232,7 +232,7 @@ module _ (system : System) (agent : ℕ) (up : ℕ → Port) (down : TaggedPort)
   all_next c low whole false is = ap (λ b. are_whole (taken_at down.port c ++ only_if b (marked_at down.port c))) is ∙ ap are_whole (append-nil (taken_at down.port c)) ∙ whole.all
 
   whole_at : (c : ℕ) → c < end → IsWhole c
-  whole_at zero low = record { all = refl; holder = subst (OpenFits 0) (ap (λ (g : Grant). g.open_host) (sym m.begins)) refl }
+  whole_at zero low = record { all = refl; holder = subst (OpenFits 0) (ap (λ (g : Grant). g.open_host) (sym machine.begins)) refl }
   whole_at (suc c) low = next (whole_at c (omega arith))
     where
       still : takes down.port c ≡ false → taken_at down.port (suc c) ≡ taken_at down.port c
@@ -247,19 +247,19 @@ module _ (system : System) (agent : ℕ) (up : ℕ → Port) (down : TaggedPort)
         where
           by_choice : (o : Option ℕ) → chose c ≡ o → OpenFits (suc c) (grant (suc c)).open_host
           by_choice None is =
-              let quiet : takes down.port c ≡ false = ap (λ s. s && not (is_raised (down.commands.waitrequest c))) (none_shown system agent up down grant end m joined fit c (omega arith) is) in
-              let same : (grant (suc c)).open_host ≡ (grant c).open_host = open_next system agent up down grant end m joined fit c low ∙ ap (λ o. open_after (grant c).open_host o (ends_at up down.port c)) is in
+              let quiet : takes down.port c ≡ false = ap (λ s. s && not (is_raised (down.commands.waitrequest c))) (none_shown system agent up down grant end machine joined fit c (omega arith) is) in
+              let same : (grant (suc c)).open_host ≡ (grant c).open_host = open_next system agent up down grant end machine joined fit c low ∙ ap (λ o. open_after (grant c).open_host o (ends_at up down.port c)) is in
               subst (OpenFits (suc c)) (sym same) (same_open (grant c).open_host quiet whole.holder)
           by_choice (Some k) is = subst (OpenFits (suc c)) (sym opened) (by_taken (takes down.port c) (closes (marked_at (up k) c)) refl refl)
             where
               opened : (grant (suc c)).open_host ≡ (if takes down.port c && closes (marked_at (up k) c) then None else Some k)
-              opened = open_next system agent up down grant end m joined fit c low ∙ ap (λ o. open_after (grant c).open_host o (ends_at up down.port c)) is
+              opened = open_next system agent up down grant end machine joined fit c low ∙ ap (λ o. open_after (grant c).open_host o (ends_at up down.port c)) is
 
               it : marked_at down.port c ≡ marked_at (up k) c
-              it = same_marked system agent up down grant end m joined fit c k (omega arith) is
+              it = same_marked system agent up down grant end machine joined fit c k (omega arith) is
 
               tag : down.commands.tag c ≡ k
-              tag = let of = of_choice system agent up down grant end m joined fit c k (omega arith) is in ap (λ (r : Raw). r.tag) (same_raw system agent up down grant end m joined fit c k (omega arith) is) ∙ (fit k of.0).tag c (omega arith) of.1
+              tag = let of = of_choice system agent up down grant end machine joined fit c k (omega arith) is in ap (λ (r : Raw). r.tag) (same_raw system agent up down grant end machine joined fit c k (omega arith) is) ∙ (fit k of.0).tag c (omega arith) of.1
 
               by_taken : (t e : Bool) → takes down.port c ≡ t → closes (marked_at (up k) c) ≡ e → OpenFits (suc c) (if takes down.port c && closes (marked_at (up k) c) then None else Some k)
               by_taken true true t e =

@@ -29,18 +29,18 @@ first_shows : (shown accepts : ℕ → Bool) (c : ℕ) → is_first shown accept
 first_shows shown accepts zero e = e
 first_shows shown accepts (suc c) e = (and_parts (shown (suc c)) (not (stands_on shown accepts c)) e).0
 
-module _ (system : System) (agent : ℕ) (up : ℕ → Port) (down : TaggedPort) (grant : ℕ → Grant) (end : ℕ) (m : IsArbiterMachine (seats_of system agent) system.hosts up down grant end)
+module _ (system : System) (agent : ℕ) (up : ℕ → Port) (down : TaggedPort) (grant : ℕ → Grant) (end : ℕ) (machine : IsArbiterMachine (seats_of system agent) system.hosts up down grant end)
     (joined : (h : ℕ) → IsTrue (is_joined system agent h) → h < system.hosts) (fit : AreFitToAsk system agent up end) where
   abbrev target : Target
   target = target_of system agent
 
-  chosen_at : (c : ℕ) → c < end → shows down.commands.signals c ≡ true → Chosen system agent up down grant end m joined fit c
-  chosen_at = whom system agent up down grant end m joined fit
+  chosen_at : (c : ℕ) → c < end → shows down.commands.signals c ≡ true → Chosen system agent up down grant end machine joined fit c
+  chosen_at = whom system agent up down grant end machine joined fit
 
   groups_front : (h c : ℕ) → h < system.hosts → c ≤ end → IsPrefix (groups_of target down.shape (with_tag h (shown_at down.port c))) (groups_of target (up h).shape (shown_at (up h) c))
   groups_front h c there low =
-      subst (λ s. IsPrefix (groups_of target s (with_tag h (shown_at down.port c))) (groups_of target (up h).shape (shown_at (up h) c))) (m.shapes h there)
-      (prefix_map (group_of target (up h).shape) (shown_front system agent up down grant end m joined fit h c there low))
+      subst (λ s. IsPrefix (groups_of target s (with_tag h (shown_at down.port c))) (groups_of target (up h).shape (shown_at (up h) c))) (machine.shapes h there)
+      (prefix_map (group_of target (up h).shape) (shown_front system agent up down grant end machine joined fit h c there low))
 
   carries : (h : ℕ) → h < system.hosts → Carries h 0 0 1 (port_flow target (up h)) (tagged_flow h target down.port) end
   carries h there = record {
@@ -50,13 +50,13 @@ module _ (system : System) (agent : ℕ) (up : ℕ → Port) (down : TaggedPort)
     beats = λ c low. (let few = total_front (prefix_map (λ (g : Group). g.beats) (prefix_filter (λ (g : Group). nat_eq g.tag h) (groups_front h c there low))) in omega (arith, few));
     held = λ c low.
         let same : sizes_of (groups_of target (up h).shape (taken_at (up h) c)) ≡ sizes_of (groups_of target down.shape (with_tag h (taken_at down.port c))) =
-        ap₂ (λ s l. sizes_of (groups_of target s l)) (m.shapes h there) (sym (taken_same system agent up down grant end m joined fit h c there low)) in
+        ap₂ (λ s l. sizes_of (groups_of target s l)) (machine.shapes h there) (sym (taken_same system agent up down grant end machine joined fit h c there low)) in
         le_of_eq (all_reached (sizes_of (groups_of target (up h).shape (taken_at (up h) c))) (total (sizes_of (groups_of target down.shape (with_tag h (taken_at down.port c))))) (le_of_eq (ap total same)));
     within = λ c low. prefix_within (prefix_map (λ (g : Group). length g.operations) (groups_front h c there low));
   }
 
   abbrev acts : Shape → Marked → Bool
-  acts shape m = list_all (λ (b : Beat). is_nonempty (beat_operations target shape b)) m.transfer.beats
+  acts shape machine = list_all (λ (b : Beat). is_nonempty (beat_operations target shape b)) machine.transfer.beats
 
   lanes_below : target.shape.has_enables ≡ false → (c : ℕ) → c ≤ end → list_all (acts down.shape) (shown_at down.port c) ≡ true
   lanes_below none zero low = refl
@@ -70,7 +70,7 @@ module _ (system : System) (agent : ℕ) (up : ℕ → Port) (down : TaggedPort)
           let w = chosen_at c low (first_shows (shows down.commands.signals) (takes down.port) c is) in
           let all : list_all (acts (up w.host).shape) (shown_at (up w.host) (suc c)) ≡ true = ap (λ b. b || list_all (acts (up w.host).shape) (shown_at (up w.host) (suc c))) (sym none) ∙ (fit w.host w.there).lanes (suc c) low in
           let passes = shown_passes (acts (up w.host).shape) (up w.host) end c (fit w.host w.there).legal low all w.asks in
-          ap (λ b. list_all (acts down.shape) (only_if b (marked_at down.port c))) is ∙ ap (λ b. b && true) (ap₂ acts (sym (m.shapes w.host w.there)) w.same ∙ passes)
+          ap (λ b. list_all (acts down.shape) (only_if b (marked_at down.port c))) is ∙ ap (λ b. b && true) (ap₂ acts (sym (machine.shapes w.host w.there)) w.same ∙ passes)
 
   lanes : HasLanes target down.port end
   lanes c low = by_has target.shape.has_enables refl
@@ -91,15 +91,15 @@ module _ (system : System) (agent : ℕ) (up : ℕ → Port) (down : TaggedPort)
       by_shown false is = quiet (is_raised (down.commands.read c)) (is_raised (down.commands.write c)) (system.agent agent).has_read (system.agent agent).has_write is
       by_shown true is =
           let w = chosen_at c low is in
-          ap (λ (r : Raw). (not (is_raised r.levels.read) || (system.agent agent).has_read) && (not (is_raised r.levels.write) || (system.agent agent).has_write)) (same_raw system agent up down grant end m joined fit c w.host low w.is)
+          ap (λ (r : Raw). (not (is_raised r.levels.read) || (system.agent agent).has_read) && (not (is_raised r.levels.write) || (system.agent agent).has_write)) (same_raw system agent up down grant end machine joined fit c w.host low w.is)
           ∙ (fit w.host w.there).kinds c low
 
   pub carries_commands : ArbiterCarriesCommands system agent 0 up down end
   carries_commands = record {
     carries = carries;
-    whole = whole_shown system agent up down grant end m joined fit;
+    whole = whole_shown system agent up down grant end machine joined fit;
     fit = record {
-      legal = legal_below system agent up down grant end m joined fit;
+      legal = legal_below system agent up down grant end machine joined fit;
       lanes = lanes;
       tags = λ c low shown. (let w = chosen_at c low shown in subst (λ t. IsTrue (is_joined system agent t)) (sym w.tag) ((fit w.host w.there).joined c low w.asks));
       kinds = kinds;
@@ -112,12 +112,12 @@ module _ (system : System) (agent : ℕ) (up : ℕ → Port) (down : TaggedPort)
   same_words h zero there low = refl
   same_words h (suc c) there low =
       ap₂ (λ x y. x ++ y) (same_words h c there (omega arith))
-      (ap₂ (λ v w. only_if v w) (m.valid h c there low) (ap₂ (λ w k. record { word = w; code = k }) (m.word h c there low) (m.code h c there low)))
+      (ap₂ (λ v w. only_if v w) (machine.valid h c there low) (ap₂ (λ w k. record { word = w; code = k }) (machine.word h c there low) (machine.code h c there low)))
 
   same_answers : (h c : ℕ) → h < system.hosts → c ≤ end → answers_at target (up h) c ≡ answers_with h target down c
   same_answers h c there low =
-      ap (λ s. flat_map (λ (p : Beat × Word). bytes_in target s p.0 p.1) (zip (read_beats (taken_at (up h) c)) (words_at (up h) c))) (m.shapes h there)
-      ∙ ap₂ (λ bs ws. flat_map (λ (p : Beat × Word). bytes_in target down.shape p.0 p.1) (zip (read_beats bs) ws)) (sym (taken_same system agent up down grant end m joined fit h c there low)) (same_words h c there low)
+      ap (λ s. flat_map (λ (p : Beat × Word). bytes_in target s p.0 p.1) (zip (read_beats (taken_at (up h) c)) (words_at (up h) c))) (machine.shapes h there)
+      ∙ ap₂ (λ bs ws. flat_map (λ (p : Beat × Word). bytes_in target down.shape p.0 p.1) (zip (read_beats bs) ws)) (sym (taken_same system agent up down grant end machine joined fit h c there low)) (same_words h c there low)
 
   pub carries_answers : (responses : Responses) → AreOwedByTag system down end → ArbiterCarriesAnswers responses system agent up down end
   carries_answers responses owed = record {
@@ -125,7 +125,7 @@ module _ (system : System) (agent : ℕ) (up : ℕ → Port) (down : TaggedPort)
     codes = λ are h c there low. subst (λ l. IsPrefix (codes_of (answers_at target (up h) c)) (codes_of l)) (same_answers h c there low) (prefix_refl _);
     owed = λ h there c low.
         let few = owed h c there low in
-        let asked : length (read_beats (with_tag h (taken_at down.port c))) ≡ words_owed (up h) c = ap (λ l. length (read_beats l)) (taken_same system agent up down grant end m joined fit h c there (omega arith)) in
+        let asked : length (read_beats (with_tag h (taken_at down.port c))) ≡ words_owed (up h) c = ap (λ l. length (read_beats l)) (taken_same system agent up down grant end machine joined fit h c there (omega arith)) in
         let words : words_before (up h).answers.valid (suc c) ≡ length (words_with h down (suc c)) =
         same_counts (λ c. is_raised ((up h).answers.valid c)) (λ c. c) (λ c. record { word = (up h).answers.word c; code = (up h).answers.code c }) (suc c) ∙ ap length (same_words h (suc c) there low) in
         omega (arith, few, asked, words);

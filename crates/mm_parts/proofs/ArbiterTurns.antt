@@ -27,20 +27,20 @@ of_open (Some host) asks round k h one two = by_test (asks host) refl two
     by_test true is e = cc
     by_test false is e = cc
 
-module _ (system : System) (agent : ℕ) (up : ℕ → Port) (down : TaggedPort) (grant : ℕ → Grant) (end : ℕ) (m : IsArbiterMachine (seats_of system agent) system.hosts up down grant end)
+module _ (system : System) (agent : ℕ) (up : ℕ → Port) (down : TaggedPort) (grant : ℕ → Grant) (end : ℕ) (machine : IsArbiterMachine (seats_of system agent) system.hosts up down grant end)
     (joined : (h : ℕ) → IsTrue (is_joined system agent h) → h < system.hosts) (fit : AreFitToAsk system agent up end) where
   abbrev pub choice : ℕ → Option ℕ
   choice c = (chosen (grant c) (asks_at up c)).host
 
-  abbrev pub bu : ℕ → ℕ → Burst
-  bu h c = burst_before (up h).shape (up h).commands.signals (takes (up h)) c
+  abbrev pub burst_above : ℕ → ℕ → Burst
+  burst_above h c = burst_before (up h).shape (up h).commands.signals (takes (up h)) c
 
-  abbrev pub bd : ℕ → Burst
-  bd c = burst_before down.shape down.commands.signals (takes down.port) c
+  abbrev pub burst_below : ℕ → Burst
+  burst_below c = burst_before down.shape down.commands.signals (takes down.port) c
 
   grants : (c : ℕ) → c < end → GrantFits (Below system.hosts) (grant c)
-  grants zero low = subst (GrantFits (Below system.hosts)) (sym m.begins) (record { holder = tt; round = record { all = all_seated system agent (Below system.hosts) joined; last = λ e. cc } })
-  grants (suc c) low = subst (GrantFits (Below system.hosts)) (sym (m.next c low)) (grant_fits (Below system.hosts) (grant c) (asks_at up c) (ends_at up down.port c) (grants c (omega arith)))
+  grants zero low = subst (GrantFits (Below system.hosts)) (sym machine.begins) (record { holder = tt; round = record { all = all_seated system agent (Below system.hosts) joined; last = λ e. cc } })
+  grants (suc c) low = subst (GrantFits (Below system.hosts)) (sym (machine.next c low)) (grant_fits (Below system.hosts) (grant c) (asks_at up c) (ends_at up down.port c) (grants c (omega arith)))
 
   -- who is chosen is a host that asks
   pub of_choice : (c h : ℕ) → c < end → choice c ≡ Some h → (h < system.hosts) × (shows (up h).commands.signals c ≡ true)
@@ -49,10 +49,10 @@ module _ (system : System) (agent : ℕ) (up : ℕ → Port) (down : TaggedPort)
       subst (ChoiceFits (Below system.hosts) (asks_at up c)) is (choice_fits (Below system.hosts) (grant c).open_host (asks_at up c) (grant c).round fits.holder fits.round).0
 
   pub same_raw : (c h : ℕ) → c < end → choice c ≡ Some h → raw_at down.port c ≡ raw_at (up h) c
-  same_raw c h low is = subst (λ o. MatchOption o (IsFalse (shows down.commands.signals c)) (λ host. raw_at down.port c ≡ raw_at (up host) c)) is (m.shown c low)
+  same_raw c h low is = subst (λ o. MatchOption o (IsFalse (shows down.commands.signals c)) (λ host. raw_at down.port c ≡ raw_at (up host) c)) is (machine.shown c low)
 
   pub none_shown : (c : ℕ) → c < end → choice c ≡ None → shows down.commands.signals c ≡ false
-  none_shown c low is = subst (λ o. MatchOption o (IsFalse (shows down.commands.signals c)) (λ host. raw_at down.port c ≡ raw_at (up host) c)) is (m.shown c low)
+  none_shown c low is = subst (λ o. MatchOption o (IsFalse (shows down.commands.signals c)) (λ host. raw_at down.port c ≡ raw_at (up host) c)) is (machine.shown c low)
 
   pub some_shown : (c h : ℕ) → c < end → choice c ≡ Some h → shows down.commands.signals c ≡ true
   some_shown c h low is = ap (λ (r : Raw). is_raised r.levels.read || is_raised r.levels.write) (same_raw c h low is) ∙ (of_choice c h low is).1
@@ -61,7 +61,7 @@ module _ (system : System) (agent : ℕ) (up : ℕ → Port) (down : TaggedPort)
   takes_up h c there low = by_choice (choice c) refl
     where
       wait : is_raised ((up h).commands.waitrequest c) ≡ not (is_agent h (choice c)) || is_raised (down.commands.waitrequest c)
-      wait = m.wait h c there low
+      wait = machine.wait h c there low
 
       refused : is_agent h (choice c) ≡ false → takes (up h) c ≡ (takes down.port c && is_agent h (choice c))
       refused e =
@@ -91,15 +91,15 @@ module _ (system : System) (agent : ℕ) (up : ℕ → Port) (down : TaggedPort)
 
   -- where the bursts stand
   pub record Bursts (c : ℕ) : Type 0 where
-    pub held : (h : ℕ) → h < system.hosts → (grant c).open_host ≡ Some h → IsSameBurst (bu h c) (bd c)
-    pub others : (h : ℕ) → h < system.hosts → ((grant c).open_host ≡ Some h → ⊥) → (bu h c).left ≡ 0
-    pub free : (grant c).open_host ≡ None → (bd c).left ≡ 0
+    pub held : (h : ℕ) → h < system.hosts → (grant c).open_host ≡ Some h → IsSameBurst (burst_above h c) (burst_below c)
+    pub others : (h : ℕ) → h < system.hosts → ((grant c).open_host ≡ Some h → ⊥) → (burst_above h c).left ≡ 0
+    pub free : (grant c).open_host ≡ None → (burst_below c).left ≡ 0
 
-  chosen_same : (c h : ℕ) → c < end → Bursts c → choice c ≡ Some h → IsSameBurst (bu h c) (bd c)
+  chosen_same : (c h : ℕ) → c < end → Bursts c → choice c ≡ Some h → IsSameBurst (burst_above h c) (burst_below c)
   chosen_same c h low bursts is = by_open (grant c).open_host refl
     where
-      by_open : (o : Option ℕ) → (grant c).open_host ≡ o → IsSameBurst (bu h c) (bd c)
-      by_open None e = both_idle (bu h c) (bd c) (bursts.others h (of_choice c h low is).0 (λ other. let bad : ⊥ = cc in bad)) (bursts.free e)
+      by_open : (o : Option ℕ) → (grant c).open_host ≡ o → IsSameBurst (burst_above h c) (burst_below c)
+      by_open None e = both_idle (burst_above h c) (burst_below c) (bursts.others h (of_choice c h low is).0 (λ other. let bad : ⊥ = cc in bad)) (bursts.free e)
       by_open (Some k) e =
           let same : h ≡ k = of_open (grant c).open_host (asks_at up c) (grant c).round k h e is in
           bursts.held h (of_choice c h low is).0 (e ∙ ap Some (sym same))
@@ -109,10 +109,10 @@ module _ (system : System) (agent : ℕ) (up : ℕ → Port) (down : TaggedPort)
   not_open c h k is other e = other (sym (of_open (grant c).open_host (asks_at up c) (grant c).round h k e is))
 
   pub open_next : (c : ℕ) → suc c < end → (grant (suc c)).open_host ≡ open_after (grant c).open_host (choice c) (ends_at up down.port c)
-  open_next c low = ap (λ (g : Grant). g.open_host) (m.next c low)
+  open_next c low = ap (λ (g : Grant). g.open_host) (machine.next c low)
 
-  still_up : (h c : ℕ) → takes (up h) c ≡ false → bu h (suc c) ≡ bu h c
-  still_up h c none = ap (λ b. burst_after (up h).shape (levels_at (up h).commands.signals c) b (bu h c)) none
+  still_up : (h c : ℕ) → takes (up h) c ≡ false → burst_above h (suc c) ≡ burst_above h c
+  still_up h c none = ap (λ b. burst_after (up h).shape (levels_at (up h).commands.signals c) b (burst_above h c)) none
 
   step : (c : ℕ) → suc c < end → Bursts c → Bursts (suc c)
   step c low bursts = by_choice (choice c) refl
@@ -121,14 +121,14 @@ module _ (system : System) (agent : ℕ) (up : ℕ → Port) (down : TaggedPort)
       by_choice None is =
           let same : (grant (suc c)).open_host ≡ (grant c).open_host = open_next c low ∙ ap (λ o. open_after (grant c).open_host o (ends_at up down.port c)) is in
           let quiet : takes down.port c ≡ false = ap (λ s. s && not (is_raised (down.commands.waitrequest c))) (none_shown c (omega arith) is) in
-          let below : bd (suc c) ≡ bd c = ap (λ b. burst_after down.shape (levels_at down.commands.signals c) b (bd c)) quiet in
+          let below : burst_below (suc c) ≡ burst_below c = ap (λ b. burst_after down.shape (levels_at down.commands.signals c) b (burst_below c)) quiet in
           record {
-            held = λ h there e. subst (λ b. IsSameBurst b (bd (suc c))) (sym (above h there quiet)) (subst (IsSameBurst (bu h c)) (sym below) (bursts.held h there (sym same ∙ e)));
+            held = λ h there e. subst (λ b. IsSameBurst b (burst_below (suc c))) (sym (above h there quiet)) (subst (IsSameBurst (burst_above h c)) (sym below) (bursts.held h there (sym same ∙ e)));
             others = λ h there e. ap (λ (b : Burst). b.left) (above h there quiet) ∙ bursts.others h there (λ other. e (same ∙ other));
             free = λ e. ap (λ (b : Burst). b.left) below ∙ bursts.free (sym same ∙ e);
           }
         where
-          above : (h : ℕ) → h < system.hosts → takes down.port c ≡ false → bu h (suc c) ≡ bu h c
+          above : (h : ℕ) → h < system.hosts → takes down.port c ≡ false → burst_above h (suc c) ≡ burst_above h c
           above h there quiet = still_up h c (takes_up h c there (omega arith) ∙ ap (λ b. b && is_agent h (choice c)) quiet)
       by_choice (Some k) is = by_ends (ends_at up down.port c k) refl
         where
@@ -145,14 +145,14 @@ module _ (system : System) (agent : ℕ) (up : ℕ → Port) (down : TaggedPort)
               whole true = refl
               whole false = refl
 
-          now : IsSameBurst (bu k (suc c)) (bd (suc c))
+          now : IsSameBurst (burst_above k (suc c)) (burst_below (suc c))
           now =
               let same = chosen_same c k (omega arith) bursts is in
               let raw = same_raw c k (omega arith) is in
-              let next = same_after down.shape (levels_at down.commands.signals c) (takes down.port c) (bu k c) (bd c) same in
-              subst (λ b. IsSameBurst b (bd (suc c))) (sym (ap₂ (λ s l. burst_after s l (takes (up k) c) (bu k c)) (m.shapes k there_k) (ap (λ (r : Raw). r.levels) (sym raw)) ∙ ap (λ t. burst_after down.shape (levels_at down.commands.signals c) t (bu k c)) taken)) next
+              let next = same_after down.shape (levels_at down.commands.signals c) (takes down.port c) (burst_above k c) (burst_below c) same in
+              subst (λ b. IsSameBurst b (burst_below (suc c))) (sym (ap₂ (λ s l. burst_after s l (takes (up k) c) (burst_above k c)) (machine.shapes k there_k) (ap (λ (r : Raw). r.levels) (sym raw)) ∙ ap (λ t. burst_after down.shape (levels_at down.commands.signals c) t (burst_above k c)) taken)) next
 
-          other_left : (h : ℕ) → h < system.hosts → (h ≡ k → ⊥) → (bu h (suc c)).left ≡ 0
+          other_left : (h : ℕ) → h < system.hosts → (h ≡ k → ⊥) → (burst_above h (suc c)).left ≡ 0
           other_left h there other =
               let none : takes (up h) c ≡ false = takes_up h c there (omega arith) ∙ ap (λ b. takes down.port c && b) (ap (is_agent h) is ∙ apart h other) ∙ nothing (takes down.port c) in
               ap (λ (b : Burst). b.left) (still_up h c none) ∙ bursts.others h there (not_open c h k is other)
@@ -177,7 +177,7 @@ module _ (system : System) (agent : ℕ) (up : ℕ → Port) (down : TaggedPort)
               let shown = (of_choice c k (omega arith) is).1 in
               let fits = fit_when_shown (up k) end c (fit k there_k).legal (omega arith) shown in
               let last = (and_parts (marked_at (up k) c).transfer.ends (not (is_raised ((up k).commands.more c))) parts.1).0 in
-              let idle : (bu k (suc c)).left ≡ 0 = ap (λ t. (burst_after (up k).shape (levels_at (up k).commands.signals c) t (bu k c)).left) (taken ∙ parts.0) ∙ ended_idle (up k).shape (raw_at (up k) c) (bu k c) fits shown last in
+              let idle : (burst_above k (suc c)).left ≡ 0 = ap (λ t. (burst_after (up k).shape (levels_at (up k).commands.signals c) t (burst_above k c)).left) (taken ∙ parts.0) ∙ ended_idle (up k).shape (raw_at (up k) c) (burst_above k c) fits shown last in
               let shut : (grant (suc c)).open_host ≡ None = opened ∙ ap (λ b. if b then None else Some k) ends in
               record {
                 held = λ h there e. (let bad : ⊥ = cc in absurd bad);
@@ -185,28 +185,28 @@ module _ (system : System) (agent : ℕ) (up : ℕ → Port) (down : TaggedPort)
                 free = λ e. sym now.left ∙ idle;
               }
             where
-              by_same : (h : ℕ) → h < system.hosts → (b : Bool) → nat_eq h k ≡ b → (bu k (suc c)).left ≡ 0 → (bu h (suc c)).left ≡ 0
-              by_same h there true e idle = subst (λ k. (bu k (suc c)).left ≡ 0) (sym (eqb-true h k e)) idle
+              by_same : (h : ℕ) → h < system.hosts → (b : Bool) → nat_eq h k ≡ b → (burst_above k (suc c)).left ≡ 0 → (burst_above h (suc c)).left ≡ 0
+              by_same h there true e idle = subst (λ k. (burst_above k (suc c)).left ≡ 0) (sym (eqb-true h k e)) idle
               by_same h there false e idle = other_left h there (λ same. eqb-false h k e same)
           by_ends false ends =
               let held_on : (grant (suc c)).open_host ≡ Some k = opened ∙ ap (λ b. if b then None else Some k) ends in
               record {
-                held = λ h there e. (let same : k ≡ h = cc in subst (λ h. IsSameBurst (bu h (suc c)) (bd (suc c))) same now);
+                held = λ h there e. (let same : k ≡ h = cc in subst (λ h. IsSameBurst (burst_above h (suc c)) (burst_below (suc c))) same now);
                 others = λ h there e. other_left h there (λ same. e (held_on ∙ ap Some (sym same)));
                 free = λ e. (let bad : ⊥ = cc in absurd bad);
               }
 
   pub bursts_at : (c : ℕ) → c < end → Bursts c
-  bursts_at zero low = record { held = λ h there e. both_idle (bu h 0) (bd 0) refl refl; others = λ h there e. refl; free = λ e. refl }
+  bursts_at zero low = record { held = λ h there e. both_idle (burst_above h 0) (burst_below 0) refl refl; others = λ h there e. refl; free = λ e. refl }
   bursts_at (suc c) low = step c low (bursts_at c (omega arith))
 
-  pub burst_same : (c h : ℕ) → c < end → choice c ≡ Some h → IsSameBurst (bu h c) (bd c)
+  pub burst_same : (c h : ℕ) → c < end → choice c ≡ Some h → IsSameBurst (burst_above h c) (burst_below c)
   burst_same c h low is = chosen_same c h low (bursts_at c low) is
 
   -- the beat below is the chosen one's
   pub same_marked : (c h : ℕ) → c < end → choice c ≡ Some h → marked_at down.port c ≡ marked_at (up h) c
   same_marked c h low is =
       let raw = same_raw c h low is in
-      ap (λ (r : Raw). mark down.shape (bd c) r) raw
-      ∙ ap (λ t. record { tag = (up h).commands.tag c; more = is_raised ((up h).commands.more c); transfer = t }) (sym (same_transfer down.shape (levels_at (up h).commands.signals c) (bu h c) (bd c) (burst_same c h low is)))
-      ∙ ap (λ s. mark s (bu h c) (raw_at (up h) c)) (sym (m.shapes h (of_choice c h low is).0))
+      ap (λ (r : Raw). mark down.shape (burst_below c) r) raw
+      ∙ ap (λ t. record { tag = (up h).commands.tag c; more = is_raised ((up h).commands.more c); transfer = t }) (sym (same_transfer down.shape (levels_at (up h).commands.signals c) (burst_above h c) (burst_below c) (burst_same c h low is)))
+      ∙ ap (λ s. mark s (burst_above h c) (raw_at (up h) c)) (sym (machine.shapes h (of_choice c h low is).0))

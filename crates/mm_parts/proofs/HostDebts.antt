@@ -18,7 +18,7 @@ use Rattle.mm_parts.specs.Host.{HostState, IsHostMachine, ReadsWords}
 use Rattle.mm_parts.proofs.RouteDebts.{reads_more}
 use Rattle.mm_parts.proofs.QueueBound.{owed_is, words_few, words_more, left_now, all_few as queue_all_few}
 use Rattle.mm_parts.proofs.Queued.{words_of, entries_more}
-use Rattle.mm_parts.proofs.HostLine.{free_to_read, kb, asks_at, asked_now, read_shown, no_read, legal_below}
+use Rattle.mm_parts.proofs.HostLine.{free_to_read, stands_taken, asks_at, asked_now, read_shown, no_read, legal_below}
 
 -- the words of entries of at most so many words each
 few_words : (most : ℕ) (es : List Entry) → All (λ (e : Entry). e.left ≤ most) es → words_of es ≤ length es * most
@@ -46,7 +46,7 @@ left_words (e ∷ es) w low = by_test (nat_lt w e.left) refl (λ high. left_word
     by_test true is go = let less = ltb-true w e.left is in rw is (omega (arith, less))
     by_test false is go = let high = ltb-false w e.left is in let rest = go high in rw is (omega (arith, high, rest))
 
-module _ (responses : Responses) (side : HostSide) (view : HostView) (down : Port) (state : HostState) (end : ℕ) (m : IsHostMachine responses side view down state end)
+module _ (responses : Responses) (side : HostSide) (view : HostView) (down : Port) (state : HostState) (end : ℕ) (machine : IsHostMachine responses side view down state end)
     (legal : IsLegalHost side view end) (single : ReadsWords side view end) (owed : AnswersAreOwed down (end - 1)) where
   abbrev words : ℕ → ℕ
   words c = words_before down.answers.valid c
@@ -57,7 +57,7 @@ module _ (responses : Responses) (side : HostSide) (view : HostView) (down : Por
   -- ---- with readdatavalid: the queue holds at most 16 reads
 
   legal_down : AreLegalAt down end
-  legal_down = legal_below responses side view down state end m legal single owed
+  legal_down = legal_below responses side view down state end machine legal single owed
 
   owed_words : (c : ℕ) → suc c < end → words (suc c) ≤ words_of (entries (taken_at down c))
   owed_words c low = let few = owed c (omega arith) in let asked = owed_is (taken_at down c) in omega (arith, few, asked)
@@ -81,11 +81,11 @@ module _ (responses : Responses) (side : HostSide) (view : HostView) (down : Por
   few_valid : side.has_readdatavalid ≡ true → (c : ℕ) → c < end → length (read_beats (taken_at down (suc c))) ≤ words c + 16 * longest
   few_valid has c low =
       let left : List Entry = left_after (entries (taken_at down (suc c))) (words c) in
-      let size = ap length (left_now down end legal_down down.answers.valid state.queue (m.queues has) owed_words c low) in
-      let few = queue_all_few down end legal_down down.answers.valid state.queue (m.queues has) owed_words 16 (free_to_read responses side view down state end m legal single owed has) c low in
+      let size = ap length (left_now down end legal_down down.answers.valid state.queue (machine.queues has) owed_words c low) in
+      let few = queue_all_few down end legal_down down.answers.valid state.queue (machine.queues has) owed_words 16 (free_to_read responses side view down state end machine legal single owed has) c low in
       let sum = few_words longest left (left_few longest (entries (taken_at down (suc c))) (words c) (all_few (suc c) low)) in
       let most : length left * longest ≤ 16 * longest = mul-le-mul_right longest (omega (arith, size, few)) in
-      let now = words_few down end legal_down down.answers.valid state.queue (m.queues has) owed_words c low in
+      let now = words_few down end legal_down down.answers.valid state.queue (machine.queues has) owed_words c low in
       let more = words_more down end legal_down c low in
       let all = left_words (entries (taken_at down (suc c))) (words c) (omega (arith, now, more)) in
       let asked = owed_is (taken_at down (suc c)) in
@@ -93,18 +93,18 @@ module _ (responses : Responses) (side : HostSide) (view : HostView) (down : Por
 
   few_plain : side.has_readdatavalid ≡ false → (c : ℕ) → c < end → length (read_beats (taken_at down (suc c))) ≤ words c + 1
   few_plain has c low =
-      let a = asks_at responses side view down state end m legal single owed has c low in
+      let a = asks_at responses side view down state end machine legal single owed has c low in
       let count = a.count in
-      let more = reads_more down c ∙ ap (λ n. length (read_beats (taken_at down c)) + n) (asked_now responses side view down state end m legal single owed c low) in
-      by_both (kb responses side view down state end m legal single owed c) (takes_read down c) refl refl a.asked count more
+      let more = reads_more down c ∙ ap (λ n. length (read_beats (taken_at down c)) + n) (asked_now responses side view down state end machine legal single owed c low) in
+      by_both (stands_taken responses side view down state end machine legal single owed c) (takes_read down c) refl refl a.asked count more
     where
-      by_both : (k t : Bool) → kb responses side view down state end m legal single owed c ≡ k → takes_read down c ≡ t → state.asked c ≡ kb responses side view down state end m legal single owed c → length (read_beats (taken_at down c)) ≡ words c + one_if (kb responses side view down state end m legal single owed c) →
+      by_both : (k t : Bool) → stands_taken responses side view down state end machine legal single owed c ≡ k → takes_read down c ≡ t → state.asked c ≡ stands_taken responses side view down state end machine legal single owed c → length (read_beats (taken_at down c)) ≡ words c + one_if (stands_taken responses side view down state end machine legal single owed c) →
           length (read_beats (taken_at down (suc c))) ≡ length (read_beats (taken_at down c)) + (if takes_read down c then view.count c else 0) → length (read_beats (taken_at down (suc c))) ≤ words c + 1
-      by_both true true k t asked count more = let none = no_read responses side view down state end m legal single owed has c low (asked ∙ k) in let bad : ⊥ = cc in absurd bad
+      by_both true true k t asked count more = let none = no_read responses side view down state end machine legal single owed has c low (asked ∙ k) in let bad : ⊥ = cc in absurd bad
       by_both true false k t asked count more = let one = ap one_if k in let sum = more ∙ ap (λ b. length (read_beats (taken_at down c)) + (if b then view.count c else 0)) t in omega (arith, count, one, sum)
       by_both false true k t asked count more =
           let one = ap one_if k in let sum = more ∙ ap (λ b. length (read_beats (taken_at down c)) + (if b then view.count c else 0)) t in
-          let word = single has c low (read_shown responses side view down state end m legal single owed c low t) in
+          let word = single has c low (read_shown responses side view down state end machine legal single owed c low t) in
           omega (arith, count, one, sum, word)
       by_both false false k t asked count more = let one = ap one_if k in let sum = more ∙ ap (λ b. length (read_beats (taken_at down c)) + (if b then view.count c else 0)) t in omega (arith, count, one, sum)
 

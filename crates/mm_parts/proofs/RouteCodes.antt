@@ -30,7 +30,7 @@ no_zip [] (w ∷ ws) e = refl
 no_zip (x ∷ xs) [] e = refl
 no_zip (x ∷ xs) (w ∷ ws) e = cc
 
-module _ (responses : Responses) (system : System) (host room : ℕ) (up : Port) (down : ℕ → Port) (state : RouteState) (end : ℕ) (m : IsRouteMachine responses system host room up down state end)
+module _ (responses : Responses) (system : System) (host room : ℕ) (up : Port) (down : ℕ → Port) (state : RouteState) (end : ℕ) (machine : IsRouteMachine responses system host room up down state end)
     (legal : AreLegalAt up end) (single : AreSingle up end) (plan : RoutePlan system host up.shape) (below : OwesBelow room up end)
     (owed : (a : ℕ) → a < system.agents → AnswersAreOwed (down a) end) where
   abbrev asked_taken : ℕ → List Asked
@@ -43,24 +43,24 @@ module _ (responses : Responses) (system : System) (host room : ℕ) (up : Port)
     words : (a : ℕ) → a < system.agents → words_at (down a) (suc c) ≡ picked a (zip front (words_at up (suc c)))
 
   after : (c : ℕ) → c < end → After c
-  after c low = by_valid (is_raised (up.answers.valid c)) refl (splits_at responses system host room up down state end m legal single plan below owed c low).back refl
+  after c low = by_valid (is_raised (up.answers.valid c)) refl (splits_at responses system host room up down state end machine legal single plan below owed c low).back refl
     where
-      s : Splits responses system host room up down state end m legal single plan below owed c
-      s = splits_at responses system host room up down state end m legal single plan below owed c low
+      s : Splits responses system host room up down state end machine legal single plan below owed c
+      s = splits_at responses system host room up down state end machine legal single plan below owed c low
 
-      by_valid : (b : Bool) → is_raised (up.answers.valid c) ≡ b → (l : List Asked) → (splits_at responses system host room up down state end m legal single plan below owed c low).back ≡ l → After c
+      by_valid : (b : Bool) → is_raised (up.answers.valid c) ≡ b → (l : List Asked) → (splits_at responses system host room up down state end machine legal single plan below owed c low).back ≡ l → After c
       by_valid false v l e =
           let still : words_at up (suc c) ≡ words_at up c = ap (λ b. words_at up c ++ only_if b (record { word = up.answers.word c; code = up.answers.code c })) v ∙ append-nil (words_at up c) in
           record {
             front = s.front;
             joins = record { rest = s.back; joins = s.joins };
             size = s.size ∙ ap length (sym still);
-            words = λ a there. words_still responses system host room up down state end m legal single plan below owed a c there low v ∙ s.words a there ∙ ap (λ ws. picked a (zip s.front ws)) (sym still);
+            words = λ a there. words_still responses system host room up down state end machine legal single plan below owed a c there low v ∙ s.words a there ∙ ap (λ ws. picked a (zip s.front ws)) (sym still);
           }
       by_valid true v [] e =
-          let few = word_few responses system host room up down state end m legal single plan below owed c low in
+          let few = word_few responses system host room up down state end machine legal single plan below owed c low in
           let one : one_if (is_raised (up.answers.valid c)) ≡ 1 = ap one_if v in
-          let size = back_length responses system host room up down state end m legal single plan below owed c low s in
+          let size = back_length responses system host room up down state end machine legal single plan below owed c low s in
           let none = ap length e in
           absurd (omega (arith, few, one, size, none))
       by_valid true v (q ∷ rest) e =
@@ -70,7 +70,7 @@ module _ (responses : Responses) (system : System) (host room : ℕ) (up : Port)
             front = s.front ++ q ∷ [];
             joins = record { rest = rest; joins = append_assoc s.front (q ∷ []) rest ∙ ap (λ l. s.front ++ l) (sym e) ∙ s.joins };
             size = length-append s.front (q ∷ []) ∙ ap (λ n. n + 1) s.size ∙ sym (ap length more ∙ length-append (words_at up c) (record { word = up.answers.word c; code = up.answers.code c } ∷ []));
-            words = λ a there. words_next responses system host room up down state end m legal single plan below owed a c there low s.front q s.size (All-head (λ (q : Asked). q.place ≡ state.owing c) q rest alls) v (s.words a there);
+            words = λ a there. words_next responses system host room up down state end machine legal single plan below owed a c there low s.front q s.size (All-head (λ (q : Asked). q.place ≡ state.owing c) q rest alls) v (s.words a there);
           }
 
   blocks_same : (a : ℕ) → a < system.agents → (qs : List Asked) (ws : List Word) → flat_map (placed_block system host a) (zip qs ws) ≡ flat_map (block (target_of system a) (down a)) (zip (beats_of_place a qs) (picked a (zip qs ws)))
@@ -82,7 +82,7 @@ module _ (responses : Responses) (system : System) (host room : ℕ) (up : Port)
       size : length (filled_lanes (system.host host).shape (system.agent a).shape q.beat.enables) ≡ length (filled_lanes (down a).shape (system.agent a).shape q.beat.enables)
       size =
           ap (λ w. length (filled_lanes (record { word_bytes = w; unit_bytes = 0; burst_bits = 0; has_enables = true }) (system.agent a).shape q.beat.enables)) (sym plan.words)
-          ∙ ap (λ s. length (filled_lanes s (system.agent a).shape q.beat.enables)) (sym (m.shapes a there))
+          ∙ ap (λ s. length (filled_lanes s (system.agent a).shape q.beat.enables)) (sym (machine.shapes a there))
 
       by_test : (b : Bool) → is_agent a q.place ≡ b → flat_map (placed_block system host a) (zip qs ws) ≡ flat_map (block (target_of system a) (down a)) (zip (beats_of_place a qs) (picked a (zip qs ws))) →
           flat_map (placed_block system host a) (zip (q ∷ qs) (w ∷ ws)) ≡ flat_map (block (target_of system a) (down a)) (zip (beats_of_place a (q ∷ qs)) (picked a (zip (q ∷ qs) (w ∷ ws))))
@@ -93,12 +93,12 @@ module _ (responses : Responses) (system : System) (host room : ℕ) (up : Port)
   codes a zero there low = refl
   codes a (suc c) there low =
       let f = after c low in
-      let soon = early responses system host room up down state end m legal single plan below owed in
-      let up_front = prefix_trans f.joins (asked_front responses system host room up down state end m legal single plan below owed c low) in
+      let soon = early responses system host room up down state end machine legal single plan below owed in
+      let up_front = prefix_trans f.joins (asked_front responses system host room up down state end machine legal single plan below owed c low) in
       let later : IsPrefix f.front (asked_taken (suc c)) = prefix_trans f.joins (prefix_flat_map _ (prefix_filter _ (prefix_map _ (before_extends _ c)))) in
       let size = f.size in
       let beats : read_beats (taken_at (down a) (suc c)) ≡ beats_of_place a f.front ++ beats_of_place a later.rest =
-      ap read_beats (taken_same responses system host room up down state end m legal single plan below soon a (suc c) there low) ∙ beats_are system host a up.shape plan (taken_at up (suc c)) ∙ ap (beats_of_place a) (sym later.joins) ∙ beats_append a f.front later.rest in
+      ap read_beats (taken_same responses system host room up down state end machine legal single plan below soon a (suc c) there low) ∙ beats_are system host a up.shape plan (taken_at up (suc c)) ∙ ap (beats_of_place a) (sym later.joins) ∙ beats_append a f.front later.rest in
       let words = f.words a there in
       let number : length (words_at (down a) (suc c)) ≡ length (beats_of_place a f.front) = ap length words ∙ picked_length a f.front (words_at up (suc c)) size in
       ap (λ l. flat_map (placed_block system host a) (zip l (words_at up (suc c)))) (sym up_front.joins)
@@ -109,36 +109,36 @@ module _ (responses : Responses) (system : System) (host room : ℕ) (up : Port)
       ∙ ap (λ bs. flat_map (block (target_of system a) (down a)) (zip bs (words_at (down a) (suc c)))) (sym beats)
 
   default_code : responses ≡ AreCodes → (c : ℕ) → c < end → IsTrue (is_raised (up.answers.valid c)) → HasDefaultCode (up.answers.code c) (slice_get (asked_at system host up (suc c)) (length (words_at up c)))
-  default_code are c low valid = by_back (splits_at responses system host room up down state end m legal single plan below owed c low).back refl
+  default_code are c low valid = by_back (splits_at responses system host room up down state end machine legal single plan below owed c low).back refl
     where
-      s : Splits responses system host room up down state end m legal single plan below owed c
-      s = splits_at responses system host room up down state end m legal single plan below owed c low
+      s : Splits responses system host room up down state end machine legal single plan below owed c
+      s = splits_at responses system host room up down state end machine legal single plan below owed c low
 
       by_place : (q : Asked) (o : Option ℕ) → q.place ≡ o → o ≡ state.owing c → MatchOption q.place (up.answers.code c ≡ 3) (λ _. ⊤)
-      by_place q None at owes = subst (λ o. MatchOption o (up.answers.code c ≡ 3) (λ _. ⊤)) (sym at) (m.code c low ∙ ap (λ o. by_option o (default_code_by responses) (λ a. (down a).answers.code c)) (sym owes) ∙ ap default_code_by are)
+      by_place q None at owes = subst (λ o. MatchOption o (up.answers.code c ≡ 3) (λ _. ⊤)) (sym at) (machine.code c low ∙ ap (λ o. by_option o (default_code_by responses) (λ a. (down a).answers.code c)) (sym owes) ∙ ap default_code_by are)
       by_place q (Some a) at owes = subst (λ o. MatchOption o (up.answers.code c ≡ 3) (λ _. ⊤)) (sym at) tt
 
-      by_back : (l : List Asked) → (splits_at responses system host room up down state end m legal single plan below owed c low).back ≡ l → HasDefaultCode (up.answers.code c) (slice_get (asked_at system host up (suc c)) (length (words_at up c)))
+      by_back : (l : List Asked) → (splits_at responses system host room up down state end machine legal single plan below owed c low).back ≡ l → HasDefaultCode (up.answers.code c) (slice_get (asked_at system host up (suc c)) (length (words_at up c)))
       by_back [] e =
-          let few = word_few responses system host room up down state end m legal single plan below owed c low in
+          let few = word_few responses system host room up down state end machine legal single plan below owed c low in
           let one : one_if (is_raised (up.answers.valid c)) ≡ 1 = ap one_if valid in
-          let size = back_length responses system host room up down state end m legal single plan below owed c low s in
+          let size = back_length responses system host room up down state end machine legal single plan below owed c low s in
           let none = ap length e in
           absurd (omega (arith, few, one, size, none))
       by_back (q ∷ rest) e =
           let joins : s.front ++ q ∷ rest ≡ asked_taken c = ap (λ l. s.front ++ l) (sym e) ∙ s.joins in
           let at : q.place ≡ state.owing c = All-head (λ (q : Asked). q.place ≡ state.owing c) q rest (subst (λ l. All (λ (q : Asked). q.place ≡ state.owing c) l) e s.all) in
           let got : slice_get (asked_at system host up (suc c)) (length (words_at up c)) ≡ Some q =
-          ap (slice_get (asked_at system host up (suc c))) (sym s.size) ∙ prefix_get (asked_front responses system host room up down state end m legal single plan below owed c low) (length s.front) q (ap (λ l. slice_get l (length s.front)) (sym joins) ∙ get_middle s.front q rest) in
+          ap (slice_get (asked_at system host up (suc c))) (sym s.size) ∙ prefix_get (asked_front responses system host room up down state end machine legal single plan below owed c low) (length s.front) q (ap (λ l. slice_get l (length s.front)) (sym joins) ∙ get_middle s.front q rest) in
           subst (HasDefaultCode (up.answers.code c)) (sym got) (by_place q q.place refl at)
 
   pub carries_answers : RouteCarriesAnswers responses system host up down end
   carries_answers = record {
-    answered = routed responses system host room up down state end m legal single plan below owed;
-    limited = limited responses system host room up down state end m legal single plan below owed;
+    answered = routed responses system host room up down state end machine legal single plan below owed;
+    limited = limited responses system host room up down state end machine legal single plan below owed;
     codes = λ are a c there low. subst (λ l. IsPrefix (worded (placed_blocks system host a up c)) (worded l)) (codes a c there low) (prefix_refl _);
     default_code = default_code;
-    owed = owed_above responses system host room up down state end m legal single plan below owed;
+    owed = owed_above responses system host room up down state end machine legal single plan below owed;
   }
 
 pub route_line : (responses : Responses) (system : System) (host room : ℕ) (up : Port) (down : ℕ → Port) (state : RouteState) (end : ℕ) → RoutePlan system host up.shape → IsRouteMachine responses system host room up down state end →

@@ -33,11 +33,11 @@ one_few : (b : Bool) (n : ℕ) → (b ≡ true → 1 ≤ n) → one_if b ≤ n
 one_few true n some = some refl
 one_few false n some = omega arith
 
-module _ (responses : Responses) (system : System) (host room : ℕ) (up : Port) (down : ℕ → Port) (state : RouteState) (end : ℕ) (m : IsRouteMachine responses system host room up down state end)
+module _ (responses : Responses) (system : System) (host room : ℕ) (up : Port) (down : ℕ → Port) (state : RouteState) (end : ℕ) (machine : IsRouteMachine responses system host room up down state end)
     (legal : AreLegalAt up end) (single : AreSingle up end) (plan : RoutePlan system host up.shape) (below : OwesBelow room up end)
     (owed : (a : ℕ) → a < system.agents → AnswersAreOwed (down a) (end - 1)) where
   abbrev at_place : ℕ → Option ℕ
-  at_place c = place responses system host room up down state end m legal single c
+  at_place c = place responses system host room up down state end machine legal single c
 
   abbrev ru : ℕ → ℕ
   ru c = length (read_beats (taken_at up c))
@@ -78,28 +78,28 @@ module _ (responses : Responses) (system : System) (host room : ℕ) (up : Port)
   below_more : (a c : ℕ) → a < system.agents → c < end → rd a (suc c) ≡ rd a c + (if is_agent a (at_place c) then read_count up c else 0)
   below_more a c there low = reads_more (down a) c ∙ ap (λ n. rd a c + n) (by_place (is_agent a (at_place c)) (takes up c) refl refl)
     where
-      open_when : takes up c ≡ true → gate responses system host room up down state end m legal single c ≡ true
-      open_when = taken_open responses system host room up down state end m legal single c low
+      open_when : takes up c ≡ true → gate responses system host room up down state end machine legal single c ≡ true
+      open_when = taken_open responses system host room up down state end machine legal single c low
 
-      takes_it : takes (down a) c ≡ (takes up c && goes responses system host room up down state end m legal single a c)
-      takes_it = takes_down responses system host room up down state end m legal single a c there low
+      takes_it : takes (down a) c ≡ (takes up c && goes responses system host room up down state end machine legal single a c)
+      takes_it = takes_down responses system host room up down state end machine legal single a c there low
 
       by_place : (p t : Bool) → is_agent a (at_place c) ≡ p → takes up c ≡ t → length (read_beats (only_if (takes (down a) c) (marked_at (down a) c))) ≡ (if is_agent a (at_place c) then read_count up c else 0)
       by_place false t p e =
-          let none : takes (down a) c ≡ false = takes_it ∙ ap (λ b. takes up c && (b && gate responses system host room up down state end m legal single c)) p ∙ nothing (takes up c) in
+          let none : takes (down a) c ≡ false = takes_it ∙ ap (λ b. takes up c && (b && gate responses system host room up down state end machine legal single c)) p ∙ nothing (takes up c) in
           ap (λ b. length (read_beats (only_if b (marked_at (down a) c)))) none ∙ sym (ap (λ b. if b then read_count up c else 0) p)
         where
           nothing : (b : Bool) → (b && false) ≡ false
           nothing true = refl
           nothing false = refl
       by_place true false p e =
-          let none : takes (down a) c ≡ false = takes_it ∙ ap (λ b. b && goes responses system host room up down state end m legal single a c) e in
+          let none : takes (down a) c ≡ false = takes_it ∙ ap (λ b. b && goes responses system host room up down state end machine legal single a c) e in
           let quiet : read_count up c ≡ 0 = ap (λ b. if b && is_raised (up.commands.read c) then up.commands.count c else 0) e in
           ap (λ b. length (read_beats (only_if b (marked_at (down a) c)))) none ∙ sym (ap (λ b. if b then read_count up c else 0) p ∙ quiet)
       by_place true true p e =
-          let go : goes responses system host room up down state end m legal single a c ≡ true = ap₂ (λ x y. x && y) p (open_when e) in
+          let go : goes responses system host room up down state end machine legal single a c ≡ true = ap₂ (λ x y. x && y) p (open_when e) in
           let taken : takes (down a) c ≡ true = takes_it ∙ ap₂ (λ x y. x && y) e go in
-          ap₂ (λ b x. length (read_beats (only_if b x))) taken (same_marked responses system host room up down state end m legal single a c there low go)
+          ap₂ (λ b x. length (read_beats (only_if b x))) taken (same_marked responses system host room up down state end machine legal single a c there low go)
           ∙ retagged true (marked_at up c) ∙ ap (λ b. length (read_beats (only_if b (marked_at up c)))) (sym e) ∙ asked_now c low ∙ sym (ap (λ b. if b then read_count up c else 0) p)
 
   pub record Debts (c : ℕ) : Type 0 where
@@ -113,7 +113,7 @@ module _ (responses : Responses) (system : System) (host room : ℕ) (up : Port)
   few_down a c there low = let few = owed a there c (omega arith) in let more = word_more (down a).answers.valid c in omega (arith, few, more)
 
   word_when : (c : ℕ) → suc c < end → Debts c → one_if (is_raised (up.answers.valid c)) ≤ state.owed c
-  word_when c low debts = subst (λ b. one_if b ≤ state.owed c) (sym (m.valid c (omega arith))) (by_owing (state.owing c) refl)
+  word_when c low debts = subst (λ b. one_if b ≤ state.owed c) (sym (machine.valid c (omega arith))) (by_owing (state.owing c) refl)
     where
       by_owing : (o : Option ℕ) → state.owing c ≡ o → one_if (by_option o (nat_lt 0 (state.owed c)) (λ a. is_raised ((down a).answers.valid c))) ≤ state.owed c
       by_owing None e = one_few (nat_lt 0 (state.owed c)) (state.owed c) (λ some. ltb-true 0 (state.owed c) some)
@@ -128,7 +128,7 @@ module _ (responses : Responses) (system : System) (host room : ℕ) (up : Port)
 
   -- the word above is that of the place that owes
   word_from : (a c : ℕ) → c < end → is_agent a (state.owing c) ≡ true → one_if (is_raised (up.answers.valid c)) ≡ one_if (is_raised ((down a).answers.valid c))
-  word_from a c low e = ap one_if (m.valid c low ∙ by_owing (state.owing c) e)
+  word_from a c low e = ap one_if (machine.valid c low ∙ by_owing (state.owing c) e)
     where
       by_owing : (o : Option ℕ) → is_agent a o ≡ true → by_option o (nat_lt 0 (state.owed c)) (λ a. is_raised ((down a).answers.valid c)) ≡ is_raised ((down a).answers.valid c)
       by_owing None e = cc
@@ -141,7 +141,7 @@ module _ (responses : Responses) (system : System) (host room : ℕ) (up : Port)
       let words : length (words_at up c) ≡ vu c = same_counts (λ c. is_raised (up.answers.valid c)) (λ c. record { word = up.answers.word c; code = up.answers.code c }) (λ c. c) c in
       let more = above_more c (omega arith) in
       let all = debts.above in
-      m.counts c low (omega (arith, room_left, words, more, all)) (omega (arith, few))
+      machine.counts c low (omega (arith, room_left, words, more, all)) (omega (arith, few))
 
   next_debts : (c : ℕ) → suc c < end → Debts c → Debts (suc c)
   next_debts c low debts =
@@ -160,14 +160,14 @@ module _ (responses : Responses) (system : System) (host room : ℕ) (up : Port)
       now_low = omega arith
 
       owes : (b : Bool) → takes_read up c ≡ b → state.owing (suc c) ≡ (if b then at_place c else state.owing c)
-      owes b e = m.owes c low ∙ ap (λ t. if t then at_place c else state.owing c) e
+      owes b e = machine.owes c low ∙ ap (λ t. if t then at_place c else state.owing c) e
 
       known_next : (b : Bool) → takes_read up c ≡ b → (a : ℕ) → state.owing (suc c) ≡ Some a → a < system.agents
       known_next false e a is = debts.known a (sym (owes false e) ∙ is)
       known_next true e a is =
           let taken = (and_parts (takes up c) (is_raised (up.commands.read c)) e).0 in
-          let shown = shown_of responses system host room up down state end m legal single c taken in
-          let at = place_is responses system host room up down state end m legal single c now_low (inside_at responses system host room up down state end m legal single c now_low) shown in
+          let shown = shown_of responses system host room up down state end machine legal single c taken in
+          let at = place_is responses system host room up down state end machine legal single c now_low (inside_at responses system host room up down state end machine legal single c now_low) shown in
           plan.agents _ _ a (sym at ∙ sym (owes true e) ∙ is)
 
       -- without a new read nothing more is asked
@@ -184,7 +184,7 @@ module _ (responses : Responses) (system : System) (host room : ℕ) (up : Port)
           let parts = and_parts (takes up c) (is_raised (up.commands.read c)) e in
           let one = legal.legal.one_kind c now_low in
           let write : is_raised (up.commands.write c) ≡ false = read_alone (is_raised (up.commands.read c)) (is_raised (up.commands.write c)) parts.1 one in
-          let gone = taken_open responses system host room up down state end m legal single c now_low parts.0 in
+          let gone = taken_open responses system host room up down state end machine legal single c now_low parts.0 in
           sym (ap (λ w. w || nat_eq (state.owed c) 0 || is_same_place (state.owing c) (at_place c)) write) ∙ gone
         where
           read_alone : (r w : Bool) → r ≡ true → not (r && w) ≡ true → w ≡ false
@@ -253,10 +253,10 @@ module _ (responses : Responses) (system : System) (host room : ℕ) (up : Port)
           by_owing false o at more word few = let all = debts.others a there o in omega (arith, more, word, few, all)
 
   pub debts_at : (c : ℕ) → c < end → Debts c
-  debts_at zero low = let none = m.nothing in record {
+  debts_at zero low = let none = machine.nothing in record {
     above = omega (arith, none);
     owing = λ a there e. omega (arith, none);
     others = λ a there e. refl;
-    known = λ a e. (let none = m.nobody in let bad : ⊥ = cc in absurd bad);
+    known = λ a e. (let none = machine.nobody in let bad : ⊥ = cc in absurd bad);
   }
   debts_at (suc c) low = next_debts c low (debts_at c (omega arith))

@@ -62,17 +62,17 @@ none_for system host a o (q ∷ qs) all e =
 reads_front : (system : System) (host a : ℕ) {xs ys : List Asked} → IsPrefix xs ys → reads_for system host a xs ≤ reads_for system host a ys
 reads_front system host a {xs} p = let sum = sym (for_append system host a xs p.rest) ∙ ap (reads_for system host a) p.joins in omega (arith, sum)
 
-module _ (responses : Responses) (system : System) (host room : ℕ) (up : Port) (down : ℕ → Port) (state : RouteState) (end : ℕ) (m : IsRouteMachine responses system host room up down state end)
+module _ (responses : Responses) (system : System) (host room : ℕ) (up : Port) (down : ℕ → Port) (state : RouteState) (end : ℕ) (machine : IsRouteMachine responses system host room up down state end)
     (legal : AreLegalAt up end) (single : AreSingle up end) (plan : RoutePlan system host up.shape) (below : OwesBelow room up end)
     (owed : (a : ℕ) → a < system.agents → AnswersAreOwed (down a) end) where
   abbrev at_place : ℕ → Option ℕ
-  at_place c = place responses system host room up down state end m legal single c
+  at_place c = place responses system host room up down state end machine legal single c
 
   abbrev is_for : ℕ → ℕ → Bool
-  is_for a c = goes responses system host room up down state end m legal single a c
+  is_for a c = goes responses system host room up down state end machine legal single a c
 
   abbrev soon : (a : ℕ) → a < system.agents → AnswersAreOwed (down a) (end - 1)
-  soon = early responses system host room up down state end m legal single plan below owed
+  soon = early responses system host room up down state end machine legal single plan below owed
 
   abbrev asked_of : List Marked → List Asked
   asked_of ms = asked_among system host (map (λ (m : Marked). m.transfer) ms)
@@ -92,8 +92,8 @@ module _ (responses : Responses) (system : System) (host room : ℕ) (up : Port)
 
   shown_below : (a c : ℕ) → a < system.agents → c < end → shown_at (down a) (suc c) ≡ for_it a (given_to a c)
   shown_below a c there low =
-      shown_now (down a) c (legal_below responses system host room up down state end m legal single plan below soon a there) low
-      ∙ ap₂ (λ l s. l ++ only_if s (marked_at (down a) c)) (taken_same responses system host room up down state end m legal single plan below soon a c there (omega (arith, low))) (shows_down responses system host room up down state end m legal single a c there low)
+      shown_now (down a) c (legal_below responses system host room up down state end machine legal single plan below soon a there) low
+      ∙ ap₂ (λ l s. l ++ only_if s (marked_at (down a) c)) (taken_same responses system host room up down state end machine legal single plan below soon a c there (omega (arith, low))) (shows_down responses system host room up down state end machine legal single a c there low)
       ∙ ap (λ l. for_it a (taken_at up c) ++ l) (by_both (is_for a c) (shows up.commands.signals c) refl refl)
       ∙ sym (for_both (taken_at up c) (only_if (is_for a c && shows up.commands.signals c) (marked_at up c)))
     where
@@ -109,8 +109,8 @@ module _ (responses : Responses) (system : System) (host room : ℕ) (up : Port)
       by_both false s g e = rw g refl
       by_both true false g e = rw (g, e) refl
       by_both true true g e =
-          let at : is_placed system host a up.shape plan (marked_at up c) ≡ true = ap (is_agent a) (sym (place_is responses system host room up down state end m legal single c low (inside_at responses system host room up down state end m legal single c low) e)) ∙ (and_parts (is_agent a (at_place c)) (gate responses system host room up down state end m legal single c) g).0 in
-          ap₂ (λ g s. only_if (g && s) (marked_at (down a) c)) g e ∙ ap (λ x. x ∷ []) (same_marked responses system host room up down state end m legal single a c there low g)
+          let at : is_placed system host a up.shape plan (marked_at up c) ≡ true = ap (is_agent a) (sym (place_is responses system host room up down state end machine legal single c low (inside_at responses system host room up down state end machine legal single c low) e)) ∙ (and_parts (is_agent a (at_place c)) (gate responses system host room up down state end machine legal single c) g).0 in
+          ap₂ (λ g s. only_if (g && s) (marked_at (down a) c)) g e ∙ ap (λ x. x ∷ []) (same_marked responses system host room up down state end machine legal single a c there low g)
           ∙ sym (ap₂ (λ g s. for_it a (only_if (g && s) (marked_at up c))) g e ∙ ap (λ b. map (retagged host) (if b then marked_at up c ∷ [] else [])) at)
 
   uniform_one : (a c : ℕ) (b : Bool) → AllUniform system host a (only_if b (marked_at up c))
@@ -132,12 +132,12 @@ module _ (responses : Responses) (system : System) (host room : ℕ) (up : Port)
   reads_shown : (a c : ℕ) → a < system.agents → c < end →
       length (filter is_read (operations_of_groups ((port_flow (target_of system a) (down a)).shown (suc c)))) ≡ reads_for system host a (asked_of (given_to a c))
   reads_shown a c there low =
-      ap₂ (λ s l. length (filter is_read (operations_of_groups (groups_of (target_of system a) s l)))) (m.shapes a there) (shown_below a c there low)
+      ap₂ (λ s l. length (filter is_read (operations_of_groups (groups_of (target_of system a) s l)))) (machine.shapes a there) (shown_below a c there low)
       ∙ ap (λ l. length (filter is_read (operations_of_groups l))) (sym (groups_same system host a up.shape plan (given_to a c) (All-append IsFrom (taken_at up c) (only_if (is_for a c && shows up.commands.signals c) (marked_at up c)) (all_from up (takes up) c) (from_one c (is_for a c && shows up.commands.signals c)))))
       ∙ reads_match system host a (given_to a c) (uniform_append system host a (taken_at up c) (only_if (is_for a c && shows up.commands.signals c) (marked_at up c)) (uniform_taken a c) (uniform_one a c (is_for a c && shows up.commands.signals c)))
 
   both_asked : (xs ys : List Marked) → asked_of (xs ++ ys) ≡ asked_of xs ++ asked_of ys
-  both_asked = asked_append responses system host room up down state end m legal single plan below owed
+  both_asked = asked_append responses system host room up down state end machine legal single plan below owed
 
   asked_all : (c : ℕ) → c < end → asked_at system host up (suc c) ≡ asked_of (taken_at up c) ++ asked_of (only_if (shows up.commands.signals c) (marked_at up c))
   asked_all c low = ap asked_of (shown_now up c legal low) ∙ both_asked (taken_at up c) (only_if (shows up.commands.signals c) (marked_at up c))
@@ -145,11 +145,11 @@ module _ (responses : Responses) (system : System) (host room : ℕ) (up : Port)
   -- the read beats of the cycle are all for the place of the cycle
   new_place : (c : ℕ) → c < end → (b : Bool) → (b ≡ true → shows up.commands.signals c ≡ true) → All (λ (q : Asked). q.place ≡ at_place c) (asked_of (only_if b (marked_at up c)))
   new_place c low false shown = All-nil (λ (q : Asked). q.place ≡ at_place c)
-  new_place c low true shown = by_kind (is_of_reads (marked_at up c).transfer.kind) (sym (place_is responses system host room up down state end m legal single c low (inside_at responses system host room up down state end m legal single c low) (shown refl)))
+  new_place c low true shown = by_kind (is_of_reads (marked_at up c).transfer.kind) (sym (place_is responses system host room up down state end machine legal single c low (inside_at responses system host room up down state end machine legal single c low) (shown refl)))
     where
       by_kind : (b : Bool) → place_of system host (marked_at up c).transfer ≡ at_place c → All (λ (q : Asked). q.place ≡ at_place c) (flat_map (λ (t : Transfer). map (λ b. record { place = place_of system host t; beat = b }) t.beats) (if b then (marked_at up c).transfer ∷ [] else []))
       by_kind false at = All-nil (λ (q : Asked). q.place ≡ at_place c)
-      by_kind true at = All-append (λ (q : Asked). q.place ≡ at_place c) (map (λ b. record { place = place_of system host (marked_at up c).transfer; beat = b }) (marked_at up c).transfer.beats) [] (all_at responses system host room up down state end m legal single plan below owed (at_place c) (marked_at up c).transfer at (marked_at up c).transfer.beats) (All-nil (λ (q : Asked). q.place ≡ at_place c))
+      by_kind true at = All-append (λ (q : Asked). q.place ≡ at_place c) (map (λ b. record { place = place_of system host (marked_at up c).transfer; beat = b }) (marked_at up c).transfer.beats) [] (all_at responses system host room up down state end machine legal single plan below owed (at_place c) (marked_at up c).transfer at (marked_at up c).transfer.beats) (All-nil (λ (q : Asked). q.place ≡ at_place c))
 
   -- where another place owes, no read goes to this one
   none_goes : (a c : ℕ) → c < end → 0 < state.owed c → is_agent a (state.owing c) ≡ false → (b : Bool) → (is_for a c && shows up.commands.signals c) ≡ b → reads_for system host a (asked_of (only_if b (marked_at up c))) ≡ 0
@@ -162,7 +162,7 @@ module _ (responses : Responses) (system : System) (host room : ℕ) (up : Port)
       by_write : (w : Bool) → is_raised (up.commands.write c) ≡ w → reads_for system host a (asked_of (marked_at up c ∷ [])) ≡ 0
       by_write true w = rw w refl
       by_write false w =
-          let both = and_parts (is_agent a (at_place c)) (gate responses system host room up down state end m legal single c) parts.0 in
+          let both = and_parts (is_agent a (at_place c)) (gate responses system host room up down state end machine legal single c) parts.0 in
           absurd (shut (nat_eq (state.owed c) 0) (is_same_place (state.owing c) (at_place c)) refl refl (sym (ap (λ w. w || nat_eq (state.owed c) 0 || is_same_place (state.owing c) (at_place c)) w) ∙ both.1) both.0)
         where
           shut : (z s : Bool) → nat_eq (state.owed c) 0 ≡ z → is_same_place (state.owing c) (at_place c) ≡ s → (nat_eq (state.owed c) 0 || is_same_place (state.owing c) (at_place c)) ≡ true → is_agent a (at_place c) ≡ true → ⊥
@@ -176,8 +176,8 @@ module _ (responses : Responses) (system : System) (host room : ℕ) (up : Port)
       length (words_at up (suc c)) ≤ number → ⊥
   limited_at a c number there low within other fewer high = by_part (nat_lt number (length (asked_of (taken_at up c)))) refl
     where
-      s : Splits responses system host room up down state end m legal single plan below owed c
-      s = splits_at responses system host room up down state end m legal single plan below owed c low
+      s : Splits responses system host room up down state end machine legal single plan below owed c
+      s = splits_at responses system host room up down state end machine legal single plan below owed c low
 
       later : List Asked
       later = asked_of (only_if (shows up.commands.signals c) (marked_at up c))
@@ -209,7 +209,7 @@ module _ (responses : Responses) (system : System) (host room : ℕ) (up : Port)
           let from = grows in
           let f = find (λ (q : Asked). q.place ≡ state.owing c) s.front s.back later number (omega (arith, size, from, high)) (omega (arith, less, parts)) s.all in
           let owes : is_agent a (state.owing c) ≡ false = ap (is_agent a) (sym f.has) ∙ apart f.it (ap (λ l. slice_get l number) (whole ∙ joined) ∙ f.at) in
-          let some : 0 < state.owed c = (let back = back_length responses system host room up down state end m legal single plan below owed c low s in omega (arith, back, parts, less, size, from, high)) in
+          let some : 0 < state.owed c = (let back = back_length responses system host room up down state end machine legal single plan below owed c low s in omega (arith, back, parts, less, size, from, high)) in
           let none = none_goes a c low some owes (is_for a c && shows up.commands.signals c) refl in
           let split : reads_for system host a (asked_of (taken_at up c)) ≡ reads_for system host a s.front + reads_for system host a s.back = ap (reads_for system host a) (sym s.joins) ∙ for_append system host a s.front s.back in
           let quiet = none_for system host a (state.owing c) s.back s.all owes in
@@ -223,7 +223,7 @@ module _ (responses : Responses) (system : System) (host room : ℕ) (up : Port)
           let f = find (λ (q : Asked). q.place ≡ at_place c) (asked_of (taken_at up c)) later [] number more (omega (arith, within, sum)) (new_place c low (shows up.commands.signals c) (λ e. e)) in
           let at : slice_get (asked_at system host up (suc c)) number ≡ Some f.it = ap (λ l. slice_get l number) (whole ∙ ap (λ l. asked_of (taken_at up c) ++ l) (sym (append-nil later))) ∙ f.at in
           let off : is_agent a (at_place c) ≡ false = ap (is_agent a) (sym f.has) ∙ apart f.it at in
-          let quiet : reads_for system host a (asked_of (only_if (is_for a c && shows up.commands.signals c) (marked_at up c))) ≡ 0 = ap (λ b. reads_for system host a (asked_of (only_if ((b && gate responses system host room up down state end m legal single c) && shows up.commands.signals c) (marked_at up c)))) off in
+          let quiet : reads_for system host a (asked_of (only_if (is_for a c && shows up.commands.signals c) (marked_at up c))) ≡ 0 = ap (λ b. reads_for system host a (asked_of (only_if ((b && gate responses system host room up down state end machine legal single c) && shows up.commands.signals c) (marked_at up c)))) off in
           let front = reads_front system host a (front_of_take (asked_of (taken_at up c)) later number more) in
           let taken : reads_for system host a (take number (asked_at system host up (suc c))) ≡ reads_for system host a (take number (asked_of (taken_at up c) ++ later)) = ap (λ l. reads_for system host a (take number l)) whole in
           let all = count in

@@ -25,7 +25,7 @@ use Rattle.mm_parts.proofs.RoutePlan.{RoutePlan}
 use Rattle.mm_parts.specs.Route.{RouteState, IsRouteMachine, is_same_place, kind_at, read_count}
 use Rattle.mm_parts.specs.Queue.{takes_read}
 use Rattle.mm_parts.proofs.Shared.{IsSameBurst, same_fit}
-use Rattle.mm_parts.proofs.RouteTurns.{place, gate, goes, bu, bd, shows_down, levels_down, takes_down, taken_open, place_is, inside_at, same_burst, same_marked, of_agent}
+use Rattle.mm_parts.proofs.RouteTurns.{place, gate, goes, burst_above, burst_below, shows_down, levels_down, takes_down, taken_open, place_is, inside_at, same_burst, same_marked, of_agent}
 use Rattle.mm_parts.proofs.RouteDebts.{debts_at, next_owed}
 
 abbrev pub retagged : ℕ → Marked → Marked
@@ -117,23 +117,23 @@ module _ (system : System) (host a : ℕ) (shape : Shape) (plan : RoutePlan syst
 list_front : {A : Type 0} (f : A → Bool) {xs ys : List A} → IsPrefix xs ys → list_all f ys ≡ true → list_all f xs ≡ true
 list_front f {xs} {ys} p all = (and_parts (list_all f xs) (list_all f p.rest) (sym (list_all-append f xs p.rest) ∙ ap (list_all f) p.joins ∙ all)).0
 
-module _ (responses : Responses) (system : System) (host room : ℕ) (up : Port) (down : ℕ → Port) (state : RouteState) (end : ℕ) (m : IsRouteMachine responses system host room up down state end)
+module _ (responses : Responses) (system : System) (host room : ℕ) (up : Port) (down : ℕ → Port) (state : RouteState) (end : ℕ) (machine : IsRouteMachine responses system host room up down state end)
     (legal : AreLegalAt up end) (single : AreSingle up end) (plan : RoutePlan system host up.shape) (below : OwesBelow room up end)
     (owed : (a : ℕ) → a < system.agents → AnswersAreOwed (down a) (end - 1)) where
   abbrev at_place : ℕ → Option ℕ
-  at_place c = place responses system host room up down state end m legal single c
+  at_place c = place responses system host room up down state end machine legal single c
 
   abbrev passes : ℕ → Bool
-  passes c = gate responses system host room up down state end m legal single c
+  passes c = gate responses system host room up down state end machine legal single c
 
   abbrev is_for : ℕ → ℕ → Bool
-  is_for a c = goes responses system host room up down state end m legal single a c
+  is_for a c = goes responses system host room up down state end machine legal single a c
 
   abbrev for_it : ℕ → List Marked → List Marked
   for_it a xs = map (retagged host) (filter (is_placed system host a up.shape plan) xs)
 
   placed_now : (a c : ℕ) → c < end → shows up.commands.signals c ≡ true → is_placed system host a up.shape plan (marked_at up c) ≡ is_agent a (at_place c)
-  placed_now a c low shown = ap (is_agent a) (sym (place_is responses system host room up down state end m legal single c low (inside_at responses system host room up down state end m legal single c low) shown))
+  placed_now a c low shown = ap (is_agent a) (sym (place_is responses system host room up down state end machine legal single c low (inside_at responses system host room up down state end machine legal single c low) shown))
 
   for_append : (a : ℕ) (xs ys : List Marked) → for_it a (xs ++ ys) ≡ for_it a xs ++ for_it a ys
   for_append a xs ys = ap (map (retagged host)) (filter-append (is_placed system host a up.shape plan) xs ys) ∙ map-append (retagged host) (filter (is_placed system host a up.shape plan) xs) (filter (is_placed system host a up.shape plan) ys)
@@ -144,19 +144,19 @@ module _ (responses : Responses) (system : System) (host room : ℕ) (up : Port)
     where
       by_all : (t p : Bool) → takes up c ≡ t → is_agent a (at_place c) ≡ p → only_if (takes (down a) c) (marked_at (down a) c) ≡ for_it a (only_if (takes up c) (marked_at up c))
       by_all false p t e =
-          let none : takes (down a) c ≡ false = takes_down responses system host room up down state end m legal single a c there low ∙ ap (λ b. b && is_for a c) t in
+          let none : takes (down a) c ≡ false = takes_down responses system host room up down state end machine legal single a c there low ∙ ap (λ b. b && is_for a c) t in
           ap (λ b. only_if b (marked_at (down a) c)) none ∙ sym (ap (λ b. for_it a (only_if b (marked_at up c))) t)
       by_all true false t e =
           let shown = (and_parts (shows up.commands.signals c) (not (is_raised (up.commands.waitrequest c))) t).0 in
-          let none : takes (down a) c ≡ false = takes_down responses system host room up down state end m legal single a c there low ∙ ap₂ (λ x y. x && (y && passes c)) t e in
+          let none : takes (down a) c ≡ false = takes_down responses system host room up down state end machine legal single a c there low ∙ ap₂ (λ x y. x && (y && passes c)) t e in
           let other : is_placed system host a up.shape plan (marked_at up c) ≡ false = placed_now a c low shown ∙ e in
           ap (λ b. only_if b (marked_at (down a) c)) none ∙ sym (ap (λ b. for_it a (only_if b (marked_at up c))) t ∙ ap (λ b. map (retagged host) (if b then marked_at up c ∷ [] else [])) other)
       by_all true true t e =
           let shown = (and_parts (shows up.commands.signals c) (not (is_raised (up.commands.waitrequest c))) t).0 in
-          let go : is_for a c ≡ true = ap₂ (λ x y. x && y) e (taken_open responses system host room up down state end m legal single c low t) in
-          let taken : takes (down a) c ≡ true = takes_down responses system host room up down state end m legal single a c there low ∙ ap₂ (λ x y. x && y) t go in
+          let go : is_for a c ≡ true = ap₂ (λ x y. x && y) e (taken_open responses system host room up down state end machine legal single c low t) in
+          let taken : takes (down a) c ≡ true = takes_down responses system host room up down state end machine legal single a c there low ∙ ap₂ (λ x y. x && y) t go in
           let it : is_placed system host a up.shape plan (marked_at up c) ≡ true = placed_now a c low shown ∙ e in
-          ap₂ (λ b x. only_if b x) taken (same_marked responses system host room up down state end m legal single a c there low go) ∙ sym (ap (λ b. for_it a (only_if b (marked_at up c))) t ∙ ap (λ b. map (retagged host) (if b then marked_at up c ∷ [] else [])) it)
+          ap₂ (λ b x. only_if b x) taken (same_marked responses system host room up down state end machine legal single a c there low go) ∙ sym (ap (λ b. for_it a (only_if b (marked_at up c))) t ∙ ap (λ b. map (retagged host) (if b then marked_at up c ∷ [] else [])) it)
 
   -- a beat that waits at a place waits above, and stays there
   record Waits (a c : ℕ) : Type 0 where
@@ -168,8 +168,8 @@ module _ (responses : Responses) (system : System) (host room : ℕ) (up : Port)
   waits : (a c : ℕ) → a < system.agents → c < end → is_held (down a).commands.signals (takes (down a)) c ≡ true → Waits a c
   waits a c there low held =
       let parts = and_parts (shows (down a).commands.signals c) (not (takes (down a) c)) held in
-      let both = and_parts (is_for a c) (shows up.commands.signals c) (sym (shows_down responses system host room up down state end m legal single a c there low) ∙ parts.0) in
-      let none : takes up c ≡ false = not_left (takes up c) (is_for a c) both.0 (sym (takes_down responses system host room up down state end m legal single a c there low) ∙ not-true (takes (down a) c) parts.1) in
+      let both = and_parts (is_for a c) (shows up.commands.signals c) (sym (shows_down responses system host room up down state end machine legal single a c there low) ∙ parts.0) in
+      let none : takes up c ≡ false = not_left (takes up c) (is_for a c) both.0 (sym (takes_down responses system host room up down state end machine legal single a c there low) ∙ not-true (takes (down a) c) parts.1) in
       record { go = both.0; shown = both.1; none = none; above = ap₂ (λ s t. s && not t) both.1 none }
     where
       not_left : (t g : Bool) → g ≡ true → (t && g) ≡ false → t ≡ false
@@ -182,11 +182,11 @@ module _ (responses : Responses) (system : System) (host room : ℕ) (up : Port)
     where
       by_inside : (b : Bool) → state.inside c ≡ b → at_place (suc c) ≡ at_place c
       by_inside b e =
-          let next : state.inside (suc c) ≡ b = m.stays c low ∙ ap (λ t. if t then is_raised (up.commands.more c) else state.inside c) none ∙ e in
+          let next : state.inside (suc c) ≡ b = machine.stays c low ∙ ap (λ t. if t then is_raised (up.commands.more c) else state.inside c) none ∙ e in
           one b e next
         where
           one : (b : Bool) → state.inside c ≡ b → state.inside (suc c) ≡ b → at_place (suc c) ≡ at_place c
-          one true e next = ap (λ t. if t then state.kept (suc c) else system.place host (kind_at up (suc c)) (byte_address up.shape (up.commands.address (suc c)))) next ∙ m.keeps c low
+          one true e next = ap (λ t. if t then state.kept (suc c) else system.place host (kind_at up (suc c)) (byte_address up.shape (up.commands.address (suc c)))) next ∙ machine.keeps c low
           one false e next =
               ap (λ t. if t then state.kept (suc c) else system.place host (kind_at up (suc c)) (byte_address up.shape (up.commands.address (suc c)))) next
               ∙ ap (λ (l : Levels). system.place host (if is_raised l.write then Writes else Reads) (byte_address up.shape l.address)) (sym same)
@@ -201,7 +201,7 @@ module _ (responses : Responses) (system : System) (host room : ℕ) (up : Port)
 
       owed_next : state.owed (suc c) ≤ state.owed c
       owed_next =
-          let next = next_owed responses system host room up down state end m legal single plan below owed c low (debts_at responses system host room up down state end m legal single plan below owed c (omega arith)) in
+          let next = next_owed responses system host room up down state end machine legal single plan below owed c low (debts_at responses system host room up down state end machine legal single plan below owed c (omega arith)) in
           let nothing : read_count up c ≡ 0 = ap (λ b. if b then up.commands.count c else 0) no_read in
           omega (arith, next, nothing)
 
@@ -226,7 +226,7 @@ module _ (responses : Responses) (system : System) (host room : ℕ) (up : Port)
           let now : state.owed (suc c) ≡ 0 = omega (arith, before, fewer) in
           or_middle (is_raised (up.commands.write (suc c))) (nat_eq (state.owed (suc c)) 0) (is_same_place (state.owing (suc c)) (at_place (suc c))) (ap (λ n. nat_eq n 0) now)
       by_or false false true w zz ss was =
-          let owes : state.owing (suc c) ≡ state.owing c = m.owes c low ∙ ap (λ b. if b then at_place c else state.owing c) no_read in
+          let owes : state.owing (suc c) ≡ state.owing c = machine.owes c low ∙ ap (λ b. if b then at_place c else state.owing c) no_read in
           or_last (is_raised (up.commands.write (suc c))) (nat_eq (state.owed (suc c)) 0) (is_same_place (state.owing (suc c)) (at_place (suc c))) (ap₂ is_same_place owes (place_next c low none same) ∙ ss)
       by_or false false false w zz ss was = let bad : ⊥ = cc in absurd bad
 
@@ -236,27 +236,27 @@ module _ (responses : Responses) (system : System) (host room : ℕ) (up : Port)
       let levels = legal.legal.held c low w.above in
       let parts = and_parts (is_agent a (at_place c)) (passes c) w.go in
       let on : is_for a (suc c) ≡ true = ap₂ (λ p g. is_agent a p && g) (place_next c low w.none levels) (gate_next c low w.none levels parts.1) ∙ ap (λ b. b && true) parts.0 in
-      let one = levels_down responses system host room up down state end m legal single a c there (omega arith) w.go in
-      let other = levels_down responses system host room up down state end m legal single a (suc c) there low on in
+      let one = levels_down responses system host room up down state end machine legal single a c there (omega arith) w.go in
+      let other = levels_down responses system host room up down state end machine legal single a (suc c) there low on in
       ap (λ l. record { levels = l; more = (down a).commands.more c; tag = (down a).commands.tag c }) (one ∙ levels ∙ sym other)
-      ∙ ap₂ (λ k t. record { levels = levels_at (down a).commands.signals (suc c); more = k; tag = t }) (m.more a c there (omega arith) ∙ legal.more c low w.above ∙ sym (m.more a (suc c) there low)) (m.tag a c there (omega arith) ∙ sym (m.tag a (suc c) there low))
+      ∙ ap₂ (λ k t. record { levels = levels_at (down a).commands.signals (suc c); more = k; tag = t }) (machine.more a c there (omega arith) ∙ legal.more c low w.above ∙ sym (machine.more a (suc c) there low)) (machine.tag a c there (omega arith) ∙ sym (machine.tag a (suc c) there low))
 
   -- what is shown to a place is for it
   shown_for : (a c : ℕ) → a < system.agents → c < end → shows (down a).commands.signals c ≡ true → (is_for a c ≡ true) × (shows up.commands.signals c ≡ true)
-  shown_for a c there low shown = and_parts (is_for a c) (shows up.commands.signals c) (sym (shows_down responses system host room up down state end m legal single a c there low) ∙ shown)
+  shown_for a c there low shown = and_parts (is_for a c) (shows up.commands.signals c) (sym (shows_down responses system host room up down state end machine legal single a c there low) ∙ shown)
 
   fit_below : (a c : ℕ) → a < system.agents → c < end → shows (down a).commands.signals c ≡ true → IsFitBeat (down a).shape (burst_before (down a).shape (down a).commands.signals (takes (down a)) c) (raw_at (down a) c)
   fit_below a c there low shown =
       let both = shown_for a c there low shown in
       let at = of_agent a (at_place c) (and_parts (is_agent a (at_place c)) (passes c) both.0).0 in
       let above = fit_when_shown up end c legal low both.1 in
-      let same = same_burst responses system host room up down state end m legal single a c there low at in
-      let moved = same_fit up.shape (raw_at up c) (bu responses system host room up down state end m legal single c) (bd responses system host room up down state end m legal single a c) (flip _ _ same) above in
+      let same = same_burst responses system host room up down state end machine legal single a c there low at in
+      let moved = same_fit up.shape (raw_at up c) (burst_above responses system host room up down state end machine legal single c) (burst_below responses system host room up down state end machine legal single a c) (flip _ _ same) above in
       let raw : raw_at (down a) c ≡ record { levels = levels_at up.commands.signals c; more = up.commands.more c; tag = host } =
-      ap (λ l. record { levels = l; more = (down a).commands.more c; tag = (down a).commands.tag c }) (levels_down responses system host room up down state end m legal single a c there low both.0)
-      ∙ ap₂ (λ k t. record { levels = levels_at up.commands.signals c; more = k; tag = t }) (m.more a c there low) (m.tag a c there low) in
-      subst (λ s. IsFitBeat s (bd responses system host room up down state end m legal single a c) (raw_at (down a) c)) (sym (m.shapes a there))
-      (subst (IsFitBeat up.shape (bd responses system host room up down state end m legal single a c)) (sym raw) (record { one_kind = moved.one_kind; least = moved.least; most = moved.most; finished = moved.finished; joined = moved.joined }))
+      ap (λ l. record { levels = l; more = (down a).commands.more c; tag = (down a).commands.tag c }) (levels_down responses system host room up down state end machine legal single a c there low both.0)
+      ∙ ap₂ (λ k t. record { levels = levels_at up.commands.signals c; more = k; tag = t }) (machine.more a c there low) (machine.tag a c there low) in
+      subst (λ s. IsFitBeat s (burst_below responses system host room up down state end machine legal single a c) (raw_at (down a) c)) (sym (machine.shapes a there))
+      (subst (IsFitBeat up.shape (burst_below responses system host room up down state end machine legal single a c)) (sym raw) (record { one_kind = moved.one_kind; least = moved.least; most = moved.most; finished = moved.finished; joined = moved.joined }))
 
   pub legal_below : (a : ℕ) → a < system.agents → AreLegalAt (down a) end
   legal_below a there = legal_when_shown (down a).shape (down a).commands (down a).answers end (λ c low shown. fit_below a c there low shown) (λ c low held. held_below a c there low held)
@@ -280,18 +280,18 @@ module _ (responses : Responses) (system : System) (host room : ℕ) (up : Port)
           let w = waits a c there low e in
           let it : is_placed system host a up.shape plan (marked_at up c) ≡ true = placed_now a c low w.shown ∙ (and_parts (is_agent a (at_place c)) (passes c) w.go).0 in
           let same : for_it a (only_if (is_held up.commands.signals (takes up) c) (marked_at up c)) ≡ marked_at (down a) c ∷ [] =
-          ap (λ b. for_it a (only_if b (marked_at up c))) w.above ∙ ap (λ b. map (retagged host) (if b then marked_at up c ∷ [] else [])) it ∙ ap (λ x. x ∷ []) (sym (same_marked responses system host room up down state end m legal single a c there low w.go)) in
+          ap (λ b. for_it a (only_if b (marked_at up c))) w.above ∙ ap (λ b. map (retagged host) (if b then marked_at up c ∷ [] else [])) it ∙ ap (λ x. x ∷ []) (sym (same_marked responses system host room up down state end machine legal single a c there low w.go)) in
           subst (λ b. IsPrefix (only_if b (marked_at (down a) c)) (for_it a (only_if (is_held up.commands.signals (takes up) c) (marked_at up c)))) (sym e) (subst (IsPrefix (marked_at (down a) c ∷ [])) (sym same) (prefix_refl _))
 
   groups_front : (a c : ℕ) → a < system.agents → c ≤ end → IsPrefix ((port_flow (target_of system a) (down a)).shown c) ((placed_flow system host a up).shown c)
   groups_front a c there low =
       subst (IsPrefix (groups_of (target_of system a) (down a).shape (shown_at (down a) c))) (sym (groups_same system host a up.shape plan (shown_at up c) (all_from up _ c)))
-      (subst (λ s. IsPrefix (groups_of (target_of system a) s (shown_at (down a) c)) (groups_of (target_of system a) up.shape (for_it a (shown_at up c)))) (sym (m.shapes a there)) (prefix_map (group_of (target_of system a) up.shape) (shown_front a c there low)))
+      (subst (λ s. IsPrefix (groups_of (target_of system a) s (shown_at (down a) c)) (groups_of (target_of system a) up.shape (for_it a (shown_at up c)))) (sym (machine.shapes a there)) (prefix_map (group_of (target_of system a) up.shape) (shown_front a c there low)))
 
   taken_groups : (a c : ℕ) → a < system.agents → c ≤ end → (placed_flow system host a up).taken c ≡ (port_flow (target_of system a) (down a)).taken c
   taken_groups a c there low =
       groups_same system host a up.shape plan (taken_at up c) (all_from up (takes up) c)
-      ∙ ap₂ (λ s l. groups_of (target_of system a) s l) (sym (m.shapes a there)) (sym (taken_same a c there low))
+      ∙ ap₂ (λ s l. groups_of (target_of system a) s l) (sym (machine.shapes a there)) (sym (taken_same a c there low))
 
   carries : (a : ℕ) → a < system.agents → Carries host 0 0 1 (placed_flow system host a up) (port_flow (target_of system a) (down a)) end
   carries a there = record {
@@ -310,12 +310,12 @@ module _ (responses : Responses) (system : System) (host room : ℕ) (up : Port)
       by_has true has = rw has refl
       by_has false has =
           let all = ap (λ b. b || list_all (λ (s : Sent). not (is_agent a (place_of system host s.transfer)) || list_all (λ (b : Beat). is_nonempty (placed_operations system host a b)) s.transfer.beats) (sent_of (shown_at up c))) (sym has) ∙ have c low in
-          rw has (subst (λ s. list_all (acts system host a up.shape plan s) (shown_at (down a) c) ≡ true) (sym (m.shapes a there))
+          rw has (subst (λ s. list_all (acts system host a up.shape plan s) (shown_at (down a) c) ≡ true) (sym (machine.shapes a there))
           (list_front (acts system host a up.shape plan up.shape) (shown_front a c there low) (lanes_same system host a up.shape plan (shown_at up c) all)))
 
   -- the place has the kind of what it is shown
   kind_of : (c a : ℕ) → c < end → shows up.commands.signals c ≡ true → is_agent a (at_place c) ≡ true → system.place host (marked_at up c).transfer.kind (marked_at up c).transfer.first ≡ Some a
-  kind_of c a low shown at = sym (place_is responses system host room up down state end m legal single c low (inside_at responses system host room up down state end m legal single c low) shown) ∙ of_agent a (at_place c) at
+  kind_of c a low shown at = sym (place_is responses system host room up down state end machine legal single c low (inside_at responses system host room up down state end machine legal single c low) shown) ∙ of_agent a (at_place c) at
 
   kinds : (a : ℕ) → a < system.agents → ServesKinds (system.agent a) (down a) end
   kinds a there c low = by_shown (shows (down a).commands.signals c) refl
@@ -331,7 +331,7 @@ module _ (responses : Responses) (system : System) (host room : ℕ) (up : Port)
           let both = shown_for a c there low e in
           let at = kind_of c a low both.1 (and_parts (is_agent a (at_place c)) (passes c) both.0).0 in
           let serves = plan.serves (marked_at up c).transfer.kind (marked_at up c).transfer.first a at in
-          ap (λ (l : Levels). (not (is_raised l.read) || (system.agent a).has_read) && (not (is_raised l.write) || (system.agent a).has_write)) (levels_down responses system host room up down state end m legal single a c there low both.0)
+          ap (λ (l : Levels). (not (is_raised l.read) || (system.agent a).has_read) && (not (is_raised l.write) || (system.agent a).has_write)) (levels_down responses system host room up down state end machine legal single a c there low both.0)
           ∙ by_kind (is_raised (up.commands.read c)) (is_raised (up.commands.write c)) refl refl (legal.legal.one_kind c low) serves
         where
           by_kind : (r w : Bool) → is_raised (up.commands.read c) ≡ r → is_raised (up.commands.write c) ≡ w → not (is_raised (up.commands.read c) && is_raised (up.commands.write c)) ≡ true → IsTrue (serves_kind (system.agent a) (marked_at up c).transfer.kind) →
@@ -359,7 +359,7 @@ module _ (responses : Responses) (system : System) (host room : ℕ) (up : Port)
     carries = carries;
     legal = legal_below;
     lanes = lanes;
-    tag = λ a c there low. m.tag a c there low;
+    tag = λ a c there low. machine.tag a c there low;
     joined = λ a c there low shown.
         let both = shown_for a c there low shown in
         plan.joined (marked_at up c).transfer.kind (marked_at up c).transfer.first a (kind_of c a low both.1 (and_parts (is_agent a (at_place c)) (passes c) both.0).0);

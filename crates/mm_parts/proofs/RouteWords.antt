@@ -99,14 +99,14 @@ module _ (system : System) (host a : ℕ) (shape : Shape) (plan : RoutePlan syst
       by_both false true p r ih = rw (p, r) (ih ∙ sym (beats_append a (asks m.transfer) (asked_from ms) ∙ ap (λ l. l ++ beats_of_place a (asked_from ms)) (own_asks m.transfer false p m.transfer.beats)))
       by_both false false p r ih = rw (p, r) ih
 
-module _ (responses : Responses) (system : System) (host room : ℕ) (up : Port) (down : ℕ → Port) (state : RouteState) (end : ℕ) (m : IsRouteMachine responses system host room up down state end)
+module _ (responses : Responses) (system : System) (host room : ℕ) (up : Port) (down : ℕ → Port) (state : RouteState) (end : ℕ) (machine : IsRouteMachine responses system host room up down state end)
     (legal : AreLegalAt up end) (single : AreSingle up end) (plan : RoutePlan system host up.shape) (below : OwesBelow room up end)
     (owed : (a : ℕ) → a < system.agents → AnswersAreOwed (down a) end) where
   pub early : (a : ℕ) → a < system.agents → AnswersAreOwed (down a) (end - 1)
   early a there c low = owed a there c (omega (arith, low))
 
   abbrev at_place : ℕ → Option ℕ
-  at_place c = place responses system host room up down state end m legal single c
+  at_place c = place responses system host room up down state end machine legal single c
 
   abbrev asked_of : List Marked → List Asked
   asked_of ms = asked_among system host (map (λ (m : Marked). m.transfer) ms)
@@ -117,8 +117,8 @@ module _ (responses : Responses) (system : System) (host room : ℕ) (up : Port)
   abbrev vu : ℕ → ℕ
   vu c = words_before up.answers.valid c
 
-  pub debts : (c : ℕ) → c < end → Debts responses system host room up down state end m legal single plan below early c
-  debts = debts_at responses system host room up down state end m legal single plan below early
+  pub debts : (c : ℕ) → c < end → Debts responses system host room up down state end machine legal single plan below early c
+  debts = debts_at responses system host room up down state end machine legal single plan below early
 
   pub asked_append : (xs ys : List Marked) → asked_of (xs ++ ys) ≡ asked_of xs ++ asked_of ys
   asked_append xs ys =
@@ -136,7 +136,7 @@ module _ (responses : Responses) (system : System) (host room : ℕ) (up : Port)
 
   -- at the end of a cycle a word has come above only where one was owed
   pub word_few : (c : ℕ) → c < end → one_if (is_raised (up.answers.valid c)) ≤ state.owed c
-  word_few c low = subst (λ b. one_if b ≤ state.owed c) (sym (m.valid c low)) (by_owing (state.owing c) refl)
+  word_few c low = subst (λ b. one_if b ≤ state.owed c) (sym (machine.valid c low)) (by_owing (state.owing c) refl)
     where
       one_few : (b : Bool) (n : ℕ) → (b ≡ true → 1 ≤ n) → one_if b ≤ n
       one_few true n some = some refl
@@ -209,9 +209,9 @@ module _ (responses : Responses) (system : System) (host room : ℕ) (up : Port)
       by_owing true e =
           let it : is_agent a q.place ≡ true = ap (is_agent a) at ∙ e in
           let owes = of_agent a (state.owing c) e in
-          let here : is_raised ((down a).answers.valid c) ≡ true = sym (m.valid c low ∙ ap (λ o. by_option o (nat_lt 0 (state.owed c)) (λ a. is_raised ((down a).answers.valid c))) owes) ∙ valid in
-          let word : up.answers.word c ≡ (down a).answers.word c = m.answer c low ∙ ap (λ o. by_option o 0 (λ a. (down a).answers.word c)) owes in
-          let code : up.answers.code c ≡ (down a).answers.code c = m.code c low ∙ ap (λ o. by_option o (default_code_by responses) (λ a. (down a).answers.code c)) owes in
+          let here : is_raised ((down a).answers.valid c) ≡ true = sym (machine.valid c low ∙ ap (λ o. by_option o (nat_lt 0 (state.owed c)) (λ a. is_raised ((down a).answers.valid c))) owes) ∙ valid in
+          let word : up.answers.word c ≡ (down a).answers.word c = machine.answer c low ∙ ap (λ o. by_option o 0 (λ a. (down a).answers.word c)) owes in
+          let code : up.answers.code c ≡ (down a).answers.code c = machine.code c low ∙ ap (λ o. by_option o (default_code_by responses) (λ a. (down a).answers.code c)) owes in
           ap (λ b. only_if b (record { word = (down a).answers.word c; code = (down a).answers.code c })) here
           ∙ ap₂ (λ w k. record { word = w; code = k } ∷ []) (sym word) (sym code) ∙ sym (ap (λ b. map (λ (p : Asked × Word). p.1) (if b then (q, word_now c) ∷ [] else [])) it)
 
@@ -220,7 +220,7 @@ module _ (responses : Responses) (system : System) (host room : ℕ) (up : Port)
     where
       none : (b : Bool) → is_agent a (state.owing c) ≡ b → is_raised ((down a).answers.valid c) ≡ false
       none false e = no_word a c there low e
-      none true e = sym (m.valid c low ∙ ap (λ o. by_option o (nat_lt 0 (state.owed c)) (λ a. is_raised ((down a).answers.valid c))) (of_agent a (state.owing c) e)) ∙ quiet
+      none true e = sym (machine.valid c low ∙ ap (λ o. by_option o (nat_lt 0 (state.owed c)) (λ a. is_raised ((down a).answers.valid c))) (of_agent a (state.owing c) e)) ∙ quiet
 
   -- what a cycle asks
   abbrev new : ℕ → List Asked
@@ -250,7 +250,7 @@ module _ (responses : Responses) (system : System) (host room : ℕ) (up : Port)
   new_at : (c : ℕ) → c < end → takes_read up c ≡ true → All (λ (q : Asked). q.place ≡ at_place c) (new c)
   new_at c low read =
       let parts = and_parts (takes up c) (is_raised (up.commands.read c)) read in
-      let at = place_is responses system host room up down state end m legal single c low (inside_at responses system host room up down state end m legal single c low) (shown_of responses system host room up down state end m legal single c parts.0) in
+      let at = place_is responses system host room up down state end machine legal single c low (inside_at responses system host room up down state end machine legal single c low) (shown_of responses system host room up down state end machine legal single c parts.0) in
       by_kind parts.0 (sym at) (is_of_reads (marked_at up c).transfer.kind) refl
     where
       by_kind : takes up c ≡ true → place_of system host (marked_at up c).transfer ≡ at_place c → (b : Bool) → is_of_reads (marked_at up c).transfer.kind ≡ b → All (λ (q : Asked). q.place ≡ at_place c) (new c)
@@ -267,10 +267,10 @@ module _ (responses : Responses) (system : System) (host room : ℕ) (up : Port)
     where
       by_read : (b : Bool) → takes_read up c ≡ b → All (λ (q : Asked). q.place ≡ state.owing (suc c)) (rest ++ new c)
       by_read false e =
-          let same : state.owing (suc c) ≡ state.owing c = m.owes c low ∙ ap (λ t. if t then at_place c else state.owing c) e in
+          let same : state.owing (suc c) ≡ state.owing c = machine.owes c low ∙ ap (λ t. if t then at_place c else state.owing c) e in
           subst (λ l. All (λ (q : Asked). q.place ≡ state.owing (suc c)) (rest ++ l)) (sym (new_none c (omega arith) e)) (subst (λ l. All (λ (q : Asked). q.place ≡ state.owing (suc c)) l) (sym (append-nil rest)) (subst (λ o. All (λ (q : Asked). q.place ≡ o) rest) (sym same) all))
       by_read true e =
-          let now : state.owing (suc c) ≡ at_place c = m.owes c low ∙ ap (λ t. if t then at_place c else state.owing c) e in
+          let now : state.owing (suc c) ≡ at_place c = machine.owes c low ∙ ap (λ t. if t then at_place c else state.owing c) e in
           subst (λ o. All (λ (q : Asked). q.place ≡ o) (rest ++ new c)) (sym now) (All-append (λ (q : Asked). q.place ≡ at_place c) rest (new c) (old (nat_eq (state.owed c) 0) (is_same_place (state.owing c) (at_place c)) refl refl gone) (new_at c (omega arith) e))
         where
           read_alone : (r w : Bool) → r ≡ true → not (r && w) ≡ true → w ≡ false
@@ -282,7 +282,7 @@ module _ (responses : Responses) (system : System) (host room : ℕ) (up : Port)
           gone =
               let parts = and_parts (takes up c) (is_raised (up.commands.read c)) e in
               let write = read_alone (is_raised (up.commands.read c)) (is_raised (up.commands.write c)) parts.1 (legal.legal.one_kind c (omega arith)) in
-              sym (ap (λ w. w || nat_eq (state.owed c) 0 || is_same_place (state.owing c) (at_place c)) write) ∙ taken_open responses system host room up down state end m legal single c (omega arith) parts.0
+              sym (ap (λ w. w || nat_eq (state.owed c) 0 || is_same_place (state.owing c) (at_place c)) write) ∙ taken_open responses system host room up down state end machine legal single c (omega arith) parts.0
 
           old : (z t : Bool) → nat_eq (state.owed c) 0 ≡ z → is_same_place (state.owing c) (at_place c) ≡ t → (nat_eq (state.owed c) 0 || is_same_place (state.owing c) (at_place c)) ≡ true → All (λ (q : Asked). q.place ≡ at_place c) rest
           old true t z same some =
@@ -366,7 +366,7 @@ module _ (responses : Responses) (system : System) (host room : ℕ) (up : Port)
     where
       beats_now : read_beats (taken_at (down a) c) ≡ beats_of_place a front ++ q.beat ∷ beats_of_place a rest
       beats_now =
-          ap read_beats (taken_same responses system host room up down state end m legal single plan below early a c there (omega arith)) ∙ beats_are system host a up.shape plan (taken_at up c)
+          ap read_beats (taken_same responses system host room up down state end machine legal single plan below early a c there (omega arith)) ∙ beats_are system host a up.shape plan (taken_at up c)
           ∙ ap (beats_of_place a) (sym joins) ∙ beats_append a front (q ∷ rest) ∙ ap (λ b. beats_of_place a front ++ map (λ (q : Asked). q.beat) (if b then q ∷ of_place a rest else of_place a rest)) it
 
       later : IsPrefix (read_beats (taken_at (down a) c)) (read_beats (taken_at (down a) (suc c)))
@@ -381,7 +381,7 @@ module _ (responses : Responses) (system : System) (host room : ℕ) (up : Port)
 
       all : answers_at (target_of system a) (down a) (suc c) ≡ flat_map (λ (p : Beat × Word). bytes_in (target_of system a) up.shape p.0 p.1) (zip (read_beats (taken_at (down a) (suc c))) (words_at (down a) c)) ++ bytes_in (target_of system a) up.shape q.beat w
       all =
-          ap₂ (λ s ws. flat_map (λ (p : Beat × Word). bytes_in (target_of system a) s p.0 p.1) (zip (read_beats (taken_at (down a) (suc c))) ws)) (m.shapes a there) more
+          ap₂ (λ s ws. flat_map (λ (p : Beat × Word). bytes_in (target_of system a) s p.0 p.1) (zip (read_beats (taken_at (down a) (suc c))) ws)) (machine.shapes a there) more
           ∙ zip_push (λ (p : Beat × Word). bytes_in (target_of system a) up.shape p.0 p.1) (read_beats (taken_at (down a) (suc c))) (words_at (down a) c) w q.beat got
 
       taken_front : take (length (words_at (down a) c)) (read_beats (taken_at (down a) (suc c))) ≡ beats_of_place a front
@@ -418,20 +418,20 @@ module _ (responses : Responses) (system : System) (host room : ℕ) (up : Port)
         where
           by_place : (q : Asked) (rest : List Asked) → s.front ++ q ∷ rest ≡ asked_taken c → q.place ≡ state.owing c → (o : Option ℕ) → state.owing c ≡ o → IsRouted system host up down c (length (words_at up c)) (word_now c) (Some q)
           by_place q rest joins at None owes =
-              let word : up.answers.word c ≡ 0 = m.answer c low ∙ ap (λ o. by_option o 0 (λ a. (down a).answers.word c)) owes in
+              let word : up.answers.word c ≡ 0 = machine.answer c low ∙ ap (λ o. by_option o 0 (λ a. (down a).answers.word c)) owes in
               subst (λ o. MatchOption o (IsDefaultWord (system.host host) q.beat (word_now c)) (λ a. HoldsAnswers (filled_lanes (system.host host).shape (system.agent a).shape q.beat.enables) (drop (reads_for system host a (take (length (words_at up c)) (asked_at system host up (suc c)))) (answers_at (target_of system a) (down a) (suc c))) (word_now c))) (sym (at ∙ owes))
               (ap (λ w. list_all (λ lane. nat_eq (byte_at w lane) 0) (filter (is_enabled q.beat.enables) (numbers 0 (system.host host).word_bytes))) word ∙ default_word q.beat.enables (filter (is_enabled q.beat.enables) (numbers 0 (system.host host).word_bytes)))
           by_place q rest joins at (Some a) owes =
               let there = (debts c low).known a owes in
               let self : is_agent a (state.owing c) ≡ true = at_agent a (state.owing c) owes in
               let it : is_agent a q.place ≡ true = ap (is_agent a) at ∙ self in
-              let here : is_raised ((down a).answers.valid c) ≡ true = sym (m.valid c low ∙ ap (λ o. by_option o (nat_lt 0 (state.owed c)) (λ a. is_raised ((down a).answers.valid c))) owes) ∙ valid in
+              let here : is_raised ((down a).answers.valid c) ≡ true = sym (machine.valid c low ∙ ap (λ o. by_option o (nat_lt 0 (state.owed c)) (λ a. is_raised ((down a).answers.valid c))) owes) ∙ valid in
               let w : Word = record { word = (down a).answers.word c; code = (down a).answers.code c } in
               let more : words_at (down a) (suc c) ≡ words_at (down a) c ++ w ∷ [] = ap (λ b. words_at (down a) c ++ only_if b w) here in
               let own = own_answers a c there low s.front q rest joins s.size it (s.words a there) w more in
               let front : take (length (words_at up c)) (asked_at system host up (suc c)) ≡ s.front =
               ap (λ n. take n (asked_at system host up (suc c))) (sym s.size) ∙ prefix_take (asked_front c low) (length s.front) (let sum = sym (ap length joins) ∙ length-append s.front (q ∷ rest) in omega (arith, sum)) ∙ ap (take (length s.front)) (sym joins) ∙ take-append_seam s.front (q ∷ rest) in
-              let word : up.answers.word c ≡ (down a).answers.word c = m.answer c low ∙ ap (λ o. by_option o 0 (λ a. (down a).answers.word c)) owes in
+              let word : up.answers.word c ≡ (down a).answers.word c = machine.answer c low ∙ ap (λ o. by_option o 0 (λ a. (down a).answers.word c)) owes in
               let lanes : filled_lanes (system.host host).shape (system.agent a).shape q.beat.enables ≡ filled_lanes up.shape (system.agent a).shape q.beat.enables =
               ap (λ w. filled_lanes (record { word_bytes = w; unit_bytes = 0; burst_bits = 0; has_enables = true }) (system.agent a).shape q.beat.enables) (sym plan.words) in
               let holds : HoldsAnswers (filled_lanes up.shape (system.agent a).shape q.beat.enables) (bytes_in (target_of system a) up.shape q.beat w) (word_now c) =
