@@ -1,4 +1,5 @@
 mod MachineRuns
+mod WholeSystem
 mod SameMoment
 mod PlanLaws
 mod AgentShown

@@ -9,3 +9,4 @@ pub mod ArbiterRun
 pub mod RouteRun
 pub mod HostRun
 pub mod Moments
+pub mod System

@@ -5,3 +5,4 @@ pub mod lines;
 pub mod moments;
 pub mod plans;
 pub mod runs;
+pub mod system;
