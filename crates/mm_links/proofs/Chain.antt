@@ -87,7 +87,9 @@ module _ (upper : (pair : LinkPair) (end : ℕ) → KeepRows pair end → AddsNo
         tags = both_tags first.target first.hold second.hold up middle down end one two above.tags below.tags;
         joins = both_joins first.target first.hold second.hold up middle down end one two above.joins below.joins;
         quiet = both_quiet first.target first.hold second.hold up middle down end one two above.quiet below.quiet;
-        goes_on = λ legal owed. rows_join (above.goes_on legal (owed_at end (omega arith) legal owed)) (below.goes_on (there end (omega arith) legal owed) owed);
+        goes_on = λ legal owed alike.
+            rows_join (above.goes_on legal (owed_at end (omega arith) legal owed) alike)
+            (below.goes_on (there end (omega arith) legal owed) owed (above.joins end (omega arith) legal (λ k less. owed_at end (omega arith) legal owed k (omega arith)) alike));
       }
     where
       left : (a b : Bool) → IsTrue (a && b) → IsTrue a

@@ -3,3 +3,7 @@ pub mod Chain
 pub mod Stages
 pub mod StagePipe
 pub mod StageRows
+pub mod Alike
+pub mod Gated
+pub mod Lanes
+pub mod Selecting

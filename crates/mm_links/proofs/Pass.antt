@@ -44,7 +44,7 @@ pass_is_link row moves target port end some = record {
   tags = λ c low legal owed d less shown. (d, record { by_then = le_refl d; shown = shown; tag = refl; reads = refl; writes = refl });
   joins = λ c low legal owed alike. alike;
   quiet = λ c low legal owed answered. answered;
-  goes_on = λ legal owed.
+  goes_on = λ legal owed alike.
       let keeps = moves target port end legal in
       further (record { rank = λ c. 0; going = wire_going target port end legal keeps.falls; holds = keeps.holds }) at_end;
 }

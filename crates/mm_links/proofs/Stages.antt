@@ -84,7 +84,7 @@ held_back_length (a ∷ later) = by_size (nat_lt 0 a.size) (behind_length a.clos
     by_size true few rest = omega (arith, few)
     by_size false few rest = let none : 0 - a.size ≡ 0 = omega arith in rw none (omega (arith, rest))
 
-held_back_past : (xs ys : List Accepted) → held_back (xs ++ ys) (total (map (λ (a : Accepted). a.size) xs)) ≤ length ys
+pub held_back_past : (xs ys : List Accepted) → held_back (xs ++ ys) (total (map (λ (a : Accepted). a.size) xs)) ≤ length ys
 held_back_past [] ys = held_back_length ys
 held_back_past (x ∷ xs) ys =
     let rest = held_back_past xs ys in
@@ -92,10 +92,10 @@ held_back_past (x ∷ xs) ys =
     let past : nat_lt (x.size + total (map (λ (a : Accepted). a.size) xs)) x.size ≡ false = le-ltb _ x.size (omega arith) in
     rw (left, past) rest
 
-abbrev accepted_of : Target → Shape → Marked → Accepted
+abbrev pub accepted_of : Target → Shape → Marked → Accepted
 accepted_of target shape m = record { size = length (operations_in target shape m); closes = closes m }
 
-total_accepted : (target : Target) (shape : Shape) (transfers : List Marked) → total (map (λ (a : Accepted). a.size) (map (accepted_of target shape) transfers)) ≡ length (operations_among target shape transfers)
+pub total_accepted : (target : Target) (shape : Shape) (transfers : List Marked) → total (map (λ (a : Accepted). a.size) (map (accepted_of target shape) transfers)) ≡ length (operations_among target shape transfers)
 total_accepted target shape [] = refl
 total_accepted target shape (m ∷ later) = ap (λ n. length (operations_in target shape m) + n) (total_accepted target shape later) ∙ sym (length-append (operations_in target shape m) _)
 
@@ -413,5 +413,5 @@ module _ (laws : StageLaws) (target : Target) (shape : Shape) (uc dc : CommandVi
     tags = tags;
     joins = joins;
     quiet = quiet;
-    goes_on = λ legal owed. further (stage_goes_on laws 2 shape uc dc ua da queue run (omega arith) opens target end some legal) at_end;
+    goes_on = λ legal owed alike. further (stage_goes_on laws 2 shape uc dc ua da queue run (omega arith) opens target end some legal) at_end;
   }

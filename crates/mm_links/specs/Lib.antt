@@ -1,3 +1,4 @@
 pub mod Going
 pub mod Links
 pub mod Pipes
+pub mod Selects

@@ -58,7 +58,7 @@ pub record IsLink (form : LinkForm) (up down : Port) (end : ℕ) : Type 0 where
   pub tags : HandsOnTags up down end
   pub joins : HandsOnJoins form.target up down end
   pub quiet : OwesNothingBelow up down end
-  pub goes_on : AreLegalAt up end → AnswersAreOwed down end → RowGoesOn form.target end form.paces up down
+  pub goes_on : AreLegalAt up end → AnswersAreOwed down end → JoinsAlike form.target up end → RowGoesOn form.target end form.paces up down
 
 -- two links in a row
 abbrev pub chain_form : LinkForm → LinkForm → LinkForm

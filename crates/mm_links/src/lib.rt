@@ -3,3 +3,4 @@
 
 pub mod pipes;
 pub mod rows;
+pub mod widths;
