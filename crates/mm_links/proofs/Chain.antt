@@ -1,5 +1,5 @@
 -- Two links in a row are one link.
-use Rattle.std.proofs.Common.{ℕ, zero, suc, ◌≤◌, ◌≡◌, ◌+◌, ◌-◌, ◌*◌, Bool, true, false, ◌&&◌, ◌||◌, ◌++◌, List, arith, refl, sym, ◌∙◌, subst, IsTrue, IsFalse}
+use Rattle.std.proofs.Common.{ℕ, zero, suc, ◌≤◌, ◌≡◌, ◌+◌, ◌-◌, ◌*◌, Bool, true, false, ◌&&◌, ◌||◌, ◌++◌, List, arith, refl, sym, subst, IsTrue, IsFalse}
 use Rattle.mm_runs.specs.Operations.{pieces}
 use Rattle.mm_machines.specs.Shorter.{legal_at_before}
 use Rattle.mm_machines.specs.Link.{Target, Port, AreLegalAt, AnswersAreOwed}
@@ -7,7 +7,7 @@ use Rattle.mm_machines.specs.LinkPair.{LinkPair, KeepRows, AddsNoPieces}
 use Rattle.mm_machines.specs.Lines.{IsCarrier, IsWordForWord, KeepsRow}
 use Rattle.mm_links.specs.Going.{Pace, RowGoesOn}
 use Rattle.mm_links.specs.Going.RowGoesOn.{at_end, further}
-use Rattle.mm_links.specs.Links.{LinkForm, IsLink, FormsFit, HandsOnTags, BringsLanesDown, HandsOnJoins, OwesNothingBelow, chain_form}
+use Rattle.mm_links.specs.Links.{LinkForm, IsLink, FormsFit, BringsLanesDown, HandsOnJoins, OwesNothingBelow, chain_form}
 
 pub rows_join : {target : Target} {end : ℕ} {first second : List Pace} {up middle down : Port} → RowGoesOn target end first up middle → RowGoesOn target end second middle down → RowGoesOn target end (first ++ second) up down
 rows_join at_end second = second
@@ -33,20 +33,6 @@ module _ (target : Target) (first_hold second_hold : ℕ) (up middle down : Port
 
   owed_before : (c : ℕ) → c ≤ end → AreLegalAt up c → AnswersAreOwed down (c - 1) → AnswersAreOwed middle (c - 1)
   owed_before c low legal owed = middle_owed (c - 1) (omega arith) (legal_at_before up (c - 1) c (omega arith) legal) owed
-
-  pub both_tags : HandsOnTags up middle end → HandsOnTags middle down end → HandsOnTags up down end
-  both_tags first second c low legal owed d less shown =
-      let lower = second c low (there_before c low legal owed) owed d less shown in
-      let there_first = first c low legal (owed_before c low legal owed) lower.0 (omega (arith, lower.1.by_then)) lower.1.shown in (
-        there_first.0,
-        record {
-          by_then = omega (arith, lower.1.by_then, there_first.1.by_then);
-          shown = there_first.1.shown;
-          tag = lower.1.tag ∙ there_first.1.tag;
-          reads = lower.1.reads ∙ there_first.1.reads;
-          writes = lower.1.writes ∙ there_first.1.writes;
-        },
-      )
 
   pub both_lanes : (a b : Bool) → BringsLanesDown a target up middle end → BringsLanesDown b target middle down end → BringsLanesDown (a || b) target up down end
   both_lanes a b first second c low legal owed has =
@@ -84,7 +70,6 @@ module _ (upper : (pair : LinkPair) (end : ℕ) → KeepRows pair end → AddsNo
             (λ is. lower pair end (record { first = above.row; second = below.row }) between (below.words is));
         words = λ is. both pair end (record { first = above.row; second = below.row }) between (above.words (left first.word_for_word second.word_for_word is)) (below.words (right first.word_for_word second.word_for_word is));
         lanes = both_lanes first.target first.hold second.hold up middle down end one two first.makes_lanes second.makes_lanes above.lanes below.lanes;
-        tags = both_tags first.target first.hold second.hold up middle down end one two above.tags below.tags;
         joins = both_joins first.target first.hold second.hold up middle down end one two above.joins below.joins;
         quiet = both_quiet first.target first.hold second.hold up middle down end one two above.quiet below.quiet;
         goes_on = λ legal owed alike.

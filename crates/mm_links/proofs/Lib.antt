@@ -1,3 +1,4 @@
+pub mod HandOn
 pub mod Pass
 pub mod Chain
 pub mod Stages
@@ -7,3 +8,4 @@ pub mod Alike
 pub mod Gated
 pub mod Lanes
 pub mod Selecting
+pub mod Splitting

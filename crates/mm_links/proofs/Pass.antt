@@ -1,5 +1,5 @@
 -- A wire keeps all that a link promises.
-use Rattle.std.proofs.Common.{ℕ, ◌<◌, Bool, true, false, not, ◌||◌, refl, IsTrue, le_refl, le-leb}
+use Rattle.std.proofs.Common.{ℕ, ◌<◌, Bool, true, false, not, ◌||◌, refl, IsTrue, le_refl}
 use Rattle.std.proofs.lemmas.Bool.{or_left, or_right}
 use Rattle.histories.specs.Laws.{prefix_refl}
 use Rattle.mm_runs.specs.Commands.{is_held}
@@ -41,7 +41,6 @@ pass_is_link row moves target port end some = record {
   row = row target port end some;
   words = λ is c low legal owed. prefix_refl _;
   lanes = λ c low legal owed has. has refl;
-  tags = λ c low legal owed d less shown. (d, record { by_then = le_refl d; shown = shown; tag = refl; reads = refl; writes = refl });
   joins = λ c low legal owed alike. alike;
   quiet = λ c low legal owed answered. answered;
   goes_on = λ legal owed alike.
@@ -50,10 +49,9 @@ pass_is_link row moves target port end some = record {
 }
 
 pub pass_is_straight : ((ahead : ℕ → Bool) (target : Target) (port : Port) (end : ℕ) → GoesStraightThrough ahead target port port end) →
-    ((may_burst : Bool) (target : Target) (port : Port) (end : ℕ) → IsShownPromptly may_burst target port port end) →
-    (ahead may_burst : Bool) (target : Target) (port : Port) (end : ℕ) → IsStraightLink ahead may_burst target port port end
-pass_is_straight straight prompt ahead may_burst target port end = record {
+    ((few : ℕ) (may_burst : Bool) (target : Target) (port : Port) (end : ℕ) → IsShownPromptly few may_burst target port port end) →
+    (few : ℕ) (ahead may_burst : Bool) (target : Target) (port : Port) (end : ℕ) → IsStraightLink few ahead may_burst target port port end
+pass_is_straight straight prompt few ahead may_burst target port end = record {
   straight = λ legal owed. straight (λ c. ahead) target port end;
-  accepts = λ legal owed c h same plain taken. le-leb _ _ (le_refl _);
-  prompt = λ legal owed. prompt may_burst target port end;
+  prompt = λ legal owed. prompt few may_burst target port end;
 }

@@ -18,12 +18,13 @@ use Rattle.mm_runs.specs.Operations.{Beat, operations_of, filled_lanes, pieces}
 use Rattle.mm_runs.specs.Commands.{Burst, Transfer, shows, is_held, is_of_reads, burst_before, write_transfer, read_transfer, byte_address, words_before, burst_after, next_burst}
 use Rattle.mm_machines.specs.Link.{Target, Port, Marked, KeepsLinkLaw, AreLegalAt, AnswersAreOwed, takes, marked_at, taken_at, shown_at, read_beats, words_at, words_owed, answers_at, bytes_in, beat_operations, is_nonempty, reads_of, HasGreatestCode, IsAnswered}
 use Rattle.mm_machines.specs.Blocks.{block, blocks_at, worded}
-use Rattle.mm_machines.specs.Lines.{KeepsRow, IsWordForWord}
+use Rattle.mm_machines.specs.Lines.{KeepsRow, IsWordForWord, HandsOn}
 use Rattle.mm_machines.specs.Machines.{Raw, raw_at, IsFitBeat, MaySelect, LiesInOneWord, select_of}
 use Rattle.mm_machines.specs.Rank.{is_owed}
 use Rattle.mm_machines.specs.SideLaws.{fit_when_shown, legal_when_shown, same_counts}
 use Rattle.mm_links.specs.Going.RowGoesOn.{at_end, further}
-use Rattle.mm_links.specs.Links.{IsLink, HandsOnTags}
+use Rattle.mm_links.specs.Links.{IsLink}
+use Rattle.mm_links.proofs.HandOn.{hands_on_shown}
 use Rattle.mm_links.specs.Selects.{RunsAsSelect, IsSelectPlan, EnablesFit, select_form, selected, silenced, offset_in, takes_read, is_shut, first_of}
 use Rattle.mm_links.proofs.Alike.{IsAlike}
 use Rattle.mm_links.proofs.Gated.{gate_carries, gate_joins, gate_lanes, gate_quiet, gate_goes_on, owed_counts}
@@ -511,7 +512,7 @@ module _ (law : SelectsBeats) (target : Target) (up down : Port) (many room : �
 -- ---- the whole
 
 module _ (law : SelectsBeats) (wire : (target : Target) (port : Port) (end : ℕ) → 0 < port.shape.word_bytes → KeepsLinkLaw target 0 port port end)
-    (row : (target : Target) (hold : ℕ) (up down : Port) (end : ℕ) → KeepsLinkLaw target hold up down end → KeepsRow target hold up down end)
+    (row : (target : Target) (hold : ℕ) (up down : Port) (end : ℕ) → KeepsLinkLaw target hold up down end → ((c : ℕ) → c ≤ end → AreLegalAt up c → AnswersAreOwed down (c - 1) → HandsOn up down c) → KeepsRow target hold up down end)
     (target : Target) (up down : Port) (many room : ℕ) (offsets : ℕ → List ℕ) (end : ℕ) (plan : IsSelectPlan target up.shape down.shape many) (deep : 1 < room) (run : RunsAsSelect room up down offsets) (fit : EnablesFit up end) where
   abbrev lets : ℕ → Bool
   lets c = not (is_shut room up offsets c)
@@ -571,26 +572,26 @@ module _ (law : SelectsBeats) (wire : (target : Target) (port : Port) (end : ℕ
           × HasGreatestCode (filled_lanes up.shape target.shape beat.enables) (drop (reads_of target up.shape (take n beats)) l) (record { word = up.answers.word k; code = up.answers.code k })))
           (answers_same law target up down many room offsets plan deep run c (fit_before c h) legal (suc k) less (λ j low. owed j (omega (arith, low, less)))) own
 
-  tags : HandsOnTags up down end
-  tags c h legal owed d less shown =
-      let parts = and_parts (shows up.commands.signals d) (lets d) (sym (shown_alike d) ∙ shown) in
-      let none = not-true (is_shut room up offsets d) parts.1 in (
-        d,
+  marks : (c : ℕ) → HandsOn up down c
+  marks c = hands_on_shown up down c (λ d less shown. (
+    d,
+    (
+        let parts = and_parts (shows up.commands.signals d) (lets d) (sym (shown_alike d) ∙ shown) in
+        let closed = not-true (is_shut room up offsets d) parts.1 in
         record {
           by_then = le_refl d;
           shown = parts.0;
           tag = run.tag d;
-          reads = ap (λ (l : Levels). is_raised l.read) (run.levels d) ∙ ap (λ b. is_raised (if b then 0 else up.commands.read d)) none;
+          reads = ap (λ (l : Levels). is_raised l.read) (run.levels d) ∙ ap (λ b. is_raised (if b then 0 else up.commands.read d)) closed;
           writes = ap (λ (l : Levels). is_raised l.write) (run.levels d);
-        },
-      )
+        }),
+  ))
 
   pub select_is_link : IsLink (select_form target) up down end
   select_is_link = record {
-    row = row target 0 up down end link_law;
+    row = row target 0 up down end link_law (λ c h legal owed. marks c);
     words = λ is c h legal owed. select_words law target up down many room offsets plan deep run c (fit_before c h) legal c (le_refl c) legal owed;
     lanes = λ c h legal owed has. gate_lanes target up down lets shown_alike taken_at_once c (alike_before c h legal) legal (legal_before c h legal) (has refl);
-    tags = tags;
     joins = λ c h legal owed alike k less. gate_joins target up down lets shown_alike taken_at_once c (alike_before c h legal) legal (legal_before c h legal) k less (alike k less);
     quiet = λ c h legal owed answered. gate_quiet target up down lets shown_alike taken_at_once c (alike_before c h legal) legal (legal_before c h legal) same_valid c (le_refl c) answered;
     goes_on = λ legal owed alike.

@@ -11,7 +11,7 @@ use Rattle.mm_machines.specs.Link.{Marked, taken_at}
 use Rattle.mm_machines.specs.Lines.{TaggedPort, IsPipeLine, Group, words_with, target_of, group_of, groups_of, with_tag, sizes_of}
 use Rattle.mm_machines.specs.Machines.{Raw, raws, idle, marked, burst_of, IsStageRun, port_of}
 use Rattle.mm_machines.specs.SideLaws.{taken_is_shown}
-use Rattle.mm_links.proofs.Stages.{StageLaws, bounded, taken_split, shown_front, shown_below, legal_down, length_marked}
+use Rattle.mm_links.proofs.Stages.{StageLaws, bounded, taken_split, shown_front, shown_below, legal_down, length_marked, stage_hands_on}
 
 unreached_past : (xs ys : List ℕ) → unreached (xs ++ ys) (total xs) ≤ length ys
 unreached_past [] ys = unreached_length ys 0
@@ -75,6 +75,7 @@ module _ (laws : StageLaws) (depth : ℕ) (shape : Shape) (uc dc : CommandView) 
       taken = λ k less. prefix_trans (taken_is_shown below_side.port c k (legal_down laws depth shape uc dc ua da queue run c some legal) less) (shown_below laws depth shape uc dc ua da queue run c k legal less);
       held = λ h k is less. held h k;
       legal = legal_down laws depth shape uc dc ua da queue run c some legal;
+      hands_on = stage_hands_on laws depth shape uc dc ua da queue run c;
     };
     answers = λ c low legal owed h k is less. delayed h k;
   }

@@ -12,15 +12,16 @@ use Rattle.mm_runs.specs.Legal.{Word}
 use Rattle.mm_machines.specs.Paths.{CommandView, AnswerView}
 use Rattle.mm_machines.specs.Link.{Target, Port, Marked, KeepsLinkLaw, AreLegalAt, AnswersAreOwed, takes, taken_at, shown_at, read_beats, words_at, words_owed, operations_in, operations_among, closes, beat_operations, is_nonempty}
 use Rattle.mm_machines.specs.Blocks.{Block, block, worded}
-use Rattle.mm_machines.specs.Lines.{IsWordForWord, KeepsRow}
+use Rattle.mm_machines.specs.Lines.{IsWordForWord, KeepsRow, HandsOn}
 use Rattle.mm_machines.specs.PartRanks.{Accepted, HoldsBack, held_back, behind, are_joined_alike, goes_on_alike}
 use Rattle.mm_machines.specs.Rank.{LinkRankFalls, has_commands, moves_commands, is_excused, is_owed}
 use Rattle.mm_machines.specs.Machines.{Raw, Stage, RunsAsStage, WaitsOnlyWhenFull, above, below, raws, raw_at, mark, marked, burst_of, burst_past, idle, IsStageRun, ShowsHead, port_of, owing_rank}
 use Rattle.mm_machines.specs.SideLaws.{taken_is_shown, same_counts, zip_front}
 use Rattle.mm_links.specs.Going.{GoesOn, GivesWhatHasCome, is_behind, is_untaken}
 use Rattle.mm_links.specs.Going.RowGoesOn.{at_end, further}
-use Rattle.mm_links.specs.Links.{IsLink, BringsLanesDown, HandsOnTags, HandsOnJoins, OwesNothingBelow}
+use Rattle.mm_links.specs.Links.{IsLink, BringsLanesDown, HandsOnJoins, OwesNothingBelow}
 use Rattle.mm_links.specs.Pipes.{stage_form}
+use Rattle.mm_links.proofs.HandOn.{IsShownFor, hands_on_shown}
 
 -- what the machines' own crate says of a stage
 pub record StageLaws : Type 0 where
@@ -251,6 +252,22 @@ module _ (laws : StageLaws) (depth : ℕ) (shape : Shape) (uc dc : CommandView) 
           (subst (λ l. slice_get l (length (raws down c)) ≡ Some (raw_at down c)) (sym (queued c ∙ ap (λ q. raws down c ++ q) is))
           (subst (λ r. slice_get (raws down c ++ raw ∷ later) (length (raws down c)) ≡ Some r) (sym head.1) (get_behind (raws down c) raw later)))
 
+  pub stage_hands_on : (end : ℕ) → HandsOn up down end
+  stage_hands_on end = hands_on_shown up down end from
+    where
+      from : (c : ℕ) → c < end → shows dc.signals c ≡ true → (above : ℕ) × IsShownFor up down c above
+      from c low shown =
+          let there = shown_from c shown in (
+            there.0,
+            record {
+              by_then = omega (arith, there.1);
+              shown = (and_parts (shows uc.signals there.0) (not (is_raised (uc.waitrequest there.0))) there.2).0;
+              tag = ap (λ (r : Raw). r.tag) (sym there.3);
+              reads = ap (λ (r : Raw). is_raised r.levels.read) (sym there.3);
+              writes = ap (λ (r : Raw). is_raised r.levels.write) (sym there.3);
+            },
+          )
+
   -- words come up after those below, and no more than the beats taken there
   pub words_front : (c : ℕ) → IsPrefix (words_at up c) (words_at down c)
   words_front zero = prefix_refl []
@@ -362,7 +379,7 @@ module _ (laws : StageLaws) (depth : ℕ) (shape : Shape) (uc dc : CommandView) 
 
 module _ (laws : StageLaws) (target : Target) (shape : Shape) (uc dc : CommandView) (ua da : AnswerView) (queue : ℕ → List Raw) (run : IsStageRun 2 (port_of shape uc ua) (port_of shape dc da) queue)
     (opens : (c : ℕ) → length (queue c) < 2 → is_raised (uc.waitrequest c) ≡ false) (some : 0 < shape.word_bytes)
-    (row : (target : Target) (hold : ℕ) (up down : Port) (end : ℕ) → KeepsLinkLaw target hold up down end → KeepsRow target hold up down end) (end : ℕ) where
+    (row : (target : Target) (hold : ℕ) (up down : Port) (end : ℕ) → KeepsLinkLaw target hold up down end → ((c : ℕ) → c ≤ end → AreLegalAt up c → AnswersAreOwed down (c - 1) → HandsOn up down c) → KeepsRow target hold up down end) (end : ℕ) where
   abbrev top : Port
   top = port_of shape uc ua
 
@@ -379,20 +396,6 @@ module _ (laws : StageLaws) (target : Target) (shape : Shape) (uc dc : CommandVi
       front_lanes true xs ys p h = refl
       front_lanes false xs ys p h = all_front _ xs p.rest (subst (λ l. IsTrue (list_all (λ (m : Marked). list_all (λ (b : Beat). is_nonempty (beat_operations target shape b)) m.transfer.beats) l)) (sym p.joins) h)
 
-  tags : HandsOnTags top low_side end
-  tags c low legal owed d less shown =
-      let there = shown_from laws 2 shape uc dc ua da queue run d shown in
-      let same = there.3 in (
-        there.0,
-        record {
-          by_then = omega (arith, there.1);
-          shown = (and_parts (shows uc.signals there.0) (not (is_raised (uc.waitrequest there.0))) there.2).0;
-          tag = ap (λ (r : Raw). r.tag) (sym same);
-          reads = ap (λ (r : Raw). is_raised r.levels.read) (sym same);
-          writes = ap (λ (r : Raw). is_raised r.levels.write) (sym same);
-        },
-      )
-
   joins : HandsOnJoins target top low_side end
   joins c low legal owed alike k less =
       alike_prefix target low_side (prefix_trans (shown_front laws 2 shape uc dc ua da queue run c k legal less) (before_prefix _ (k - 1) k (omega arith))) (alike k less)
@@ -407,10 +410,10 @@ module _ (laws : StageLaws) (target : Target) (shape : Shape) (uc dc : CommandVi
 
   pub stage_is_link : IsLink (stage_form target) top low_side end
   stage_is_link = record {
-    row = row target 2 top low_side end (laws.link (record { depth = 2; shape = shape; sides = record { commands_above = uc; answers_above = ua; commands_below = dc; answers_below = da }; queue = queue }) run target end some);
+    row = row target 2 top low_side end (laws.link (record { depth = 2; shape = shape; sides = record { commands_above = uc; answers_above = ua; commands_below = dc; answers_below = da }; queue = queue }) run target end some)
+        (λ c h legal owed. stage_hands_on laws 2 shape uc dc ua da queue run c);
     words = λ is. stage_words laws 2 shape uc dc ua da queue run target end;
     lanes = lanes;
-    tags = tags;
     joins = joins;
     quiet = quiet;
     goes_on = λ legal owed alike. further (stage_goes_on laws 2 shape uc dc ua da queue run (omega arith) opens target end some legal) at_end;

@@ -2,3 +2,4 @@ pub mod Going
 pub mod Links
 pub mod Pipes
 pub mod Selects
+pub mod Splits

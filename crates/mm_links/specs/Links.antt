@@ -1,26 +1,11 @@
 -- All that a link promises.
-use Rattle.std.specs.Prelude.{◌≡◌, ℕ, suc, ◌+◌, ◌*◌, ◌<◌, ◌≤◌, ◌-◌, Bool, ◌&&◌, ◌||◌, List, [], ◌∷◌, ◌++◌, true, false, IsTrue, IsFalse, length, nat_le}
-use Rattle.histories.specs.History.{is_raised}
+use Rattle.std.specs.Prelude.{◌≡◌, ℕ, ◌+◌, ◌*◌, ◌≤◌, ◌-◌, Bool, ◌&&◌, ◌||◌, List, [], ◌∷◌, ◌++◌, true, false, IsTrue, IsFalse}
 use Rattle.mm_runs.specs.Operations.{pieces}
-use Rattle.mm_runs.specs.Commands.{shows}
-use Rattle.mm_machines.specs.Link.{Target, Port, AreLegalAt, AnswersAreOwed, takes, taken_at, shown_at, operations_among}
+use Rattle.mm_machines.specs.Link.{Target, Port, AreLegalAt, AnswersAreOwed, shown_at}
 use Rattle.mm_machines.specs.Lines.{KeepsRow, IsWordForWord, HasLanes}
-use Rattle.mm_machines.specs.Straight.{GoesStraightThrough, IsShownPromptly, shows_plain, are_answered}
+use Rattle.mm_machines.specs.Straight.{GoesStraightThrough, IsShownPromptly, are_answered}
 use Rattle.mm_machines.specs.PartRanks.{JoinsAlike}
 use Rattle.mm_links.specs.Going.{Pace, RowGoesOn}
-
--- a beat that is shown below has the tag and the kind of one that was shown above by then
-pub record IsShownFor (up down : Port) (below above : ℕ) : Type 0 where
-  pub by_then : above ≤ below
-  pub shown : IsTrue (shows up.commands.signals above)
-  pub tag : down.commands.tag below ≡ up.commands.tag above
-  pub reads : is_raised (down.commands.read below) ≡ is_raised (up.commands.read above)
-  pub writes : is_raised (down.commands.write below) ≡ is_raised (up.commands.write above)
-
-abbrev pub HandsOnTags : Port → Port → ℕ → Type 0
-HandsOnTags up down end =
-    (c : ℕ) → c ≤ end → AreLegalAt up c → AnswersAreOwed down (c - 1) →
-    (d : ℕ) → d < c → IsTrue (shows down.commands.signals d) → (above : ℕ) × IsShownFor up down d above
 
 -- before an agent without byte enables no beat without an operation is shown below: where none is shown above, or anyhow
 abbrev pub BringsLanesDown : Bool → Target → Port → Port → ℕ → Type 0
@@ -36,12 +21,6 @@ abbrev pub OwesNothingBelow : Port → Port → ℕ → Type 0
 OwesNothingBelow up down end =
     (c : ℕ) → c ≤ end → AreLegalAt up c → AnswersAreOwed down c → IsTrue (are_answered up (shown_at up c) c) → IsTrue (are_answered down (shown_at down c) c)
 
--- a plain command isn't accepted above before it is wholly taken below
-abbrev pub AcceptsPlainWhenTaken : Target → Port → Port → ℕ → Type 0
-AcceptsPlainWhenTaken target up down end =
-    (c : ℕ) → c < end → up.shape.word_bytes ≡ down.shape.word_bytes → IsTrue (shows_plain up c) → IsTrue (takes up c) →
-    IsTrue (nat_le (length (operations_among target up.shape (taken_at up (suc c)))) (length (operations_among target down.shape (taken_at down (suc c)))))
-
 -- what differs among links
 pub record LinkForm : Type 0 where
   pub target : Target
@@ -55,7 +34,6 @@ pub record IsLink (form : LinkForm) (up down : Port) (end : ℕ) : Type 0 where
   pub row : KeepsRow form.target form.hold up down end
   pub words : IsTrue form.word_for_word → IsWordForWord form.target up down end
   pub lanes : BringsLanesDown form.makes_lanes form.target up down end
-  pub tags : HandsOnTags up down end
   pub joins : HandsOnJoins form.target up down end
   pub quiet : OwesNothingBelow up down end
   pub goes_on : AreLegalAt up end → AnswersAreOwed down end → JoinsAlike form.target up end → RowGoesOn form.target end form.paces up down
@@ -76,11 +54,10 @@ pub record FormsFit (first second : LinkForm) (up middle down : Port) : Type 0 w
   pub pieces : pieces middle.shape down.shape * pieces up.shape middle.shape ≤ pieces up.shape down.shape
   pub words : IsTrue (first.word_for_word || second.word_for_word)
 
--- how a link serves a host that waits for it
-pub record IsStraightLink (ahead may_burst : Bool) (target : Target) (up down : Port) (end : ℕ) : Type 0 where
+-- how a link serves a host that waits for it: a plain command goes straight through it, and a first beat is shown within a few cycles
+pub record IsStraightLink (few : ℕ) (ahead may_burst : Bool) (target : Target) (up down : Port) (end : ℕ) : Type 0 where
   pub straight : AreLegalAt up end → AnswersAreOwed down end → GoesStraightThrough (λ c. ahead) target up down end
-  pub accepts : AreLegalAt up end → AnswersAreOwed down end → AcceptsPlainWhenTaken target up down end
-  pub prompt : AreLegalAt up end → AnswersAreOwed down end → IsShownPromptly may_burst target up down end
+  pub prompt : AreLegalAt up end → AnswersAreOwed down end → IsShownPromptly few may_burst target up down end
 
 -- a wire
 abbrev pub pass_form : Target → LinkForm

@@ -7,7 +7,8 @@ ghost use Rattle.mm_links.specs.Links.{LinkForm, IsLink, IsStraightLink, FormsFi
 /// A wire keeps all of it: it holds nothing, its rank is always 0, and each word is a word from below.
 pub fn pass_is_a_link()
     ensures link { (target : Target) (port : Port) (end : ℕ) → 0 < port.shape.word_bytes → IsLink (pass_form target) port port end }
-    ensures straight { (ahead may_burst : Bool) (target : Target) (port : Port) (end : ℕ) → IsStraightLink ahead may_burst target port port end }
+    ensures straight { (few : ℕ) (ahead may_burst : Bool) (target : Target) (port : Port) (end : ℕ)
+        → IsStraightLink few ahead may_burst target port port end }
 {
     mm_machines::wires::wire_is_a_row();
     mm_machines::wires::wire_is_straight();

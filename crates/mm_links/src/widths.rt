@@ -1,10 +1,11 @@
 //! Links between words of different sizes.
 
-ghost use Rattle.std.specs.Prelude.{◌<◌, ◌≤◌, ℕ, List};
-ghost use Rattle.mm_machines.specs.Link.{Target, Port, AreLegalAt, AnswersAreOwed};
-ghost use Rattle.mm_machines.specs.Lines.{KeepsRow, IsWordForWord};
+ghost use Rattle.std.specs.Prelude.{◌<◌, ℕ, List};
+ghost use Rattle.mm_machines.specs.Link.{Target, Port, AreLegalAt, CarriesCommands};
+ghost use Rattle.mm_machines.specs.Machines.{IsExpanderRun, MaySplit, split_parts, parts_sent};
 ghost use Rattle.mm_links.specs.Links.{IsLink};
 ghost use Rattle.mm_links.specs.Selects.{RunsAsSelect, IsSelectPlan, EnablesFit, select_form};
+ghost use Rattle.mm_links.specs.Splits.{SplitState, RunsAsSplit, split_rest};
 
 /// A lane selector keeps all that a link promises, where at least two reads may be under way in it.
 pub fn select_is_a_link()
@@ -15,4 +16,14 @@ pub fn select_is_a_link()
     mm_machines::links::link_is_a_row();
     mm_machines::wires::wire_is_a_link();
     mm_machines::machines::beat_is_selected()
+}
+
+/// A splitter sends the pieces of each beat in order and accepts the beat with the last of them, so it carries commands and holds nothing.
+pub fn split_carries_commands()
+    ensures pieces { (room : ℕ) (up down : Port) (state : SplitState) (end : ℕ) → RunsAsSplit room up down state → AreLegalAt up end
+        → IsExpanderRun (split_parts up.shape down.shape) up down (parts_sent up down) (split_rest up down state) end }
+    ensures commands { (target : Target) (room count : ℕ) (up down : Port) (state : SplitState) (end : ℕ) → MaySplit target up.shape down.shape count
+        → RunsAsSplit room up down state → AreLegalAt up end → CarriesCommands target 0 up down end }
+{
+    mm_machines::machines::split_carries()
 }

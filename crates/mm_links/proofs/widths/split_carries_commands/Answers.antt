@@ -1,0 +1,12 @@
+use Rattle.mm_machines.specs.Machines.{parts_sent}
+use Rattle.mm_links.specs.Splits.{split_rest}
+use Rattle.mm_links.proofs.Splitting.{splits}
+use Rattle.mm_links.proofs.widths.split_carries_commands.Goals as goal
+
+pub returns-clause-pieces : goal.returns-clause-pieces
+returns-clause-pieces c = λ room up down state end run legal. splits room up down state run end legal
+
+pub returns-clause-commands : goal.returns-clause-commands
+returns-clause-commands c = λ target room count up down state end may run legal.
+    c.split_carries.ensures target up.shape down.shape count may (record { commands_above = up.commands; answers_above = up.answers; commands_below = down.commands; answers_below = down.answers })
+    (parts_sent up down) (split_rest up down state) end (splits room up down state run end legal) legal
