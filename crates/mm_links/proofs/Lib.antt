@@ -9,3 +9,4 @@ pub mod Gated
 pub mod Lanes
 pub mod Selecting
 pub mod Splitting
+pub mod DrivenRuns

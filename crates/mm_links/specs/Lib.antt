@@ -3,3 +3,4 @@ pub mod Links
 pub mod Pipes
 pub mod Selects
 pub mod Splits
+pub mod Driven

@@ -3,4 +3,5 @@
 
 pub mod pipes;
 pub mod rows;
+pub mod runs;
 pub mod widths;

@@ -1,0 +1,96 @@
+-- The runs that recursion on the cycle gives are runs of the machines.
+use Rattle.std.proofs.Common.{ℕ, zero, suc, ◌<◌, ◌≡◌, ◌-◌, Bool, true, false, not, ◌||◌, List, [], ◌∷◌, ◌++◌, if◌then◌else◌, arith, refl, sym, ap, ap₂, ◌∙◌, length, drop, nat_lt, lt-ltb, tests}
+use Rattle.std.proofs.lemmas.Bool.{and_parts, not-true, ltb-true}
+use Rattle.histories.specs.History.{is_raised, one_if, only_if}
+use Rattle.mm_machines.specs.Machines.{Raw, ShowsHead, IsStageRun}
+use Rattle.mm_links.specs.Pipes.{RunsAsPipe, side_of}
+use Rattle.mm_links.specs.Selects.{RunsAsSelect}
+use Rattle.mm_links.specs.Driven.{SelectInputs, PipeInputs, select_above, select_below, select_queue, shuts, pipe_run, pipe_queues, raw_there, waits_there, takes_there, shows_raw, head_of, late_by}
+
+raised_one : (b : Bool) → is_raised (one_if b) ≡ b
+raised_one true = refl
+raised_one false = refl
+
+pub select_runs : (given : SelectInputs) → RunsAsSelect given.room (select_above given) (select_below given) (select_queue given)
+select_runs given = record {
+  levels = λ c. refl;
+  more = λ c. refl;
+  tag = λ c. refl;
+  waitrequest = λ c. raised_one (shuts given (select_queue given c) c || is_raised (given.inputs.waitrequest c));
+  begins = refl;
+  next = λ c. refl;
+  valid = λ c. refl;
+  word = λ c. refl;
+  code = λ c. refl;
+}
+
+-- ---- a pipe
+
+abbrev AllShow : List Raw → Type 0
+AllShow [] = Unit {0}
+AllShow (raw ∷ later) = (shows_raw raw ≡ true) × AllShow later
+
+show_later : (b : Bool) (q : List Raw) → AllShow q → AllShow (drop (if b then 1 else 0) q)
+show_later true [] all = tt
+show_later true (raw ∷ later) all = all.1
+show_later false [] all = tt
+show_later false (raw ∷ later) all = all
+
+show_push : (q : List Raw) (b : Bool) (raw : Raw) → AllShow q → (b ≡ true → shows_raw raw ≡ true) → AllShow (q ++ only_if b raw)
+show_push [] true raw all one = (one refl, tt)
+show_push [] false raw all one = tt
+show_push (x ∷ q) b raw all one = (all.0, show_push q b raw all.1 one)
+
+all_show : (given : PipeInputs) (c i : ℕ) → AllShow (pipe_queues given c i)
+all_show given zero i = tt
+all_show given (suc c) i =
+    show_push (drop (if takes_there given (pipe_queues given c) c (suc i) then 1 else 0) (pipe_queues given c i)) (takes_there given (pipe_queues given c) c i) (raw_there given (pipe_queues given c) c i)
+    (show_later (takes_there given (pipe_queues given c) c (suc i)) (pipe_queues given c i) (all_show given c i))
+    (λ t. (and_parts (shows_raw (raw_there given (pipe_queues given c) c i)) (not (is_raised (waits_there given (pipe_queues given c) c i))) t).0)
+
+late_step : (cycles : ℕ) (signal : ℕ → ℕ) (c : ℕ) → late_by (suc cycles) signal (suc c) ≡ late_by cycles signal c
+late_step cycles signal c =
+    let both : nat_lt (suc c) (suc cycles) ≡ nat_lt c cycles = grind (arith, tests) in
+    let place : suc c - suc cycles ≡ c - cycles = omega arith in
+    ap₂ (λ b n. if b then 0 else signal n) both place
+
+late_next : (stages i : ℕ) (signal : ℕ → ℕ) (c : ℕ) → i < stages → late_by (stages - i) signal (suc c) ≡ late_by (stages - suc i) signal c
+late_next stages i signal c h =
+    let one : stages - i ≡ suc (stages - suc i) = omega (arith, h) in
+    ap (λ n. late_by n signal (suc c)) one ∙ late_step (stages - suc i) signal c
+
+late_first : (stages i : ℕ) (signal : ℕ → ℕ) → i < stages → is_raised (late_by (stages - i) signal 0) ≡ false
+late_first stages i signal h =
+    let some : nat_lt 0 (stages - i) ≡ true = lt-ltb 0 (stages - i) (omega (arith, h)) in
+    ap (λ b. is_raised (if b then 0 else signal (0 - (stages - i)))) some
+
+waits_in : (given : PipeInputs) (c i : ℕ) → i < given.stages → waits_there given (pipe_queues given c) c i ≡ one_if (not (nat_lt (length (pipe_queues given c i)) 2))
+waits_in given c i h = ap (λ b. if b then one_if (not (nat_lt (length (pipe_queues given c i)) 2)) else given.inputs.waitrequest c) (lt-ltb i given.stages h)
+
+twice : (b : Bool) → not b ≡ false → b ≡ true
+twice true e = refl
+twice false e = sym e
+
+stage_runs : (given : PipeInputs) (i : ℕ) → i < given.stages → IsStageRun 2 (side_of (pipe_run given) i) (side_of (pipe_run given) (suc i)) (λ c. pipe_queues given c i)
+stage_runs given i h = record {
+  begins = refl;
+  heads = λ c. heads c (pipe_queues given c i) refl (all_show given c i);
+  room = λ c t. (let free = not-true (is_raised (waits_there given (pipe_queues given c) c i)) (and_parts (shows_raw (raw_there given (pipe_queues given c) c i)) (not (is_raised (waits_there given (pipe_queues given c) c i))) t).1 in
+      ltb-true (length (pipe_queues given c i)) 2 (twice (nat_lt (length (pipe_queues given c i)) 2) (sym (raised_one (not (nat_lt (length (pipe_queues given c i)) 2))) ∙ ap is_raised (sym (waits_in given c i h)) ∙ free)));
+  next = λ c. refl;
+  quiet = late_first given.stages i given.inputs.answers.valid h;
+  valid = λ c. late_next given.stages i given.inputs.answers.valid c h;
+  word = λ c. late_next given.stages i given.inputs.answers.word c h;
+  code = λ c. late_next given.stages i given.inputs.answers.code c h;
+}
+  where
+    heads : (c : ℕ) (q : List Raw) → pipe_queues given c i ≡ q → AllShow q → ShowsHead (side_of (pipe_run given) (suc i)) c q
+    heads c [] e all = ap (λ q. shows_raw (head_of q)) e
+    heads c (raw ∷ later) e all = (ap (λ q. shows_raw (head_of q)) e ∙ all.0, ap head_of e)
+
+pub pipe_runs : (given : PipeInputs) → RunsAsPipe given.stages (pipe_run given)
+pipe_runs given = record {
+  stage = λ i h. stage_runs given i h;
+  opens = λ i c h few. ap is_raised (waits_in given c i h) ∙ raised_one (not (nat_lt (length (pipe_queues given c i)) 2)) ∙ ap not (lt-ltb (length (pipe_queues given c i)) 2 few);
+  answer_tag = λ i c h. late_next given.stages i given.answer_tag c h;
+}

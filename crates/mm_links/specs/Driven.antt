@@ -1,0 +1,133 @@
+-- Runs of the machines, for all that is shown to them: the state is told by recursion on the cycle.
+use Rattle.std.specs.Prelude.{ℕ, zero, suc, ◌-◌, ◌/◌, ◌%◌, ◌^◌, ◌&&◌, ◌||◌, Bool, not, List, [], ◌∷◌, ◌++◌, length, drop, if◌then◌else◌, nat_lt}
+use Rattle.histories.specs.History.{is_raised, one_if, only_if}
+use Rattle.mm_runs.specs.Views.{Shape, Signals, Levels, levels_at}
+use Rattle.mm_runs.specs.Commands.{shows}
+use Rattle.mm_machines.specs.Paths.{CommandView, AnswerView}
+use Rattle.mm_machines.specs.Link.{Port}
+use Rattle.mm_machines.specs.Machines.{Raw}
+use Rattle.mm_links.specs.Pipes.{PipeSides}
+use Rattle.mm_links.specs.Selects.{offset_in, selected, silenced, first_of}
+
+-- what is shown to a link: commands from above, wait and answers from below
+pub record Inputs : Type 0 where
+  pub signals : Signals
+  pub more : ℕ → ℕ
+  pub tag : ℕ → ℕ
+  pub waitrequest : ℕ → ℕ
+  pub answers : AnswerView
+
+-- ---- a lane selector
+
+pub record SelectInputs : Type 0 where
+  pub narrow : Shape
+  pub wide : Shape
+  pub room : ℕ
+  pub inputs : Inputs
+
+-- with these reads under way
+abbrev pub shuts : SelectInputs → List ℕ → ℕ → Bool
+shuts given queue c = not (is_raised (given.inputs.signals.write c)) && not (nat_lt (length queue) given.room)
+
+abbrev pub select_waits : SelectInputs → List ℕ → ℕ → ℕ
+select_waits given queue c = one_if (shuts given queue c || is_raised (given.inputs.waitrequest c))
+
+abbrev pub select_queue : SelectInputs → ℕ → List ℕ
+select_queue given zero = []
+select_queue given (suc c) =
+    drop (if is_raised (given.inputs.answers.valid c) then 1 else 0) (select_queue given c)
+    ++ only_if ((shows given.inputs.signals c && not (is_raised (select_waits given (select_queue given c) c))) && not (is_raised (given.inputs.signals.write c)))
+    (offset_in given.narrow given.wide (given.inputs.signals.address c))
+
+abbrev pub select_above : SelectInputs → Port
+select_above given = record {
+  shape = given.narrow;
+  commands = record { signals = given.inputs.signals; more = given.inputs.more; tag = given.inputs.tag; waitrequest = λ c. select_waits given (select_queue given c) c };
+  answers = record {
+    valid = given.inputs.answers.valid;
+    word = λ c. (given.inputs.answers.word c / 256 ^ first_of (select_queue given c)) % 256 ^ given.narrow.word_bytes;
+    code = given.inputs.answers.code;
+  };
+}
+
+abbrev pub select_levels : SelectInputs → ℕ → Levels
+select_levels given c = silenced (shuts given (select_queue given c) c) (selected given.narrow given.wide (levels_at given.inputs.signals c))
+
+abbrev pub signals_of : (ℕ → Levels) → Signals
+signals_of levels = record {
+  read = λ c. (levels c).read;
+  write = λ c. (levels c).write;
+  address = λ c. (levels c).address;
+  word = λ c. (levels c).word;
+  enables = λ c. (levels c).enables;
+  count = λ c. (levels c).count;
+}
+
+abbrev pub select_below : SelectInputs → Port
+select_below given = record {
+  shape = given.wide;
+  commands = record { signals = signals_of (select_levels given); more = given.inputs.more; tag = given.inputs.tag; waitrequest = given.inputs.waitrequest };
+  answers = given.inputs.answers;
+}
+
+-- ---- a pipe
+
+pub record PipeInputs : Type 0 where
+  pub stages : ℕ
+  pub shape : Shape
+  pub inputs : Inputs
+  pub answer_tag : ℕ → ℕ  -- below
+
+-- what a side shows above an empty stage
+abbrev pub silent_raw : Raw
+silent_raw = record { levels = record { read = 0; write = 0; address = 0; word = 0; enables = 0; count = 0 }; more = 0; tag = 0 }
+
+abbrev pub head_of : List Raw → Raw
+head_of [] = silent_raw
+head_of (raw ∷ later) = raw
+
+-- what side `i` shows in a cycle, where the queues are these
+abbrev pub raw_there : PipeInputs → (ℕ → List Raw) → ℕ → ℕ → Raw
+raw_there given queues c zero = record { levels = levels_at given.inputs.signals c; more = given.inputs.more c; tag = given.inputs.tag c }
+raw_there given queues c (suc i) = head_of (queues i)
+
+abbrev pub waits_there : PipeInputs → (ℕ → List Raw) → ℕ → ℕ → ℕ
+waits_there given queues c i = if nat_lt i given.stages then one_if (not (nat_lt (length (queues i)) 2)) else given.inputs.waitrequest c
+
+abbrev pub shows_raw : Raw → Bool
+shows_raw raw = is_raised raw.levels.read || is_raised raw.levels.write
+
+abbrev pub takes_there : PipeInputs → (ℕ → List Raw) → ℕ → ℕ → Bool
+takes_there given queues c i = shows_raw (raw_there given queues c i) && not (is_raised (waits_there given queues c i))
+
+-- the queues of all stages, as a cycle begins
+abbrev pub pipe_queues : PipeInputs → ℕ → ℕ → List Raw
+pipe_queues given zero i = []
+pipe_queues given (suc c) i =
+    drop (if takes_there given (pipe_queues given c) c (suc i) then 1 else 0) (pipe_queues given c i)
+    ++ only_if (takes_there given (pipe_queues given c) c i) (raw_there given (pipe_queues given c) c i)
+
+abbrev pub pipe_commands : PipeInputs → ℕ → CommandView
+pipe_commands given i = record {
+  signals = signals_of (λ c. (raw_there given (pipe_queues given c) c i).levels);
+  more = λ c. (raw_there given (pipe_queues given c) c i).more;
+  tag = λ c. (raw_there given (pipe_queues given c) c i).tag;
+  waitrequest = λ c. waits_there given (pipe_queues given c) c i;
+}
+
+-- so many cycles late
+abbrev pub late_by : ℕ → (ℕ → ℕ) → ℕ → ℕ
+late_by cycles signal c = if nat_lt c cycles then 0 else signal (c - cycles)
+
+abbrev pub pipe_run : PipeInputs → PipeSides
+pipe_run given = record {
+  shape = given.shape;
+  commands = pipe_commands given;
+  answers = λ i. record {
+    valid = late_by (given.stages - i) given.inputs.answers.valid;
+    word = late_by (given.stages - i) given.inputs.answers.word;
+    code = late_by (given.stages - i) given.inputs.answers.code;
+  };
+  answer_tag = λ i. late_by (given.stages - i) given.answer_tag;
+  queue = λ i c. pipe_queues given c i;
+}
