@@ -34,7 +34,7 @@ unfolding bare_len
 ends_at at [] h = refl
 ends_at at (byte ∷ rest) h = ap (λ (t : Bool). cond t (Ok at) (cond (substitutes byte) (flaw at Substitution) (cond (byte == backslash) (flaw at Backslash) (bare_len (at + 1) rest)))) h
 
-bare_step : (at : ℕ) (byte : ℕ) (rest : List ℕ) → BareTests byte → bare_len at (byte ∷ rest) ≡ bare_len (at + 1) rest
+pub bare_step : (at : ℕ) (byte : ℕ) (rest : List ℕ) → BareTests byte → bare_len at (byte ∷ rest) ≡ bare_len (at + 1) rest
 unfolding bare_len
 bare_step at byte rest t =
     ap (λ (u : Bool). cond u (Ok at) (cond (substitutes byte) (flaw at Substitution) (cond (byte == backslash) (flaw at Backslash) (bare_len (at + 1) rest)))) (goes_on byte rest t)

@@ -35,7 +35,7 @@ one_ascii : (byte : ℕ) → byte < 128 → (i : ℕ) → get_or (byte ∷ []) i
 one_ascii byte ascii zero = ascii
 one_ascii byte ascii (suc i) = omega arith
 
-utf8_one : (byte : ℕ) → byte < 128 → IsUtf8 (byte ∷ [])
+pub utf8_one : (byte : ℕ) → byte < 128 → IsUtf8 (byte ∷ [])
 utf8_one byte ascii = IsUtf8-from_ascii (byte ∷ []) (one_ascii byte ascii)
 
 -- ---- bytes that are ASCII

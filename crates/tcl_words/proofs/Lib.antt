@@ -6,8 +6,12 @@ pub mod BareWords
 pub mod Comments
 pub mod PieceLemmas
 pub mod PieceAgain
+pub mod Flaws
+pub mod PieceFlaws
 pub mod Scripts
 pub mod ScriptLaws
 pub mod Encoding
+pub mod FirstFaults
+pub mod EncodingFlaws
 pub mod Steps
 pub mod Reader

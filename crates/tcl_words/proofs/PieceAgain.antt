@@ -51,16 +51,22 @@ bare_chain : {X : Type 0} (blank ends escapes comments opens quotes : Bool) (a b
     → cond blank a (cond ends b (cond escapes c (cond comments d (cond opens e (cond quotes f g))))) ≡ g
 bare_chain blank ends escapes comments opens quotes a b c d e f g h0 h1 h2 h3 h4 h5 = rw (h0, h1, h2, h3, h4, h5) refl
 
-bare_again : (fresh : Bool) (byte : ℕ) (bytes rest : List ℕ) → begins_bare fresh byte ≡ true → list_all is_bare (byte ∷ bytes) ≡ true → ends_word rest ≡ true
-    → piece_of fresh (byte ∷ (bytes ++ rest)) ≡ found (Says (byte ∷ bytes)) (length (byte ∷ bytes))
+-- a byte that a bare word may begin with begins one
+pub bare_begins : (fresh : Bool) (byte : ℕ) (rest : List ℕ) → begins_bare fresh byte ≡ true → is_bare byte ≡ true
+    → piece_of fresh (byte ∷ rest) ≡ (bare_len 0 (byte ∷ rest) >>= λ len. found (Says (take len (byte ∷ rest))) len)
 unfolding piece_of
-bare_again fresh byte bytes rest begins bare ends =
-    let t = bare_tests byte (and_parts (is_bare byte) (list_all is_bare bytes) bare).0 in
+bare_begins fresh byte rest begins bare =
+    let t = bare_tests byte bare in
     let a = or_parts (byte == open_brace) (byte == quote || (byte == hash && fresh)) (not-true _ begins) in
     let b = or_parts (byte == quote) (byte == hash && fresh) a.1 in
+    bare_chain (is_blank byte) (is_separator byte) (byte == backslash) (byte == hash && fresh) (byte == open_brace) (byte == quote) _ _ _ _ _ _ _ t.blank t.separator t.backslash b.1 a.0 b.0
+
+bare_again : (fresh : Bool) (byte : ℕ) (bytes rest : List ℕ) → begins_bare fresh byte ≡ true → list_all is_bare (byte ∷ bytes) ≡ true → ends_word rest ≡ true
+    → piece_of fresh (byte ∷ (bytes ++ rest)) ≡ found (Says (byte ∷ bytes)) (length (byte ∷ bytes))
+bare_again fresh byte bytes rest begins bare ends =
     let read : bare_len 0 (byte ∷ (bytes ++ rest)) ≡ Ok (0 + length (byte ∷ bytes)) = bare-again 0 (byte ∷ bytes) rest bare ends in
     let size : 0 + length (byte ∷ bytes) ≡ length (byte ∷ bytes) = omega arith in
-    bare_chain (is_blank byte) (is_separator byte) (byte == backslash) (byte == hash && fresh) (byte == open_brace) (byte == quote) _ _ _ _ _ _ _ t.blank t.separator t.backslash b.1 a.0 b.0
+    bare_begins fresh byte (bytes ++ rest) begins (and_parts (is_bare byte) (list_all is_bare bytes) bare).0
     ∙ ap (λ (r : Result ℕ Flaw). r >>= λ len. found (Says (take len (byte ∷ (bytes ++ rest)))) len) (read ∙ ap (λ (n : ℕ). Ok n) size)
     ∙ ap (λ (t : List ℕ). found (Says t) (length (byte ∷ bytes))) (take_at (byte ∷ bytes) rest (length (byte ∷ bytes)) refl)
 

@@ -4,10 +4,10 @@ use Rattle.std.specs.Prelude.{Result, Ok}
 use Rattle.std.proofs.lemmas.Bool.{eqb-true, or_parts, or_from, not-true, not_from_false}
 use Rattle.std.proofs.lemmas.List.{length-append, length-take-le, append-nil, drop_at, take-append-drop}
 use Rattle.tcl_words.specs.declared.rule.Rule.TheVariants.{Substitution, Backslash}
-use Rattle.tcl_words.specs.Bytes.{space, backslash, quote, is_space_or_tab, substitutes, begins_with, begins_with_line_end, kept}
+use Rattle.tcl_words.specs.Bytes.{space, backslash, quote, is_space_or_tab, substitutes, begins_with, begins_with_line_feed, begins_with_line_end, kept}
 use Rattle.tcl_words.specs.Reading.{Flaw, Found, found, flaw, join_tail, quoted}
 use Rattle.tcl_words.specs.Spelling.{IsJoin, InQuotes, is_plain_in_quotes}
-use Rattle.tcl_words.proofs.Runs.{chosen, begins_with-append, kept-append, join_is, join_tail-le, join_reads, join_before}
+use Rattle.tcl_words.proofs.Runs.{chosen, begins_with-before, begins_with-append, kept-before, kept-append, join_is, join_tail-le, join_reads, join_before}
 
 -- bytes that are passed over
 pub quoted-skip : (skip at : ℕ) (text bytes : List ℕ) → quoted skip at text bytes ≡ quoted 0 (at + skip) text (drop skip bytes)
@@ -51,32 +51,32 @@ module _ (at : ℕ) (before : List ℕ) where
       ∙ ap (λ (bytes : List ℕ). quoted 0 (at + 1 + length r.tail) (before ++ space ∷ []) bytes) (drop_at r.tail rest (length r.tail) refl)
       ∙ ap (λ (n : ℕ). quoted 0 n (before ++ space ∷ []) rest) sum
 
-pub quoted-inside : {bytes text : List ℕ} → InQuotes bytes text → (at : ℕ) (before after : List ℕ)
-    → quoted 0 at before (bytes ++ quote ∷ after) ≡ quoted 0 (at + length bytes) (before ++ text) (quote ∷ after)
-quoted-inside InQuotes.nothing at before after =
+pub quoted-inside : {bytes text : List ℕ} → InQuotes bytes text → (at : ℕ) (before rest : List ℕ) → begins_with_line_feed rest ≡ false → begins_with is_space_or_tab rest ≡ false
+    → quoted 0 at before (bytes ++ rest) ≡ quoted 0 (at + length bytes) (before ++ text) rest
+quoted-inside InQuotes.nothing at before rest feeds blanks =
     let none : at + 0 ≡ at = omega arith in
     rw (none, append-nil before) refl
-quoted-inside (InQuotes.plain {bytes} {text} byte h inside) at before after =
+quoted-inside (InQuotes.plain {bytes} {text} byte h inside) at before rest feeds blanks =
     let sum : at + 1 + length bytes ≡ at + suc (length bytes) = omega arith in
-    quoted-plain at before byte (bytes ++ quote ∷ after) h
-    ∙ ap (λ (k : List ℕ). quoted 0 (at + 1) (before ++ k) (bytes ++ quote ∷ after)) (kept-append byte bytes quote after refl)
-    ∙ quoted-inside inside (at + 1) (before ++ kept byte bytes) after
-    ∙ ap (λ (n : ℕ). quoted 0 n (before ++ kept byte bytes ++ text) (quote ∷ after)) sum
-    ∙ ap (λ (t : List ℕ). quoted 0 (at + suc (length bytes)) t (quote ∷ after)) (append_assoc before (kept byte bytes) text)
-quoted-inside (InQuotes.joined {bytes} {text} join is inside) at before after =
+    quoted-plain at before byte (bytes ++ rest) h
+    ∙ ap (λ (k : List ℕ). quoted 0 (at + 1) (before ++ k) (bytes ++ rest)) (kept-before byte bytes rest feeds)
+    ∙ quoted-inside inside (at + 1) (before ++ kept byte bytes) rest feeds blanks
+    ∙ ap (λ (n : ℕ). quoted 0 n (before ++ kept byte bytes ++ text) rest) sum
+    ∙ ap (λ (t : List ℕ). quoted 0 (at + suc (length bytes)) t rest) (append_assoc before (kept byte bytes) text)
+quoted-inside (InQuotes.joined {bytes} {text} join is inside) at before rest feeds blanks =
     let sum : at + length join + length bytes ≡ at + length (join ++ bytes) = omega (arith, length-append join bytes) in
-    let stops : begins_with is_space_or_tab (bytes ++ quote ∷ after) ≡ false = begins_with-append is_space_or_tab bytes quote after refl ∙ is.are_all in
-    ap (quoted 0 at before) (append_assoc join bytes (quote ∷ after))
-    ∙ quoted-join at before (join_before (bytes ++ quote ∷ after) stops is)
-    ∙ quoted-inside inside (at + length join) (before ++ space ∷ []) after
-    ∙ ap (λ (n : ℕ). quoted 0 n ((before ++ space ∷ []) ++ text) (quote ∷ after)) sum
-    ∙ ap (λ (t : List ℕ). quoted 0 (at + length (join ++ bytes)) t (quote ∷ after)) (append_assoc before (space ∷ []) text)
+    let stops : begins_with is_space_or_tab (bytes ++ rest) ≡ false = begins_with-before is_space_or_tab bytes rest blanks ∙ is.are_all in
+    ap (quoted 0 at before) (append_assoc join bytes rest)
+    ∙ quoted-join at before (join_before (bytes ++ rest) stops is)
+    ∙ quoted-inside inside (at + length join) (before ++ space ∷ []) rest feeds blanks
+    ∙ ap (λ (n : ℕ). quoted 0 n ((before ++ space ∷ []) ++ text) rest) sum
+    ∙ ap (λ (t : List ℕ). quoted 0 (at + length (join ++ bytes)) t rest) (append_assoc before (space ∷ []) text)
 
 -- a word in quotes is read
 pub quoted-again : {bytes text : List ℕ} → InQuotes bytes text → (after : List ℕ) → quoted 0 1 [] (bytes ++ quote ∷ after) ≡ found text (length bytes + 2)
 quoted-again {bytes} {text} inside after =
     let sum : 1 + length bytes + 1 ≡ length bytes + 2 = omega arith in
-    quoted-inside inside 1 [] after ∙ quoted-end (1 + length bytes) text after ∙ ap (found text) sum
+    quoted-inside inside 1 [] (quote ∷ after) refl refl ∙ quoted-end (1 + length bytes) text after ∙ ap (found text) sum
 
 -- ---- what is read is between quotes
 
@@ -137,7 +137,7 @@ closes_join at before rest group h c =
       len = omega (arith, c.len, length-append (take n rest) c.inner, within);
     }
 
-plain_from : (byte : ℕ) → (byte == quote) ≡ false → substitutes byte ≡ false → (byte == backslash) ≡ false → is_plain_in_quotes byte ≡ true
+pub plain_from : (byte : ℕ) → (byte == quote) ≡ false → substitutes byte ≡ false → (byte == backslash) ≡ false → is_plain_in_quotes byte ≡ true
 plain_from byte a b c = not_from_false (byte == quote || (substitutes byte || byte == backslash)) (or_from _ _ a (or_from _ _ b c))
 
 -- what reading goes on with, behind one byte

@@ -3,7 +3,7 @@ use Rattle.std.proofs.Common.{◌≡◌, ℕ, suc, ◌+◌, ◌≤◌, Bool, tru
 use Rattle.std.specs.List.{list_all, prefix_len}
 use Rattle.std.proofs.lemmas.Bool.{eqb-true, and_parts, true≢false}
 use Rattle.std.proofs.lemmas.List.Sums.{prefix_len-le-length}
-use Rattle.tcl_words.specs.Bytes.{line_feed, carriage_return, backslash, is_space_or_tab, begins_with, begins_with_line_end, kept}
+use Rattle.tcl_words.specs.Bytes.{line_feed, carriage_return, backslash, is_space_or_tab, begins_with, begins_with_line_feed, begins_with_line_end, kept}
 use Rattle.tcl_words.specs.Reading.{join_tail}
 use Rattle.tcl_words.specs.Spelling.{IsJoin, IsLineEnd}
 
@@ -48,14 +48,20 @@ run_is p (x ∷ xs) rest h e =
     let parts = and_parts (p x) (list_all p xs) h in
     rw parts.0 (one-plus (prefix_len p (xs ++ rest)) ∙ ap suc (run_is p xs rest parts.1 e))
 
--- ---- what a text begins with, seen behind a byte that doesn't count
+-- ---- what a text begins with, seen behind bytes that don't count
+
+pub begins_with-before : (p : ℕ → Bool) (xs ys : List ℕ) → begins_with p ys ≡ false → begins_with p (xs ++ ys) ≡ begins_with p xs
+begins_with-before p [] ys e = e
+begins_with-before p (y ∷ xs) ys e = refl
 
 pub begins_with-append : (p : ℕ → Bool) (xs : List ℕ) (x : ℕ) (ys : List ℕ) → p x ≡ false → begins_with p (xs ++ x ∷ ys) ≡ begins_with p xs
-begins_with-append p [] x ys e = e
-begins_with-append p (y ∷ xs) x ys e = refl
+begins_with-append p xs x ys e = begins_with-before p xs (x ∷ ys) e
+
+pub kept-before : (byte : ℕ) (xs ys : List ℕ) → begins_with_line_feed ys ≡ false → kept byte (xs ++ ys) ≡ kept byte xs
+kept-before byte xs ys e = ap (λ (t : Bool). cond (byte == carriage_return && t) [] (byte ∷ [])) (begins_with-before (λ b. b == line_feed) xs ys e)
 
 pub kept-append : (byte : ℕ) (xs : List ℕ) (x : ℕ) (ys : List ℕ) → (x == line_feed) ≡ false → kept byte (xs ++ x ∷ ys) ≡ kept byte xs
-kept-append byte xs x ys e = ap (λ (t : Bool). cond (byte == carriage_return && t) [] (byte ∷ [])) (begins_with-append (λ b. b == line_feed) xs x ys e)
+kept-append byte xs x ys e = kept-before byte xs (x ∷ ys) e
 
 pub begins_with_line_end-append : (byte : ℕ) (xs : List ℕ) (x : ℕ) (ys : List ℕ) → (x == line_feed) ≡ false → begins_with_line_end (byte ∷ (xs ++ x ∷ ys)) ≡ begins_with_line_end (byte ∷ xs)
 begins_with_line_end-append byte xs x ys e = rw (begins_with-append (λ b. b == line_feed) xs x ys e) refl

@@ -42,7 +42,7 @@ utf8_from_valid : (bytes : List ℕ) → length bytes ≤ utf8_valid_len bytes �
 unfolding utf8_valid_len
 utf8_from_valid bytes h = let up = valid_within bytes (length bytes) in whole bytes (length bytes) refl (omega arith)
 
-abbrev is_zero : ℕ → Bool
+abbrev pub is_zero : ℕ → Bool
 is_zero byte = byte == 0
 
 no_zero_from : (bytes : List ℕ) → length bytes ≤ position_or_len is_zero bytes → Contains bytes 0 → ⊥
@@ -56,7 +56,7 @@ pub record IsEncoded (bytes : List ℕ) : Type 0 where
   pub utf8 : IsUtf8 bytes
   pub no_zero : ¬ Contains bytes 0
 
-abbrev flawed : ℕ → ℕ → ℕ → Option Flaw
+abbrev pub flawed : ℕ → ℕ → ℕ → Option Flaw
 flawed zero_at valid len = cond (ltb zero_at valid) (Some (record { at = zero_at; rule = ZeroByte })) (cond (ltb valid len) (Some (record { at = valid; rule = NotUtf8 })) None)
 
 not_flawed : (zero_at valid len : ℕ) → flawed zero_at valid len ≡ None → (valid ≤ zero_at) × (len ≤ valid)

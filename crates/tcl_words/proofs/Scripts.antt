@@ -72,7 +72,7 @@ commands_step file front lines words byte others after piece e =
 
 -- ---- what is spelled so is read
 
-read_piece : (file : ℕ) (front : List ℕ) (lines : List (List Word)) (words : List Word) (fresh : Bool) (piece : Piece) (text after : List ℕ) → fresh ≡ not (has_word words) → IsPiece fresh piece text after → Begins text
+pub read_piece : (file : ℕ) (front : List ℕ) (lines : List (List Word)) (words : List Word) (fresh : Bool) (piece : Piece) (text after : List ℕ) → fresh ≡ not (has_word words) → IsPiece fresh piece text after → Begins text
     → commands_from file 0 front lines words (text ++ after) ≡ commands_from file 0 (front ++ text) (lines_after piece lines words) (words_after piece (place_after file front) words) after
 read_piece file front lines words fresh piece text after e is b =
     let read : piece_of (not (has_word words)) (b.byte ∷ (b.others ++ after)) ≡ found piece (length (b.byte ∷ b.others)) =
@@ -106,18 +106,18 @@ read_as commands = Ok commands
 commands_are : (x y : List (List Word)) → read_as x ≡ Ok y → x ≡ y
 commands_are x y e = cc
 
-in_file_ok : (file : ℕ) (front bytes : List ℕ) (r : Result (Found Piece) Flaw) (piece : Found Piece) → in_file file front bytes r ≡ Ok piece → r ≡ Ok piece
+pub in_file_ok : (file : ℕ) (front bytes : List ℕ) (r : Result (Found Piece) Flaw) (piece : Found Piece) → in_file file front bytes r ≡ Ok piece → r ≡ Ok piece
 in_file_ok file front bytes (Ok x) piece e = let same : x ≡ piece = cc in ap (λ (p : Found Piece). Ok p) same
 in_file_ok file front bytes (Err flaw) piece e = absurd cc
 
 -- what follows the first byte of a piece
-record Splits (byte : ℕ) (rest text after : List ℕ) (len : ℕ) : Type 0 where
-  others : List ℕ
-  is : text ≡ byte ∷ others
-  taken : take (len - 1) rest ≡ others
-  left : drop (len - 1) rest ≡ after
+pub record Splits (byte : ℕ) (rest text after : List ℕ) (len : ℕ) : Type 0 where
+  pub others : List ℕ
+  pub is : text ≡ byte ∷ others
+  pub taken : take (len - 1) rest ≡ others
+  pub left : drop (len - 1) rest ≡ after
 
-splits : (byte : ℕ) (rest text after : List ℕ) (len : ℕ) → byte ∷ rest ≡ text ++ after → len ≡ length text → 0 < len → Splits byte rest text after len
+pub splits : (byte : ℕ) (rest text after : List ℕ) (len : ℕ) → byte ∷ rest ≡ text ++ after → len ≡ length text → 0 < len → Splits byte rest text after len
 splits byte rest [] after len parts size some = absurd (omega (arith, size))
 splits byte rest (first ∷ others) after len parts size some =
     let first_is : byte ≡ first = cc in

@@ -1,4 +1,5 @@
 pub mod Bytes
+pub mod FirstFault
 pub mod Reading
 pub mod Rules
 pub mod Script
