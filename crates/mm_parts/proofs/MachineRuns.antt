@@ -13,49 +13,50 @@ use Rattle.mm_machines.specs.Machines.{raw_at, mark}
 use Rattle.mm_machines.specs.Turns.{Grant, chosen, open_after, ends_at}
 use Rattle.mm_parts.specs.Queue.{by_option}
 use Rattle.mm_parts.specs.Host.{IsHostMachine}
-use Rattle.mm_parts.specs.HostRun.{HostInputs, host_registers, host_state, host_view, host_lower, host_waits}
+use Rattle.mm_parts.specs.HostRun.{HostInputs, HostRegisters, host_at_rest, host_step, host_state, host_view, host_lower, host_waits}
 use Rattle.mm_parts.specs.Route.{RouteState, IsRouteMachine}
-use Rattle.mm_parts.specs.RouteRun.{RouteInputs, route_registers, route_state, route_upper, route_lower}
+use Rattle.mm_parts.specs.RouteRun.{RouteInputs, RouteRegisters, route_at_rest, route_step, route_state, route_upper, route_lower}
 use Rattle.mm_parts.specs.Arbiter.{IsArbiterMachine}
-use Rattle.mm_parts.specs.ArbiterRun.{ArbiterInputs, arbiter_registers, arbiter_grant, arbiter_upper, arbiter_lower, asks_now}
+use Rattle.mm_parts.specs.ArbiterRun.{ArbiterInputs, ArbiterRegisters, arbiter_at_rest, arbiter_step, arbiter_upper, arbiter_lower, asks_now}
 use Rattle.mm_parts.specs.Agent.{AgentState, ShowsToAgent, GivesQueued, GivesFixed, IsAgentMachine, code_by}
-use Rattle.mm_parts.specs.AgentRun.{AgentInputs, SuitsAgent, agent_registers, agent_state, agent_view, agent_upper, timed}
+use Rattle.mm_parts.specs.AgentRun.{AgentInputs, SuitsAgent, AgentRegisters, agent_at_rest, agent_step, agent_state, agent_view, agent_upper, timed}
 use Rattle.mm_parts.proofs.AgentShown.{aligned_rest}
 
 pub raised : (b : Bool) → is_raised (one_if b) ≡ b
 raised true = refl
 raised false = refl
 
-pub host_runs : (responses : Responses) (side : HostSide) (inputs : HostInputs) (end : ℕ) →
-    IsHostMachine responses side (host_view responses side inputs (host_state (host_registers responses side inputs)))
-    (host_lower side inputs (host_view responses side inputs (host_state (host_registers responses side inputs))) (host_state (host_registers responses side inputs)))
-    (host_state (host_registers responses side inputs)) end
-host_runs responses side inputs end = record {
-  words = refl;
-  units = refl;
-  bursts = refl;
-  read = λ c low. refl;
-  write = λ c low. refl;
-  address = λ c low. refl;
-  word = λ c low. refl;
-  enables = λ c low. refl;
-  count = λ c low. refl;
-  more = λ c low. refl;
-  tag = λ c low. refl;
-  wait = λ c low. raised (host_waits side inputs (host_state (host_registers responses side inputs)) c);
-  starts = refl;
-  lasts = λ c low. refl;
-  quiet = refl;
-  asks = λ c low has. refl;
-  queues = λ has. record { begins = refl; next = λ c low. refl };
-  valid = λ c low has. ap (λ b. is_raised (if b then inputs.answers.valid c else 0)) has;
-  answer = λ c low. refl;
-  response = λ c low. refl;
-}
+-- registers that begin at rest, and step by step go on as the machine's
+module _ (responses : Responses) (side : HostSide) (inputs : HostInputs) (end : ℕ) (registers : ℕ → HostRegisters)
+    (first : registers 0 ≡ host_at_rest) (next : (c : ℕ) → registers (suc c) ≡ host_step responses side inputs (registers c) c) where
+  pub host_runs : IsHostMachine responses side (host_view responses side inputs (host_state registers)) (host_lower side inputs (host_view responses side inputs (host_state registers)) (host_state registers)) (host_state registers) end
+  host_runs = record {
+    words = refl;
+    units = refl;
+    bursts = refl;
+    read = λ c low. refl;
+    write = λ c low. refl;
+    address = λ c low. refl;
+    word = λ c low. refl;
+    enables = λ c low. refl;
+    count = λ c low. refl;
+    more = λ c low. refl;
+    tag = λ c low. refl;
+    wait = λ c low. raised (host_waits side inputs (host_state registers) c);
+    starts = ap (λ (r : HostRegisters). r.left) first;
+    lasts = λ c low. ap (λ (r : HostRegisters). r.left) (next c);
+    quiet = ap (λ (r : HostRegisters). r.asked) first;
+    asks = λ c low has. ap (λ (r : HostRegisters). r.asked) (next c);
+    queues = λ has. record { begins = ap (λ (r : HostRegisters). r.queue) first; next = λ c low. ap (λ (r : HostRegisters). r.queue) (next c) };
+    valid = λ c low has. ap (λ b. is_raised (if b then inputs.answers.valid c else 0)) has;
+    answer = λ c low. refl;
+    response = λ c low. refl;
+  }
 
-module _ (responses : Responses) (system : System) (host room : ℕ) (inputs : RouteInputs) (end : ℕ) where
+module _ (responses : Responses) (system : System) (host room : ℕ) (inputs : RouteInputs) (end : ℕ) (registers : ℕ → RouteRegisters)
+    (first : registers 0 ≡ route_at_rest) (next : (c : ℕ) → registers (suc c) ≡ route_step responses system host inputs (registers c) c) where
   abbrev state : RouteState
-  state = route_state (route_registers responses system host inputs)
+  state = route_state registers
 
   owed_next : (x y : ℕ) → y ≤ x → (x - y) + y ≡ x
   owed_next x y low = omega (arith, low)
@@ -72,21 +73,22 @@ module _ (responses : Responses) (system : System) (host room : ℕ) (inputs : R
     more = λ a c there low. refl;
     tag = λ a c there low. refl;
     wait = λ c low. raised _;
-    outside = refl;
-    stays = λ c low. refl;
-    keeps = λ c low. refl;
-    nothing = refl;
-    nobody = refl;
-    counts = λ c low few some. owed_next _ _ some;
-    owes = λ c low. refl;
+    outside = ap (λ (r : RouteRegisters). r.inside) first;
+    stays = λ c low. ap (λ (r : RouteRegisters). r.inside) (next c);
+    keeps = λ c low. ap (λ (r : RouteRegisters). r.kept) (next c);
+    nothing = ap (λ (r : RouteRegisters). r.owed) first;
+    nobody = ap (λ (r : RouteRegisters). r.owing) first;
+    counts = λ c low few some. ap (λ (r : RouteRegisters). r.owed + one_if (is_raised ((route_upper responses system host inputs state).answers.valid c))) (next c) ∙ owed_next _ _ some;
+    owes = λ c low. ap (λ (r : RouteRegisters). r.owing) (next c);
     valid = λ c low. raised _;
     answer = λ c low. refl;
     code = λ c low. refl;
   }
 
-module _ (seats : List Seat) (hosts : ℕ) (inputs : ArbiterInputs) (end : ℕ) where
+module _ (seats : List Seat) (hosts : ℕ) (inputs : ArbiterInputs) (end : ℕ) (registers : ℕ → ArbiterRegisters)
+    (first : registers 0 ≡ arbiter_at_rest seats) (next : (c : ℕ) → registers (suc c) ≡ arbiter_step inputs (registers c) c) where
   abbrev grant : ℕ → Grant
-  grant = arbiter_grant seats inputs
+  grant c = (registers c).grant
 
   abbrev above : ℕ → Port
   above = arbiter_upper inputs grant
@@ -95,11 +97,11 @@ module _ (seats : List Seat) (hosts : ℕ) (inputs : ArbiterInputs) (end : ℕ) 
   below = (arbiter_lower inputs grant).port
 
   -- the bursts of the askers stand where the registers tell
-  bursts_are : (h c : ℕ) → burst_before (above h).shape (above h).commands.signals (takes (above h)) c ≡ (arbiter_registers seats inputs c).bursts h
-  bursts_are h zero = refl
-  bursts_are h (suc c) = ap (burst_after inputs.shape (levels_at (inputs.asker h).signals c) (takes (above h) c)) (bursts_are h c)
+  bursts_are : (h c : ℕ) → burst_before (above h).shape (above h).commands.signals (takes (above h)) c ≡ (registers c).bursts h
+  bursts_are h zero = sym (ap (λ (r : ArbiterRegisters). r.bursts h) first)
+  bursts_are h (suc c) = ap (burst_after inputs.shape (levels_at (inputs.asker h).signals c) (takes (above h) c)) (bursts_are h c) ∙ sym (ap (λ (r : ArbiterRegisters). r.bursts h) (next c))
 
-  ends_same : (c h : ℕ) → takes below c && closes (mark inputs.shape ((arbiter_registers seats inputs c).bursts h) (raw_at (above h) c)) ≡ ends_at above below c h
+  ends_same : (c h : ℕ) → takes below c && closes (mark inputs.shape ((registers c).bursts h) (raw_at (above h) c)) ≡ ends_at above below c h
   ends_same c h = ap (λ b. takes below c && closes (mark inputs.shape b (raw_at (above h) c))) (sym (bursts_are h c))
 
   open_same : (open_host choice : Option ℕ) (one other : ℕ → Bool) → ((h : ℕ) → one h ≡ other h) → open_after open_host choice one ≡ open_after open_host choice other
@@ -125,8 +127,8 @@ module _ (seats : List Seat) (hosts : ℕ) (inputs : ArbiterInputs) (end : ℕ) 
   pub arbiter_runs : IsArbiterMachine seats hosts above (arbiter_lower inputs grant) grant end
   arbiter_runs = record {
     shapes = λ h there. refl;
-    begins = refl;
-    next = λ c low. ap (λ o. record { open_host = o; round = (chosen (grant c) (asks_now inputs c)).round }) (open_same (grant c).open_host (chosen (grant c) (asks_now inputs c)).host _ _ (ends_same c));
+    begins = ap (λ (r : ArbiterRegisters). r.grant) first;
+    next = λ c low. ap (λ (r : ArbiterRegisters). r.grant) (next c) ∙ ap (λ o. record { open_host = o; round = (chosen (grant c) (asks_now inputs c)).round }) (open_same (grant c).open_host (chosen (grant c) (asks_now inputs c)).host _ _ (ends_same c));
     shown = λ c low. shows_choice c (chosen (grant c) (asks_now inputs c)).host refl;
     wait = λ h c there low. raised _;
     valid = λ h c there low. raised _;
@@ -150,15 +152,16 @@ shut : {A : Type 0} (b : Bool) (x y : A) → b ≡ false → (if b then x else y
 shut false x y e = refl
 shut true x y e = cc
 
-module _ (responses : Responses) (side : AgentSide) (inputs : AgentInputs) (end : ℕ) (suits : SuitsAgent side inputs.shape) where
-  abbrev registers : AgentState
-  registers = agent_state (agent_registers responses side inputs)
+module _ (responses : Responses) (side : AgentSide) (inputs : AgentInputs) (end : ℕ) (suits : SuitsAgent side inputs.shape) (registers : ℕ → AgentRegisters)
+    (begins : registers 0 ≡ agent_at_rest) (steps : (c : ℕ) → registers (suc c) ≡ agent_step responses side inputs (registers c) c) where
+  abbrev holding : AgentState
+  holding = agent_state registers
 
   abbrev view : AgentView
-  view = agent_view side inputs registers
+  view = agent_view side inputs holding
 
   abbrev upper : TaggedPort
-  upper = agent_upper responses side inputs registers
+  upper = agent_upper responses side inputs holding
 
   address_is : (c : ℕ) → view.address c * side.unit_bytes ≡ byte_address inputs.shape (inputs.commands.signals.address c) % side.span
   address_is c =
@@ -170,7 +173,7 @@ module _ (responses : Responses) (side : AgentSide) (inputs : AgentInputs) (end 
   all_ones : (bytes : ℕ) → (2 ^ bytes - 1) + 1 ≡ 2 ^ bytes
   all_ones bytes = let some = pow_pos bytes in omega (arith, some)
 
-  commands_run : ShowsToAgent side view upper registers end
+  commands_run : ShowsToAgent side view upper holding end
   commands_run = record {
     words = suits.words;
     bursts = suits.bursts;
@@ -186,12 +189,12 @@ module _ (responses : Responses) (side : AgentSide) (inputs : AgentInputs) (end 
     count = λ c low. refl;
     grant = λ c low. refl;
     wait = λ c low. raised _;
-    stood_first = refl;
-    stood_next = λ c low has. refl;
-    queues = λ has. record { begins = refl; next = λ c low. refl };
+    stood_first = ap (λ (r : AgentRegisters). r.stood) begins;
+    stood_next = λ c low has. ap (λ (r : AgentRegisters). r.stood) (steps c);
+    queues = λ has. record { begins = ap (λ (r : AgentRegisters). r.queue) begins; next = λ c low. ap (λ (r : AgentRegisters). r.queue) (steps c) };
   }
 
-  queued_run : IsTrue side.has_readdatavalid → GivesQueued responses view upper registers end
+  queued_run : IsTrue side.has_readdatavalid → GivesQueued responses view upper holding end
   queued_run has = record {
     valid = λ c low. ap is_raised (gate side.has_readdatavalid _ _ has);
     word = λ c low. gate side.has_readdatavalid _ _ has;
@@ -205,11 +208,11 @@ module _ (responses : Responses) (side : AgentSide) (inputs : AgentInputs) (end 
   late : (level : ℕ → ℕ) (c : ℕ) → IsFalse side.has_readdatavalid → side.read_latency ≡ 0 → timed side level (suc c) ≡ level c
   late level c has none = shut side.has_readdatavalid _ _ has ∙ gate (nat_eq side.read_latency 0) _ _ (ap (λ n. nat_eq n 0) none)
 
-  fixed_run : IsFalse side.has_readdatavalid → GivesFixed responses side view upper registers end
+  fixed_run : IsFalse side.has_readdatavalid → GivesFixed responses side view upper holding end
   fixed_run has = record {
-    empty = λ i. refl;
-    first = λ c low. refl;
-    next = λ c i low. refl;
+    empty = λ i. ap (λ (r : AgentRegisters). r.row i) begins;
+    first = λ c low. ap (λ (r : AgentRegisters). r.row 0) (steps c);
+    next = λ c i low. ap (λ (r : AgentRegisters). r.row (suc i)) (steps c);
     valid = λ c low. ap is_raised (shut side.has_readdatavalid _ _ has) ∙ raised _;
     tag = λ c low. shut side.has_readdatavalid _ _ has;
     word = λ c low some. at_once inputs.readdata c has some;
@@ -218,5 +221,5 @@ module _ (responses : Responses) (side : AgentSide) (inputs : AgentInputs) (end 
     code_late = λ c low none. late (λ c. code_by responses (inputs.response c)) c has none;
   }
 
-  pub agent_runs : IsAgentMachine responses side view upper registers end
+  pub agent_runs : IsAgentMachine responses side view upper holding end
   agent_runs = record { commands = commands_run; queued = queued_run; fixed = fixed_run }
