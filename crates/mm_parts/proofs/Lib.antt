@@ -1,4 +1,5 @@
 mod MachineRuns
+mod SystemRuns
 mod WholeSystem
 mod SameMoment
 mod PlanLaws

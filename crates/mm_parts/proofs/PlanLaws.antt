@@ -25,7 +25,7 @@ whole_number small large one two low =
     let sum : two.0 ≡ (two.0 - one.0) + one.0 = omega (arith, few) in
     (2 ^ (two.0 - one.0), two.1 ∙ ap (λ n. 2 ^ n) sum ∙ pow-add 2 (two.0 - one.0) one.0 ∙ ap (λ n. 2 ^ (two.0 - one.0) * n) (sym one.1))
 
-some_bytes : (size : ℕ) → IsPowerOfTwo size → 0 < size
+pub some_bytes : (size : ℕ) → IsPowerOfTwo size → 0 < size
 some_bytes size power = subst (λ n. 0 < n) (sym power.1) (pow_pos power.0)
 
 module _ (system : System) (plan : IsMemoryPlan system) where

@@ -10,3 +10,4 @@ pub mod RouteRun
 pub mod HostRun
 pub mod Moments
 pub mod System
+pub mod SystemRun

@@ -4,7 +4,9 @@ ghost use Rattle.std.specs.Prelude.{ℕ};
 ghost use Rattle.mm_runs.specs.Views.{Responses, System, Run};
 ghost use Rattle.mm_runs.specs.Whole.{IsLegalRun, IsSafe};
 ghost use Rattle.mm_machines.specs.Lines.{Inside};
+ghost use Rattle.mm_runs.specs.Plan.{IsMemoryPlan, AreViews};
 ghost use Rattle.mm_parts.specs.System.{States, Held, RunsAsMachines};
+ghost use Rattle.mm_parts.specs.SystemRun.{PlainPlan, HaveOneShape, Outside, plain_system, registers_of, ports_run, inside_run, states_run};
 
 /// Where every part is its machine and the components are legal, all that is promised at the ports holds, for any number of hosts, agents and stages.
 pub fn machines_are_safe()
@@ -15,4 +17,16 @@ pub fn machines_are_safe()
     mm_machines::lines::the_lines_give_the_headline();
     mm_machines::lines::tags_in_order();
     mm_runs::base_is_free()
+}
+
+/// A plain system of machines has a run, whatever its hosts and agents give in each of endlessly many cycles.
+pub fn systems_of_machines_run()
+    ensures { (responses : Responses) (plan : PlainPlan) (outside : Outside) (end : ℕ)
+        → let registers = registers_of responses plan outside in
+        let run = ports_run responses plan outside registers in
+        IsMemoryPlan (plain_system plan) → HaveOneShape plan → AreViews (plain_system plan) run end
+        → RunsAsMachines responses (plain_system plan) run (inside_run responses plan outside registers) (states_run responses plan outside registers) (record { links = 0; pipe = 0 }) end }
+{
+    mm_machines::wires::wire_is_a_row();
+    mm_machines::lines::registers_are_a_pipe()
 }
