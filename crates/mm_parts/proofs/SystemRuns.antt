@@ -1,5 +1,5 @@
 -- A plain system of machines has a run.
-use Rattle.std.proofs.Common.{Bool, false, ℕ, ◌<◌, ◌≤◌, ◌≡◌, ◌+◌, ◌*◌, Bool, true, false, ◌||◌, IsTrue, arith, refl, subst}
+use Rattle.std.proofs.Common.{ℕ, ◌<◌, ◌≤◌, ◌≡◌, ◌+◌, ◌*◌, Bool, true, false, ◌||◌, IsTrue, arith, refl, subst}
 use Rattle.mm_runs.specs.Views.{Responses, System}
 use Rattle.mm_runs.specs.Operations.{pieces}
 use Rattle.mm_runs.specs.Commands.{longest_burst}
