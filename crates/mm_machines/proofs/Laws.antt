@@ -32,10 +32,6 @@ module _ (target : Target) (first_hold second_hold : ℕ) (up middle down : Port
   pub middle_owed : (c : ℕ) → c ≤ end → AreLegalAt up c → AnswersAreOwed down c → AnswersAreOwed middle c
   middle_owed = owed_between up middle down end (λ c h legal owed. (first.commands c h legal owed).legal) (λ c h legal owed. (second.answers c h legal owed).owed)
 
-  -- they give legal commands on
-  pub chain_legal : (c : ℕ) → c ≤ end → AreLegalAt up c → AnswersAreOwed down (c - 1) → AreLegalAt down c
-  chain_legal c h legal owed = (second.commands c h (middle_legal c h legal owed) owed).legal
-
   -- and answer what is owed
   pub chain_owed : (c : ℕ) → c ≤ end → AreLegalAt up c → AnswersAreOwed down c → AnswersAreOwed up c
   chain_owed c h legal owed = (first.answers c h legal (middle_owed c h legal owed)).owed
