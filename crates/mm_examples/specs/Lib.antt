@@ -14,3 +14,4 @@ pub mod IdleRows
 pub mod SmallSystem
 pub mod LineRows
 pub mod PartTwins
+pub mod LinkRuns

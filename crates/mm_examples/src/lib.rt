@@ -3,6 +3,7 @@
 
 pub mod awake;
 pub mod parts;
+pub mod links;
 
 ghost use Rattle.std.specs.Prelude.{◌≡◌, ◌-◌, ◌∷◌, ◌++◌, [], true, false, ℕ, None, map, length, replicate};
 ghost use Rattle.histories.specs.History.{before, numbers};

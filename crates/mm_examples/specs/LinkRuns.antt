@@ -1,0 +1,99 @@
+-- Small runs of links, right and wrong: a wire, a pipe, a lane selector and a splitter.
+use Rattle.std.specs.Prelude.{ℕ, Bool, true, List, [], ◌∷◌}
+use Rattle.mm_runs.specs.Views.{Shape}
+use Rattle.mm_machines.specs.Link.{Port, Target}
+use Rattle.mm_machines.specs.Lines.{TaggedPort}
+use Rattle.mm_links.specs.Driven.{Inputs, SelectInputs, PipeInputs}
+use Rattle.mm_examples.specs.Examples.{signal, always}
+use Rattle.mm_examples.specs.MoreExamples.{write_port}
+
+-- ---- a wire
+
+-- two writes of a byte; the first one waits for a cycle
+abbrev pub two_writes : Port
+two_writes = write_port 1 (1 ∷ 1 ∷ 1 ∷ []) (5 ∷ 5 ∷ 6 ∷ []) (0xaa ∷ 0xaa ∷ 0xbb ∷ []) 1 [] (1 ∷ 0 ∷ 0 ∷ [])
+
+-- what looks like the wire's upper side and doesn't wait
+abbrev pub hides_wait : Port
+hides_wait = write_port 1 (1 ∷ 1 ∷ []) (5 ∷ 6 ∷ []) (0xaa ∷ 0xbb ∷ []) 1 [] []
+
+-- a lower side that shows the first write twice
+abbrev pub shows_twice : Port
+shows_twice = write_port 1 (1 ∷ 1 ∷ 1 ∷ []) (5 ∷ 5 ∷ 6 ∷ []) (0xaa ∷ 0xaa ∷ 0xbb ∷ []) 1 [] []
+
+-- ---- a lane selector, from words of two bytes to words of four
+
+abbrev pub lane_shape : ℕ → Shape
+lane_shape bytes = record { word_bytes = bytes; unit_bytes = 1; burst_bits = 1; has_enables = true }
+
+abbrev pub lane_target : Target
+lane_target = record { shape = lane_shape 4; span = 16 }
+
+-- a write of bbaa to address 2, then reads of addresses 2 and 0; the words come in cycles 3 and 4
+abbrev pub half_words : Inputs
+half_words = record {
+  signals = record {
+    read = signal (0 ∷ 1 ∷ 1 ∷ []);
+    write = signal (1 ∷ []);
+    address = signal (2 ∷ 2 ∷ 0 ∷ []);
+    word = signal (0xbbaa ∷ []);
+    enables = always 3;
+    count = always 1;
+  };
+  more = always 0;
+  tag = always 0;
+  waitrequest = always 0;
+  answers = record { valid = signal (0 ∷ 0 ∷ 0 ∷ 1 ∷ 1 ∷ []); word = signal (0 ∷ 0 ∷ 0 ∷ 0x44332211 ∷ 0x88776655 ∷ []); code = always 0 };
+}
+
+abbrev pub selecting : ℕ → SelectInputs
+selecting room = record { narrow = lane_shape 2; wide = lane_shape 4; room = room; inputs = half_words }
+
+-- a port of one read of two bytes at address 2, whose word comes in cycle 1
+abbrev pub read_port : ℕ → ℕ → ℕ → ℕ → Port
+read_port bytes address enables word = record {
+  shape = lane_shape bytes;
+  commands = record {
+    signals = record { read = signal (1 ∷ []); write = always 0; address = signal (address ∷ []); word = always 0; enables = always enables; count = always 1 };
+    more = always 0;
+    tag = always 0;
+    waitrequest = always 0;
+  };
+  answers = record { valid = signal (0 ∷ 1 ∷ []); word = always word; code = always 0 };
+}
+
+-- ---- a pipe of two stages
+
+-- three writes; in cycle 2 the agent waits; a word comes in cycle 4
+abbrev pub three_writes : PipeInputs
+three_writes = record {
+  stages = 2;
+  shape = lane_shape 1;
+  inputs = record {
+    signals = record { read = always 0; write = signal (1 ∷ 1 ∷ 1 ∷ []); address = signal (1 ∷ 2 ∷ 3 ∷ []); word = signal (0xaa ∷ 0xbb ∷ 0xcc ∷ []); enables = always 1; count = always 1 };
+    more = always 0;
+    tag = always 0;
+    waitrequest = signal (0 ∷ 0 ∷ 1 ∷ []);
+    answers = record { valid = signal (0 ∷ 0 ∷ 0 ∷ 0 ∷ 1 ∷ []); word = always 7; code = always 0 };
+  };
+  answer_tag = always 0;
+}
+
+abbrev pub tagged_port : Port → TaggedPort
+tagged_port port = record { port = port; answer_tag = always 0 }
+
+-- one stage above, and below it what shows the newer beat first, or has the answer of its own cycle
+abbrev pub stage_top : Port
+stage_top = write_port 1 (1 ∷ 1 ∷ []) (5 ∷ 6 ∷ []) (0xaa ∷ 0xbb ∷ []) 1 [] []
+
+abbrev pub newer_first : Port
+newer_first = write_port 1 (0 ∷ 0 ∷ 1 ∷ 1 ∷ []) (0 ∷ 0 ∷ 6 ∷ 5 ∷ []) (0 ∷ 0 ∷ 0xbb ∷ 0xaa ∷ []) 1 [] []
+
+abbrev pub answered_at_once : Port
+answered_at_once = read_port 1 2 1 9
+
+-- ---- a splitter
+
+-- the wide write of the pieces, accepted with its first piece
+abbrev pub accepts_early : Port
+accepts_early = write_port 4 (1 ∷ []) (4 ∷ []) (0xaabbccdd ∷ []) 6 [] []

@@ -1,0 +1,47 @@
+//! Small runs of links, right and wrong.
+
+ghost use Rattle.std.specs.Prelude.{◌≡◌, ◌∷◌, [], true, false, map};
+ghost use Rattle.mm_runs.specs.Views.{levels_at};
+ghost use Rattle.mm_runs.specs.Commands.{shows};
+ghost use Rattle.mm_machines.specs.Link.{CarriesCommands, words_at};
+ghost use Rattle.mm_machines.specs.Lines.{BringsBack, PipeCarriesCommands, AreDelayed};
+ghost use Rattle.mm_links.specs.Driven.{select_above, select_below, pipe_run};
+ghost use Rattle.mm_links.specs.Pipes.{side_of};
+ghost use Rattle.mm_examples.specs.LinkRuns.{two_writes, hides_wait, shows_twice, selecting, lane_target, read_port, three_writes, tagged_port, stage_top, newer_first, answered_at_once, accepts_early};
+ghost use Rattle.mm_examples.specs.MoreExamples.{byte_target, byte_side};
+ghost use Rattle.mm_examples.specs.WireRows.{one_read_system};
+
+/// A wire carries what it is shown. One that hides a wait holds a beat, and one that shows a beat twice breaks the order.
+pub fn wires()
+    ensures hides { CarriesCommands byte_target 0 hides_wait two_writes 2 → ⊥ }
+    ensures doubles { CarriesCommands byte_target 0 hides_wait shows_twice 3 → ⊥ }
+{}
+
+/// A half word at address 2 goes to the upper lanes, and its word comes from there. With room for one read the second is held back.
+/// Lanes that stay where they are break the order; a word that isn't cut out has the wrong bytes.
+pub fn selectors()
+    ensures write { levels_at (select_below (selecting 16)).commands.signals 0 ≡ (record { read = 0; write = 1; address = 0; word = 0xbbaa0000; enables = 0xc; count = 1 }) }
+    ensures words { map (λ w. w.word) (words_at (select_above (selecting 16)) 5) ≡ 0x4433 ∷ 0x6655 ∷ [] }
+    ensures let_through { shows (select_below (selecting 16)).commands.signals 2 ≡ true }
+    ensures held_back { shows (select_below (selecting 1)).commands.signals 2 ≡ false }
+    ensures unmoved { CarriesCommands lane_target 0 (read_port 2 2 3 0x4433) (read_port 4 0 3 0x44332211) 1 → ⊥ }
+    ensures uncut { BringsBack lane_target (read_port 2 2 3 0x44332211) (read_port 4 0 0xc 0x44332211) 2 → ⊥ }
+{}
+
+/// Through two stages a write is shown two cycles later, stands where the agent waits, and a word comes back two cycles later.
+/// A stage that shows the newer beat first isn't one, nor is one that answers in the same cycle.
+pub fn pipes()
+    ensures early { shows (side_of (pipe_run three_writes) 2).commands.signals 1 ≡ false }
+    ensures first { (side_of (pipe_run three_writes) 2).commands.word 2 ≡ 0xaa }
+    ensures stands { (side_of (pipe_run three_writes) 2).commands.word 3 ≡ 0xaa }
+    ensures second { (side_of (pipe_run three_writes) 2).commands.word 4 ≡ 0xbb }
+    ensures none_yet { words_at (side_of (pipe_run three_writes) 0) 6 ≡ [] }
+    ensures answered { map (λ w. w.word) (words_at (side_of (pipe_run three_writes) 0) 7) ≡ 7 ∷ [] }
+    ensures newer { PipeCarriesCommands one_read_system 0 2 1 (tagged_port stage_top) (tagged_port newer_first) 3 → ⊥ }
+    ensures at_once { AreDelayed one_read_system 1 (tagged_port answered_at_once) (tagged_port answered_at_once) 2 → ⊥ }
+{}
+
+/// A splitter that accepts a beat with its first piece holds one.
+pub fn splitters()
+    ensures { CarriesCommands byte_target 0 accepts_early byte_side 2 → ⊥ }
+{}
