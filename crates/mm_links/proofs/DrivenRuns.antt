@@ -1,11 +1,14 @@
 -- The runs that recursion on the cycle gives are runs of the machines.
-use Rattle.std.proofs.Common.{ℕ, zero, suc, ◌<◌, ◌≡◌, ◌-◌, Bool, true, false, not, ◌||◌, List, [], ◌∷◌, ◌++◌, if◌then◌else◌, arith, refl, sym, ap, ap₂, ◌∙◌, length, drop, nat_lt, lt-ltb, tests}
+use Rattle.std.proofs.Common.{ℕ, zero, suc, ◌<◌, ◌≡◌, ◌-◌, Bool, true, false, not, ◌&&◌, ◌||◌, List, [], ◌∷◌, ◌++◌, if◌then◌else◌, arith, refl, sym, ap, ap₂, ◌∙◌, length, drop, nat_lt, Some, slice_get, lt-ltb, tests}
 use Rattle.std.proofs.lemmas.Bool.{and_parts, not-true, ltb-true}
 use Rattle.histories.specs.History.{is_raised, one_if, only_if}
-use Rattle.mm_machines.specs.Machines.{Raw, ShowsHead, IsStageRun}
+use Rattle.mm_runs.specs.Operations.{Beat}
+use Rattle.mm_runs.specs.Commands.{shows, is_of_reads}
+use Rattle.mm_machines.specs.Machines.{Raw, ShowsHead, IsStageRun, single, joined}
 use Rattle.mm_links.specs.Pipes.{RunsAsPipe, side_of}
 use Rattle.mm_links.specs.Selects.{RunsAsSelect}
-use Rattle.mm_links.specs.Driven.{SelectInputs, PipeInputs, select_above, select_below, select_queue, shuts, pipe_run, pipe_queues, raw_there, waits_there, takes_there, shows_raw, head_of, late_by}
+use Rattle.mm_links.specs.Splits.{RunsAsSplit}
+use Rattle.mm_links.specs.Driven.{SelectInputs, PipeInputs, select_above, select_below, select_queue, shuts, pipe_run, pipe_queues, raw_there, waits_there, takes_there, shows_raw, head_of, late_by, SplitInputs, split_registers, split_above, split_below, split_state, split_list, split_shows, split_part, split_opens, split_completes, part_at, silent_raw}
 
 raised_one : (b : Bool) → is_raised (one_if b) ≡ b
 raised_one true = refl
@@ -94,3 +97,73 @@ pipe_runs given = record {
   opens = λ i c h few. ap is_raised (waits_in given c i h) ∙ raised_one (not (nat_lt (length (pipe_queues given c i)) 2)) ∙ ap not (lt-ltb (length (pipe_queues given c i)) 2 few);
   answer_tag = λ i c h. late_next given.stages i given.answer_tag c h;
 }
+
+-- ---- a splitter
+
+single_shows : (tag more : ℕ) (beat : Beat) → shows_raw (single tag more beat) ≡ true
+single_shows tag more beat = by_kind (is_of_reads beat.kind)
+  where
+    by_kind : (b : Bool) → (is_raised (if b then 1 else 0) || is_raised (if b then 0 else 1)) ≡ true
+    by_kind true = refl
+    by_kind false = refl
+
+joined_show : (tag last : ℕ) (beats : List Beat) → AllShow (joined tag last beats)
+joined_show tag last [] = tt
+joined_show tag last (b ∷ []) = (single_shows tag last b, tt)
+joined_show tag last (b ∷ next ∷ later) = (single_shows tag 1 b, joined_show tag last (next ∷ later))
+
+part_there : (xs : List Raw) (n : ℕ) → n < length xs → (slice_get xs n ≡ Some (part_at xs n))
+part_there [] n h = absurd (omega arith)
+part_there (x ∷ xs) zero h = refl
+part_there (x ∷ xs) (suc n) h = part_there xs n (omega arith)
+
+part_shows : (xs : List Raw) (n : ℕ) → n < length xs → AllShow xs → shows_raw (part_at xs n) ≡ true
+part_shows [] n h all = absurd (omega arith)
+part_shows (x ∷ xs) zero h all = all.0
+part_shows (x ∷ xs) (suc n) h all = part_shows xs n (omega arith) all.1
+
+accepts_by_wait : (s o x : Bool) → s && not (is_raised (one_if (not (o && x)))) ≡ (s && o) && x
+accepts_by_wait false o x = refl
+accepts_by_wait true false x = refl
+accepts_by_wait true true false = refl
+accepts_by_wait true true true = refl
+
+module _ (given : SplitInputs) where
+  all_parts : (c : ℕ) → AllShow (split_list given c)
+  all_parts c = joined_show (given.inputs.tag c) (given.inputs.more c) _
+
+  shown_there : (c : ℕ) → shows_raw (split_part given (split_registers given c) c) ≡ split_shows given (split_registers given c) c
+  shown_there c = by_shown (split_shows given (split_registers given c) c) refl
+    where
+      by_shown : (b : Bool) → split_shows given (split_registers given c) c ≡ b → shows_raw (if b then part_at (split_list given c) (split_registers given c).place else silent_raw) ≡ b
+      by_shown false e = refl
+      by_shown true e =
+          part_shows (split_list given c) (split_registers given c).place
+          (ltb-true (split_registers given c).place (length (split_list given c)) (and_parts (shows given.inputs.signals c && split_opens given (split_registers given c) c) (nat_lt (split_registers given c).place (length (split_list given c))) e).1)
+          (all_parts c)
+
+  part_is : (c : ℕ) → shows_raw (split_part given (split_registers given c) c) ≡ true → slice_get (split_list given c) (split_registers given c).place ≡ Some (split_part given (split_registers given c) c)
+  part_is c shown =
+      let there : split_shows given (split_registers given c) c ≡ true = sym (shown_there c) ∙ shown in
+      let low = ltb-true (split_registers given c).place (length (split_list given c)) (and_parts (shows given.inputs.signals c && split_opens given (split_registers given c) c) (nat_lt (split_registers given c).place (length (split_list given c))) there).1 in
+      part_there (split_list given c) (split_registers given c).place low
+      ∙ ap (λ b. Some (if b then part_at (split_list given c) (split_registers given c).place else silent_raw)) (sym there)
+
+  pub split_runs : RunsAsSplit given.room (split_above given) (split_below given) (split_state given)
+  split_runs = record {
+    shown = λ c. shown_there c;
+    part = λ c shown. part_is c shown;
+    accepts = λ c. accepts_by_wait (shows given.inputs.signals c) (split_opens given (split_registers given c) c) _;
+    place_begins = refl;
+    place_next = λ c. refl;
+    set_next = λ c. refl;
+    reads_begin = refl;
+    reads_next = λ c. refl;
+    come_begins = refl;
+    come_next = λ c. refl;
+    gathered_begins = refl;
+    gathered_next = λ c. refl;
+    valid = λ c. raised_one (is_raised (given.inputs.answers.valid c) && split_completes (split_registers given c));
+    word = λ c. refl;
+    code = λ c. refl;
+  }

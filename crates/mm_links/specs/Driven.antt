@@ -1,13 +1,15 @@
 -- Runs of the machines, for all that is shown to them: the state is told by recursion on the cycle.
-use Rattle.std.specs.Prelude.{ℕ, zero, suc, ◌-◌, ◌/◌, ◌%◌, ◌^◌, ◌&&◌, ◌||◌, Bool, not, List, [], ◌∷◌, ◌++◌, length, drop, if◌then◌else◌, nat_lt}
+use Rattle.std.specs.Prelude.{ℕ, zero, suc, ◌+◌, ◌-◌, ◌*◌, ◌/◌, ◌%◌, ◌^◌, max, ◌&&◌, ◌||◌, Bool, not, List, [], ◌∷◌, ◌++◌, length, drop, if◌then◌else◌, nat_lt, nat_eq}
 use Rattle.histories.specs.History.{is_raised, one_if, only_if}
 use Rattle.mm_runs.specs.Views.{Shape, Signals, Levels, levels_at}
 use Rattle.mm_runs.specs.Commands.{shows}
 use Rattle.mm_machines.specs.Paths.{CommandView, AnswerView}
 use Rattle.mm_machines.specs.Link.{Port}
-use Rattle.mm_machines.specs.Machines.{Raw}
+use Rattle.mm_runs.specs.Legal.{Word}
+use Rattle.mm_machines.specs.Machines.{Raw, idle, split_parts, beat_of}
 use Rattle.mm_links.specs.Pipes.{PipeSides}
 use Rattle.mm_links.specs.Selects.{offset_in, selected, silenced, first_of}
+use Rattle.mm_links.specs.Splits.{SplitState, pieces_asked, are_same, nothing}
 
 -- what is shown to a link: commands from above, wait and answers from below
 pub record Inputs : Type 0 where
@@ -130,4 +132,111 @@ pipe_run given = record {
   };
   answer_tag = λ i. late_by (given.stages - i) given.answer_tag;
   queue = λ i c. pipe_queues given c i;
+}
+
+-- ---- a splitter
+
+pub record SplitInputs : Type 0 where
+  pub wide : Shape
+  pub narrow : Shape
+  pub room : ℕ
+  pub inputs : Inputs
+
+-- the registers in one cycle
+pub record SplitRegisters : Type 0 where
+  pub place : ℕ
+  pub set : List ℕ
+  pub reads : ℕ
+  pub come : ℕ
+  pub gathered : Word
+
+abbrev pub split_levels : SplitInputs → ℕ → Levels
+split_levels given c = levels_at given.inputs.signals c
+
+abbrev pub split_pieces : SplitInputs → ℕ → List ℕ
+split_pieces given c = pieces_asked given.wide given.narrow (beat_of given.wide (split_levels given c))
+
+abbrev pub split_list : SplitInputs → ℕ → List Raw
+split_list given c = split_parts given.wide given.narrow idle (record { levels = split_levels given c; more = given.inputs.more c; tag = given.inputs.tag c })
+
+abbrev pub split_opens : SplitInputs → SplitRegisters → ℕ → Bool
+split_opens given now c =
+    is_raised (given.inputs.signals.write c) || nat_lt 0 now.place || (nat_lt now.reads given.room && (nat_eq now.reads 0 || are_same now.set (split_pieces given c)))
+
+abbrev pub part_at : List Raw → ℕ → Raw
+part_at [] n = silent_raw
+part_at (x ∷ xs) zero = x
+part_at (x ∷ xs) (suc n) = part_at xs n
+
+abbrev pub split_shows : SplitInputs → SplitRegisters → ℕ → Bool
+split_shows given now c = (shows given.inputs.signals c && split_opens given now c) && nat_lt now.place (length (split_list given c))
+
+abbrev pub split_part : SplitInputs → SplitRegisters → ℕ → Raw
+split_part given now c = if split_shows given now c then part_at (split_list given c) now.place else silent_raw
+
+abbrev pub split_takes_below : SplitInputs → SplitRegisters → ℕ → Bool
+split_takes_below given now c = shows_raw (split_part given now c) && not (is_raised (given.inputs.waitrequest c))
+
+abbrev pub split_waits : SplitInputs → SplitRegisters → ℕ → ℕ
+split_waits given now c =
+    one_if (not (split_opens given now c
+    && (nat_eq (length (split_list given c)) 0 || (split_takes_below given now c && nat_eq (suc now.place) (length (split_list given c))))))
+
+abbrev pub split_takes : SplitInputs → SplitRegisters → ℕ → Bool
+split_takes given now c = shows given.inputs.signals c && not (is_raised (split_waits given now c))
+
+abbrev pub split_completes : SplitRegisters → Bool
+split_completes now = nat_eq (suc now.come) (length now.set)
+
+abbrev pub split_added : SplitInputs → SplitRegisters → ℕ → Word
+split_added given now c = record {
+  word = now.gathered.word + (given.inputs.answers.word c % 256 ^ given.narrow.word_bytes) * 256 ^ (first_of (drop now.come now.set) * given.narrow.word_bytes);
+  code = max now.gathered.code (given.inputs.answers.code c);
+}
+
+abbrev pub split_valid : SplitInputs → SplitRegisters → ℕ → ℕ
+split_valid given now c = one_if (is_raised (given.inputs.answers.valid c) && split_completes now)
+
+abbrev pub split_registers : SplitInputs → ℕ → SplitRegisters
+split_registers given zero = record { place = 0; set = []; reads = 0; come = 0; gathered = nothing }
+split_registers given (suc c) =
+    let now = split_registers given c in
+    record {
+      place = if split_takes given now c then 0 else if split_takes_below given now c then suc now.place else now.place;
+      set = if split_takes_below given now c && not (is_raised (split_part given now c).levels.write) then split_pieces given c else now.set;
+      reads = (now.reads + one_if (split_takes given now c && not (is_raised (given.inputs.signals.write c)))) - one_if (is_raised (split_valid given now c));
+      come = if is_raised (given.inputs.answers.valid c) then (if split_completes now then 0 else suc now.come) else now.come;
+      gathered = if is_raised (given.inputs.answers.valid c) then (if split_completes now then nothing else split_added given now c) else now.gathered;
+    }
+
+abbrev pub split_state : SplitInputs → SplitState
+split_state given = record {
+  place = λ c. (split_registers given c).place;
+  set = λ c. (split_registers given c).set;
+  reads = λ c. (split_registers given c).reads;
+  come = λ c. (split_registers given c).come;
+  gathered = λ c. (split_registers given c).gathered;
+}
+
+abbrev pub split_above : SplitInputs → Port
+split_above given = record {
+  shape = given.wide;
+  commands = record { signals = given.inputs.signals; more = given.inputs.more; tag = given.inputs.tag; waitrequest = λ c. split_waits given (split_registers given c) c };
+  answers = record {
+    valid = λ c. split_valid given (split_registers given c) c;
+    word = λ c. (split_added given (split_registers given c) c).word;
+    code = λ c. (split_added given (split_registers given c) c).code;
+  };
+}
+
+abbrev pub split_below : SplitInputs → Port
+split_below given = record {
+  shape = given.narrow;
+  commands = record {
+    signals = signals_of (λ c. (split_part given (split_registers given c) c).levels);
+    more = λ c. (split_part given (split_registers given c) c).more;
+    tag = λ c. (split_part given (split_registers given c) c).tag;
+    waitrequest = given.inputs.waitrequest;
+  };
+  answers = given.inputs.answers;
 }

@@ -1,10 +1,9 @@
 //! Runs of the machines exist for all that is shown to them.
 
-ghost use Rattle.std.specs.Prelude.{◌≡◌, ℕ};
-ghost use Rattle.mm_runs.specs.Views.{Signals};
-ghost use Rattle.mm_links.specs.Driven.{SelectInputs, PipeInputs, select_above, select_below, select_queue, pipe_run};
+ghost use Rattle.mm_links.specs.Driven.{SelectInputs, PipeInputs, SplitInputs, select_above, select_below, select_queue, pipe_run, split_above, split_below, split_state};
 ghost use Rattle.mm_links.specs.Pipes.{RunsAsPipe};
 ghost use Rattle.mm_links.specs.Selects.{RunsAsSelect};
+ghost use Rattle.mm_links.specs.Splits.{RunsAsSplit};
 
 /// There is a run of a lane selector for all commands, waits and answers.
 pub fn select_runs()
@@ -14,4 +13,9 @@ pub fn select_runs()
 /// There is a run of a pipe of any number of stages for all commands, waits and answers.
 pub fn pipe_runs()
     ensures { (given : PipeInputs) → RunsAsPipe given.stages (pipe_run given) }
+{}
+
+/// There is a run of a splitter for all commands, waits and answers.
+pub fn split_runs()
+    ensures { (given : SplitInputs) → RunsAsSplit given.room (split_above given) (split_below given) (split_state given) }
 {}
