@@ -10,7 +10,7 @@ use Rattle.mm_machines.specs.Rank.{is_unclosed, is_last_write}
 use Rattle.mm_machines.specs.Turns.{seats_of, chosen, choice_by, choice_of, grant_before, asks_at, ends_at, open_after, Grant}
 use Rattle.ranks.specs.Turns.{Seat, Round, Turn, turn_of, next_asking, IsOfAsker, AllShare, IsRoundOf, round_after, is_seated, last_host}
 use Rattle.ranks.specs.Turns.Turn.{Nobody, Begins}
-use Rattle.mm_awake.specs.Parts.{IsArbiterPart}
+use Rattle.mm_parts.specs.Steps.{IsArbiterPart}
 use Rattle.mm_awake.proofs.Bits.{last_joined_end, last_write_end, none_taken, one_taken, not_shown, shown_again, holds, no_true}
 
 pub record TurnLaws : Type 0 where

@@ -13,8 +13,8 @@ use Rattle.mm_runs.specs.Order.{Asked, place_of}
 use Rattle.mm_runs.specs.Awake.{is_place, is_given_from, is_written_to}
 use Rattle.mm_machines.specs.Link.{Port, Marked, takes, taken_at, marked_at, words_at}
 use Rattle.mm_machines.specs.Lines.{asked_among, host_accepted}
-use Rattle.mm_awake.specs.Front.{IsDefaultFront, shows_for, are_all_given, given_before, has_room}
-use Rattle.mm_awake.specs.HostRoute.{IsHostPart, IsRoutePart, owed_places, place_shown, comes, comes_from}
+use Rattle.mm_parts.specs.Steps.{given_before, has_room, IsHostPart, IsRoutePart, owed_places, place_shown, comes, comes_from}
+use Rattle.mm_awake.specs.Front.{IsDefaultFront, shows_for, are_all_given}
 use Rattle.mm_awake.proofs.Fronts.{both, some_beat, writes_on, all_reached, reads_total, asked_length, drop_all, drop_front, same_taken, same_words, to_middle, place_now, one_word, counts, asks_end, next_is}
 use Rattle.mm_awake.proofs.Numbers.{next_stays, same_place, presented_is}
 use Rattle.mm_awake.proofs.Bits.{no_true}

@@ -12,7 +12,7 @@ use Rattle.mm_machines.specs.Link.{Port, takes, words_at}
 use Rattle.ranks.specs.Sizes.{sum_below}
 use Rattle.ranks.specs.Window.{Budget, allowance, allowances}
 use Rattle.ranks.specs.Junction.{Junctions, budgets, budgets_of_hosts, upper_budget, lower_budget, arbiter_budget}
-use Rattle.mm_awake.specs.Parts.{words_from_agent}
+use Rattle.mm_parts.specs.Steps.{words_from_agent}
 use Rattle.mm_awake.specs.Ways.{Ways, Standings, count_in, longest, window, agent_moves, moves_at}
 use Rattle.mm_awake.specs.Front.{KeepsWhole, IsUnserved}
 use Rattle.mm_awake.specs.Sizes.{allows}

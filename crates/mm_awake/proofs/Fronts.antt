@@ -16,8 +16,8 @@ use Rattle.mm_runs.specs.Awake.{is_place, count_for, is_written_to}
 use Rattle.mm_machines.specs.Link.{Target, Port, Marked, takes, taken_at, marked_at, operations_among, operations_in, words_at, is_last_joined, beat_operations, read_beats, words_owed}
 use Rattle.mm_machines.specs.Lines.{target_of, host_accepted, asked_among}
 use Rattle.mm_machines.specs.Rank.{is_owed, is_unclosed}
-use Rattle.mm_awake.specs.Front.{IsFront, is_bursting, shows_for, are_all_given, owes_next, given_before, has_room, owes_alone}
-use Rattle.mm_awake.specs.HostRoute.{IsHostPart, IsRoutePart, is_open, owed_places, place_shown, comes, comes_from}
+use Rattle.mm_parts.specs.Steps.{given_before, has_room, IsHostPart, IsRoutePart, is_open, owed_places, place_shown, comes, comes_from}
+use Rattle.mm_awake.specs.Front.{IsFront, is_bursting, shows_for, are_all_given, owes_next, owes_alone}
 use Rattle.mm_awake.proofs.Bits.{none_taken, one_taken, no_true, last_joined_end, not_by}
 
 pub all_reached : (sizes : List ℕ) (n : ℕ) → total sizes ≤ n → unreached sizes n ≡ 0
@@ -72,16 +72,20 @@ is_the_place a None h = absurd (no_true h)
 is_the_place a (Some b) h = let same : a ≡ b = grind (arith, tests, h) in ap Some (sym same)
 
 -- the numbers of operations don't depend on the address
-same_count : (system : System) (host agent : ℕ) (shape : Shape) (beats : List Beat) → (system.host host).shape ≡ shape →
+-- by the size of its word alone a side tells which lanes of a beat are filled
+abbrev lanes_by : ℕ → Shape → ℕ → List ℕ
+lanes_by bytes to enables = filled_lanes (record { word_bytes = bytes; unit_bytes = 1; burst_bits = 1; has_enables = true }) to enables
+
+same_count : (system : System) (host agent : ℕ) (shape : Shape) (beats : List Beat) → (system.host host).word_bytes ≡ shape.word_bytes →
     length (flat_map (placed_operations system host agent) beats) ≡ length (flat_map (beat_operations (target_of system agent) shape) beats)
 same_count system host agent shape [] e = refl
 same_count system host agent shape (b ∷ beats) e =
     let more = same_count system host agent shape beats e in
     let one = length-append (placed_operations system host agent b) (flat_map (placed_operations system host agent) beats) in
     let two = length-append (beat_operations (target_of system agent) shape b) (flat_map (beat_operations (target_of system agent) shape) beats) in
-    let left : length (placed_operations system host agent b) ≡ length (filled_lanes (system.host host).shape (system.agent agent).shape b.enables) = length-map (filled_lanes (system.host host).shape (system.agent agent).shape b.enables) _ in
-    let right : length (beat_operations (target_of system agent) shape b) ≡ length (filled_lanes shape (system.agent agent).shape b.enables) = length-map (filled_lanes shape (system.agent agent).shape b.enables) _ in
-    let same = ap (λ s. length (filled_lanes s (system.agent agent).shape b.enables)) e in
+    let left : length (placed_operations system host agent b) ≡ length (lanes_by (system.host host).word_bytes (system.agent agent).shape b.enables) = length-map (filled_lanes (system.host host).shape (system.agent agent).shape b.enables) _ in
+    let right : length (beat_operations (target_of system agent) shape b) ≡ length (lanes_by shape.word_bytes (system.agent agent).shape b.enables) = length-map (filled_lanes shape (system.agent agent).shape b.enables) _ in
+    let same = ap (λ n. length (lanes_by n (system.agent agent).shape b.enables)) e in
     omega (arith, more, one, two, left, right, same)
 
 ops_append : (target : Target) (shape : Shape) (xs : List Marked) (m : Marked) → length (operations_among target shape (xs ++ m ∷ [])) ≡ length (operations_among target shape xs) + length (operations_in target shape m)
@@ -399,7 +403,7 @@ module _ (system : System) (run : Run) (host agent : ℕ) (middle : Port) (down 
           let below = sym (route.accepts agent c low (omega (arith, h)) (ap (is_agent agent) (place_now c (omega (arith, h)) shown) ∙ e)) ∙ sym (part.accepts c (omega (arith, h))) ∙ accepted in
           let one = ap (λ l. length (operations_among (target_of system agent) top.shape l)) (one_taken top c below) ∙ ops_append (target_of system agent) top.shape (taken_at top c) (marked_at top c) in
           let same = ap (λ (t : Transfer). length (flat_map (beat_operations (target_of system agent) top.shape) t.beats)) (route.same agent c low (omega (arith, h)) (takes_shows top c below) ∙ part.same c (omega (arith, h)) shown) in
-          let count = same_count system host agent top.shape (shown_now c).beats (sym (route.shape agent low ∙ part.shape)) in
+          let count = same_count system host agent top.shape (shown_now c).beats (sym (ap (λ (s : Shape). s.word_bytes) (route.shape agent low) ∙ part.bytes)) in
           omega (arith, one, same, count, more)
 
       by_accept : (b : Bool) → accepts c ≡ b → count_for system host agent (host_accepted system run host c) ≤ length (operations_among (target_of system agent) top.shape (taken_at top c)) →

@@ -19,7 +19,8 @@ use Rattle.mm_runs.specs.Legal.{IsLegalHost, host_accepts, given, gives_word}
 use Rattle.mm_runs.specs.Order.{host_transfers, of_host, taken}
 use Rattle.mm_runs.specs.Awake.{is_for, is_oldest, is_finished, are_taken, are_given, are_finished_before, commands_begun, is_given_from}
 use Rattle.mm_machines.specs.Lines.{host_accepted}
-use Rattle.mm_awake.specs.Front.{shows_for, are_all_given, owes_next, is_bursting, given_before}
+use Rattle.mm_parts.specs.Steps.{given_before}
+use Rattle.mm_awake.specs.Front.{shows_for, are_all_given, owes_next, is_bursting}
 use Rattle.mm_awake.proofs.Bits.{no_true}
 use Rattle.mm_awake.proofs.Fronts.{both, is_the_place, some_beat, writes_on}
 

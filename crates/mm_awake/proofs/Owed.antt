@@ -10,7 +10,7 @@ use Rattle.mm_runs.specs.Commands.{is_of_reads}
 use Rattle.mm_machines.specs.Link.{Port, Marked, takes, taken_at, marked_at, read_beats, words_at, words_owed}
 use Rattle.mm_machines.specs.Lines.{TaggedPort, word_tags, asked_tags}
 use Rattle.mm_machines.specs.Rank.{is_owed}
-use Rattle.mm_awake.specs.Parts.{IsArbiterPart}
+use Rattle.mm_parts.specs.Steps.{IsArbiterPart}
 use Rattle.mm_awake.proofs.Bits.{none_taken, one_taken}
 
 count : ℕ → List ℕ → ℕ

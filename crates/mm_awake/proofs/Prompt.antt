@@ -8,7 +8,7 @@ use Rattle.mm_machines.specs.Link.{Target, Port, AreLegalAt, items, takes, taken
 use Rattle.mm_runs.specs.Commands.{is_held}
 use Rattle.mm_machines.specs.Rank.{moves_commands, is_owed, is_due, AnswersPromptly}
 use Rattle.mm_awake.specs.Parts.{GivesWhatHasCome, is_untaken}
-use Rattle.mm_awake.proofs.Wanted.{taken_is_shown}
+use Rattle.mm_machines.specs.SideLaws.{taken_is_shown}
 use Rattle.mm_awake.proofs.Bits.{no_true}
 use Rattle.mm_awake.proofs.Fronts.{both}
 

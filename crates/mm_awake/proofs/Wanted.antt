@@ -1,12 +1,12 @@
 -- A wanted agent is served: what a host wants is work of some part on its way.
 use Rattle.std.proofs.Common.{ℕ, zero, suc, ◌<◌, ◌≤◌, ◌≡◌, ◌+◌, Bool, true, false, not, ◌||◌, ◌&&◌, List, [], ◌∷◌, ◌++◌, arith, refl, sym, ap, subst, ◌∙◌, nat_lt, nat_eq, length, map, filter, IsTrue, IsFalse, tests, inl, inr, ◌⊎◌, if◌then◌else◌, Some, append-nil, length-append, ltb-false}
-use Rattle.std.proofs.lemmas.Bool.{or_left, or_right, and_parts, or_parts, both_ways, not-true}
+use Rattle.std.proofs.lemmas.Bool.{or_left, or_right, or_parts, both_ways}
 use Rattle.std.proofs.lemmas.List.{length-map}
 use Rattle.std.specs.List.{list_any}
-use Rattle.histories.specs.History.{numbers, is_raised, IsPrefix, KeepsItems}
-use Rattle.histories.specs.Laws.{prefix_flat_map, prefix_filter, prefix_length, accepted_prefix, before_extends}
-use Rattle.mm_runs.specs.Views.{System, Run, Shape, Levels}
-use Rattle.mm_runs.specs.Commands.{shows, is_held, agent_accepts, burst_before}
+use Rattle.histories.specs.History.{numbers, is_raised, IsPrefix}
+use Rattle.histories.specs.Laws.{prefix_flat_map, prefix_filter, prefix_length, before_extends}
+use Rattle.mm_runs.specs.Views.{System, Run, Shape}
+use Rattle.mm_runs.specs.Commands.{shows, is_held, agent_accepts}
 use Rattle.mm_runs.specs.Operations.{Operation}
 use Rattle.mm_runs.specs.Order.{taken, of_host, Tagged, has_tag}
 use Rattle.mm_runs.specs.Awake.{owes, serves, is_given_from, is_written_to, Throughout, Sometime}
@@ -17,26 +17,13 @@ use Rattle.mm_machines.specs.Turns.{seats_of}
 use Rattle.ranks.specs.Turns.{AllShare}
 use Rattle.ranks.specs.Path.{works, stands}
 use Rattle.ranks.specs.Junction.{Junctions, any_below, has_work, moment, arbiter_works}
-use Rattle.mm_awake.specs.Parts.{is_untaken, is_behind, IsArbiterPart}
+use Rattle.mm_parts.specs.Steps.{IsArbiterPart}
+use Rattle.mm_awake.specs.Parts.{is_untaken, is_behind}
+use Rattle.mm_machines.specs.SideLaws.{taken_is_shown}
 use Rattle.mm_awake.specs.Ways.{Ways, Standings, KeepsAwake, IsAtWork, longest, window, links_at, lower_at, tagged, moves_at}
 use Rattle.mm_awake.specs.Front.{KeepsWhole, Wants, Wants.a_beat, Wants.an_operation, Wants.a_word, IsWantedAt, is_bursting}
 use Rattle.mm_awake.proofs.Owed.{owed_below}
 use Rattle.mm_awake.proofs.Bits.{none_taken, one_taken, taken_still, holds, no_true}
-
-pub marked_keeps : (port : Port) (end : ℕ) → AreLegalAt port end → KeepsItems (shows port.commands.signals) (takes port) (marked_at port) end
-marked_keeps port end legal = record {
-  accepted = λ c h. (and_parts (shows port.commands.signals c) (not (is_raised (port.commands.waitrequest c))) h).0;
-  held = λ c h held.
-      let same = legal.legal.held c h held in
-      let none : takes port c ≡ false = not-true (takes port c) (and_parts (shows port.commands.signals c) (not (takes port c)) held).1 in
-      let burst : burst_before port.shape port.commands.signals (takes port) c ≡ burst_before port.shape port.commands.signals (takes port) (suc c) = rw none in
-      let tag = legal.tag c h held in
-      let more = ap is_raised (legal.more c h held) in
-      (ap (λ (l : Levels). is_raised l.read || is_raised l.write) (sym same) ∙ (and_parts (shows port.commands.signals c) (not (takes port c)) held).0, cc);
-}
-
-pub taken_is_shown : (port : Port) (end c : ℕ) → AreLegalAt port end → c ≤ end → IsPrefix (taken_at port c) (shown_at port c)
-taken_is_shown port end c legal h = accepted_prefix _ _ _ end c (marked_keeps port end legal) h
 
 any_of : (test : ℕ → Bool) (n k : ℕ) → k < n → IsTrue (test k) → IsTrue (any_below test n)
 any_of test zero k h holds = absurd (omega (arith, h))

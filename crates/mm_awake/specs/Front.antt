@@ -1,16 +1,17 @@
 -- What stands between a host's port and the boundary behind its route, for one agent: the part next to the host and the route, both wired through.
-use Rattle.std.specs.Prelude.{◌≡◌, ℕ, suc, ◌+◌, ◌<◌, ◌≤◌, Bool, ◌&&◌, ◌||◌, length, take, drop, nat_le, nat_lt, IsTrue, IsFalse, Option, Some, None}
+use Rattle.std.specs.Prelude.{◌≡◌, ℕ, suc, ◌+◌, ◌<◌, ◌≤◌, Bool, ◌&&◌, ◌||◌, length, take, drop, nat_le, IsTrue, IsFalse, Option, Some, None}
 use Rattle.std.specs.List.{list_any, list_all}
 use Rattle.histories.specs.History.{is_raised, IsPrefix}
 use Rattle.mm_runs.specs.Views.{System, Run}
 use Rattle.mm_runs.specs.Views.Kind.{Writes}
 use Rattle.mm_runs.specs.Commands.{shows, transfer_at, burst_before, read_beats}
-use Rattle.mm_runs.specs.Legal.{IsLegalHost, host_accepts, given, is_under_way, unanswered}
+use Rattle.mm_runs.specs.Legal.{IsLegalHost, host_accepts, is_under_way}
 use Rattle.mm_runs.specs.Order.{place_of, of_host, taken}
 use Rattle.mm_runs.specs.Awake.{owes, is_place, count_for, serves, is_given_from, is_written_to, Sometime}
 use Rattle.mm_machines.specs.Link.{Port, takes, taken_at, shown_at, operations_among}
 use Rattle.mm_machines.specs.Lines.{target_of, asked_among, host_accepted, tagged_operations, groups_of}
 use Rattle.mm_machines.specs.Rank.{is_owed, is_unclosed}
+use Rattle.mm_parts.specs.Steps.{given_before, has_room}
 use Rattle.mm_awake.specs.Ways.{Ways, Standings, KeepsAwake, longest}
 
 -- a host shows a beat for a place
@@ -18,9 +19,6 @@ abbrev pub shows_for : System → Run → ℕ → Option ℕ → ℕ → Bool
 shows_for system run host place c =
     shows (run.at_host host).signals c
     && is_place place (place_of system host (transfer_at (system.host host).shape (run.at_host host).signals (host_accepts (run.at_host host)) c))
-
-abbrev pub given_before : System → Run → ℕ → ℕ → ℕ
-given_before system run host c = length (given (system.host host) (run.at_host host) c)
 
 -- as the cycle begins, each word that a host asked by an accepted read is given
 abbrev pub are_all_given : System → Run → ℕ → ℕ → Bool
@@ -30,11 +28,6 @@ are_all_given system run host c = nat_le (length (read_beats (host_accepted syst
 abbrev pub owes_next : System → Run → ℕ → Option ℕ → ℕ → Bool
 owes_next system run host place c =
     list_any (λ q. is_place place q.place) (take 1 (drop (given_before system run host (suc c)) (asked_among system host (host_accepted system run host (suc c)))))
-
--- fewer than 16 reads were under way at the end of the cycle before
-abbrev pub has_room : System → Run → ℕ → ℕ → Bool
-has_room system run host c =
-    nat_lt (unanswered (system.host host).shape (run.at_host host).signals (host_accepts (run.at_host host)) (given_before system run host c) c) 16
 
 -- as the cycle begins, the words that a host asked by accepted reads and wasn't given are all owed by one agent
 abbrev pub owes_alone : System → Run → ℕ → ℕ → ℕ → Bool

@@ -1,7 +1,6 @@
 pub mod Parts
 pub mod Ways
 pub mod Front
-pub mod HostRoute
 pub mod Sizes
 pub mod Slack
 pub mod Theorem

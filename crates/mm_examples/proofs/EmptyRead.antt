@@ -1,8 +1,7 @@
 -- A stage with a read without lanes in it doesn't answer promptly and gives what has come.
-use Rattle.std.proofs.Common.{ℕ, suc, ◌<◌, ◌||◌, IsTrue, false, arith, refl}
+use Rattle.std.proofs.Common.{suc, ◌||◌, IsTrue, false, arith, refl}
 use Rattle.histories.specs.Below.{each_below}
 use Rattle.histories.specs.History.{is_raised}
-use Rattle.mm_machines.specs.Link.{Target}
 use Rattle.mm_machines.specs.Lines.{target_of}
 use Rattle.mm_machines.specs.Rank.{AnswersPromptly, is_owed, moves_commands}
 use Rattle.mm_awake.specs.Parts.{GivesWhatHasCome, is_behind}

@@ -1,5 +1,5 @@
 -- Runs in which a wanted agent, or the default agent, waits for ever, and the record that each breaks.
-use Rattle.std.proofs.Common.{ℕ, suc, ◌<◌, ◌≤◌, ◌≡◌, Bool, not, ◌&&◌, ◌||◌, None, Some, arith, refl, IsTrue, IsFalse, true, false, zero, subst, []}
+use Rattle.std.proofs.Common.{ℕ, ◌<◌, ◌≤◌, ◌≡◌, ◌&&◌, ◌||◌, None, Some, arith, refl, IsTrue, false}
 use Rattle.histories.specs.Below.{each_below}
 use Rattle.histories.specs.History.{is_raised}
 use Rattle.mm_runs.specs.Commands.{shows}
@@ -8,9 +8,8 @@ use Rattle.mm_runs.specs.Awake.{ServesWithin, IsWanted, serves, ServesDefaultWit
 use Rattle.mm_machines.specs.Link.{takes, marked_at, AreLegalAt, AnswersAreOwed}
 use Rattle.mm_machines.specs.Lines.{TaggedPort}
 use Rattle.mm_machines.specs.Rank.{LinkRankFalls}
+use Rattle.mm_parts.specs.Steps.{IsRoutePart, place_shown, is_open, IsArbiterPart}
 use Rattle.mm_awake.specs.Front.{IsFront, IsDefaultFront}
-use Rattle.mm_awake.specs.HostRoute.{IsRoutePart, place_shown, is_open}
-use Rattle.mm_awake.specs.Parts.{IsArbiterPart}
 use Rattle.mm_examples.specs.MoreExamples.{byte_target}
 use Rattle.mm_examples.specs.IdleRows.{pair_system, two_places, held_run, held_below, swallow_run, read_port, passing_run, passing_down, stray_system, stray_run, mistagged, limited_top, limited_down, sets_top, sets_down}
 use Rattle.mm_examples.proofs.ShortRuns.{legal_by_cycles}

@@ -1,17 +1,17 @@
 -- The right small system keeps every record.
-use Rattle.std.proofs.Common.{ℕ, zero, suc, ◌<◌, ◌≤◌, ◌≡◌, ◌+◌, ◌^◌, ◌-◌, Bool, true, false, not, ◌||◌, ◌&&◌, List, [], ◌∷◌, ◌++◌, arith, refl, sym, nat_eq, length, filter, IsTrue, IsFalse, tests, Option, Some, None}
+use Rattle.std.proofs.Common.{ℕ, zero, suc, ◌<◌, ◌≤◌, ◌≡◌, ◌^◌, ◌-◌, Bool, true, false, not, ◌||◌, ◌&&◌, arith, refl, nat_eq, length, filter, IsTrue, IsFalse, tests, Some}
 use Rattle.histories.specs.History.{is_raised, IsPrefix}
-use Rattle.histories.specs.Below.{OfEach, each_below}
+use Rattle.histories.specs.Below.{each_below}
 use Rattle.mm_runs.specs.Views.{System, Run, levels_at}
 use Rattle.mm_runs.specs.Commands.{shows, is_held, transfer_at}
 use Rattle.mm_runs.specs.Legal.{is_under_way}
 use Rattle.mm_runs.specs.Order.{is_joined, is_agent}
 use Rattle.mm_machines.specs.Link.{Target, Port, takes, marked_at, shown_at, words_at, AreLegalAt, AnswersAreOwed}
 use Rattle.mm_machines.specs.Lines.{target_of, tagged_operations, groups_of}
-use Rattle.mm_machines.specs.Rank.{Falls, LinkRankFalls, has_commands, moves_commands, is_excused}
+use Rattle.mm_machines.specs.Rank.{moves_commands, is_excused}
 use Rattle.mm_examples.proofs.ShortRuns.{legal_by_cycles}
-use Rattle.mm_awake.specs.Parts.{words_from_agent, has_link_work, KeepsGoing, IsArbiterPart, IsAgentPart}
-use Rattle.mm_awake.specs.HostRoute.{IsHostPart, IsRoutePart, place_shown, is_open}
+use Rattle.mm_parts.specs.Steps.{words_from_agent, IsArbiterPart, IsAgentPart, IsHostPart, IsRoutePart, place_shown, is_open}
+use Rattle.mm_awake.specs.Parts.{has_link_work, KeepsGoing}
 use Rattle.mm_examples.specs.SmallSystem.{small_system, small_run, middle, down, below, small_ways, small_standings}
 use Rattle.mm_runs.specs.Order.{taken, beats_taken, is_read_beat}
 use Rattle.mm_machines.specs.PartRanks.{has_agent_work, moves_at_agent}
@@ -53,7 +53,7 @@ pub host_zero : IsHostPart small_system small_run 0 (middle 0) 4
 host_zero = record {
   valid = refl;
   legal = legal_middle_zero.legal;
-  shape = refl;
+  bytes = refl;
   shown = four _ refl refl refl refl;
   accepts = λ c h. refl;
   same = λ c h x. refl;
@@ -66,7 +66,7 @@ pub host_one : IsHostPart small_system small_run 1 (middle 1) 4
 host_one = record {
   valid = refl;
   legal = legal_middle_one.legal;
-  shape = refl;
+  bytes = refl;
   shown = four _ refl refl refl refl;
   accepts = λ c h. refl;
   same = λ c h x. refl;

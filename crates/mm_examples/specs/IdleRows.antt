@@ -1,9 +1,8 @@
 -- Runs that let a wanted agent, or the default agent, wait for ever, and right runs of registered limiters.
-use Rattle.std.specs.Prelude.{◌≡◌, ℕ, zero, suc, true, false, [], ◌∷◌, ◌++◌, List, Bool, Some, None, nat_eq, nat_lt, if◌then◌else◌, replicate, map, ◌^◌}
+use Rattle.std.specs.Prelude.{ℕ, true, [], ◌∷◌, List, Some, None, nat_eq, nat_lt, if◌then◌else◌}
 use Rattle.ranks.specs.Turns.{Seat}
-use Rattle.mm_runs.specs.Views.{System, Run, Signals, AgentSide, AgentView, HostView}
+use Rattle.mm_runs.specs.Views.{System, Run, Signals}
 use Rattle.mm_machines.specs.Link.{Port}
-use Rattle.mm_machines.specs.Lines.{TaggedPort}
 use Rattle.mm_examples.specs.Examples.{signal, quiet, always, shape_of, host_of, agent_of, system_of, no_host, run_of}
 use Rattle.mm_examples.specs.Hung.{first_then, two_then}
 use Rattle.mm_examples.specs.Joint.{no_answers}

@@ -1,6 +1,6 @@
 -- A right small system: two hosts, two agents and the default agent, all wired. Host 0 writes to agent 0, reads agent 1 and writes to no footprint; host 1 writes to agent 0 and waits for its turn.
-use Rattle.std.specs.Prelude.{◌≡◌, ℕ, ◌*◌, true, [], ◌∷◌, Some, None, nat_eq, nat_lt, if◌then◌else◌}
-use Rattle.mm_runs.specs.Views.{System, Run, Signals, HostView, AgentView}
+use Rattle.std.specs.Prelude.{ℕ, ◌*◌, true, [], ◌∷◌, Some, None, nat_eq, nat_lt, if◌then◌else◌}
+use Rattle.mm_runs.specs.Views.{System, Run, Signals}
 use Rattle.mm_machines.specs.Paths.{AnswerView}
 use Rattle.mm_machines.specs.Link.{Port}
 use Rattle.mm_examples.specs.Examples.{signal, always, shape_of, host_of, agent_of}

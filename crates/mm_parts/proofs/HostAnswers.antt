@@ -91,7 +91,7 @@ module _ (responses : Responses) (side : HostSide) (view : HostView) (down : Por
           by_both false true r vv = let read = read_stands responses side view down state end machine legal single early c low (word_owed has c low vv) in let bad : ⊥ = cc in absurd bad
           by_both false false r vv = ap (λ r. r && not (is_raised (view.waitrequest c))) r ∙ sym vv
 
-  given_is : (c : ℕ) → c ≤ end → length (given side view c) ≡ words c
+  pub given_is : (c : ℕ) → c ≤ end → length (given side view c) ≡ words c
   given_is zero low = refl
   given_is (suc c) low =
       length-append (given side view c) _ ∙ ap₂ (λ a b. a + b) (given_is c (omega arith)) (one (gives_word side view c) (is_raised (down.answers.valid c)) (gives c low)) ∙ sym (word_more down.answers.valid c)
@@ -121,7 +121,7 @@ module _ (responses : Responses) (side : HostSide) (view : HostView) (down : Por
       by_test false e = e
       by_test true e = let not_has = without responses side view down state end machine legal single early c e in let bad : ⊥ = cc in absurd bad
 
-  lens_valid : side.has_readdatavalid ≡ true → (c : ℕ) → c ≤ end → map (λ (e : Entry). e.left) (entries (taken_at down c)) ≡ accepted_by c
+  pub lens_valid : side.has_readdatavalid ≡ true → (c : ℕ) → c ≤ end → map (λ (e : Entry). e.left) (entries (taken_at down c)) ≡ accepted_by c
   lens_valid has zero low = refl
   lens_valid has (suc c) low = lens (suc c) low ∙ ap (λ b. accepted_by (suc c) ++ lens_of (only_if b (from_host (own responses side view down state end machine legal single early c)))) (never has (suc c)) ∙ append-nil (accepted_by (suc c))
 

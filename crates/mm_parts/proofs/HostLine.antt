@@ -111,10 +111,10 @@ module _ (responses : Responses) (side : HostSide) (view : HostView) (down : Por
   pub read_is : (c : ℕ) → c < end → is_raised (down.commands.read c) ≡ not (shut c) && is_raised (view.read c)
   read_is c low = ap is_raised (machine.read c low) ∙ gated (shut c) (view.read c)
 
-  write_is : (c : ℕ) → c < end → is_raised (down.commands.write c) ≡ is_raised (view.write c)
+  pub write_is : (c : ℕ) → c < end → is_raised (down.commands.write c) ≡ is_raised (view.write c)
   write_is c low = ap is_raised (machine.write c low)
 
-  shows_is : (c : ℕ) → c < end → shows down.commands.signals c ≡ ((not (shut c) && is_raised (view.read c)) || is_raised (view.write c))
+  pub shows_is : (c : ℕ) → c < end → shows down.commands.signals c ≡ ((not (shut c) && is_raised (view.read c)) || is_raised (view.write c))
   shows_is c low = ap₂ (λ r w. r || w) (read_is c low) (write_is c low)
 
   address_is : (c : ℕ) → c < end → byte_address down.shape (down.commands.address c) ≡ byte_address side.shape (view.address c)
@@ -158,7 +158,7 @@ module _ (responses : Responses) (side : HostSide) (view : HostView) (down : Por
   same_burst zero low = refl
   same_burst (suc c) low = same_after c low (same_burst c (omega arith))
 
-  same_transfer : (c : ℕ) → c < end → (marked_at down c).transfer ≡ own c
+  pub same_transfer : (c : ℕ) → c < end → (marked_at down c).transfer ≡ own c
   same_transfer c low =
       told_is down.shape (levels_at down.commands.signals c) (burst_below c)
       ∙ ap₂ (λ w b. told w b down.shape.word_bytes (down.commands.count c) (down.commands.word c) (down.commands.enables c) (burst_below c)) (write_is c low) (address_is c low)
@@ -185,7 +185,7 @@ module _ (responses : Responses) (side : HostSide) (view : HostView) (down : Por
           by_both true false = refl
           by_both false z = refl
 
-  ends_is : (c : ℕ) → c < end → ends_now view state c ≡ (own c).ends
+  pub ends_is : (c : ℕ) → c < end → ends_now view state c ≡ (own c).ends
   ends_is c low = ap (λ n. not (is_raised (view.write c)) || (if nat_eq n 0 then nat_eq (view.count c) 1 else nat_eq n 1)) (left_is c low) ∙ by_write (is_raised (view.write c))
     where
       by_write : (w : Bool) → (not w || (if nat_eq (bh c).left 0 then nat_eq (view.count c) 1 else nat_eq (bh c).left 1)) ≡ (told w (byte_address side.shape (view.address c)) side.word_bytes (view.count c) (view.word c) (view.enables c) (bh c)).ends
@@ -207,7 +207,7 @@ module _ (responses : Responses) (side : HostSide) (view : HostView) (down : Por
   stands_taken zero = false
   stands_taken (suc c) = not side.has_readdatavalid && (if stands_taken c then not (is_raised (down.answers.valid c)) else takes_read down c)
 
-  valid_takes : side.has_readdatavalid ≡ true → (c : ℕ) → c < end → takes down c ≡ accepts c
+  pub valid_takes : side.has_readdatavalid ≡ true → (c : ℕ) → c < end → takes down c ≡ accepts c
   valid_takes has c low =
       let wait : is_raised (view.waitrequest c) ≡ (shut c && is_raised (view.read c)) || is_raised (down.commands.waitrequest c) =
       machine.wait c low ∙ ap (λ h. if is_raised (view.read c) && not h then not (state.asked c && is_raised (down.answers.valid c)) else (shut c && is_raised (view.read c)) || is_raised (down.commands.waitrequest c)) has

@@ -32,3 +32,5 @@ mod RouteLimits
 mod RouteCodes
 mod HostAnswers
 mod HostDebts
+mod ArbiterSteps
+mod HostSteps

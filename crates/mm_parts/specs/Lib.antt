@@ -11,3 +11,4 @@ pub mod HostRun
 pub mod Moments
 pub mod System
 pub mod SystemRun
+pub mod Steps

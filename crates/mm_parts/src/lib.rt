@@ -5,4 +5,5 @@ pub mod lines;
 pub mod moments;
 pub mod plans;
 pub mod runs;
+pub mod steps;
 pub mod system;

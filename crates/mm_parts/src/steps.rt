@@ -1,0 +1,31 @@
+//! What each machine does in a cycle, told by its two sides alone: never idling and fairness rest on it.
+
+ghost use Rattle.std.specs.Prelude.{◌<◌, ◌≤◌, ℕ, IsTrue, IsFalse};
+ghost use Rattle.mm_runs.specs.Views.{Responses, System, Run};
+ghost use Rattle.mm_runs.specs.Commands.{shows};
+ghost use Rattle.mm_runs.specs.Legal.{IsLegalHost};
+ghost use Rattle.mm_runs.specs.Order.{is_joined};
+ghost use Rattle.mm_machines.specs.Link.{Port, AnswersAreOwed};
+ghost use Rattle.mm_machines.specs.Lines.{TaggedPort, AreFitToAsk, AreTaggedInOrder};
+ghost use Rattle.mm_machines.specs.Turns.{Grant, seats_of};
+ghost use Rattle.mm_parts.specs.Arbiter.{IsArbiterMachine};
+ghost use Rattle.mm_parts.specs.Host.{HostState, IsHostMachine};
+ghost use Rattle.mm_parts.specs.Steps.{IsArbiterPart, IsHostPart, AreSilentPast};
+
+/// The arbiter machine passes the beats of the chosen host and sends words back by their tags.
+pub fn arbiter_machine_is_a_part()
+    ensures { (system : System) (agent : ℕ) (up : ℕ → Port) (down : TaggedPort) (grant : ℕ → Grant) (end : ℕ)
+        → ((h : ℕ) → IsTrue (is_joined system agent h) → h < system.hosts) → AreSilentPast system.hosts up end
+        → AreFitToAsk system agent up end → AreTaggedInOrder down end
+        → IsArbiterMachine (seats_of system agent) system.hosts up down grant end → IsArbiterPart system agent up down end }
+{
+    crate::lines::arbiter_machine_takes_turns()
+}
+
+/// The machine next to a host with readdatavalid passes its beats but for reads while 16 are unanswered, and gives each word in its cycle.
+pub fn host_machine_is_a_part()
+    ensures { (responses : Responses) (system : System) (run : Run) (host : ℕ) (down : Port) (state : HostState) (end : ℕ)
+        → IsTrue (system.host host).has_readdatavalid → IsLegalHost (system.host host) (run.at_host host) end
+        → AnswersAreOwed down end → IsHostMachine responses (system.host host) (run.at_host host) down state end
+        → IsHostPart system run host down end }
+{}
