@@ -34,3 +34,4 @@ mod HostAnswers
 mod HostDebts
 mod ArbiterSteps
 mod HostSteps
+mod RouteSteps

@@ -5,12 +5,13 @@ ghost use Rattle.mm_runs.specs.Views.{Responses, System, Run};
 ghost use Rattle.mm_runs.specs.Commands.{shows};
 ghost use Rattle.mm_runs.specs.Legal.{IsLegalHost};
 ghost use Rattle.mm_runs.specs.Order.{is_joined};
-ghost use Rattle.mm_machines.specs.Link.{Port, AnswersAreOwed};
-ghost use Rattle.mm_machines.specs.Lines.{TaggedPort, AreFitToAsk, AreTaggedInOrder};
+ghost use Rattle.mm_machines.specs.Link.{Port, AreLegalAt, AnswersAreOwed};
+ghost use Rattle.mm_machines.specs.Lines.{TaggedPort, AreFitToAsk, AreTaggedInOrder, AreSingle, OwesBelow};
 ghost use Rattle.mm_machines.specs.Turns.{Grant, seats_of};
 ghost use Rattle.mm_parts.specs.Arbiter.{IsArbiterMachine};
 ghost use Rattle.mm_parts.specs.Host.{HostState, IsHostMachine};
-ghost use Rattle.mm_parts.specs.Steps.{IsArbiterPart, IsHostPart, AreSilentPast};
+ghost use Rattle.mm_parts.specs.Route.{RouteState, IsRoutePlan, IsRouteMachine};
+ghost use Rattle.mm_parts.specs.Steps.{IsArbiterPart, IsHostPart, IsRoutePart, AreSilentPast};
 
 /// The arbiter machine passes the beats of the chosen host and sends words back by their tags.
 pub fn arbiter_machine_is_a_part()
@@ -29,3 +30,14 @@ pub fn host_machine_is_a_part()
         → AnswersAreOwed down end → IsHostMachine responses (system.host host) (run.at_host host) down state end
         → IsHostPart system run host down end }
 {}
+
+/// The route machine sends each beat to its place while no word is owed by another one, and gives the words of the place that owes them, each in its cycle.
+pub fn route_machine_is_a_part()
+    ensures { (responses : Responses) (system : System) (host room : ℕ) (up : Port) (down : ℕ → Port) (state : RouteState) (end : ℕ)
+        → IsRoutePlan system host up.shape → AreLegalAt up end → AreSingle up end → OwesBelow room up end
+        → ((a : ℕ) → a < system.agents → AnswersAreOwed (down a) end)
+        → IsRouteMachine responses system host room up down state end → IsRoutePart system host up down end }
+{
+    mm_runs::base_is_free();
+    crate::lines::route_machine_keeps_its_line()
+}
