@@ -121,7 +121,7 @@ module _ (system : System) (run : Run) (agent : ℕ) (up : TaggedPort) (state : 
       one false is = refl
 
   -- the agent gives a word for each read, as many cycles later
-  gives_read : (c : ℕ) → c < end → (is_raised (view.read c) && agent_accepts side view c) ≡ reads c
+  pub gives_read : (c : ℕ) → c < end → (is_raised (view.read c) && agent_accepts side view c) ≡ reads c
   gives_read c low =
       ap₂ (λ r a. r && a) (read_is side view up state end machine plan fit.legal fit.kinds c low) (sym (same_takes side view up state end machine plan fit.legal fit.kinds c low))
       ∙ ap (λ b. (not (b && not (nat_lt (length (state.queue c)) side.pending)) && is_raised (up.commands.read c)) && takes up.port c) fixed ∙ swap (is_raised (up.commands.read c)) (takes up.port c)
@@ -145,7 +145,7 @@ module _ (system : System) (run : Run) (agent : ℕ) (up : TaggedPort) (state : 
       one true = refl
       one false = refl
 
-  valid_is : (c : ℕ) → c < end → is_raised (up.answers.valid c) ≡ (nat_lt last c && reads (c - suc last))
+  pub valid_is : (c : ℕ) → c < end → is_raised (up.answers.valid c) ≡ (nat_lt last c && reads (c - suc last))
   valid_is c low = g.valid c low ∙ ap is_some (row_is c last low) ∙ by_both (nat_lt last c) (reads (c - suc last))
     where
       by_both : (b r : Bool) → is_some (if b then (if r then Some (up.commands.tag (c - suc last)) else None) else None) ≡ (b && r)

@@ -56,7 +56,7 @@ asked_tags_are (m ∷ ms) = by_test (is_of_reads m.transfer.kind) refl (asked_ta
     by_test false is ih = rw is ih
 
 -- of alike beats the reads are alike
-alike_reads : (from to : Shape) (span : ℕ) (aboves belows : List TaggedBeat) → AreAlike from to span aboves belows → AreAlike from to span (filter is_read_beat aboves) (filter is_read_beat belows)
+pub alike_reads : (from to : Shape) (span : ℕ) (aboves belows : List TaggedBeat) → AreAlike from to span aboves belows → AreAlike from to span (filter is_read_beat aboves) (filter is_read_beat belows)
 alike_reads from to span [] [] no_beats = no_beats
 alike_reads from to span [] (below ∷ belows) x = elim x [ ]
 alike_reads from to span (above ∷ aboves) [] x = elim x [ ]
@@ -67,7 +67,7 @@ alike_reads from to span (above ∷ aboves) (below ∷ belows) (one_more tag bea
     by_test false is ih = let low : is_of_reads below.beat.kind ≡ false = ap is_of_reads beat.kind ∙ is in rw (is, low) ih
 
 -- a side's read beats are those of its reads
-reads_split : (port : Port) (c : ℕ) → reads_up (taken_at port c) ≡ filter is_read_beat (tagged_beats (taken_at port c))
+pub reads_split : (port : Port) (c : ℕ) → reads_up (taken_at port c) ≡ filter is_read_beat (tagged_beats (taken_at port c))
 reads_split port zero = refl
 reads_split port (suc c) =
     ap (flat_map (λ (m : Marked). tag_all m.tag m.transfer.beats)) (filter-append (λ (m : Marked). is_of_reads m.transfer.kind) (taken_at port c) (only_if (takes port c) (marked_at port c)))

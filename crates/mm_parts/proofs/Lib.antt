@@ -35,3 +35,4 @@ mod HostDebts
 mod ArbiterSteps
 mod HostSteps
 mod RouteSteps
+mod AgentTimes

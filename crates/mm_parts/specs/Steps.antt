@@ -106,4 +106,4 @@ pub record IsAgentPart (system : System) (run : Run) (agent : ℕ) (up : TaggedP
   -- a word goes up in its cycle, or in the next where the agent accepts in its cycle; and the agent gives none that isn't asked
   pub given : (c : ℕ) → c ≤ end → length (words_at up.port c) ≤ words_from_agent system run agent c
   pub come : (c : ℕ) → c < end → IsFalse (agent_accepts (system.agent agent) (run.at_agent agent) c) → words_from_agent system run agent (suc c) ≤ length (words_at up.port (suc c))
-  pub asked : (c : ℕ) → c ≤ end → words_from_agent system run agent c ≤ length (filter is_read_beat (beats_taken system run agent c))
+  pub asked : (c : ℕ) → c < end → words_from_agent system run agent c ≤ length (filter is_read_beat (beats_taken system run agent c))
