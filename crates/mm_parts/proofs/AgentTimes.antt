@@ -34,15 +34,15 @@ reads_length (m ∷ ms) = by_kind (is_of_reads m.transfer.kind) refl (reads_leng
   where
     by_kind : (b : Bool) → is_of_reads m.transfer.kind ≡ b → length (reads_up ms) ≡ length (read_beats ms) → length (reads_up (m ∷ ms)) ≡ length (read_beats (m ∷ ms))
     by_kind true e more = rw e (
-      let one = length-append (tag_all m.tag m.transfer.beats) (reads_up ms) in
-      let two = length-append m.transfer.beats (read_beats ms) in
-      let same = length-map {B = TaggedBeat} m.transfer.beats (λ (b : Beat). record { tag = m.tag; beat = b }) in
-      omega (arith, one, two, same, more)
-    )
+        let one = length-append (tag_all m.tag m.transfer.beats) (reads_up ms) in
+        let two = length-append m.transfer.beats (read_beats ms) in
+        let same = length-map {B = TaggedBeat} m.transfer.beats (λ (b : Beat). record { tag = m.tag; beat = b }) in
+        omega (arith, one, two, same, more)
+        )
     by_kind false e more = rw e more
 
 -- histories that grow by as much in each cycle are as long
-as_long : {A B : Type 0} (f : ℕ → List A) (g : ℕ → List B) (end c : ℕ) → ((k : ℕ) → k < end → length (f k) ≡ length (g k)) → c ≤ end → length (before f c) ≡ length (before g c)
+pub as_long : {A B : Type 0} (f : ℕ → List A) (g : ℕ → List B) (end c : ℕ) → ((k : ℕ) → k < end → length (f k) ≡ length (g k)) → c ≤ end → length (before f c) ≡ length (before g c)
 as_long f g end zero same low = refl
 as_long f g end (suc c) same low =
     let more = as_long f g end c same (omega (arith, low)) in

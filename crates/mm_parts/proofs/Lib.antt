@@ -36,3 +36,4 @@ mod ArbiterSteps
 mod HostSteps
 mod RouteSteps
 mod AgentTimes
+mod AgentRank

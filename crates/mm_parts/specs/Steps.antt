@@ -1,12 +1,12 @@
 -- What the parts next to hosts and agents, the route and the arbiter do in each cycle, told by their two sides alone.
-use Rattle.std.specs.Prelude.{◌≡◌, ℕ, suc, ◌+◌, ◌<◌, ◌≤◌, Bool, true, false, not, ◌&&◌, ◌||◌, List, [], ◌∷◌, length, take, drop, map, filter, nat_eq, nat_lt, IsTrue, IsFalse, Option, Some, None}
+use Rattle.std.specs.Prelude.{◌≡◌, ℕ, suc, ◌+◌, ◌-◌, ◌<◌, ◌≤◌, Bool, true, false, not, ◌&&◌, ◌||◌, List, [], ◌∷◌, length, take, drop, map, filter, nat_eq, nat_lt, IsTrue, IsFalse, Option, Some, None}
 use Rattle.std.specs.List.{list_all}
-use Rattle.histories.specs.History.{before, is_raised}
+use Rattle.histories.specs.History.{before, is_raised, one_if}
 use Rattle.mm_runs.specs.Views.{System, Run}
-use Rattle.mm_runs.specs.Commands.{shows, transfer_at, agent_accepts}
+use Rattle.mm_runs.specs.Commands.{shows, transfer_at, agent_accepts, stood_before}
 use Rattle.mm_runs.specs.Legal.{IsLegalHost, host_accepts, given, gives_word, unanswered}
 use Rattle.mm_runs.specs.Order.{Asked, place_of, is_agent, is_joined, taken, beats_taken, is_read_beat, words_given_in}
-use Rattle.mm_runs.specs.Awake.{is_place, owes}
+use Rattle.mm_runs.specs.Awake.{is_place, owes, longest_wait}
 use Rattle.mm_machines.specs.Link.{Port, Marked, takes, taken_at, shown_at, marked_at, words_at, operations_among, AreLegalAt, AnswersAreOwed}
 use Rattle.mm_machines.specs.Lines.{TaggedPort, target_of, asked_among, AreTaggedInOrder}
 use Rattle.mm_machines.specs.Rank.{is_owed}
@@ -107,3 +107,9 @@ pub record IsAgentPart (system : System) (run : Run) (agent : ℕ) (up : TaggedP
   pub given : (c : ℕ) → c ≤ end → length (words_at up.port c) ≤ words_from_agent system run agent c
   pub come : (c : ℕ) → c < end → IsFalse (agent_accepts (system.agent agent) (run.at_agent agent) c) → words_from_agent system run agent (suc c) ≤ length (words_at up.port (suc c))
   pub asked : (c : ℕ) → c < end → words_from_agent system run agent c ≤ length (filter is_read_beat (beats_taken system run agent c))
+
+-- the rank of the part next to an agent: the wait states that the beat hasn't stood, and 1 while the agent owes a word as the cycle begins, since the gate on reads is a register
+abbrev pub agent_rank : System → Run → ℕ → ℕ → ℕ
+agent_rank system run agent c =
+    (longest_wait (system.agent agent) - stood_before (system.agent agent) (run.at_agent agent) c)
+    + one_if (nat_lt (words_from_agent system run agent c) (length (filter is_read_beat (beats_taken system run agent c))))

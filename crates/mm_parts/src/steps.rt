@@ -1,17 +1,19 @@
 //! What each machine does in a cycle, told by its two sides alone: never idling and fairness rest on it.
 
-ghost use Rattle.std.specs.Prelude.{◌<◌, ◌≤◌, ℕ, IsTrue, IsFalse};
+ghost use Rattle.std.specs.Prelude.{◌<◌, ◌≤◌, ◌+◌, ℕ, IsTrue, IsFalse};
 ghost use Rattle.mm_runs.specs.Views.{Responses, System, Run};
 ghost use Rattle.mm_runs.specs.Commands.{shows};
-ghost use Rattle.mm_runs.specs.Legal.{IsLegalHost};
+ghost use Rattle.mm_runs.specs.Legal.{IsLegalHost, IsLegalAgent};
 ghost use Rattle.mm_runs.specs.Order.{is_joined};
+ghost use Rattle.mm_runs.specs.Awake.{longest_wait};
 ghost use Rattle.mm_machines.specs.Link.{Port, AreLegalAt, AnswersAreOwed};
-ghost use Rattle.mm_machines.specs.Lines.{TaggedPort, AreFitToAsk, AreTaggedInOrder, AreSingle, OwesBelow};
+ghost use Rattle.mm_machines.specs.Lines.{TaggedPort, AreFitToAsk, AreTaggedInOrder, AreSingle, OwesBelow, IsFit};
 ghost use Rattle.mm_machines.specs.Turns.{Grant, seats_of};
+ghost use Rattle.mm_parts.specs.Agent.{AgentState, IsAgentMachine, IsAgentPlan};
 ghost use Rattle.mm_parts.specs.Arbiter.{IsArbiterMachine};
 ghost use Rattle.mm_parts.specs.Host.{HostState, IsHostMachine};
 ghost use Rattle.mm_parts.specs.Route.{RouteState, IsRoutePlan, IsRouteMachine};
-ghost use Rattle.mm_parts.specs.Steps.{IsArbiterPart, IsHostPart, IsRoutePart, AreSilentPast};
+ghost use Rattle.mm_parts.specs.Steps.{IsArbiterPart, IsHostPart, IsRoutePart, IsAgentPart, AreSilentPast, agent_rank};
 
 /// The arbiter machine passes the beats of the chosen host and sends words back by their tags.
 pub fn arbiter_machine_is_a_part()
@@ -40,4 +42,15 @@ pub fn route_machine_is_a_part()
 {
     mm_runs::base_is_free();
     crate::lines::route_machine_keeps_its_line()
+}
+
+/// The machine next to an agent accepts exactly when the agent does, has a rank of at most the longest wait time and 1, and sends words up in their cycle, or at latency 0 in the next.
+pub fn agent_machine_is_a_part()
+    ensures { (responses : Responses) (system : System) (run : Run) (agent : ℕ) (up : TaggedPort) (state : AgentState) (end : ℕ)
+        → IsAgentPlan (system.agent agent) → IsFit system agent up.port end
+        → IsLegalAgent (system.agent agent) (run.at_agent agent) end
+        → IsAgentMachine responses (system.agent agent) (run.at_agent agent) up state end
+        → IsAgentPart system run agent up (agent_rank system run agent) (longest_wait (system.agent agent) + 1) end }
+{
+    crate::lines::agent_machine_keeps_its_line()
 }
