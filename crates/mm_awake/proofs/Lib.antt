@@ -14,3 +14,4 @@ pub mod StageGoes
 pub mod Few
 pub mod Whole
 pub mod Passing
+pub mod Building

@@ -4,3 +4,4 @@ pub mod Front
 pub mod Sizes
 pub mod Slack
 pub mod Theorem
+pub mod Built

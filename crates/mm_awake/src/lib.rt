@@ -4,19 +4,39 @@
 ghost use Rattle.std.specs.Prelude.{ℕ, ◌≤◌, ◌<◌, ◌+◌};
 ghost use Rattle.histories.specs.History.{IsPrefix};
 ghost use Rattle.ranks.specs.Turns.{AllShare};
-ghost use Rattle.mm_runs.specs.Views.{System, Run};
+ghost use Rattle.mm_runs.specs.Views.{System, Run, Responses};
+ghost use Rattle.mm_runs.specs.Whole.{IsLegalRun};
 ghost use Rattle.mm_runs.specs.Awake.{Throughout, Sometime, ServesWithin, ServesDefaultWithin, agent_window};
 ghost use Rattle.mm_machines.specs.Link.{Port, Target, AreLegalAt, items};
 ghost use Rattle.mm_machines.specs.Machines.{Stage, above, below, RunsAsStage, WaitsOnlyWhenFull, owing_rank};
 ghost use Rattle.mm_machines.specs.Rank.{AnswersPromptly};
 ghost use Rattle.mm_machines.specs.Turns.{seats_of};
 ghost use Rattle.mm_parts.specs.Steps.{IsHostPart, IsRoutePart};
+ghost use Rattle.mm_awake.specs.Built.{Boundaries, States, LinkRanks, IsBuilt};
 ghost use Rattle.mm_awake.specs.Front.{KeepsWhole, IsWantedAt, IsServedIn, IsFront, IsDefaultFront, WantsDefault, IsDefaultServedIn};
 ghost use Rattle.mm_awake.specs.Front.{GivesAtOnce, AreLegalHosts, AllowLessThan, IsUnserved};
 ghost use Rattle.mm_awake.specs.Parts.{GivesWhatHasCome, KeepsGoing};
 ghost use Rattle.mm_awake.specs.Slack.{Slack, Slacks, PassesOn, AllPassOn, CostsAtMost, AreModest, all_allow};
 ghost use Rattle.mm_awake.specs.Theorem.{Approach, IsAwake, ServesWanted};
 ghost use Rattle.mm_awake.specs.Ways.{Ways, Standings, KeepsAwake, IsAtWork, longest};
+
+/// Where every part of a system is its machine, its links keep going, and the components are legal, a wanted agent, and the default agent, are served within their windows.
+pub fn machines_are_awake()
+    ensures { (responses : Responses) (system : System) (run : Run) (inside : Boundaries) (states : States) (ranks : LinkRanks) (end : ℕ)
+        → IsBuilt responses system run inside states ranks (end + 2) → IsLegalRun system run (end + 2)
+        → ServesWanted system run end }
+{
+    systems_are_awake();
+    mm_parts::steps::host_machine_is_a_part();
+    mm_parts::steps::route_machine_is_a_part();
+    mm_parts::steps::arbiter_machine_is_a_part();
+    mm_parts::steps::agent_machine_is_a_part();
+    stage_keeps_going();
+    stages_pass_on();
+    host_and_route_are_a_front();
+    words_reach_the_host();
+    host_and_route_serve_default()
+}
 
 /// Where every part of a system keeps its record and the components are legal, a wanted agent, and the default agent, are served within their windows.
 pub fn systems_are_awake()

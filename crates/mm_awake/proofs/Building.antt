@@ -1,0 +1,104 @@
+-- A system of machines is awake.
+use Rattle.std.proofs.Common.{ℕ, zero, suc, ◌<◌, ◌≤◌, ◌≡◌, ◌+◌, arith, refl, sym, subst, IsTrue}
+use Rattle.mm_runs.specs.Views.{System, Run, Responses}
+use Rattle.mm_runs.specs.Whole.{IsLegalRun}
+use Rattle.mm_runs.specs.Awake.{longest_wait}
+use Rattle.mm_runs.specs.Legal.{IsLegalHost, IsLegalAgent}
+use Rattle.mm_runs.specs.Order.{is_joined}
+use Rattle.mm_machines.specs.Link.{Port, Target, AreLegalAt, AnswersAreOwed}
+use Rattle.mm_machines.specs.Lines.{TaggedPort, AreSingle, OwesBelow, AreFitToAsk, IsFit, AreTaggedInOrder, target_of}
+use Rattle.mm_machines.specs.Machines.{Stage, above, below, RunsAsStage, WaitsOnlyWhenFull, owing_rank}
+use Rattle.mm_machines.specs.Turns.{Grant, seats_of}
+use Rattle.mm_parts.specs.Agent.{AgentState, IsAgentMachine, IsAgentPlan}
+use Rattle.mm_parts.specs.Arbiter.{IsArbiterMachine}
+use Rattle.mm_parts.specs.Host.{HostState, IsHostMachine}
+use Rattle.mm_parts.specs.Route.{RouteState, IsRouteMachine, IsRoutePlan}
+use Rattle.mm_parts.specs.Steps.{AreSilentPast, IsHostPart, IsRoutePart, IsArbiterPart, IsAgentPart, agent_rank}
+use Rattle.mm_awake.specs.Built.{Boundaries, States, LinkRanks, IsStageBetween, IsBuilt, approach_of, ways_of, standings_of, slacks_of}
+use Rattle.mm_awake.specs.Front.{KeepsWhole, IsFront, GivesAtOnce, IsDefaultFront}
+use Rattle.mm_awake.specs.Parts.{KeepsGoing}
+use Rattle.mm_awake.specs.Slack.{PassesOn, AllPassOn, AreModest}
+use Rattle.mm_awake.specs.Theorem.{IsAwake, IsApproach}
+use Rattle.mm_awake.specs.Ways.{KeepsAwake}
+
+pub record Laws : Type 0 where
+  pub host : (responses : Responses) (system : System) (run : Run) (host : ℕ) (down : Port) (state : HostState) (end : ℕ) → IsTrue (system.host host).has_readdatavalid → IsLegalHost (system.host host) (run.at_host host) end → AnswersAreOwed down end →
+      IsHostMachine responses (system.host host) (run.at_host host) down state end → IsHostPart system run host down end
+  pub route : (responses : Responses) (system : System) (host room : ℕ) (up : Port) (down : ℕ → Port) (state : RouteState) (end : ℕ) → IsRoutePlan system host up.shape → AreLegalAt up end → AreSingle up end → OwesBelow room up end →
+      ((a : ℕ) → a < system.agents → AnswersAreOwed (down a) end) → IsRouteMachine responses system host room up down state end → IsRoutePart system host up down end
+  pub arbiter : (system : System) (agent : ℕ) (up : ℕ → Port) (down : TaggedPort) (grant : ℕ → Grant) (end : ℕ) → ((h : ℕ) → IsTrue (is_joined system agent h) → h < system.hosts) → AreSilentPast system.hosts up end → AreFitToAsk system agent up end →
+      AreTaggedInOrder down end → IsArbiterMachine (seats_of system agent) system.hosts up down grant end → IsArbiterPart system agent up down end
+  pub agent : (responses : Responses) (system : System) (run : Run) (agent : ℕ) (up : TaggedPort) (state : AgentState) (end : ℕ) → IsAgentPlan (system.agent agent) → IsFit system agent up.port end → IsLegalAgent (system.agent agent) (run.at_agent agent) end →
+      IsAgentMachine responses (system.agent agent) (run.at_agent agent) up state end → IsAgentPart system run agent up (agent_rank system run agent) (longest_wait (system.agent agent) + 1) end
+  pub going : (stage : Stage) → RunsAsStage stage → 0 < stage.depth → WaitsOnlyWhenFull stage → (target : Target) (end : ℕ) → AreLegalAt (above stage) end → AreLegalAt (below stage) end → KeepsGoing target (above stage) (below stage) (owing_rank (below stage)) 1 end
+  pub pass : (stage : Stage) → RunsAsStage stage → (end : ℕ) → PassesOn (record { hold = stage.depth; kept = 1 }) (above stage) (below stage) end
+  pub front : (system : System) (run : Run) (host agent : ℕ) (middle : Port) (down : ℕ → Port) (end : ℕ) → agent < system.agents → IsHostPart system run host middle end → IsRoutePart system host middle down end → IsFront system run host agent (down agent) end
+  pub gives : (system : System) (run : Run) (host agent : ℕ) (middle : Port) (down : ℕ → Port) (end : ℕ) → agent < system.agents → IsHostPart system run host middle end → IsRoutePart system host middle down end → GivesAtOnce system run host agent (down agent) end
+  pub default : (system : System) (run : Run) (host : ℕ) (middle : Port) (down : ℕ → Port) (end : ℕ) → 0 < system.agents → IsHostPart system run host middle end → IsRoutePart system host middle down end → IsDefaultFront system run host end
+
+module _ (laws : Laws) (responses : Responses) (system : System) (run : Run) (inside : Boundaries) (states : States) (ranks : LinkRanks) (end : ℕ) (built : IsBuilt responses system run inside states ranks end) (legal : IsLegalRun system run end) where
+  host_part : (h : ℕ) → h < system.hosts → IsHostPart system run h (inside.after_host h) end
+  host_part h low = laws.host responses system run h (inside.after_host h) (states.host h) end (built.machines.valid h low) (legal.hosts h low) (built.settled.owed h low) (built.machines.host h low)
+
+  abbrev behind : ℕ → ℕ → Port
+  behind h a = inside.upper h a (inside.links h a)
+
+  route_part : (h : ℕ) → h < system.hosts → IsRoutePart system h (inside.after_host h) (behind h) end
+  route_part h low = laws.route responses system h (states.room h) (inside.after_host h) (behind h) (states.route h) end (built.plan.places h low) (built.settled.legal h low) (built.settled.single h low) (built.settled.debt h low)
+      (λ a there. built.settled.owed_upper h a low there) (built.machines.route h low)
+
+  stage_goes : (a i : ℕ) → a < system.agents → i < system.stages → KeepsGoing (target_of system a) (inside.lower a (suc i)).port (inside.lower a i).port (owing_rank (below (states.stage a i))) 1 end
+  stage_goes a i there low =
+      let stage = states.stage a i in
+      let is = built.machines.stage a i there low in
+      let up_legal = built.settled.legal_lower a (suc i) there low in
+      let down_legal = built.settled.legal_lower a i there (omega (arith, low)) in
+      let here = laws.going stage is.runs is.some is.ready (target_of system a) end (subst (λ p. AreLegalAt p end) (sym is.up_is) up_legal) (subst (λ p. AreLegalAt p end) (sym is.down_is) down_legal) in
+      subst (λ p. KeepsGoing (target_of system a) p (inside.lower a i).port (owing_rank (below stage)) 1 end) is.up_is (subst (λ p. KeepsGoing (target_of system a) (above stage) p (owing_rank (below stage)) 1 end) is.down_is here)
+
+  stage_passes : (a i : ℕ) → a < system.agents → i < system.stages → PassesOn (record { hold = (states.stage a i).depth; kept = 1 }) (inside.lower a (suc i)).port (inside.lower a i).port end
+  stage_passes a i there low =
+      let stage = states.stage a i in
+      let is = built.machines.stage a i there low in
+      subst (λ p. PassesOn (record { hold = stage.depth; kept = 1 }) p (inside.lower a i).port end) is.up_is (subst (λ p. PassesOn (record { hold = stage.depth; kept = 1 }) (above stage) p end) is.down_is (laws.pass stage is.runs end))
+
+  awake_at : (a : ℕ) → a < system.agents → KeepsAwake system run a (ways_of system inside a) (standings_of system run states ranks a) end
+  awake_at a there = record {
+    agent_part = laws.agent responses system run a (inside.lower a 0) (states.agent a) end (built.plan.agents a there) (built.settled.fit a there) (legal.agents a there) (built.machines.agent a there);
+    lower = λ i low. stage_goes a i there low;
+    arbiter = laws.arbiter system a (λ h. inside.upper h a 0) (inside.lower a system.stages) (states.grant a) end (built.plan.joined a) (built.machines.silent a there) (built.settled.asks a there) (built.settled.tagged a there) (built.machines.arbiter a there);
+    upper = λ h i low fit. built.links.going h a i low there fit;
+  }
+
+  whole_at : (a : ℕ) → a < system.agents → KeepsWhole system run a (ways_of system inside a) (standings_of system run states ranks a) end
+  whole_at a there = record {
+    awake = awake_at a there;
+    front = λ h low. laws.front system run h a (inside.after_host h) (behind h) end there (host_part h low) (route_part h low);
+    gives = λ h low. laws.gives system run h a (inside.after_host h) (behind h) end there (host_part h low) (route_part h low);
+    links = λ h low. built.links.some h a low there;
+    in_order = λ c low. built.settled.in_order a c there low;
+    words = λ h low. built.settled.words h a low there;
+  }
+
+  modest_at : (a : ℕ) → a < system.agents → AreModest system a (ways_of system inside a) (standings_of system run states ranks a) (slacks_of states ranks a)
+  modest_at a there = record {
+    stages = refl;
+    few_stages = built.plan.few_stages;
+    few_hosts = built.plan.few_hosts;
+    wait = omega arith;
+    lower = λ i low. record { hold = (built.machines.stage a i there low).few; kept = omega arith; rank = omega arith };
+    upper = λ h low. built.links.allow h a low there;
+    toll = λ h low. built.links.toll h a low there;
+  }
+
+  pub is_awake : IsAwake system run (approach_of system run inside states ranks) end
+  is_awake = record {
+    legal = legal;
+    agents = λ a there. record {
+      shares = built.plan.shares a there;
+      parts = whole_at a there;
+      pass = record { lower = λ i low. stage_passes a i there low; upper = λ h i low fit. built.links.pass h a i low there fit };
+      modest = modest_at a there;
+    };
+    default = λ h low. laws.default system run h (inside.after_host h) (behind h) end built.plan.some_agent (host_part h low) (route_part h low);
+  }

@@ -1,0 +1,118 @@
+-- Whole systems of machines, for hosts with readdatavalid, and what must be settled of their boundaries: the lines of the parts settle it.
+use Rattle.std.specs.Prelude.{◌≡◌, ℕ, suc, ◌+◌, ◌<◌, ◌≤◌, IsTrue}
+use Rattle.histories.specs.History.{IsPrefix}
+use Rattle.ranks.specs.Turns.{AllShare}
+use Rattle.mm_runs.specs.Views.{System, Run, Responses}
+use Rattle.mm_runs.specs.Order.{is_joined, taken}
+use Rattle.mm_runs.specs.Awake.{longest_wait}
+use Rattle.mm_machines.specs.Link.{Port, AreLegalAt, AnswersAreOwed, shown_at}
+use Rattle.mm_machines.specs.Lines.{TaggedPort, AreSingle, OwesBelow, AreFitToAsk, IsFit, AreTaggedInOrder, target_of, tagged_operations, groups_of}
+use Rattle.mm_machines.specs.Machines.{Stage, above, below, RunsAsStage, WaitsOnlyWhenFull, owing_rank}
+use Rattle.mm_machines.specs.Turns.{Grant, seats_of}
+use Rattle.mm_parts.specs.Agent.{AgentState, IsAgentMachine, IsAgentPlan}
+use Rattle.mm_parts.specs.Arbiter.{IsArbiterMachine}
+use Rattle.mm_parts.specs.Host.{HostState, IsHostMachine}
+use Rattle.mm_parts.specs.Route.{RouteState, IsRouteMachine, IsRoutePlan}
+use Rattle.mm_parts.specs.Steps.{AreSilentPast, agent_rank}
+use Rattle.mm_awake.specs.Parts.{KeepsGoing}
+use Rattle.mm_awake.specs.Slack.{Slack, Slacks, PassesOn, host_allows, toll}
+use Rattle.mm_awake.specs.Theorem.{Approach}
+use Rattle.mm_awake.specs.Ways.{Ways, Standing, Standings}
+
+-- the boundaries inside
+pub record Boundaries : Type 0 where
+  pub after_host : ℕ → Port
+  pub links : ℕ → ℕ → ℕ  -- how many between a host's route and an agent's arbiter
+  pub upper : ℕ → ℕ → ℕ → Port  -- of a host and an agent: 0 is before the arbiter, `links` behind the route
+  pub lower : ℕ → ℕ → TaggedPort  -- of an agent: 0 is before its part, `stages` behind the arbiter
+
+-- the registers of the machines, and the stages of the pipes
+pub record States : Type 0 where
+  pub host : ℕ → HostState
+  pub route : ℕ → RouteState
+  pub room : ℕ → ℕ  -- more words than the reads of a host may owe
+  pub grant : ℕ → ℕ → Grant  -- of an agent in a cycle
+  pub stage : ℕ → ℕ → Stage
+  pub agent : ℕ → AgentState
+
+-- a stage of two places between two boundaries
+pub record IsStageBetween (stage : Stage) (up down : Port) : Type 0 where
+  pub runs : RunsAsStage stage
+  pub some : 0 < stage.depth
+  pub few : stage.depth ≤ 2
+  pub ready : WaitsOnlyWhenFull stage
+  pub up_is : above stage ≡ up
+  pub down_is : below stage ≡ down
+
+-- every part is its machine
+pub record AreMachines (responses : Responses) (system : System) (run : Run) (inside : Boundaries) (states : States) (end : ℕ) : Type 0 where
+  pub valid : (h : ℕ) → h < system.hosts → IsTrue (system.host h).has_readdatavalid
+  pub host : (h : ℕ) → h < system.hosts → IsHostMachine responses (system.host h) (run.at_host h) (inside.after_host h) (states.host h) end
+  pub route : (h : ℕ) → h < system.hosts → IsRouteMachine responses system h (states.room h) (inside.after_host h) (λ a. inside.upper h a (inside.links h a)) (states.route h) end
+  pub arbiter : (a : ℕ) → a < system.agents → IsArbiterMachine (seats_of system a) system.hosts (λ h. inside.upper h a 0) (inside.lower a system.stages) (states.grant a) end
+  pub silent : (a : ℕ) → a < system.agents → AreSilentPast system.hosts (λ h. inside.upper h a 0) end
+  pub stage : (a i : ℕ) → a < system.agents → i < system.stages → IsStageBetween (states.stage a i) (inside.lower a (suc i)).port (inside.lower a i).port
+  pub agent : (a : ℕ) → a < system.agents → IsAgentMachine responses (system.agent a) (run.at_agent a) (inside.lower a 0) (states.agent a) end
+
+-- the ranks and slacks of the links
+pub record LinkRanks : Type 0 where
+  pub standing : ℕ → ℕ → ℕ → Standing  -- of a host, an agent and a link
+  pub slack : ℕ → ℕ → ℕ → Slack
+
+-- the boundaries, ranks and slacks that lead to an agent
+abbrev pub ways_of : System → Boundaries → ℕ → Ways
+ways_of system inside a = record { stages = system.stages; lower = λ i. (inside.lower a i).port; answer_tag = λ i. (inside.lower a i).answer_tag; above = λ h. inside.links h a; upper = λ h i. inside.upper h a i }
+
+abbrev pub standings_of : System → Run → States → LinkRanks → ℕ → Standings
+standings_of system run states ranks a = record {
+  agent = record { rank = agent_rank system run a; largest = longest_wait (system.agent a) + 1 };
+  lower = λ i. record { rank = owing_rank (below (states.stage a i)); largest = 1 };
+  upper = λ h i. ranks.standing h a i;
+}
+
+abbrev pub slacks_of : States → LinkRanks → ℕ → Slacks
+slacks_of states ranks a = record { lower = λ i. record { hold = (states.stage a i).depth; kept = 1 }; upper = λ h i. ranks.slack h a i }
+
+abbrev pub approach_of : System → Run → Boundaries → States → LinkRanks → ℕ → Approach
+approach_of system run inside states ranks a = record { ways = ways_of system inside a; standings = standings_of system run states ranks a; slacks = slacks_of states ranks a }
+
+-- every link keeps going and holds little back. A wire counts as a link
+pub record AreLinks (system : System) (run : Run) (inside : Boundaries) (states : States) (ranks : LinkRanks) (end : ℕ) : Type 0 where
+  pub some : (h a : ℕ) → h < system.hosts → a < system.agents → 0 < inside.links h a
+  pub going : (h a i : ℕ) → h < system.hosts → a < system.agents → i < inside.links h a →
+      KeepsGoing (target_of system a) (inside.upper h a (suc i)) (inside.upper h a i) (ranks.standing h a i).rank (ranks.standing h a i).largest end
+  pub pass : (h a i : ℕ) → h < system.hosts → a < system.agents → i < inside.links h a → PassesOn (ranks.slack h a i) (inside.upper h a (suc i)) (inside.upper h a i) end
+  pub allow : (h a : ℕ) → h < system.hosts → a < system.agents → host_allows system (ways_of system inside a) (standings_of system run states ranks a) (slacks_of states ranks a) h ≤ 15
+  pub toll : (h a : ℕ) → h < system.hosts → a < system.agents → toll (ways_of system inside a) (standings_of system run states ranks a) h ≤ 5
+
+-- what the plan says
+pub record ArePlanned (system : System) (inside : Boundaries) : Type 0 where
+  pub some_agent : 0 < system.agents
+  pub few_stages : system.stages ≤ 4
+  pub few_hosts : system.hosts ≤ 16
+  pub joined : (a h : ℕ) → IsTrue (is_joined system a h) → h < system.hosts
+  pub shares : (a : ℕ) → a < system.agents → AllShare (seats_of system a)
+  pub places : (h : ℕ) → h < system.hosts → IsRoutePlan system h (inside.after_host h).shape
+  pub agents : (a : ℕ) → a < system.agents → IsAgentPlan (system.agent a)
+
+-- what the lines of the parts settle of the boundaries
+pub record AreSettled (system : System) (run : Run) (inside : Boundaries) (states : States) (end : ℕ) : Type 0 where
+  pub legal : (h : ℕ) → h < system.hosts → AreLegalAt (inside.after_host h) end
+  pub single : (h : ℕ) → h < system.hosts → AreSingle (inside.after_host h) end
+  pub debt : (h : ℕ) → h < system.hosts → OwesBelow (states.room h) (inside.after_host h) end
+  pub owed : (h : ℕ) → h < system.hosts → AnswersAreOwed (inside.after_host h) end
+  pub owed_upper : (h a : ℕ) → h < system.hosts → a < system.agents → AnswersAreOwed (inside.upper h a (inside.links h a)) end
+  pub asks : (a : ℕ) → a < system.agents → AreFitToAsk system a (λ h. inside.upper h a 0) end
+  pub tagged : (a : ℕ) → a < system.agents → AreTaggedInOrder (inside.lower a system.stages) end
+  pub legal_lower : (a i : ℕ) → a < system.agents → i ≤ system.stages → AreLegalAt (inside.lower a i).port end
+  pub fit : (a : ℕ) → a < system.agents → IsFit system a (inside.lower a 0).port end
+  pub in_order : (a c : ℕ) → a < system.agents → c ≤ end →
+      IsPrefix (taken system run a c) (tagged_operations (groups_of (target_of system a) (inside.lower a system.stages).shape (shown_at (inside.lower a system.stages).port c)))
+  pub words : (h a : ℕ) → h < system.hosts → a < system.agents → (inside.upper h a 0).shape.word_bytes ≡ (inside.lower a system.stages).shape.word_bytes
+
+-- a system of machines
+pub record IsBuilt (responses : Responses) (system : System) (run : Run) (inside : Boundaries) (states : States) (ranks : LinkRanks) (end : ℕ) : Type 0 where
+  pub plan : ArePlanned system inside
+  pub machines : AreMachines responses system run inside states end
+  pub links : AreLinks system run inside states ranks end
+  pub settled : AreSettled system run inside states end
