@@ -52,3 +52,4 @@ pub mod BoundedWireLegal
 pub mod BoundedWireOrder
 pub mod BoundedWireAnswers
 pub mod BoundedWire
+mod Boundaries

@@ -14,3 +14,4 @@ pub mod Machines
 pub mod Shorter
 pub mod SideLaws
 pub mod ReadLaws
+pub mod Settled

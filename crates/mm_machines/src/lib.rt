@@ -5,4 +5,5 @@ pub mod lines;
 pub mod links;
 pub mod machines;
 pub mod progress;
+pub mod settled;
 pub mod wires;
