@@ -6,20 +6,22 @@ use Rattle.mm_runs.specs.Awake.{longest_wait}
 use Rattle.mm_runs.specs.Legal.{IsLegalHost, IsLegalAgent}
 use Rattle.mm_runs.specs.Order.{is_joined}
 use Rattle.mm_machines.specs.Link.{Port, Target, AreLegalAt, AnswersAreOwed}
-use Rattle.mm_machines.specs.Lines.{TaggedPort, AreSingle, OwesBelow, AreFitToAsk, IsFit, AreTaggedInOrder, target_of}
+use Rattle.mm_machines.specs.Lines.{TaggedPort, Inside, Holds, Wired, AreSingle, OwesBelow, AreFitToAsk, IsFit, AreTaggedInOrder, target_of}
 use Rattle.mm_machines.specs.Machines.{Stage, above, below, RunsAsStage, WaitsOnlyWhenFull, owing_rank}
+use Rattle.mm_machines.specs.Settled.{IsSettled}
 use Rattle.mm_machines.specs.Turns.{Grant, seats_of}
 use Rattle.mm_parts.specs.Agent.{AgentState, IsAgentMachine, IsAgentPlan}
 use Rattle.mm_parts.specs.Arbiter.{IsArbiterMachine}
 use Rattle.mm_parts.specs.Host.{HostState, IsHostMachine}
 use Rattle.mm_parts.specs.Route.{RouteState, IsRouteMachine, IsRoutePlan}
 use Rattle.mm_parts.specs.Steps.{AreSilentPast, IsHostPart, IsRoutePart, IsArbiterPart, IsAgentPart, agent_rank}
-use Rattle.mm_awake.specs.Built.{Boundaries, States, LinkRanks, IsStageBetween, IsBuilt, approach_of, ways_of, standings_of, slacks_of}
+use Rattle.mm_awake.specs.Built.{Boundaries, States, LinkRanks, IsStageBetween, IsBuilt, inside_of, approach_of, ways_of, standings_of, slacks_of}
 use Rattle.mm_awake.specs.Front.{KeepsWhole, IsFront, GivesAtOnce, IsDefaultFront}
 use Rattle.mm_awake.specs.Parts.{KeepsGoing}
 use Rattle.mm_awake.specs.Slack.{PassesOn, AllPassOn, AreModest}
 use Rattle.mm_awake.specs.Theorem.{IsAwake, IsApproach}
 use Rattle.mm_awake.specs.Ways.{KeepsAwake}
+use Rattle.mm_awake.proofs.Piped.{StageLaws, legal_at, tagged_at}
 
 pub record Laws : Type 0 where
   pub host : (responses : Responses) (system : System) (run : Run) (host : ℕ) (down : Port) (state : HostState) (end : ℕ) → IsTrue (system.host host).has_readdatavalid → IsLegalHost (system.host host) (run.at_host host) end → AnswersAreOwed down end →
@@ -28,6 +30,10 @@ pub record Laws : Type 0 where
       ((a : ℕ) → a < system.agents → AnswersAreOwed (down a) end) → IsRouteMachine responses system host room up down state end → IsRoutePart system host up down end
   pub arbiter : (system : System) (agent : ℕ) (up : ℕ → Port) (down : TaggedPort) (grant : ℕ → Grant) (end : ℕ) → ((h : ℕ) → IsTrue (is_joined system agent h) → h < system.hosts) → AreSilentPast system.hosts up end → AreFitToAsk system agent up end →
       AreTaggedInOrder down end → IsArbiterMachine (seats_of system agent) system.hosts up down grant end → IsArbiterPart system agent up down end
+  pub tags : (responses : Responses) (system : System) (run : Run) (agent : ℕ) (up : TaggedPort) (state : AgentState) (end : ℕ) → IsAgentPlan (system.agent agent) → IsFit system agent up.port end → IsLegalAgent (system.agent agent) (run.at_agent agent) end →
+      IsAgentMachine responses (system.agent agent) (run.at_agent agent) up state end → AreTaggedInOrder up end
+  pub stages : StageLaws
+  pub settle : (responses : Responses) (system : System) (run : Run) (inside : Inside) (holds : Holds) (end : ℕ) (wired : Wired responses system run inside holds end) → IsLegalRun system run end → IsSettled system run inside wired.room end
   pub agent : (responses : Responses) (system : System) (run : Run) (agent : ℕ) (up : TaggedPort) (state : AgentState) (end : ℕ) → IsAgentPlan (system.agent agent) → IsFit system agent up.port end → IsLegalAgent (system.agent agent) (run.at_agent agent) end →
       IsAgentMachine responses (system.agent agent) (run.at_agent agent) up state end → IsAgentPart system run agent up (agent_rank system run agent) (longest_wait (system.agent agent) + 1) end
   pub going : (stage : Stage) → RunsAsStage stage → 0 < stage.depth → WaitsOnlyWhenFull stage → (target : Target) (end : ℕ) → AreLegalAt (above stage) end → AreLegalAt (below stage) end → KeepsGoing target (above stage) (below stage) (owing_rank (below stage)) 1 end
@@ -37,22 +43,37 @@ pub record Laws : Type 0 where
   pub default : (system : System) (run : Run) (host : ℕ) (middle : Port) (down : ℕ → Port) (end : ℕ) → 0 < system.agents → IsHostPart system run host middle end → IsRoutePart system host middle down end → IsDefaultFront system run host end
 
 module _ (laws : Laws) (responses : Responses) (system : System) (run : Run) (inside : Boundaries) (states : States) (ranks : LinkRanks) (end : ℕ) (built : IsBuilt responses system run inside states ranks end) (legal : IsLegalRun system run end) where
+  abbrev settled : IsSettled system run (inside_of system inside) built.lines.room end
+  settled = laws.settle responses system run (inside_of system inside) built.holds end built.lines legal
+
+  lower_tags : (a : ℕ) → a < system.agents → AreTaggedInOrder (inside.lower a 0) end
+  lower_tags a there = laws.tags responses system run a (inside.lower a 0) (states.agent a) end (built.plan.agents a there) (settled.before_agent a there) (legal.agents a there) (built.machines.agent a there)
+
+  some_word : (a : ℕ) → a < system.agents → 0 < (inside.lower a 0).shape.word_bytes
+  some_word a there = let same = (built.machines.agent a there).commands.words in let some = (built.plan.agents a there).word in omega (arith, same, some)
+
+  lower_legal : (a i : ℕ) → a < system.agents → i ≤ system.stages → AreLegalAt (inside.lower a i).port end
+  lower_legal a i there low = legal_at laws.stages (target_of system a) (inside.lower a) (states.stage a) system.stages end (λ i low. built.machines.stage a i there low) (some_word a there) (settled.after_arbiter a there).legal (lower_tags a there) i low
+
+  lower_tagged : (a i : ℕ) → a < system.agents → i ≤ system.stages → AreTaggedInOrder (inside.lower a i) end
+  lower_tagged a i there low = tagged_at laws.stages (target_of system a) (inside.lower a) (states.stage a) system.stages end (λ i low. built.machines.stage a i there low) (some_word a there) (settled.after_arbiter a there).legal (lower_tags a there) i low
+
   host_part : (h : ℕ) → h < system.hosts → IsHostPart system run h (inside.after_host h) end
-  host_part h low = laws.host responses system run h (inside.after_host h) (states.host h) end (built.machines.valid h low) (legal.hosts h low) (built.settled.owed h low) (built.machines.host h low)
+  host_part h low = laws.host responses system run h (inside.after_host h) (states.host h) end (built.machines.valid h low) (legal.hosts h low) (settled.owed h low) (built.machines.host h low)
 
   abbrev behind : ℕ → ℕ → Port
   behind h a = inside.upper h a (inside.links h a)
 
   route_part : (h : ℕ) → h < system.hosts → IsRoutePart system h (inside.after_host h) (behind h) end
-  route_part h low = laws.route responses system h (states.room h) (inside.after_host h) (behind h) (states.route h) end (built.plan.places h low) (built.settled.legal h low) (built.settled.single h low) (built.settled.debt h low)
-      (λ a there. built.settled.owed_upper h a low there) (built.machines.route h low)
+  route_part h low = laws.route responses system h (states.room h) (inside.after_host h) (behind h) (states.route h) end (built.plan.places h low) (settled.legal h low) (settled.single h low) (subst (λ n. OwesBelow n (inside.after_host h) end) (built.rooms h) (settled.debt h low))
+      (λ a there. settled.owed_after_route h a low there) (built.machines.route h low)
 
   stage_goes : (a i : ℕ) → a < system.agents → i < system.stages → KeepsGoing (target_of system a) (inside.lower a (suc i)).port (inside.lower a i).port (owing_rank (below (states.stage a i))) 1 end
   stage_goes a i there low =
       let stage = states.stage a i in
       let is = built.machines.stage a i there low in
-      let up_legal = built.settled.legal_lower a (suc i) there low in
-      let down_legal = built.settled.legal_lower a i there (omega (arith, low)) in
+      let up_legal = lower_legal a (suc i) there low in
+      let down_legal = lower_legal a i there (omega (arith, low)) in
       let here = laws.going stage is.runs is.some is.ready (target_of system a) end (subst (λ p. AreLegalAt p end) (sym is.up_is) up_legal) (subst (λ p. AreLegalAt p end) (sym is.down_is) down_legal) in
       subst (λ p. KeepsGoing (target_of system a) p (inside.lower a i).port (owing_rank (below stage)) 1 end) is.up_is (subst (λ p. KeepsGoing (target_of system a) (above stage) p (owing_rank (below stage)) 1 end) is.down_is here)
 
@@ -64,9 +85,9 @@ module _ (laws : Laws) (responses : Responses) (system : System) (run : Run) (in
 
   awake_at : (a : ℕ) → a < system.agents → KeepsAwake system run a (ways_of system inside a) (standings_of system run states ranks a) end
   awake_at a there = record {
-    agent_part = laws.agent responses system run a (inside.lower a 0) (states.agent a) end (built.plan.agents a there) (built.settled.fit a there) (legal.agents a there) (built.machines.agent a there);
+    agent_part = laws.agent responses system run a (inside.lower a 0) (states.agent a) end (built.plan.agents a there) (settled.before_agent a there) (legal.agents a there) (built.machines.agent a there);
     lower = λ i low. stage_goes a i there low;
-    arbiter = laws.arbiter system a (λ h. inside.upper h a 0) (inside.lower a system.stages) (states.grant a) end (built.plan.joined a) (built.machines.silent a there) (built.settled.asks a there) (built.settled.tagged a there) (built.machines.arbiter a there);
+    arbiter = laws.arbiter system a (λ h. inside.upper h a 0) (inside.lower a system.stages) (states.grant a) end (built.plan.joined a) (built.machines.silent a there) (settled.asks a there) (lower_tagged a system.stages there (omega arith)) (built.machines.arbiter a there);
     upper = λ h i low fit. built.links.going h a i low there fit;
   }
 
@@ -76,8 +97,8 @@ module _ (laws : Laws) (responses : Responses) (system : System) (run : Run) (in
     front = λ h low. laws.front system run h a (inside.after_host h) (behind h) end there (host_part h low) (route_part h low);
     gives = λ h low. laws.gives system run h a (inside.after_host h) (behind h) end there (host_part h low) (route_part h low);
     links = λ h low. built.links.some h a low there;
-    in_order = λ c low. built.settled.in_order a c there low;
-    words = λ h low. built.settled.words h a low there;
+    in_order = λ c low. settled.in_order a c there low;
+    words = λ h low. built.plan.words h a low there;
   }
 
   modest_at : (a : ℕ) → a < system.agents → AreModest system a (ways_of system inside a) (standings_of system run states ranks a) (slacks_of states ranks a)

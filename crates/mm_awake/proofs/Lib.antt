@@ -15,3 +15,4 @@ pub mod Few
 pub mod Whole
 pub mod Passing
 pub mod Building
+pub mod Piped

@@ -65,7 +65,7 @@ one_asked h m = by_kind (is_of_reads m.transfer.kind)
     by_kind true = ap (count h) (append-nil (map (λ _. m.tag) m.transfer.beats)) ∙ count_all h m.tag m.transfer.beats ∙ sym (ap (λ l. if nat_eq m.tag h then length l else 0) (append-nil m.transfer.beats))
     by_kind false = none (nat_eq m.tag h)
 
-all_asked : (xs : List Marked) → length (asked_tags xs) ≡ length (read_beats xs)
+pub all_asked : (xs : List Marked) → length (asked_tags xs) ≡ length (read_beats xs)
 all_asked [] = refl
 all_asked (m ∷ xs) = by_kind (is_of_reads m.transfer.kind) (all_asked xs)
   where
@@ -83,7 +83,7 @@ all_asked (m ∷ xs) = by_kind (is_of_reads m.transfer.kind) (all_asked xs)
         omega (arith, l, one, two, more)
     by_kind false more = more
 
-all_words : (tagged : TaggedPort) (c : ℕ) → length (word_tags tagged c) ≡ length (words_at tagged.port c)
+pub all_words : (tagged : TaggedPort) (c : ℕ) → length (word_tags tagged c) ≡ length (words_at tagged.port c)
 all_words tagged zero = refl
 all_words tagged (suc c) = by_valid (is_raised (tagged.answers.valid c)) (all_words tagged c)
   where

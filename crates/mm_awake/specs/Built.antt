@@ -1,12 +1,11 @@
--- Whole systems of machines, for hosts with readdatavalid, and what must be settled of their boundaries: the lines of the parts settle it.
+-- Whole systems of machines, for hosts with readdatavalid.
 use Rattle.std.specs.Prelude.{◌≡◌, ℕ, suc, ◌+◌, ◌<◌, ◌≤◌, IsTrue}
-use Rattle.histories.specs.History.{IsPrefix}
 use Rattle.ranks.specs.Turns.{AllShare}
 use Rattle.mm_runs.specs.Views.{System, Run, Responses}
-use Rattle.mm_runs.specs.Order.{is_joined, taken}
+use Rattle.mm_runs.specs.Order.{is_joined}
 use Rattle.mm_runs.specs.Awake.{longest_wait}
-use Rattle.mm_machines.specs.Link.{Port, AreLegalAt, AnswersAreOwed, shown_at}
-use Rattle.mm_machines.specs.Lines.{TaggedPort, AreSingle, OwesBelow, AreFitToAsk, IsFit, AreTaggedInOrder, target_of, tagged_operations, groups_of}
+use Rattle.mm_machines.specs.Link.{Port}
+use Rattle.mm_machines.specs.Lines.{TaggedPort, Inside, Holds, Wired, target_of}
 use Rattle.mm_machines.specs.Machines.{Stage, above, below, RunsAsStage, WaitsOnlyWhenFull, owing_rank}
 use Rattle.mm_machines.specs.Turns.{Grant, seats_of}
 use Rattle.mm_parts.specs.Agent.{AgentState, IsAgentMachine, IsAgentPlan}
@@ -35,14 +34,15 @@ pub record States : Type 0 where
   pub stage : ℕ → ℕ → Stage
   pub agent : ℕ → AgentState
 
--- a stage of two places between two boundaries
-pub record IsStageBetween (stage : Stage) (up down : Port) : Type 0 where
+-- a stage of two places between two boundaries, with a register for the tags of its answers
+pub record IsStageBetween (stage : Stage) (up down : TaggedPort) : Type 0 where
   pub runs : RunsAsStage stage
   pub some : 0 < stage.depth
   pub few : stage.depth ≤ 2
   pub ready : WaitsOnlyWhenFull stage
-  pub up_is : above stage ≡ up
-  pub down_is : below stage ≡ down
+  pub up_is : above stage ≡ up.port
+  pub down_is : below stage ≡ down.port
+  pub tags : (c : ℕ) → up.answer_tag (suc c) ≡ down.answer_tag c
 
 -- every part is its machine
 pub record AreMachines (responses : Responses) (system : System) (run : Run) (inside : Boundaries) (states : States) (end : ℕ) : Type 0 where
@@ -51,7 +51,7 @@ pub record AreMachines (responses : Responses) (system : System) (run : Run) (in
   pub route : (h : ℕ) → h < system.hosts → IsRouteMachine responses system h (states.room h) (inside.after_host h) (λ a. inside.upper h a (inside.links h a)) (states.route h) end
   pub arbiter : (a : ℕ) → a < system.agents → IsArbiterMachine (seats_of system a) system.hosts (λ h. inside.upper h a 0) (inside.lower a system.stages) (states.grant a) end
   pub silent : (a : ℕ) → a < system.agents → AreSilentPast system.hosts (λ h. inside.upper h a 0) end
-  pub stage : (a i : ℕ) → a < system.agents → i < system.stages → IsStageBetween (states.stage a i) (inside.lower a (suc i)).port (inside.lower a i).port
+  pub stage : (a i : ℕ) → a < system.agents → i < system.stages → IsStageBetween (states.stage a i) (inside.lower a (suc i)) (inside.lower a i)
   pub agent : (a : ℕ) → a < system.agents → IsAgentMachine responses (system.agent a) (run.at_agent a) (inside.lower a 0) (states.agent a) end
 
 -- the ranks and slacks of the links
@@ -94,25 +94,24 @@ pub record ArePlanned (system : System) (inside : Boundaries) : Type 0 where
   pub shares : (a : ℕ) → a < system.agents → AllShare (seats_of system a)
   pub places : (h : ℕ) → h < system.hosts → IsRoutePlan system h (inside.after_host h).shape
   pub agents : (a : ℕ) → a < system.agents → IsAgentPlan (system.agent a)
-
--- what the lines of the parts settle of the boundaries
-pub record AreSettled (system : System) (run : Run) (inside : Boundaries) (states : States) (end : ℕ) : Type 0 where
-  pub legal : (h : ℕ) → h < system.hosts → AreLegalAt (inside.after_host h) end
-  pub single : (h : ℕ) → h < system.hosts → AreSingle (inside.after_host h) end
-  pub debt : (h : ℕ) → h < system.hosts → OwesBelow (states.room h) (inside.after_host h) end
-  pub owed : (h : ℕ) → h < system.hosts → AnswersAreOwed (inside.after_host h) end
-  pub owed_upper : (h a : ℕ) → h < system.hosts → a < system.agents → AnswersAreOwed (inside.upper h a (inside.links h a)) end
-  pub asks : (a : ℕ) → a < system.agents → AreFitToAsk system a (λ h. inside.upper h a 0) end
-  pub tagged : (a : ℕ) → a < system.agents → AreTaggedInOrder (inside.lower a system.stages) end
-  pub legal_lower : (a i : ℕ) → a < system.agents → i ≤ system.stages → AreLegalAt (inside.lower a i).port end
-  pub fit : (a : ℕ) → a < system.agents → IsFit system a (inside.lower a 0).port end
-  pub in_order : (a c : ℕ) → a < system.agents → c ≤ end →
-      IsPrefix (taken system run a c) (tagged_operations (groups_of (target_of system a) (inside.lower a system.stages).shape (shown_at (inside.lower a system.stages).port c)))
+  -- the links end at words of the agent
   pub words : (h a : ℕ) → h < system.hosts → a < system.agents → (inside.upper h a 0).shape.word_bytes ≡ (inside.lower a system.stages).shape.word_bytes
 
--- a system of machines
+-- the boundaries of the parts' lines
+abbrev pub inside_of : System → Boundaries → Inside
+inside_of system inside = record {
+  after_host = inside.after_host;
+  after_route = λ h a. inside.upper h a (inside.links h a);
+  before_arbiter = λ h a. inside.upper h a 0;
+  after_arbiter = λ a. inside.lower a system.stages;
+  before_agent = λ a. inside.lower a 0;
+}
+
+-- a system of machines, whose parts keep their lines
 pub record IsBuilt (responses : Responses) (system : System) (run : Run) (inside : Boundaries) (states : States) (ranks : LinkRanks) (end : ℕ) : Type 0 where
   pub plan : ArePlanned system inside
+  pub holds : Holds
+  pub lines : Wired responses system run (inside_of system inside) holds end
+  pub rooms : (h : ℕ) → lines.room h ≡ states.room h
   pub machines : AreMachines responses system run inside states end
   pub links : AreLinks system run inside states ranks end
-  pub settled : AreSettled system run inside states end

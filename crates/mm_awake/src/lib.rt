@@ -27,6 +27,9 @@ pub fn machines_are_awake()
         → ServesWanted system run end }
 {
     systems_are_awake();
+    mm_machines::settled::lines_settle();
+    mm_machines::machines::stage_is_a_link();
+    mm_machines::machines::stage_is_later();
     mm_parts::steps::host_machine_is_a_part();
     mm_parts::steps::route_machine_is_a_part();
     mm_parts::steps::arbiter_machine_is_a_part();

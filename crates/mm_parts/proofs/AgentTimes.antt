@@ -9,7 +9,7 @@ use Rattle.mm_runs.specs.Commands.{agent_accepts, is_of_reads}
 use Rattle.mm_runs.specs.Legal.{IsLegalAgent, Word}
 use Rattle.mm_runs.specs.Order.{TaggedBeat, beats_taken, is_read_beat, words_given_in}
 use Rattle.mm_machines.specs.Link.{Port, Marked, takes, taken_at, words_at, words_owed, read_beats}
-use Rattle.mm_machines.specs.Lines.{TaggedPort, IsFit, word_tags, asked_tags}
+use Rattle.mm_machines.specs.Lines.{TaggedPort, IsFit, AreTaggedInOrder, word_tags, asked_tags}
 use Rattle.mm_machines.specs.SideLaws.{same_counts}
 use Rattle.mm_parts.specs.Queue.{takes_read}
 use Rattle.mm_parts.specs.Agent.{AgentState, ShowsToAgent, GivesQueued, GivesFixed, IsAgentMachine, IsAgentPlan, row_places}
@@ -85,6 +85,9 @@ module _ (responses : Responses) (system : System) (run : Run) (agent : ℕ) (up
       by_has : (b : Bool) → side.has_readdatavalid ≡ b → GivesInOrder responses system run agent up end
       by_has true has = queued_in_order system run agent up state end machine.commands plan fit responses proper has (machine.queued has)
       by_has false has = fixed_in_order system run agent up state end machine.commands plan fit responses has (machine.fixed has)
+
+  pub tags_in_order : AreTaggedInOrder up end
+  tags_in_order = gives.tags
 
   abbrev words : ℕ → ℕ
   words c = length (words_at up.port c)

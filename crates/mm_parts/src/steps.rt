@@ -44,13 +44,17 @@ pub fn route_machine_is_a_part()
     crate::lines::route_machine_keeps_its_line()
 }
 
-/// The machine next to an agent accepts exactly when the agent does, has a rank of at most the longest wait time and 1, and sends words up in their cycle, or at latency 0 in the next.
+/// The machine next to an agent accepts exactly when the agent does, has a rank of at most the longest wait time and 1, and sends words up in their cycle, or at latency 0 in the next, under the tags of their reads.
 pub fn agent_machine_is_a_part()
-    ensures { (responses : Responses) (system : System) (run : Run) (agent : ℕ) (up : TaggedPort) (state : AgentState) (end : ℕ)
+    ensures part { (responses : Responses) (system : System) (run : Run) (agent : ℕ) (up : TaggedPort) (state : AgentState) (end : ℕ)
         → IsAgentPlan (system.agent agent) → IsFit system agent up.port end
         → IsLegalAgent (system.agent agent) (run.at_agent agent) end
         → IsAgentMachine responses (system.agent agent) (run.at_agent agent) up state end
         → IsAgentPart system run agent up (agent_rank system run agent) (longest_wait (system.agent agent) + 1) end }
+    ensures tags { (responses : Responses) (system : System) (run : Run) (agent : ℕ) (up : TaggedPort) (state : AgentState) (end : ℕ)
+        → IsAgentPlan (system.agent agent) → IsFit system agent up.port end
+        → IsLegalAgent (system.agent agent) (run.at_agent agent) end
+        → IsAgentMachine responses (system.agent agent) (run.at_agent agent) up state end → AreTaggedInOrder up end }
 {
     crate::lines::agent_machine_keeps_its_line()
 }

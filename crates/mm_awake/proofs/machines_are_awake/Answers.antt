@@ -9,7 +9,10 @@ returns c = λ responses system run inside states ranks end built legal.
       host = c.host_machine_is_a_part.ensures;
       route = c.route_machine_is_a_part.ensures;
       arbiter = c.arbiter_machine_is_a_part.ensures;
-      agent = c.agent_machine_is_a_part.ensures;
+      agent = c.agent_machine_is_a_part.ensures.part;
+      tags = c.agent_machine_is_a_part.ensures.tags;
+      stages = record { link = c.stage_is_a_link.ensures; later = c.stage_is_later.ensures };
+      settle = c.lines_settle.ensures;
       going = c.stage_keeps_going.ensures;
       pass = c.stages_pass_on.ensures.stage;
       front = c.host_and_route_are_a_front.ensures;
