@@ -15,11 +15,11 @@ use Rattle.mm_parts.specs.Arbiter.{IsArbiterMachine}
 use Rattle.mm_parts.specs.Host.{HostState, IsHostMachine}
 use Rattle.mm_parts.specs.Route.{RouteState, IsRouteMachine, IsRoutePlan}
 use Rattle.mm_parts.specs.Steps.{AreSilentPast, IsHostPart, IsRoutePart, IsArbiterPart, IsAgentPart, agent_rank}
-use Rattle.mm_awake.specs.Built.{Boundaries, States, LinkRanks, IsStageBetween, IsBuilt, inside_of, approach_of, ways_of, standings_of, slacks_of}
+use Rattle.mm_awake.specs.Theorem.{Boundaries, States, LinkRanks, IsStageBetween, IsBuilt, inside_of, approach_of, ways_of, standings_of, slacks_of}
 use Rattle.mm_awake.specs.Front.{KeepsWhole, IsFront, GivesAtOnce, IsDefaultFront}
 use Rattle.mm_awake.specs.Parts.{KeepsGoing}
 use Rattle.mm_awake.specs.Slack.{PassesOn, AllPassOn, AreModest}
-use Rattle.mm_awake.specs.Theorem.{IsAwake, IsApproach}
+use Rattle.mm_awake.specs.Approach.{IsAwake, IsApproach}
 use Rattle.mm_awake.specs.Ways.{KeepsAwake}
 use Rattle.mm_awake.proofs.Piped.{StageLaws, legal_at, tagged_at}
 

@@ -16,3 +16,4 @@ pub mod Whole
 pub mod Passing
 pub mod Building
 pub mod Piped
+pub mod WireGoes

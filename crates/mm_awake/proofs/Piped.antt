@@ -9,7 +9,7 @@ use Rattle.mm_machines.specs.Lines.{TaggedPort, AreTaggedInOrder, word_tags, ask
 use Rattle.mm_machines.specs.Machines.{Stage, above, below, RunsAsStage}
 use Rattle.mm_machines.specs.Shorter.{legal_at_before}
 use Rattle.mm_machines.specs.SideLaws.{taken_is_shown, same_counts}
-use Rattle.mm_awake.specs.Built.{IsStageBetween}
+use Rattle.mm_awake.specs.Theorem.{IsStageBetween}
 use Rattle.mm_awake.proofs.Owed.{all_words, all_asked}
 
 pub record StageLaws : Type 0 where

@@ -7,7 +7,7 @@ use Rattle.mm_runs.specs.Awake.{ServesWithin, ServesDefaultWithin, agent_window,
 use Rattle.mm_machines.specs.Turns.{seats_of}
 use Rattle.mm_awake.specs.Front.{KeepsWhole, IsDefaultFront, AreLegalHosts, AllowLessThan, IsUnserved}
 use Rattle.mm_awake.specs.Slack.{Slacks, AllPassOn, CostsAtMost, AreModest, all_allow}
-use Rattle.mm_awake.specs.Theorem.{Approach, IsAwake, ServesWanted}
+use Rattle.mm_awake.specs.Approach.{Approach, IsAwake, ServesWanted}
 use Rattle.mm_awake.specs.Ways.{Ways, Standings, longest}
 
 pub record Laws : Type 0 where

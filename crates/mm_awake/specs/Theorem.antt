@@ -1,34 +1,117 @@
--- A whole system never idles while an agent, or the default agent, is wanted, where each part keeps what is asked of it here. Start here, and go on to `Front`, `Parts`, `HostRoute` and `Slack`.
-use Rattle.std.specs.Prelude.{ℕ, ◌<◌}
-use Rattle.mm_runs.specs.Views.{System, Run}
-use Rattle.mm_runs.specs.Whole.{IsLegalRun}
-use Rattle.mm_runs.specs.Awake.{ServesWithin, ServesDefaultWithin, agent_window, window_of}
-use Rattle.mm_machines.specs.Turns.{seats_of}
+-- Whole systems of machines: `IsBuilt` is what `machines_are_awake` asks, `ServesWanted` of `Approach` what it gives. Start here. Each host has readdatavalid.
+use Rattle.std.specs.Prelude.{◌≡◌, ℕ, suc, ◌+◌, ◌<◌, ◌≤◌, IsTrue}
 use Rattle.ranks.specs.Turns.{AllShare}
-use Rattle.mm_awake.specs.Ways.{Ways, Standings}
-use Rattle.mm_awake.specs.Front.{KeepsWhole, IsDefaultFront}
-use Rattle.mm_awake.specs.Slack.{Slacks, AllPassOn, AreModest}
+use Rattle.mm_runs.specs.Views.{System, Run, Responses}
+use Rattle.mm_runs.specs.Order.{is_joined}
+use Rattle.mm_runs.specs.Awake.{longest_wait}
+use Rattle.mm_machines.specs.Link.{Port}
+use Rattle.mm_machines.specs.Lines.{TaggedPort, Inside, Holds, Wired, target_of}
+use Rattle.mm_machines.specs.Machines.{Stage, above, below, RunsAsStage, WaitsOnlyWhenFull, owing_rank}
+use Rattle.mm_machines.specs.Turns.{Grant, seats_of}
+use Rattle.mm_parts.specs.Agent.{AgentState, IsAgentMachine, IsAgentPlan}
+use Rattle.mm_parts.specs.Arbiter.{IsArbiterMachine}
+use Rattle.mm_parts.specs.Host.{HostState, IsHostMachine}
+use Rattle.mm_parts.specs.Route.{RouteState, IsRouteMachine, IsRoutePlan}
+use Rattle.mm_parts.specs.Steps.{AreSilentPast, agent_rank}
+use Rattle.mm_awake.specs.Parts.{KeepsGoing}
+use Rattle.mm_awake.specs.Slack.{Slack, Slacks, PassesOn, host_allows, toll}
+use Rattle.mm_awake.specs.Approach.{Approach}
+use Rattle.mm_awake.specs.Ways.{Ways, Standing, Standings}
 
--- what leads to an agent: the boundaries, the ranks of the parts between them, and what these hold back
-pub record Approach : Type 0 where
-  pub ways : Ways
-  pub standings : Standings
-  pub slacks : Slacks
+-- the boundaries inside
+pub record Boundaries : Type 0 where
+  pub after_host : ℕ → Port
+  pub links : ℕ → ℕ → ℕ  -- how many between a host's route and an agent's arbiter
+  pub upper : ℕ → ℕ → ℕ → Port  -- of a host and an agent: 0 is before the arbiter, `links` behind the route
+  pub lower : ℕ → ℕ → TaggedPort  -- of an agent: 0 is before its part, `stages` behind the arbiter
 
--- every part that leads to an agent keeps its record, each host that is joined has a share, and ranks and slacks are modest
-pub record IsApproach (system : System) (run : Run) (agent : ℕ) (approach : Approach) (end : ℕ) : Type 0 where
-  pub shares : AllShare (seats_of system agent)
-  pub parts : KeepsWhole system run agent approach.ways approach.standings end
-  pub pass : AllPassOn system approach.ways approach.slacks end
-  pub modest : AreModest system agent approach.ways approach.standings approach.slacks
+-- the registers of the machines, and the stages of the pipes
+pub record States : Type 0 where
+  pub host : ℕ → HostState
+  pub route : ℕ → RouteState
+  pub room : ℕ → ℕ  -- more words than the reads of a host may owe
+  pub grant : ℕ → ℕ → Grant  -- of an agent in a cycle
+  pub stage : ℕ → ℕ → Stage
+  pub agent : ℕ → AgentState
 
--- all parts of a system, and what is asked of the components
-pub record IsAwake (system : System) (run : Run) (approach : ℕ → Approach) (end : ℕ) : Type 0 where
-  pub legal : IsLegalRun system run end
-  pub agents : (a : ℕ) → a < system.agents → IsApproach system run a (approach a) end
-  pub default : (h : ℕ) → h < system.hosts → IsDefaultFront system run h end
+-- a stage of two places between two boundaries, with a register for the tags of its answers
+pub record IsStageBetween (stage : Stage) (up down : TaggedPort) : Type 0 where
+  pub runs : RunsAsStage stage
+  pub some : 0 < stage.depth
+  pub few : stage.depth ≤ 2
+  pub ready : WaitsOnlyWhenFull stage
+  pub up_is : above stage ≡ up.port
+  pub down_is : below stage ≡ down.port
+  pub tags : (c : ℕ) → up.answer_tag (suc c) ≡ down.answer_tag c
 
--- a wanted agent, and the default agent, are served within their windows
-pub record ServesWanted (system : System) (run : Run) (end : ℕ) : Type 0 where
-  pub agents : (a : ℕ) → a < system.agents → ServesWithin (agent_window system a) system run a end
-  pub default : ServesDefaultWithin (window_of system 0) system run end
+-- every part is its machine
+pub record AreMachines (responses : Responses) (system : System) (run : Run) (inside : Boundaries) (states : States) (end : ℕ) : Type 0 where
+  pub valid : (h : ℕ) → h < system.hosts → IsTrue (system.host h).has_readdatavalid
+  pub host : (h : ℕ) → h < system.hosts → IsHostMachine responses (system.host h) (run.at_host h) (inside.after_host h) (states.host h) end
+  pub route : (h : ℕ) → h < system.hosts → IsRouteMachine responses system h (states.room h) (inside.after_host h) (λ a. inside.upper h a (inside.links h a)) (states.route h) end
+  pub arbiter : (a : ℕ) → a < system.agents → IsArbiterMachine (seats_of system a) system.hosts (λ h. inside.upper h a 0) (inside.lower a system.stages) (states.grant a) end
+  pub silent : (a : ℕ) → a < system.agents → AreSilentPast system.hosts (λ h. inside.upper h a 0) end
+  pub stage : (a i : ℕ) → a < system.agents → i < system.stages → IsStageBetween (states.stage a i) (inside.lower a (suc i)) (inside.lower a i)
+  pub agent : (a : ℕ) → a < system.agents → IsAgentMachine responses (system.agent a) (run.at_agent a) (inside.lower a 0) (states.agent a) end
+
+-- the ranks and slacks of the links
+pub record LinkRanks : Type 0 where
+  pub standing : ℕ → ℕ → ℕ → Standing  -- of a host, an agent and a link
+  pub slack : ℕ → ℕ → ℕ → Slack
+
+-- the boundaries, ranks and slacks that lead to an agent
+abbrev pub ways_of : System → Boundaries → ℕ → Ways
+ways_of system inside a = record { stages = system.stages; lower = λ i. (inside.lower a i).port; answer_tag = λ i. (inside.lower a i).answer_tag; above = λ h. inside.links h a; upper = λ h i. inside.upper h a i }
+
+abbrev pub standings_of : System → Run → States → LinkRanks → ℕ → Standings
+standings_of system run states ranks a = record {
+  agent = record { rank = agent_rank system run a; largest = longest_wait (system.agent a) + 1 };
+  lower = λ i. record { rank = owing_rank (below (states.stage a i)); largest = 1 };
+  upper = λ h i. ranks.standing h a i;
+}
+
+abbrev pub slacks_of : States → LinkRanks → ℕ → Slacks
+slacks_of states ranks a = record { lower = λ i. record { hold = (states.stage a i).depth; kept = 1 }; upper = λ h i. ranks.slack h a i }
+
+abbrev pub approach_of : System → Run → Boundaries → States → LinkRanks → ℕ → Approach
+approach_of system run inside states ranks a = record { ways = ways_of system inside a; standings = standings_of system run states ranks a; slacks = slacks_of states ranks a }
+
+-- every link keeps going and holds little back. A wire counts as a link
+pub record AreLinks (system : System) (run : Run) (inside : Boundaries) (states : States) (ranks : LinkRanks) (end : ℕ) : Type 0 where
+  pub some : (h a : ℕ) → h < system.hosts → a < system.agents → 0 < inside.links h a
+  pub going : (h a i : ℕ) → h < system.hosts → a < system.agents → i < inside.links h a →
+      KeepsGoing (target_of system a) (inside.upper h a (suc i)) (inside.upper h a i) (ranks.standing h a i).rank (ranks.standing h a i).largest end
+  pub pass : (h a i : ℕ) → h < system.hosts → a < system.agents → i < inside.links h a → PassesOn (ranks.slack h a i) (inside.upper h a (suc i)) (inside.upper h a i) end
+  pub allow : (h a : ℕ) → h < system.hosts → a < system.agents → host_allows system (ways_of system inside a) (standings_of system run states ranks a) (slacks_of states ranks a) h ≤ 15
+  pub toll : (h a : ℕ) → h < system.hosts → a < system.agents → toll (ways_of system inside a) (standings_of system run states ranks a) h ≤ 5
+
+-- what the plan says
+pub record ArePlanned (system : System) (inside : Boundaries) : Type 0 where
+  pub some_agent : 0 < system.agents
+  pub few_stages : system.stages ≤ 4
+  pub few_hosts : system.hosts ≤ 16
+  pub joined : (a h : ℕ) → IsTrue (is_joined system a h) → h < system.hosts
+  pub shares : (a : ℕ) → a < system.agents → AllShare (seats_of system a)
+  pub places : (h : ℕ) → h < system.hosts → IsRoutePlan system h (inside.after_host h).shape
+  pub agents : (a : ℕ) → a < system.agents → IsAgentPlan (system.agent a)
+  -- the links end at words of the agent
+  pub words : (h a : ℕ) → h < system.hosts → a < system.agents → (inside.upper h a 0).shape.word_bytes ≡ (inside.lower a system.stages).shape.word_bytes
+
+-- the boundaries of the parts' lines
+abbrev pub inside_of : System → Boundaries → Inside
+inside_of system inside = record {
+  after_host = inside.after_host;
+  after_route = λ h a. inside.upper h a (inside.links h a);
+  before_arbiter = λ h a. inside.upper h a 0;
+  after_arbiter = λ a. inside.lower a system.stages;
+  before_agent = λ a. inside.lower a 0;
+}
+
+-- a system of machines, whose parts keep their lines
+pub record IsBuilt (responses : Responses) (system : System) (run : Run) (inside : Boundaries) (states : States) (ranks : LinkRanks) (end : ℕ) : Type 0 where
+  pub plan : ArePlanned system inside
+  pub holds : Holds
+  pub lines : Wired responses system run (inside_of system inside) holds end
+  pub rooms : (h : ℕ) → lines.room h ≡ states.room h
+  pub machines : AreMachines responses system run inside states end
+  pub links : AreLinks system run inside states ranks end

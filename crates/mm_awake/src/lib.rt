@@ -12,12 +12,12 @@ ghost use Rattle.mm_machines.specs.Machines.{Stage, above, below, RunsAsStage, W
 ghost use Rattle.mm_machines.specs.Rank.{AnswersPromptly};
 ghost use Rattle.mm_machines.specs.Turns.{seats_of};
 ghost use Rattle.mm_parts.specs.Steps.{IsHostPart, IsRoutePart};
-ghost use Rattle.mm_awake.specs.Built.{Boundaries, States, LinkRanks, IsBuilt};
+ghost use Rattle.mm_awake.specs.Theorem.{Boundaries, States, LinkRanks, IsBuilt};
 ghost use Rattle.mm_awake.specs.Front.{KeepsWhole, IsWantedAt, IsServedIn, IsFront, IsDefaultFront, WantsDefault, IsDefaultServedIn};
 ghost use Rattle.mm_awake.specs.Front.{GivesAtOnce, AreLegalHosts, AllowLessThan, IsUnserved};
 ghost use Rattle.mm_awake.specs.Parts.{GivesWhatHasCome, KeepsGoing};
 ghost use Rattle.mm_awake.specs.Slack.{Slack, Slacks, PassesOn, AllPassOn, CostsAtMost, AreModest, all_allow};
-ghost use Rattle.mm_awake.specs.Theorem.{Approach, IsAwake, ServesWanted};
+ghost use Rattle.mm_awake.specs.Approach.{Approach, IsAwake, ServesWanted};
 ghost use Rattle.mm_awake.specs.Ways.{Ways, Standings, KeepsAwake, IsAtWork, longest};
 
 /// Where every part of a system is its machine, its links keep going, and the components are legal, a wanted agent, and the default agent, are served within their windows.
@@ -152,6 +152,13 @@ pub fn stage_keeps_going()
 {
     mm_machines::machines::stage_has_rank();
     mm_machines::machines::transfers_of_beats()
+}
+
+/// A wire keeps going, with a rank that is always 0.
+pub fn wires_keep_going()
+    ensures { (target : Target) (port : Port) (end : ℕ) → AreLegalAt port end → KeepsGoing target port port (λ c. 0) 0 end }
+{
+    mm_machines::wires::wire_falls()
 }
 
 /// A stage holds back no more beats than its queue holds, and one word. A wire holds nothing back.

@@ -1,4 +1,4 @@
-use Rattle.mm_awake.specs.Built.{approach_of}
+use Rattle.mm_awake.specs.Theorem.{approach_of}
 use Rattle.mm_awake.proofs.Building.{is_awake}
 use Rattle.mm_awake.proofs.machines_are_awake.Goals as goal
 use Rattle.std.proofs.Common.{◌+◌}
