@@ -1,8 +1,8 @@
 -- Inputs for the machines of agent, host, route and arbiter.
-use Rattle.std.specs.Prelude.{ℕ, true, false, List, [], ◌∷◌, map, replicate, nat_eq, if◌then◌else◌}
+use Rattle.std.specs.Prelude.{Some, None, nat_lt, ℕ, true, false, List, [], ◌∷◌, map, replicate, nat_eq, if◌then◌else◌}
 use Rattle.histories.specs.History.{numbers}
 use Rattle.ranks.specs.Turns.{Seat}
-use Rattle.mm_runs.specs.Views.{Signals, HostSide, AgentSide, HostView, AgentView}
+use Rattle.mm_runs.specs.Views.{Signals, HostSide, AgentSide, HostView, AgentView, Run}
 use Rattle.mm_runs.specs.Views.Responses.{AreCodes}
 use Rattle.mm_machines.specs.Link.{Port}
 use Rattle.mm_machines.specs.Paths.{AnswerView}
@@ -12,8 +12,9 @@ use Rattle.mm_parts.specs.AgentRun.{AgentInputs, agent_registers, agent_state, a
 use Rattle.mm_parts.specs.HostRun.{HostInputs, host_registers, host_state, host_view, host_lower}
 use Rattle.mm_parts.specs.RouteRun.{RouteInputs, route_registers, route_state, route_upper, route_lower}
 use Rattle.mm_parts.specs.ArbiterRun.{ArbiterInputs, arbiter_grant, arbiter_upper, arbiter_lower}
-use Rattle.mm_examples.specs.Examples.{signal, always, shape_of}
-use Rattle.mm_examples.specs.MoreExamples.{two_agents}
+use Rattle.mm_parts.specs.SystemRun.{PlainPlan, Outside, registers_of, ports_run}
+use Rattle.mm_examples.specs.Examples.{host_of, signal, always, shape_of}
+use Rattle.mm_examples.specs.MoreExamples.{agent_with_bound, two_agents}
 
 -- the levels of the first cycles
 abbrev pub levels : (ℕ → ℕ) → ℕ → List ℕ
@@ -196,3 +197,41 @@ above_arbiter inputs = arbiter_upper inputs (arbiter_grant one_and_three inputs)
 
 abbrev pub below_arbiter : ArbiterInputs → TaggedPort
 below_arbiter inputs = arbiter_lower inputs (arbiter_grant one_and_three inputs)
+
+-- ---- a whole system: two hosts with 1 and 3 shares, and an agent of 256 bytes at 0
+
+abbrev pub shared_plan : PlainPlan
+shared_plan = record {
+  hosts = 2;
+  agents = 1;
+  host = host_of 4 true;
+  agent = agent_with_bound 4;
+  place = λ h kind address. if nat_lt address 256 then Some 0 else None;
+  base = λ h a. 0;
+  joined = λ a. 0 ∷ 1 ∷ [];
+  shares = λ h a. if nat_eq h 0 then 1 else 3;
+}
+
+abbrev pub whole_run : Outside → Run
+whole_run outside = ports_run AreCodes shared_plan outside (registers_of AreCodes shared_plan outside)
+
+-- both hosts write in every cycle
+abbrev pub both_write : Outside
+both_write = record {
+  host = λ h. plain [] (replicate 8 1);
+  waitrequest = λ a. always 0;
+  readdata = λ a. always 0;
+  readdatavalid = λ a. always 0;
+  response = λ a. always 0;
+}
+
+-- host 0 reads the agent, which waits once and gives its word two cycles after it takes the read; host 1 reads in no footprint
+abbrev pub both_read : Outside
+both_read = record {
+  host = λ h.
+      record { read = signal (if nat_eq h 0 then 1 ∷ 1 ∷ [] else 1 ∷ []); write = always 0; address = always (if nat_eq h 0 then 8 else 1024); word = always 0; enables = always 15; count = always 1 };
+  waitrequest = λ a. signal (1 ∷ []);
+  readdata = λ a. signal (0 ∷ 0 ∷ 0 ∷ 0x11 ∷ []);
+  readdatavalid = λ a. signal (0 ∷ 0 ∷ 0 ∷ 1 ∷ []);
+  response = λ a. always 0;
+}

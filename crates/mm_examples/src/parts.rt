@@ -12,6 +12,7 @@ ghost use Rattle.mm_examples.specs.PartRows.{levels, at_agent, above_agent, two_
 ghost use Rattle.mm_examples.specs.PartRows.{write_then_read_in, fixed_reads_in, burst_reads_in, at_host, below_host, burst_writes_in};
 ghost use Rattle.mm_examples.specs.PartRows.{many_reads_in, waiting_host, waiting_read_in, above_route, below_route, other_read_in};
 ghost use Rattle.mm_examples.specs.PartRows.{default_read_in, placed_burst_in, above_arbiter, below_arbiter, two_writers_in};
+ghost use Rattle.mm_examples.specs.PartRows.{whole_run, both_write, both_read};
 
 /// At a bound of one the second read is held back until the first is answered; at two the third one is.
 pub fn agent_holds_reads_back()
@@ -96,4 +97,16 @@ pub fn wrong_routes()
 pub fn wrong_hosts()
     ensures read_twice { IsHostLine AreZero waiting_system (host_run waiting_view) 0 0 1000 read_twice 2 → ⊥ }
     ensures ends_early { IsHostLine AreZero both_joined (host_run burst_view) 0 0 1000 ends_early 2 → ⊥ }
+{}
+
+/// Two hosts, their routes, an arbiter and an agent together: turns by shares of one and three, a read that waits once, and a read in no footprint.
+pub fn whole_system_rows()
+    ensures turns { levels ((whole_run both_write).at_agent 0).grant 8 ≡ 0 ∷ 1 ∷ 1 ∷ 1 ∷ 0 ∷ 1 ∷ 1 ∷ 1 ∷ [] }
+    ensures waits { levels ((whole_run both_write).at_host 0).waitrequest 8 ≡ 0 ∷ 1 ∷ 1 ∷ 1 ∷ 0 ∷ 1 ∷ 1 ∷ 1 ∷ [] }
+    ensures stall { levels ((whole_run both_read).at_host 0).waitrequest 2 ≡ 1 ∷ 0 ∷ [] }
+    ensures shown { levels ((whole_run both_read).at_agent 0).read 3 ≡ 1 ∷ 1 ∷ 0 ∷ [] }
+    ensures address { levels ((whole_run both_read).at_agent 0).address 1 ≡ 2 ∷ [] }
+    ensures words { levels ((whole_run both_read).at_host 0).readdatavalid 5 ≡ 0 ∷ 0 ∷ 0 ∷ 1 ∷ 0 ∷ [] }
+    ensures word { levels ((whole_run both_read).at_host 0).readdata 4 ≡ 0 ∷ 0 ∷ 0 ∷ 0x11 ∷ [] }
+    ensures default { levels ((whole_run both_read).at_host 1).readdatavalid 3 ≡ 0 ∷ 1 ∷ 0 ∷ [] }
 {}
