@@ -1,29 +1,37 @@
 -- A system of machines is awake.
-use Rattle.std.proofs.Common.{ℕ, zero, suc, ◌<◌, ◌≤◌, ◌≡◌, ◌+◌, arith, refl, sym, subst, IsTrue}
+use Rattle.std.proofs.Common.{ℕ, suc, ◌<◌, ◌≤◌, ◌+◌, ◌*◌, arith, refl, sym, subst, IsTrue}
 use Rattle.mm_runs.specs.Views.{System, Run, Responses}
+use Rattle.std.proofs.lemmas.Bool.{both_ways}
+use Rattle.mm_runs.specs.Commands.{longest_burst}
 use Rattle.mm_runs.specs.Whole.{IsLegalRun}
 use Rattle.mm_runs.specs.Awake.{longest_wait}
 use Rattle.mm_runs.specs.Legal.{IsLegalHost, IsLegalAgent}
 use Rattle.mm_runs.specs.Order.{is_joined}
 use Rattle.mm_machines.specs.Link.{Port, Target, AreLegalAt, AnswersAreOwed}
-use Rattle.mm_machines.specs.Lines.{TaggedPort, Inside, Holds, Wired, AreSingle, OwesBelow, AreFitToAsk, IsFit, AreTaggedInOrder, target_of}
+use Rattle.mm_machines.specs.Lines.{TaggedPort, Inside, Holds, Wired, IsHostLine, IsRouteLine, IsArbiterLine, IsAgentLine, AreSingle, OwesBelow, AreFitToAsk, IsFit, AreTaggedInOrder, target_of}
 use Rattle.mm_machines.specs.Machines.{Stage, above, below, RunsAsStage, WaitsOnlyWhenFull, owing_rank}
 use Rattle.mm_machines.specs.Settled.{IsSettled}
 use Rattle.mm_machines.specs.Turns.{Grant, seats_of}
 use Rattle.mm_parts.specs.Agent.{AgentState, IsAgentMachine, IsAgentPlan}
 use Rattle.mm_parts.specs.Arbiter.{IsArbiterMachine}
-use Rattle.mm_parts.specs.Host.{HostState, IsHostMachine}
+use Rattle.mm_parts.specs.Host.{HostState, IsHostMachine, ReadsWords}
 use Rattle.mm_parts.specs.Route.{RouteState, IsRouteMachine, IsRoutePlan}
 use Rattle.mm_parts.specs.Steps.{AreSilentPast, IsHostPart, IsRoutePart, IsArbiterPart, IsAgentPart, agent_rank}
-use Rattle.mm_awake.specs.Theorem.{Boundaries, States, LinkRanks, IsStageBetween, IsBuilt, inside_of, approach_of, ways_of, standings_of, slacks_of}
+use Rattle.mm_awake.specs.Theorem.{Boundaries, States, LinkRanks, IsBuilt, inside_of, approach_of, ways_of, standings_of, slacks_of}
 use Rattle.mm_awake.specs.Front.{KeepsWhole, IsFront, GivesAtOnce, IsDefaultFront}
 use Rattle.mm_awake.specs.Parts.{KeepsGoing}
-use Rattle.mm_awake.specs.Slack.{PassesOn, AllPassOn, AreModest}
-use Rattle.mm_awake.specs.Approach.{IsAwake, IsApproach}
+use Rattle.mm_awake.specs.Slack.{PassesOn, AreModest}
+use Rattle.mm_awake.specs.Approach.{IsAwake}
 use Rattle.mm_awake.specs.Ways.{KeepsAwake}
 use Rattle.mm_awake.proofs.Piped.{StageLaws, legal_at, tagged_at}
 
 pub record Laws : Type 0 where
+  pub host_line : (responses : Responses) (system : System) (run : Run) (host room : ℕ) (down : Port) (state : HostState) (end : ℕ) → 16 * longest_burst down.shape.burst_bits < room → ReadsWords (system.host host) (run.at_host host) end →
+      IsHostMachine responses (system.host host) (run.at_host host) down state end → IsHostLine responses system run host 0 room down end
+  pub route_line : (responses : Responses) (system : System) (host room : ℕ) (up : Port) (down : ℕ → Port) (state : RouteState) (end : ℕ) → IsRoutePlan system host up.shape → IsRouteMachine responses system host room up down state end → IsRouteLine responses system host 0 room up down end
+  pub arbiter_line : (responses : Responses) (system : System) (agent : ℕ) (up : ℕ → Port) (down : TaggedPort) (grant : ℕ → Grant) (end : ℕ) → ((h : ℕ) → IsTrue (is_joined system agent h) → h < system.hosts) →
+      IsArbiterMachine (seats_of system agent) system.hosts up down grant end → IsArbiterLine responses system agent 0 up down end
+  pub agent_line : (responses : Responses) (system : System) (run : Run) (agent : ℕ) (up : TaggedPort) (state : AgentState) (end : ℕ) → IsAgentPlan (system.agent agent) → IsAgentMachine responses (system.agent agent) (run.at_agent agent) up state end → IsAgentLine responses system run agent 0 up end
   pub host : (responses : Responses) (system : System) (run : Run) (host : ℕ) (down : Port) (state : HostState) (end : ℕ) → IsTrue (system.host host).has_readdatavalid → IsLegalHost (system.host host) (run.at_host host) end → AnswersAreOwed down end →
       IsHostMachine responses (system.host host) (run.at_host host) down state end → IsHostPart system run host down end
   pub route : (responses : Responses) (system : System) (host room : ℕ) (up : Port) (down : ℕ → Port) (state : RouteState) (end : ℕ) → IsRoutePlan system host up.shape → AreLegalAt up end → AreSingle up end → OwesBelow room up end →
@@ -43,8 +51,27 @@ pub record Laws : Type 0 where
   pub default : (system : System) (run : Run) (host : ℕ) (middle : Port) (down : ℕ → Port) (end : ℕ) → 0 < system.agents → IsHostPart system run host middle end → IsRoutePart system host middle down end → IsDefaultFront system run host end
 
 module _ (laws : Laws) (responses : Responses) (system : System) (run : Run) (inside : Boundaries) (states : States) (ranks : LinkRanks) (end : ℕ) (built : IsBuilt responses system run inside states ranks end) (legal : IsLegalRun system run end) where
-  abbrev settled : IsSettled system run (inside_of system inside) built.lines.room end
-  settled = laws.settle responses system run (inside_of system inside) built.holds end built.lines legal
+  abbrev holds : Holds
+  holds = record { host = 0; route = 0; links = built.rows.link_hold; arbiter = 0; pipe = built.rows.pipe_hold; agent = 0 }
+
+  abbrev lines : Wired responses system run (inside_of system inside) holds end
+  lines = record {
+    room = states.room;
+    placed = λ h t a low place. (built.plan.places h low).agents _ _ a place;
+    joined = built.plan.joined;
+    words = built.rows.words;
+    few = let few = built.rows.few in omega (arith, few);
+    host = λ h low. laws.host_line responses system run h (states.room h) (inside.after_host h) (states.host h) end (built.plan.rooms h low) (λ none. absurd (both_ways (system.host h).has_readdatavalid none (built.machines.valid h low))) (built.machines.host h low);
+    route = λ h low. laws.route_line responses system h (states.room h) (inside.after_host h) (λ a. inside.upper h a (inside.links h a)) (states.route h) end (built.plan.places h low) (built.machines.route h low);
+    links = built.rows.links;
+    lanes = built.rows.lanes;
+    arbiter = λ a there. laws.arbiter_line responses system a (λ h. inside.upper h a 0) (inside.lower a system.stages) (states.grant a) end (built.plan.joined a) (built.machines.arbiter a there);
+    pipe = built.rows.pipe;
+    agent = λ a there. laws.agent_line responses system run a (inside.lower a 0) (states.agent a) end (built.plan.agents a there) (built.machines.agent a there);
+  }
+
+  abbrev settled : IsSettled system run (inside_of system inside) states.room end
+  settled = laws.settle responses system run (inside_of system inside) holds end lines legal
 
   lower_tags : (a : ℕ) → a < system.agents → AreTaggedInOrder (inside.lower a 0) end
   lower_tags a there = laws.tags responses system run a (inside.lower a 0) (states.agent a) end (built.plan.agents a there) (settled.before_agent a there) (legal.agents a there) (built.machines.agent a there)
@@ -65,7 +92,7 @@ module _ (laws : Laws) (responses : Responses) (system : System) (run : Run) (in
   behind h a = inside.upper h a (inside.links h a)
 
   route_part : (h : ℕ) → h < system.hosts → IsRoutePart system h (inside.after_host h) (behind h) end
-  route_part h low = laws.route responses system h (states.room h) (inside.after_host h) (behind h) (states.route h) end (built.plan.places h low) (settled.legal h low) (settled.single h low) (subst (λ n. OwesBelow n (inside.after_host h) end) (built.rooms h) (settled.debt h low))
+  route_part h low = laws.route responses system h (states.room h) (inside.after_host h) (behind h) (states.route h) end (built.plan.places h low) (settled.legal h low) (settled.single h low) (settled.debt h low)
       (λ a there. settled.owed_after_route h a low there) (built.machines.route h low)
 
   stage_goes : (a i : ℕ) → a < system.agents → i < system.stages → KeepsGoing (target_of system a) (inside.lower a (suc i)).port (inside.lower a i).port (owing_rank (below (states.stage a i))) 1 end

@@ -1,10 +1,9 @@
 -- In a pipe of stages each boundary carries legal commands, owed answers and words under the tags of their reads.
-use Rattle.std.proofs.Common.{ℕ, zero, suc, ◌<◌, ◌≤◌, ◌≡◌, ◌+◌, ◌-◌, ◌*◌, List, [], ◌++◌, arith, refl, sym, ap, ap₂, ◌∙◌, subst, length, append-nil}
+use Rattle.std.proofs.Common.{ℕ, zero, suc, ◌<◌, ◌≤◌, ◌≡◌, ◌+◌, ◌-◌, [], ◌++◌, arith, refl, sym, ap, ap₂, ◌∙◌, subst}
 use Rattle.histories.specs.History.{IsPrefix, only_if, is_raised}
 use Rattle.histories.specs.Laws.{prefix_refl, prefix_trans, prefix_length, prefix_flat_map, prefix_filter, before_extends}
-use Rattle.mm_runs.specs.Commands.{is_of_reads, words_before}
 use Rattle.mm_runs.specs.Legal.{Word}
-use Rattle.mm_machines.specs.Link.{Target, Port, Marked, KeepsLinkLaw, AreLegalAt, AnswersAreOwed, takes, taken_at, shown_at, words_at, words_owed, read_beats}
+use Rattle.mm_machines.specs.Link.{Target, Port, KeepsLinkLaw, AreLegalAt, AnswersAreOwed, taken_at, shown_at}
 use Rattle.mm_machines.specs.Lines.{TaggedPort, AreTaggedInOrder, word_tags, asked_tags}
 use Rattle.mm_machines.specs.Machines.{Stage, above, below, RunsAsStage}
 use Rattle.mm_machines.specs.Shorter.{legal_at_before}

@@ -1,5 +1,5 @@
 -- A wire keeps going.
-use Rattle.std.proofs.Common.{ℕ, suc, ◌<◌, ◌≤◌, ◌≡◌, Bool, true, false, not, ◌||◌, ◌&&◌, arith, refl, IsTrue, IsFalse}
+use Rattle.std.proofs.Common.{ℕ, Bool, true, false, not, ◌||◌, arith, refl, IsTrue, IsFalse}
 use Rattle.std.proofs.lemmas.Bool.{or_left, or_right, both_ways}
 use Rattle.mm_runs.specs.Commands.{is_held}
 use Rattle.mm_machines.specs.Link.{Target, Port, AreLegalAt, takes}

@@ -1,11 +1,13 @@
 -- Whole systems of machines: `IsBuilt` is what `machines_are_awake` asks, `ServesWanted` of `Approach` what it gives. Start here. Each host has readdatavalid.
-use Rattle.std.specs.Prelude.{◌≡◌, ℕ, suc, ◌+◌, ◌<◌, ◌≤◌, IsTrue}
+use Rattle.std.specs.Prelude.{◌≡◌, ℕ, suc, ◌+◌, ◌*◌, ◌<◌, ◌≤◌, IsTrue}
 use Rattle.ranks.specs.Turns.{AllShare}
 use Rattle.mm_runs.specs.Views.{System, Run, Responses}
 use Rattle.mm_runs.specs.Order.{is_joined}
+use Rattle.mm_runs.specs.Operations.{pieces}
+use Rattle.mm_runs.specs.Commands.{longest_burst}
 use Rattle.mm_runs.specs.Awake.{longest_wait}
 use Rattle.mm_machines.specs.Link.{Port}
-use Rattle.mm_machines.specs.Lines.{TaggedPort, Inside, Holds, Wired, target_of}
+use Rattle.mm_machines.specs.Lines.{TaggedPort, Inside, KeepsRow, BringsLanes, IsPipeLine, target_of}
 use Rattle.mm_machines.specs.Machines.{Stage, above, below, RunsAsStage, WaitsOnlyWhenFull, owing_rank}
 use Rattle.mm_machines.specs.Turns.{Grant, seats_of}
 use Rattle.mm_parts.specs.Agent.{AgentState, IsAgentMachine, IsAgentPlan}
@@ -86,7 +88,7 @@ pub record AreLinks (system : System) (run : Run) (inside : Boundaries) (states 
   pub toll : (h a : ℕ) → h < system.hosts → a < system.agents → toll (ways_of system inside a) (standings_of system run states ranks a) h ≤ 5
 
 -- what the plan says
-pub record ArePlanned (system : System) (inside : Boundaries) : Type 0 where
+pub record ArePlanned (system : System) (inside : Boundaries) (states : States) : Type 0 where
   pub some_agent : 0 < system.agents
   pub few_stages : system.stages ≤ 4
   pub few_hosts : system.hosts ≤ 16
@@ -94,6 +96,7 @@ pub record ArePlanned (system : System) (inside : Boundaries) : Type 0 where
   pub shares : (a : ℕ) → a < system.agents → AllShare (seats_of system a)
   pub places : (h : ℕ) → h < system.hosts → IsRoutePlan system h (inside.after_host h).shape
   pub agents : (a : ℕ) → a < system.agents → IsAgentPlan (system.agent a)
+  pub rooms : (h : ℕ) → h < system.hosts → 16 * longest_burst (inside.after_host h).shape.burst_bits < states.room h
   -- the links end at words of the agent
   pub words : (h a : ℕ) → h < system.hosts → a < system.agents → (inside.upper h a 0).shape.word_bytes ≡ (inside.lower a system.stages).shape.word_bytes
 
@@ -107,11 +110,19 @@ inside_of system inside = record {
   before_agent = λ a. inside.lower a 0;
 }
 
--- a system of machines, whose parts keep their lines
+-- the links and the pipes keep their lines: what the others are made of is told by their machines
+pub record KeepRows (system : System) (run : Run) (inside : Boundaries) (states : States) (end : ℕ) : Type 0 where
+  pub link_hold : ℕ
+  pub pipe_hold : ℕ
+  pub few : link_hold + pipe_hold ≤ 5 + 2 * system.stages
+  pub links : (h a : ℕ) → h < system.hosts → a < system.agents → KeepsRow (target_of system a) link_hold (inside.upper h a (inside.links h a)) (inside.upper h a 0) end
+  pub lanes : (h a : ℕ) → h < system.hosts → a < system.agents → BringsLanes system run h a (inside.upper h a (inside.links h a)) (inside.upper h a 0) end
+  pub words : (h a : ℕ) → h < system.hosts → a < system.agents → pieces (inside.upper h a (inside.links h a)).shape (inside.upper h a 0).shape ≤ pieces (system.host h).shape (system.agent a).shape
+  pub pipe : (a : ℕ) → a < system.agents → IsPipeLine system a pipe_hold system.stages (inside.lower a system.stages) (inside.lower a 0) end
+
+-- a system of machines, whose links and pipes keep their lines
 pub record IsBuilt (responses : Responses) (system : System) (run : Run) (inside : Boundaries) (states : States) (ranks : LinkRanks) (end : ℕ) : Type 0 where
-  pub plan : ArePlanned system inside
-  pub holds : Holds
-  pub lines : Wired responses system run (inside_of system inside) holds end
-  pub rooms : (h : ℕ) → lines.room h ≡ states.room h
+  pub plan : ArePlanned system inside states
+  pub rows : KeepRows system run inside states end
   pub machines : AreMachines responses system run inside states end
   pub links : AreLinks system run inside states ranks end

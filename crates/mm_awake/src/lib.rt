@@ -20,7 +20,7 @@ ghost use Rattle.mm_awake.specs.Slack.{Slack, Slacks, PassesOn, AllPassOn, Costs
 ghost use Rattle.mm_awake.specs.Approach.{Approach, IsAwake, ServesWanted};
 ghost use Rattle.mm_awake.specs.Ways.{Ways, Standings, KeepsAwake, IsAtWork, longest};
 
-/// Where every part of a system is its machine, its links keep going, and the components are legal, a wanted agent, and the default agent, are served within their windows.
+/// Where every part of a system is its machine, its links and pipes keep their lines, its links keep going, and the components are legal, a wanted agent, and the default agent, are served within their windows.
 pub fn machines_are_awake()
     ensures { (responses : Responses) (system : System) (run : Run) (inside : Boundaries) (states : States) (ranks : LinkRanks) (end : ℕ)
         → IsBuilt responses system run inside states ranks (end + 2) → IsLegalRun system run (end + 2)
@@ -30,6 +30,10 @@ pub fn machines_are_awake()
     mm_machines::settled::lines_settle();
     mm_machines::machines::stage_is_a_link();
     mm_machines::machines::stage_is_later();
+    mm_parts::lines::host_machine_keeps_its_line();
+    mm_parts::lines::route_machine_keeps_its_line();
+    mm_parts::lines::arbiter_machine_keeps_its_line();
+    mm_parts::lines::agent_machine_keeps_its_line();
     mm_parts::steps::host_machine_is_a_part();
     mm_parts::steps::route_machine_is_a_part();
     mm_parts::steps::arbiter_machine_is_a_part();

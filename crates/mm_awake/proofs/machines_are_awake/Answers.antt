@@ -13,6 +13,10 @@ returns c = λ responses system run inside states ranks end built legal.
       tags = c.agent_machine_is_a_part.ensures.tags;
       stages = record { link = c.stage_is_a_link.ensures; later = c.stage_is_later.ensures };
       settle = c.lines_settle.ensures;
+      host_line = c.host_machine_keeps_its_line.ensures;
+      route_line = c.route_machine_keeps_its_line.ensures;
+      arbiter_line = c.arbiter_machine_keeps_its_line.ensures;
+      agent_line = c.agent_machine_keeps_its_line.ensures;
       going = c.stage_keeps_going.ensures;
       pass = c.stages_pass_on.ensures.stage;
       front = c.host_and_route_are_a_front.ensures;
