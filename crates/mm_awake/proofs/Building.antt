@@ -25,13 +25,16 @@ use Rattle.mm_awake.specs.Approach.{IsAwake}
 use Rattle.mm_awake.specs.Ways.{KeepsAwake}
 use Rattle.mm_awake.proofs.Piped.{StageLaws, legal_at, tagged_at}
 
-pub record Laws : Type 0 where
-  pub host_line : (responses : Responses) (system : System) (run : Run) (host room : ℕ) (down : Port) (state : HostState) (end : ℕ) → 16 * longest_burst down.shape.burst_bits < room → ReadsWords (system.host host) (run.at_host host) end →
+pub record LineLaws : Type 0 where
+  pub host : (responses : Responses) (system : System) (run : Run) (host room : ℕ) (down : Port) (state : HostState) (end : ℕ) → 16 * longest_burst down.shape.burst_bits < room → ReadsWords (system.host host) (run.at_host host) end →
       IsHostMachine responses (system.host host) (run.at_host host) down state end → IsHostLine responses system run host 0 room down end
-  pub route_line : (responses : Responses) (system : System) (host room : ℕ) (up : Port) (down : ℕ → Port) (state : RouteState) (end : ℕ) → IsRoutePlan system host up.shape → IsRouteMachine responses system host room up down state end → IsRouteLine responses system host 0 room up down end
-  pub arbiter_line : (responses : Responses) (system : System) (agent : ℕ) (up : ℕ → Port) (down : TaggedPort) (grant : ℕ → Grant) (end : ℕ) → ((h : ℕ) → IsTrue (is_joined system agent h) → h < system.hosts) →
+  pub route : (responses : Responses) (system : System) (host room : ℕ) (up : Port) (down : ℕ → Port) (state : RouteState) (end : ℕ) → IsRoutePlan system host up.shape → IsRouteMachine responses system host room up down state end → IsRouteLine responses system host 0 room up down end
+  pub arbiter : (responses : Responses) (system : System) (agent : ℕ) (up : ℕ → Port) (down : TaggedPort) (grant : ℕ → Grant) (end : ℕ) → ((h : ℕ) → IsTrue (is_joined system agent h) → h < system.hosts) →
       IsArbiterMachine (seats_of system agent) system.hosts up down grant end → IsArbiterLine responses system agent 0 up down end
-  pub agent_line : (responses : Responses) (system : System) (run : Run) (agent : ℕ) (up : TaggedPort) (state : AgentState) (end : ℕ) → IsAgentPlan (system.agent agent) → IsAgentMachine responses (system.agent agent) (run.at_agent agent) up state end → IsAgentLine responses system run agent 0 up end
+  pub agent : (responses : Responses) (system : System) (run : Run) (agent : ℕ) (up : TaggedPort) (state : AgentState) (end : ℕ) → IsAgentPlan (system.agent agent) → IsAgentMachine responses (system.agent agent) (run.at_agent agent) up state end → IsAgentLine responses system run agent 0 up end
+
+pub record Laws : Type 0 where
+  pub line : LineLaws
   pub host : (responses : Responses) (system : System) (run : Run) (host : ℕ) (down : Port) (state : HostState) (end : ℕ) → IsTrue (system.host host).has_readdatavalid → IsLegalHost (system.host host) (run.at_host host) end → AnswersAreOwed down end →
       IsHostMachine responses (system.host host) (run.at_host host) down state end → IsHostPart system run host down end
   pub route : (responses : Responses) (system : System) (host room : ℕ) (up : Port) (down : ℕ → Port) (state : RouteState) (end : ℕ) → IsRoutePlan system host up.shape → AreLegalAt up end → AreSingle up end → OwesBelow room up end →
@@ -50,28 +53,29 @@ pub record Laws : Type 0 where
   pub gives : (system : System) (run : Run) (host agent : ℕ) (middle : Port) (down : ℕ → Port) (end : ℕ) → agent < system.agents → IsHostPart system run host middle end → IsRoutePart system host middle down end → GivesAtOnce system run host agent (down agent) end
   pub default : (system : System) (run : Run) (host : ℕ) (middle : Port) (down : ℕ → Port) (end : ℕ) → 0 < system.agents → IsHostPart system run host middle end → IsRoutePart system host middle down end → IsDefaultFront system run host end
 
-module _ (laws : Laws) (responses : Responses) (system : System) (run : Run) (inside : Boundaries) (states : States) (ranks : LinkRanks) (end : ℕ) (built : IsBuilt responses system run inside states ranks end) (legal : IsLegalRun system run end) where
-  abbrev holds : Holds
+module _ (laws : LineLaws) (responses : Responses) (system : System) (run : Run) (inside : Boundaries) (states : States) (ranks : LinkRanks) (end : ℕ) (built : IsBuilt responses system run inside states ranks end) where
+  abbrev pub holds : Holds
   holds = record { host = 0; route = 0; links = built.rows.link_hold; arbiter = 0; pipe = built.rows.pipe_hold; agent = 0 }
 
-  abbrev lines : Wired responses system run (inside_of system inside) holds end
+  abbrev pub lines : Wired responses system run (inside_of system inside) holds end
   lines = record {
     room = states.room;
     placed = λ h t a low place. (built.plan.places h low).agents _ _ a place;
     joined = built.plan.joined;
     words = built.rows.words;
     few = let few = built.rows.few in omega (arith, few);
-    host = λ h low. laws.host_line responses system run h (states.room h) (inside.after_host h) (states.host h) end (built.plan.rooms h low) (λ none. absurd (both_ways (system.host h).has_readdatavalid none (built.machines.valid h low))) (built.machines.host h low);
-    route = λ h low. laws.route_line responses system h (states.room h) (inside.after_host h) (λ a. inside.upper h a (inside.links h a)) (states.route h) end (built.plan.places h low) (built.machines.route h low);
+    host = λ h low. laws.host responses system run h (states.room h) (inside.after_host h) (states.host h) end (built.plan.rooms h low) (λ none. absurd (both_ways (system.host h).has_readdatavalid none (built.machines.valid h low))) (built.machines.host h low);
+    route = λ h low. laws.route responses system h (states.room h) (inside.after_host h) (λ a. inside.upper h a (inside.links h a)) (states.route h) end (built.plan.places h low) (built.machines.route h low);
     links = built.rows.links;
     lanes = built.rows.lanes;
-    arbiter = λ a there. laws.arbiter_line responses system a (λ h. inside.upper h a 0) (inside.lower a system.stages) (states.grant a) end (built.plan.joined a) (built.machines.arbiter a there);
+    arbiter = λ a there. laws.arbiter responses system a (λ h. inside.upper h a 0) (inside.lower a system.stages) (states.grant a) end (built.plan.joined a) (built.machines.arbiter a there);
     pipe = built.rows.pipe;
-    agent = λ a there. laws.agent_line responses system run a (inside.lower a 0) (states.agent a) end (built.plan.agents a there) (built.machines.agent a there);
+    agent = λ a there. laws.agent responses system run a (inside.lower a 0) (states.agent a) end (built.plan.agents a there) (built.machines.agent a there);
   }
 
+module _ (laws : Laws) (responses : Responses) (system : System) (run : Run) (inside : Boundaries) (states : States) (ranks : LinkRanks) (end : ℕ) (built : IsBuilt responses system run inside states ranks end) (legal : IsLegalRun system run end) where
   abbrev settled : IsSettled system run (inside_of system inside) states.room end
-  settled = laws.settle responses system run (inside_of system inside) holds end lines legal
+  settled = laws.settle responses system run (inside_of system inside) (holds laws.line responses system run inside states ranks end built) end (lines laws.line responses system run inside states ranks end built) legal
 
   lower_tags : (a : ℕ) → a < system.agents → AreTaggedInOrder (inside.lower a 0) end
   lower_tags a there = laws.tags responses system run a (inside.lower a 0) (states.agent a) end (built.plan.agents a there) (settled.before_agent a there) (legal.agents a there) (built.machines.agent a there)

@@ -5,7 +5,7 @@ ghost use Rattle.std.specs.Prelude.{ℕ, ◌≤◌, ◌<◌, ◌+◌};
 ghost use Rattle.histories.specs.History.{IsPrefix};
 ghost use Rattle.ranks.specs.Turns.{AllShare};
 ghost use Rattle.mm_runs.specs.Views.{System, Run, Responses};
-ghost use Rattle.mm_runs.specs.Whole.{IsLegalRun};
+ghost use Rattle.mm_runs.specs.Whole.{IsLegalRun, IsSafe};
 ghost use Rattle.mm_runs.specs.Awake.{Throughout, Sometime, ServesWithin, ServesDefaultWithin, agent_window};
 ghost use Rattle.mm_machines.specs.Link.{Port, Target, AreLegalAt, items};
 ghost use Rattle.mm_machines.specs.Machines.{Stage, above, below, RunsAsStage, WaitsOnlyWhenFull, owing_rank};
@@ -20,13 +20,17 @@ ghost use Rattle.mm_awake.specs.Slack.{Slack, Slacks, PassesOn, AllPassOn, Costs
 ghost use Rattle.mm_awake.specs.Approach.{Approach, IsAwake, ServesWanted};
 ghost use Rattle.mm_awake.specs.Ways.{Ways, Standings, KeepsAwake, IsAtWork, longest};
 
-/// Where every part of a system is its machine, its links and pipes keep their lines, its links keep going, and the components are legal, a wanted agent, and the default agent, are served within their windows.
+/// Where every part of a system is its machine, its links and pipes keep their lines, its links keep going, and the components are legal, the whole is safe, and a wanted agent, and the default agent, are served within their windows.
 pub fn machines_are_awake()
-    ensures { (responses : Responses) (system : System) (run : Run) (inside : Boundaries) (states : States) (ranks : LinkRanks) (end : ℕ)
+    ensures safe { (responses : Responses) (system : System) (run : Run) (inside : Boundaries) (states : States) (ranks : LinkRanks) (end : ℕ)
+        → IsBuilt responses system run inside states ranks end → IsLegalRun system run end
+        → IsSafe responses system run end }
+    ensures awake { (responses : Responses) (system : System) (run : Run) (inside : Boundaries) (states : States) (ranks : LinkRanks) (end : ℕ)
         → IsBuilt responses system run inside states ranks (end + 2) → IsLegalRun system run (end + 2)
         → ServesWanted system run end }
 {
     systems_are_awake();
+    mm_machines::lines::the_lines_give_the_headline();
     mm_machines::settled::lines_settle();
     mm_machines::machines::stage_is_a_link();
     mm_machines::machines::stage_is_later();
