@@ -1,11 +1,11 @@
 -- Modest ranks and slacks fit in an agent's window.
-use Rattle.std.proofs.Common.{ℕ, zero, suc, ◌<◌, ◌≤◌, ◌≡◌, ◌+◌, ◌*◌, arith}
+use Rattle.std.proofs.Common.{ℕ, zero, suc, ◌<◌, ◌≤◌, ◌≡◌, ◌+◌, ◌*◌, arith, refl}
 use Rattle.mm_runs.specs.Views.{System}
 use Rattle.mm_runs.specs.Awake.{agent_window}
 use Rattle.ranks.specs.Sizes.{sum_below}
 use Rattle.mm_awake.specs.Ways.{Ways, Standings}
 use Rattle.mm_awake.specs.Sizes.{allows}
-use Rattle.mm_awake.specs.Slack.{Slacks, AreModest, lower_beats, lower_words, stage_allows, host_allows, all_allow}
+use Rattle.mm_awake.specs.Slack.{Slacks, AreModest, HasModestLinks, upper_beats, upper_words, link_allows, toll, lower_beats, lower_words, stage_allows, host_allows, all_allow}
 use Rattle.mm_awake.proofs.Few.{sum_most}
 
 -- the sum over the stages, for each number of them
@@ -59,3 +59,72 @@ module _ (system : System) (agent : ℕ) (ways : Ways) (standings : Standings) (
       let links = sum_most (host_allows system ways standings slacks) (λ h. 15) system.hosts modest.upper in
       let all = sum_of_one 15 system.hosts in
       omega (arith, same, few, hosts, wait, stages, whole, beats, words, links, all)
+
+module _ (system : System) (ways : Ways) (standings : Standings) (slacks : Slacks) (h : ℕ) (modest : HasModestLinks ways standings slacks h) where
+  abbrev beats : ℕ → ℕ
+  beats i = upper_beats slacks h i
+
+  abbrev words : ℕ → ℕ
+  words i = upper_words slacks h i
+
+  first_allows : 0 < ways.above h → link_allows standings slacks h 0 ≤ 5
+  first_allows some =
+      let is = modest.first some in
+      let hold = is.hold in
+      let kept = is.kept in
+      let most = two_ranks ((beats 0 + beats 1) + words 1) (standings.upper h 0).largest is.rank in
+      omega (arith, hold, kept, most)
+
+  second_allows : 1 < ways.above h → link_allows standings slacks h 1 ≤ 7
+  second_allows some =
+      let first = modest.first (omega (arith, some)) in
+      let is = modest.second some in
+      let hold = first.hold in
+      let kept = first.kept in
+      let hold_next = is.hold in
+      let kept_next = is.kept in
+      let most = two_ranks ((beats 1 + beats 2) + words 2) (standings.upper h 1).largest is.rank in
+      omega (arith, hold, kept, hold_next, kept_next, most)
+
+  third_allows : 2 < ways.above h → link_allows standings slacks h 2 ≤ 3
+  third_allows some =
+      let first = modest.first (omega (arith, some)) in
+      let second = modest.second (omega (arith, some)) in
+      let is = modest.third some in
+      let hold = first.hold in
+      let kept = first.kept in
+      let hold_next = second.hold in
+      let kept_next = second.kept in
+      let hold_last = is.hold in
+      let kept_last = is.kept in
+      let most = no_rank ((beats 2 + beats 3) + words 3) (standings.upper h 2).largest is.rank in
+      omega (arith, hold, kept, hold_next, kept_next, hold_last, kept_last, most)
+    where
+      no_rank : (moves largest : ℕ) → largest ≤ 0 → allows moves largest ≤ moves
+      no_rank moves zero low = omega arith
+      no_rank moves (suc n) low = absurd (omega (arith, low))
+
+  pub links_fit : (host_allows system ways standings slacks h ≤ 15) × (toll ways standings h ≤ 5)
+  links_fit = by_count (ways.above h) refl
+    where
+      by_count : (n : ℕ) → ways.above h ≡ n → (sum_below (link_allows standings slacks h) n ≤ 15) × (sum_below (λ i. (standings.upper h i).largest + 1) n ≤ 5)
+      by_count zero same = (omega arith, omega arith)
+      by_count (suc zero) same =
+          let one = first_allows (omega (arith, same)) in
+          let rank = (modest.first (omega (arith, same))).rank in
+          (omega (arith, one), omega (arith, rank))
+      by_count (suc (suc zero)) same =
+          let one = first_allows (omega (arith, same)) in
+          let two = second_allows (omega (arith, same)) in
+          let rank = (modest.first (omega (arith, same))).rank in
+          let next = (modest.second (omega (arith, same))).rank in
+          (omega (arith, one, two), omega (arith, rank, next))
+      by_count (suc (suc (suc zero))) same =
+          let one = first_allows (omega (arith, same)) in
+          let two = second_allows (omega (arith, same)) in
+          let three = third_allows (omega (arith, same)) in
+          let rank = (modest.first (omega (arith, same))).rank in
+          let next = (modest.second (omega (arith, same))).rank in
+          let last = (modest.third (omega (arith, same))).rank in
+          (omega (arith, one, two, three), omega (arith, rank, next, last))
+      by_count (suc (suc (suc (suc n)))) same = let few = modest.few in absurd (omega (arith, few, same))

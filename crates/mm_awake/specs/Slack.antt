@@ -87,3 +87,16 @@ pub record AreModest (system : System) (agent : ℕ) (ways : Ways) (standings : 
   pub lower : (i : ℕ) → i < ways.stages → IsModestStage (slacks.lower i) (standings.lower i)
   pub upper : (h : ℕ) → h < system.hosts → host_allows system ways standings slacks h ≤ 15
   pub toll : CostsAtMost 5 system ways standings
+
+-- a link with so small a rank that holds so little back
+pub record IsModestLink (slack : Slack) (standing : Standing) (most_held most_kept most_rank : ℕ) : Type 0 where
+  pub hold : slack.hold ≤ most_held
+  pub kept : slack.kept ≤ most_kept
+  pub rank : standing.largest ≤ most_rank
+
+-- the links of a host: at most three; the lowest may hold a beat, give a word of its own and have a rank of 1, the next may have a rank of 1
+pub record HasModestLinks (ways : Ways) (standings : Standings) (slacks : Slacks) (h : ℕ) : Type 0 where
+  pub few : ways.above h ≤ 3
+  pub first : 0 < ways.above h → IsModestLink (slacks.upper h 0) (standings.upper h 0) 1 1 1
+  pub second : 1 < ways.above h → IsModestLink (slacks.upper h 1) (standings.upper h 1) 0 0 1
+  pub third : 2 < ways.above h → IsModestLink (slacks.upper h 2) (standings.upper h 2) 0 0 0

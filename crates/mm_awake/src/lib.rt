@@ -16,7 +16,7 @@ ghost use Rattle.mm_awake.specs.Theorem.{Boundaries, States, LinkRanks, IsBuilt}
 ghost use Rattle.mm_awake.specs.Front.{KeepsWhole, IsWantedAt, IsServedIn, IsFront, IsDefaultFront, WantsDefault, IsDefaultServedIn};
 ghost use Rattle.mm_awake.specs.Front.{GivesAtOnce, AreLegalHosts, AllowLessThan, IsUnserved};
 ghost use Rattle.mm_awake.specs.Parts.{GivesWhatHasCome, KeepsGoing};
-ghost use Rattle.mm_awake.specs.Slack.{Slack, Slacks, PassesOn, AllPassOn, CostsAtMost, AreModest, all_allow};
+ghost use Rattle.mm_awake.specs.Slack.{Slack, Slacks, PassesOn, AllPassOn, CostsAtMost, AreModest, HasModestLinks, host_allows, toll, all_allow};
 ghost use Rattle.mm_awake.specs.Approach.{Approach, IsAwake, ServesWanted};
 ghost use Rattle.mm_awake.specs.Ways.{Ways, Standings, KeepsAwake, IsAtWork, longest};
 
@@ -104,6 +104,12 @@ pub fn moves_are_few()
 pub fn modest_parts_fit()
     ensures { (system : System) (agent : ℕ) (ways : Ways) (standings : Standings) (slacks : Slacks)
         → AreModest system agent ways standings slacks → all_allow system ways standings slacks 5 < agent_window system agent }
+{}
+
+/// Three links fit, of which the lowest holds a beat, gives a word of its own and has a rank of 1, and the next has a rank of 1.
+pub fn modest_links_fit()
+    ensures { (system : System) (ways : Ways) (standings : Standings) (slacks : Slacks) (h : ℕ) → HasModestLinks ways standings slacks h
+        → (host_allows system ways standings slacks h ≤ 15) × (toll ways standings h ≤ 5) }
 {}
 
 /// Where the hosts are legal and each front keeps what is asked for the default agent, the default agent serves within two cycles.
