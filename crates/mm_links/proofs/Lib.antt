@@ -10,3 +10,4 @@ pub mod Lanes
 pub mod Selecting
 pub mod Splitting
 pub mod DrivenRuns
+pub mod SplitTags

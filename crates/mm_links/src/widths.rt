@@ -2,6 +2,8 @@
 
 ghost use Rattle.std.specs.Prelude.{◌<◌, ℕ, List};
 ghost use Rattle.mm_machines.specs.Link.{Target, Port, AreLegalAt, CarriesCommands};
+ghost use Rattle.mm_machines.specs.Lines.{HandsOn};
+ghost use Rattle.mm_machines.specs.PartRanks.{HoldsBack};
 ghost use Rattle.mm_machines.specs.Machines.{IsExpanderRun, MaySplit, split_parts, parts_sent};
 ghost use Rattle.mm_links.specs.Links.{IsLink};
 ghost use Rattle.mm_links.specs.Selects.{RunsAsSelect, IsSelectPlan, EnablesFit, select_form};
@@ -18,12 +20,17 @@ pub fn select_is_a_link()
     mm_machines::machines::beat_is_selected()
 }
 
-/// A splitter sends the pieces of each beat in order and accepts the beat with the last of them, so it carries commands and holds nothing.
+/// A splitter sends the pieces of each beat in order and accepts the beat with the last of them, so it carries commands, holds nothing,
+/// and makes no tags and no kinds of its own.
 pub fn split_carries_commands()
     ensures pieces { (room : ℕ) (up down : Port) (state : SplitState) (end : ℕ) → RunsAsSplit room up down state → AreLegalAt up end
         → IsExpanderRun (split_parts up.shape down.shape) up down (parts_sent up down) (split_rest up down state) end }
     ensures commands { (target : Target) (room count : ℕ) (up down : Port) (state : SplitState) (end : ℕ) → MaySplit target up.shape down.shape count
         → RunsAsSplit room up down state → AreLegalAt up end → CarriesCommands target 0 up down end }
+    ensures back { (target : Target) (room count : ℕ) (up down : Port) (state : SplitState) (end : ℕ) → MaySplit target up.shape down.shape count
+        → RunsAsSplit room up down state → AreLegalAt up end → HoldsBack 0 target up down end }
+    ensures tags { (room : ℕ) (up down : Port) (state : SplitState) (end : ℕ) → RunsAsSplit room up down state → AreLegalAt up end
+        → HandsOn up down end }
 {
     mm_machines::machines::split_carries()
 }
