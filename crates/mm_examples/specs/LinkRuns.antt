@@ -3,7 +3,7 @@ use Rattle.std.specs.Prelude.{ℕ, true, [], ◌∷◌}
 use Rattle.mm_runs.specs.Views.{Shape}
 use Rattle.mm_machines.specs.Link.{Port, Target}
 use Rattle.mm_machines.specs.Lines.{TaggedPort}
-use Rattle.mm_links.specs.Driven.{Inputs, SelectInputs, PipeInputs}
+use Rattle.mm_links.specs.Driven.{Inputs, SelectInputs, PipeInputs, SplitInputs}
 use Rattle.mm_examples.specs.Examples.{signal, always}
 use Rattle.mm_examples.specs.MoreExamples.{write_port}
 
@@ -97,3 +97,46 @@ answered_at_once = read_port 1 2 1 9
 -- the wide write of the pieces, accepted with its first piece
 abbrev pub accepts_early : Port
 accepts_early = write_port 4 (1 ∷ []) (4 ∷ []) (0xaabbccdd ∷ []) 6 [] []
+
+-- a read of four bytes at address 4 with the lanes 6, to an agent of bytes; its two words come in cycles 1 and 2
+abbrev pub gathering : SplitInputs
+gathering = record {
+  wide = lane_shape 4;
+  narrow = lane_shape 1;
+  room = 16;
+  inputs = record {
+    signals = record { read = signal (1 ∷ 1 ∷ []); write = always 0; address = always 4; word = always 0; enables = always 6; count = always 1 };
+    more = always 0;
+    tag = always 0;
+    waitrequest = always 0;
+    answers = record { valid = signal (0 ∷ 1 ∷ 1 ∷ []); word = signal (0 ∷ 0xcc ∷ 0xbb ∷ []); code = signal (0 ∷ 2 ∷ 0 ∷ []) };
+  };
+}
+
+-- the two byte reads, and the read above whose bytes are swapped
+abbrev pub byte_reads : Port
+byte_reads = record {
+  shape = lane_shape 1;
+  commands = record {
+    signals = record { read = signal (1 ∷ 1 ∷ []); write = always 0; address = signal (5 ∷ 6 ∷ []); word = always 0; enables = always 1; count = always 1 };
+    more = signal (1 ∷ []);
+    tag = always 0;
+    waitrequest = always 0;
+  };
+  answers = record { valid = signal (0 ∷ 1 ∷ 1 ∷ []); word = signal (0 ∷ 0xcc ∷ 0xbb ∷ []); code = always 0 };
+}
+
+abbrev pub swaps_bytes : Port
+swaps_bytes = record {
+  shape = lane_shape 4;
+  commands = record {
+    signals = record { read = signal (1 ∷ 1 ∷ []); write = always 0; address = always 4; word = always 0; enables = always 6; count = always 1 };
+    more = always 0;
+    tag = always 0;
+    waitrequest = signal (1 ∷ []);
+  };
+  answers = record { valid = signal (0 ∷ 0 ∷ 1 ∷ []); word = always 0x00ccbb00; code = always 0 };
+}
+
+abbrev pub byte_lanes : Target
+byte_lanes = record { shape = lane_shape 1; span = 16 }

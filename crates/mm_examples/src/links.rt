@@ -3,11 +3,11 @@
 ghost use Rattle.std.specs.Prelude.{◌≡◌, ◌∷◌, [], true, false, map};
 ghost use Rattle.mm_runs.specs.Views.{levels_at};
 ghost use Rattle.mm_runs.specs.Commands.{shows};
-ghost use Rattle.mm_machines.specs.Link.{CarriesCommands, words_at};
+ghost use Rattle.mm_machines.specs.Link.{CarriesCommands, words_at, taken_at};
 ghost use Rattle.mm_machines.specs.Lines.{BringsBack, PipeCarriesCommands, AreDelayed};
-ghost use Rattle.mm_links.specs.Driven.{select_above, select_below, pipe_run};
+ghost use Rattle.mm_links.specs.Driven.{select_above, select_below, split_above, split_below, pipe_run};
 ghost use Rattle.mm_links.specs.Pipes.{side_of};
-ghost use Rattle.mm_examples.specs.LinkRuns.{two_writes, hides_wait, shows_twice, selecting, lane_target, read_port, three_writes, tagged_port, stage_top, newer_first, answered_at_once, accepts_early};
+ghost use Rattle.mm_examples.specs.LinkRuns.{two_writes, hides_wait, shows_twice, selecting, lane_target, read_port, three_writes, tagged_port, stage_top, newer_first, answered_at_once, accepts_early, gathering, byte_lanes, byte_reads, swaps_bytes};
 ghost use Rattle.mm_examples.specs.MoreExamples.{byte_target, byte_side};
 ghost use Rattle.mm_examples.specs.WireRows.{one_read_system};
 
@@ -41,7 +41,12 @@ pub fn pipes()
     ensures at_once { AreDelayed one_read_system 1 (tagged_port answered_at_once) (tagged_port answered_at_once) 2 → ⊥ }
 {}
 
-/// A splitter that accepts a beat with its first piece holds one.
+/// A read with two enabled lanes is sent as two bytes, joined, and its word is gathered with the greater code.
+/// A splitter that accepts a beat with its first piece holds one, and one that swaps what it gathers has the wrong bytes.
 pub fn splitters()
-    ensures { CarriesCommands byte_target 0 accepts_early byte_side 2 → ⊥ }
+    ensures asked { map (λ m. m.more) (taken_at (split_below gathering) 2) ≡ true ∷ false ∷ [] }
+    ensures waits { shows (split_below gathering).commands.signals 2 ≡ false }
+    ensures words { words_at (split_above gathering) 3 ≡ (record { word = 0x00bbcc00; code = 2 }) ∷ [] }
+    ensures early { CarriesCommands byte_target 0 accepts_early byte_side 2 → ⊥ }
+    ensures swapped { BringsBack byte_lanes swaps_bytes byte_reads 3 → ⊥ }
 {}

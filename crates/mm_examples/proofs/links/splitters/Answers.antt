@@ -1,6 +1,19 @@
-use Rattle.std.proofs.Common.{arith}
+use Rattle.std.proofs.Common.{◌≡◌, arith, refl, ap}
+use Rattle.mm_links.specs.Selects.{first_of}
 use Rattle.std.proofs.Math.Nat.{not-suc-le-zero}
 use Rattle.mm_examples.proofs.links.splitters.Goals as goal
 
-pub returns : goal.returns
-returns c = λ carries. not-suc-le-zero (carries.held 1 (omega arith))
+pub returns-clause-asked : goal.returns-clause-asked
+returns-clause-asked c = refl
+
+pub returns-clause-waits : goal.returns-clause-waits
+returns-clause-waits c = refl
+
+pub returns-clause-words : goal.returns-clause-words
+returns-clause-words c = refl
+
+pub returns-clause-early : goal.returns-clause-early
+returns-clause-early c = λ carries. not-suc-le-zero (carries.held 1 (omega arith))
+
+pub returns-clause-swapped : goal.returns-clause-swapped
+returns-clause-swapped c = λ back. (let same : 0xbb ≡ 0xcc = ap first_of (back.bytes 3 (omega arith)).joins in absurd (omega (arith, same)))
