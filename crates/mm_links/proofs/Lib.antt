@@ -7,6 +7,7 @@ pub mod StageRows
 pub mod Alike
 pub mod Gated
 pub mod Lanes
+pub mod Prompt
 pub mod Selecting
 pub mod Splitting
 pub mod DrivenRuns

@@ -23,11 +23,12 @@ use Rattle.mm_machines.specs.Machines.{Raw, raw_at, IsFitBeat, MaySelect, LiesIn
 use Rattle.mm_machines.specs.Rank.{is_owed}
 use Rattle.mm_machines.specs.SideLaws.{fit_when_shown, legal_when_shown, same_counts}
 use Rattle.mm_links.specs.Going.RowGoesOn.{at_end, further}
-use Rattle.mm_links.specs.Links.{IsLink}
+use Rattle.mm_links.specs.Links.{IsLink, IsStraightLink}
+use Rattle.mm_links.proofs.Prompt.{gate_is_prompt}
 use Rattle.mm_links.proofs.HandOn.{hands_on_shown}
 use Rattle.mm_links.specs.Selects.{RunsAsSelect, IsSelectPlan, EnablesFit, select_form, selected, silenced, offset_in, takes_read, is_shut, first_of}
 use Rattle.mm_links.proofs.Alike.{IsAlike}
-use Rattle.mm_links.proofs.Gated.{gate_carries, gate_joins, gate_lanes, gate_quiet, gate_goes_on, owed_counts}
+use Rattle.mm_links.proofs.Gated.{gate_carries, gate_joins, gate_lanes, gate_quiet, gate_goes_on, owed_counts, word_counts}
 use Rattle.mm_links.proofs.Lanes.{SelectsBeats, cut, bytes_moved, lanes_count, lies_within}
 
 -- ---- transfers of one beat
@@ -597,4 +598,36 @@ module _ (law : SelectsBeats) (wire : (target : Target) (port : Port) (end : ℕ
     goes_on = λ legal owed alike.
         further (gate_goes_on target up down lets shown_alike taken_at_once end (alike_before end (le_refl end) legal) legal (legal_before end (le_refl end) legal) same_valid
         (shut_owes law target up down many room offsets plan deep run end fit legal owed) alike) at_end;
+  }
+
+  smaller : up.shape.word_bytes ≡ down.shape.word_bytes → ⊥
+  smaller same =
+      let step : 2 * up.shape.word_bytes ≤ many * up.shape.word_bytes = mul-le-mul_right up.shape.word_bytes plan.more in
+      let some = plan.some in
+      let whole = plan.whole in
+      omega (arith, same, step, some, whole)
+
+  shut_while_owed : AreLegalAt up end → AnswersAreOwed down end → (c : ℕ) → c < end → lets c ≡ false → length (words_at up c) < words_owed up c
+  shut_while_owed legal owed c h e =
+      let shut_now : is_shut room up offsets c ≡ true = twice (is_shut room up offsets c) e in
+      let full = ltb-false (length (offsets c)) room (not-true (nat_lt (length (offsets c)) room) (and_parts (not (is_raised (up.commands.write c))) (not (nat_lt (length (offsets c)) room)) shut_now).1) in
+      let queued = ap length (queue_is law target up down many room offsets plan deep run end fit legal c (omega (arith, h)) (λ k less. owed k (omega (arith, h, less)))) ∙ length-drop (length (words_at down c)) _ in
+      let asks = counted law target up down many room offsets plan deep run end fit legal c (omega (arith, h)) in
+      let same = owed_counts target up down lets shown_alike taken_at_once end (alike_before end (le_refl end) legal) legal (legal_before end (le_refl end) legal) same_valid c (omega (arith, h)) in
+      let words = word_counts target up down lets shown_alike taken_at_once end (alike_before end (le_refl end) legal) legal (legal_before end (le_refl end) legal) same_valid c in
+      omega (arith, full, queued, asks, same, words, deep)
+    where
+      twice : (b : Bool) → not b ≡ false → b ≡ true
+      twice true g = refl
+      twice false g = sym g
+
+  pub select_is_straight : (few : ℕ) (ahead may_burst : Bool) → IsStraightLink few ahead may_burst target up down end
+  select_is_straight few ahead may_burst = record {
+    straight = λ legal owed. record {
+      shown = λ c h same. absurd (smaller same);
+      accepted = λ c h same. absurd (smaller same);
+      kept = λ c h same. absurd (smaller same);
+    };
+    prompt = λ legal owed.
+        gate_is_prompt target up down lets shown_alike taken_at_once end (alike_before end (le_refl end) legal) legal (legal_before end (le_refl end) legal) (shut_while_owed legal owed) few may_burst;
   }
