@@ -4,7 +4,8 @@ use Rattle.histories.specs.History.{is_raised, IsPrefix}
 use Rattle.histories.specs.Below.{each_below}
 use Rattle.mm_runs.specs.Views.{System, Run, levels_at}
 use Rattle.mm_runs.specs.Commands.{shows, is_held, transfer_at}
-use Rattle.mm_runs.specs.Legal.{is_under_way}
+use Rattle.mm_runs.specs.Legal.{IsLegalHost, IsLegalAgent, is_under_way}
+use Rattle.mm_runs.specs.Whole.{IsLegalRun}
 use Rattle.mm_runs.specs.Order.{is_joined, is_agent}
 use Rattle.mm_machines.specs.Link.{Target, Port, takes, marked_at, shown_at, words_at, AreLegalAt, AnswersAreOwed}
 use Rattle.mm_machines.specs.Lines.{target_of, tagged_operations, groups_of}
@@ -12,10 +13,12 @@ use Rattle.mm_machines.specs.Rank.{moves_commands, is_excused}
 use Rattle.mm_examples.proofs.ShortRuns.{legal_by_cycles}
 use Rattle.mm_parts.specs.Steps.{words_from_agent, IsArbiterPart, IsAgentPart, IsHostPart, IsRoutePart, place_shown, is_open}
 use Rattle.mm_awake.specs.Parts.{has_link_work, KeepsGoing}
-use Rattle.mm_examples.specs.SmallSystem.{small_system, small_run, middle, down, below, small_ways, small_standings}
+use Rattle.mm_examples.specs.SmallSystem.{small_system, small_run, middle, down, below, small_ways, small_standings, small_approach}
 use Rattle.mm_runs.specs.Order.{taken, beats_taken, is_read_beat}
 use Rattle.mm_machines.specs.PartRanks.{has_agent_work, moves_at_agent}
 use Rattle.mm_awake.specs.Ways.{tagged, KeepsAwake}
+use Rattle.mm_awake.specs.Slack.{PassesOn}
+use Rattle.mm_awake.specs.Approach.{IsAwake}
 use Rattle.mm_awake.specs.Front.{IsFront, KeepsWhole, IsDefaultFront, GivesAtOnce}
 
 no_true : IsTrue false → ⊥
@@ -250,6 +253,7 @@ awake a low = record {
 
 pub record Laws : Type 0 where
   pub front : (system : System) (run : Run) (host agent : ℕ) (middle : Port) (down : ℕ → Port) (end : ℕ) → agent < system.agents → IsHostPart system run host middle end → IsRoutePart system host middle down end → IsFront system run host agent (down agent) end
+  pub wire : (port : Port) (end : ℕ) → PassesOn (record { hold = 0; kept = 0 }) port port end
 
 pub keeps_whole : Laws → (a : ℕ) → a < 2 → KeepsWhole small_system small_run a (small_ways a) small_standings 4
 keeps_whole laws a low = record {
@@ -274,3 +278,32 @@ keeps_whole laws a low = record {
 
 pub default_zero : IsDefaultFront small_system small_run 0 4
 default_zero = record { due = λ c. false; beats = four _ (λ x y. cc) (λ x y. cc) (λ x y. refl) (λ x y. cc); owed = four _ (λ x. cc) (λ x. cc) (λ x. cc) (λ x. cc); gives = λ c h x. absurd (no_true x) }
+
+default_one : IsDefaultFront small_system small_run 1 4
+default_one = record { due = λ c. false; beats = four _ (λ x y. cc) (λ x y. cc) (λ x y. cc) (λ x y. cc); owed = four _ (λ x. cc) (λ x. cc) (λ x. cc) (λ x. cc); gives = λ c h x. absurd (no_true x) }
+
+legal_run : IsLegalRun small_system small_run 4
+legal_run = record {
+  hosts = λ h low. two (λ h. IsLegalHost (small_system.host h) (small_run.at_host h) 4) host_zero.legal host_one.legal h low;
+  agents = λ a low. two (λ a. IsLegalAgent (small_system.agent a) (small_run.at_agent a) 4) (record { owed = λ has. four _ (omega arith) (omega arith) (omega arith) (omega arith) }) (record { owed = λ has. four _ (omega arith) (omega arith) (omega arith) (omega arith) }) a low;
+}
+
+pub is_awake : Laws → IsAwake small_system small_run small_approach 4
+is_awake laws = record {
+  legal = legal_run;
+  agents = λ a low. record {
+    shares = (omega arith, (omega arith, tt));
+    parts = keeps_whole laws a low;
+    pass = record { lower = λ i h. absurd (omega (arith, h)); upper = λ h i low' fit. laws.wire (down h a) 4 };
+    modest = record {
+      stages = refl;
+      few_stages = omega arith;
+      few_hosts = omega arith;
+      wait = omega arith;
+      lower = λ i h. absurd (omega (arith, h));
+      upper = λ h low'. omega arith;
+      toll = λ h low'. omega arith;
+    };
+  };
+  default = λ h low. two (λ h. IsDefaultFront small_system small_run h 4) default_zero default_one h low;
+}

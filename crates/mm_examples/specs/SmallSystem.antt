@@ -4,6 +4,8 @@ use Rattle.mm_runs.specs.Views.{System, Run, Signals}
 use Rattle.mm_machines.specs.Paths.{AnswerView}
 use Rattle.mm_machines.specs.Link.{Port}
 use Rattle.mm_examples.specs.Examples.{signal, always, shape_of, host_of, agent_of}
+use Rattle.mm_awake.specs.Slack.{Slacks}
+use Rattle.mm_awake.specs.Approach.{Approach}
 use Rattle.mm_awake.specs.Ways.{Ways, Standing, Standings}
 
 abbrev pub small_system : System
@@ -65,6 +67,12 @@ still = record { rank = λ c. 0; largest = 0 }
 
 abbrev pub small_standings : Standings
 small_standings = record { agent = still; lower = λ i. still; upper = λ h i. still }
+
+abbrev pub no_slack : Slacks
+no_slack = record { lower = λ i. record { hold = 0; kept = 0 }; upper = λ h i. record { hold = 0; kept = 0 } }
+
+abbrev pub small_approach : ℕ → Approach
+small_approach a = record { ways = small_ways a; standings = small_standings; slacks = no_slack }
 
 -- a stage that holds a read without lanes: accepted above in cycle 0, shown below from cycle 1 on, where `wait` is high until cycle 3
 abbrev pub empty_read : Signals

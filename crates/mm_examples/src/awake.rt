@@ -5,12 +5,13 @@ ghost use Rattle.mm_runs.specs.Awake.{ServesWithin, ServesDefaultWithin};
 ghost use Rattle.mm_machines.specs.Lines.{TaggedPort, target_of};
 ghost use Rattle.mm_machines.specs.Rank.{AnswersPromptly, LinkRankFalls};
 ghost use Rattle.mm_parts.specs.Steps.{IsRoutePart, IsArbiterPart};
+ghost use Rattle.mm_awake.specs.Approach.{IsAwake};
 ghost use Rattle.mm_awake.specs.Front.{IsFront, IsDefaultFront, KeepsWhole};
 ghost use Rattle.mm_awake.specs.Parts.{GivesWhatHasCome};
 ghost use Rattle.mm_examples.specs.IdleRows.{pair_system, held_run, held_below, read_port, swallow_run, stray_system, stray_run, two_places};
 ghost use Rattle.mm_examples.specs.IdleRows.{passing_run, passing_down, mistagged, limited_top, limited_down, sets_top, sets_down};
 ghost use Rattle.mm_examples.specs.MoreExamples.{byte_target};
-ghost use Rattle.mm_examples.specs.SmallSystem.{stage_top, stage_low, small_system, small_run, small_ways, small_standings};
+ghost use Rattle.mm_examples.specs.SmallSystem.{stage_top, stage_low, small_system, small_run, small_ways, small_standings, small_approach};
 
 /// A route holds the last beat of a burst, which has no lane, and the arbiter waits for it: host 1 is never served.
 pub fn held_empty_beat()
@@ -56,7 +57,8 @@ pub fn held_empty_read()
 /// Two hosts, two agents and the default agent, wired, keep every record.
 pub fn small_system_keeps_all()
     ensures agents { (a : ℕ) → a < 2 → KeepsWhole small_system small_run a (small_ways a) small_standings 4 }
-    ensures default { IsDefaultFront small_system small_run 0 4 }
+    ensures awake { IsAwake small_system small_run small_approach 4 }
 {
-    mm_awake::host_and_route_are_a_front()
+    mm_awake::host_and_route_are_a_front();
+    mm_awake::stages_pass_on()
 }

@@ -1,8 +1,8 @@
-use Rattle.mm_examples.proofs.SmallKept.{keeps_whole, default_zero}
+use Rattle.mm_examples.proofs.SmallKept.{keeps_whole, is_awake}
 use Rattle.mm_examples.proofs.awake.small_system_keeps_all.Goals as goal
 
 pub returns-clause-agents : goal.returns-clause-agents
-returns-clause-agents c = keeps_whole (record { front = c.host_and_route_are_a_front.ensures })
+returns-clause-agents c = keeps_whole (record { front = c.host_and_route_are_a_front.ensures; wire = c.stages_pass_on.ensures.wire })
 
-pub returns-clause-default : goal.returns-clause-default
-returns-clause-default c = default_zero
+pub returns-clause-awake : goal.returns-clause-awake
+returns-clause-awake c = is_awake (record { front = c.host_and_route_are_a_front.ensures; wire = c.stages_pass_on.ensures.wire })
