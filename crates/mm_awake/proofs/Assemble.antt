@@ -17,7 +17,7 @@ use Rattle.ranks.specs.Turns.{AllShare}
 use Rattle.ranks.specs.Path.{works, excused, stands, writing, AnswersFlow}
 use Rattle.ranks.specs.Window.{Part, moves_before, KeepsRank, Budget, AllKeep, Keeps, allowances}
 use Rattle.ranks.specs.Junction.{Junctions, IsStuck, IsSoundJunction, all_budgets, budgets, budgets_of_hosts, upper_budget, lower_budget, arbiter_budget, moment, is_among, waits_for, any_below, asks, arbiter_works, arbiter_excused}
-use Rattle.mm_awake.specs.Parts.{KeepsGoing, is_untaken}
+use Rattle.mm_links.specs.Going.{KeepsGoing, is_untaken}
 use Rattle.mm_awake.specs.Ways.{Ways, Standings, count_in, KeepsAwake, IsAtWork, longest, window, all_hosts, tagged, links_at, lower_at, moves_at, agent_moves}
 use Rattle.mm_awake.proofs.Arbiter.{TurnLaws, Idles, idles, Idles.beat_stands, Idles.rests, Idles.nothing}
 use Rattle.mm_awake.proofs.Owed.{owed_below as below}

@@ -19,7 +19,7 @@ use Rattle.mm_parts.specs.Route.{RouteState, IsRouteMachine, IsRoutePlan}
 use Rattle.mm_parts.specs.Steps.{AreSilentPast, IsHostPart, IsRoutePart, IsArbiterPart, IsAgentPart, agent_rank}
 use Rattle.mm_awake.specs.Theorem.{Boundaries, States, LinkRanks, IsBuilt, inside_of, approach_of, ways_of, standings_of, slacks_of}
 use Rattle.mm_awake.specs.Front.{KeepsWhole, IsFront, GivesAtOnce, IsDefaultFront}
-use Rattle.mm_awake.specs.Parts.{KeepsGoing}
+use Rattle.mm_links.specs.Going.{KeepsGoing}
 use Rattle.mm_awake.specs.Slack.{PassesOn, AreModest}
 use Rattle.mm_awake.specs.Approach.{IsAwake}
 use Rattle.mm_awake.specs.Ways.{KeepsAwake}

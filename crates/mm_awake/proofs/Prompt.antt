@@ -7,7 +7,7 @@ use Rattle.histories.specs.Laws.{prefix_flat_map, prefix_filter}
 use Rattle.mm_machines.specs.Link.{Target, Port, AreLegalAt, items, takes, taken_at, shown_at, operations_among, words_at, words_owed, read_beats, reads_of, answers_at, has_word_ready}
 use Rattle.mm_runs.specs.Commands.{is_held}
 use Rattle.mm_machines.specs.Rank.{moves_commands, is_owed, is_due, AnswersPromptly}
-use Rattle.mm_awake.specs.Parts.{GivesWhatHasCome, is_untaken}
+use Rattle.mm_links.specs.Going.{GivesWhatHasCome, is_untaken}
 use Rattle.mm_machines.specs.SideLaws.{taken_is_shown}
 use Rattle.mm_awake.proofs.Bits.{no_true}
 use Rattle.mm_awake.proofs.Fronts.{both}

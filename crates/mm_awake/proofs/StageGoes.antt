@@ -6,7 +6,7 @@ use Rattle.mm_runs.specs.Commands.{shows, is_held}
 use Rattle.mm_machines.specs.Link.{Target, Port, AreLegalAt, takes, taken_at, read_beats, words_at, words_owed}
 use Rattle.mm_machines.specs.Rank.{LinkRankFalls, has_commands, moves_commands, is_excused, is_owed}
 use Rattle.mm_machines.specs.Machines.{raws, raw_at, Raw, marked, idle, ShowsHead, Stage, above, below, RunsAsStage, WaitsOnlyWhenFull, owing_rank}
-use Rattle.mm_awake.specs.Parts.{KeepsGoing, GivesWhatHasCome, is_behind, is_untaken}
+use Rattle.mm_links.specs.Going.{KeepsGoing, GivesWhatHasCome, is_behind, is_untaken}
 use Rattle.mm_awake.proofs.Bits.{none_taken, no_true}
 
 pub record Laws : Type 0 where

@@ -18,7 +18,7 @@ use Rattle.ranks.specs.Turns.{AllShare}
 use Rattle.ranks.specs.Path.{works, stands}
 use Rattle.ranks.specs.Junction.{Junctions, any_below, has_work, moment, arbiter_works}
 use Rattle.mm_parts.specs.Steps.{IsArbiterPart}
-use Rattle.mm_awake.specs.Parts.{is_untaken, is_behind}
+use Rattle.mm_links.specs.Going.{is_untaken, is_behind}
 use Rattle.mm_machines.specs.SideLaws.{taken_is_shown}
 use Rattle.mm_awake.specs.Ways.{Ways, Standings, KeepsAwake, IsAtWork, longest, window, links_at, lower_at, tagged, moves_at}
 use Rattle.mm_awake.specs.Front.{KeepsWhole, Wants, Wants.a_beat, Wants.an_operation, Wants.a_word, IsWantedAt, is_bursting}

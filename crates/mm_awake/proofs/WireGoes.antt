@@ -4,7 +4,7 @@ use Rattle.std.proofs.lemmas.Bool.{or_left, or_right, both_ways}
 use Rattle.mm_runs.specs.Commands.{is_held}
 use Rattle.mm_machines.specs.Link.{Target, Port, AreLegalAt, takes}
 use Rattle.mm_machines.specs.Rank.{LinkRankFalls, has_commands, is_excused, is_owed}
-use Rattle.mm_awake.specs.Parts.{KeepsGoing}
+use Rattle.mm_links.specs.Going.{KeepsGoing}
 use Rattle.mm_awake.proofs.Bits.{no_true}
 
 either : (a b : Bool) {R : Type 0} → IsTrue (a || b) → (IsTrue a → R) → (IsTrue b → R) → R

@@ -1,4 +1,4 @@
--- What leads to each agent of a system, where a wanted agent and the default agent are served within their windows. Go on to `Front`, `Parts` and `Slack`.
+-- What leads to each agent of a system, where a wanted agent and the default agent are served within their windows. Go on to `Front`, `Ways` and `Slack`.
 use Rattle.std.specs.Prelude.{ℕ, ◌<◌}
 use Rattle.mm_runs.specs.Views.{System, Run}
 use Rattle.mm_runs.specs.Whole.{IsLegalRun}

@@ -1,4 +1,3 @@
-pub mod Parts
 pub mod Ways
 pub mod Front
 pub mod Sizes

@@ -15,7 +15,7 @@ use Rattle.mm_parts.specs.Arbiter.{IsArbiterMachine}
 use Rattle.mm_parts.specs.Host.{HostState, IsHostMachine}
 use Rattle.mm_parts.specs.Route.{RouteState, IsRouteMachine, IsRoutePlan}
 use Rattle.mm_parts.specs.Steps.{AreSilentPast, agent_rank}
-use Rattle.mm_awake.specs.Parts.{KeepsGoing}
+use Rattle.mm_links.specs.Going.{KeepsGoing}
 use Rattle.mm_awake.specs.Slack.{Slack, Slacks, PassesOn, host_allows, toll}
 use Rattle.mm_awake.specs.Approach.{Approach}
 use Rattle.mm_awake.specs.Ways.{Ways, Standing, Standings}

@@ -12,7 +12,7 @@ use Rattle.ranks.specs.Path.{Path}
 use Rattle.ranks.specs.Window.{allowances}
 use Rattle.ranks.specs.Junction.{Junctions, Ranked, all_budgets, has_work}
 use Rattle.mm_parts.specs.Steps.{IsArbiterPart, IsAgentPart}
-use Rattle.mm_awake.specs.Parts.{is_behind, KeepsGoing}
+use Rattle.mm_links.specs.Going.{is_behind, KeepsGoing}
 
 -- the boundaries that lead to one agent
 pub record Ways : Type 0 where

@@ -15,7 +15,7 @@ ghost use Rattle.mm_parts.specs.Steps.{IsHostPart, IsRoutePart};
 ghost use Rattle.mm_awake.specs.Theorem.{Boundaries, States, LinkRanks, IsBuilt};
 ghost use Rattle.mm_awake.specs.Front.{KeepsWhole, IsWantedAt, IsServedIn, IsFront, IsDefaultFront, WantsDefault, IsDefaultServedIn};
 ghost use Rattle.mm_awake.specs.Front.{GivesAtOnce, AreLegalHosts, AllowLessThan, IsUnserved};
-ghost use Rattle.mm_awake.specs.Parts.{GivesWhatHasCome, KeepsGoing};
+ghost use Rattle.mm_links.specs.Going.{GivesWhatHasCome, KeepsGoing};
 ghost use Rattle.mm_awake.specs.Slack.{Slack, Slacks, PassesOn, AllPassOn, CostsAtMost, AreModest, HasModestLinks, host_allows, toll, all_allow};
 ghost use Rattle.mm_awake.specs.Approach.{Approach, IsAwake, ServesWanted};
 ghost use Rattle.mm_awake.specs.Ways.{Ways, Standings, KeepsAwake, IsAtWork, longest};

@@ -4,7 +4,7 @@ use Rattle.histories.specs.Below.{each_below}
 use Rattle.histories.specs.History.{is_raised}
 use Rattle.mm_machines.specs.Lines.{target_of}
 use Rattle.mm_machines.specs.Rank.{AnswersPromptly, is_owed, moves_commands}
-use Rattle.mm_awake.specs.Parts.{GivesWhatHasCome, is_behind}
+use Rattle.mm_links.specs.Going.{GivesWhatHasCome, is_behind}
 use Rattle.mm_examples.specs.SmallSystem.{small_system, stage_top, stage_low}
 
 no_true : IsTrue false → ⊥

@@ -12,7 +12,7 @@ use Rattle.mm_machines.specs.Lines.{target_of, tagged_operations, groups_of}
 use Rattle.mm_machines.specs.Rank.{moves_commands, is_excused}
 use Rattle.mm_examples.proofs.ShortRuns.{legal_by_cycles}
 use Rattle.mm_parts.specs.Steps.{words_from_agent, IsArbiterPart, IsAgentPart, IsHostPart, IsRoutePart, place_shown, is_open}
-use Rattle.mm_awake.specs.Parts.{has_link_work, KeepsGoing}
+use Rattle.mm_links.specs.Going.{has_link_work, KeepsGoing}
 use Rattle.mm_examples.specs.SmallSystem.{small_system, small_run, middle, down, below, small_ways, small_standings, small_approach}
 use Rattle.mm_runs.specs.Order.{taken, beats_taken, is_read_beat}
 use Rattle.mm_machines.specs.PartRanks.{has_agent_work, moves_at_agent}

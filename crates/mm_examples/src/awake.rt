@@ -7,7 +7,7 @@ ghost use Rattle.mm_machines.specs.Rank.{AnswersPromptly, LinkRankFalls};
 ghost use Rattle.mm_parts.specs.Steps.{IsRoutePart, IsArbiterPart};
 ghost use Rattle.mm_awake.specs.Approach.{IsAwake};
 ghost use Rattle.mm_awake.specs.Front.{IsFront, IsDefaultFront, KeepsWhole};
-ghost use Rattle.mm_awake.specs.Parts.{GivesWhatHasCome};
+ghost use Rattle.mm_links.specs.Going.{GivesWhatHasCome};
 ghost use Rattle.mm_examples.specs.IdleRows.{pair_system, held_run, held_below, read_port, swallow_run, stray_system, stray_run, two_places};
 ghost use Rattle.mm_examples.specs.IdleRows.{passing_run, passing_down, mistagged, limited_top, limited_down, sets_top, sets_down};
 ghost use Rattle.mm_examples.specs.MoreExamples.{byte_target};

@@ -2,8 +2,8 @@
 #![tactic(auto)]
 
 pub mod awake;
-pub mod parts;
 pub mod links;
+pub mod parts;
 
 ghost use Rattle.std.specs.Prelude.{◌≡◌, ◌-◌, ◌∷◌, ◌++◌, [], true, false, ℕ, None, map, length, replicate};
 ghost use Rattle.histories.specs.History.{before, numbers};
