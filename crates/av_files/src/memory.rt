@@ -1,8 +1,8 @@
-ghost use Rattle.std.specs.Prelude.{◌≡◌, ℕ, ◌+◌, ◌-◌, ◌^◌, ◌<◌, ◌≤◌, ◌↔◌, [], length, take, IfOk, IsTrue, Contains, Some, None};
-ghost use Rattle.av_files.specs.Outside.{GivesBytes};
-ghost use Rattle.av_files.specs.Steps.{IfBytes, OnEnd, OnFailed};
-ghost use Rattle.av_files.specs.Memory.{file_at, failed_below, IsFault};
+ghost use Rattle.std.specs.Prelude.{◌≡◌, ◌≢◌, ℕ, ◌+◌, ◌-◌, ◌^◌, ◌<◌, ◌≤◌, ◌↔◌, [], min, length, take, IfOk, IsTrue, Contains, Some, None};
 ghost use Rattle.std.specs.Bool.{OnTrue};
+ghost use Rattle.av_files.specs.Outside.{Rose, GivesBytes, with_more};
+ghost use Rattle.av_files.specs.Steps.{IfBytes, OnEnd, OnFailed, IfWrote, OnWriteFailed};
+ghost use Rattle.av_files.specs.Memory.{file_at, failed_below, IsFault, IsCalled, IsCalledSink, TakesNothing, one_more, room_left};
 
 use super::{ReadStep, Shelf, Sink, WriteStep};
 use av_base::{Bytes, List, NoMemory};
@@ -17,9 +17,22 @@ fn is_listed(numbers: &[u64], number: u64) -> bool
 
 /// Whether the call of this number is to fail.
 fn is_to_fail(failing: &[u64], calls: u64) -> bool
-    ensures listed { OnTrue result (IsFault failing.now calls) }
+    ensures { IsTrue result ↔ IsFault failing.now calls }
 {
     calls < u64::MAX && is_listed(failing, calls)
+}
+
+/// Counts one more call, and says whether it is to fail.
+fn count_call(failing: &[u64], calls: &mut u64) -> bool
+    ensures fails { IsTrue result ↔ IsFault failing.now calls.old }
+    ensures counted { calls.new ≡ one_more calls.old }
+    ensures rose { OnTrue result (Rose (failed_below failing.now calls.old) (failed_below failing.now calls.new)) }
+    ensures grows { failed_below failing.now calls.old ≤ failed_below failing.now calls.new }
+    ensures below { failed_below failing.now calls.new < 2 ^ 64 }
+{
+    let number = *calls;
+    *calls = number.saturating_add(1);
+    is_to_fail(failing, number)
 }
 
 /// Copies what there is of a file from a place, and what fits.
@@ -27,8 +40,9 @@ fn give(files: &[Bytes], file: u32, at: u64, into: &mut [u8]) -> ReadStep
     requires { 0 < length into.old }
     ensures count { IfBytes result (λ n. (1 ≤ n) × (n ≤ length into.old)) }
     ensures bytes { IfBytes result (λ n. GivesBytes (file_at files.now file) at n into.new) }
+    ensures all { IfBytes result (λ n. n ≡ min (length into.old) (length (file_at files.now file) - at)) }
     ensures ends { OnEnd result (length (file_at files.now file) ≤ at) }
-    ensures works { OnFailed result ⊥ }
+    ensures works { result ≢ ReadStep.Failed }
 {
     let Some(bytes) = files.get(file as usize) else {
         return ReadStep::End;
@@ -40,8 +54,9 @@ fn give_from(bytes: &[u8], at: u64, into: &mut [u8]) -> ReadStep
     requires { 0 < length into.old }
     ensures count { IfBytes result (λ n. (1 ≤ n) × (n ≤ length into.old)) }
     ensures bytes { IfBytes result (λ n. GivesBytes bytes.now at n into.new) }
+    ensures all { IfBytes result (λ n. n ≡ min (length into.old) (length bytes.now - at)) }
     ensures ends { OnEnd result (length bytes.now ≤ at) }
-    ensures works { OnFailed result ⊥ }
+    ensures works { result ≢ ReadStep.Failed }
 {
     if at >= bytes.len() as u64 {
         return ReadStep::End;
@@ -91,10 +106,23 @@ impl Shelf for MemShelf {
 
     ghost calls = { λ s. s.calls };
 
-    fn read_at(&mut self, file: u32, at: u64, into: &mut [u8]) -> ReadStep {
-        let number = self.calls;
-        let fails = is_to_fail(self.failing.as_slice(), number);
-        self.calls = number.saturating_add(1);
+    fn read_at(&mut self, file: u32, at: u64, into: &mut [u8]) -> ReadStep
+        requires { 0 < length into.old }
+        ensures count { IfBytes result (λ n. (1 ≤ n) × (n ≤ length into.old)) }
+        ensures bytes { IfBytes result (λ n. GivesBytes (file_at self.old.files file) at n into.new) }
+        ensures ends { OnEnd result (length (file_at self.old.files file) ≤ at) }
+        ensures rose { OnFailed result (Rose (failed_below self.old.failing self.old.calls) (failed_below self.new.failing self.new.calls)) }
+        ensures failed { OnFailed result (self.new.failed ≡ file) }
+        ensures grows { failed_below self.old.failing self.old.calls ≤ failed_below self.new.failing self.new.calls }
+        ensures below { failed_below self.new.failing self.new.calls < 2 ^ 64 }
+        ensures one_call { self.new.calls ≤ self.old.calls + 1 }
+        ensures told { (k : ℕ) → Some (file_at self.new.files k) ≡ Some (file_at self.old.files k) }
+        // It fails by the list alone, and else gives all that there is from that place and fits.
+        ensures fails { (result ≡ ReadStep.Failed) ↔ IsFault self.old.failing self.old.calls }
+        ensures all { IfBytes result (λ n. n ≡ min (length into.old) (length (file_at self.old.files file) - at)) }
+        ensures called { IsCalled self.old self.new }
+    {
+        let fails = count_call(self.failing.as_slice(), &mut self.calls);
         if fails {
             self.failed = file;
             return ReadStep::Failed;
@@ -149,10 +177,22 @@ impl Sink for MemSink {
 
     ghost faults = { λ s. s.faults };
 
-    fn write(&mut self, bytes: &[u8]) -> WriteStep {
-        let number = self.calls;
-        let fails = is_to_fail(self.failing.as_slice(), number);
-        self.calls = number.saturating_add(1);
+    fn write(&mut self, bytes: &[u8]) -> WriteStep
+        requires { 0 < length bytes.now }
+        ensures count { IfWrote result (λ n. (1 ≤ n) × (n ≤ length bytes.now)) }
+        ensures wrote { IfWrote result (λ n. Some self.new.bytes ≡ with_more (Some self.old.bytes) (take n bytes.now)) }
+        ensures rose { OnWriteFailed result (Rose self.old.faults self.new.faults) }
+        ensures kept { OnWriteFailed result (Some self.new.bytes ≡ Some self.old.bytes) }
+        ensures grows { self.old.faults ≤ self.new.faults }
+        ensures below { self.new.faults < 2 ^ 64 }
+        // It fails by the list and where no room is left, and else takes all that there is room for.
+        ensures fails { (result ≡ WriteStep.Failed) ↔ TakesNothing self.old }
+        ensures all { IfWrote result (λ n. n ≡ min (length bytes.now) (room_left self.old)) }
+        ensures called { IsCalledSink self.old self.new }
+        ensures counted { OnWriteFailed result (self.new.faults ≡ one_more self.old.faults) }
+        ensures uncounted { IfWrote result (λ _. self.new.faults ≡ self.old.faults) }
+    {
+        let fails = count_call(self.failing.as_slice(), &mut self.calls);
         let room = self.room - self.bytes.len();
         if fails || room == 0 {
             self.faults = self.faults.saturating_add(1);

@@ -123,6 +123,36 @@ unbuilt_files task files plan k is same none found =
       only = only_unbuilt task files plan.system k same none found;
     }
 
+-- ---- any files
+
+-- files that are accepted, by what the task can't build of their system
+accepted_answer : (task : Task) (files : List (List ℕ)) (a : IsAccepted files) → ((b : IsAccepted files) → a.system ≡ b.system) → ((s : Refusal) → IsRefusedBy files s → ⊥)
+    → (found : Option ℕ) → unbuilt_of task a.system ≡ found → (answer : Exit) × IsOnlyAnswer task files answer
+accepted_answer task files a same none None e =
+    (exit.Done, record { called = record { accepted = a; built = e }; only = only_done task files a.system same none e })
+accepted_answer task files a same none (Some k) e = (
+  exit.LinkRefused k (link.Mm 10) None,
+  record { called = inr record { accepted = a; pending = e; rule_is = refl; alone = refl }; only = only_unbuilt task files a.system k same none e },
+)
+
+refused_answer : (task : Task) (files : List (List ℕ)) (r : Refusal) → IsRefusedBy files r → (IsAccepted files → ⊥) → ((s : Refusal) → IsRefusedBy files s → r ≡ s)
+    → (answer : Exit) × IsOnlyAnswer task files answer
+refused_answer task files refusal.NoMemory is none only = absurd is
+refused_answer task files (refusal.Script place rule) is none only =
+    (exit.ScriptRefused place rule, record { called = is; only = no_other task files (refusal.Script place rule) none only })
+refused_answer task files (refusal.Link connection rule other) is none only =
+    (exit.LinkRefused connection rule other, record { called = inl is; only = no_other task files (refusal.Link connection rule other) none only })
+refused_answer task files (refusal.Limit which count) is none only =
+    (exit.Limit which count, record { called = is; only = no_other task files (refusal.Limit which count) none only })
+
+-- files that are accepted or refused, and never both, call for one answer
+pub one_answer : (task : Task) (files : List (List ℕ)) → (IsAccepted files → (s : Refusal) → IsRefusedBy files s → ⊥) → ((a b : IsAccepted files) → a.system ≡ b.system)
+    → ((r s : Refusal) → IsRefusedBy files r → IsRefusedBy files s → r ≡ s) → IsAccepted files ⊎ ((r : Refusal) × IsRefusedBy files r) → (answer : Exit) × IsOnlyAnswer task files answer
+one_answer task files never same once (inl a) = accepted_answer task files a (same a) (never a) (unbuilt_of task a.system) refl
+one_answer task files never same once (inr r) = refused_answer task files r.0 r.1 (λ a. never a r.0 r.1) (λ s h. once r.0 s r.1 h)
+
+-- ---- a task that is stopped
+
 -- a connection is in the task's way, or memory was wanted
 pub stopped_files : (task : Task) (files : List (List ℕ)) (plan : PlanTable) (e : Exit) → IsPlanned files plan → ((a : IsAccepted files) → plan.system ≡ a.system)
     → ((s : Refusal) → IsRefusedBy files s → ⊥) → StopsWriting task plan.system e → StopsFiles task files e

@@ -1,4 +1,4 @@
-ghost use Rattle.std.specs.Prelude.{◌≡◌, ℕ, ◌+◌, ◌<◌, ◌≤◌, ◌⊎◌, None, length, map, string_bytes, All, IfOk, IfErr, OnOk};
+ghost use Rattle.std.specs.Prelude.{◌≡◌, ℕ, ◌+◌, ◌^◌, ◌<◌, ◌≤◌, ◌⊎◌, None, length, map, string_bytes, All, IfOk, IfErr, OnOk};
 ghost use Rattle.av_files.specs.Outside.{WhereTold};
 ghost use Rattle.netlist.specs.Netlists.{Netlist};
 ghost use Rattle.verilog_writer.specs.Text.{text_of};
@@ -30,6 +30,7 @@ fn load<S: Shelf>(alloc: Global, shelf: &mut S, file: u32) -> Result<Bytes, Exit
     ensures loaded { IfOk result (λ bytes. WhereTold (S.told shelf.old file) (λ told. bytes ≡ told)) }
     ensures short { IfOk result (λ bytes. length bytes ≤ 1048576) }
     ensures grows { S.faults shelf.old ≤ S.faults shelf.new }
+    ensures below { S.faults shelf.new < 2 ^ 64 }
     ensures told { (k : ℕ) → S.told shelf.new k ≡ S.told shelf.old k }
 {
     match load_all(alloc, shelf, file, FILE_LIMIT) {
@@ -50,6 +51,8 @@ fn load_files<S: Shelf>(alloc: Global, shelf: &mut S, words: usize) -> Result<Li
     ensures stops { IfErr result (StopsLoading words (reads_by S.told S.faults S.failed shelf.old shelf.new)) }
     ensures loaded { IfOk result (AreFiles (S.told shelf.old) words) }
     ensures grows { S.faults shelf.old ≤ S.faults shelf.new }
+    ensures below { S.faults shelf.old < 2 ^ 64 → S.faults shelf.new < 2 ^ 64 }
+    ensures told { (k : ℕ) → S.told shelf.new k ≡ S.told shelf.old k }
 {
     let mut files = List::new(alloc);
     for file in 1..words {
@@ -103,6 +106,9 @@ fn text_of_files(alloc: Global, task: Task, files: &[Bytes]) -> Result<Bytes, Ex
 fn decide<S: Shelf>(alloc: Global, words: &[String], shelf: &mut S) -> Result<Bytes, Exit>
     ensures stops { IfErr result (Stops (map string_bytes words.now) (reads_by S.told S.faults S.failed shelf.old shelf.new)) }
     ensures text { IfOk result (IsResultOf (map string_bytes words.now) (reads_by S.told S.faults S.failed shelf.old shelf.new)) }
+    ensures grows { S.faults shelf.old ≤ S.faults shelf.new }
+    ensures below { S.faults shelf.old < 2 ^ 64 → S.faults shelf.new < 2 ^ 64 }
+    ensures told { (k : ℕ) → S.told shelf.new k ≡ S.told shelf.old k }
 {
     let Some(task) = read_words(words) else {
         return Err(Exit::Usage);
@@ -121,6 +127,8 @@ fn decide<S: Shelf>(alloc: Global, words: &[String], shelf: &mut S) -> Result<By
 /// Writes the line of a refusal.
 fn refuse<K: Sink>(sink: &mut K, exit: &Exit)
     ensures line { WritesLine (line_of exit.now) (writes_by K.held K.faults sink.old sink.new) }
+    ensures grows { K.faults sink.old ≤ K.faults sink.new }
+    ensures below { K.faults sink.old < 2 ^ 64 → K.faults sink.new < 2 ^ 64 }
 {
     let line = exit.line();
     let _ = put_all(sink, line.as_slice());
@@ -144,6 +152,13 @@ pub fn run<S: Shelf, K: Sink>(alloc: Global, words: &[String], shelf: &mut S, si
     ensures complete { IsComplete (map string_bytes words.now)
         (record { told = S.told shelf.old; before = S.faults shelf.old; after = S.faults shelf.new; failed = S.failed shelf.new })
         (record { held = K.held sink.old; holds = K.held sink.new; before = K.faults sink.old; after = K.faults sink.new }) result }
+
+    // What the shelf tells stays as it is. No count falls, or goes past its last value.
+    ensures told { (k : ℕ) → S.told shelf.new k ≡ S.told shelf.old k }
+    ensures reads_grow { S.faults shelf.old ≤ S.faults shelf.new }
+    ensures reads_below { S.faults shelf.old < 2 ^ 64 → S.faults shelf.new < 2 ^ 64 }
+    ensures writes_grow { K.faults sink.old ≤ K.faults sink.new }
+    ensures writes_below { K.faults sink.old < 2 ^ 64 → K.faults sink.new < 2 ^ 64 }
 {
     match decide(alloc, words, shelf) {
         Ok(text) => {

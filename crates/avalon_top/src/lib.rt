@@ -3,12 +3,14 @@
 
 mod answer;
 mod exit;
+mod laws;
 mod line;
 mod words;
 
 pub use answer::run;
 pub use component_scripts::ScriptRule;
 pub use exit::Exit;
+pub use laws::files_call_for_one_answer;
 pub use line::Line;
 pub use link_rules::LinkRule;
 pub use words::{Task, read_words};

@@ -3,6 +3,8 @@
 
 mod faults;
 mod files;
+mod laws;
 
 pub use faults::Refusal;
 pub use files::plan_of;
+pub use laws::accepted_or_refused;

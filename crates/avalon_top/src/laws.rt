@@ -1,0 +1,15 @@
+//! What holds of every list of files.
+
+ghost use Rattle.std.specs.Prelude.{◌≤◌, ℕ, List, length};
+ghost use Rattle.avalon_top.specs.declared.exit.Exit.{Exit as Answer};
+ghost use Rattle.avalon_top.specs.declared.words.Task.{Task};
+ghost use Rattle.avalon_top.specs.Run.{IsOnlyAnswer};
+
+use system_plan::accepted_or_refused;
+
+/// A task's files call for one answer and for no other.
+pub fn files_call_for_one_answer()
+    ensures { (task : Task) (files : List (List ℕ)) → 1 ≤ length files → (answer : Answer) × IsOnlyAnswer task files answer }
+{
+    accepted_or_refused();
+}
