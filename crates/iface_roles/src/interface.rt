@@ -8,7 +8,7 @@ use crate::roles::Role;
 use std::marker::Model;
 
 /// A port as a component declares it.
-#[derive(Clone, Copy, Debug, PartialEq, Eq)]
+#[derive(Clone, Copy, Debug)]
 pub(crate) struct Port {
     pub direction: PortDirection,
     /// In bits.

@@ -65,7 +65,7 @@ pub enum Property {
 }
 
 /// The kinds of interface that have a property.
-#[derive(Clone, Copy, Debug, PartialEq, Eq)]
+#[derive(Clone, Copy)]
 pub(crate) enum Kinds {
     OfMm,
     OfStream,
@@ -140,7 +140,7 @@ impl Values {
 }
 
 /// The value of a property that isn't set.
-#[derive(Clone, Copy, Debug, PartialEq, Eq)]
+#[derive(Clone, Copy)]
 pub(crate) enum DefaultValue {
     Fixed(u32),
     /// At a start, and at an end.
@@ -164,7 +164,7 @@ impl DefaultValue {
 }
 
 /// What is fixed of a property.
-#[derive(Clone, Copy, Debug)]
+#[derive(Clone, Copy)]
 pub(crate) struct Row {
     pub name: &'static str,
     /// The name itself where there is no other.

@@ -33,7 +33,7 @@ pub enum Role {
 }
 
 /// The side that drives a port.
-#[derive(Clone, Copy, Debug, PartialEq, Eq)]
+#[derive(Clone, Copy)]
 pub(crate) enum Driver {
     ByStart,
     ByEnd,
@@ -41,7 +41,7 @@ pub(crate) enum Driver {
 }
 
 /// The widths that a port may have.
-#[derive(Clone, Copy, Debug, PartialEq, Eq)]
+#[derive(Clone, Copy)]
 pub(crate) enum Widths {
     /// From the first number to the second.
     Between(u32, u32),
@@ -57,7 +57,7 @@ pub(crate) enum Widths {
 }
 
 /// What is fixed of a role.
-#[derive(Clone, Copy, Debug)]
+#[derive(Clone, Copy)]
 pub(crate) struct Row {
     pub name: &'static str,
     pub kind: Kind,
