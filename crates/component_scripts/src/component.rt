@@ -11,7 +11,7 @@ use system_tables::InterfaceTable;
 use tcl_words::Commands;
 
 /// The commands of a component file.
-#[derive(Clone, Copy, Debug)]
+#[derive(Clone, Copy)]
 pub(crate) enum ComponentCommand {
     Package,
     SetModuleProperty,
@@ -23,7 +23,7 @@ pub(crate) enum ComponentCommand {
 }
 
 /// An interface while its file is read.
-#[derive(Debug, Drop)]
+#[derive(Drop)]
 pub(crate) struct DeclaredInterface {
     pub name: Text,
     pub place: Place,

@@ -16,7 +16,7 @@ pub enum ScriptRule {
 }
 
 /// Why a script was refused.
-#[derive(Clone, Copy, Debug, PartialEq, Eq, Error)]
+#[derive(Clone, Copy, Debug, Error)]
 pub enum ScriptFault {
     #[error("a rule refuses the script")]
     Refused { place: Place, rule: ScriptRule },

@@ -5,7 +5,7 @@ use crate::faults::{ScriptFault, ScriptRule};
 use av_base::Place;
 
 /// A rule of commands that is asked of a word, counted from the command's name, and whether it fails there.
-#[derive(Clone, Copy, Debug)]
+#[derive(Clone, Copy)]
 pub struct Check {
     pub rule: u8,
     pub word: usize,
@@ -13,7 +13,7 @@ pub struct Check {
 }
 
 /// Where a rule refuses a script.
-#[derive(Clone, Copy, Debug)]
+#[derive(Clone, Copy)]
 pub struct Refusal {
     pub place: Place,
     pub rule: ScriptRule,

@@ -3,7 +3,7 @@ ghost use Rattle.std.specs.Option.{option_copied};
 ghost use Rattle.component_scripts.specs.Catalog.{type_place};
 ghost use Rattle.component_scripts.specs.Library.{built_in, clock_source_table, interfaces_of};
 ghost use Rattle.component_scripts.specs.Names.{place_of};
-ghost use Rattle.component_scripts.specs.Tables.{IsComponent};
+ghost use Rattle.component_scripts.specs.Tables.{IsComponent, HasNamesOf};
 
 use crate::catalog::Catalog;
 use crate::component::Component;
@@ -90,6 +90,22 @@ struct BuiltIn {
 }
 
 impl BuiltIn {
+    /// The interfaces of the source of a clock and of its reset.
+    fn of_clock_source(alloc: Global) -> Result<BuiltIn, NoMemory>
+        ensures interfaces { IfOk result (λ source. source.interfaces.items ≡ clock_source_table.interfaces) }
+        ensures names { IfOk result (λ source. HasNamesOf source.names source.interfaces.items) }
+    {
+        let mut source = BuiltIn {
+            names: Names::new(alloc),
+            interfaces: Vec::new(alloc),
+        };
+        source.add(alloc, "clk_in", Kind::Clock, Side::End)?;
+        source.add(alloc, "clk_in_reset", Kind::Reset, Side::End)?;
+        source.add(alloc, "clk", Kind::Clock, Side::Start)?;
+        source.add(alloc, "clk_reset", Kind::Reset, Side::Start)?;
+        Ok(source)
+    }
+
     /// Adds an interface with no clock of its own and no roles.
     fn add(&mut self, alloc: Global, name: &str, kind: Kind, side: Side) -> Result<(), NoMemory>
         requires { IsNone (place_of self.old.names name.now) }
@@ -113,20 +129,12 @@ impl BuiltIn {
 fn clock_source(alloc: Global) -> Result<Component, NoMemory>
     ensures { IfOk result (λ component. component ≡ clock_source_table) }
 {
-    let mut source = BuiltIn {
-        names: Names::new(alloc),
-        interfaces: Vec::new(alloc),
-    };
-    source.add(alloc, "clk_in", Kind::Clock, Side::End)?;
-    source.add(alloc, "clk_in_reset", Kind::Reset, Side::End)?;
-    source.add(alloc, "clk", Kind::Clock, Side::Start)?;
-    source.add(alloc, "clk_reset", Kind::Reset, Side::Start)?;
     let name = Text::copy(alloc, "clock_source")?;
+    let BuiltIn { names, interfaces } = BuiltIn::of_clock_source(alloc)?;
     let place = Place {
         file: 0,
         line: 0,
         byte: 0,
     };
-    let BuiltIn { names, interfaces } = source;
     Ok(Component::new(name, place, names, interfaces))
 }
