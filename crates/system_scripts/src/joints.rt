@@ -1,21 +1,21 @@
 use iface_roles::Kind;
 
 /// An end of a connection while its file is read: the places of an instance, and of an interface of its component.
-#[derive(Clone, Copy, Debug, PartialEq, Eq, Hash)]
+#[derive(Clone, Copy, PartialEq, Eq, Hash)]
 pub(crate) struct Terminal {
     pub instance: usize,
     pub interface: usize,
 }
 
 /// The two ends of a connection.
-#[derive(Clone, Copy, Debug, PartialEq, Eq, Hash)]
+#[derive(Clone, Copy, PartialEq, Eq, Hash)]
 pub(crate) struct Link {
     pub start: Terminal,
     pub end: Terminal,
 }
 
 /// A connection of any kind, and its parameters.
-#[derive(Clone, Copy, Debug)]
+#[derive(Clone, Copy)]
 pub(crate) struct Joint {
     pub start: Terminal,
     pub end: Terminal,
@@ -26,7 +26,7 @@ pub(crate) struct Joint {
 }
 
 /// The parameters of connections that mean something here.
-#[derive(Clone, Copy, Debug)]
+#[derive(Clone, Copy)]
 pub(crate) enum Parameter {
     BaseAddress,
     ArbitrationPriority,
@@ -35,7 +35,7 @@ pub(crate) enum Parameter {
 }
 
 /// The commands of a system file.
-#[derive(Clone, Copy, Debug)]
+#[derive(Clone, Copy)]
 pub(crate) enum SystemCommand {
     Package,
     CreateSystem,
