@@ -1,6 +1,6 @@
 -- The tables of a system that commands state, as they are kept.
-use Rattle.std.proofs.Common.{◌≡◌, ℕ, zero, suc, List, [], ◌∷◌, ◌++◌, map, Some, None, refl, sym, ap, ◌∙◌, subst}
-use Rattle.std.specs.Prelude.{All, slice_index_or}
+use Rattle.std.proofs.Common.{◌≡◌, ℕ, zero, suc, List, [], ◌∷◌, ◌++◌, map, Option, Some, None, Ok, refl, sym, ap, ◌∙◌, subst}
+use Rattle.std.specs.Prelude.{All, IsSome, slice_index_or}
 use Rattle.av_base.specs.declared.faults.Place.{Place}
 use Rattle.tcl_words.specs.declared.words.Word.{Word}
 use Rattle.tcl_words.specs.Script.{Script}
@@ -71,3 +71,12 @@ system_of-refused components library script (Refused place rule) same h =
     let draft = system_after_all library empty_system_draft script.commands in
     ap (λ l. system_over l script) (sym same) ∙ ap (λ o. judged o (ended_system script.end library draft draft.name)) h
 system_of-refused components library script NoMemory same h = tt
+
+-- a draft that has a name ends as the system that it states under that name
+pub ended_as_stated : (end : Place) (components : List ComponentTable) (draft : DraftedSystem) (table : SystemTable) → IsSome draft.name
+    → ((name : List ℕ) → draft.name ≡ Some name → table ≡ stated_system components draft name) → ended_system end components draft draft.name ≡ Ok table
+ended_as_stated end components draft table some stated = by draft.name refl some
+  where
+    by : (o : Option (List ℕ)) → draft.name ≡ o → IsSome o → ended_system end components draft o ≡ Ok table
+    by None e h = cc
+    by (Some name) e h = ap Ok (sym (stated name e))

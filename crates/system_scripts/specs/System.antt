@@ -58,6 +58,15 @@ abbrev pub system_passed_over : List (List ℕ)
 system_passed_over = codes "set_project_property" ∷ codes "set_validation_property" ∷ codes "set_instance_parameter_value"
     ∷ codes "set_instance_property" ∷ codes "set_module_property" ∷ codes "set_use_testbench_naming_pattern" ∷ []
 
+-- the commands of a system file that follow its connections, and those that state nothing, by their names
+unfoldable pub later_command : List ℕ → Option SystemCommand
+later_command name =
+    if bytes_eq name (codes "add_interface") then Some AddInterface
+    else (if bytes_eq name (codes "set_interface_property") then Some SetInterfaceProperty
+    else (if bytes_eq name (codes "set_interconnect_requirement") then Some SetRequirement
+    else (if bytes_eq name (codes "save_system") then Some SaveSystem
+    else (if list_any (bytes_eq name) system_passed_over then Some PassedOver else None))))
+
 -- the commands of a system file, by their names
 unfoldable pub system_command : List ℕ → Option SystemCommand
 system_command name =
@@ -66,11 +75,7 @@ system_command name =
     else (if bytes_eq name (codes "add_instance") then Some AddInstance
     else (if bytes_eq name (codes "add_connection") then Some AddConnection
     else (if bytes_eq name (codes "set_connection_parameter_value") then Some SetParameter
-    else (if bytes_eq name (codes "add_interface") then Some AddInterface
-    else (if bytes_eq name (codes "set_interface_property") then Some SetInterfaceProperty
-    else (if bytes_eq name (codes "set_interconnect_requirement") then Some SetRequirement
-    else (if bytes_eq name (codes "save_system") then Some SaveSystem
-    else (if list_any (bytes_eq name) system_passed_over then Some PassedOver else None)))))))))
+    else later_command name))))
 
 -- how many words a command may have behind its name
 unfoldable pub system_takes : SystemCommand → ℕ → Bool

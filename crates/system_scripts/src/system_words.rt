@@ -5,6 +5,7 @@ ghost use Rattle.component_scripts.specs.Words.{text_at};
 ghost use Rattle.std.specs.List.{list_any};
 ghost use Rattle.std.specs.Str.{bytes_eq};
 ghost use Rattle.system_scripts.specs.System.{
+  later_command,
   system_command,
   system_passed_over,
   system_takes,
@@ -52,6 +53,29 @@ fn is_passed_over(name: &str) -> bool
     is_among(name, &PASSED_OVER)
 }
 
+/// The command of this name among those that follow the connections, and those that state nothing.
+#[tactic(auto, unfolding(crate::specs::System::later_command))]
+fn later_command(name: &str) -> Option<SystemCommand>
+    ensures { result ≡ later_command name.now }
+{
+    if name == "add_interface" {
+        return Some(SystemCommand::AddInterface);
+    }
+    if name == "set_interface_property" {
+        return Some(SystemCommand::SetInterfaceProperty);
+    }
+    if name == "set_interconnect_requirement" {
+        return Some(SystemCommand::SetRequirement);
+    }
+    if name == "save_system" {
+        return Some(SystemCommand::SaveSystem);
+    }
+    if is_passed_over(name) {
+        return Some(SystemCommand::PassedOver);
+    }
+    None
+}
+
 /// The command of this name in a system file.
 #[tactic(auto, unfolding(crate::specs::System::system_command))]
 pub(crate) fn system_command(name: &str) -> Option<SystemCommand>
@@ -72,22 +96,7 @@ pub(crate) fn system_command(name: &str) -> Option<SystemCommand>
     if name == "set_connection_parameter_value" {
         return Some(SystemCommand::SetParameter);
     }
-    if name == "add_interface" {
-        return Some(SystemCommand::AddInterface);
-    }
-    if name == "set_interface_property" {
-        return Some(SystemCommand::SetInterfaceProperty);
-    }
-    if name == "set_interconnect_requirement" {
-        return Some(SystemCommand::SetRequirement);
-    }
-    if name == "save_system" {
-        return Some(SystemCommand::SaveSystem);
-    }
-    if is_passed_over(name) {
-        return Some(SystemCommand::PassedOver);
-    }
-    None
+    later_command(name)
 }
 
 /// Whether the command may have so many words behind its name.

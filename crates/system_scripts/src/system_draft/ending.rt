@@ -7,7 +7,7 @@ use crate::roots::Roots;
 use av_base::{List, NoMemory, Place};
 use component_scripts::{Library, ScriptFault, ScriptRule};
 use std::alloc::Global;
-use system_tables::{Connection, EndId, System};
+use system_tables::{Connection, EndId, InterfaceTable, System};
 
 /// The number of an end, where there is room for it.
 fn number(k: usize) -> Result<u32, NoMemory>
@@ -36,7 +36,7 @@ fn fits_clock(clock: Option<Terminal>, root: Option<Terminal>) -> bool
 }
 
 impl SystemDraft {
-    ghost use Rattle.std.specs.Prelude.{map, IfErr, IsSome, OnErr, OnOk, None, Ok};
+    ghost use Rattle.std.specs.Prelude.{map, ℕ, List, IfErr, IsSome, OnErr, OnOk, None, Some, Ok};
     ghost use Rattle.std.specs.Option.{option_or};
     ghost use Rattle.system_scripts.specs.Clocks.{
       clock_of,
@@ -48,6 +48,8 @@ impl SystemDraft {
       no_system,
       ended_system,
     };
+    ghost use Rattle.system_tables.specs.Kept.{kept_table};
+    ghost use Rattle.system_tables.specs.Tables.{IsSystem};
     ghost use Rattle.component_scripts.specs.Component.{IsFaultOf};
     ghost use Rattle.system_scripts.specs.Sound.{IsSoundSystemDraft};
 
@@ -164,6 +166,31 @@ impl SystemDraft {
         Ok(())
     }
 
+    /// The system of these tables, which has the name that was stated.
+    fn with_tables(
+        self,
+        components: List<List<InterfaceTable>>,
+        connections: List<Connection>,
+    ) -> System
+        requires created { IsSome self.name }
+        requires system { (name : List ℕ) → self.name ≡ Some name
+            → IsSystem (kept_table name self.stages components self.instances connections) }
+        ensures { (name : List ℕ) → self.name ≡ Some name
+            → result ≡ kept_table name self.stages components self.instances connections }
+    {
+        let SystemDraft {
+            name,
+            stages,
+            names: _,
+            instances,
+            exported: _,
+            links: _,
+            joints: _,
+            taken: _,
+        } = self;
+        System::new(name.unwrap(), stages, components, instances, connections)
+    }
+
     /// The system that the commands state, once they end here.
     pub fn finish(
         self,
@@ -178,16 +205,6 @@ impl SystemDraft {
         self.check_created(end)?;
         let components = library.interfaces(alloc)?;
         let connections = self.connections(alloc, library)?;
-        let SystemDraft {
-            name,
-            stages,
-            names: _,
-            instances,
-            exported: _,
-            links: _,
-            joints: _,
-            taken: _,
-        } = self;
-        Ok(System::new(name.unwrap(), stages, components, instances, connections))
+        Ok(self.with_tables(components, connections))
     }
 }
