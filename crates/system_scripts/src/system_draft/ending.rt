@@ -36,7 +36,7 @@ fn fits_clock(clock: Option<Terminal>, root: Option<Terminal>) -> bool
 }
 
 impl SystemDraft {
-    ghost use Rattle.std.specs.Prelude.{map, ℕ, List, IfErr, IsSome, OnErr, OnOk, None, Some, Ok};
+    ghost use Rattle.std.specs.Prelude.{map, All, ℕ, List, IfErr, IsSome, OnErr, OnOk, None, Some, Ok};
     ghost use Rattle.std.specs.Option.{option_or};
     ghost use Rattle.system_scripts.specs.Clocks.{
       clock_of,
@@ -49,6 +49,8 @@ impl SystemDraft {
       ended_system,
     };
     ghost use Rattle.system_tables.specs.Kept.{kept_table};
+    ghost use Rattle.component_scripts.specs.Library.{interfaces_of};
+    ghost use Rattle.component_scripts.specs.Tables.{IsComponent};
     ghost use Rattle.system_tables.specs.Tables.{IsSystem};
     ghost use Rattle.component_scripts.specs.Component.{IsFaultOf};
     ghost use Rattle.system_scripts.specs.Sound.{IsSoundSystemDraft};
@@ -166,6 +168,26 @@ impl SystemDraft {
         Ok(())
     }
 
+    /// The interfaces of the components, and the connections, where a system was created by the end of its file.
+    fn tables(
+        &self,
+        alloc: Global,
+        library: &Library<'_>,
+        end: Place,
+    ) -> Result<(List<List<InterfaceTable>>, List<Connection>), ScriptFault>
+        ensures created { OnOk result (IsSome self.now.name) }
+        ensures components { IfOk result (λ tables. tables.0 ≡ interfaces_of library.now) }
+        ensures made { OnOk result (All IsComponent library.now) }
+        ensures connections { IfOk result (λ tables. tables.1
+            ≡ map (connection_of library.now self.now (system_clock library.now self.now)) (logic_joints self.now.joints)) }
+        ensures refused { IfErr result (λ fault. IsFaultOf fault (ended_system end library.now self.now self.now.name)) }
+    {
+        self.check_created(end)?;
+        let components = library.interfaces(alloc)?;
+        let connections = self.connections(alloc, library)?;
+        Ok((components, connections))
+    }
+
     /// The system of these tables, which has the name that was stated.
     fn with_tables(
         self,
@@ -202,9 +224,7 @@ impl SystemDraft {
         ensures accepted { IfOk result (λ system. ended_system end library.now self self.name ≡ Ok system) }
         ensures refused { IfErr result (λ fault. IsFaultOf fault (ended_system end library.now self self.name)) }
     {
-        self.check_created(end)?;
-        let components = library.interfaces(alloc)?;
-        let connections = self.connections(alloc, library)?;
-        Ok(self.with_tables(components, connections))
+        let tables = self.tables(alloc, library, end)?;
+        Ok(self.with_tables(tables.0, tables.1))
     }
 }

@@ -6,11 +6,11 @@ pub with_tables-requires-clause-system : goal.with_tables-requires-clause-system
 with_tables-requires-clause-system c =
     let library = c.args.library.now in
     let draft = c.args.self in
-    λ name named. kept_is_system library draft name _ (kept_is_stated library draft name c.in_ok-components.components c.in_ok-connections.connections c.in_ok-components.ensures.interfaces c.in_ok-connections.ensures) c.in_ok-components.ensures.made c.requires named
+    λ name named. kept_is_system library draft name _ (kept_is_stated library draft name c.in_ok-tables.tables.0 c.in_ok-tables.tables.1 c.in_ok-tables.ensures.components c.in_ok-tables.ensures.connections) c.in_ok-tables.ensures.made c.requires named
 
 pub returns-clause-accepted : goal.returns-clause-accepted
 returns-clause-accepted c =
     let library = c.args.library.now in
     let draft = c.args.self in
-    ended_as_stated c.args.end library draft c.with_tables.result c.in_ok-check_created.ensures.accepted
-    (λ name named. c.with_tables.ensures name named ∙ kept_is_stated library draft name c.in_ok-components.components c.in_ok-connections.connections c.in_ok-components.ensures.interfaces c.in_ok-connections.ensures)
+    ended_as_stated c.args.end library draft c.with_tables.result c.in_ok-tables.ensures.created
+    (λ name named. c.with_tables.ensures name named ∙ kept_is_stated library draft name c.in_ok-tables.tables.0 c.in_ok-tables.tables.1 c.in_ok-tables.ensures.components c.in_ok-tables.ensures.connections)
