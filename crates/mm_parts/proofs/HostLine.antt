@@ -127,7 +127,7 @@ module _ (responses : Responses) (side : HostSide) (view : HostView) (down : Por
       times_one n = omega arith
 
   -- a write is accepted from the host just where it is taken below
-  write_takes : (c : ℕ) → c < end → is_raised (view.write c) ≡ true → takes down c ≡ accepts c
+  pub write_takes : (c : ℕ) → c < end → is_raised (view.write c) ≡ true → takes down c ≡ accepts c
   write_takes c low w = by_read (is_raised (view.read c)) refl
     where
       by_read : (r : Bool) → is_raised (view.read c) ≡ r → takes down c ≡ accepts c

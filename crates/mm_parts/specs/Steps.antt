@@ -1,5 +1,5 @@
 -- What the parts next to hosts and agents, the route and the arbiter do in each cycle, told by their two sides alone.
-use Rattle.std.specs.Prelude.{◌≡◌, ℕ, suc, ◌+◌, ◌-◌, ◌<◌, ◌≤◌, Bool, true, false, not, ◌&&◌, ◌||◌, List, [], ◌∷◌, length, take, drop, map, filter, nat_eq, nat_lt, IsTrue, IsFalse, Option, Some, None}
+use Rattle.std.specs.Prelude.{◌≡◌, ℕ, suc, ◌+◌, ◌-◌, ◌<◌, ◌≤◌, Bool, true, false, not, ◌&&◌, ◌||◌, List, [], ◌∷◌, length, drop, map, filter, if◌then◌else◌, nat_eq, nat_lt, IsTrue, IsFalse, Option, Some, None}
 use Rattle.std.specs.List.{list_all}
 use Rattle.histories.specs.History.{before, is_raised, one_if}
 use Rattle.mm_runs.specs.Views.{System, Run}
@@ -7,13 +7,14 @@ use Rattle.mm_runs.specs.Commands.{shows, transfer_at, agent_accepts, stood_befo
 use Rattle.mm_runs.specs.Legal.{IsLegalHost, host_accepts, given, gives_word, unanswered}
 use Rattle.mm_runs.specs.Order.{Asked, place_of, is_agent, is_joined, taken, beats_taken, is_read_beat, words_given_in}
 use Rattle.mm_runs.specs.Awake.{is_place, owes, longest_wait}
-use Rattle.mm_machines.specs.Link.{Port, Marked, takes, taken_at, shown_at, marked_at, words_at, operations_among, AreLegalAt, AnswersAreOwed}
+use Rattle.mm_machines.specs.Link.{Port, Marked, takes, taken_at, shown_at, marked_at, words_at, words_owed, operations_among, AreLegalAt, AnswersAreOwed}
 use Rattle.mm_machines.specs.Lines.{TaggedPort, target_of, asked_among, AreTaggedInOrder}
 use Rattle.mm_machines.specs.Rank.{is_owed}
 use Rattle.mm_machines.specs.PartRanks.{AgentRankFalls}
 use Rattle.mm_machines.specs.Turns.{TakesTurnsByRule, seats_of}
+use Rattle.mm_parts.specs.Host.{ReadsWords}
 
--- ---- next to a host with readdatavalid
+-- ---- next to a host
 
 abbrev pub given_before : System → Run → ℕ → ℕ → ℕ
 given_before system run host c = length (given (system.host host) (run.at_host host) c)
@@ -23,16 +24,32 @@ abbrev pub has_room : System → Run → ℕ → ℕ → Bool
 has_room system run host c =
     nat_lt (unanswered (system.host host).shape (run.at_host host).signals (host_accepts (run.at_host host)) (given_before system run host c) c) 16
 
+-- a read was taken below, and as the cycle begins not all its words have come
+abbrev pub is_gone : Port → ℕ → Bool
+is_gone down c = nat_lt (length (words_at down c)) (words_owed down c)
+
+-- the gate for reads: with readdatavalid fewer than 16 are under way, without it none is
+abbrev pub may_read : System → Run → ℕ → Port → ℕ → Bool
+may_read system run host down c = if (system.host host).has_readdatavalid then has_room system run host c else not (is_gone down c)
+
+-- a beat is accepted where it is taken below, but a read of a host without readdatavalid where its word comes
+abbrev pub passes_on : System → Run → ℕ → Port → ℕ → Bool
+passes_on system run host down c =
+    if is_raised ((run.at_host host).write c) || (system.host host).has_readdatavalid then takes down c
+    else is_raised (down.answers.valid c)
+
 pub record IsHostPart (system : System) (run : Run) (host : ℕ) (down : Port) (end : ℕ) : Type 0 where
-  pub valid : IsTrue (system.host host).has_readdatavalid
   pub legal : IsLegalHost (system.host host) (run.at_host host) end
+  pub one_word : ReadsWords (system.host host) (run.at_host host) end
   pub bytes : down.shape.word_bytes ≡ (system.host host).word_bytes
-  pub shown : (c : ℕ) → c < end → shows down.commands.signals c ≡ (shows (run.at_host host).signals c && (is_raised ((run.at_host host).write c) || has_room system run host c))
-  pub accepts : (c : ℕ) → c < end → host_accepts (run.at_host host) c ≡ takes down c
+  pub shown : (c : ℕ) → c < end → shows down.commands.signals c ≡ (shows (run.at_host host).signals c && (is_raised ((run.at_host host).write c) || may_read system run host down c))
+  pub accepts : (c : ℕ) → c < end → host_accepts (run.at_host host) c ≡ passes_on system run host down c
   pub same : (c : ℕ) → c < end → IsTrue (shows down.commands.signals c) → (marked_at down c).transfer ≡ transfer_at (system.host host).shape (run.at_host host).signals (host_accepts (run.at_host host)) c
   pub level : (c : ℕ) → c < end → IsTrue (shows down.commands.signals c) → is_raised (down.commands.write c) ≡ is_raised ((run.at_host host).write c)
   pub more : (c : ℕ) → c < end → IsTrue (shows down.commands.signals c) → (marked_at down c).more ≡ not (marked_at down c).transfer.ends
   pub gives : (c : ℕ) → c < end → gives_word (system.host host) (run.at_host host) c ≡ is_raised (down.answers.valid c)
+  -- what is given to it
+  pub owed : AnswersAreOwed down end
 
 -- ---- the route
 

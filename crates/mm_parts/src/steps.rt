@@ -11,7 +11,7 @@ ghost use Rattle.mm_machines.specs.Lines.{TaggedPort, AreFitToAsk, AreTaggedInOr
 ghost use Rattle.mm_machines.specs.Turns.{Grant, seats_of};
 ghost use Rattle.mm_parts.specs.Agent.{AgentState, IsAgentMachine, IsAgentPlan};
 ghost use Rattle.mm_parts.specs.Arbiter.{IsArbiterMachine};
-ghost use Rattle.mm_parts.specs.Host.{HostState, IsHostMachine};
+ghost use Rattle.mm_parts.specs.Host.{HostState, IsHostMachine, ReadsWords};
 ghost use Rattle.mm_parts.specs.Route.{RouteState, IsRoutePlan, IsRouteMachine};
 ghost use Rattle.mm_parts.specs.Steps.{IsArbiterPart, IsHostPart, IsRoutePart, IsAgentPart, AreSilentPast, agent_rank};
 
@@ -25,10 +25,10 @@ pub fn arbiter_machine_is_a_part()
     crate::lines::arbiter_machine_takes_turns()
 }
 
-/// The machine next to a host with readdatavalid passes its beats but for reads while 16 are unanswered, and gives each word in its cycle.
+/// The machine next to a host passes its beats but for reads while 16 are unanswered, or one without readdatavalid, and gives each word in its cycle. Without readdatavalid a read is accepted with its word.
 pub fn host_machine_is_a_part()
     ensures { (responses : Responses) (system : System) (run : Run) (host : ℕ) (down : Port) (state : HostState) (end : ℕ)
-        → IsTrue (system.host host).has_readdatavalid → IsLegalHost (system.host host) (run.at_host host) end
+        → ReadsWords (system.host host) (run.at_host host) end → IsLegalHost (system.host host) (run.at_host host) end
         → AnswersAreOwed down end → IsHostMachine responses (system.host host) (run.at_host host) down state end
         → IsHostPart system run host down end }
 {}
