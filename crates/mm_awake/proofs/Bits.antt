@@ -28,6 +28,9 @@ one_taken port c some = rw some refl
 pub not_shown : (port : Port) (c : ℕ) → IsFalse (shows port.commands.signals c) → IsFalse (takes port c)
 not_shown port c none = rw none refl
 
+pub takes_shows : (port : Port) (c : ℕ) → IsTrue (takes port c) → IsTrue (shows port.commands.signals c)
+takes_shows port c h = (and_parts (shows port.commands.signals c) (not (is_raised (port.commands.waitrequest c))) h).0
+
 pub shown_again : (port : Port) (c end : ℕ) → AreLegalAt port end → suc c < end → IsTrue (is_held port.commands.signals (takes port) c) → IsTrue (shows port.commands.signals (suc c))
 shown_again port c end legal h held =
     let same = ap (λ (l : Levels). is_raised l.read || is_raised l.write) (legal.legal.held c h held) in

@@ -1,7 +1,6 @@
 -- A system of machines is awake.
 use Rattle.std.proofs.Common.{ℕ, suc, ◌<◌, ◌≤◌, ◌+◌, ◌*◌, arith, refl, sym, subst, IsTrue}
 use Rattle.mm_runs.specs.Views.{System, Run, Responses}
-use Rattle.std.proofs.lemmas.Bool.{both_ways}
 use Rattle.mm_runs.specs.Commands.{longest_burst}
 use Rattle.mm_runs.specs.Whole.{IsLegalRun}
 use Rattle.mm_runs.specs.Awake.{longest_wait}
@@ -35,7 +34,7 @@ pub record LineLaws : Type 0 where
 
 pub record Laws : Type 0 where
   pub line : LineLaws
-  pub host : (responses : Responses) (system : System) (run : Run) (host : ℕ) (down : Port) (state : HostState) (end : ℕ) → IsTrue (system.host host).has_readdatavalid → IsLegalHost (system.host host) (run.at_host host) end → AnswersAreOwed down end →
+  pub host : (responses : Responses) (system : System) (run : Run) (host : ℕ) (down : Port) (state : HostState) (end : ℕ) → ReadsWords (system.host host) (run.at_host host) end → IsLegalHost (system.host host) (run.at_host host) end → AnswersAreOwed down end →
       IsHostMachine responses (system.host host) (run.at_host host) down state end → IsHostPart system run host down end
   pub route : (responses : Responses) (system : System) (host room : ℕ) (up : Port) (down : ℕ → Port) (state : RouteState) (end : ℕ) → IsRoutePlan system host up.shape → AreLegalAt up end → AreSingle up end → OwesBelow room up end →
       ((a : ℕ) → a < system.agents → AnswersAreOwed (down a) end) → IsRouteMachine responses system host room up down state end → IsRoutePart system host up down end
@@ -51,7 +50,7 @@ pub record Laws : Type 0 where
   pub pass : (stage : Stage) → RunsAsStage stage → (end : ℕ) → PassesOn (record { hold = stage.depth; kept = 1 }) (above stage) (below stage) end
   pub front : (system : System) (run : Run) (host agent : ℕ) (middle : Port) (down : ℕ → Port) (end : ℕ) → agent < system.agents → IsHostPart system run host middle end → IsRoutePart system host middle down end → IsFront system run host agent (down agent) end
   pub gives : (system : System) (run : Run) (host agent : ℕ) (middle : Port) (down : ℕ → Port) (end : ℕ) → agent < system.agents → IsHostPart system run host middle end → IsRoutePart system host middle down end → GivesAtOnce system run host agent (down agent) end
-  pub default : (system : System) (run : Run) (host : ℕ) (middle : Port) (down : ℕ → Port) (end : ℕ) → 0 < system.agents → IsHostPart system run host middle end → IsRoutePart system host middle down end → IsDefaultFront system run host end
+  pub default : (system : System) (run : Run) (host : ℕ) (middle : Port) (down : ℕ → Port) (end : ℕ) → IsHostPart system run host middle end → IsRoutePart system host middle down end → IsDefaultFront system run host end
 
 module _ (laws : LineLaws) (responses : Responses) (system : System) (run : Run) (inside : Boundaries) (states : States) (ranks : LinkRanks) (end : ℕ) (built : IsBuilt responses system run inside states ranks end) where
   abbrev pub holds : Holds
@@ -64,7 +63,7 @@ module _ (laws : LineLaws) (responses : Responses) (system : System) (run : Run)
     joined = built.plan.joined;
     words = built.rows.words;
     few = let few = built.rows.few in omega (arith, few);
-    host = λ h low. laws.host responses system run h (states.room h) (inside.after_host h) (states.host h) end (built.plan.rooms h low) (λ none. absurd (both_ways (system.host h).has_readdatavalid none (built.machines.valid h low))) (built.machines.host h low);
+    host = λ h low. laws.host responses system run h (states.room h) (inside.after_host h) (states.host h) end (built.plan.rooms h low) (built.machines.one_word h low) (built.machines.host h low);
     route = λ h low. laws.route responses system h (states.room h) (inside.after_host h) (λ a. inside.upper h a (inside.links h a)) (states.route h) end (built.plan.places h low) (built.machines.route h low);
     links = built.rows.links;
     lanes = built.rows.lanes;
@@ -90,7 +89,7 @@ module _ (laws : Laws) (responses : Responses) (system : System) (run : Run) (in
   lower_tagged a i there low = tagged_at laws.stages (target_of system a) (inside.lower a) (states.stage a) system.stages end (λ i low. built.machines.stage a i there low) (some_word a there) (settled.after_arbiter a there).legal (lower_tags a there) i low
 
   host_part : (h : ℕ) → h < system.hosts → IsHostPart system run h (inside.after_host h) end
-  host_part h low = laws.host responses system run h (inside.after_host h) (states.host h) end (built.machines.valid h low) (legal.hosts h low) (settled.owed h low) (built.machines.host h low)
+  host_part h low = laws.host responses system run h (inside.after_host h) (states.host h) end (built.machines.one_word h low) (legal.hosts h low) (settled.owed h low) (built.machines.host h low)
 
   abbrev behind : ℕ → ℕ → Port
   behind h a = inside.upper h a (inside.links h a)
@@ -152,5 +151,5 @@ module _ (laws : Laws) (responses : Responses) (system : System) (run : Run) (in
       pass = record { lower = λ i low. stage_passes a i there low; upper = λ h i low fit. built.links.pass h a i low there fit };
       modest = modest_at a there;
     };
-    default = λ h low. laws.default system run h (inside.after_host h) (behind h) end built.plan.some_agent (host_part h low) (route_part h low);
+    default = λ h low. laws.default system run h (inside.after_host h) (behind h) end (host_part h low) (route_part h low);
   }

@@ -3,6 +3,9 @@ pub mod Arbiter
 pub mod Owed
 pub mod Assemble
 pub mod Wanted
+pub mod Beats
+pub mod Places
+pub mod Standing
 pub mod Fronts
 pub mod DefaultServed
 pub mod Fits

@@ -1,6 +1,6 @@
 -- What is unfinished by the numbers of the commands is wanted at the host's port.
 use Rattle.std.proofs.Common.{ℕ, zero, suc, ◌<◌, ◌≤◌, ◌≡◌, ◌+◌, ◌-◌, Bool, true, false, not, ◌||◌, ◌&&◌, List, [], ◌∷◌, ◌++◌, arith, refl, sym, ap, ap₂, subst, ◌∙◌, nat_lt, nat_le, nat_eq, length, map, take, drop, filter, flat_map, zip, IsTrue, IsFalse, tests, inl, inr, ◌⊎◌, if◌then◌else◌, append-nil, append_assoc, length-append, le-leb, ltb-true, ltb-false, Option, Some, None}
-use Rattle.std.proofs.lemmas.Bool.{or_left, and_parts, or_parts, both_ways}
+use Rattle.std.proofs.lemmas.Bool.{and_parts, or_parts, both_ways}
 use Rattle.std.specs.List.{list_any, list_all}
 use Rattle.mm_runs.specs.Views.{System}
 use Rattle.mm_runs.specs.Operations.{Beat}
@@ -8,8 +8,6 @@ use Rattle.mm_runs.specs.Commands.{Transfer, read_beats, is_of_reads, reads_amon
 use Rattle.mm_runs.specs.Order.{Asked, place_of, is_agent, command_numbers, transfer_operations, for_agent}
 use Rattle.mm_runs.specs.Awake.{is_place, up_to, of_command, count_for}
 use Rattle.mm_machines.specs.Lines.{asked_among}
-use Rattle.std.proofs.lemmas.List.Elements.{filter-append}
-use Rattle.std.proofs.lemmas.Grind.{flat_map-append}
 use Rattle.histories.specs.History.{is_raised, numbers, only_if, KeepsItems}
 use Rattle.histories.specs.Laws.{shown_is_accepted_and_standing}
 use Rattle.mm_runs.specs.Views.{Run, Shape, Signals, Levels, levels_at}
@@ -22,7 +20,7 @@ use Rattle.mm_machines.specs.Lines.{host_accepted}
 use Rattle.mm_parts.specs.Steps.{given_before}
 use Rattle.mm_awake.specs.Front.{shows_for, are_all_given, owes_next, is_bursting}
 use Rattle.mm_awake.proofs.Bits.{no_true}
-use Rattle.mm_awake.proofs.Fronts.{both, is_the_place, some_beat, writes_on}
+use Rattle.mm_awake.proofs.Beats.{both, same_place, place_self, asked_append, next_at, next_here, next_stays, drop_past, some_beat, writes_on}
 
 -- the transfers whose number passes a test; the first one has number `n` if it begins a command, and commands are numbered by their ends
 chosen : (ℕ → Bool) → ℕ → List Transfer → List Transfer
@@ -262,15 +260,6 @@ module _ (system : System) (host : ℕ) where
   abbrev all_at : Option ℕ → List Transfer → Bool
   all_at place ts = list_all (λ (t : Transfer). is_place place (goes_to t)) ts
 
-  pub same_place : (p r : Option ℕ) → IsTrue (is_place p r) → r ≡ p
-  same_place None None h = refl
-  same_place None (Some b) h = absurd (no_true h)
-  same_place (Some a) r h = is_the_place a r h
-
-  place_self : (place : Option ℕ) → IsTrue (is_place place place)
-  place_self None = refl
-  place_self (Some a) = grind (arith, tests)
-
   all_append : (place : Option ℕ) (xs ys : List Transfer) → IsTrue (all_at place xs) → IsTrue (all_at place ys) → IsTrue (all_at place (xs ++ ys))
   all_append place [] ys a b = b
   all_append place (x ∷ xs) ys a b = let parts = and_parts (is_place place (goes_to x)) _ a in both _ _ parts.0 (all_append place xs ys parts.1 b)
@@ -364,26 +353,6 @@ module _ (system : System) (host : ℕ) where
           ≡ flat_map (λ (t : Transfer). map (λ (b : Beat). asked_one (goes_to t) b) t.beats) (if b then t ∷ [] else []) ++ asked_among system host ts
       by_kind true = sym (ap (λ l. l ++ asked_among system host ts) (append-nil (map (λ (b : Beat). asked_one (goes_to t) b) t.beats)))
       by_kind false = refl
-
-  drop_past : {A : Type 0} (g : ℕ) (xs ys : List A) → length xs ≤ g → drop g (xs ++ ys) ≡ drop (g - length xs) ys
-  drop_past {A} g [] ys h = ap (λ n. drop n ys) (omega arith)
-  drop_past {A} zero (x ∷ xs) ys h = absurd (omega (arith, h))
-  drop_past {A} (suc g) (x ∷ xs) ys h = drop_past g xs ys (omega (arith, h)) ∙ ap (λ n. drop n ys) (omega arith)
-
-  abbrev next_at : Option ℕ → ℕ → List Asked → Bool
-  next_at place g l = list_any (λ (q : Asked). is_place place q.place) (take 1 (drop g l))
-
-  next_here : (place : Option ℕ) (g : ℕ) (xs ys : List Asked) → IsTrue (list_all (λ (q : Asked). is_place place q.place) xs) → g < length xs → IsTrue (next_at place g (xs ++ ys))
-  next_here place g [] ys all h = absurd (omega (arith, h))
-  next_here place zero (x ∷ xs) ys all h = or_left (is_place place x.place) _ (and_parts (is_place place x.place) _ all).0
-  next_here place (suc g) (x ∷ xs) ys all h = next_here place g xs ys (and_parts (is_place place x.place) _ all).1 (omega (arith, h))
-
-  -- what is next stays next as more is asked
-  pub next_stays : (place : Option ℕ) (g : ℕ) (xs ys : List Asked) → IsTrue (next_at place g xs) → IsTrue (next_at place g (xs ++ ys))
-  next_stays place zero [] ys h = absurd (no_true h)
-  next_stays place zero (x ∷ xs) ys h = h
-  next_stays place (suc g) [] ys h = absurd (no_true h)
-  next_stays place (suc g) (x ∷ xs) ys h = next_stays place g xs ys h
 
   -- a word past those of the earlier commands and before the end of one is for its place
   next_word : (opened : Option (Option ℕ)) (place : Option ℕ) (k n g : ℕ) (xs : List Transfer) → Steady opened xs → reads_in (chosen (λ i. nat_le i k) n xs) ≤ g → g < reads_in (chosen (λ i. nat_le i (suc k)) n xs) →
@@ -483,7 +452,7 @@ module _ (system : System) (host : ℕ) where
       parts = and_parts (is_place p (place_of system host t)) _ all
 
       by_head : (b : Bool) → is_place place (place_of system host t) ≡ b → IsTrue (b || list_any (λ (t : Transfer). is_place place (place_of system host t)) ts) → (IsTrue (list_any (λ (t : Transfer). is_place place (place_of system host t)) ts) → p ≡ place) → p ≡ place
-      by_head true e any more = sym (same_place system host p (place_of system host t) parts.0) ∙ same_place system host place (place_of system host t) e
+      by_head true e any more = sym (same_place p (place_of system host t) parts.0) ∙ same_place place (place_of system host t) e
       by_head false e any more = more any
 
   none_elsewhere : (b : ℕ) (p : Option ℕ) (ts : List Transfer) → IsTrue (list_all (λ (t : Transfer). is_place p (place_of system host t)) ts) → IsFalse (is_agent b p) → ops_for system host b ts ≡ 0
@@ -492,7 +461,7 @@ module _ (system : System) (host : ℕ) where
   none_elsewhere b p (t ∷ ts) all other =
       let parts = and_parts (is_place p (place_of system host t)) _ all in
       let more = none_elsewhere b p ts parts.1 other in
-      let here : is_agent b (place_of system host t) ≡ false = ap (is_agent b) (same_place system host p (place_of system host t) parts.0) ∙ other in
+      let here : is_agent b (place_of system host t) ≡ false = ap (is_agent b) (same_place p (place_of system host t) parts.0) ∙ other in
       let one : (if is_agent b (place_of system host t) then length (transfer_operations system host b t) else 0) ≡ zero = rw here refl in
       omega (arith, more, one)
 
@@ -808,7 +777,7 @@ module _ (system : System) (run : Run) (host end : ℕ) (legal : IsLegalHost (sy
             let same = ap begins_in nothing in
             let open_now = place_left (omega (arith, less, bal, most, begun, same)) (subst (λ l. IsTrue (list_any (λ (t : Transfer). is_place place (place_of system host t)) (chosen (λ i. nat_eq i number) 1 l))) nothing any_for) in
             let is = opened_so (nat_lt 0 (burst c).left) (system.place host Writes (burst c).first) (sym (stands c (omega (arith, h))).opened ∙ open_now) in
-            let shown = bursts (both _ _ is.0 (ap (is_place place) is.1 ∙ place_self system host place)) in
+            let shown = bursts (both _ _ is.0 (ap (is_place place) is.1 ∙ place_self place)) in
             absurd (no_true (sym e ∙ shown))
         by_shown true e = a_beat (both _ _ e here) all_given
           where
@@ -832,7 +801,7 @@ module _ (system : System) (run : Run) (host end : ℕ) (legal : IsLegalHost (sy
 
             place_of_open : (o : Option (Option ℕ)) → o ≡ Some place → Steady system host o (now c ∷ []) → IsTrue (is_place place (place_of system host (now c)))
             place_of_open None f s = absurd cc
-            place_of_open (Some p) f s = let same : p ≡ place = cc in ap (is_place place) (s.2 ∙ same) ∙ place_self system host place
+            place_of_open (Some p) f s = let same : p ≡ place = cc in ap (is_place place) (s.2 ∙ same) ∙ place_self place
 
             own_place : (b : Bool) → IsTrue (list_any (λ (t : Transfer). is_place place (place_of system host t)) ((if b then now c ∷ [] else []) ++ [])) → IsTrue (is_place place (place_of system host (now c)))
             own_place true any = by_head (is_place place (place_of system host (now c))) any
@@ -917,17 +886,13 @@ module _ (system : System) (run : Run) (host end : ℕ) (legal : IsLegalHost (sy
                 let next = next_word system host None place k 1 (given_before system run host c) (all_accepted_by c) (stands c (omega (arith, h))).steady (omega (arith, l, low')) (omega (arith, u, high')) (subst (λ ts. IsTrue (list_all (λ (t : Transfer). is_place place (place_of system host t)) ts)) own_same all_for) in
                 let still : given_before system run host (suc c) ≡ given_before system run host c = ap length (rw e (append-nil (given (system.host host) (run.at_host host) c))) in
                 a_word (subst (λ n. IsTrue (list_any (λ (q : Asked). is_place place q.place) (take 1 (drop n (asked_among system host (all_accepted_by (suc c))))))) (sym still)
-                (subst (λ l. IsTrue (list_any (λ (q : Asked). is_place place q.place) (take 1 (drop (given_before system run host c) l)))) (sym (asked_append (all_accepted_by c) (only_if (accepts c) (now c)))) (next_stays system host place (given_before system run host c) (asked_among system host (all_accepted_by c)) (asked_among system host (only_if (accepts c) (now c))) next)))
+                (subst (λ l. IsTrue (list_any (λ (q : Asked). is_place place q.place) (take 1 (drop (given_before system run host c) l)))) (sym (asked_append system host (all_accepted_by c) (only_if (accepts c) (now c)))) (next_stays place (given_before system run host c) (asked_among system host (all_accepted_by c)) (asked_among system host (only_if (accepts c) (now c))) next)))
               where
                 leb_true : (i n : ℕ) → IsTrue (nat_le i n) → i ≤ n
                 leb_true i n t = grind (arith, tests, t)
 
                 eq_low : (i n : ℕ) → IsTrue (nat_eq i n) → i ≤ n
                 eq_low i n t = grind (arith, tests, t)
-
-                asked_append : (xs ys : List Transfer) → asked_among system host (xs ++ ys) ≡ asked_among system host xs ++ asked_among system host ys
-                asked_append xs ys = ap (λ l. flat_map (λ (t : Transfer). map (λ (b : Beat). asked_one (place_of system host t) b) t.beats) l) (filter-append (λ (t : Transfer). is_of_reads t.kind) xs ys)
-                    ∙ flat_map-append (λ (t : Transfer). map (λ (b : Beat). asked_one (place_of system host t) b) t.beats) (filter (λ (t : Transfer). is_of_reads t.kind) xs) (filter (λ (t : Transfer). is_of_reads t.kind) ys)
 
         by_parts : IsFalse (nat_le number (length (filter (λ (t : Transfer). t.ends) (all_accepted_by c))) && list_all (are_taken system run host number c) (numbers 0 system.agents)) ⊎ IsFalse (are_given system run host number c) → Outcome system run host place c
         by_parts (inl f) = let found = some_fails (are_taken system run host number c) 0 system.agents (second (nat_le number (length (filter (λ (t : Transfer). t.ends) (all_accepted_by c)))) _ ended f) in from_operation found.0 found.1

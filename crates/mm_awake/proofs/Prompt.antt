@@ -10,7 +10,7 @@ use Rattle.mm_machines.specs.Rank.{moves_commands, is_owed, is_due, AnswersPromp
 use Rattle.mm_links.specs.Going.{GivesWhatHasCome, is_untaken}
 use Rattle.mm_machines.specs.SideLaws.{taken_is_shown}
 use Rattle.mm_awake.proofs.Bits.{no_true}
-use Rattle.mm_awake.proofs.Fronts.{both}
+use Rattle.mm_awake.proofs.Beats.{both}
 
 pub record Laws : Type 0 where
   pub flow : (target : Target) (up down : Port) (end c : ℕ) → AreLegalAt up end → AreLegalAt down end → suc c ≤ end → IsPrefix (items target down (suc c)) (items target up (suc c)) → IsTrue (is_owed up c) →

@@ -1,4 +1,4 @@
--- Whole systems of machines: `IsBuilt` is what `machines_are_awake` asks, `ServesWanted` of `Approach` what it gives. Start here. Each host has readdatavalid.
+-- Whole systems of machines: `IsBuilt` is what `machines_are_awake` asks, `ServesWanted` of `Approach` what it gives. Start here.
 use Rattle.std.specs.Prelude.{◌≡◌, ℕ, suc, ◌+◌, ◌*◌, ◌<◌, ◌≤◌, IsTrue}
 use Rattle.ranks.specs.Turns.{AllShare}
 use Rattle.mm_runs.specs.Views.{System, Run, Responses}
@@ -12,7 +12,7 @@ use Rattle.mm_machines.specs.Machines.{Stage, above, below, RunsAsStage, WaitsOn
 use Rattle.mm_machines.specs.Turns.{Grant, seats_of}
 use Rattle.mm_parts.specs.Agent.{AgentState, IsAgentMachine, IsAgentPlan}
 use Rattle.mm_parts.specs.Arbiter.{IsArbiterMachine}
-use Rattle.mm_parts.specs.Host.{HostState, IsHostMachine}
+use Rattle.mm_parts.specs.Host.{HostState, IsHostMachine, ReadsWords}
 use Rattle.mm_parts.specs.Route.{RouteState, IsRouteMachine, IsRoutePlan}
 use Rattle.mm_parts.specs.Steps.{AreSilentPast, agent_rank}
 use Rattle.mm_links.specs.Going.{KeepsGoing}
@@ -48,7 +48,7 @@ pub record IsStageBetween (stage : Stage) (up down : TaggedPort) : Type 0 where
 
 -- every part is its machine
 pub record AreMachines (responses : Responses) (system : System) (run : Run) (inside : Boundaries) (states : States) (end : ℕ) : Type 0 where
-  pub valid : (h : ℕ) → h < system.hosts → IsTrue (system.host h).has_readdatavalid
+  pub one_word : (h : ℕ) → h < system.hosts → ReadsWords (system.host h) (run.at_host h) end
   pub host : (h : ℕ) → h < system.hosts → IsHostMachine responses (system.host h) (run.at_host h) (inside.after_host h) (states.host h) end
   pub route : (h : ℕ) → h < system.hosts → IsRouteMachine responses system h (states.room h) (inside.after_host h) (λ a. inside.upper h a (inside.links h a)) (states.route h) end
   pub arbiter : (a : ℕ) → a < system.agents → IsArbiterMachine (seats_of system a) system.hosts (λ h. inside.upper h a 0) (inside.lower a system.stages) (states.grant a) end
@@ -89,7 +89,6 @@ pub record AreLinks (system : System) (run : Run) (inside : Boundaries) (states 
 
 -- what the plan says
 pub record ArePlanned (system : System) (inside : Boundaries) (states : States) : Type 0 where
-  pub some_agent : 0 < system.agents
   pub few_stages : system.stages ≤ 4
   pub few_hosts : system.hosts ≤ 16
   pub joined : (a h : ℕ) → IsTrue (is_joined system a h) → h < system.hosts

@@ -128,23 +128,23 @@ pub fn wanted_default_is_served()
         → IsDefaultServedIn system run host from size }
 {}
 
-/// The part next to a host with readdatavalid and the route keep what is asked of the front for each agent.
+/// The part next to a host and the route keep what is asked of the front for each agent, with and without readdatavalid.
 pub fn host_and_route_are_a_front()
     ensures { (system : System) (run : Run) (host agent : ℕ) (middle : Port) (down : ℕ → Port) (end : ℕ) → agent < system.agents
         → IsHostPart system run host middle end → IsRoutePart system host middle down end
         → IsFront system run host agent (down agent) end }
 {}
 
-/// The part next to a host with readdatavalid and the route give a word in the cycle in which it comes.
+/// The part next to a host and the route give a word in the cycle in which it comes.
 pub fn words_reach_the_host()
     ensures { (system : System) (run : Run) (host agent : ℕ) (middle : Port) (down : ℕ → Port) (end : ℕ) → agent < system.agents
         → IsHostPart system run host middle end → IsRoutePart system host middle down end
         → GivesAtOnce system run host agent (down agent) end }
 {}
 
-/// The part next to a host with readdatavalid and the route serve the default agent.
+/// The part next to a host and the route serve the default agent.
 pub fn host_and_route_serve_default()
-    ensures { (system : System) (run : Run) (host : ℕ) (middle : Port) (down : ℕ → Port) (end : ℕ) → 0 < system.agents
+    ensures { (system : System) (run : Run) (host : ℕ) (middle : Port) (down : ℕ → Port) (end : ℕ)
         → IsHostPart system run host middle end → IsRoutePart system host middle down end
         → IsDefaultFront system run host end }
 {}
