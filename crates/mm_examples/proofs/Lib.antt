@@ -15,6 +15,7 @@ pub mod WidthTraces
 pub mod WireTraces
 pub mod IdleRuns
 pub mod SmallKept
+pub mod WaitingKept
 pub mod EmptyRead
 pub mod LineRuns
 pub mod PartTwins

@@ -54,28 +54,30 @@ legal_middle_one = legal_if (middle 1) (four _ refl refl refl refl) (four _ (λ 
 
 pub host_zero : IsHostPart small_system small_run 0 (middle 0) 4
 host_zero = record {
-  valid = refl;
+  one_word = λ none. let bad : ⊥ = cc in absurd bad;
   legal = legal_middle_zero.legal;
   bytes = refl;
   shown = four _ refl refl refl refl;
-  accepts = λ c h. refl;
+  accepts = four _ refl refl refl refl;
   same = λ c h x. refl;
   level = λ c h x. refl;
   more = four _ (λ x. refl) (λ x. refl) (λ x. refl) (λ x. cc);
   gives = λ c h. refl;
+  owed = four _ (omega arith) (omega arith) (omega arith) (omega arith);
 }
 
 pub host_one : IsHostPart small_system small_run 1 (middle 1) 4
 host_one = record {
-  valid = refl;
+  one_word = λ none. let bad : ⊥ = cc in absurd bad;
   legal = legal_middle_one.legal;
   bytes = refl;
   shown = four _ refl refl refl refl;
-  accepts = λ c h. refl;
+  accepts = four _ refl refl refl refl;
   same = λ c h x. refl;
   level = λ c h x. refl;
   more = four _ (λ x. refl) (λ x. refl) (λ x. cc) (λ x. cc);
   gives = λ c h. refl;
+  owed = four _ (omega arith) (omega arith) (omega arith) (omega arith);
 }
 
 two : (P : ℕ → Type 0) → P 0 → P 1 → (a : ℕ) → a < 2 → P a

@@ -12,6 +12,7 @@ pub mod WireRows
 pub mod PartRows
 pub mod IdleRows
 pub mod SmallSystem
+pub mod WaitingSystem
 pub mod LineRows
 pub mod PartTwins
 pub mod LinkRuns

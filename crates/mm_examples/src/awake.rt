@@ -1,16 +1,18 @@
 //! Runs in which a part lets a wanted agent wait for ever, each refused by the record of that part, and right runs that keep the records.
 
-ghost use Rattle.std.specs.Prelude.{ℕ, ◌<◌};
+ghost use Rattle.std.specs.Prelude.{◌≡◌, ◌<◌, ◌∷◌, [], ℕ};
 ghost use Rattle.mm_runs.specs.Awake.{ServesWithin, ServesDefaultWithin};
 ghost use Rattle.mm_machines.specs.Lines.{TaggedPort, target_of};
 ghost use Rattle.mm_machines.specs.Rank.{AnswersPromptly, LinkRankFalls};
-ghost use Rattle.mm_parts.specs.Steps.{IsRoutePart, IsArbiterPart};
+ghost use Rattle.mm_parts.specs.Steps.{IsHostPart, IsRoutePart, IsArbiterPart};
 ghost use Rattle.mm_awake.specs.Approach.{IsAwake};
 ghost use Rattle.mm_awake.specs.Front.{IsFront, IsDefaultFront, KeepsWhole};
 ghost use Rattle.mm_links.specs.Going.{GivesWhatHasCome};
 ghost use Rattle.mm_examples.specs.IdleRows.{pair_system, held_run, held_below, read_port, swallow_run, stray_system, stray_run, two_places};
 ghost use Rattle.mm_examples.specs.IdleRows.{passing_run, passing_down, mistagged, limited_top, limited_down, sets_top, sets_down};
 ghost use Rattle.mm_examples.specs.MoreExamples.{byte_target};
+ghost use Rattle.mm_examples.specs.PartRows.{levels, at_host, below_host};
+ghost use Rattle.mm_examples.specs.WaitingSystem.{waiting_side, waiting_small, waiting_run, early_run, reads_below, waiting_in, waiting_ways, waiting_approach};
 ghost use Rattle.mm_examples.specs.SmallSystem.{stage_top, stage_low, small_system, small_run, small_ways, small_standings, small_approach};
 
 /// A route holds the last beat of a burst, which has no lane, and the arbiter waits for it: host 1 is never served.
@@ -62,3 +64,22 @@ pub fn small_system_keeps_all()
     mm_awake::host_and_route_are_a_front();
     mm_awake::stages_pass_on()
 }
+
+/// A host without readdatavalid that reads an agent and the default agent keeps every record. The machine next to it gives these waits and shows each read once.
+pub fn waiting_host_keeps_all()
+    ensures agents { KeepsWhole waiting_small waiting_run 0 waiting_ways small_standings 5 }
+    ensures awake { IsAwake waiting_small waiting_run waiting_approach 5 }
+    ensures waits { levels (at_host waiting_side waiting_in).waitrequest 5 ≡ 1 ∷ 1 ∷ 0 ∷ 1 ∷ 0 ∷ [] }
+    ensures shown { levels (below_host waiting_side waiting_in).commands.read 5 ≡ 1 ∷ 0 ∷ 0 ∷ 1 ∷ 0 ∷ [] }
+{
+    mm_awake::host_and_route_are_a_front();
+    mm_awake::words_reach_the_host();
+    mm_awake::host_and_route_serve_default();
+    mm_awake::wires_keep_going();
+    mm_awake::stages_pass_on()
+}
+
+/// A read that is accepted as soon as it is taken below, before its word comes.
+pub fn read_accepted_early()
+    ensures { IsHostPart waiting_small early_run 0 reads_below 1 → ⊥ }
+{}
