@@ -170,7 +170,7 @@ module _ (side : AgentSide) (view : AgentView) (up : TaggedPort) (state : AgentS
       none false = refl
 
   -- the words that each accepted read asks for
-  lengths_are : (c : ℕ) → c ≤ end → map (λ (t : Transfer). length t.beats) (reads_among (accepted side.shape view.signals (agent_accepts side view) c)) ≡ map (λ (e : Entry). e.left) (entries (taken_at up.port c))
+  pub lengths_are : (c : ℕ) → c ≤ end → map (λ (t : Transfer). length t.beats) (reads_among (accepted side.shape view.signals (agent_accepts side view) c)) ≡ map (λ (e : Entry). e.left) (entries (taken_at up.port c))
   lengths_are zero low = refl
   lengths_are (suc c) low =
       ap (map (λ (t : Transfer). length t.beats)) (filter-append (λ (t : Transfer). is_of_reads t.kind) (accepted side.shape view.signals (agent_accepts side view) c) (only_if (agent_accepts side view c) (below c)))

@@ -127,7 +127,7 @@ module _ (responses : Responses) (system : System) (run : Run) (agent : ℕ) (up
             let few = small is before in
             inr (next.0, at_most (stood (suc c)) (stood c) (wait_time side view c) (wait_time side view (suc c)) long few same next.1)
 
-    left_falls : (c : ℕ) → c < end → shows view.signals c ≡ true → accepts c ≡ false → longest - stood (suc c) < longest - stood c
+    pub left_falls : (c : ℕ) → c < end → shows view.signals c ≡ true → accepts c ≡ false → longest - stood (suc c) < longest - stood c
     left_falls c low shown none =
         let other : nat_eq (stood c) (wait_time side view c) ≡ false = sym (ap (λ s. s && nat_eq (stood c) (wait_time side view c)) shown) ∙ (sym (accepts_is c) ∙ none) in
         let long : stood (suc c) ≡ stood c + 1 = rw (shown, other) refl in

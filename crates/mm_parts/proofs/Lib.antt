@@ -37,3 +37,4 @@ mod HostSteps
 mod RouteSteps
 mod AgentTimes
 mod AgentRank
+mod AgentAhead

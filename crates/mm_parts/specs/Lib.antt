@@ -12,3 +12,4 @@ pub mod Moments
 pub mod System
 pub mod SystemRun
 pub mod Steps
+pub mod Ahead

@@ -13,6 +13,7 @@ ghost use Rattle.mm_parts.specs.Agent.{AgentState, IsAgentMachine, IsAgentPlan};
 ghost use Rattle.mm_parts.specs.Arbiter.{IsArbiterMachine};
 ghost use Rattle.mm_parts.specs.Host.{HostState, IsHostMachine, ReadsWords};
 ghost use Rattle.mm_parts.specs.Route.{RouteState, IsRoutePlan, IsRouteMachine};
+ghost use Rattle.mm_parts.specs.Ahead.{AcceptsAhead};
 ghost use Rattle.mm_parts.specs.Steps.{IsArbiterPart, IsHostPart, IsRoutePart, IsAgentPart, AreSilentPast, agent_rank};
 
 /// The arbiter machine passes the beats of the chosen host and sends words back by their tags.
@@ -58,3 +59,11 @@ pub fn agent_machine_is_a_part()
 {
     crate::lines::agent_machine_keeps_its_line()
 }
+
+/// The machine next to an agent with readdatavalid hands on what stands before it while the agent bears more reads, also while words are owed.
+pub fn agent_machine_accepts_ahead()
+    ensures { (responses : Responses) (system : System) (run : Run) (agent : ℕ) (up : TaggedPort) (state : AgentState) (end : ℕ)
+        → IsAgentPlan (system.agent agent) → IsFit system agent up.port end
+        → IsLegalAgent (system.agent agent) (run.at_agent agent) end
+        → IsAgentMachine responses (system.agent agent) (run.at_agent agent) up state end → AcceptsAhead system run agent up end }
+{}
