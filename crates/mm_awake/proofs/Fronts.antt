@@ -61,7 +61,7 @@ module _ (system : System) (run : Run) (host agent : ℕ) (middle : Port) (down 
       route.shown agent c low h ∙ both (shows middle.commands.signals c && is_agent agent (place_shown system host middle c)) _ (both _ _ shown (ap (is_agent agent) (place_is c h shown ∙ place) ∙ agent_self agent)) open_gate
 
   -- a beat that is shown behind the route is the host's
-  from_top : (c : ℕ) → c < end → IsTrue (shows top.commands.signals c) → IsTrue (shows middle.commands.signals c) × (place_of system host (shown_now c) ≡ Some agent)
+  pub from_top : (c : ℕ) → c < end → IsTrue (shows top.commands.signals c) → IsTrue (shows middle.commands.signals c) × (place_of system host (shown_now c) ≡ Some agent)
   from_top c h shown =
       let all = and_parts (shows middle.commands.signals c && is_agent agent (place_shown system host middle c)) (is_open system host middle (Some agent) c) (sym (route.shown agent c low h) ∙ shown) in
       let two = and_parts (shows middle.commands.signals c) (is_agent agent (place_shown system host middle c)) all.0 in
@@ -108,6 +108,15 @@ module _ (system : System) (run : Run) (host agent : ℕ) (middle : Port) (down 
 
   -- ---- a beat for the agent at the host
 
+  -- where no read is ahead, there is room, and the agent alone owes words, a beat for it is shown behind the route
+  pub reaches_top : (c : ℕ) → c < end → IsTrue (shows view.signals c) → place_of system host (shown_now c) ≡ Some agent → IsTrue (has_room system run host c) → IsTrue (owes_alone system run host agent c) → below c ≡ host_accepted system run host c → IsTrue (shows top.commands.signals c)
+  reaches_top c h shown place room alone same =
+      let gate = or_right (is_raised (view.write c)) _ (may_read_level system run host middle end part c h same room) in
+      let on = to_middle system run host middle end part c h shown gate in
+      let all = subst (λ n. IsTrue (list_all (λ (q : Asked). is_place (Some agent) q.place) (drop n (asked_among system host (below c))))) (sym (same_words system run host middle end part c (omega (arith, h))))
+      (subst (λ l. IsTrue (list_all (λ (q : Asked). is_place (Some agent) q.place) (drop (given_before system run host c) (asked_among system host l)))) (sym same) alone) in
+      to_top c h on place (or_right (is_raised (middle.commands.write c)) _ all)
+
   ahead_front : (c : ℕ) → c < end → IsTrue (shows_for system run host (Some agent) c) → IsTrue (has_room system run host c) → IsTrue (owes_alone system run host agent c) → IsTrue (shows top.commands.signals c || is_owed top c || is_given_from system run (Some agent) c host)
   ahead_front c h shown room alone = by_taken (stands system run host middle end part c (omega (arith, h))).taken
     where
@@ -119,12 +128,7 @@ module _ (system : System) (run : Run) (host agent : ℕ) (middle : Port) (down 
 
       by_taken : (below c ≡ host_accepted system run host c) ⊎ IsAhead system run host middle end part c → IsTrue (shows top.commands.signals c || is_owed top c || is_given_from system run (Some agent) c host)
       by_taken (inr a) = ahead_owed c h a place
-      by_taken (inl same) =
-          let gate = or_right (is_raised (view.write c)) _ (may_read_level system run host middle end part c h same room) in
-          let on = to_middle system run host middle end part c h parts.0 gate in
-          let all = subst (λ n. IsTrue (list_all (λ (q : Asked). is_place (Some agent) q.place) (drop n (asked_among system host (below c))))) (sym (same_words system run host middle end part c (omega (arith, h))))
-          (subst (λ l. IsTrue (list_all (λ (q : Asked). is_place (Some agent) q.place) (drop (given_before system run host c) (asked_among system host l)))) (sym same) alone) in
-          or_left (shows top.commands.signals c || is_owed top c) _ (or_left (shows top.commands.signals c) _ (to_top c h on place (or_right (is_raised (middle.commands.write c)) _ all)))
+      by_taken (inl same) = or_left (shows top.commands.signals c || is_owed top c) _ (or_left (shows top.commands.signals c) _ (reaches_top c h parts.0 place room alone same))
 
   shown_front : (c : ℕ) → c < end → IsTrue (shows_for system run host (Some agent) c) → IsTrue (are_all_given system run host c) → IsTrue (shows top.commands.signals c || is_owed top c || is_given_from system run (Some agent) c host)
   shown_front c h shown all = ahead_front c h shown (room_when_given system run host c all) (ap (list_all (λ (q : Asked). is_place (Some agent) q.place)) (none_when_given system run host c all))
@@ -179,7 +183,7 @@ module _ (system : System) (run : Run) (host agent : ℕ) (middle : Port) (down 
       no_true (sym (ap not ends) ∙ sym (last_taken c h taken) ∙ joined)
 
   -- what is left open behind the route is the host's burst
-  left_open : (c : ℕ) → c ≤ end → IsTrue (is_last_joined (taken_at top c)) → IsTrue (is_bursting system run host (Some agent) c)
+  pub left_open : (c : ℕ) → c ≤ end → IsTrue (is_last_joined (taken_at top c)) → IsTrue (is_bursting system run host (Some agent) c)
   left_open zero h joined = absurd (no_true joined)
   left_open (suc c) h joined = by_write (is_raised (view.write c)) refl (takes top c) refl (left_open c (omega (arith, h)))
     where

@@ -20,3 +20,6 @@ pub mod Passing
 pub mod Building
 pub mod Piped
 pub mod WireGoes
+pub mod AheadFront
+pub mod AheadStages
+pub mod AheadOwed

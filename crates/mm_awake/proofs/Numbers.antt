@@ -23,19 +23,19 @@ use Rattle.mm_awake.proofs.Bits.{no_true}
 use Rattle.mm_awake.proofs.Beats.{both, same_place, place_self, asked_append, next_at, next_here, next_stays, drop_past, some_beat, writes_on}
 
 -- the transfers whose number passes a test; the first one has number `n` if it begins a command, and commands are numbered by their ends
-chosen : (ℕ → Bool) → ℕ → List Transfer → List Transfer
+unfoldable pub chosen : (ℕ → Bool) → ℕ → List Transfer → List Transfer
 chosen test n [] = []
 chosen test n (t ∷ later) = (if test n then t ∷ [] else []) ++ chosen test (if t.ends then n + 1 else n) later
 
-ends_in : List Transfer → ℕ
+pub ends_in : List Transfer → ℕ
 ends_in [] = 0
 ends_in (t ∷ later) = (if t.ends then 1 else 0) + ends_in later
 
-begins_in : List Transfer → ℕ
+unfoldable pub begins_in : List Transfer → ℕ
 begins_in [] = 0
 begins_in (t ∷ later) = (if t.begins then 1 else 0) + begins_in later
 
-reads_in : List Transfer → ℕ
+unfoldable pub reads_in : List Transfer → ℕ
 reads_in [] = 0
 reads_in (t ∷ later) = (if is_of_reads t.kind then length t.beats else 0) + reads_in later
 
@@ -46,16 +46,16 @@ module _ (system : System) (host : ℕ) where
   abbrev goes_to : Transfer → Option ℕ
   goes_to t = place_of system host t
 
-  abbrev after_one : Option (Option ℕ) → Transfer → Option (Option ℕ)
+  abbrev pub after_one : Option (Option ℕ) → Transfer → Option (Option ℕ)
   after_one opened t = if t.ends then None else Some (goes_to t)
 
   -- commands that stand together, each at one place. `opened` is the place of the one that is open
-  Steady : Option (Option ℕ) → List Transfer → Type 0
+  unfoldable pub Steady : Option (Option ℕ) → List Transfer → Type 0
   Steady opened [] = Unit {0}
   Steady None (t ∷ later) = IsTrue t.begins × (IsTrue (is_of_reads t.kind) → IsTrue t.ends) × Steady (after_one None t) later
   Steady (Some p) (t ∷ later) = IsFalse t.begins × IsFalse (is_of_reads t.kind) × (goes_to t ≡ p) × Steady (after_one (Some p) t) later
 
-  after : Option (Option ℕ) → List Transfer → Option (Option ℕ)
+  pub after : Option (Option ℕ) → List Transfer → Option (Option ℕ)
   after opened [] = opened
   after opened (t ∷ later) = after (after_one opened t) later
 
@@ -70,11 +70,11 @@ module _ (system : System) (host : ℕ) where
   after_end opened [] t = refl
   after_end opened (x ∷ ts) t = after_end (after_one opened x) ts t
 
-  is_some : Option (Option ℕ) → ℕ
+  unfoldable pub is_some : Option (Option ℕ) → ℕ
   is_some None = 0
   is_some (Some p) = 1
 
-  some_after_one : (opened : Option (Option ℕ)) (t : Transfer) → is_some (after_one opened t) + (if t.ends then 1 else 0) ≡ 1
+  pub some_after_one : (opened : Option (Option ℕ)) (t : Transfer) → is_some (after_one opened t) + (if t.ends then 1 else 0) ≡ 1
   unfolding is_some
   some_after_one opened t = by_end t.ends
     where
@@ -130,15 +130,15 @@ module _ (system : System) (host : ℕ) where
 
   -- ---- what is chosen
 
-  next_number : (n : ℕ) (b : Bool) (e : ℕ) → (if b then n + 1 else n) + e ≡ n + ((if b then 1 else 0) + e)
+  pub next_number : (n : ℕ) (b : Bool) (e : ℕ) → (if b then n + 1 else n) + e ≡ n + ((if b then 1 else 0) + e)
   next_number n true e = omega arith
   next_number n false e = omega arith
 
-  next_least : (n : ℕ) (b : Bool) → n ≤ (if b then n + 1 else n)
+  pub next_least : (n : ℕ) (b : Bool) → n ≤ (if b then n + 1 else n)
   next_least n true = omega arith
   next_least n false = omega arith
 
-  chosen_append : (test : ℕ → Bool) (n : ℕ) (xs ys : List Transfer) → chosen test n (xs ++ ys) ≡ chosen test n xs ++ chosen test (n + ends_in xs) ys
+  pub chosen_append : (test : ℕ → Bool) (n : ℕ) (xs ys : List Transfer) → chosen test n (xs ++ ys) ≡ chosen test n xs ++ chosen test (n + ends_in xs) ys
   unfolding chosen ends_in
   chosen_append test n [] ys = ap (λ k. chosen test k ys) (omega arith)
   chosen_append test n (x ∷ xs) ys =
@@ -146,24 +146,24 @@ module _ (system : System) (host : ℕ) where
       ∙ sym (append_assoc (if test n then x ∷ [] else []) (chosen test (if x.ends then n + 1 else n) xs) (chosen test (n + ((if x.ends then 1 else 0) + ends_in xs)) ys))
 
   -- nothing with a number above
-  none_above : (test : ℕ → Bool) (n : ℕ) (xs : List Transfer) → ((k : ℕ) → n ≤ k → IsFalse (test k)) → chosen test n xs ≡ []
+  pub none_above : (test : ℕ → Bool) (n : ℕ) (xs : List Transfer) → ((k : ℕ) → n ≤ k → IsFalse (test k)) → chosen test n xs ≡ []
   unfolding chosen
   none_above test n [] none = refl
   none_above test n (x ∷ xs) none =
       let first : test n ≡ false = none n (omega arith) in
       rw first (none_above test (if x.ends then n + 1 else n) xs (λ k h. none k (let l = next_least n x.ends in omega (arith, h, l))))
 
-  reads_append : (xs ys : List Transfer) → reads_in (xs ++ ys) ≡ reads_in xs + reads_in ys
+  pub reads_append : (xs ys : List Transfer) → reads_in (xs ++ ys) ≡ reads_in xs + reads_in ys
   unfolding reads_in
   reads_append [] ys = omega arith
   reads_append (x ∷ xs) ys = let more = reads_append xs ys in omega (arith, more)
 
-  reads_one : (b : Bool) (t : Transfer) → reads_in (if b then t ∷ [] else []) ≡ (if b then (if is_of_reads t.kind then length t.beats else 0) else 0)
+  pub reads_one : (b : Bool) (t : Transfer) → reads_in (if b then t ∷ [] else []) ≡ (if b then (if is_of_reads t.kind then length t.beats else 0) else 0)
   unfolding reads_in
   reads_one true t = omega arith
   reads_one false t = refl
 
-  reads_length : (ts : List Transfer) → length (read_beats ts) ≡ reads_in ts
+  pub reads_length : (ts : List Transfer) → length (read_beats ts) ≡ reads_in ts
   unfolding reads_in
   reads_length [] = refl
   reads_length (t ∷ ts) = by_kind (is_of_reads t.kind) (reads_length ts)
@@ -257,7 +257,7 @@ module _ (system : System) (host : ℕ) where
 
   -- ---- places
 
-  abbrev all_at : Option ℕ → List Transfer → Bool
+  abbrev pub all_at : Option ℕ → List Transfer → Bool
   all_at place ts = list_all (λ (t : Transfer). is_place place (goes_to t)) ts
 
   all_append : (place : Option ℕ) (xs ys : List Transfer) → IsTrue (all_at place xs) → IsTrue (all_at place ys) → IsTrue (all_at place (xs ++ ys))
@@ -280,7 +280,7 @@ module _ (system : System) (host : ℕ) where
       by_end more false e = more p (subst (λ q. Steady (Some q) xs) s.2 (subst (λ b. Steady (if b then None else Some (goes_to x)) xs) e s.3))
 
   -- the transfers of one command have one place
-  one_place : (opened : Option (Option ℕ)) (k n : ℕ) (xs : List Transfer) → Steady opened xs → (p : Option ℕ) × IsTrue (all_at p (chosen (λ i. nat_eq i k) n xs))
+  pub one_place : (opened : Option (Option ℕ)) (k n : ℕ) (xs : List Transfer) → Steady opened xs → (p : Option ℕ) × IsTrue (all_at p (chosen (λ i. nat_eq i k) n xs))
   unfolding Steady chosen
   one_place opened k n [] s = (None, refl)
   one_place opened k n (x ∷ xs) s = by_number (λ o m st. one_place o k m xs st) (nat_eq n k) refl
@@ -346,7 +346,7 @@ module _ (system : System) (host : ℕ) where
 
   -- ---- words
 
-  asked_one_by_one : (t : Transfer) (ts : List Transfer) → asked_among system host (t ∷ ts) ≡ asked_among system host (t ∷ []) ++ asked_among system host ts
+  pub asked_one_by_one : (t : Transfer) (ts : List Transfer) → asked_among system host (t ∷ ts) ≡ asked_among system host (t ∷ []) ++ asked_among system host ts
   asked_one_by_one t ts = by_kind (is_of_reads t.kind)
     where
       by_kind : (b : Bool) → flat_map (λ (t : Transfer). map (λ (b : Beat). asked_one (goes_to t) b) t.beats) (if b then t ∷ reads_among ts else reads_among ts)
@@ -444,7 +444,7 @@ module _ (system : System) (host : ℕ) where
 
 module _ (system : System) (host : ℕ) where
   -- where all have one place and one has another, the two are one
-  any_of_all : (p place : Option ℕ) (ts : List Transfer) → IsTrue (list_all (λ (t : Transfer). is_place p (place_of system host t)) ts) → IsTrue (list_any (λ (t : Transfer). is_place place (place_of system host t)) ts) → p ≡ place
+  pub any_of_all : (p place : Option ℕ) (ts : List Transfer) → IsTrue (list_all (λ (t : Transfer). is_place p (place_of system host t)) ts) → IsTrue (list_any (λ (t : Transfer). is_place place (place_of system host t)) ts) → p ≡ place
   any_of_all p place [] all any = absurd (no_true any)
   any_of_all p place (t ∷ ts) all any = by_head (is_place place (place_of system host t)) refl any (any_of_all p place ts parts.1)
     where
@@ -485,7 +485,7 @@ ends_length (t ∷ ts) = by_end t.ends (ends_length ts)
     by_end true more = omega (arith, more)
     by_end false more = omega (arith, more)
 
-begins_length : (ts : List Transfer) → length (filter (λ (t : Transfer). t.begins) ts) ≡ begins_in ts
+pub begins_length : (ts : List Transfer) → length (filter (λ (t : Transfer). t.begins) ts) ≡ begins_in ts
 unfolding begins_in
 begins_length [] = refl
 begins_length (t ∷ ts) = by_end t.begins (begins_length ts)
@@ -595,11 +595,11 @@ module _ (system : System) (run : Run) (host end : ℕ) (legal : IsLegalHost (sy
   accepts_shows : (c : ℕ) → IsTrue (accepts c) → IsTrue (shows signals c)
   accepts_shows c h = (and_parts (shows signals c) (not (is_raised ((run.at_host host).waitrequest c))) h).0
 
-  record Stands (c : ℕ) : Type 0 where
-    steady : Steady system host None (all_accepted_by c)
-    opened : after system host None (all_accepted_by c) ≡ opened_by (burst c)
+  pub record Stands (c : ℕ) : Type 0 where
+    pub steady : Steady system host None (all_accepted_by c)
+    pub opened : after system host None (all_accepted_by c) ≡ opened_by (burst c)
 
-  stands : (c : ℕ) → c ≤ end → Stands c
+  pub stands : (c : ℕ) → c ≤ end → Stands c
   unfolding Steady after
   stands zero h = record { steady = tt; opened = refl }
   stands (suc c) h = by_accept (accepts c) refl (stands c (omega (arith, h)))
@@ -645,10 +645,10 @@ module _ (system : System) (run : Run) (host end : ℕ) (legal : IsLegalHost (sy
   last_beat : ℕ → List Transfer
   last_beat c = only_if (shows signals c) (now c)
 
-  abbrev whole : ℕ → List Transfer
+  abbrev pub whole : ℕ → List Transfer
   whole c = all_accepted_by c ++ only_if (shows signals c) (now c)
 
-  whole_steady : (c : ℕ) → c < end → Steady system host None (whole c)
+  pub whole_steady : (c : ℕ) → c < end → Steady system host None (whole c)
   unfolding Steady
   whole_steady c h = by_shown (shows signals c) refl
     where
@@ -667,7 +667,7 @@ module _ (system : System) (run : Run) (host end : ℕ) (legal : IsLegalHost (sy
       by_test true i e above = let l = low i e in absurd (omega (arith, l, above, h))
       by_test false i e above = refl
 
-  of_is : (c j : ℕ) → c < end → of_command j (host_transfers system run host (suc c)) ≡ chosen (λ i. nat_eq i j) 1 (whole c)
+  pub of_is : (c j : ℕ) → c < end → of_command j (host_transfers system run host (suc c)) ≡ chosen (λ i. nat_eq i j) 1 (whole c)
   unfolding is_some
   of_is c j h = ap (of_command j) (presented_is c h) ∙ numbered system host (λ i. nat_eq i j) None 0 1 (whole c) (whole_steady c h) (omega arith)
 
@@ -678,7 +678,7 @@ module _ (system : System) (run : Run) (host end : ℕ) (legal : IsLegalHost (sy
   nat_le_zero : (i : ℕ) → 1 ≤ i → IsFalse (nat_le i 0)
   nat_le_zero i h = grind (arith, tests, h)
 
-  finished_given : (c j : ℕ) → c < end → IsTrue (is_finished system run host j c) → (reads_in (chosen (λ i. nat_eq i j) 1 (whole c)) ≡ 0) ⊎ (reads_in (chosen (λ i. nat_le i j) 1 (whole c)) ≤ given_before system run host c)
+  pub finished_given : (c j : ℕ) → c < end → IsTrue (is_finished system run host j c) → (reads_in (chosen (λ i. nat_eq i j) 1 (whole c)) ≡ 0) ⊎ (reads_in (chosen (λ i. nat_le i j) 1 (whole c)) ≤ given_before system run host c)
   finished_given c j h done =
       by_own (nat_eq (length (read_beats (of_command j (host_transfers system run host (suc c))))) 0) refl (and_parts (nat_le j _ && list_all (are_taken system run host j c) (numbers 0 system.agents)) (are_given system run host j c) done).1
     where

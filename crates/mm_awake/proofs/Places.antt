@@ -69,7 +69,7 @@ drop_front {A} zero xs ys h = (refl, refl)
 drop_front {A} (suc n) [] ys h = absurd (omega (arith, h))
 drop_front {A} (suc n) (x ∷ xs) ys h = let more = drop_front n xs ys (omega (arith, h)) in (more.0, ap (λ l. x ∷ l) more.1)
 
-all_append : (place : Option ℕ) (xs ys : List Asked) → IsTrue (list_all (λ (q : Asked). is_place place q.place) xs) → IsTrue (list_all (λ (q : Asked). is_place place q.place) ys) → IsTrue (list_all (λ (q : Asked). is_place place q.place) (xs ++ ys))
+pub all_append : (place : Option ℕ) (xs ys : List Asked) → IsTrue (list_all (λ (q : Asked). is_place place q.place) xs) → IsTrue (list_all (λ (q : Asked). is_place place q.place) ys) → IsTrue (list_all (λ (q : Asked). is_place place q.place) (xs ++ ys))
 all_append place [] ys a b = b
 all_append place (x ∷ xs) ys a b = let parts = and_parts (is_place place x.place) _ a in both _ _ parts.0 (all_append place xs ys parts.1 b)
 

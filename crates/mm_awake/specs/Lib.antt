@@ -4,3 +4,4 @@ pub mod Sizes
 pub mod Slack
 pub mod Approach
 pub mod Theorem
+pub mod Ahead

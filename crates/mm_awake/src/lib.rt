@@ -1,12 +1,15 @@
 //! Whole memory-mapped systems never idle: a wanted agent is served, from what each part promises of its ports.
 #![tactic(auto)]
 
-ghost use Rattle.std.specs.Prelude.{ℕ, ◌≤◌, ◌<◌, ◌+◌};
+ghost use Rattle.std.specs.Prelude.{◌≡◌, ℕ, ◌≤◌, ◌<◌, ◌+◌, ◌-◌, IsTrue, Some};
 ghost use Rattle.histories.specs.History.{IsPrefix};
 ghost use Rattle.ranks.specs.Turns.{AllShare};
-ghost use Rattle.mm_runs.specs.Views.{System, Run, Responses};
+ghost use Rattle.mm_runs.specs.Views.{System, Run, Responses, Kind};
 ghost use Rattle.mm_runs.specs.Whole.{IsLegalRun, IsSafe};
-ghost use Rattle.mm_runs.specs.Awake.{Throughout, Sometime, ServesWithin, ServesDefaultWithin, agent_window};
+ghost use Rattle.mm_runs.specs.Commands.{shows};
+ghost use Rattle.mm_runs.specs.Order.{is_joined};
+ghost use Rattle.mm_runs.specs.Legal.{IsLegalHost};
+ghost use Rattle.mm_runs.specs.Awake.{asks_only, Throughout, Sometime, ServesWithin, ServesDefaultWithin, agent_window};
 ghost use Rattle.mm_machines.specs.Link.{Port, Target, AreLegalAt, items};
 ghost use Rattle.mm_machines.specs.Machines.{Stage, above, below, RunsAsStage, WaitsOnlyWhenFull, owing_rank};
 ghost use Rattle.mm_machines.specs.Rank.{AnswersPromptly};
@@ -14,10 +17,11 @@ ghost use Rattle.mm_machines.specs.Turns.{seats_of};
 ghost use Rattle.mm_parts.specs.Steps.{IsHostPart, IsRoutePart};
 ghost use Rattle.mm_awake.specs.Theorem.{Boundaries, States, LinkRanks, IsBuilt};
 ghost use Rattle.mm_awake.specs.Front.{KeepsWhole, IsWantedAt, IsServedIn, IsFront, IsDefaultFront, WantsDefault, IsDefaultServedIn};
-ghost use Rattle.mm_awake.specs.Front.{GivesAtOnce, AreLegalHosts, AllowLessThan, IsUnserved};
+ghost use Rattle.mm_awake.specs.Front.{owes_alone, GivesAtOnce, AreLegalHosts, AllowLessThan, IsUnserved};
 ghost use Rattle.mm_links.specs.Going.{GivesWhatHasCome, KeepsGoing};
 ghost use Rattle.mm_awake.specs.Slack.{Slack, Slacks, PassesOn, AllPassOn, CostsAtMost, AreModest, HasModestLinks, host_allows, toll, all_allow};
 ghost use Rattle.mm_awake.specs.Approach.{Approach, IsAwake, ServesWanted};
+ghost use Rattle.mm_awake.specs.Ahead.{KeepsNothingBack, LeavesNothingOpen, ShowsSoon};
 ghost use Rattle.mm_awake.specs.Ways.{Ways, Standings, KeepsAwake, IsAtWork, longest};
 
 /// Where every part of a system is its machine, its links and pipes keep their lines, its links keep going, and the components are legal, the whole is safe, and a wanted agent, and the default agent, are served within their windows.
@@ -180,4 +184,31 @@ pub fn stages_pass_on()
     ensures stage { (stage : Stage) → RunsAsStage stage → (end : ℕ)
         → PassesOn (record { hold = stage.depth; kept = 1 }) (above stage) (below stage) end }
     ensures wire { (port : Port) (end : ℕ) → PassesOn (record { hold = 0; kept = 0 }) port port end }
+{}
+
+/// Where fewer than 16 reads of a host are under way and one agent alone owes it words, the part next to the host and the route keep back nothing that it presents for the agent. Of a host without bursts nothing is left open behind the route. Only what is for an agent is shown there.
+pub fn host_and_route_keep_nothing_back()
+    ensures back { (system : System) (run : Run) (host agent : ℕ) (middle : Port) (down : ℕ → Port) (end : ℕ) → agent < system.agents
+        → IsHostPart system run host middle end → IsRoutePart system host middle down end
+        → KeepsNothingBack system run host agent (down agent) end }
+    ensures left_open { (system : System) (run : Run) (host agent : ℕ) (middle : Port) (down : ℕ → Port) (end : ℕ) → agent < system.agents
+        → IsHostPart system run host middle end → IsRoutePart system host middle down end
+        → (system.host host).burst_bits ≡ 1 → LeavesNothingOpen (down agent) (end - 1) }
+    ensures joined { (system : System) (run : Run) (host agent : ℕ) (middle : Port) (down : ℕ → Port) (end : ℕ) → agent < system.agents
+        → IsHostPart system run host middle end → IsRoutePart system host middle down end
+        → ((kind : Kind) (address : ℕ) → system.place host kind address ≡ Some agent → IsTrue (is_joined system agent host))
+        → (c : ℕ) → c < end → IsTrue (shows (down agent).commands.signals c) → IsTrue (is_joined system agent host) }
+{}
+
+/// A stage that takes a beat whenever there is room shows it below in the next cycle at the latest, and keeps nothing where it shows nothing.
+pub fn stages_show_soon()
+    ensures { (stage : Stage) → RunsAsStage stage → 0 < stage.depth → WaitsOnlyWhenFull stage → ShowsSoon (above stage) (below stage) }
+{
+    mm_machines::machines::transfers_of_beats()
+}
+
+/// A host whose unfinished commands are all for one agent is owed words by it alone.
+pub fn asked_words_are_owed()
+    ensures { (system : System) (run : Run) (host end : ℕ) → IsLegalHost (system.host host) (run.at_host host) end
+        → (agent c : ℕ) → c < end → IsTrue (asks_only system run host agent c) → IsTrue (owes_alone system run host agent c) }
 {}
