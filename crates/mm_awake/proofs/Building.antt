@@ -1,7 +1,7 @@
 -- A system of machines is awake.
-use Rattle.std.proofs.Common.{ℕ, suc, ◌<◌, ◌≤◌, ◌+◌, ◌*◌, arith, refl, sym, subst, IsTrue}
-use Rattle.mm_runs.specs.Views.{System, Run, Responses}
-use Rattle.mm_runs.specs.Commands.{longest_burst}
+use Rattle.std.proofs.Common.{ℕ, suc, ◌≡◌, ◌<◌, ◌≤◌, ◌+◌, ◌-◌, ◌*◌, arith, refl, sym, subst, IsTrue, Some}
+use Rattle.mm_runs.specs.Views.{System, Run, Responses, Kind}
+use Rattle.mm_runs.specs.Commands.{longest_burst, shows}
 use Rattle.mm_runs.specs.Whole.{IsLegalRun}
 use Rattle.mm_runs.specs.Awake.{longest_wait}
 use Rattle.mm_runs.specs.Legal.{IsLegalHost, IsLegalAgent}
@@ -22,6 +22,8 @@ use Rattle.mm_links.specs.Going.{KeepsGoing}
 use Rattle.mm_awake.specs.Slack.{PassesOn, AreModest}
 use Rattle.mm_awake.specs.Approach.{IsAwake}
 use Rattle.mm_awake.specs.Ways.{KeepsAwake}
+use Rattle.mm_awake.specs.Ahead.{KeepsNothingBack, LeavesNothingOpen, ShowsSoon, LeadsAhead}
+use Rattle.mm_parts.specs.Ahead.{AcceptsAhead}
 use Rattle.mm_awake.proofs.Piped.{StageLaws, legal_at, tagged_at}
 
 pub record LineLaws : Type 0 where
@@ -51,6 +53,16 @@ pub record Laws : Type 0 where
   pub front : (system : System) (run : Run) (host agent : ℕ) (middle : Port) (down : ℕ → Port) (end : ℕ) → agent < system.agents → IsHostPart system run host middle end → IsRoutePart system host middle down end → IsFront system run host agent (down agent) end
   pub gives : (system : System) (run : Run) (host agent : ℕ) (middle : Port) (down : ℕ → Port) (end : ℕ) → agent < system.agents → IsHostPart system run host middle end → IsRoutePart system host middle down end → GivesAtOnce system run host agent (down agent) end
   pub default : (system : System) (run : Run) (host : ℕ) (middle : Port) (down : ℕ → Port) (end : ℕ) → IsHostPart system run host middle end → IsRoutePart system host middle down end → IsDefaultFront system run host end
+
+pub record AheadLaws : Type 0 where
+  pub agent : (responses : Responses) (system : System) (run : Run) (agent : ℕ) (up : TaggedPort) (state : AgentState) (end : ℕ) → IsAgentPlan (system.agent agent) → IsFit system agent up.port end → IsLegalAgent (system.agent agent) (run.at_agent agent) end →
+      IsAgentMachine responses (system.agent agent) (run.at_agent agent) up state end → AcceptsAhead system run agent up end
+  pub stage : (stage : Stage) → RunsAsStage stage → 0 < stage.depth → WaitsOnlyWhenFull stage → ShowsSoon (above stage) (below stage)
+  pub back : (system : System) (run : Run) (host agent : ℕ) (middle : Port) (down : ℕ → Port) (end : ℕ) → agent < system.agents → IsHostPart system run host middle end → IsRoutePart system host middle down end → KeepsNothingBack system run host agent (down agent) end
+  pub closed : (system : System) (run : Run) (host agent : ℕ) (middle : Port) (down : ℕ → Port) (end : ℕ) → agent < system.agents → IsHostPart system run host middle end → IsRoutePart system host middle down end → (system.host host).burst_bits ≡ 1 →
+      LeavesNothingOpen (down agent) (end - 1)
+  pub joined : (system : System) (run : Run) (host agent : ℕ) (middle : Port) (down : ℕ → Port) (end : ℕ) → agent < system.agents → IsHostPart system run host middle end → IsRoutePart system host middle down end →
+      ((kind : Kind) (address : ℕ) → system.place host kind address ≡ Some agent → IsTrue (is_joined system agent host)) → (c : ℕ) → c < end → IsTrue (shows (down agent).commands.signals c) → IsTrue (is_joined system agent host)
 
 module _ (laws : LineLaws) (responses : Responses) (system : System) (run : Run) (inside : Boundaries) (states : States) (ranks : LinkRanks) (end : ℕ) (built : IsBuilt responses system run inside states ranks end) where
   abbrev pub holds : Holds
@@ -153,3 +165,19 @@ module _ (laws : Laws) (responses : Responses) (system : System) (run : Run) (in
     };
     default = λ h low. laws.default system run h (inside.after_host h) (behind h) end (host_part h low) (route_part h low);
   }
+
+  module _ (ahead : AheadLaws) where
+    shows_soon : (a i : ℕ) → a < system.agents → i < system.stages → ShowsSoon (inside.lower a (suc i)).port (inside.lower a i).port
+    shows_soon a i there low =
+        let is = built.machines.stage a i there low in
+        subst (λ p. ShowsSoon p (inside.lower a i).port) is.up_is (subst (λ p. ShowsSoon (above (states.stage a i)) p) is.down_is (ahead.stage (states.stage a i) is.runs is.some is.ready))
+
+    pub leads_ahead : (a : ℕ) → a < system.agents → IsTrue (system.agent a).has_readdatavalid → LeadsAhead system run a (ways_of system inside a) end
+    leads_ahead a there has = record {
+      accepts = ahead.agent responses system run a (inside.lower a 0) (states.agent a) end (built.plan.agents a there) (settled.before_agent a there) (legal.agents a there) (built.machines.agent a there);
+      pipe = λ i low. shows_soon a i there low;
+      back = λ h low. ahead.back system run h a (inside.after_host h) (behind h) end there (host_part h low) (route_part h low);
+      open_none = λ h low plain. ahead.closed system run h a (inside.after_host h) (behind h) end there (host_part h low) (route_part h low) (built.plan.plain h low plain);
+      joined = λ h c low fit shown. ahead.joined system run h a (inside.after_host h) (behind h) end there (host_part h low) (route_part h low) (λ kind address place. (built.plan.places h low).joined kind address a place) c fit shown;
+      wired = λ h low joined alike. built.links.wired h a low there joined has alike;
+    }

@@ -23,3 +23,5 @@ pub mod WireGoes
 pub mod AheadFront
 pub mod AheadStages
 pub mod AheadOwed
+pub mod Ahead
+pub mod AheadWhole

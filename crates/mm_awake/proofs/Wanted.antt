@@ -66,7 +66,7 @@ some_or_none test n = by_any (any_below test n) refl
 taken_extends : (port : Port) (c : ℕ) → IsPrefix (taken_at port c) (taken_at port (suc c))
 taken_extends port c = before_extends _ c
 
-two_of : (a b : Bool) {R : Type 0} → IsTrue (a || b) → (IsTrue a → R) → (IsTrue b → R) → R
+pub two_of : (a b : Bool) {R : Type 0} → IsTrue (a || b) → (IsTrue a → R) → (IsTrue b → R) → R
 two_of true b h fa fb = fa refl
 two_of false b h fa fb = fb h
 
@@ -136,7 +136,7 @@ of_host_most h (x ∷ xs) = by_same (has_tag h x) (of_host_most h xs)
     by_same true more = omega (arith, more)
     by_same false more = omega (arith, more)
 
-tagged_of_host : (target : Target) (shape : Shape) (ms : List Marked) (h : ℕ) → length (of_host h (tagged_operations (groups_of target shape ms))) ≡ length (operations_among target shape (with_tag h ms))
+pub tagged_of_host : (target : Target) (shape : Shape) (ms : List Marked) (h : ℕ) → length (of_host h (tagged_operations (groups_of target shape ms))) ≡ length (operations_among target shape (with_tag h ms))
 tagged_of_host target shape [] h = refl
 tagged_of_host target shape (m ∷ ms) h = by_same (nat_eq m.tag h) refl (tagged_of_host target shape ms h)
   where
@@ -170,7 +170,7 @@ same_operations : (target : Target) (one other : Shape) (m : Marked) → one.wor
 same_operations target one other m e = ap (λ w. operations_in target (record one { word_bytes = w }) m) e
 
 -- what an arbiter takes of an asker is what it takes below with that tag
-own_taken : (system : System) (agent : ℕ) (up : ℕ → Port) (down : TaggedPort) (end : ℕ) → IsArbiterPart system agent up down end → (target : Target) (h : ℕ) → h < system.hosts → (up h).shape.word_bytes ≡ down.shape.word_bytes →
+pub own_taken : (system : System) (agent : ℕ) (up : ℕ → Port) (down : TaggedPort) (end : ℕ) → IsArbiterPart system agent up down end → (target : Target) (h : ℕ) → h < system.hosts → (up h).shape.word_bytes ≡ down.shape.word_bytes →
     (c : ℕ) → c ≤ end → length (operations_among target (up h).shape (taken_at (up h) c)) ≡ length (operations_among target down.shape (with_tag h (taken_at down.port c)))
 own_taken system agent up down end part target h low word zero fit = refl
 own_taken system agent up down end part target h low word (suc c) fit = by_take (takes down.port c) refl (nat_eq (down.commands.tag c) h) refl (own_taken system agent up down end part target h low word c (omega (arith, fit)))

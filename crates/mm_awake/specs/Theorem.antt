@@ -1,11 +1,11 @@
--- Whole systems of machines: `IsBuilt` is what `machines_are_awake` asks, `ServesWanted` of `Approach` what it gives. Start here.
-use Rattle.std.specs.Prelude.{◌≡◌, ℕ, suc, ◌+◌, ◌*◌, ◌<◌, ◌≤◌, IsTrue}
+-- Whole systems of machines: `IsBuilt` is what `machines_are_awake` asks, `NeverIdles` of `mm_runs` what it gives. Start here.
+use Rattle.std.specs.Prelude.{◌≡◌, ℕ, suc, ◌+◌, ◌*◌, ◌<◌, ◌≤◌, IsTrue, IsFalse}
 use Rattle.ranks.specs.Turns.{AllShare}
 use Rattle.mm_runs.specs.Views.{System, Run, Responses}
 use Rattle.mm_runs.specs.Order.{is_joined}
 use Rattle.mm_runs.specs.Operations.{pieces}
 use Rattle.mm_runs.specs.Commands.{longest_burst}
-use Rattle.mm_runs.specs.Awake.{longest_wait}
+use Rattle.mm_runs.specs.Awake.{longest_wait, is_alike}
 use Rattle.mm_machines.specs.Link.{Port}
 use Rattle.mm_machines.specs.Lines.{TaggedPort, Inside, KeepsRow, BringsLanes, IsPipeLine, target_of}
 use Rattle.mm_machines.specs.Machines.{Stage, above, below, RunsAsStage, WaitsOnlyWhenFull, owing_rank}
@@ -86,6 +86,9 @@ pub record AreLinks (system : System) (run : Run) (inside : Boundaries) (states 
   pub pass : (h a i : ℕ) → h < system.hosts → a < system.agents → i < inside.links h a → PassesOn (ranks.slack h a i) (inside.upper h a (suc i)) (inside.upper h a i) end
   pub allow : (h a : ℕ) → h < system.hosts → a < system.agents → host_allows system (ways_of system inside a) (standings_of system run states ranks a) (slacks_of states ranks a) h ≤ 15
   pub toll : (h a : ℕ) → h < system.hosts → a < system.agents → toll (ways_of system inside a) (standings_of system run states ranks a) h ≤ 5
+  -- a host whose plain commands reach an agent with readdatavalid one for one is wired to its arbiter
+  pub wired : (h a : ℕ) → h < system.hosts → a < system.agents → IsTrue (is_joined system a h) → IsTrue (system.agent a).has_readdatavalid → IsTrue (is_alike (system.host h) (system.agent a)) →
+      inside.upper h a 0 ≡ inside.upper h a (inside.links h a)
 
 -- what the plan says
 pub record ArePlanned (system : System) (inside : Boundaries) (states : States) : Type 0 where
@@ -93,6 +96,7 @@ pub record ArePlanned (system : System) (inside : Boundaries) (states : States) 
   pub few_hosts : system.hosts ≤ 16
   pub joined : (a h : ℕ) → IsTrue (is_joined system a h) → h < system.hosts
   pub shares : (a : ℕ) → a < system.agents → AllShare (seats_of system a)
+  pub plain : (h : ℕ) → h < system.hosts → IsFalse (system.host h).has_burst → (system.host h).burst_bits ≡ 1
   pub places : (h : ℕ) → h < system.hosts → IsRoutePlan system h (inside.after_host h).shape
   pub agents : (a : ℕ) → a < system.agents → IsAgentPlan (system.agent a)
   pub rooms : (h : ℕ) → h < system.hosts → 16 * longest_burst (inside.after_host h).shape.burst_bits < states.room h

@@ -6,10 +6,11 @@ ghost use Rattle.histories.specs.History.{IsPrefix};
 ghost use Rattle.ranks.specs.Turns.{AllShare};
 ghost use Rattle.mm_runs.specs.Views.{System, Run, Responses, Kind};
 ghost use Rattle.mm_runs.specs.Whole.{IsLegalRun, IsSafe};
-ghost use Rattle.mm_runs.specs.Commands.{shows};
+ghost use Rattle.std.specs.List.{list_all};
+ghost use Rattle.mm_runs.specs.Commands.{agent_accepts, shows};
 ghost use Rattle.mm_runs.specs.Order.{is_joined};
 ghost use Rattle.mm_runs.specs.Legal.{IsLegalHost};
-ghost use Rattle.mm_runs.specs.Awake.{asks_only, Throughout, Sometime, ServesWithin, ServesDefaultWithin, agent_window};
+ghost use Rattle.mm_runs.specs.Awake.{NeverIdles, ReadsAheadWithin, asks_only, is_alike, longest_wait, Throughout, Sometime, ServesWithin, ServesDefaultWithin, agent_window};
 ghost use Rattle.mm_machines.specs.Link.{Port, Target, AreLegalAt, items};
 ghost use Rattle.mm_machines.specs.Machines.{Stage, above, below, RunsAsStage, WaitsOnlyWhenFull, owing_rank};
 ghost use Rattle.mm_machines.specs.Rank.{AnswersPromptly};
@@ -21,19 +22,20 @@ ghost use Rattle.mm_awake.specs.Front.{owes_alone, GivesAtOnce, AreLegalHosts, A
 ghost use Rattle.mm_links.specs.Going.{GivesWhatHasCome, KeepsGoing};
 ghost use Rattle.mm_awake.specs.Slack.{Slack, Slacks, PassesOn, AllPassOn, CostsAtMost, AreModest, HasModestLinks, host_allows, toll, all_allow};
 ghost use Rattle.mm_awake.specs.Approach.{Approach, IsAwake, ServesWanted};
-ghost use Rattle.mm_awake.specs.Ahead.{KeepsNothingBack, LeavesNothingOpen, ShowsSoon};
+ghost use Rattle.mm_awake.specs.Ahead.{KeepsNothingBack, LeavesNothingOpen, ShowsSoon, LeadsAhead, CanTakeMore};
 ghost use Rattle.mm_awake.specs.Ways.{Ways, Standings, KeepsAwake, IsAtWork, longest};
 
-/// Where every part of a system is its machine, its links and pipes keep their lines, its links keep going, and the components are legal, the whole is safe, and a wanted agent, and the default agent, are served within their windows.
+/// Where every part of a system is its machine, its links and pipes keep their lines, its links keep going, and the components are legal, the whole is safe and never idles: a wanted agent, and the default agent, are served within their windows, and reads travel while others are owed.
 pub fn machines_are_awake()
     ensures safe { (responses : Responses) (system : System) (run : Run) (inside : Boundaries) (states : States) (ranks : LinkRanks) (end : ℕ)
         → IsBuilt responses system run inside states ranks end → IsLegalRun system run end
         → IsSafe responses system run end }
     ensures awake { (responses : Responses) (system : System) (run : Run) (inside : Boundaries) (states : States) (ranks : LinkRanks) (end : ℕ)
         → IsBuilt responses system run inside states ranks (end + 2) → IsLegalRun system run (end + 2)
-        → ServesWanted system run end }
+        → NeverIdles system run end }
 {
     systems_are_awake();
+    systems_read_ahead();
     mm_machines::lines::the_lines_give_the_headline();
     mm_machines::settled::lines_settle();
     mm_machines::machines::stage_is_a_link();
@@ -50,7 +52,10 @@ pub fn machines_are_awake()
     stages_pass_on();
     host_and_route_are_a_front();
     words_reach_the_host();
-    host_and_route_serve_default()
+    host_and_route_serve_default();
+    mm_parts::steps::agent_machine_accepts_ahead();
+    stages_show_soon();
+    host_and_route_keep_nothing_back()
 }
 
 /// Where every part of a system keeps its record and the components are legal, a wanted agent, and the default agent, are served within their windows.
@@ -212,3 +217,26 @@ pub fn asked_words_are_owed()
     ensures { (system : System) (run : Run) (host end : ℕ) → IsLegalHost (system.host host) (run.at_host host) end
         → (agent c : ℕ) → c < end → IsTrue (asks_only system run host agent c) → IsTrue (owes_alone system run host agent c) }
 {}
+
+/// An agent with readdatavalid whose joined hosts are alike to it accepts in a window longer than its pipe and its wait states, where it is asked throughout and waits for nothing, also while it owes words.
+pub fn asked_agent_accepts()
+    ensures { (system : System) (run : Run) (agent : ℕ) (ways : Ways) (standings : Standings) (host from size end : ℕ)
+        → from + size + 2 ≤ end → host < system.hosts → ways.stages + longest_wait (system.agent agent) + 2 ≤ size
+        → AllShare (seats_of system agent) → KeepsWhole system run agent ways standings end → LeadsAhead system run agent ways end
+        → IsTrue (system.agent agent).has_readdatavalid
+        → IsTrue (list_all (λ host. is_alike (system.host host) (system.agent agent)) (system.joined agent))
+        → Throughout from size (CanTakeMore system run agent host)
+        → Sometime from size (λ c. IsTrue (agent_accepts (system.agent agent) (run.at_agent agent) c)) }
+{
+    ranks::turns_keep_seats()
+}
+
+/// Where every part of a system keeps its record, and the parts that lead to the agents with readdatavalid hand on what they are asked, reads travel while others are owed.
+pub fn systems_read_ahead()
+    ensures { (system : System) (run : Run) (approach : ℕ → Approach) (end : ℕ) → IsAwake system run approach (end + 2)
+        → ((a : ℕ) → a < system.agents → IsTrue (system.agent a).has_readdatavalid → LeadsAhead system run a (approach a).ways (end + 2))
+        → (a : ℕ) → a < system.agents → ReadsAheadWithin (agent_window system a) system run a end }
+{
+    asked_words_are_owed();
+    asked_agent_accepts()
+}

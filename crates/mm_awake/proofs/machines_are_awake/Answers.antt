@@ -1,6 +1,6 @@
 use Rattle.std.proofs.Common.{◌+◌}
 use Rattle.mm_awake.specs.Theorem.{approach_of, inside_of}
-use Rattle.mm_awake.proofs.Building.{LineLaws, Laws, lines, holds, is_awake}
+use Rattle.mm_awake.proofs.Building.{LineLaws, Laws, AheadLaws, lines, holds, is_awake, leads_ahead}
 use Rattle.mm_awake.proofs.machines_are_awake.Goals as goal
 
 pub returns-clause-safe : goal.returns-clause-safe
@@ -17,7 +17,13 @@ returns-clause-safe c = λ responses system run inside states ranks end built le
 
 pub returns-clause-awake : goal.returns-clause-awake
 returns-clause-awake c = λ responses system run inside states ranks end built legal.
-    c.systems_are_awake.ensures system run (approach_of system run inside states ranks) end (is_awake laws responses system run inside states ranks (end + 2) built legal)
+    let awake = is_awake laws responses system run inside states ranks (end + 2) built legal in
+    let served = c.systems_are_awake.ensures system run (approach_of system run inside states ranks) end awake in
+    record {
+      agents = served.agents;
+      default = served.default;
+      ahead = c.systems_read_ahead.ensures system run (approach_of system run inside states ranks) end awake (leads_ahead laws responses system run inside states ranks (end + 2) built legal ahead);
+    }
   where
     laws : Laws
     laws = record {
@@ -39,4 +45,13 @@ returns-clause-awake c = λ responses system run inside states ranks end built l
       front = c.host_and_route_are_a_front.ensures;
       gives = c.words_reach_the_host.ensures;
       default = c.host_and_route_serve_default.ensures;
+    }
+
+    ahead : AheadLaws
+    ahead = record {
+      agent = c.agent_machine_accepts_ahead.ensures;
+      stage = c.stages_show_soon.ensures;
+      back = c.host_and_route_keep_nothing_back.ensures.back;
+      closed = c.host_and_route_keep_nothing_back.ensures.left_open;
+      joined = c.host_and_route_keep_nothing_back.ensures.joined;
     }
