@@ -19,3 +19,4 @@ pub mod WaitingKept
 pub mod EmptyRead
 pub mod LineRuns
 pub mod PartTwins
+mod AheadKept

@@ -23,13 +23,13 @@ use Rattle.mm_examples.proofs.ShortRuns.{legal_by_cycles}
 no_true : IsTrue false → ⊥
 no_true h = cc
 
-five : (P : ℕ → Type 0) → P 0 → P 1 → P 2 → P 3 → P 4 → (c : ℕ) → c < 5 → P c
+pub five : (P : ℕ → Type 0) → P 0 → P 1 → P 2 → P 3 → P 4 → (c : ℕ) → c < 5 → P c
 five P a b d e f c h = each_below P 5 c (((((tt, a), b), d), e), f) h
 
-six : (P : ℕ → Type 0) → P 0 → P 1 → P 2 → P 3 → P 4 → P 5 → (c : ℕ) → c ≤ 5 → P c
+pub six : (P : ℕ → Type 0) → P 0 → P 1 → P 2 → P 3 → P 4 → P 5 → (c : ℕ) → c ≤ 5 → P c
 six P a b d e f g c h = each_below P 6 c ((((((tt, a), b), d), e), f), g) (omega (arith, h))
 
-one : (P : ℕ → Type 0) → P 0 → (a : ℕ) → a < 1 → P a
+pub one : (P : ℕ → Type 0) → P 0 → (a : ℕ) → a < 1 → P a
 one P x a h = each_below P 1 a (tt, x) h
 
 zero_of : {a : ℕ} → Some 0 ≡ Some a → a < 1

@@ -16,3 +16,4 @@ pub mod WaitingSystem
 pub mod LineRows
 pub mod PartTwins
 pub mod LinkRuns
+pub mod AheadRows

@@ -7,10 +7,13 @@ ghost use Rattle.mm_machines.specs.Rank.{AnswersPromptly, LinkRankFalls};
 ghost use Rattle.mm_parts.specs.Steps.{IsHostPart, IsRoutePart, IsArbiterPart};
 ghost use Rattle.mm_awake.specs.Approach.{IsAwake};
 ghost use Rattle.mm_awake.specs.Front.{IsFront, IsDefaultFront, KeepsWhole};
+ghost use Rattle.mm_awake.specs.Ahead.{LeadsAhead, KeepsNothingBack};
+ghost use Rattle.mm_parts.specs.Ahead.{AcceptsAhead};
 ghost use Rattle.mm_links.specs.Going.{GivesWhatHasCome};
+ghost use Rattle.mm_examples.specs.AheadRows.{second_stands, second_held};
 ghost use Rattle.mm_examples.specs.IdleRows.{pair_system, held_run, held_below, read_port, swallow_run, stray_system, stray_run, two_places};
 ghost use Rattle.mm_examples.specs.IdleRows.{passing_run, passing_down, mistagged, limited_top, limited_down, sets_top, sets_down};
-ghost use Rattle.mm_examples.specs.MoreExamples.{byte_target};
+ghost use Rattle.mm_examples.specs.MoreExamples.{byte_target, plain_system, one_by_one_run, plain_pair, held_read_run};
 ghost use Rattle.mm_examples.specs.PartRows.{levels, at_host, below_host};
 ghost use Rattle.mm_examples.specs.WaitingSystem.{waiting_side, waiting_small, waiting_run, early_run, reads_below, waiting_in, waiting_ways, waiting_approach};
 ghost use Rattle.mm_examples.specs.SmallSystem.{stage_top, stage_low, small_system, small_run, small_ways, small_standings, small_approach};
@@ -82,4 +85,21 @@ pub fn waiting_host_keeps_all()
 /// A read that is accepted as soon as it is taken below, before its word comes.
 pub fn read_accepted_early()
     ensures { IsHostPart waiting_small early_run 0 reads_below 1 → ⊥ }
+{}
+
+/// The plain host that waits is wired to its agent, and all on the way hands on what it is asked while words are owed.
+pub fn waiting_host_leads_ahead()
+    ensures { LeadsAhead waiting_small waiting_run 0 waiting_ways 5 }
+{
+    mm_awake::host_and_route_keep_nothing_back()
+}
+
+/// The part next to an agent shows it no second read while the first one's word is owed.
+pub fn read_shown_late()
+    ensures { AcceptsAhead plain_system one_by_one_run 0 second_stands 4 → ⊥ }
+{}
+
+/// A route holds a read behind a finished write to another agent, though the agent of the read alone owes words.
+pub fn read_held_back()
+    ensures { KeepsNothingBack plain_pair held_read_run 0 0 second_held 4 → ⊥ }
 {}
