@@ -103,7 +103,7 @@ module _ (turn_laws : TurnLaws) (system : System) (run : Run) (agent : ℕ) (way
   -- no command is left open above the arbiter
   closed : (h c : ℕ) → h < system.hosts → suc c < end → IsFalse (is_unclosed (ways.upper h 0) c)
   closed h c low fit = by_joined h
-      (λ joined. subst (λ p. IsFalse (is_unclosed p c)) (sym (wire h low joined)) (ahead.open_none h low (plain_at h joined) c (omega (arith, fit))))
+      (λ joined. subst (λ p. IsFalse (is_unclosed p c)) (sym (wire h low joined)) (ahead.closed h low (plain_at h joined) c (omega (arith, fit))))
       (λ apart. ap is_last_joined (never_taken (ways.upper h 0) end (suc c) (omega (arith, fit)) (λ c fit. silent h c fit apart)))
 
   -- where a host asks, a beat is shown behind the arbiter

@@ -177,7 +177,7 @@ module _ (laws : Laws) (responses : Responses) (system : System) (run : Run) (in
       accepts = ahead.agent responses system run a (inside.lower a 0) (states.agent a) end (built.plan.agents a there) (settled.before_agent a there) (legal.agents a there) (built.machines.agent a there);
       pipe = λ i low. shows_soon a i there low;
       back = λ h low. ahead.back system run h a (inside.after_host h) (behind h) end there (host_part h low) (route_part h low);
-      open_none = λ h low plain. ahead.closed system run h a (inside.after_host h) (behind h) end there (host_part h low) (route_part h low) (built.plan.plain h low plain);
+      closed = λ h low plain. ahead.closed system run h a (inside.after_host h) (behind h) end there (host_part h low) (route_part h low) (built.plan.plain h low plain);
       joined = λ h c low fit shown. ahead.joined system run h a (inside.after_host h) (behind h) end there (host_part h low) (route_part h low) (λ kind address place. (built.plan.places h low).joined kind address a place) c fit shown;
       wired = λ h low joined alike. built.links.wired h a low there joined has alike;
     }

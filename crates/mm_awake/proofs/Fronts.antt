@@ -236,7 +236,6 @@ module _ (system : System) (run : Run) (host agent : ℕ) (middle : Port) (down 
   pub front : IsFront system run host agent (down agent) end
   front = record {
     shown = shown_front;
-    ahead = ahead_front;
     writes = writes_front;
     reads = λ c h taken read. reads_owed system host middle down end route agent c low h taken read;
     taken = taken_front;

@@ -34,7 +34,7 @@ pub record LeadsAhead (system : System) (run : Run) (agent : ℕ) (ways : Ways) 
   pub accepts : AcceptsAhead system run agent (tagged ways 0) end
   pub pipe : (i : ℕ) → i < ways.stages → ShowsSoon (ways.lower (suc i)) (ways.lower i)
   pub back : (h : ℕ) → h < system.hosts → KeepsNothingBack system run h agent (ways.upper h (ways.above h)) end
-  pub open_none : (h : ℕ) → h < system.hosts → IsFalse (system.host h).has_burst → LeavesNothingOpen (ways.upper h (ways.above h)) (end - 1)
+  pub closed : (h : ℕ) → h < system.hosts → IsFalse (system.host h).has_burst → LeavesNothingOpen (ways.upper h (ways.above h)) (end - 1)
   pub joined : (h c : ℕ) → h < system.hosts → c < end → IsTrue (shows (ways.upper h (ways.above h)).commands.signals c) → IsTrue (is_joined system agent h)
   -- a host whose plain commands reach the agent one for one is wired to the arbiter
   pub wired : (h : ℕ) → h < system.hosts → IsTrue (is_joined system agent h) → IsTrue (is_alike (system.host h) (system.agent agent)) → ways.upper h 0 ≡ ways.upper h (ways.above h)

@@ -44,9 +44,6 @@ pub record IsFront (system : System) (run : Run) (host agent : ℕ) (top : Port)
   -- a beat for the agent is shown behind the route in its cycle, where all words that the host asked before are given. A read of a host without readdatavalid stands at the host until its word comes: from its cycle on the word is owed behind the route
   pub shown : (c : ℕ) → c < end → IsTrue (shows_for system run host (Some agent) c) → IsTrue (are_all_given system run host c) →
       IsTrue (shows top.commands.signals c || is_owed top c || is_given_from system run (Some agent) c host)
-  -- the same while words are owed, so that reads travel together: fewer than 16 reads of the host are under way, and the agent alone owes it words
-  pub ahead : (c : ℕ) → c < end → IsTrue (shows_for system run host (Some agent) c) → IsTrue (has_room system run host c) → IsTrue (owes_alone system run host agent c) →
-      IsTrue (shows top.commands.signals c || is_owed top c || is_given_from system run (Some agent) c host)
   -- a write beat is taken behind the route exactly when it is accepted from the host; a read that is taken there is owed its words
   pub writes : (c : ℕ) → c < end → IsTrue (takes top c) → IsTrue (is_raised (top.commands.write c)) → IsTrue (is_written_to system run (Some agent) c host)
   pub reads : (c : ℕ) → c < end → IsTrue (takes top c) → IsFalse (is_raised (top.commands.write c)) → IsTrue (is_owed top c)
