@@ -1,7 +1,8 @@
 //! Runs in which a part lets a wanted agent wait for ever, each refused by the record of that part, and right runs that keep the records.
 
-ghost use Rattle.std.specs.Prelude.{◌≡◌, ◌<◌, ◌∷◌, [], ℕ};
-ghost use Rattle.mm_runs.specs.Awake.{ServesWithin, ServesDefaultWithin};
+ghost use Rattle.std.specs.Prelude.{◌≡◌, ◌<◌, ◌∷◌, [], ℕ, true};
+ghost use Rattle.mm_runs.specs.Awake.{ServesWithin, ServesDefaultWithin, IsAsked, owes};
+ghost use Rattle.mm_runs.specs.Commands.{agent_accepts};
 ghost use Rattle.mm_machines.specs.Lines.{TaggedPort, target_of};
 ghost use Rattle.mm_machines.specs.Rank.{AnswersPromptly, LinkRankFalls};
 ghost use Rattle.mm_parts.specs.Steps.{IsHostPart, IsRoutePart, IsArbiterPart};
@@ -10,7 +11,7 @@ ghost use Rattle.mm_awake.specs.Front.{IsFront, IsDefaultFront, KeepsWhole};
 ghost use Rattle.mm_awake.specs.Ahead.{LeadsAhead, KeepsNothingBack};
 ghost use Rattle.mm_parts.specs.Ahead.{AcceptsAhead};
 ghost use Rattle.mm_links.specs.Going.{GivesWhatHasCome};
-ghost use Rattle.mm_examples.specs.AheadRows.{second_stands, second_held};
+ghost use Rattle.mm_examples.specs.AheadRows.{second_stands, second_held, travel_system, travel_run, travel_ways};
 ghost use Rattle.mm_examples.specs.IdleRows.{pair_system, held_run, held_below, read_port, swallow_run, stray_system, stray_run, two_places};
 ghost use Rattle.mm_examples.specs.IdleRows.{passing_run, passing_down, mistagged, limited_top, limited_down, sets_top, sets_down};
 ghost use Rattle.mm_examples.specs.MoreExamples.{byte_target, plain_system, one_by_one_run, plain_pair, held_read_run};
@@ -93,6 +94,14 @@ pub fn waiting_host_leads_ahead()
 {
     mm_awake::host_and_route_keep_nothing_back()
 }
+
+/// A second read is asked and accepted while the first one's word is owed, in a run whose parts hand on what they are asked.
+pub fn reads_travel()
+    ensures leads { LeadsAhead travel_system travel_run 0 travel_ways 4 }
+    ensures asked { IsAsked travel_system travel_run 0 0 1 }
+    ensures owed { owes travel_system travel_run 0 1 ≡ true }
+    ensures accepted { agent_accepts (travel_system.agent 0) (travel_run.at_agent 0) 1 ≡ true }
+{}
 
 /// The part next to an agent shows it no second read while the first one's word is owed.
 pub fn read_shown_late()
