@@ -48,7 +48,7 @@ pub(crate) fn empty_builder(alloc: Global) -> Result<Builder, Fail>
 }
 
 /// A module with one stage, and the numbers of the `valid` and the ready that the stage makes.
-#[derive(Debug, Drop)]
+#[derive(Drop)]
 pub(crate) struct Made {
     pub module: Module,
     pub valid: u32,

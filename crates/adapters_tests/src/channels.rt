@@ -69,17 +69,19 @@ fn eight_channels_to_four(rt: HostRuntime) -> Result<(), Fail> {
     let (module, numbers) = filtered(rt.alloc(), &sink(2, 3))?;
     assert_eq!(rt; numbers, [6, 2, 8, 12]);
     assert_eq!(rt; module.net_count(), 13);
-    assert_eq!(rt;
-        module.equation(2),
-        Equation::Slice {
-            a: 1,
-            high: 1,
-            low: 0
-        }
+    assert!(rt;
+        matches!(
+            module.equation(2),
+            Equation::Slice {
+                a: 1,
+                high: 1,
+                low: 0
+            }
+        )
     );
-    assert_eq!(rt; module.equation(4), Equation::Less { a: 3, b: 1 });
-    assert_eq!(rt; module.equation(6), Equation::And { a: 0, b: 5 });
-    assert_eq!(rt; module.equation(8), Equation::Or { a: 0, b: 7 });
+    assert!(rt; matches!(module.equation(4), Equation::Less { a: 3, b: 1 }));
+    assert!(rt; matches!(module.equation(6), Equation::And { a: 0, b: 5 }));
+    assert!(rt; matches!(module.equation(8), Equation::Or { a: 0, b: 7 }));
     Ok(())
 }
 
@@ -125,6 +127,6 @@ fn error_tied_where_a_stage_is_needed(rt: HostRuntime) -> Result<(), Fail> {
     let zero = value(2, 0)?;
     assert_eq!(rt; numbers, [0, 1, 0]);
     assert_eq!(rt; module.net_count(), 2);
-    assert_eq!(rt; module.equation(1), Equation::Constant { value: zero });
+    assert!(rt; matches!(module.equation(1), Equation::Constant { value } if value == zero));
     Ok(())
 }

@@ -16,27 +16,35 @@ fn queue_before_a_register(rt: HostRuntime) -> Result<(), Fail> {
     let reset = value(1, 0)?;
     assert_eq!(rt; (made.valid, made.ready), (17, 33));
     assert_eq!(rt; module.net_count(), 52);
-    assert_eq!(rt; module.equation(3), Equation::Reg { reset, next: 45 });
-    assert_eq!(rt; module.equation(10), Equation::Mux { s: 3, a: 3, b: 0 });
-    assert_eq!(rt; module.equation(17), Equation::Reg { reset, next: 26 });
-    assert_eq!(rt; module.equation(25), Equation::Or { a: 24, b: 0 });
-    assert_eq!(rt;
-        module.equation(26),
-        Equation::Mux {
-            s: 25,
-            a: 10,
-            b: 17
-        }
+    assert!(rt;
+        matches!(module.equation(3), Equation::Reg { reset: value, next: 45 } if value == reset)
     );
-    assert_eq!(rt; module.equation(33), Equation::Not { a: 3 });
-    assert_eq!(rt; module.equation(36), Equation::And { a: 35, b: 25 });
-    assert_eq!(rt;
-        module.equation(45),
-        Equation::Mux {
-            s: 36,
-            a: 37,
-            b: 38
-        }
+    assert!(rt; matches!(module.equation(10), Equation::Mux { s: 3, a: 3, b: 0 }));
+    assert!(rt;
+        matches!(module.equation(17), Equation::Reg { reset: value, next: 26 } if value == reset)
+    );
+    assert!(rt; matches!(module.equation(25), Equation::Or { a: 24, b: 0 }));
+    assert!(rt;
+        matches!(
+            module.equation(26),
+            Equation::Mux {
+                s: 25,
+                a: 10,
+                b: 17
+            }
+        )
+    );
+    assert!(rt; matches!(module.equation(33), Equation::Not { a: 3 }));
+    assert!(rt; matches!(module.equation(36), Equation::And { a: 35, b: 25 }));
+    assert!(rt;
+        matches!(
+            module.equation(45),
+            Equation::Mux {
+                s: 36,
+                a: 37,
+                b: 38
+            }
+        )
     );
     Ok(())
 }

@@ -16,7 +16,7 @@ fn tied_ready(rt: HostRuntime) -> Result<(), Fail> {
     let high = value(1, 1)?;
     assert_eq!(rt; (made.valid, made.ready), (0, 3));
     assert_eq!(rt; module.net_count(), 4);
-    assert_eq!(rt; module.equation(3), Equation::Constant { value: high });
+    assert!(rt; matches!(module.equation(3), Equation::Constant { value } if value == high));
     Ok(())
 }
 
@@ -27,25 +27,31 @@ fn ready_of_two_cycles_before(rt: HostRuntime) -> Result<(), Fail> {
     let reset = value(2, 0)?;
     assert_eq!(rt; (made.valid, made.ready), (5, 4));
     assert_eq!(rt; module.net_count(), 8);
-    assert_eq!(rt; module.equation(3), Equation::Reg { reset, next: 7 });
-    assert_eq!(rt;
-        module.equation(4),
-        Equation::Slice {
-            a: 3,
-            high: 1,
-            low: 1
-        }
+    assert!(rt;
+        matches!(module.equation(3), Equation::Reg { reset: value, next: 7 } if value == reset)
     );
-    assert_eq!(rt; module.equation(5), Equation::And { a: 0, b: 4 });
-    assert_eq!(rt;
-        module.equation(6),
-        Equation::Slice {
-            a: 3,
-            high: 0,
-            low: 0
-        }
+    assert!(rt;
+        matches!(
+            module.equation(4),
+            Equation::Slice {
+                a: 3,
+                high: 1,
+                low: 1
+            }
+        )
     );
-    assert_eq!(rt; module.equation(7), Equation::Concat { a: 6, b: 0 });
+    assert!(rt; matches!(module.equation(5), Equation::And { a: 0, b: 4 }));
+    assert!(rt;
+        matches!(
+            module.equation(6),
+            Equation::Slice {
+                a: 3,
+                high: 0,
+                low: 0
+            }
+        )
+    );
+    assert!(rt; matches!(module.equation(7), Equation::Concat { a: 6, b: 0 }));
     Ok(())
 }
 
@@ -57,14 +63,20 @@ fn two_places_behind_latency_1(rt: HostRuntime) -> Result<(), Fail> {
     let places = value(5, 2)?;
     assert_eq!(rt; (made.valid, made.ready), (17, 35));
     assert_eq!(rt; module.net_count(), 68);
-    assert_eq!(rt; module.equation(3), Equation::Reg { reset, next: 54 });
-    assert_eq!(rt; module.equation(10), Equation::Reg { reset, next: 61 });
-    assert_eq!(rt; module.equation(17), Equation::Mux { s: 3, a: 3, b: 0 });
-    assert_eq!(rt; module.equation(24), Equation::Reg { reset, next: 35 });
-    assert_eq!(rt; module.equation(30), Equation::Add { a: 28, b: 29 });
-    assert_eq!(rt; module.equation(33), Equation::Add { a: 30, b: 32 });
-    assert_eq!(rt; module.equation(34), Equation::Constant { value: places });
-    assert_eq!(rt; module.equation(35), Equation::Less { a: 33, b: 34 });
+    assert!(rt;
+        matches!(module.equation(3), Equation::Reg { reset: value, next: 54 } if value == reset)
+    );
+    assert!(rt;
+        matches!(module.equation(10), Equation::Reg { reset: value, next: 61 } if value == reset)
+    );
+    assert!(rt; matches!(module.equation(17), Equation::Mux { s: 3, a: 3, b: 0 }));
+    assert!(rt;
+        matches!(module.equation(24), Equation::Reg { reset: value, next: 35 } if value == reset)
+    );
+    assert!(rt; matches!(module.equation(30), Equation::Add { a: 28, b: 29 }));
+    assert!(rt; matches!(module.equation(33), Equation::Add { a: 30, b: 32 }));
+    assert!(rt; matches!(module.equation(34), Equation::Constant { value } if value == places));
+    assert!(rt; matches!(module.equation(35), Equation::Less { a: 33, b: 34 }));
     Ok(())
 }
 

@@ -103,19 +103,13 @@ fn gate_on_reads(rt: HostRuntime) -> Result<(), Fail> {
     let none = value(5, 0)?;
     let four = value(5, 4)?;
     assert_eq!(rt; module.net_count(), 20);
-    assert_eq!(rt;
-        module.equation(5),
-        Equation::Reg {
-            reset: none,
-            next: 18
-        }
-    );
-    assert_eq!(rt; module.equation(6), Equation::Constant { value: four });
-    assert_eq!(rt; module.equation(7), Equation::Eq { a: 5, b: 6 });
-    assert_eq!(rt; module.equation(8), Equation::Not { a: 7 });
-    assert_eq!(rt; module.equation(9), Equation::And { a: 1, b: 8 });
-    assert_eq!(rt; module.equation(10), Equation::And { a: 1, b: 7 });
-    assert_eq!(rt; module.equation(11), Equation::Or { a: 10, b: 2 });
+    assert!(rt; matches!(module.equation(5), Equation::Reg { reset, next: 18 } if reset == none));
+    assert!(rt; matches!(module.equation(6), Equation::Constant { value } if value == four));
+    assert!(rt; matches!(module.equation(7), Equation::Eq { a: 5, b: 6 }));
+    assert!(rt; matches!(module.equation(8), Equation::Not { a: 7 }));
+    assert!(rt; matches!(module.equation(9), Equation::And { a: 1, b: 8 }));
+    assert!(rt; matches!(module.equation(10), Equation::And { a: 1, b: 7 }));
+    assert!(rt; matches!(module.equation(11), Equation::Or { a: 10, b: 2 }));
     Ok(())
 }
 
@@ -124,13 +118,13 @@ fn count_of_reads(rt: HostRuntime) -> Result<(), Fail> {
     let module = wire_module(rt.alloc())?;
     let zero = value(4, 0)?;
     assert_eq!(rt; module.net_count(), 20);
-    assert_eq!(rt; module.equation(12), Equation::Constant { value: zero });
-    assert_eq!(rt; module.equation(13), Equation::Not { a: 2 });
-    assert_eq!(rt; module.equation(14), Equation::And { a: 9, b: 13 });
-    assert_eq!(rt; module.equation(15), Equation::Concat { a: 12, b: 14 });
-    assert_eq!(rt; module.equation(16), Equation::Concat { a: 12, b: 3 });
-    assert_eq!(rt; module.equation(17), Equation::Add { a: 5, b: 15 });
-    assert_eq!(rt; module.equation(18), Equation::Sub { a: 17, b: 16 });
+    assert!(rt; matches!(module.equation(12), Equation::Constant { value } if value == zero));
+    assert!(rt; matches!(module.equation(13), Equation::Not { a: 2 }));
+    assert!(rt; matches!(module.equation(14), Equation::And { a: 9, b: 13 }));
+    assert!(rt; matches!(module.equation(15), Equation::Concat { a: 12, b: 14 }));
+    assert!(rt; matches!(module.equation(16), Equation::Concat { a: 12, b: 3 }));
+    assert!(rt; matches!(module.equation(17), Equation::Add { a: 5, b: 15 }));
+    assert!(rt; matches!(module.equation(18), Equation::Sub { a: 17, b: 16 }));
     Ok(())
 }
 
@@ -138,12 +132,16 @@ fn count_of_reads(rt: HostRuntime) -> Result<(), Fail> {
 fn word_address(rt: HostRuntime) -> Result<(), Fail> {
     let module = wire_module(rt.alloc())?;
     assert_eq!(rt; module.net_count(), 20);
-    let slice = Equation::Slice {
-        a: 0,
-        high: 9,
-        low: 2,
-    };
-    assert_eq!(rt; module.equation(19), slice);
+    assert!(rt;
+        matches!(
+            module.equation(19),
+            Equation::Slice {
+                a: 0,
+                high: 9,
+                low: 2
+            }
+        )
+    );
     assert_eq!(rt; module.width(19), 8);
     Ok(())
 }

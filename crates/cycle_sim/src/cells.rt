@@ -12,7 +12,7 @@ use netlist::Module;
 use std::alloc::Global;
 
 /// The words of all memories, one memory after another, and where those of each begin.
-#[derive(Debug, Drop)]
+#[derive(Drop)]
 pub(crate) struct Cells {
     pub(crate) places: Vec<usize>,
     pub(crate) words: Vec<Val>,

@@ -14,7 +14,7 @@ use std::marker::Model;
 use std::mem;
 
 /// A module and its present cycle.
-#[derive(Debug, Drop)]
+#[derive(Drop)]
 pub struct Sim {
     module: Module,
     nets: Vec<Val>,

@@ -64,8 +64,8 @@ fn a_constant_behind_an_input(rt: HostRuntime) -> Result<(), Fail> {
     assert_eq!(rt; module.name(), "t_interconnect");
     assert_eq!(rt; module.ports().len(), 2);
     assert_eq!(rt; module.net_count(), 2);
-    assert_eq!(rt; module.equation(0), Equation::Input { port: 1 });
-    assert_eq!(rt; module.equation(1), Equation::Constant { value: ten });
+    assert!(rt; matches!(module.equation(0), Equation::Input { port: 1 }));
+    assert!(rt; matches!(module.equation(1), Equation::Constant { value } if value == ten));
     assert_eq!(rt; module.width(1), 4);
     assert_eq!(rt; module.driver(0), 1);
     Ok(())
@@ -94,9 +94,9 @@ fn bitwise_operators(rt: HostRuntime) -> Result<(), Fail> {
     let xor = builder.xor(input, or)?;
     let module = driven_by(builder, xor);
     assert_eq!(rt; module.net_count(), 4);
-    assert_eq!(rt; module.equation(1), Equation::And { a: 0, b: 0 });
-    assert_eq!(rt; module.equation(2), Equation::Or { a: 1, b: 0 });
-    assert_eq!(rt; module.equation(3), Equation::Xor { a: 0, b: 2 });
+    assert!(rt; matches!(module.equation(1), Equation::And { a: 0, b: 0 }));
+    assert!(rt; matches!(module.equation(2), Equation::Or { a: 1, b: 0 }));
+    assert!(rt; matches!(module.equation(3), Equation::Xor { a: 0, b: 2 }));
     assert_eq!(rt; module.width(3), 4);
     Ok(())
 }
@@ -113,10 +113,10 @@ fn arithmetic_and_comparisons(rt: HostRuntime) -> Result<(), Fail> {
     assert_eq!(rt; builder.width(less), 1);
     let module = driven_by(builder, difference);
     assert_eq!(rt; module.net_count(), 5);
-    assert_eq!(rt; module.equation(1), Equation::Add { a: 0, b: 0 });
-    assert_eq!(rt; module.equation(2), Equation::Sub { a: 1, b: 0 });
-    assert_eq!(rt; module.equation(3), Equation::Eq { a: 0, b: 1 });
-    assert_eq!(rt; module.equation(4), Equation::Less { a: 1, b: 0 });
+    assert!(rt; matches!(module.equation(1), Equation::Add { a: 0, b: 0 }));
+    assert!(rt; matches!(module.equation(2), Equation::Sub { a: 1, b: 0 }));
+    assert!(rt; matches!(module.equation(3), Equation::Eq { a: 0, b: 1 }));
+    assert!(rt; matches!(module.equation(4), Equation::Less { a: 1, b: 0 }));
     Ok(())
 }
 
@@ -131,18 +131,20 @@ fn bits_taken_and_joined(rt: HostRuntime) -> Result<(), Fail> {
     let chosen = builder.mux(any, upper, input)?;
     let module = driven_by(builder, chosen);
     assert_eq!(rt; module.net_count(), 6);
-    assert_eq!(rt; module.equation(1), Equation::Any { a: 0 });
-    assert_eq!(rt; module.equation(2), Equation::Not { a: 0 });
-    assert_eq!(rt; module.equation(3), Equation::Concat { a: 2, b: 1 });
-    assert_eq!(rt;
-        module.equation(4),
-        Equation::Slice {
-            a: 3,
-            high: 4,
-            low: 1
-        }
+    assert!(rt; matches!(module.equation(1), Equation::Any { a: 0 }));
+    assert!(rt; matches!(module.equation(2), Equation::Not { a: 0 }));
+    assert!(rt; matches!(module.equation(3), Equation::Concat { a: 2, b: 1 }));
+    assert!(rt;
+        matches!(
+            module.equation(4),
+            Equation::Slice {
+                a: 3,
+                high: 4,
+                low: 1
+            }
+        )
     );
-    assert_eq!(rt; module.equation(5), Equation::Mux { s: 1, a: 4, b: 0 });
+    assert!(rt; matches!(module.equation(5), Equation::Mux { s: 1, a: 4, b: 0 }));
     assert_eq!(rt; module.width(3), 5);
     Ok(())
 }
@@ -157,14 +159,8 @@ fn a_register_takes_its_next_net(rt: HostRuntime) -> Result<(), Fail> {
     builder.set_next(register, sum);
     let module = driven_by(builder, register);
     assert_eq!(rt; module.net_count(), 3);
-    assert_eq!(rt;
-        module.equation(1),
-        Equation::Reg {
-            reset: ten,
-            next: 2
-        }
-    );
-    assert_eq!(rt; module.equation(2), Equation::Add { a: 1, b: 0 });
+    assert!(rt; matches!(module.equation(1), Equation::Reg { reset, next: 2 } if reset == ten));
+    assert!(rt; matches!(module.equation(2), Equation::Add { a: 1, b: 0 }));
     assert_eq!(rt; module.width(1), 4);
     Ok(())
 }
@@ -179,24 +175,28 @@ fn a_memory_is_written_and_read(rt: HostRuntime) -> Result<(), Fail> {
     builder.set_write(memory, enable, input, word);
     let module = driven_by(builder, word);
     assert_eq!(rt; module.net_count(), 3);
-    assert_eq!(rt;
-        module.equation(2),
-        Equation::Read {
-            memory: 0,
-            address: 0
-        }
+    assert!(rt;
+        matches!(
+            module.equation(2),
+            Equation::Read {
+                memory: 0,
+                address: 0
+            }
+        )
     );
     assert_eq!(rt; module.width(2), 4);
     assert_eq!(rt; module.memory_count(), 1);
-    assert_eq!(rt;
-        module.memory(0),
-        MemLine {
-            width: 4,
-            address_bits: 4,
-            enable: 1,
-            address: 0,
-            word: 2
-        }
+    assert!(rt;
+        matches!(
+            module.memory(0),
+            MemLine {
+                width: 4,
+                address_bits: 4,
+                enable: 1,
+                address: 0,
+                word: 2
+            }
+        )
     );
     Ok(())
 }

@@ -55,7 +55,7 @@ pub(crate) fn input_net(
 }
 
 /// What drives the output of a role.
-#[derive(Clone, Copy, Debug)]
+#[derive(Clone, Copy)]
 pub(crate) struct Output {
     pub role: PortRole,
     pub net: Net,

@@ -13,7 +13,7 @@ use port_tables::{PortMap, ports_are_known, start};
 use std::alloc::Global;
 
 /// The interconnect of a plan, and where its ports stand.
-#[derive(Debug, Drop)]
+#[derive(Drop)]
 pub struct Built {
     pub module: Module,
     pub ports: PortMap,

@@ -1,7 +1,7 @@
 use netlist::Net;
 
 /// The nets that a host gives.
-#[derive(Clone, Copy, Debug)]
+#[derive(Clone, Copy)]
 pub struct HostNets {
     /// Counts bytes, with two bits more than the agent's address.
     pub address: Net,
@@ -16,7 +16,7 @@ pub struct HostNets {
 }
 
 /// The nets that an agent gives.
-#[derive(Clone, Copy, Debug)]
+#[derive(Clone, Copy)]
 pub struct AgentNets {
     /// One bit.
     pub waitrequest: Net,
@@ -27,7 +27,7 @@ pub struct AgentNets {
 }
 
 /// The nets that the wire makes. All other signals go straight through.
-#[derive(Clone, Copy, Debug)]
+#[derive(Clone, Copy)]
 pub struct WireNets {
     /// To the agent, counts words of four bytes.
     pub address: Net,

@@ -17,7 +17,7 @@ pub(crate) fn count_of(reads: u8) -> Val
 }
 
 /// The nets that the gate on reads makes.
-#[derive(Clone, Copy, Debug)]
+#[derive(Clone, Copy)]
 pub(crate) struct GateNets {
     /// To the agent.
     pub read: Net,

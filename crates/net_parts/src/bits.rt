@@ -9,7 +9,7 @@ ghost use Rattle.net_parts.specs.Places.{AreQueueBits};
 use netlist::{Builder, Net, NetFault};
 
 /// The bits that say what a queue takes in a cycle.
-#[derive(Clone, Copy, Debug)]
+#[derive(Clone, Copy)]
 pub struct QueueBits {
     /// There is an empty place.
     pub room: Net,

@@ -24,7 +24,7 @@ const MEMORY_LIMIT: usize = 1 << 16;
 ///
 /// Each maker appends one equation and keeps all that stand there. After a refusal the builder is unchanged.
 /// A `Net` or `Mem` argument must be one of this builder.
-#[derive(Debug, Drop)]
+#[derive(Drop)]
 pub struct Builder {
     name: Text,
     ports: List<PortLine>,

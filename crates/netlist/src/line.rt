@@ -5,7 +5,7 @@ use av_base::{Text, Val};
 use std::marker::Model;
 
 /// A net of a builder.
-#[derive(Clone, Copy, Debug, PartialEq, Eq)]
+#[derive(Clone, Copy)]
 pub struct Net {
     number: u32,
     width: u8,
@@ -44,7 +44,7 @@ impl Net {
 }
 
 /// A memory of a builder.
-#[derive(Clone, Copy, Debug, PartialEq, Eq)]
+#[derive(Clone, Copy)]
 pub struct Mem {
     number: u32,
     width: u8,
@@ -81,7 +81,7 @@ impl Mem {
 }
 
 /// A port of a module: its width in bits, and whether the module drives it.
-#[derive(Debug, Drop)]
+#[derive(Drop)]
 pub struct PortLine {
     pub name: Text,
     pub width: u8,
@@ -89,7 +89,7 @@ pub struct PortLine {
 }
 
 /// What gives a net its value. Nets, ports and memories are named by number; the operators are those of `Val`.
-#[derive(Clone, Copy, Debug, PartialEq, Eq)]
+#[derive(Clone, Copy)]
 pub enum Equation {
     Input { port: u32 },
     Constant { value: Val },
@@ -112,7 +112,7 @@ pub enum Equation {
 /// A net's width in bits and its equation.
 ///
 /// A register `waits` until its next net is set; what stands as `next` before then means nothing.
-#[derive(Clone, Copy, Debug, PartialEq, Eq)]
+#[derive(Clone, Copy)]
 pub struct Line {
     pub width: u8,
     pub equation: Equation,
@@ -120,7 +120,7 @@ pub struct Line {
 }
 
 /// The nets of a memory's write: at the clock's edge the word goes to the address where `enable` is 1.
-#[derive(Clone, Copy, Debug, PartialEq, Eq)]
+#[derive(Clone, Copy)]
 pub struct MemWrite {
     pub enable: u32,
     pub address: u32,
@@ -128,7 +128,7 @@ pub struct MemWrite {
 }
 
 /// A memory: its width and its address bits; and its write, once it is set.
-#[derive(Clone, Copy, Debug, PartialEq, Eq)]
+#[derive(Clone, Copy)]
 pub struct Memory {
     pub width: u8,
     pub address_bits: u8,
@@ -136,7 +136,7 @@ pub struct Memory {
 }
 
 /// A memory of a module: at the clock's edge the word goes to the address where `enable` is 1.
-#[derive(Clone, Copy, Debug, PartialEq, Eq)]
+#[derive(Clone, Copy)]
 pub struct MemLine {
     pub width: u8,
     pub address_bits: u8,

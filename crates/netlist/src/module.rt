@@ -6,7 +6,7 @@ use av_base::{List, Text};
 use std::marker::Model;
 
 /// A whole module: its header, its nets, what drives its outputs, and its memories.
-#[derive(Debug, Drop)]
+#[derive(Drop)]
 pub struct Module {
     name: Text,
     ports: List<PortLine>,

@@ -5,7 +5,7 @@ use av_base::List;
 use system_tables::EndId;
 
 /// A port of the module.
-#[derive(Clone, Copy, Debug)]
+#[derive(Clone, Copy)]
 pub(crate) struct PortEntry {
     pub end: EndId,
     pub port: RolePort,
@@ -14,7 +14,7 @@ pub(crate) struct PortEntry {
 }
 
 /// The numbers of a module's ports, from 0, in the order of its header.
-#[derive(Debug, Drop)]
+#[derive(Drop)]
 pub struct PortMap {
     pub(crate) entries: List<PortEntry>,
     pub(crate) agents: List<EndId>,

@@ -5,7 +5,7 @@ ghost use Rattle.st_timing.specs.Ends.{declared};
 use iface_roles::{AgentPort, HostPort, SinkPort, SourcePort};
 
 /// What a port of the module is for. The order is that of ports in a header.
-#[derive(Clone, Copy, Debug, PartialEq, Eq)]
+#[derive(Clone, Copy, PartialEq, Eq)]
 pub enum PortRole {
     Address,
     Read,
@@ -32,7 +32,7 @@ pub enum PortRole {
 }
 
 /// A port that an end may have: its role, and its width in bits, 0 where it isn't there.
-#[derive(Clone, Copy, Debug, PartialEq, Eq)]
+#[derive(Clone, Copy)]
 pub(crate) struct RolePort {
     pub role: PortRole,
     pub width: u8,

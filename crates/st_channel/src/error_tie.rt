@@ -11,7 +11,7 @@ use stage_core::{BeatNets, Stage};
 use stream_machines::machines::error_tie_is_a_stage;
 
 /// A stage from a source without an error port to a sink with one, at any pace.
-#[derive(Clone, Copy, Debug)]
+#[derive(Clone, Copy)]
 pub struct ErrorTie {
     /// The bits of the sink's error port.
     pub width: u8,

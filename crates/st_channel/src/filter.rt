@@ -25,7 +25,7 @@ use stream_machines::machines::filter_is_a_stage;
 use stream_machines::stages::pass_is_a_stage;
 
 /// A stage from the channels of a source to those of a sink, at any ready latency.
-#[derive(Clone, Copy, Debug)]
+#[derive(Clone, Copy)]
 pub struct ChannelFilter {
     /// The ready latency at both ends.
     pub latency: u8,
@@ -129,7 +129,7 @@ fn ready_or_idle(builder: &mut Builder, ready: Net, shown: Net) -> Result<Net, N
 }
 
 /// What is kept of a filter.
-#[derive(Clone, Copy, Debug)]
+#[derive(Clone, Copy)]
 pub struct FilterKept {
     /// `valid` downstream.
     pub valid: Net,

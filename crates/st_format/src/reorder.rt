@@ -11,7 +11,7 @@ use stage_core::{BeatNets, Stage};
 use stream_machines::machines::{reorder_is_a_stage, words_fit};
 
 /// A stage that leads to the other order of symbols, between ends of any pace.
-#[derive(Clone, Copy, Debug)]
+#[derive(Clone, Copy)]
 pub struct Reorder {
     /// The symbols of a beat.
     pub symbols: u8,

@@ -21,7 +21,7 @@ use stage_core::{BeatNets, Stage};
 use stream_machines::machines::{widen_is_a_stage, words_fit};
 
 /// A stage from narrow beats to wide ones, between ends of ready latency 0 with the first symbol in the high-order bits.
-#[derive(Clone, Copy, Debug)]
+#[derive(Clone, Copy)]
 pub struct Widen {
     pub sizes: Sizes,
 }
@@ -36,7 +36,7 @@ impl Widen {
 }
 
 /// What is kept of a stage that joins beats.
-#[derive(Clone, Copy, Debug)]
+#[derive(Clone, Copy)]
 pub struct WidenKept {
     /// The registers of what is gathered: its word, its error, its first mark, and as `empty` how many symbols it has.
     pub held: BeatNets,

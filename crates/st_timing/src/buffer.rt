@@ -11,7 +11,7 @@ use netlist::Net;
 use stage_core::BeatNets;
 
 /// A stage from a ready latency to ready latency 0.
-#[derive(Clone, Copy, Debug)]
+#[derive(Clone, Copy)]
 pub struct ReadyBuffer {
     pub latency: u8,
     pub ghost few: { latency ≤ 8 },
@@ -28,7 +28,7 @@ impl ReadyBuffer {
 }
 
 /// What is kept of a buffer.
-#[derive(Clone, Copy, Debug)]
+#[derive(Clone, Copy)]
 pub struct BufferKept {
     pub latency: u8,
     /// Of these it uses one more than the latency says.

@@ -11,7 +11,7 @@ use stage_core::{BeatNets, Stage};
 use stream_machines::machines::tie_is_a_stage;
 
 /// A stage that always shows ready upstream, between a source of any pace and a sink that is always ready.
-#[derive(Clone, Copy, Debug)]
+#[derive(Clone, Copy)]
 pub struct TieReady;
 
 impl TieReady {

@@ -17,7 +17,7 @@ use stream_machines::machines::{buffer_is_a_stage, tie_is_a_stage};
 use stream_machines::stages::pass_is_a_stage;
 
 /// A stage from a source's ready latency to 0.
-#[derive(Clone, Copy, Debug)]
+#[derive(Clone, Copy)]
 pub enum Timing {
     Tie(TieReady),
     Buffer(ReadyBuffer),
@@ -25,7 +25,7 @@ pub enum Timing {
 }
 
 /// What is kept of a timing.
-#[derive(Clone, Copy, Debug)]
+#[derive(Clone, Copy)]
 pub enum TimingKept {
     /// Ready is tied.
     Tied,

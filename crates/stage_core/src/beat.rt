@@ -9,7 +9,7 @@ use net_parts::PlaceNets;
 use netlist::Net;
 
 /// The nets of an end of a stream, beside `ready`. One that the end has no port for is a net that is always 0.
-#[derive(Clone, Copy, Debug)]
+#[derive(Clone, Copy)]
 pub struct BeatNets {
     /// One bit.
     pub valid: Net,

@@ -11,7 +11,7 @@ use netlist::{Builder, Net, NetFault};
 use stream_machines::stages::chain_is_a_stage;
 
 /// A stage of two parts that fit.
-#[derive(Clone, Copy, Debug)]
+#[derive(Clone, Copy)]
 pub struct Chain<A, B> {
     /// At the side of the source.
     pub first: A,

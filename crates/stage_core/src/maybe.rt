@@ -10,7 +10,7 @@ use netlist::{Builder, Net, NetFault};
 use stream_machines::stages::pass_is_a_stage;
 
 /// A stage, or none: a beat and ready go straight through.
-#[derive(Clone, Copy, Debug)]
+#[derive(Clone, Copy)]
 pub struct Maybe<S> {
     pub stage: Option<S>,
 }

@@ -9,11 +9,11 @@ use netlist::{Builder, Net, NetFault};
 use stream_machines::stages::pass_is_a_stage;
 
 /// A stage of no nets: the beat and ready go straight through, between ends of any pace.
-#[derive(Clone, Copy, Debug)]
+#[derive(Clone, Copy)]
 pub struct Pass;
 
 /// Nothing is kept.
-#[derive(Debug, Drop)]
+#[derive(Drop)]
 pub struct Nothing;
 
 impl Stage for Pass {

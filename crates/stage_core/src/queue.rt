@@ -22,7 +22,7 @@ use std::alloc::Global;
 use stream_machines::machines::queue_is_a_stage;
 
 /// A stage that holds so many beats, between ends of ready latency 0. Without places it is a wire.
-#[derive(Clone, Copy, Debug)]
+#[derive(Clone, Copy)]
 pub struct Fifo {
     pub depth: u8,
     /// What the row of places grows by.
@@ -39,7 +39,7 @@ impl Fifo {
 }
 
 /// The places, and the nets of the beat that they take.
-#[derive(Debug, Drop)]
+#[derive(Drop)]
 pub struct FifoKept {
     pub places: Vec<PlaceNets<6>>,
     pub from: BeatNets,

@@ -24,7 +24,7 @@ use stage_core::{BeatNets, Chain, Fifo, Maybe, Stage, StreamNets, emit_stream};
 use std::alloc::Global;
 
 /// A source, a sink, and the beats of the queue before the sink.
-#[derive(Clone, Copy, Debug)]
+#[derive(Clone, Copy)]
 pub(crate) struct Joint {
     pub alloc: Global,
     pub source: SourcePort,
