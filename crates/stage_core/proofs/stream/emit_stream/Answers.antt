@@ -1,6 +1,6 @@
-use Rattle.std.proofs.Common.{arith}
+use Rattle.std.proofs.Common.{inl, inr, arith}
 use Rattle.stage_core.specs.Lasting.{beat_lasts}
-use Rattle.net_parts.specs.Laws.{extends_twice, owned_same, waiting_within}
+use Rattle.net_parts.specs.Laws.{net_lasts, extends_twice, grows_twice, grows_fewer, owned_same, waiting_within}
 use Rattle.stage_core.proofs.stream.emit_stream.Goals as goal
 
 pub returns-clause-keeps : goal.returns-clause-keeps
@@ -32,3 +32,20 @@ returns-in_err-ready-clause-waits g c n w =
 pub returns-clause-waits : goal.returns-clause-waits
 returns-clause-waits g c n w =
     c.emit_backward.ensures.waits n (λ o. (let at = c.in_ok-beat.ensures.owned n o in let below = waiting_within c.args.builder.now n w in absurd (omega arith))) (c.emit_forward.ensures.waits n w)
+
+pub emit_backward-requires-clause-ready : goal.emit_backward-requires-clause-ready
+emit_backward-requires-clause-ready g c = net_lasts _ _ _ _ c.emit_forward.ensures.grows.extends c.requires.ready
+
+pub returns-in_err-beat-clause-grows : goal.returns-in_err-beat-clause-grows
+returns-in_err-beat-clause-grows g c = grows_fewer _ _ _ _ (omega arith) c.emit_forward.ensures.grows
+
+pub returns-in_err-ready-clause-grows : goal.returns-in_err-ready-clause-grows
+returns-in_err-ready-clause-grows g c = grows_twice _ _ _ _ _ c.emit_forward.ensures.grows c.emit_backward.ensures.grows
+
+pub returns-clause-grows : goal.returns-clause-grows
+returns-clause-grows g c = grows_twice _ _ _ _ _ c.emit_forward.ensures.grows c.emit_backward.ensures.grows
+
+pub returns-clause-no_more_wait : goal.returns-clause-no_more_wait
+returns-clause-no_more_wait g c n w =
+    let set = c.in_ok-ready.ensures.no_more_wait n w in
+    elim (c.in_ok-beat.ensures.newly n set.0) [ inl before ↦ before | inr own ↦ absurd (set.1 own) ]

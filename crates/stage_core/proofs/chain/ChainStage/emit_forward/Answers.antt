@@ -1,4 +1,5 @@
-use Rattle.std.proofs.Common.{inl, inr, arith}
+use Rattle.std.proofs.Common.{sym, subst, ap, ◌∙◌, inl, inr, arith}
+use Rattle.net_parts.specs.Laws.{grows_twice, grows_fewer}
 use Rattle.stage_core.proofs.chain.ChainStage.emit_forward.Goals as goal
 
 pub returns-clause-kept : goal.returns-clause-kept
@@ -27,4 +28,32 @@ returns-clause-own_wait g c n o =
     elim o [
       | inl p ↦ c.emit_forward-2.ensures.waits n (c.in_ok-middle.ensures.own_wait n p)
       | inr p ↦ c.in_ok-to.ensures.own_wait n p
+    ]
+
+pub emit_forward-requires-2-clause-widths : goal.emit_forward-requires-2-clause-widths
+emit_forward-requires-2-clause-widths g c = subst (g.B.Stage.takes c.args.self.now.second) (sym c.in_ok-middle.ensures.widths) c.requires.widths.1
+
+pub returns-in_err-middle-clause-grows : goal.returns-in_err-middle-clause-grows
+returns-in_err-middle-clause-grows g c = grows_fewer _ _ _ _ (omega arith) c.emit_forward.ensures.grows
+
+pub returns-in_err-to-clause-grows : goal.returns-in_err-to-clause-grows
+returns-in_err-to-clause-grows g c = grows_twice _ _ _ _ _ c.emit_forward.ensures.grows c.emit_forward-2.ensures.grows
+
+pub returns-in_err-to-clause-waits : goal.returns-in_err-to-clause-waits
+returns-in_err-to-clause-waits g c n w = c.emit_forward-2.ensures.waits n (c.emit_forward.ensures.waits n w)
+
+pub returns-clause-widths : goal.returns-clause-widths
+returns-clause-widths g c = c.in_ok-to.ensures.widths ∙ ap (g.B.Stage.gives c.args.self.now.second) c.in_ok-middle.ensures.widths
+
+pub returns-clause-grows : goal.returns-clause-grows
+returns-clause-grows g c = grows_twice _ _ _ _ _ c.emit_forward.ensures.grows c.emit_forward-2.ensures.grows
+
+pub returns-clause-waits : goal.returns-clause-waits
+returns-clause-waits g c n w = c.emit_forward-2.ensures.waits n (c.emit_forward.ensures.waits n w)
+
+pub returns-clause-newly : goal.returns-clause-newly
+returns-clause-newly g c n w =
+    elim (c.in_ok-to.ensures.newly n w) [
+      | inl before ↦ elim (c.in_ok-middle.ensures.newly n before) [ inl old ↦ inl old | inr own ↦ inr (inl own) ]
+      | inr own ↦ inr (inr own)
     ]
