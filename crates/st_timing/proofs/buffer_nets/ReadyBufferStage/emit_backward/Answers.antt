@@ -4,7 +4,7 @@ use Rattle.net_parts.specs.declared.places.PlaceNets.{PlaceNets}
 use Rattle.stage_core.specs.Lasting.{beat_lasts}
 use Rattle.net_parts.specs.PlaceRows.{ArePlaceNets, AreInRow, InRow, RowSteps}
 use Rattle.stage_core.specs.BeatPlaces.{place_nets, place_are}
-use Rattle.net_parts.specs.Laws.{net_lasts, extends_twice}
+use Rattle.net_parts.specs.Laws.{net_lasts, extends_twice, grows_twice, grows_fewer, adds_grow}
 use Rattle.net_parts.specs.RowLaws.{row_here}
 use Rattle.st_timing.specs.CountNets.{HaveFull, full_count}
 use Rattle.net_parts.specs.Counts.{high_bits}
@@ -68,3 +68,9 @@ returns-clause-no_more_wait c n w =
       c.has_room.ensures.adds.grows.no_more_wait n (c.transfers.ensures.adds.grows.no_more_wait n set.0),
       λ o. elim o [ inl p ↦ set.1 (subst (λ (row : List (PlaceNets 6)). InRow row n) (sym here) p) | inr p ↦ late.1 p ],
     )
+
+pub transfers-requires-clause-valid : goal.transfers-requires-clause-valid
+transfers-requires-clause-valid c = net_lasts _ _ _ _ c.has_room.ensures.adds.grows.extends c.requires.kept.from.valid
+
+pub returns-clause-net : goal.returns-clause-net
+returns-clause-net c = net_lasts _ _ _ _ (extends_twice _ _ _ c.transfers.ensures.adds.grows.extends (extends_twice _ _ _ c.set_places.ensures.grows.extends c.set_history.ensures.grows.extends)) c.in_ok-up.ensures.net

@@ -1,8 +1,8 @@
-use Rattle.std.proofs.Common.{ap, arith}
+use Rattle.std.proofs.Common.{ap, sym, ◌∙◌, inl, inr, arith}
 use Rattle.stage_core.specs.declared.beat.BeatNets.{BeatNets}
 use Rattle.stage_core.specs.Beats.{beat_in}
 use Rattle.stage_core.specs.Lasting.{beat_lasts}
-use Rattle.net_parts.specs.Laws.{extends_twice, waiting_within}
+use Rattle.net_parts.specs.Laws.{net_lasts, extends_twice, grows_twice, grows_fewer, adds_grow, waiting_within}
 use Rattle.st_timing.proofs.delay.ReadyDelayStage.emit_forward.Goals as goal
 
 pub returns-clause-owned : goal.returns-clause-owned
@@ -31,3 +31,34 @@ returns-clause-made c =
       valid = c.in_ok-valid.ensures.value;
       beat = λ cycle v. ap (λ (b : BeatNets). beat_in cycle b) c.copied.ensures;
     }
+
+pub bit_before-requires-clause-history : goal.bit_before-requires-clause-history
+bit_before-requires-clause-history c = c.in_ok-history.ensures.history.net.is_net
+
+pub transfers-requires-clause-valid : goal.transfers-requires-clause-valid
+transfers-requires-clause-valid c = net_lasts _ _ _ _ (extends_twice _ _ _ c.make_history.ensures.grows.extends c.bit_before.ensures.adds.grows.extends) c.requires.from.valid
+
+pub returns-in_err-history-clause-grows : goal.returns-in_err-history-clause-grows
+returns-in_err-history-clause-grows c = grows_fewer _ _ _ _ (omega arith) c.make_history.ensures.grows
+
+pub returns-in_err-ready-clause-grows : goal.returns-in_err-ready-clause-grows
+returns-in_err-ready-clause-grows c = grows_fewer _ _ _ _ (omega arith) (grows_twice _ _ _ _ _ c.make_history.ensures.grows (adds_grow _ _ _ c.bit_before.ensures.adds))
+
+pub returns-in_err-ready-clause-waits : goal.returns-in_err-ready-clause-waits
+returns-in_err-ready-clause-waits c n w = c.bit_before.ensures.adds.grows.waits n (c.make_history.ensures.still_wait n w)
+
+pub returns-in_err-valid-clause-grows : goal.returns-in_err-valid-clause-grows
+returns-in_err-valid-clause-grows c = grows_fewer _ _ _ _ (omega arith) (grows_twice _ _ _ _ _ (grows_twice _ _ _ _ _ c.make_history.ensures.grows (adds_grow _ _ _ c.bit_before.ensures.adds)) (adds_grow _ _ _ c.transfers.ensures.adds))
+
+pub returns-in_err-valid-clause-waits : goal.returns-in_err-valid-clause-waits
+returns-in_err-valid-clause-waits c n w = c.transfers.ensures.adds.grows.waits n (c.bit_before.ensures.adds.grows.waits n (c.make_history.ensures.still_wait n w))
+
+pub returns-clause-grows : goal.returns-clause-grows
+returns-clause-grows c = grows_fewer _ _ _ _ (omega arith) (grows_twice _ _ _ _ _ (grows_twice _ _ _ _ _ c.make_history.ensures.grows (adds_grow _ _ _ c.bit_before.ensures.adds)) (adds_grow _ _ _ c.transfers.ensures.adds))
+
+pub returns-clause-waits : goal.returns-clause-waits
+returns-clause-waits c n w = c.transfers.ensures.adds.grows.waits n (c.bit_before.ensures.adds.grows.waits n (c.make_history.ensures.still_wait n w))
+
+pub returns-clause-newly : goal.returns-clause-newly
+returns-clause-newly c n w =
+    elim (c.make_history.ensures.newly n (c.bit_before.ensures.adds.grows.no_more_wait n (c.transfers.ensures.adds.grows.no_more_wait n w))) [ inl old ↦ inl old | inr last ↦ inr (last ∙ sym c.in_ok-history.ensures.number) ]
