@@ -1,1 +1,2 @@
 pub mod GroupsMade
+pub mod RowsGrown

@@ -1,7 +1,7 @@
-use Rattle.std.proofs.Common.{◌≡◌, ◌&&◌, ◌||◌, ◌==◌, ◌∙◌, ap}
+use Rattle.std.proofs.Common.{◌≡◌, ◌&&◌, ◌||◌, ◌==◌, ◌∙◌, ap, arith}
 use Rattle.netlist.specs.Runs.{Always}
 use Rattle.net_parts.specs.Nets.{IsBit}
-use Rattle.net_parts.specs.Laws.{bit_fits, if_ok}
+use Rattle.net_parts.specs.Laws.{bit_fits, if_ok, adds_fewer, adds_twice, grows_once}
 use Rattle.net_parts.specs.Bits.{high_and, high_or}
 use Rattle.net_parts.proofs.bits.gives_item.Goals as goal
 
@@ -15,3 +15,9 @@ returns-clause-value c =
     high_and (cycle.net c.in_ok-some.some.number) (cycle.net c.args.ready.number) (cycle.net gives.number) (bit_fits _ _ some cycle v1) (bit_fits _ _ c.requires.ready cycle v0) (value cycle v2).1
     ∙ ap (λ t. t && (cycle.net c.args.ready.number == 1)) (high_or (cycle.net c.args.first.number) (cycle.net c.args.shown.number) (cycle.net c.in_ok-some.some.number) (bit_fits _ _ c.requires.first cycle v0) (bit_fits _ _ c.requires.shown cycle v0) (c.in_ok-some.ensures.value cycle v1).1)))
     c.and.ensures.value
+
+pub returns-in_err-some-clause-adds : goal.returns-in_err-some-clause-adds
+returns-in_err-some-clause-adds c = adds_fewer _ _ _ _ (omega arith) (grows_once _ _ c.or.ensures.extends c.or.ensures.grows)
+
+pub returns-clause-adds : goal.returns-clause-adds
+returns-clause-adds c = adds_fewer _ _ _ _ (omega arith) (adds_twice _ _ _ _ _ (grows_once _ _ c.or.ensures.extends c.or.ensures.grows) (grows_once _ _ c.and.ensures.extends c.and.ensures.grows))

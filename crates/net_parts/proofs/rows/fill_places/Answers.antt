@@ -3,6 +3,7 @@ use Rattle.std.proofs.lemmas.List.{take_all, take_more_set}
 use Rattle.net_parts.specs.declared.places.PlaceNets.{PlaceNets}
 use Rattle.net_parts.specs.PlaceRows.{IsRow, row_end}
 use Rattle.net_parts.specs.RowLaws.{AreMade, made_more, place_lasts, row_numbers}
+use Rattle.net_parts.proofs.RowsGrown.{made_all, made_grows}
 use Rattle.net_parts.proofs.rows.fill_places.Goals as goal
 
 pub low_place-requires : goal.low_place-requires
@@ -22,3 +23,15 @@ returns-clause-made g c n o =
     let at = row_numbers _ _ _ _ row n o in
     let lines : length c.loop-place.builder.lines ≡ row_end (length c.args.builder.now.lines) c.loop-place.places = subst (λ (places : List (PlaceNets g.row.N)). length c.loop-place.builder.lines ≡ row_end (length c.args.builder.now.lines) places) all c.loop-place.invariant.lines in
     (at.0, omega (arith, at.1, lines))
+
+pub returns-in_err-place-clause-grows : goal.returns-in_err-place-clause-grows
+returns-in_err-place-clause-grows g c = made_grows _ _ _ _ _ _ _ c.loop-place.invariant c.low_place.ensures.grows (omega arith)
+
+pub returns-in_err-place-clause-still_wait : goal.returns-in_err-place-clause-still_wait
+returns-in_err-place-clause-still_wait g c n w = c.low_place.ensures.still_wait n (c.loop-place.invariant.still_wait n w)
+
+pub returns-clause-grows : goal.returns-clause-grows
+returns-clause-grows g c = made_all _ _ _ _ _ _ c.loop-place.invariant (omega arith)
+
+pub returns-clause-still_wait : goal.returns-clause-still_wait
+returns-clause-still_wait g c = c.loop-place.invariant.still_wait

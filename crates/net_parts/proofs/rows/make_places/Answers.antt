@@ -1,6 +1,7 @@
 use Rattle.std.proofs.Common.{◌+◌, List, length, sym, subst, arith}
 use Rattle.net_parts.specs.declared.places.PlaceNets.{PlaceNets}
 use Rattle.net_parts.specs.RowLaws.{AreMade, made_none, made_more, place_lasts, row_numbers}
+use Rattle.net_parts.proofs.RowsGrown.{made_all, made_grows}
 use Rattle.net_parts.proofs.rows.make_places.Goals as goal
 
 pub loop-place-init : goal.loop-place-init
@@ -39,3 +40,12 @@ returns-clause-still_wait g c = c.loop-place.invariant.still_wait
 
 pub returns-clause-newly : goal.returns-clause-newly
 returns-clause-newly g c = c.loop-place.invariant.newly
+
+pub returns-in_err-place-clause-grows : goal.returns-in_err-place-clause-grows
+returns-in_err-place-clause-grows g c = made_grows _ _ _ _ _ _ _ c.loop-place.invariant c.low_place.ensures.grows (omega arith)
+
+pub returns-in_err-push-clause-grows : goal.returns-in_err-push-clause-grows
+returns-in_err-push-clause-grows g c = made_grows _ _ _ _ _ _ _ c.loop-place.invariant c.low_place.ensures.grows (omega arith)
+
+pub returns-clause-grows : goal.returns-clause-grows
+returns-clause-grows g c = made_all _ _ _ _ _ _ c.loop-place.invariant (omega arith)

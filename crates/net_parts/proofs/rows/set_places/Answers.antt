@@ -4,7 +4,7 @@ use Rattle.std.proofs.lemmas.List.{nil_from_length}
 use Rattle.net_parts.specs.declared.places.PlaceNets.{PlaceNets}
 use Rattle.net_parts.specs.Groups.{values_of}
 use Rattle.net_parts.specs.Growth.{WaitsWithout}
-use Rattle.net_parts.specs.Laws.{net_lasts, extends_twice, on_ok}
+use Rattle.net_parts.specs.Laws.{net_lasts, extends_twice, on_ok, adds_grow, grows_fewer, grows_twice}
 use Rattle.net_parts.specs.PlaceRows.{IsRow, InRow, RowMoves, StepsRow}
 use Rattle.net_parts.specs.RowLaws.{place_lasts, row_here, row_steps}
 use Rattle.net_parts.proofs.rows.set_places.Goals as goal
@@ -85,3 +85,24 @@ returns-in_ok-filled-in-Some-clause-steps g c =
     (c.in_ok-filled-in-Some.ensures.value (cycle_of run n) ((from3.runs run cycles r).valuations n (omega arith)))
     (moves run cycles r n lt))))
     c.set_row.ensures.moves
+
+pub returns-in_err-shift-in-Some-clause-grows : goal.returns-in_err-shift-in-Some-clause-grows
+returns-in_err-shift-in-Some-clause-grows g c = grows_fewer _ _ _ _ (omega arith) (adds_grow _ _ _ c.gives_item.ensures.adds)
+
+pub returns-in_err-end-in-Some-clause-grows : goal.returns-in_err-end-in-Some-clause-grows
+returns-in_err-end-in-Some-clause-grows g c = grows_fewer _ _ _ _ (omega arith) (grows_twice _ _ _ _ _ (adds_grow _ _ _ c.gives_item.ensures.adds) (adds_grow _ _ _ c.end_place.ensures.adds))
+
+pub returns-in_err-filled-in-Some-clause-grows : goal.returns-in_err-filled-in-Some-clause-grows
+returns-in_err-filled-in-Some-clause-grows g c = grows_fewer _ _ _ _ (omega arith) (grows_twice _ _ _ _ _ (grows_twice _ _ _ _ _ (adds_grow _ _ _ c.gives_item.ensures.adds) (adds_grow _ _ _ c.end_place.ensures.adds)) (adds_grow _ _ _ c.fill_place.ensures.adds))
+
+pub returns-in_ok-filled-in-Some-clause-grows : goal.returns-in_ok-filled-in-Some-clause-grows
+returns-in_ok-filled-in-Some-clause-grows g c = grows_fewer _ _ _ _ (omega arith) (grows_twice _ _ _ _ _ (grows_twice _ _ _ _ _ (grows_twice _ _ _ _ _ (adds_grow _ _ _ c.gives_item.ensures.adds) (adds_grow _ _ _ c.end_place.ensures.adds)) (adds_grow _ _ _ c.fill_place.ensures.adds)) c.set_row.ensures.grows)
+
+pub returns-in_err-shift-in-Some-clause-waits : goal.returns-in_err-shift-in-Some-clause-waits
+returns-in_err-shift-in-Some-clause-waits g c n apart w = c.gives_item.ensures.adds.grows.waits n w
+
+pub returns-in_err-end-in-Some-clause-waits : goal.returns-in_err-end-in-Some-clause-waits
+returns-in_err-end-in-Some-clause-waits g c n apart w = c.end_place.ensures.adds.grows.waits n (c.gives_item.ensures.adds.grows.waits n w)
+
+pub returns-in_err-filled-in-Some-clause-waits : goal.returns-in_err-filled-in-Some-clause-waits
+returns-in_err-filled-in-Some-clause-waits g c n apart w = c.fill_place.ensures.adds.grows.waits n (c.end_place.ensures.adds.grows.waits n (c.gives_item.ensures.adds.grows.waits n w))

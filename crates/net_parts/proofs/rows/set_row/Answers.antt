@@ -1,9 +1,10 @@
 use Rattle.std.proofs.Common.{List, refl, sym, subst, ◌∙◌, arith}
 use Rattle.std.proofs.lemmas.List.{nil_from_length}
 use Rattle.net_parts.specs.declared.places.PlaceNets.{PlaceNets}
-use Rattle.net_parts.specs.Laws.{net_lasts, extends_twice, extends_none}
+use Rattle.net_parts.specs.Laws.{net_lasts, extends_twice, extends_none, adds_grow, grows_twice}
 use Rattle.net_parts.specs.PlaceRows.{RowMoves}
-use Rattle.net_parts.specs.RowLaws.{AreSet, place_lasts, numbered_here, set_more}
+use Rattle.net_parts.specs.RowLaws.{AreSet, place_lasts, numbered_here, set_more, set_none}
+use Rattle.net_parts.proofs.RowsGrown.{set_all, set_grows}
 use Rattle.net_parts.proofs.rows.set_row.Goals as goal
 
 pub fill_next-requires : goal.fill_next-requires
@@ -55,3 +56,24 @@ returns-clause-moves g c =
     let h = c.loop-place.invariant in
     h.moves c.loop-place.builder (extends_none c.loop-place.builder)
     (subst (λ (rest : List (PlaceNets g.row.N)). RowMoves c.loop-place.builder rest c.loop-place.filled c.args.comes c.args.shift c.args.from.now c.args.end.now) (sym (nil_from_length c.loop-place.rest.now c.in_default.ensures.cases)) (λ run cycles r n lt. refl))
+
+pub loop-place-init : goal.loop-place-init
+loop-place-init g c = set_none c.args.builder.now c.args.row.now c.args.first.now c.args.comes c.args.shift c.args.from.now c.args.end.now c.requires.row c.requires.first c.requires.first_widths
+
+pub returns-in_err-behind-clause-grows : goal.returns-in_err-behind-clause-grows
+returns-in_err-behind-clause-grows g c = set_grows c.args.builder.now c.loop-place.builder c.fill_next.new.builder c.args.row.now c.loop-place.rest.now c.in-Some.others.now c.in-Some.place.now c.args.first.now c.loop-place.filled c.args.comes c.args.shift c.args.from.now c.args.end.now _ c.in-Some.ensures.cases.0 c.loop-place.invariant (adds_grow _ _ _ c.fill_next.ensures.adds) (omega arith)
+
+pub returns-in_err-behind-clause-waits : goal.returns-in_err-behind-clause-waits
+returns-in_err-behind-clause-waits g c n out w = c.fill_next.ensures.adds.grows.waits n (c.loop-place.invariant.waits n out w)
+
+pub returns-in_err-next-clause-grows : goal.returns-in_err-next-clause-grows
+returns-in_err-next-clause-grows g c = set_grows c.args.builder.now c.loop-place.builder c.choose_place.new.builder c.args.row.now c.loop-place.rest.now c.in-Some.others.now c.in-Some.place.now c.args.first.now c.loop-place.filled c.args.comes c.args.shift c.args.from.now c.args.end.now _ c.in-Some.ensures.cases.0 c.loop-place.invariant (grows_twice _ _ _ _ _ (adds_grow _ _ _ c.fill_next.ensures.adds) (adds_grow _ _ _ c.choose_place.ensures.adds)) (omega arith)
+
+pub returns-in_err-next-clause-waits : goal.returns-in_err-next-clause-waits
+returns-in_err-next-clause-waits g c n out w = c.choose_place.ensures.adds.grows.waits n (c.fill_next.ensures.adds.grows.waits n (c.loop-place.invariant.waits n out w))
+
+pub returns-clause-grows : goal.returns-clause-grows
+returns-clause-grows g c = set_all _ _ _ _ _ _ _ _ _ _ c.loop-place.invariant
+
+pub returns-clause-waits : goal.returns-clause-waits
+returns-clause-waits g c = c.loop-place.invariant.waits

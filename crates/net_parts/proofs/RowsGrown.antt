@@ -1,0 +1,41 @@
+-- How far a netlist grows while a row of places is made or set.
+use Rattle.std.proofs.Common.{◌≡◌, ℕ, ◌+◌, ◌*◌, ◌<◌, ◌≤◌, List, ◌∷◌, length, subst, ◌∙◌, arith}
+use Rattle.std.proofs.Math.Nat.{mul-le-mul_left}
+use Rattle.netlist.specs.Nets.{NetValue}
+use Rattle.netlist.specs.Netlists.{Netlist}
+use Rattle.net_parts.specs.declared.places.PlaceNets.{PlaceNets}
+use Rattle.net_parts.specs.Growth.{GrowsBy}
+use Rattle.net_parts.specs.Laws.{extends_twice, grows_fewer, grows_within}
+use Rattle.net_parts.specs.RowLaws.{AreSet, AreMade}
+
+-- ---- setting
+
+set_within : {N : ℕ} (old now new : Netlist) (row others : List (PlaceNets N)) (place first filled : PlaceNets N) (comes shift : NetValue) (from end : PlaceNets N) (k : ℕ) → AreSet old now row (place ∷ others) first filled comes shift from end → GrowsBy k now new → k ≤ 2 * N + 3 → GrowsBy ((2 * N + 3) * length row) old new
+set_within {N} old now new row others place first filled comes shift from end k h grows few = record {
+  extends = extends_twice old now new h.extends grows.extends;
+  most = (let before = h.most in let more = grows.most in omega arith);
+  drivers = grows.drivers ∙ h.drivers;
+  memories = grows.memories ∙ h.memories;
+}
+
+-- before a place is set, with the nets that are made for it
+pub set_grows : {N : ℕ} (old now new : Netlist) (row rest others : List (PlaceNets N)) (place first filled : PlaceNets N) (comes shift : NetValue) (from end : PlaceNets N) (k : ℕ) → rest ≡ place ∷ others → AreSet old now row rest first filled comes shift from end → GrowsBy k now new → k ≤ 2 * N + 3 → GrowsBy ((2 * N + 3) * length row) old new
+set_grows old now new row rest others place first filled comes shift from end k e h grows few =
+    set_within old now new row others place first filled comes shift from end k (subst (λ (rest : List (PlaceNets _)). AreSet old now row rest first filled comes shift from end) e h) grows few
+
+-- once some places are set
+pub set_all : {N : ℕ} (old now : Netlist) (row rest : List (PlaceNets N)) (first filled : PlaceNets N) (comes shift : NetValue) (from end : PlaceNets N) → AreSet old now row rest first filled comes shift from end → GrowsBy ((2 * N + 3) * length row) old now
+set_all old now row rest first filled comes shift from end h = record { extends = h.extends; most = (let most = h.most in omega arith); drivers = h.drivers; memories = h.memories }
+
+-- ---- making
+
+-- with one more place
+pub made_grows : {N : ℕ} (old now new : Netlist) (like : PlaceNets N) (places : List (PlaceNets N)) (k count : ℕ) → AreMade old now like places k → GrowsBy (N + 1) now new → k < count → GrowsBy ((N + 1) * count) old new
+made_grows {N} old now new like places k count h grows lt =
+    let next : k + 1 ≤ count = omega arith in
+    let most = mul-le-mul_left (N + 1) next in
+    grows_within ((N + 1) * k) (N + 1) ((N + 1) * count) old now new h.grows grows (omega (arith, most))
+
+-- once some places are made
+pub made_all : {N : ℕ} (old now : Netlist) (like : PlaceNets N) (places : List (PlaceNets N)) (k count : ℕ) → AreMade old now like places k → k ≤ count → GrowsBy ((N + 1) * count) old now
+made_all {N} old now like places k count h le = grows_fewer ((N + 1) * k) ((N + 1) * count) old now (mul-le-mul_left (N + 1) le) h.grows
