@@ -25,3 +25,12 @@ returns-clause-value c =
 
 pub returns-clause-adds : goal.returns-clause-adds
 returns-clause-adds c = adds_fewer _ _ _ _ (omega arith) (adds_twice _ _ _ _ _ (adds_twice _ _ _ _ _ (adds_twice _ _ _ _ _ c.constant.ensures.adds (grows_once _ _ c.less.ensures.extends c.less.ensures.grows)) c.clear_low.ensures.adds) (grows_once _ _ c.mux.ensures.extends c.mux.ensures.grows))
+
+pub returns-in_err-number-clause-adds : goal.returns-in_err-number-clause-adds
+returns-in_err-number-clause-adds c = adds_fewer _ _ _ _ (omega arith) c.constant.ensures.adds
+
+pub returns-in_err-more-clause-adds : goal.returns-in_err-more-clause-adds
+returns-in_err-more-clause-adds c = adds_fewer _ _ _ _ (omega arith) (adds_twice _ _ _ _ _ c.constant.ensures.adds (grows_once _ _ c.less.ensures.extends c.less.ensures.grows))
+
+pub returns-in_err-shorter-clause-adds : goal.returns-in_err-shorter-clause-adds
+returns-in_err-shorter-clause-adds c = adds_fewer _ _ _ _ (omega arith) (adds_twice _ _ _ _ _ (adds_twice _ _ _ _ _ c.constant.ensures.adds (grows_once _ _ c.less.ensures.extends c.less.ensures.grows)) c.clear_low.ensures.adds)

@@ -1,5 +1,6 @@
 use Rattle.stage_core.specs.Lasting.{beat_lasts}
-use Rattle.net_parts.specs.Laws.{extends_twice}
+use Rattle.net_parts.specs.Laws.{extends_twice, adds_fewer, adds_twice, net_lasts}
+use Rattle.std.proofs.Common.{arith}
 use Rattle.st_format.proofs.narrow.cut_beat.Goals as goal
 
 pub leave_rest-requires-clause-beat : goal.leave_rest-requires-clause-beat
@@ -13,3 +14,24 @@ returns-clause-part c = beat_lasts _ _ _ c.leave_rest.ensures.adds.grows.extends
 
 pub returns-clause-shows : goal.returns-clause-shows
 returns-clause-shows c cycle v = c.in_ok-part.ensures.value cycle (c.leave_rest.ensures.adds.grows.extends.valuations cycle v)
+
+pub show_part-requires-clause-beat : goal.show_part-requires-clause-beat
+show_part-requires-clause-beat c = beat_lasts _ _ _ c.part_follows.ensures.adds.grows.extends c.requires.beat
+
+pub show_part-requires-clause-follows : goal.show_part-requires-clause-follows
+show_part-requires-clause-follows c = c.in_ok-more.ensures.value
+
+pub leave_rest-requires-clause-more : goal.leave_rest-requires-clause-more
+leave_rest-requires-clause-more c = net_lasts _ _ _ _ c.show_part.ensures.adds.grows.extends c.in_ok-more.ensures.net
+
+pub returns-in_err-more-clause-adds : goal.returns-in_err-more-clause-adds
+returns-in_err-more-clause-adds c = adds_fewer _ _ _ _ (omega arith) c.part_follows.ensures.adds
+
+pub returns-in_err-part-clause-adds : goal.returns-in_err-part-clause-adds
+returns-in_err-part-clause-adds c = adds_fewer _ _ _ _ (omega arith) (adds_twice _ _ _ _ _ c.part_follows.ensures.adds c.show_part.ensures.adds)
+
+pub returns-in_err-rest-clause-adds : goal.returns-in_err-rest-clause-adds
+returns-in_err-rest-clause-adds c = adds_fewer _ _ _ _ (omega arith) (adds_twice _ _ _ _ _ (adds_twice _ _ _ _ _ c.part_follows.ensures.adds c.show_part.ensures.adds) c.leave_rest.ensures.adds)
+
+pub returns-clause-adds : goal.returns-clause-adds
+returns-clause-adds c = adds_fewer _ _ _ _ (omega arith) (adds_twice _ _ _ _ _ (adds_twice _ _ _ _ _ c.part_follows.ensures.adds c.show_part.ensures.adds) c.leave_rest.ensures.adds)

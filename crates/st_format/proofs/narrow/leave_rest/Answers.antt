@@ -38,3 +38,24 @@ returns-clause-value c cycle v4 =
 
 pub returns-clause-adds : goal.returns-clause-adds
 returns-clause-adds c = adds_fewer _ _ _ _ (omega arith) (adds_twice _ _ _ _ _ (adds_twice _ _ _ _ _ (adds_twice _ _ _ _ _ c.rest_word.ensures.adds c.constant.ensures.adds) c.constant-2.ensures.adds) (grows_once _ _ c.add.ensures.extends c.add.ensures.grows))
+
+pub add-requires-clause-a_is : goal.add-requires-clause-a_is
+add-requires-clause-a_is c = (extends_twice _ _ _ c.rest_word.ensures.adds.grows.extends (extends_twice _ _ _ c.constant.ensures.adds.grows.extends c.constant-2.ensures.adds.grows.extends)).nets _ _ c.requires.beat.empty
+
+pub add-requires-clause-b_is : goal.add-requires-clause-b_is
+add-requires-clause-b_is c = c.in_ok-gone.ensures.net.is_net
+
+pub add-requires-clause-widths : goal.add-requires-clause-widths
+add-requires-clause-widths c = c.requires.empty ∙ sym c.in_ok-gone.ensures.net.has_width
+
+pub returns-in_err-word-clause-adds : goal.returns-in_err-word-clause-adds
+returns-in_err-word-clause-adds c = adds_fewer _ _ _ _ (omega arith) c.rest_word.ensures.adds
+
+pub returns-in_err-first-clause-adds : goal.returns-in_err-first-clause-adds
+returns-in_err-first-clause-adds c = adds_fewer _ _ _ _ (omega arith) (adds_twice _ _ _ _ _ c.rest_word.ensures.adds c.constant.ensures.adds)
+
+pub returns-in_err-gone-clause-adds : goal.returns-in_err-gone-clause-adds
+returns-in_err-gone-clause-adds c = adds_fewer _ _ _ _ (omega arith) (adds_twice _ _ _ _ _ (adds_twice _ _ _ _ _ c.rest_word.ensures.adds c.constant.ensures.adds) c.constant-2.ensures.adds)
+
+pub returns-in_err-empty-clause-adds : goal.returns-in_err-empty-clause-adds
+returns-in_err-empty-clause-adds c = adds_fewer _ _ _ _ (omega arith) (adds_twice _ _ _ _ _ (adds_twice _ _ _ _ _ (adds_twice _ _ _ _ _ c.rest_word.ensures.adds c.constant.ensures.adds) c.constant-2.ensures.adds) (grows_once _ _ c.add.ensures.extends c.add.ensures.grows))

@@ -21,3 +21,18 @@ returns-clause-value c =
 
 pub returns-clause-adds : goal.returns-clause-adds
 returns-clause-adds c = adds_fewer _ _ _ _ (omega arith) (adds_twice _ _ _ _ _ (adds_twice _ _ _ _ _ (adds_twice _ _ _ _ _ c.constant.ensures.adds (grows_once _ _ c.sub.ensures.extends c.sub.ensures.grows)) c.constant-2.ensures.adds) (grows_once _ _ c.mux.ensures.extends c.mux.ensures.grows))
+
+pub mux-requires-clause-a_is : goal.mux-requires-clause-a_is
+mux-requires-clause-a_is c = c.in_ok-none.ensures.net.is_net
+
+pub mux-requires-clause-b_is : goal.mux-requires-clause-b_is
+mux-requires-clause-b_is c = c.constant-2.ensures.adds.grows.extends.nets _ _ c.in_ok-left.ensures.net.0
+
+pub returns-in_err-behind-clause-adds : goal.returns-in_err-behind-clause-adds
+returns-in_err-behind-clause-adds c = adds_fewer _ _ _ _ (omega arith) c.constant.ensures.adds
+
+pub returns-in_err-left-clause-adds : goal.returns-in_err-left-clause-adds
+returns-in_err-left-clause-adds c = adds_fewer _ _ _ _ (omega arith) (adds_twice _ _ _ _ _ c.constant.ensures.adds (grows_once _ _ c.sub.ensures.extends c.sub.ensures.grows))
+
+pub returns-in_err-none-clause-adds : goal.returns-in_err-none-clause-adds
+returns-in_err-none-clause-adds c = adds_fewer _ _ _ _ (omega arith) (adds_twice _ _ _ _ _ (adds_twice _ _ _ _ _ c.constant.ensures.adds (grows_once _ _ c.sub.ensures.extends c.sub.ensures.grows)) c.constant-2.ensures.adds)

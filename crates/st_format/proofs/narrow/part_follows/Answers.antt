@@ -1,6 +1,6 @@
-use Rattle.std.proofs.Common.{◌≡◌, ◌-◌, ◌*◌, ◌==◌, nat_lt, ap, ◌∙◌}
+use Rattle.std.proofs.Common.{◌≡◌, ◌-◌, ◌*◌, ◌==◌, nat_lt, ap, ◌∙◌, arith}
 use Rattle.netlist.specs.Runs.{Always}
-use Rattle.net_parts.specs.Laws.{if_ok}
+use Rattle.net_parts.specs.Laws.{if_ok, adds_fewer, adds_twice, grows_once}
 use Rattle.st_format.proofs.CountedLemmas.{test_high}
 use Rattle.st_format.proofs.narrow.part_follows.Goals as goal
 
@@ -11,3 +11,9 @@ returns-clause-value c =
     let behind = c.in_ok-most.ensures.value cycle (c.less.ensures.extends.valuations cycle v) ∙ c.rest_symbols.ensures.value in
     test_high _ _ (value cycle v).1 ∙ ap (nat_lt (cycle.net c.args.empty.number)) behind))
     c.less.ensures.value
+
+pub returns-in_err-most-clause-adds : goal.returns-in_err-most-clause-adds
+returns-in_err-most-clause-adds c = adds_fewer _ _ _ _ (omega arith) c.constant.ensures.adds
+
+pub returns-clause-adds : goal.returns-clause-adds
+returns-clause-adds c = adds_fewer _ _ _ _ (omega arith) (adds_twice _ _ _ _ _ c.constant.ensures.adds (grows_once _ _ c.less.ensures.extends c.less.ensures.grows))

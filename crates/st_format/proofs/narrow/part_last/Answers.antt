@@ -1,6 +1,6 @@
-use Rattle.std.proofs.Common.{◌≡◌, ◌==◌, if◌then◌else◌}
+use Rattle.std.proofs.Common.{◌≡◌, ◌==◌, if◌then◌else◌, arith}
 use Rattle.netlist.specs.Runs.{Always}
-use Rattle.net_parts.specs.Laws.{bit_fits, if_ok}
+use Rattle.net_parts.specs.Laws.{bit_fits, if_ok, adds_fewer, adds_twice, grows_once}
 use Rattle.st_format.proofs.CountedLemmas.{none_where}
 use Rattle.st_format.proofs.narrow.part_last.Goals as goal
 
@@ -12,3 +12,9 @@ returns-clause-value c =
     let v0 = c.constant.ensures.adds.grows.extends.valuations cycle v1 in
     none_where (cycle.net c.args.more.number) _ _ _ (bit_fits _ _ c.requires.more cycle v0) (c.in_ok-none.ensures.value cycle v1) (value cycle v2).1))
     c.mux.ensures.value
+
+pub returns-in_err-none-clause-adds : goal.returns-in_err-none-clause-adds
+returns-in_err-none-clause-adds c = adds_fewer _ _ _ _ (omega arith) c.constant.ensures.adds
+
+pub returns-clause-adds : goal.returns-clause-adds
+returns-clause-adds c = adds_fewer _ _ _ _ (omega arith) (adds_twice _ _ _ _ _ c.constant.ensures.adds (grows_once _ _ c.mux.ensures.extends c.mux.ensures.grows))

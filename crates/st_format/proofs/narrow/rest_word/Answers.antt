@@ -1,7 +1,7 @@
 use Rattle.std.proofs.Common.{◌≡◌, ◌-◌, ◌*◌, ◌%◌, ◌^◌, ◌∙◌, arith}
 use Rattle.netlist.specs.Runs.{Always}
 use Rattle.net_parts.specs.Nets.{IsNetOfWidth}
-use Rattle.net_parts.specs.Laws.{if_ok}
+use Rattle.net_parts.specs.Laws.{if_ok, adds_fewer, adds_twice, grows_once}
 use Rattle.st_format.proofs.NarrowLemmas.{rest_shifted}
 use Rattle.st_format.proofs.narrow.rest_word.Goals as goal
 
@@ -28,3 +28,12 @@ returns-clause-value c =
     let v1 = c.slice.ensures.extends.valuations cycle v2 in
     rest_shifted (cycle.net c.args.word.number) (cycle.net c.in_ok-rest.rest.number) (cycle.net c.in_ok-zeros.zeros.number) (cycle.net rest.number) _ _ _ _ _ c.rest_bits.ensures.value c.rest_bits.ensures.some (c.in_ok-zeros.ensures.net.has_width ∙ c.narrow_bits.ensures.value) (c.in_ok-rest.ensures.value cycle v2).1 (c.in_ok-zeros.ensures.value cycle v1) (value cycle v3).1))
     c.concat.ensures.value
+
+pub returns-in_err-zeros-clause-adds : goal.returns-in_err-zeros-clause-adds
+returns-in_err-zeros-clause-adds c = adds_fewer _ _ _ _ (omega arith) c.constant.ensures.adds
+
+pub returns-in_err-rest-clause-adds : goal.returns-in_err-rest-clause-adds
+returns-in_err-rest-clause-adds c = adds_fewer _ _ _ _ (omega arith) (adds_twice _ _ _ _ _ c.constant.ensures.adds (grows_once _ _ c.slice.ensures.extends c.slice.ensures.grows))
+
+pub returns-clause-adds : goal.returns-clause-adds
+returns-clause-adds c = adds_fewer _ _ _ _ (omega arith) (adds_twice _ _ _ _ _ (adds_twice _ _ _ _ _ c.constant.ensures.adds (grows_once _ _ c.slice.ensures.extends c.slice.ensures.grows)) (grows_once _ _ c.concat.ensures.extends c.concat.ensures.grows))

@@ -1,7 +1,7 @@
-use Rattle.std.proofs.Common.{◌≡◌, ◌-◌, ◌*◌, ◌==◌, ◌||◌, ap, ◌∙◌}
+use Rattle.std.proofs.Common.{◌≡◌, ◌-◌, ◌*◌, ◌==◌, ◌||◌, ap, ◌∙◌, arith}
 use Rattle.netlist.specs.Runs.{Always}
 use Rattle.net_parts.specs.Nets.{IsBit}
-use Rattle.net_parts.specs.Laws.{bit_fits, if_ok}
+use Rattle.net_parts.specs.Laws.{bit_fits, if_ok, adds_fewer, adds_twice, grows_once}
 use Rattle.net_parts.specs.Bits.{high_or}
 use Rattle.st_format.proofs.CountedLemmas.{test_high}
 use Rattle.st_format.proofs.widen.fills_up.Goals as goal
@@ -21,3 +21,12 @@ returns-clause-value c =
     high_or (cycle.net c.args.last.number) (cycle.net c.in_ok-in_last_place.in_last_place.number) (cycle.net full.number) (bit_fits _ _ c.requires.last cycle v0) place.0 (value cycle v3).1
     ∙ ap (λ t. (cycle.net c.args.last.number == 1) || t) (test_high _ _ place.1 ∙ ap (λ n. cycle.net c.args.gathered.number == n) most)))
     c.or.ensures.value
+
+pub returns-in_err-most-clause-adds : goal.returns-in_err-most-clause-adds
+returns-in_err-most-clause-adds c = adds_fewer _ _ _ _ (omega arith) c.constant.ensures.adds
+
+pub returns-in_err-in_last_place-clause-adds : goal.returns-in_err-in_last_place-clause-adds
+returns-in_err-in_last_place-clause-adds c = adds_fewer _ _ _ _ (omega arith) (adds_twice _ _ _ _ _ c.constant.ensures.adds (grows_once _ _ c.eq.ensures.extends c.eq.ensures.grows))
+
+pub returns-clause-adds : goal.returns-clause-adds
+returns-clause-adds c = adds_fewer _ _ _ _ (omega arith) (adds_twice _ _ _ _ _ (adds_twice _ _ _ _ _ c.constant.ensures.adds (grows_once _ _ c.eq.ensures.extends c.eq.ensures.grows)) (grows_once _ _ c.or.ensures.extends c.or.ensures.grows))

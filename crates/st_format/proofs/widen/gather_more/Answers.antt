@@ -1,5 +1,5 @@
-use Rattle.std.proofs.Common.{◌+◌, ◌%◌, ◌^◌, refl, sym, ap, ◌∙◌}
-use Rattle.net_parts.specs.Laws.{net_lasts, extends_twice}
+use Rattle.std.proofs.Common.{◌+◌, ◌%◌, ◌^◌, refl, sym, ap, ◌∙◌, arith}
+use Rattle.net_parts.specs.Laws.{net_lasts, extends_twice, adds_fewer, adds_twice, grows_once}
 use Rattle.stage_core.specs.Lasting.{beat_lasts}
 use Rattle.stage_core.specs.BeatLaws.{shown_same}
 use Rattle.st_format.proofs.widen.gather_more.Goals as goal
@@ -27,3 +27,18 @@ returns-clause-value c cycle v2 =
     let v1 = c.add.ensures.extends.valuations cycle v2 in
     let empty = (c.in_ok-empty.ensures.value cycle v2).1 ∙ ap (λ w. (cycle.net c.args.held.now.empty.number + cycle.net c.in_ok-symbols.symbols.number) % 2 ^ w) c.requires.held_empty ∙ ap (λ n. (cycle.net c.args.held.now.empty.number + n) % 2 ^ 8) (c.in_ok-symbols.ensures.value cycle v1) in
     shown_same _ _ refl refl refl refl refl refl empty
+
+pub add-requires-clause-a_is : goal.add-requires-clause-a_is
+add-requires-clause-a_is c = c.constant.ensures.adds.grows.extends.nets _ _ c.requires.held.empty
+
+pub add-requires-clause-b_is : goal.add-requires-clause-b_is
+add-requires-clause-b_is c = c.in_ok-symbols.ensures.net.is_net
+
+pub returns-in_err-symbols-clause-adds : goal.returns-in_err-symbols-clause-adds
+returns-in_err-symbols-clause-adds c = adds_fewer _ _ _ _ (omega arith) c.constant.ensures.adds
+
+pub returns-in_err-empty-clause-adds : goal.returns-in_err-empty-clause-adds
+returns-in_err-empty-clause-adds c = adds_fewer _ _ _ _ (omega arith) (adds_twice _ _ _ _ _ c.constant.ensures.adds (grows_once _ _ c.add.ensures.extends c.add.ensures.grows))
+
+pub returns-clause-adds : goal.returns-clause-adds
+returns-clause-adds c = adds_fewer _ _ _ _ (omega arith) (adds_twice _ _ _ _ _ c.constant.ensures.adds (grows_once _ _ c.add.ensures.extends c.add.ensures.grows))

@@ -20,3 +20,15 @@ returns-clause-value c cycle v4 =
 
 pub returns-clause-adds : goal.returns-clause-adds
 returns-clause-adds c = adds_fewer _ _ _ _ (omega arith) (adds_twice _ _ _ _ _ (adds_twice _ _ _ _ _ (adds_twice _ _ _ _ _ c.constant.ensures.adds c.constant-2.ensures.adds) c.constant-3.ensures.adds) c.constant-4.ensures.adds)
+
+pub returns-in_err-low-clause-adds : goal.returns-in_err-low-clause-adds
+returns-in_err-low-clause-adds c = adds_fewer _ _ _ _ (omega arith) c.constant.ensures.adds
+
+pub returns-in_err-word-clause-adds : goal.returns-in_err-word-clause-adds
+returns-in_err-word-clause-adds c = adds_fewer _ _ _ _ (omega arith) (adds_twice _ _ _ _ _ c.constant.ensures.adds c.constant-2.ensures.adds)
+
+pub returns-in_err-error-clause-adds : goal.returns-in_err-error-clause-adds
+returns-in_err-error-clause-adds c = adds_fewer _ _ _ _ (omega arith) (adds_twice _ _ _ _ _ (adds_twice _ _ _ _ _ c.constant.ensures.adds c.constant-2.ensures.adds) c.constant-3.ensures.adds)
+
+pub returns-in_err-empty-clause-adds : goal.returns-in_err-empty-clause-adds
+returns-in_err-empty-clause-adds c = adds_fewer _ _ _ _ (omega arith) (adds_twice _ _ _ _ _ (adds_twice _ _ _ _ _ (adds_twice _ _ _ _ _ c.constant.ensures.adds c.constant-2.ensures.adds) c.constant-3.ensures.adds) c.constant-4.ensures.adds)

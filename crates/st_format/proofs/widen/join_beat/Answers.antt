@@ -59,3 +59,27 @@ returns-in_err-first-clause-adds c = adds_fewer _ _ _ _ (omega arith) (adds_twic
 
 pub returns-clause-adds : goal.returns-clause-adds
 returns-clause-adds c = adds_fewer _ _ _ _ (omega arith) (adds_twice _ _ _ _ _ (adds_twice _ _ _ _ _ (adds_twice _ _ _ _ _ (adds_twice _ _ _ _ _ (adds_twice _ _ _ _ _ c.join_word.ensures.adds c.join_empty.ensures.adds) c.fills_up.ensures.adds) (grows_once _ _ c.and.ensures.extends c.and.ensures.grows)) (grows_once _ _ c.or.ensures.extends c.or.ensures.grows)) (grows_once _ _ c.mux.ensures.extends c.mux.ensures.grows))
+
+pub fills_up-requires-clause-last : goal.fills_up-requires-clause-last
+fills_up-requires-clause-last c = net_lasts _ _ _ _ (extends_twice _ _ _ c.join_word.ensures.adds.grows.extends c.join_empty.ensures.adds.grows.extends) c.requires.from.last
+
+pub and-requires-clause-a_is : goal.and-requires-clause-a_is
+and-requires-clause-a_is c = (extends_twice _ _ _ c.join_word.ensures.adds.grows.extends (extends_twice _ _ _ c.join_empty.ensures.adds.grows.extends c.fills_up.ensures.adds.grows.extends)).nets _ _ c.requires.from.valid.is_net
+
+pub and-requires-clause-b_is : goal.and-requires-clause-b_is
+and-requires-clause-b_is c = c.in_ok-full.ensures.net.is_net
+
+pub and-requires-clause-widths : goal.and-requires-clause-widths
+and-requires-clause-widths c = c.requires.from.valid.has_width ∙ sym c.in_ok-full.ensures.net.has_width
+
+pub returns-in_err-word-clause-adds : goal.returns-in_err-word-clause-adds
+returns-in_err-word-clause-adds c = adds_fewer _ _ _ _ (omega arith) c.join_word.ensures.adds
+
+pub returns-in_err-empty-clause-adds : goal.returns-in_err-empty-clause-adds
+returns-in_err-empty-clause-adds c = adds_fewer _ _ _ _ (omega arith) (adds_twice _ _ _ _ _ c.join_word.ensures.adds c.join_empty.ensures.adds)
+
+pub returns-in_err-full-clause-adds : goal.returns-in_err-full-clause-adds
+returns-in_err-full-clause-adds c = adds_fewer _ _ _ _ (omega arith) (adds_twice _ _ _ _ _ (adds_twice _ _ _ _ _ c.join_word.ensures.adds c.join_empty.ensures.adds) c.fills_up.ensures.adds)
+
+pub returns-in_err-valid-clause-adds : goal.returns-in_err-valid-clause-adds
+returns-in_err-valid-clause-adds c = adds_fewer _ _ _ _ (omega arith) (adds_twice _ _ _ _ _ (adds_twice _ _ _ _ _ (adds_twice _ _ _ _ _ c.join_word.ensures.adds c.join_empty.ensures.adds) c.fills_up.ensures.adds) (grows_once _ _ c.and.ensures.extends c.and.ensures.grows))

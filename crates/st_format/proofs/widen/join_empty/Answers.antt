@@ -22,3 +22,18 @@ returns-clause-value c =
 
 pub returns-clause-adds : goal.returns-clause-adds
 returns-clause-adds c = adds_fewer _ _ _ _ (omega arith) (adds_twice _ _ _ _ _ (adds_twice _ _ _ _ _ (adds_twice _ _ _ _ _ c.constant.ensures.adds (grows_once _ _ c.sub.ensures.extends c.sub.ensures.grows)) c.widen_empty.ensures.adds) (grows_once _ _ c.add.ensures.extends c.add.ensures.grows))
+
+pub add-requires-clause-a_is : goal.add-requires-clause-a_is
+add-requires-clause-a_is c = c.widen_empty.ensures.adds.grows.extends.nets _ _ c.in_ok-missing.ensures.net.0
+
+pub add-requires-clause-b_is : goal.add-requires-clause-b_is
+add-requires-clause-b_is c = c.in_ok-own.ensures.net.is_net
+
+pub returns-in_err-most-clause-adds : goal.returns-in_err-most-clause-adds
+returns-in_err-most-clause-adds c = adds_fewer _ _ _ _ (omega arith) c.constant.ensures.adds
+
+pub returns-in_err-missing-clause-adds : goal.returns-in_err-missing-clause-adds
+returns-in_err-missing-clause-adds c = adds_fewer _ _ _ _ (omega arith) (adds_twice _ _ _ _ _ c.constant.ensures.adds (grows_once _ _ c.sub.ensures.extends c.sub.ensures.grows))
+
+pub returns-in_err-own-clause-adds : goal.returns-in_err-own-clause-adds
+returns-in_err-own-clause-adds c = adds_fewer _ _ _ _ (omega arith) (adds_twice _ _ _ _ _ (adds_twice _ _ _ _ _ c.constant.ensures.adds (grows_once _ _ c.sub.ensures.extends c.sub.ensures.grows)) c.widen_empty.ensures.adds)

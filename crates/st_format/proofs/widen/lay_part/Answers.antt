@@ -1,7 +1,7 @@
 use Rattle.std.proofs.Common.{◌≡◌, ◌*◌, ◌∙◌, arith}
 use Rattle.netlist.specs.Runs.{Always}
 use Rattle.net_parts.specs.Nets.{IsNetOfWidth}
-use Rattle.net_parts.specs.Laws.{grows_once, adds_twice, adds_fewer, if_ok}
+use Rattle.net_parts.specs.Laws.{grows_once, adds_twice, adds_fewer, if_ok, extends_twice}
 use Rattle.st_format.specs.WidenNets.{part_at}
 use Rattle.st_format.proofs.WidenLemmas.{coming_at, old_bits}
 use Rattle.st_format.proofs.widen.lay_part.Goals as goal
@@ -23,3 +23,21 @@ returns-clause-value c =
 
 pub returns-clause-adds : goal.returns-clause-adds
 returns-clause-adds c = adds_fewer _ _ _ _ (omega arith) (adds_twice _ _ _ _ _ (adds_twice _ _ _ _ _ (adds_twice _ _ _ _ _ c.constant.ensures.adds (grows_once _ _ c.eq.ensures.extends c.eq.ensures.grows)) (grows_once _ _ c.slice.ensures.extends c.slice.ensures.grows)) (grows_once _ _ c.mux.ensures.extends c.mux.ensures.grows))
+
+pub mux-requires-clause-s_is : goal.mux-requires-clause-s_is
+mux-requires-clause-s_is c = c.slice.ensures.extends.nets _ _ c.in_ok-here.ensures.net.0
+
+pub mux-requires-clause-a_is : goal.mux-requires-clause-a_is
+mux-requires-clause-a_is c = (extends_twice _ _ _ c.constant.ensures.adds.grows.extends (extends_twice _ _ _ c.eq.ensures.extends c.slice.ensures.extends)).nets _ _ c.requires.coming.is_net
+
+pub mux-requires-clause-b_is : goal.mux-requires-clause-b_is
+mux-requires-clause-b_is c = c.in_ok-old.ensures.net.0
+
+pub returns-in_err-place-clause-adds : goal.returns-in_err-place-clause-adds
+returns-in_err-place-clause-adds c = adds_fewer _ _ _ _ (omega arith) c.constant.ensures.adds
+
+pub returns-in_err-here-clause-adds : goal.returns-in_err-here-clause-adds
+returns-in_err-here-clause-adds c = adds_fewer _ _ _ _ (omega arith) (adds_twice _ _ _ _ _ c.constant.ensures.adds (grows_once _ _ c.eq.ensures.extends c.eq.ensures.grows))
+
+pub returns-in_err-old-clause-adds : goal.returns-in_err-old-clause-adds
+returns-in_err-old-clause-adds c = adds_fewer _ _ _ _ (omega arith) (adds_twice _ _ _ _ _ (adds_twice _ _ _ _ _ c.constant.ensures.adds (grows_once _ _ c.eq.ensures.extends c.eq.ensures.grows)) (grows_once _ _ c.slice.ensures.extends c.slice.ensures.grows))

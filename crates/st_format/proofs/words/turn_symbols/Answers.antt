@@ -1,7 +1,8 @@
-use Rattle.std.proofs.Common.{◌≡◌, suc, ◌+◌, ◌*◌, ◌^◌, ◌<◌, sym, subst, ap, ◌∙◌, arith}
+use Rattle.std.proofs.Common.{◌≡◌, suc, ◌+◌, ◌*◌, ◌^◌, ◌<◌, sym, subst, ap, ◌∙◌, arith, ◌≤◌}
 use Rattle.stream_machines.specs.Words.{turned_word}
 use Rattle.net_parts.specs.Laws.{grows_once, adds_twice, adds_fewer, valued_fits}
 use Rattle.st_format.proofs.Turning.{turned_more, turned_one}
+use Rattle.std.proofs.Math.Nat.{mul-le-mul_left}
 use Rattle.st_format.proofs.words.turn_symbols.Goals as goal
 
 pub loop-place-preserved : goal.loop-place-preserved
@@ -28,3 +29,21 @@ returns-then-symbols-eq1-clause-value c cycle v =
     let bare : c.args.bits * c.args.symbols ≡ c.args.bits = ap (λ n. c.args.bits * n) one ∙ omega arith in
     let fits : cycle.net c.args.word.number < 2 ^ c.args.bits = subst (λ w. cycle.net c.args.word.number < 2 ^ w) (c.requires.word.has_width ∙ bare) (valued_fits _ cycle v _ _ c.requires.word.is_net) in
     turned_one c.args.bits (cycle.net c.args.word.number) fits ∙ ap (λ n. turned_word c.args.bits n (cycle.net c.args.word.number)) (sym one)
+
+pub take_symbol-requires-in-loop-place-clause-inside : goal.take_symbol-requires-in-loop-place-clause-inside
+take_symbol-requires-in-loop-place-clause-inside c = let le : c.loop-place.place + 1 ≤ c.args.symbols = omega arith in let most = mul-le-mul_left c.args.bits le in let width = c.requires.word.has_width in omega (arith, most, width)
+
+pub concat-requires-clause-widths : goal.concat-requires-clause-widths
+concat-requires-clause-widths c = let le : c.loop-place.place + 1 ≤ c.args.symbols = omega arith in let most = mul-le-mul_left c.args.bits le in let wide = c.loop-place.invariant.net.has_width in let one = c.in_ok-symbol.ensures.net.has_width in let small = c.requires.small in omega (arith, most, wide, one, small)
+
+pub returns-in_err-turned-clause-adds : goal.returns-in_err-turned-clause-adds
+returns-in_err-turned-clause-adds c = adds_fewer _ _ _ _ (omega arith) c.take_symbol.ensures.adds
+
+pub returns-in_err-symbol-clause-adds : goal.returns-in_err-symbol-clause-adds
+returns-in_err-symbol-clause-adds c = adds_fewer _ _ _ _ (omega arith) (adds_twice _ _ _ _ _ c.loop-place.invariant.adds c.take_symbol-in-loop-place.ensures.adds)
+
+pub returns-in_err-turned-2-clause-adds : goal.returns-in_err-turned-2-clause-adds
+returns-in_err-turned-2-clause-adds c = adds_fewer _ _ _ _ (omega arith) (adds_twice _ _ _ _ _ (adds_twice _ _ _ _ _ c.loop-place.invariant.adds c.take_symbol-in-loop-place.ensures.adds) (grows_once _ _ c.concat.ensures.extends c.concat.ensures.grows))
+
+pub returns-clause-adds : goal.returns-clause-adds
+returns-clause-adds c = adds_fewer _ _ _ _ (omega arith) c.loop-place.invariant.adds

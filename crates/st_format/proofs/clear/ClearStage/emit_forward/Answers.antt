@@ -1,9 +1,9 @@
-use Rattle.std.proofs.Common.{sym, subst, ap, ◌∙◌}
+use Rattle.std.proofs.Common.{sym, subst, ap, ◌∙◌, arith}
 use Rattle.stage_core.specs.declared.beat.BeatNets.{BeatNets}
 use Rattle.stage_core.specs.Beats.{AreBeatNets}
 use Rattle.stage_core.specs.Groups.{Shown, shown_in}
 use Rattle.stage_core.specs.Lasting.{beat_lasts}
-use Rattle.net_parts.specs.Laws.{extends_twice}
+use Rattle.net_parts.specs.Laws.{extends_twice, adds_grow, grows_fewer, grows_twice}
 use Rattle.st_format.specs.ClearNets.{cleared, without_empty}
 use Rattle.st_format.proofs.PartsLemmas.{beat_same}
 use Rattle.st_format.proofs.clear.ClearStage.emit_forward.Goals as goal
@@ -25,3 +25,21 @@ returns-clause-made c = record {
       let word = c.in_ok-word.ensures.value cycle v2 ∙ ap (λ n. without_empty c.args.self.now.bits c.args.self.now.symbols n (cycle.net c.args.from.word.number)) empty in
       beat_same _ (cleared c.args.self.now.symbols c.args.self.now.bits (shown_in cycle c.args.from).beat) word (ap (λ (x : Shown). x.beat.channel) base) (ap (λ (x : Shown). x.beat.error) base) (ap (λ (x : Shown). x.beat.first) base) (ap (λ (x : Shown). x.beat.last) base) (ap (λ (x : Shown). x.beat.empty) base));
 }
+
+pub returns-in_err-counted-clause-grows : goal.returns-in_err-counted-clause-grows
+returns-in_err-counted-clause-grows c = grows_fewer _ _ _ _ (omega arith) (adds_grow _ _ _ c.count_empty.ensures.adds)
+
+pub returns-in_err-word-clause-grows : goal.returns-in_err-word-clause-grows
+returns-in_err-word-clause-grows c = grows_fewer _ _ _ _ (omega arith) (grows_twice _ _ _ _ _ (adds_grow _ _ _ c.count_empty.ensures.adds) (adds_grow _ _ _ c.clear_symbols.ensures.adds))
+
+pub returns-clause-grows : goal.returns-clause-grows
+returns-clause-grows c = grows_fewer _ _ _ _ (omega arith) (grows_twice _ _ _ _ _ (adds_grow _ _ _ c.count_empty.ensures.adds) (adds_grow _ _ _ c.clear_symbols.ensures.adds))
+
+pub returns-in_err-counted-clause-waits : goal.returns-in_err-counted-clause-waits
+returns-in_err-counted-clause-waits c n w = c.count_empty.ensures.adds.grows.waits n w
+
+pub returns-in_err-word-clause-waits : goal.returns-in_err-word-clause-waits
+returns-in_err-word-clause-waits c n w = c.clear_symbols.ensures.adds.grows.waits n (c.count_empty.ensures.adds.grows.waits n w)
+
+pub returns-clause-waits : goal.returns-clause-waits
+returns-clause-waits c n w = c.clear_symbols.ensures.adds.grows.waits n (c.count_empty.ensures.adds.grows.waits n w)

@@ -66,3 +66,33 @@ returns-clause-no_more_wait c n w =
 
 pub returns-clause-grows : goal.returns-clause-grows
 returns-clause-grows c = grows_fewer _ _ _ _ (omega arith) (grows_twice _ _ _ _ _ (grows_twice _ _ _ _ _ (grows_twice _ _ _ _ _ (grows_twice _ _ _ _ _ (adds_grow _ _ _ (grows_once _ _ c.not.ensures.extends c.not.ensures.grows)) (adds_grow _ _ _ (grows_once _ _ c.and.ensures.extends c.and.ensures.grows))) (adds_grow _ _ _ (grows_once _ _ c.and-2.ensures.extends c.and-2.ensures.grows))) (adds_grow _ _ _ c.mux_beat.ensures.adds)) c.set_next_beat.ensures.grows)
+
+pub and-requires-clause-a_is : goal.and-requires-clause-a_is
+and-requires-clause-a_is c = c.in_ok-none_held.ensures.net.0
+
+pub and-requires-clause-b_is : goal.and-requires-clause-b_is
+and-requires-clause-b_is c = c.not.ensures.extends.nets _ _ c.requires.ready.is_net
+
+pub returns-in_err-none_held-clause-grows : goal.returns-in_err-none_held-clause-grows
+returns-in_err-none_held-clause-grows c = grows_fewer _ _ _ _ (omega arith) (adds_grow _ _ _ (grows_once _ _ c.not.ensures.extends c.not.ensures.grows))
+
+pub returns-in_err-up-clause-grows : goal.returns-in_err-up-clause-grows
+returns-in_err-up-clause-grows c = grows_fewer _ _ _ _ (omega arith) (grows_twice _ _ _ _ _ (adds_grow _ _ _ (grows_once _ _ c.not.ensures.extends c.not.ensures.grows)) (adds_grow _ _ _ (grows_once _ _ c.and.ensures.extends c.and.ensures.grows)))
+
+pub returns-in_err-goes-clause-grows : goal.returns-in_err-goes-clause-grows
+returns-in_err-goes-clause-grows c = grows_fewer _ _ _ _ (omega arith) (grows_twice _ _ _ _ _ (grows_twice _ _ _ _ _ (adds_grow _ _ _ (grows_once _ _ c.not.ensures.extends c.not.ensures.grows)) (adds_grow _ _ _ (grows_once _ _ c.and.ensures.extends c.and.ensures.grows))) (adds_grow _ _ _ (grows_once _ _ c.and-2.ensures.extends c.and-2.ensures.grows)))
+
+pub returns-in_err-next-clause-grows : goal.returns-in_err-next-clause-grows
+returns-in_err-next-clause-grows c = grows_fewer _ _ _ _ (omega arith) (grows_twice _ _ _ _ _ (grows_twice _ _ _ _ _ (grows_twice _ _ _ _ _ (adds_grow _ _ _ (grows_once _ _ c.not.ensures.extends c.not.ensures.grows)) (adds_grow _ _ _ (grows_once _ _ c.and.ensures.extends c.and.ensures.grows))) (adds_grow _ _ _ (grows_once _ _ c.and-2.ensures.extends c.and-2.ensures.grows))) (adds_grow _ _ _ c.mux_beat.ensures.adds))
+
+pub returns-in_err-none_held-clause-waits : goal.returns-in_err-none_held-clause-waits
+returns-in_err-none_held-clause-waits c n apart w = c.not.ensures.grows.waits n w
+
+pub returns-in_err-up-clause-waits : goal.returns-in_err-up-clause-waits
+returns-in_err-up-clause-waits c n apart w = c.and.ensures.grows.waits n (c.not.ensures.grows.waits n w)
+
+pub returns-in_err-goes-clause-waits : goal.returns-in_err-goes-clause-waits
+returns-in_err-goes-clause-waits c n apart w = c.and-2.ensures.grows.waits n (c.and.ensures.grows.waits n (c.not.ensures.grows.waits n w))
+
+pub returns-in_err-next-clause-waits : goal.returns-in_err-next-clause-waits
+returns-in_err-next-clause-waits c n apart w = c.mux_beat.ensures.adds.grows.waits n (c.and-2.ensures.grows.waits n (c.and.ensures.grows.waits n (c.not.ensures.grows.waits n w)))

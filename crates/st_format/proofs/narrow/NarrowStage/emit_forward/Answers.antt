@@ -2,6 +2,7 @@ use Rattle.std.proofs.Common.{refl, ap, ◌∙◌, arith}
 use Rattle.stage_core.specs.Lasting.{beat_lasts, registers_last}
 use Rattle.stage_core.specs.BeatLaws.{widths_twice}
 use Rattle.st_format.specs.NarrowNets.{shown_piece, shown_rest}
+use Rattle.net_parts.specs.Laws.{adds_grow, grows_fewer, grows_twice}
 use Rattle.st_format.proofs.narrow.NarrowStage.emit_forward.Goals as goal
 
 pub returns-clause-kept : goal.returns-clause-kept
@@ -30,3 +31,30 @@ returns-clause-made c = record {
 
 pub returns-clause-own_wait : goal.returns-clause-own_wait
 returns-clause-own_wait c n o = c.cut_beat.ensures.adds.grows.waits n (c.in_ok-current.ensures.registers.wait n o)
+
+pub cut_beat-requires-clause-beat : goal.cut_beat-requires-clause-beat
+cut_beat-requires-clause-beat c = c.in_ok-current.ensures.beat
+
+pub cut_beat-requires-clause-word : goal.cut_beat-requires-clause-word
+cut_beat-requires-clause-word c = c.in_ok-current.ensures.counted.word ∙ c.requires.widths.0
+
+pub cut_beat-requires-clause-empty : goal.cut_beat-requires-clause-empty
+cut_beat-requires-clause-empty c = c.in_ok-current.ensures.counted.empty
+
+pub returns-in_err-current-clause-grows : goal.returns-in_err-current-clause-grows
+returns-in_err-current-clause-grows c = grows_fewer _ _ _ _ (omega arith) c.show_current.ensures.grows
+
+pub returns-in_err-part-clause-grows : goal.returns-in_err-part-clause-grows
+returns-in_err-part-clause-grows c = grows_fewer _ _ _ _ (omega arith) (grows_twice _ _ _ _ _ c.show_current.ensures.grows (adds_grow _ _ _ c.cut_beat.ensures.adds))
+
+pub returns-clause-grows : goal.returns-clause-grows
+returns-clause-grows c = grows_fewer _ _ _ _ (omega arith) (grows_twice _ _ _ _ _ c.show_current.ensures.grows (adds_grow _ _ _ c.cut_beat.ensures.adds))
+
+pub returns-in_err-part-clause-waits : goal.returns-in_err-part-clause-waits
+returns-in_err-part-clause-waits c n w = c.cut_beat.ensures.adds.grows.waits n (c.show_current.ensures.still_wait n w)
+
+pub returns-clause-waits : goal.returns-clause-waits
+returns-clause-waits c n w = c.cut_beat.ensures.adds.grows.waits n (c.show_current.ensures.still_wait n w)
+
+pub returns-clause-newly : goal.returns-clause-newly
+returns-clause-newly c n w = c.in_ok-current.ensures.newly n (c.cut_beat.ensures.adds.grows.no_more_wait n w)

@@ -87,3 +87,42 @@ returns-in_err-next-clause-grows c = grows_fewer _ _ _ _ (omega arith) (grows_tw
 
 pub returns-clause-grows : goal.returns-clause-grows
 returns-clause-grows c = grows_fewer _ _ _ _ (omega arith) (grows_twice _ _ _ _ _ (grows_twice _ _ _ _ _ (grows_twice _ _ _ _ _ (grows_twice _ _ _ _ _ (grows_twice _ _ _ _ _ (adds_grow _ _ _ (grows_once _ _ c.not.ensures.extends c.not.ensures.grows)) (adds_grow _ _ _ (grows_once _ _ c.or.ensures.extends c.or.ensures.grows))) (adds_grow _ _ _ (grows_once _ _ c.and.ensures.extends c.and.ensures.grows))) (adds_grow _ _ _ c.mux_beat.ensures.adds)) (adds_grow _ _ _ c.mux_beat-2.ensures.adds)) c.set_next_beat.ensures.grows)
+
+pub or-requires-clause-a_is : goal.or-requires-clause-a_is
+or-requires-clause-a_is c = c.in_ok-not_full.ensures.net.0
+
+pub or-requires-clause-b_is : goal.or-requires-clause-b_is
+or-requires-clause-b_is c = c.not.ensures.extends.nets _ _ c.requires.ready.is_net
+
+pub and-requires-clause-a_is : goal.and-requires-clause-a_is
+and-requires-clause-a_is c = (extends_twice _ _ _ c.not.ensures.extends c.or.ensures.extends).nets _ _ c.requires.kept.coming.is_net
+
+pub and-requires-clause-b_is : goal.and-requires-clause-b_is
+and-requires-clause-b_is c = c.in_ok-up.ensures.net.0
+
+pub returns-in_err-not_full-clause-grows : goal.returns-in_err-not_full-clause-grows
+returns-in_err-not_full-clause-grows c = grows_fewer _ _ _ _ (omega arith) (adds_grow _ _ _ (grows_once _ _ c.not.ensures.extends c.not.ensures.grows))
+
+pub returns-in_err-up-clause-grows : goal.returns-in_err-up-clause-grows
+returns-in_err-up-clause-grows c = grows_fewer _ _ _ _ (omega arith) (grows_twice _ _ _ _ _ (adds_grow _ _ _ (grows_once _ _ c.not.ensures.extends c.not.ensures.grows)) (adds_grow _ _ _ (grows_once _ _ c.or.ensures.extends c.or.ensures.grows)))
+
+pub returns-in_err-comes-clause-grows : goal.returns-in_err-comes-clause-grows
+returns-in_err-comes-clause-grows c = grows_fewer _ _ _ _ (omega arith) (grows_twice _ _ _ _ _ (grows_twice _ _ _ _ _ (adds_grow _ _ _ (grows_once _ _ c.not.ensures.extends c.not.ensures.grows)) (adds_grow _ _ _ (grows_once _ _ c.or.ensures.extends c.or.ensures.grows))) (adds_grow _ _ _ (grows_once _ _ c.and.ensures.extends c.and.ensures.grows)))
+
+pub returns-in_err-gathered-clause-grows : goal.returns-in_err-gathered-clause-grows
+returns-in_err-gathered-clause-grows c = grows_fewer _ _ _ _ (omega arith) (grows_twice _ _ _ _ _ (grows_twice _ _ _ _ _ (grows_twice _ _ _ _ _ (adds_grow _ _ _ (grows_once _ _ c.not.ensures.extends c.not.ensures.grows)) (adds_grow _ _ _ (grows_once _ _ c.or.ensures.extends c.or.ensures.grows))) (adds_grow _ _ _ (grows_once _ _ c.and.ensures.extends c.and.ensures.grows))) (adds_grow _ _ _ c.mux_beat.ensures.adds))
+
+pub returns-in_err-not_full-clause-waits : goal.returns-in_err-not_full-clause-waits
+returns-in_err-not_full-clause-waits c n apart w = c.not.ensures.grows.waits n w
+
+pub returns-in_err-up-clause-waits : goal.returns-in_err-up-clause-waits
+returns-in_err-up-clause-waits c n apart w = c.or.ensures.grows.waits n (c.not.ensures.grows.waits n w)
+
+pub returns-in_err-comes-clause-waits : goal.returns-in_err-comes-clause-waits
+returns-in_err-comes-clause-waits c n apart w = c.and.ensures.grows.waits n (c.or.ensures.grows.waits n (c.not.ensures.grows.waits n w))
+
+pub returns-in_err-gathered-clause-waits : goal.returns-in_err-gathered-clause-waits
+returns-in_err-gathered-clause-waits c n apart w = c.mux_beat.ensures.adds.grows.waits n (c.and.ensures.grows.waits n (c.or.ensures.grows.waits n (c.not.ensures.grows.waits n w)))
+
+pub returns-in_err-next-clause-waits : goal.returns-in_err-next-clause-waits
+returns-in_err-next-clause-waits c n apart w = c.mux_beat-2.ensures.adds.grows.waits n (c.mux_beat.ensures.adds.grows.waits n (c.and.ensures.grows.waits n (c.or.ensures.grows.waits n (c.not.ensures.grows.waits n w))))

@@ -1,5 +1,5 @@
-use Rattle.std.proofs.Common.{◌^◌, ◌<◌, refl, subst, ◌∙◌, arith}
-use Rattle.net_parts.specs.Laws.{valued_fits, net_lasts, extends_twice}
+use Rattle.std.proofs.Common.{◌^◌, ◌<◌, refl, subst, ◌∙◌, arith, inl, inr}
+use Rattle.net_parts.specs.Laws.{valued_fits, net_lasts, extends_twice, adds_grow, grows_fewer, grows_twice}
 use Rattle.stage_core.specs.Groups.{shown_in}
 use Rattle.stage_core.specs.Lasting.{beat_lasts, registers_last}
 use Rattle.stage_core.specs.BeatLaws.{widths_turned, widths_twice, numbered_here}
@@ -71,3 +71,36 @@ returns-clause-made c =
           c.in_ok-filled.ensures.value cycle v4 ∙ filled_shown c.args.self.now.sizes (shown_in cycle c.in_ok-held.held) (shown_in cycle c.args.from) (shown_in cycle c.in_ok-to.to) (shown_in cycle c.in_ok-none.none) joined none);
       empties = λ cycle v. c.in_ok-none.ensures.value cycle ((extends_twice _ _ _ c.reg_beat.ensures.grows.extends (extends_twice _ _ _ c.join_beat.ensures.adds.grows.extends c.gather_more.ensures.adds.grows.extends)).valuations cycle v);
     }
+
+pub returns-in_err-none-clause-grows : goal.returns-in_err-none-clause-grows
+returns-in_err-none-clause-grows c = grows_fewer _ _ _ _ (omega arith) (adds_grow _ _ _ c.gather_none.ensures.adds)
+
+pub returns-in_err-held-clause-grows : goal.returns-in_err-held-clause-grows
+returns-in_err-held-clause-grows c = grows_fewer _ _ _ _ (omega arith) (grows_twice _ _ _ _ _ (adds_grow _ _ _ c.gather_none.ensures.adds) c.reg_beat.ensures.grows)
+
+pub returns-in_err-to-clause-grows : goal.returns-in_err-to-clause-grows
+returns-in_err-to-clause-grows c = grows_fewer _ _ _ _ (omega arith) (grows_twice _ _ _ _ _ (grows_twice _ _ _ _ _ (adds_grow _ _ _ c.gather_none.ensures.adds) c.reg_beat.ensures.grows) (adds_grow _ _ _ c.join_beat.ensures.adds))
+
+pub returns-in_err-filled-clause-grows : goal.returns-in_err-filled-clause-grows
+returns-in_err-filled-clause-grows c = grows_fewer _ _ _ _ (omega arith) (grows_twice _ _ _ _ _ (grows_twice _ _ _ _ _ (grows_twice _ _ _ _ _ (adds_grow _ _ _ c.gather_none.ensures.adds) c.reg_beat.ensures.grows) (adds_grow _ _ _ c.join_beat.ensures.adds)) (adds_grow _ _ _ c.gather_more.ensures.adds))
+
+pub returns-clause-grows : goal.returns-clause-grows
+returns-clause-grows c = grows_fewer _ _ _ _ (omega arith) (grows_twice _ _ _ _ _ (grows_twice _ _ _ _ _ (grows_twice _ _ _ _ _ (adds_grow _ _ _ c.gather_none.ensures.adds) c.reg_beat.ensures.grows) (adds_grow _ _ _ c.join_beat.ensures.adds)) (adds_grow _ _ _ c.gather_more.ensures.adds))
+
+pub returns-in_err-none-clause-waits : goal.returns-in_err-none-clause-waits
+returns-in_err-none-clause-waits c n w = c.gather_none.ensures.adds.grows.waits n w
+
+pub returns-in_err-held-clause-waits : goal.returns-in_err-held-clause-waits
+returns-in_err-held-clause-waits c n w = c.reg_beat.ensures.still_wait n (c.gather_none.ensures.adds.grows.waits n w)
+
+pub returns-in_err-to-clause-waits : goal.returns-in_err-to-clause-waits
+returns-in_err-to-clause-waits c n w = c.join_beat.ensures.adds.grows.waits n (c.reg_beat.ensures.still_wait n (c.gather_none.ensures.adds.grows.waits n w))
+
+pub returns-in_err-filled-clause-waits : goal.returns-in_err-filled-clause-waits
+returns-in_err-filled-clause-waits c n w = c.gather_more.ensures.adds.grows.waits n (c.join_beat.ensures.adds.grows.waits n (c.reg_beat.ensures.still_wait n (c.gather_none.ensures.adds.grows.waits n w)))
+
+pub returns-clause-waits : goal.returns-clause-waits
+returns-clause-waits c n w = c.gather_more.ensures.adds.grows.waits n (c.join_beat.ensures.adds.grows.waits n (c.reg_beat.ensures.still_wait n (c.gather_none.ensures.adds.grows.waits n w)))
+
+pub returns-clause-newly : goal.returns-clause-newly
+returns-clause-newly c n w = elim (c.in_ok-held.ensures.newly n (c.join_beat.ensures.adds.grows.no_more_wait n (c.gather_more.ensures.adds.grows.no_more_wait n w))) [ inl before ↦ inl (c.gather_none.ensures.adds.grows.no_more_wait n before) | inr own ↦ inr own ]
