@@ -1,16 +1,12 @@
 -- The nets of a beat as a group of seven.
 use Rattle.std.proofs.Common.{◌≡◌, ℕ, Bool, true, false, if◌then◌else◌, refl, ap, arith, inl, inr}
-use Rattle.netlist.specs.Netlists.{Netlist}
 use Rattle.netlist.specs.Runs.{Cycle}
-use Rattle.net_parts.specs.Groups.{AreNets, group_widths, values_of, AreNumberedFrom, InGroup, all_low}
+use Rattle.net_parts.specs.Groups.{group_widths, values_of, AreNumberedFrom, InGroup, all_low}
 use Rattle.stage_core.specs.declared.beat.BeatNets.{BeatNets}
-use Rattle.stage_core.specs.Beats.{AreBeatNets, HaveSameWidths, group_of}
+use Rattle.stage_core.specs.Beats.{HaveSameWidths, group_of}
 use Rattle.stage_core.specs.Groups.{shown_in, nothing_shown, AreNumbered, IsOfBeat}
-use Rattle.stage_core.specs.BeatPlaces.{shown_of, place_are}
+use Rattle.stage_core.specs.BeatPlaces.{shown_of}
 use Rattle.stage_core.specs.BeatLaws.{of_each}
-
-pub are_group : (netlist : Netlist) (beat : BeatNets) → AreBeatNets netlist beat → AreNets netlist (group_of beat)
-are_group netlist beat h = (h.valid.is_net, (place_are netlist beat h).item)
 
 pub same_widths : (one other : BeatNets) → HaveSameWidths one other → group_widths (group_of one) ≡ group_widths (group_of other)
 same_widths one other h = rw (h.valid, h.word, h.channel, h.error, h.first, h.last, h.empty) refl

@@ -39,21 +39,6 @@ impl BeatNets {
         }
     }
 
-    /// The nets as a group, in their order.
-    pub(crate) fn group(&self) -> [Net; 7]
-        ensures { result ≡ group_of self.now }
-    {
-        [
-            self.valid,
-            self.word,
-            self.channel,
-            self.error,
-            self.first,
-            self.last,
-            self.empty,
-        ]
-    }
-
     /// The nets as those of a place, which is full where `valid` is high.
     pub fn place(&self) -> PlaceNets<6>
         ensures { result ≡ place_nets self.now }
@@ -78,22 +63,6 @@ impl BeatNets {
         let [word, channel, error, first, last, empty] = place.item;
         BeatNets {
             valid: place.full,
-            word,
-            channel,
-            error,
-            first,
-            last,
-            empty,
-        }
-    }
-
-    /// The beat whose nets are this group.
-    pub(crate) fn of_group(group: [Net; 7]) -> BeatNets
-        ensures { group_of result ≡ group }
-    {
-        let [valid, word, channel, error, first, last, empty] = group;
-        BeatNets {
-            valid,
             word,
             channel,
             error,

@@ -1,4 +1,4 @@
-//! Makers of all nets of a beat at once, as a group of seven.
+//! Makers of all nets of a beat at once, as those of a place.
 
 ghost use Rattle.std.specs.Prelude.{◌≡◌, ℕ, ◌+◌, ◌^◌, ◌<◌, ◌≤◌, ◌==◌, if◌then◌else◌, length, IfOk, OnOk};
 ghost use Rattle.netlist.specs.Netlists.{IsNet, IsWaiting};
@@ -9,7 +9,7 @@ ghost use Rattle.stage_core.specs.Groups.{AreRegisters, IsOfBeat, StartsEmpty, T
 ghost use Rattle.net_parts.specs.Growth.{GrowsBy, AddsNets, StillWait, WaitsBeside, WaitsWithout};
 
 use crate::beat::BeatNets;
-use net_parts::{choose_all, low_registers, set_all_next};
+use net_parts::{choose_place, low_place, set_next_place};
 use netlist::{Builder, Net, NetFault};
 
 /// Registers of the widths of a beat's nets, that begin at 0.
@@ -25,8 +25,8 @@ pub fn reg_beat(builder: &mut Builder, like: &BeatNets) -> Result<BeatNets, NetF
     ensures newly { IfOk result (λ made. WaitsBeside (IsOfBeat made) builder.old builder.new) }
     ensures full { result ≡ Err NetFault.TooManyNets → 2 ^ 20 < length builder.old.lines + 7 }
 {
-    let made = low_registers(builder, &like.group())?;
-    Ok(BeatNets::of_group(made))
+    let made = low_place(builder, &like.place())?;
+    Ok(BeatNets::of_place(made))
 }
 
 /// One of two beats of the same widths: the first where the bit is set.
@@ -46,8 +46,8 @@ pub fn mux_beat(
     ensures adds { AddsNets 7 builder.old builder.new }
     ensures full { result ≡ Err NetFault.TooManyNets → 2 ^ 20 < length builder.old.lines + 7 }
 {
-    let made = choose_all(builder, bit, &one.group(), &other.group())?;
-    Ok(BeatNets::of_group(made))
+    let made = choose_place(builder, bit, &one.place(), &other.place())?;
+    Ok(BeatNets::of_place(made))
 }
 
 /// Gives the registers of a beat their next nets.
@@ -61,5 +61,5 @@ pub fn set_next_beat(builder: &mut Builder, registers: &BeatNets, next: &BeatNet
     ensures still_wait { (n : ℕ) → ¬ IsOfBeat registers.now n → IsWaiting builder.old n → IsWaiting builder.new n }
     ensures no_more_wait { WaitsWithout (IsOfBeat registers.now) builder.old builder.new }
 {
-    set_all_next(builder, &registers.group(), &next.group());
+    set_next_place(builder, &registers.place(), &next.place());
 }

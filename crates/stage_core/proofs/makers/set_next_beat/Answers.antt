@@ -1,25 +1,29 @@
-use Rattle.std.proofs.Common.{List, sym, subst, ap, ◌∙◌, lit<}
-use Rattle.netlist.specs.Nets.{NetValue}
-use Rattle.net_parts.specs.Groups.{AreNets, AreWaiting, group_widths, InGroup, TakeAllNext}
+use Rattle.std.proofs.Common.{sym, subst, ap, ◌∙◌, lit<}
+use Rattle.net_parts.specs.declared.places.PlaceNets.{PlaceNets}
+use Rattle.net_parts.specs.Groups.{group_widths, AreNumberedFrom, InGroup, TakeAllNext}
+use Rattle.net_parts.specs.PlaceRows.{nets_of, ArePlaceNets, WaitsForNext}
 use Rattle.stage_core.specs.Beats.{group_of}
-use Rattle.stage_core.specs.BeatPlaces.{shown_of}
-use Rattle.stage_core.proofs.BeatGroups.{are_group, same_widths, numbered_from, of_beat, in_beat}
+use Rattle.stage_core.specs.BeatPlaces.{shown_of, place_are}
+use Rattle.stage_core.proofs.BeatGroups.{same_widths, numbered_from, of_beat, in_beat}
 use Rattle.stage_core.proofs.makers.set_next_beat.Goals as goal
 
-pub set_all_next-requires : goal.set_all_next-requires
-set_all_next-requires c = (
+pub set_next_place-requires : goal.set_next_place-requires
+set_next_place-requires c = (
   lit< tt,
   (
-    subst (AreNets c.args.builder.now) (sym c.group.ensures) (are_group _ _ c.requires.registers),
+    lit< tt,
     (
-      subst (AreWaiting c.args.builder.now) (sym c.group.ensures) (record {
-        start = c.args.registers.now.valid.number;
-        numbers = numbered_from c.args.registers.now c.args.registers.now.valid.number c.requires.wait.numbers;
-        wait = λ n o. c.requires.wait.wait n (of_beat c.args.registers.now c.args.registers.now.valid.number c.requires.wait.numbers n o);
-      }),
+      subst (λ (place : PlaceNets 6). ArePlaceNets c.args.builder.now place) (sym c.place.ensures) (place_are _ _ c.requires.registers),
       (
-        subst (AreNets c.args.builder.now) (sym c.group-2.ensures) (are_group _ _ c.requires.next),
-        ap group_widths c.group.ensures ∙ same_widths _ _ c.requires.widths ∙ sym (ap group_widths c.group-2.ensures),
+        subst (λ (place : PlaceNets 6). WaitsForNext c.args.builder.now place) (sym c.place.ensures)
+            (λ n o. c.requires.wait.wait n (of_beat c.args.registers.now c.args.registers.now.valid.number c.requires.wait.numbers n o)),
+        (
+          subst (λ (place : PlaceNets 6). AreNumberedFrom place.full.number (nets_of place)) (sym c.place.ensures) (numbered_from c.args.registers.now c.args.registers.now.valid.number c.requires.wait.numbers),
+          (
+            subst (λ (place : PlaceNets 6). ArePlaceNets c.args.builder.now place) (sym c.place-2.ensures) (place_are _ _ c.requires.next),
+            ap (λ (place : PlaceNets 6). group_widths (nets_of place)) c.place.ensures ∙ same_widths _ _ c.requires.widths ∙ sym (ap (λ (place : PlaceNets 6). group_widths (nets_of place)) c.place-2.ensures),
+          ),
+        ),
       ),
     ),
   ),
@@ -27,15 +31,15 @@ set_all_next-requires c = (
 
 pub returns-clause-value : goal.returns-clause-value
 returns-clause-value c run cycles r n lt =
-    let takes = subst (λ (group : List NetValue). TakeAllNext c.set_all_next.new.builder group (group_of c.args.next.now)) c.group.ensures
-    (subst (λ (next : List NetValue). TakeAllNext c.set_all_next.new.builder c.group.result next) c.group-2.ensures c.set_all_next.ensures.value) in
+    let takes = subst (λ (place : PlaceNets 6). TakeAllNext c.set_next_place.new.builder (nets_of place) (group_of c.args.next.now)) c.place.ensures
+    (subst (λ (next : PlaceNets 6). TakeAllNext c.set_next_place.new.builder (nets_of c.place.result) (nets_of next)) c.place-2.ensures c.set_next_place.ensures.value) in
     ap shown_of (takes run cycles r n lt)
 
 pub returns-clause-still_wait : goal.returns-clause-still_wait
 returns-clause-still_wait c n apart w =
-    c.set_all_next.ensures.still_wait n (λ o. apart (of_beat c.args.registers.now c.args.registers.now.valid.number c.requires.wait.numbers n (subst (λ (group : List NetValue). InGroup group n) c.group.ensures o))) w
+    c.set_next_place.ensures.still_wait n (λ o. apart (of_beat c.args.registers.now c.args.registers.now.valid.number c.requires.wait.numbers n (subst (λ (place : PlaceNets 6). InGroup (nets_of place) n) c.place.ensures o))) w
 
 pub returns-clause-no_more_wait : goal.returns-clause-no_more_wait
 returns-clause-no_more_wait c n w =
-    let h = c.set_all_next.ensures.no_more_wait n w in
-    (h.0, λ o. h.1 (subst (λ (group : List NetValue). InGroup group n) (sym c.group.ensures) (in_beat c.args.registers.now c.args.registers.now.valid.number c.requires.wait.numbers n o)))
+    let h = c.set_next_place.ensures.no_more_wait n w in
+    (h.0, λ o. h.1 (subst (λ (place : PlaceNets 6). InGroup (nets_of place) n) (sym c.place.ensures) (in_beat c.args.registers.now c.args.registers.now.valid.number c.requires.wait.numbers n o)))

@@ -2,7 +2,7 @@ use Rattle.std.proofs.Common.{◌+◌, not, ◌==◌, List, ◌∷◌, sym, subs
 use Rattle.netlist.specs.Nets.{NetValue}
 use Rattle.netlist.specs.Runs.{cycle_of}
 use Rattle.net_parts.specs.declared.places.PlaceNets.{PlaceNets}
-use Rattle.net_parts.specs.Laws.{net_lasts}
+use Rattle.net_parts.specs.Laws.{net_lasts, adds_grow, grows_fewer, grows_twice}
 use Rattle.net_parts.specs.PlaceRows.{IsRow, AreInRow, RowSteps, ArePlaceNets}
 use Rattle.net_parts.specs.RowLaws.{row_here, last_bit}
 use Rattle.stage_core.specs.Lasting.{beat_lasts}
@@ -58,3 +58,15 @@ returns-clause-sets c =
           (subst (λ (place : PlaceNets 6). RowSteps (cycle_of run n) (cycle_of run (n + 1)) c.args.row.now place (run.net n c.in_ok-bits.bits.comes.number == 1) c.args.ready) c.place.ensures
           (c.in_ok-set_places.ensures.steps run cycles r n lt))));
     }
+
+pub returns-in_err-bits-clause-grows : goal.returns-in_err-bits-clause-grows
+returns-in_err-bits-clause-grows c = grows_fewer _ _ _ _ (omega arith) (adds_grow _ _ _ c.queue_bits.ensures.adds)
+
+pub returns-in_err-bits-clause-waits : goal.returns-in_err-bits-clause-waits
+returns-in_err-bits-clause-waits c n apart w = c.queue_bits.ensures.adds.grows.waits n w
+
+pub returns-in_err-set_places-clause-grows : goal.returns-in_err-set_places-clause-grows
+returns-in_err-set_places-clause-grows c = grows_fewer _ _ _ _ (omega arith) (grows_twice _ _ _ _ _ (adds_grow _ _ _ c.queue_bits.ensures.adds) c.set_places.ensures.grows)
+
+pub returns-clause-grows : goal.returns-clause-grows
+returns-clause-grows c = grows_fewer _ _ _ _ (omega arith) (grows_twice _ _ _ _ _ (adds_grow _ _ _ c.queue_bits.ensures.adds) c.set_places.ensures.grows)

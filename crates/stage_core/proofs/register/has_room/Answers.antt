@@ -1,6 +1,6 @@
-use Rattle.std.proofs.Common.{◌≡◌, ◌==◌, not, ◌||◌}
+use Rattle.std.proofs.Common.{◌≡◌, ◌==◌, not, ◌||◌, arith}
 use Rattle.netlist.specs.Runs.{Always}
-use Rattle.net_parts.specs.Laws.{bit_fits, if_ok}
+use Rattle.net_parts.specs.Laws.{bit_fits, if_ok, adds_fewer, adds_twice, grows_once}
 use Rattle.net_parts.specs.Bits.{high_room}
 use Rattle.stage_core.proofs.register.has_room.Goals as goal
 
@@ -13,3 +13,9 @@ returns-clause-value c =
     high_room c.args.held.width (cycle.net c.args.held.number) (cycle.net c.in_ok-empty.empty.number) (cycle.net c.args.ready.number) (cycle.net room.number) c.requires.held.has_width
     (bit_fits _ _ c.requires.held cycle v0) (bit_fits _ _ c.requires.ready cycle v0) (c.in_ok-empty.ensures.value cycle v1).1 (value cycle v2).1))
     c.or.ensures.value
+
+pub returns-in_err-empty-clause-adds : goal.returns-in_err-empty-clause-adds
+returns-in_err-empty-clause-adds c = adds_fewer _ _ _ _ (omega arith) (grows_once _ _ c.not.ensures.extends c.not.ensures.grows)
+
+pub returns-clause-adds : goal.returns-clause-adds
+returns-clause-adds c = adds_fewer _ _ _ _ (omega arith) (adds_twice _ _ _ _ _ (grows_once _ _ c.not.ensures.extends c.not.ensures.grows) (grows_once _ _ c.or.ensures.extends c.or.ensures.grows))

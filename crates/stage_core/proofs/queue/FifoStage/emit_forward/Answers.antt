@@ -1,6 +1,6 @@
 use Rattle.std.proofs.Common.{List, refl, sym, subst, ap, ◌∙◌, lit<, arith}
 use Rattle.net_parts.specs.declared.places.PlaceNets.{PlaceNets}
-use Rattle.net_parts.specs.Laws.{extends_twice}
+use Rattle.net_parts.specs.Laws.{extends_twice, adds_grow, grows_fewer, grows_twice}
 use Rattle.net_parts.specs.Groups.{values_of}
 use Rattle.net_parts.specs.PlaceRows.{ArePlaceNets, HaveSameWidths, AreInRow, shown_first}
 use Rattle.net_parts.specs.RowLaws.{row_here, row_waits}
@@ -60,3 +60,21 @@ returns-clause-own_wait c n o = c.show_first.ensures.adds.grows.waits n (row_wai
 
 pub returns-clause-newly : goal.returns-clause-newly
 returns-clause-newly c n w = c.in_ok-places.ensures.newly n (c.show_first.ensures.adds.grows.no_more_wait n w)
+
+pub returns-in_err-places-clause-grows : goal.returns-in_err-places-clause-grows
+returns-in_err-places-clause-grows c = grows_fewer _ _ _ _ (omega arith) c.make_places.ensures.grows
+
+pub returns-in_err-to-clause-grows : goal.returns-in_err-to-clause-grows
+returns-in_err-to-clause-grows c = grows_fewer _ _ _ _ (omega arith) (grows_twice _ _ _ _ _ c.make_places.ensures.grows (adds_grow _ _ _ c.show_first.ensures.adds))
+
+pub returns-clause-grows : goal.returns-clause-grows
+returns-clause-grows c = grows_fewer _ _ _ _ (omega arith) (grows_twice _ _ _ _ _ c.make_places.ensures.grows (adds_grow _ _ _ c.show_first.ensures.adds))
+
+pub returns-in_err-places-clause-waits : goal.returns-in_err-places-clause-waits
+returns-in_err-places-clause-waits c n w = c.make_places.ensures.still_wait n w
+
+pub returns-in_err-to-clause-waits : goal.returns-in_err-to-clause-waits
+returns-in_err-to-clause-waits c n w = c.show_first.ensures.adds.grows.waits n (c.make_places.ensures.still_wait n w)
+
+pub returns-clause-waits : goal.returns-clause-waits
+returns-clause-waits c n w = c.show_first.ensures.adds.grows.waits n (c.make_places.ensures.still_wait n w)

@@ -1,6 +1,6 @@
 use Rattle.std.proofs.Common.{◌∙◌, arith}
 use Rattle.netlist.specs.Runs.{cycle_of}
-use Rattle.net_parts.specs.Laws.{net_lasts, extends_twice}
+use Rattle.net_parts.specs.Laws.{net_lasts, extends_twice, adds_grow, grows_fewer, grows_twice}
 use Rattle.stage_core.specs.Lasting.{beat_lasts, registers_last}
 use Rattle.stage_core.specs.BeatLaws.{widths_turned, widths_twice}
 use Rattle.stage_core.proofs.register.PipeRegStage.emit_backward.Goals as goal
@@ -44,3 +44,18 @@ pub returns-clause-no_more_wait : goal.returns-clause-no_more_wait
 returns-clause-no_more_wait c n w =
     let set = c.set_next_beat.ensures.no_more_wait n w in
     (c.has_room.ensures.adds.grows.no_more_wait n (c.mux_beat.ensures.adds.grows.no_more_wait n set.0), set.1)
+
+pub returns-in_err-room-clause-grows : goal.returns-in_err-room-clause-grows
+returns-in_err-room-clause-grows c = grows_fewer _ _ _ _ (omega arith) (adds_grow _ _ _ c.has_room.ensures.adds)
+
+pub returns-in_err-next-clause-grows : goal.returns-in_err-next-clause-grows
+returns-in_err-next-clause-grows c = grows_fewer _ _ _ _ (omega arith) (grows_twice _ _ _ _ _ (adds_grow _ _ _ c.has_room.ensures.adds) (adds_grow _ _ _ c.mux_beat.ensures.adds))
+
+pub returns-clause-grows : goal.returns-clause-grows
+returns-clause-grows c = grows_fewer _ _ _ _ (omega arith) (grows_twice _ _ _ _ _ (grows_twice _ _ _ _ _ (adds_grow _ _ _ c.has_room.ensures.adds) (adds_grow _ _ _ c.mux_beat.ensures.adds)) c.set_next_beat.ensures.grows)
+
+pub returns-in_err-room-clause-waits : goal.returns-in_err-room-clause-waits
+returns-in_err-room-clause-waits c n apart w = c.has_room.ensures.adds.grows.waits n w
+
+pub returns-in_err-next-clause-waits : goal.returns-in_err-next-clause-waits
+returns-in_err-next-clause-waits c n apart w = c.mux_beat.ensures.adds.grows.waits n (c.has_room.ensures.adds.grows.waits n w)
