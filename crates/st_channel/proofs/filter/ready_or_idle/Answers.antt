@@ -1,7 +1,7 @@
-use Rattle.std.proofs.Common.{◌≡◌, ◌==◌, not, ◌||◌, ◌∙◌, ap}
+use Rattle.std.proofs.Common.{◌≡◌, ◌==◌, not, ◌||◌, ◌∙◌, ap, arith}
 use Rattle.netlist.specs.Runs.{Always}
 use Rattle.net_parts.specs.Nets.{IsBit}
-use Rattle.net_parts.specs.Laws.{bit_fits, if_ok}
+use Rattle.net_parts.specs.Laws.{bit_fits, if_ok, adds_fewer, adds_twice, grows_once}
 use Rattle.net_parts.specs.Bits.{high_or, high_turned}
 use Rattle.st_channel.proofs.filter.ready_or_idle.Goals as goal
 
@@ -15,3 +15,9 @@ returns-clause-value c =
     high_or (cycle.net c.args.ready.number) (cycle.net c.in_ok-idle.idle.number) (cycle.net up.number) (bit_fits _ _ c.requires.ready cycle v0) (bit_fits _ _ idle cycle v1) (value cycle v2).1
     ∙ ap (λ t. (cycle.net c.args.ready.number == 1) || t) (high_turned c.args.shown.width (cycle.net c.args.shown.number) (cycle.net c.in_ok-idle.idle.number) c.requires.shown.has_width (bit_fits _ _ c.requires.shown cycle v0) (c.in_ok-idle.ensures.value cycle v1).1)))
     c.or.ensures.value
+
+pub returns-in_err-idle-clause-adds : goal.returns-in_err-idle-clause-adds
+returns-in_err-idle-clause-adds c = adds_fewer _ _ _ _ (omega arith) (grows_once _ _ c.not.ensures.extends c.not.ensures.grows)
+
+pub returns-clause-adds : goal.returns-clause-adds
+returns-clause-adds c = adds_fewer _ _ _ _ (omega arith) (adds_twice _ _ _ _ _ (grows_once _ _ c.not.ensures.extends c.not.ensures.grows) (grows_once _ _ c.or.ensures.extends c.or.ensures.grows))

@@ -1,4 +1,4 @@
-use Rattle.std.proofs.Common.{◌<◌, ◌^◌, refl, sym, subst, ap}
+use Rattle.std.proofs.Common.{◌<◌, ◌^◌, refl, sym, subst, ap, inl}
 use Rattle.stage_core.specs.declared.beat.BeatNets.{BeatNets}
 use Rattle.stage_core.specs.Beats.{AreBeatNets}
 use Rattle.stage_core.specs.Lasting.{beat_lasts}
@@ -29,3 +29,15 @@ returns-clause-made c = record {
   channel = λ cycle v. c.in_ok-channel.ensures.value cycle (c.shown.ensures.adds.grows.extends.valuations cycle v);
   valid = c.in_ok-valid.ensures.value;
 }
+
+pub returns-in_err-channel-clause-waits : goal.returns-in_err-channel-clause-waits
+returns-in_err-channel-clause-waits c n w = c.fit_bits.ensures.adds.grows.waits n w
+
+pub returns-in_err-valid-clause-waits : goal.returns-in_err-valid-clause-waits
+returns-in_err-valid-clause-waits c n w = c.shown.ensures.adds.grows.waits n (c.fit_bits.ensures.adds.grows.waits n w)
+
+pub returns-clause-waits : goal.returns-clause-waits
+returns-clause-waits c n w = c.shown.ensures.adds.grows.waits n (c.fit_bits.ensures.adds.grows.waits n w)
+
+pub returns-clause-newly : goal.returns-clause-newly
+returns-clause-newly c n w = inl (c.fit_bits.ensures.adds.grows.no_more_wait n (c.shown.ensures.adds.grows.no_more_wait n w))
