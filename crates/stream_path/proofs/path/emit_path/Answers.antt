@@ -102,3 +102,15 @@ returns-clause-serves c =
     (extends_none c.emit_dropped.new.builder)
     (λ some cycle v. c.in_ok-beat.ensures.value some cycle (c.emit_dropped.ensures.adds.grows.extends.valuations cycle v))
     (subst (λ (beat : BeatNets). ShowsUnreached source sink c.emit_dropped.new.builder beat c.in_ok-made.made.ready c.in_ok-dropped.dropped) c.beat_of-start.ensures c.in_ok-dropped.ensures.shows))
+
+pub returns-in_err-low-clause-grows : goal.returns-in_err-low-clause-grows
+returns-in_err-low-clause-grows c = grows_fewer _ _ _ _ (omega arith) (adds_grow _ _ _ c.level.ensures.adds)
+
+pub returns-in_err-low-clause-few : goal.returns-in_err-low-clause-few
+returns-in_err-low-clause-few c enough = grows_fewer _ _ _ _ (omega arith) (adds_grow _ _ _ c.level.ensures.adds)
+
+pub returns-in_err-high-clause-waits : goal.returns-in_err-high-clause-waits
+returns-in_err-high-clause-waits c n w = c.ready_or_high.ensures.adds.grows.waits n (c.level.ensures.adds.grows.waits n w)
+
+pub returns-in_err-made-clause-waits : goal.returns-in_err-made-clause-waits
+returns-in_err-made-clause-waits c n w = c.emit_stages.ensures.waits n (c.ready_or_high.ensures.adds.grows.waits n (c.level.ensures.adds.grows.waits n w))
