@@ -1,7 +1,7 @@
 use Rattle.std.proofs.Common.{◌≡◌, ◌+◌, ◌-◌, ◌/◌, ◌%◌, ◌^◌, ◌<◌, suc, subst, ap, ◌∙◌, arith}
 use Rattle.std.specs.Int.{bit_at}
 use Rattle.netlist.specs.Runs.{Always}
-use Rattle.net_parts.specs.Laws.{extends_twice, if_ok}
+use Rattle.net_parts.specs.Laws.{extends_twice, if_ok, adds_fewer, adds_twice, grows_once, net_lasts}
 use Rattle.net_parts.specs.Counts.{high_bits}
 use Rattle.net_parts.specs.Counts.{zeros_last}
 use Rattle.net_parts.proofs.counts.+count_high.Goals as goal
@@ -55,3 +55,15 @@ returns-clause-value t c =
     let all = value cycle v3 in
     omega (arith, highest, split, more, all)))
     c.count_high.ensures.value
+
+pub returns-in_err-highest-clause-adds : goal.returns-in_err-highest-clause-adds
+returns-in_err-highest-clause-adds t c = adds_fewer _ _ _ _ (omega arith) (grows_once _ _ c.slice.ensures.extends c.slice.ensures.grows)
+
+pub returns-in_err-more-clause-adds : goal.returns-in_err-more-clause-adds
+returns-in_err-more-clause-adds t c = adds_fewer _ _ _ _ (omega arith) (adds_twice _ _ _ _ _ (grows_once _ _ c.slice.ensures.extends c.slice.ensures.grows) c.add_bit.ensures.adds)
+
+pub returns-clause-adds : goal.returns-clause-adds
+returns-clause-adds t c = adds_fewer _ _ _ _ (omega arith) (adds_twice _ _ _ _ _ (adds_twice _ _ _ _ _ (grows_once _ _ c.slice.ensures.extends c.slice.ensures.grows) c.add_bit.ensures.adds) c.count_high.ensures.adds)
+
+pub add_bit-requires-clause-sum : goal.add_bit-requires-clause-sum
+add_bit-requires-clause-sum t c = net_lasts _ _ _ _ c.slice.ensures.extends c.requires.sum

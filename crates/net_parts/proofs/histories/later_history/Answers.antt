@@ -1,7 +1,7 @@
 use Rattle.std.proofs.Common.{◌≡◌, ◌+◌, ◌-◌, ◌*◌, ◌/◌, ◌%◌, ◌^◌, subst, ◌∙◌, arith}
 use Rattle.netlist.specs.Runs.{Always}
 use Rattle.net_parts.specs.Nets.{IsNetOfWidth}
-use Rattle.net_parts.specs.Laws.{if_ok}
+use Rattle.net_parts.specs.Laws.{if_ok, adds_fewer, adds_twice, grows_once}
 use Rattle.net_parts.specs.HistoryLaw.{kept_none, kept_some}
 use Rattle.net_parts.proofs.histories.later_history.Goals as goal
 
@@ -24,3 +24,9 @@ returns-clause-value c =
     kept_some (cycle.net c.args.history.number) (cycle.net c.in_ok-kept.kept.number) (cycle.net later.number) (cycle.net c.args.bit.number) c.args.history.width c.args.bit.width (omega arith) c.requires.bit.has_width
     (subst (λ n. cycle.net c.in_ok-kept.kept.number ≡ cycle.net c.args.history.number / 2 ^ 0 % 2 ^ (n - 2 - 0 + 1)) c.width-width.ensures.value (c.in_ok-kept.ensures.value cycle v1).1) (value cycle v2).1))
     c.concat.ensures.value
+
+pub returns-in_err-kept-clause-adds : goal.returns-in_err-kept-clause-adds
+returns-in_err-kept-clause-adds c = adds_fewer _ _ _ _ (omega arith) (grows_once _ _ c.slice.ensures.extends c.slice.ensures.grows)
+
+pub returns-clause-adds : goal.returns-clause-adds
+returns-clause-adds c = adds_fewer _ _ _ _ (omega arith) (adds_twice _ _ _ _ _ (grows_once _ _ c.slice.ensures.extends c.slice.ensures.grows) (grows_once _ _ c.concat.ensures.extends c.concat.ensures.grows))

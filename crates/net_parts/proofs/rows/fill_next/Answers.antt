@@ -2,7 +2,7 @@ use Rattle.std.proofs.Common.{◌≡◌, ◌&&◌, ◌==◌, List, sym, subst, a
 use Rattle.netlist.specs.Runs.{Always}
 use Rattle.net_parts.specs.declared.places.PlaceNets.{PlaceNets}
 use Rattle.net_parts.specs.Groups.{values_of}
-use Rattle.net_parts.specs.Laws.{bit_fits, if_ok}
+use Rattle.net_parts.specs.Laws.{bit_fits, if_ok, adds_fewer, adds_twice, grows_once}
 use Rattle.net_parts.specs.Bits.{high_and}
 use Rattle.net_parts.specs.Places.{first_or, filled, fill_row}
 use Rattle.net_parts.specs.PlaceRows.{IsRow, place_in, row_in}
@@ -26,3 +26,9 @@ returns-in_ok-here-in-Some-clause-value g c =
     ∙ ap (λ t. filled t (values_of cycle c.args.from.now.item) (place_in cycle c.in-Some.place.now)) here
     ∙ sym (ap (λ (row : List (PlaceNets g.row.N)). first_or (fill_row ((cycle.net c.args.comes.number == 1) && (cycle.net c.args.before.number == 1)) (cycle.net c.args.comes.number == 1) (values_of cycle c.args.from.now.item) (row_in cycle row)) (place_in cycle c.args.end.now)) c.in-Some.ensures.cases.0)))
     c.fill_place.ensures.value
+
+pub returns-in_err-here-in-Some-clause-adds : goal.returns-in_err-here-in-Some-clause-adds
+returns-in_err-here-in-Some-clause-adds g c = adds_fewer _ _ _ _ (omega arith) (grows_once _ _ c.and.ensures.extends c.and.ensures.grows)
+
+pub returns-in_ok-here-in-Some-clause-adds : goal.returns-in_ok-here-in-Some-clause-adds
+returns-in_ok-here-in-Some-clause-adds g c = adds_fewer _ _ _ _ (omega arith) (adds_twice _ _ _ _ _ (grows_once _ _ c.and.ensures.extends c.and.ensures.grows) c.fill_place.ensures.adds)
