@@ -26,7 +26,7 @@ items_front target shape acted (m ∷ xs) rest =
 pub items_prefix : (target : Target) (shape : Shape) (acted : Bool) {xs ys : List Marked} → IsPrefix xs ys → IsPrefix (items_from target shape acted xs) (items_from target shape acted ys)
 items_prefix target shape acted {xs} p = subst (λ l. IsPrefix (items_from target shape acted xs) (items_from target shape acted l)) p.joins (items_front target shape acted xs p.rest)
 
-total_sizes : (target : Target) (shape : Shape) (transfers : List Marked) → total (sizes target shape transfers) ≡ length (operations_among target shape transfers)
+pub total_sizes : (target : Target) (shape : Shape) (transfers : List Marked) → total (sizes target shape transfers) ≡ length (operations_among target shape transfers)
 total_sizes target shape [] = refl
 total_sizes target shape (m ∷ later) = ap (λ n. length (operations_in target shape m) + n) (total_sizes target shape later) ∙ sym (length-append (operations_in target shape m) _)
 
@@ -65,7 +65,7 @@ written true true false a b = cc
 written true false w a b = cc
 written false u w a b = absurd (no_true a)
 
-four_of : (a b c d : Bool) → IsTrue ((a || b || c) || d) → (IsTrue a → ⊥) → (IsTrue b → ⊥) → (IsTrue c → ⊥) → (IsTrue d → ⊥) → ⊥
+pub four_of : (a b c d : Bool) → IsTrue ((a || b || c) || d) → (IsTrue a → ⊥) → (IsTrue b → ⊥) → (IsTrue c → ⊥) → (IsTrue d → ⊥) → ⊥
 four_of true b c d h fa fb fc fd = fa refl
 four_of false true c d h fa fb fc fd = fb refl
 four_of false false true d h fa fb fc fd = fc refl
@@ -75,7 +75,7 @@ four_of false false false false h fa fb fc fd = no_true h
 never_less : (n : ℕ) → IsTrue (nat_lt n n) → ⊥
 never_less n h = let bad : n < n = grind (arith, tests) in omega (arith, bad)
 
-by_not : (b : Bool) → IsTrue (not b) → IsFalse b
+pub by_not : (b : Bool) → IsTrue (not b) → IsFalse b
 by_not true h = absurd (no_true h)
 by_not false h = refl
 

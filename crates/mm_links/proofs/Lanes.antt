@@ -15,16 +15,16 @@ use Rattle.mm_runs.specs.Operations.Operation.{Write, Read}
 use Rattle.mm_machines.specs.Link.{Target, bytes_in}
 use Rattle.mm_machines.specs.Machines.{MaySelect, LiesInOneWord, select_of}
 
-offset_of : Operation → ℕ
+pub offset_of : Operation → ℕ
 offset_of (Write offset byte) = offset
 offset_of (Read offset) = offset
 
-offsets_read : (from : ℕ) (lanes : List ℕ) → map offset_of (map (λ lane. Read ((from + lane) % 0)) lanes) ≡ map (λ lane. from + lane) lanes
+pub offsets_read : (from : ℕ) (lanes : List ℕ) → map offset_of (map (λ lane. Read ((from + lane) % 0)) lanes) ≡ map (λ lane. from + lane) lanes
 unfolding offset_of
 offsets_read from [] = refl
 offsets_read from (lane ∷ lanes) = ap₂ (λ x y. x ∷ y) (mod-zero (from + lane)) (offsets_read from lanes)
 
-none_added : (lanes : List ℕ) → map (λ lane. 0 + lane) lanes ≡ lanes
+pub none_added : (lanes : List ℕ) → map (λ lane. 0 + lane) lanes ≡ lanes
 none_added [] = refl
 none_added (lane ∷ lanes) = let same : 0 + lane ≡ lane = omega arith in ap₂ (λ x y. x ∷ y) same (none_added lanes)
 
@@ -71,7 +71,7 @@ abbrev pub AllBelow : ℕ → List ℕ → Type 0
 AllBelow n [] = Unit {0}
 AllBelow n (x ∷ xs) = (x < n) × AllBelow n xs
 
-numbers_below : (test : ℕ → Bool) (n from count : ℕ) → from + count ≤ n → AllBelow n (filter test (numbers from count))
+pub numbers_below : (test : ℕ → Bool) (n from count : ℕ) → from + count ≤ n → AllBelow n (filter test (numbers from count))
 numbers_below test n from zero h = tt
 numbers_below test n from (suc count) h = by_test (test from) (numbers_below test n (suc from) count (omega arith))
   where
@@ -88,11 +88,11 @@ narrow_lanes narrow target words smaller has enables =
     let none = zero-mul narrow.word_bytes in
     ap (λ n. flat_map (filled_of_piece narrow target enables) (numbers 0 n)) one ∙ append-nil _ ∙ rw (has, least, none) refl
 
-same_where : {A : Type 0} (n : ℕ) (f g : ℕ → A) → ((x : ℕ) → x < n → f x ≡ g x) → (xs : List ℕ) → AllBelow n xs → map f xs ≡ map g xs
+pub same_where : {A : Type 0} (n : ℕ) (f g : ℕ → A) → ((x : ℕ) → x < n → f x ≡ g x) → (xs : List ℕ) → AllBelow n xs → map f xs ≡ map g xs
 same_where n f g same [] below = refl
 same_where n f g same (x ∷ xs) below = ap₂ (λ a b. a ∷ b) (same x below.0) (same_where n f g same xs below.1)
 
-map_twice : {A : Type 0} (f : ℕ → A) (g : ℕ → ℕ) (xs : List ℕ) → map f (map g xs) ≡ map (λ x. f (g x)) xs
+pub map_twice : {A : Type 0} (f : ℕ → A) (g : ℕ → ℕ) (xs : List ℕ) → map f (map g xs) ≡ map (λ x. f (g x)) xs
 map_twice f g [] = refl
 map_twice f g (x ∷ xs) = ap (λ l. f (g x) ∷ l) (map_twice f g xs)
 

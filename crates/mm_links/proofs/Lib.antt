@@ -12,3 +12,11 @@ pub mod Selecting
 pub mod Splitting
 pub mod DrivenRuns
 pub mod SplitTags
+pub mod Gather
+pub mod OneBeat
+pub mod Groups
+pub mod SplitParts
+pub mod SplitWords
+pub mod SplitShown
+pub mod SplitJoins
+pub mod SplitLink

@@ -1,5 +1,5 @@
 -- A lane selector keeps all that a link promises.
-use Rattle.std.proofs.Common.{ℕ, zero, suc, ◌<◌, ◌≤◌, ◌≡◌, ◌+◌, ◌-◌, ◌*◌, ◌/◌, ◌%◌, ◌^◌, Bool, true, false, not, ◌&&◌, ◌||◌, List, [], ◌∷◌, ◌++◌, if◌then◌else◌, arith, refl, sym, ap, ap₂, subst, ◌∙◌, length, filter, flat_map, zip, drop, take, min, nat_lt, IsTrue, IsFalse, append-nil, length-append, le_refl, zero-mul, mul-one, lt-ltb, ltb-false, MatchOption, slice_get, length-drop, mul-le-mul_right, one-mul, le_of_lt}
+use Rattle.std.proofs.Common.{ℕ, zero, suc, ◌<◌, ◌≤◌, ◌≡◌, ◌+◌, ◌-◌, ◌*◌, ◌/◌, ◌%◌, ◌^◌, Bool, true, false, not, ◌&&◌, ◌||◌, List, [], ◌∷◌, ◌++◌, if◌then◌else◌, arith, refl, sym, ap, ap₂, subst, ◌∙◌, length, flat_map, zip, drop, take, min, nat_lt, IsTrue, append-nil, length-append, le_refl, zero-mul, mul-one, lt-ltb, ltb-false, MatchOption, slice_get, length-drop, mul-le-mul_right, one-mul, le_of_lt}
 use Rattle.std.specs.List.{list_all}
 use Rattle.std.proofs.lemmas.Bool.{and_parts, not-true, ltb-true, or_left}
 use Rattle.std.proofs.lemmas.List.{drop-append-le, drop-drop}
@@ -9,13 +9,11 @@ use Rattle.histories.specs.Laws.{prefix_refl, prefix_length, prefix_flat_map, pr
 use Rattle.mm_runs.specs.Views.{Shape, Levels, levels_at}
 use Rattle.mm_runs.specs.Views.{Kind}
 use Rattle.mm_runs.specs.Views.Kind.{Reads, Writes}
-use Rattle.std.proofs.lemmas.List.Elements.{filter-append}
-use Rattle.std.proofs.lemmas.Grind.{flat_map-append}
 use Rattle.mm_runs.specs.Laws.{same_pieces}
 use Rattle.mm_runs.specs.Legal.{Word}
 use Rattle.mm_runs.specs.Order.{HoldsAnswers}
 use Rattle.mm_runs.specs.Operations.{Beat, operations_of, filled_lanes, pieces}
-use Rattle.mm_runs.specs.Commands.{Burst, Transfer, shows, is_held, is_of_reads, burst_before, write_transfer, read_transfer, byte_address, words_before, burst_after, next_burst}
+use Rattle.mm_runs.specs.Commands.{Transfer, shows, is_held, is_of_reads, burst_before, byte_address, words_before}
 use Rattle.mm_machines.specs.Link.{Target, Port, Marked, KeepsLinkLaw, AreLegalAt, AnswersAreOwed, takes, marked_at, taken_at, shown_at, read_beats, words_at, words_owed, answers_at, bytes_in, beat_operations, is_nonempty, reads_of, HasGreatestCode, IsAnswered}
 use Rattle.mm_machines.specs.Blocks.{block, blocks_at, worded}
 use Rattle.mm_machines.specs.Lines.{KeepsRow, IsWordForWord, HandsOn}
@@ -29,26 +27,8 @@ use Rattle.mm_links.proofs.HandOn.{hands_on_shown}
 use Rattle.mm_links.specs.Selects.{RunsAsSelect, IsSelectPlan, EnablesFit, select_form, selected, silenced, offset_in, takes_read, is_shut, first_of}
 use Rattle.mm_links.proofs.Alike.{IsAlike}
 use Rattle.mm_links.proofs.Gated.{gate_carries, gate_joins, gate_lanes, gate_quiet, gate_goes_on, owed_counts, word_counts}
+use Rattle.mm_links.proofs.OneBeat.{beat_by, transfer_by, one_transfer, reads_in, reads_of_one, reads_append, kept_left, free_before, count_is_one}
 use Rattle.mm_links.proofs.Lanes.{SelectsBeats, cut, bytes_moved, lanes_count, lies_within}
-
--- ---- transfers of one beat
-
-abbrev beat_by : Kind → ℕ → ℕ → ℕ → Beat
-beat_by kind address word enables = record { kind = kind; address = address; word = word; enables = enables }
-
-abbrev transfer_by : Shape → Levels → Bool → Transfer
-transfer_by shape levels w = record {
-  kind = if w then Writes else Reads;
-  first = byte_address shape levels.address;
-  begins = true;
-  ends = true;
-  beats = beat_by (if w then Writes else Reads) (byte_address shape levels.address + 0 * shape.word_bytes) (if w then levels.word else 0) levels.enables ∷ [];
-}
-
-pub one_transfer : (shape : Shape) (levels : Levels) (burst : Burst) → burst.left ≡ 0 → levels.count ≡ 1 → (w : Bool) →
-    (if w then write_transfer shape levels burst else read_transfer shape levels) ≡ transfer_by shape levels w
-one_transfer shape levels burst none one true = ap₂ (λ l n. write_transfer shape (record levels { count = n }) (record { left = l; done = burst.done; first = burst.first })) none one
-one_transfer shape levels burst none one false = ap (λ n. read_transfer shape (record levels { count = n })) one
 
 abbrev word_by : ℕ → ℕ → Word
 word_by word code = record { word = word; code = code }
@@ -63,20 +43,6 @@ aligned x bytes =
 
 beat_is : (kind : Kind) (a b w v e f : ℕ) → a ≡ b → w ≡ v → e ≡ f → beat_by kind a w e ≡ beat_by kind b v f
 beat_is kind a b w v e f p q r = ap₂ (λ x y. beat_by kind x y e) p q ∙ ap (beat_by kind b v) r
-
--- the read beats of one transfer
-abbrev reads_in : Transfer → List Beat
-reads_in t = if is_of_reads t.kind then t.beats ++ [] else []
-
-reads_of_one : (m : Marked) → read_beats (m ∷ []) ≡ reads_in m.transfer
-reads_of_one m = by_kind (is_of_reads m.transfer.kind)
-  where
-    by_kind : (b : Bool) → flat_map (λ (m : Marked). m.transfer.beats) (if b then m ∷ [] else []) ≡ (if b then m.transfer.beats ++ [] else [])
-    by_kind true = refl
-    by_kind false = refl
-
-reads_append : (xs ys : List Marked) → read_beats (xs ++ ys) ≡ read_beats xs ++ read_beats ys
-reads_append xs ys = ap (flat_map (λ (m : Marked). m.transfer.beats)) (filter-append (λ (m : Marked). is_of_reads m.transfer.kind) xs ys) ∙ flat_map-append (λ (m : Marked). m.transfer.beats) (filter (λ (m : Marked). is_of_reads m.transfer.kind) xs) (filter (λ (m : Marked). is_of_reads m.transfer.kind) ys)
 
 -- ---- words that are cut out of others
 
@@ -210,39 +176,13 @@ module _ (law : SelectsBeats) (target : Target) (up down : Port) (many room : �
   count_below : (c : ℕ) → down.commands.count c ≡ 1
   count_below c = ap (λ (l : Levels). l.count) (run.levels c)
 
-  kept_left : (a : Bool) (shape : Shape) (levels : Levels) (burst : Burst) → burst.left ≡ 0 → (a ≡ true → levels.count ≡ 1) → (burst_after shape levels a burst).left ≡ 0
-  kept_left a shape levels burst none one = by_test (a && is_raised levels.write) refl
-    where
-      by_test : (b : Bool) → a && is_raised levels.write ≡ b → (if b then next_burst shape levels burst else burst).left ≡ 0
-      by_test false e = none
-      by_test true e = let single = one (and_parts a (is_raised levels.write) e).0 in rw (none, single) refl
-
   free_below : (c : ℕ) → (burst_before down.shape down.commands.signals (takes down) c).left ≡ 0
   free_below zero = refl
   free_below (suc c) = kept_left (takes down c) down.shape (levels_at down.commands.signals c) (burst_before down.shape down.commands.signals (takes down) c) (free_below c) (λ t. count_below c)
 
   module _ (end : ℕ) (fit : EnablesFit up end) (legal : AreLegalAt up end) where
-    beat_fits : (c : ℕ) → c < end → shows up.commands.signals c ≡ true → (burst_before up.shape up.commands.signals (takes up) c).left ≡ 0 → up.commands.count c ≡ 1
-    beat_fits c h shown free =
-        let fits = fit_when_shown up end c legal h shown in
-        let none : IsFalse (nat_lt 0 (burst_before up.shape up.commands.signals (takes up) c).left) = rw free refl in
-        let most : up.commands.count c ≤ 2 ^ (up.shape.burst_bits - 1) = fits.most none in
-        let least = fits.least none in
-        let single : 2 ^ (up.shape.burst_bits - 1) ≡ 1 = ap (λ n. 2 ^ (n - 1)) plan.one_beat in
-        omega (arith, most, least, single)
-
-    free_above : (c : ℕ) → c ≤ end → (burst_before up.shape up.commands.signals (takes up) c).left ≡ 0
-    free_above zero h = refl
-    free_above (suc c) h =
-        let earlier = free_above c (omega arith) in
-        kept_left (takes up c) up.shape (levels_at up.commands.signals c) (burst_before up.shape up.commands.signals (takes up) c) earlier
-        (λ t. beat_fits c (omega arith) (and_parts (shows up.commands.signals c) (not (is_raised (up.commands.waitrequest c))) t).0 earlier)
-
-    count_above : (c : ℕ) → c < end → shows up.commands.signals c ≡ true → up.commands.count c ≡ 1
-    count_above c h shown = beat_fits c h shown (free_above c (omega (arith, h)))
-
     above_is : (c : ℕ) → c < end → shows up.commands.signals c ≡ true → (marked_at up c).transfer ≡ transfer_by up.shape (levels_at up.commands.signals c) (is_raised (up.commands.write c))
-    above_is c h shown = one_transfer up.shape (levels_at up.commands.signals c) (burst_before up.shape up.commands.signals (takes up) c) (free_above c (omega (arith, h))) (count_above c h shown) (is_raised (up.commands.write c))
+    above_is c h shown = one_transfer up.shape (levels_at up.commands.signals c) (burst_before up.shape up.commands.signals (takes up) c) (free_before up end plan.one_beat legal c (omega (arith, h))) (count_is_one up end plan.one_beat legal c h shown) (is_raised (up.commands.write c))
 
     below_is : (c : ℕ) → (marked_at down c).transfer ≡ transfer_by down.shape (levels_at down.commands.signals c) (is_raised (up.commands.write c))
     below_is c =

@@ -35,10 +35,11 @@ abbrev AllOfKind : Kind → List Beat → Type 0
 AllOfKind kind [] = Unit {0}
 AllOfKind kind (b ∷ beats) = (b.kind ≡ kind) × AllOfKind kind beats
 
-record Bears (mark : ℕ) (kind : Kind) (raw : Raw) : Type 0 where
+pub record Bears (mark : ℕ) (kind : Kind) (raw : Raw) : Type 0 where
   pub tag : raw.tag ≡ mark
   pub reads : is_raised raw.levels.read ≡ is_of_reads kind
   pub writes : is_raised raw.levels.write ≡ not (is_of_reads kind)
+  pub count : raw.levels.count ≡ 1
 
 abbrev AllBear : ℕ → Kind → List Raw → Type 0
 AllBear tag kind [] = Unit {0}
@@ -49,6 +50,7 @@ one_bears tag more kind beat e = record {
   tag = refl;
   reads = ap (λ k. is_raised (if is_of_reads k then 1 else 0)) e ∙ high (is_of_reads kind);
   writes = ap (λ k. is_raised (if is_of_reads k then 0 else 1)) e ∙ low (is_of_reads kind);
+  count = refl;
 }
   where
     high : (b : Bool) → is_raised (if b then 1 else 0) ≡ b
@@ -91,6 +93,10 @@ module _ (room : ℕ) (up down : Port) (state : SplitState) (run : RunsAsSplit r
       joined_bear raw.tag raw.more beat.kind (or_first down.shape (not (is_raised raw.more) || not (is_raised raw.levels.write)) beat (touched up.shape down.shape beat))
       (chosen_alike up down (not (is_raised raw.more) || not (is_raised raw.levels.write)) beat (touched up.shape down.shape beat) (pieces_alike down.shape.word_bytes beat _))
 
+  -- what is shown below is a part of what stands above
+  pub bears_shown : (c : ℕ) → shows down.commands.signals c ≡ true → Bears (up.commands.tag c) (if is_raised (up.commands.write c) then Writes else Reads) (raw_at down c)
+  bears_shown c shown = bears_at (up.commands.tag c) (if is_raised (up.commands.write c) then Writes else Reads) (split_at up down c) (state.place c) (raw_at down c) (all_bear c) (run.part c shown)
+
   one_kind : (r w : Bool) → (r || w) ≡ true → IsTrue (not (r && w)) → (r ≡ is_of_reads (if w then Writes else Reads)) × (w ≡ not (is_of_reads (if w then Writes else Reads)))
   one_kind true true shown one = cc
   one_kind true false shown one = (refl, refl)
@@ -104,5 +110,5 @@ module _ (room : ℕ) (up down : Port) (state : SplitState) (run : RunsAsSplit r
       from c low shown =
           let above = (and_parts (shows up.commands.signals c) (opens room up down state c) (and_parts (shows up.commands.signals c && opens room up down state c) _ (sym (run.shown c) ∙ shown)).0).0 in
           let kinds = one_kind (is_raised (up.commands.read c)) (is_raised (up.commands.write c)) above (legal.legal.one_kind c low) in
-          let bears = bears_at (up.commands.tag c) (if is_raised (up.commands.write c) then Writes else Reads) (split_at up down c) (state.place c) (raw_at down c) (all_bear c) (run.part c shown) in
+          let bears = bears_shown c shown in
           record { by_then = le_refl c; shown = above; tag = bears.tag; reads = bears.reads ∙ sym kinds.0; writes = bears.writes ∙ sym kinds.1 }

@@ -10,7 +10,7 @@ use Rattle.mm_machines.specs.Machines.{Raw, raw_at, parts_sent, IsExpanderRun, s
 use Rattle.mm_links.specs.Selects.{takes_read}
 use Rattle.mm_links.specs.Splits.{SplitState, RunsAsSplit, opens, split_at, split_rest, asked_at, are_same, pieces_asked}
 
-take_next : {A : Type 0} (xs : List A) (n : ℕ) (x : A) → slice_get xs n ≡ Some x → take n xs ++ x ∷ [] ≡ take (suc n) xs
+pub take_next : {A : Type 0} (xs : List A) (n : ℕ) (x : A) → slice_get xs n ≡ Some x → take n xs ++ x ∷ [] ≡ take (suc n) xs
 take_next [] n x h = cc
 take_next (y ∷ ys) zero x h = let same : y ≡ x = cc in ap (λ z. z ∷ []) (sym same)
 take_next (y ∷ ys) (suc n) x h = ap (λ l. y ∷ l) (take_next ys n x h)
@@ -20,32 +20,32 @@ split_there [] n x h = cc
 split_there (y ∷ ys) zero x h = let same : y ≡ x = cc in ap (λ z. z ∷ ys) same
 split_there (y ∷ ys) (suc n) x h = ap (λ l. y ∷ l) (split_there ys n x h)
 
-take_all : {A : Type 0} (xs : List A) (n : ℕ) → n ≡ length xs → take n xs ≡ xs
+pub take_all : {A : Type 0} (xs : List A) (n : ℕ) → n ≡ length xs → take n xs ≡ xs
 take_all [] zero h = refl
 take_all [] (suc n) h = refl
 take_all (x ∷ xs) zero h = absurd (omega arith)
 take_all (x ∷ xs) (suc n) h = ap (λ l. x ∷ l) (take_all xs n (omega arith))
 
-same_true : (n m : ℕ) → nat_eq n m ≡ true → n ≡ m
+pub same_true : (n m : ℕ) → nat_eq n m ≡ true → n ≡ m
 same_true n m h = grind (arith, tests)
 
-no_parts : {A : Type 0} (xs : List A) → nat_eq (length xs) 0 ≡ true → xs ≡ []
+pub no_parts : {A : Type 0} (xs : List A) → nat_eq (length xs) 0 ≡ true → xs ≡ []
 no_parts [] h = refl
 no_parts (x ∷ xs) h = let none_there = same_true (suc (length xs)) 0 h in absurd (omega (arith, none_there))
 
-either_of : (a b : Bool) {R : Type 0} → (a || b) ≡ true → (a ≡ true → R) → (b ≡ true → R) → R
+pub either_of : (a b : Bool) {R : Type 0} → (a || b) ≡ true → (a ≡ true → R) → (b ≡ true → R) → R
 either_of true b h f g = f refl
 either_of false b h f g = g h
 
 module _ (room : ℕ) (up down : Port) (state : SplitState) (run : RunsAsSplit room up down state) (end : ℕ) (legal : AreLegalAt up end) where
-  shown_above : (c : ℕ) → shows down.commands.signals c ≡ true → (shows up.commands.signals c ≡ true) × (opens room up down state c ≡ true)
+  pub shown_above : (c : ℕ) → shows down.commands.signals c ≡ true → (shows up.commands.signals c ≡ true) × (opens room up down state c ≡ true)
   shown_above c shown = and_parts (shows up.commands.signals c) (opens room up down state c) (and_parts (shows up.commands.signals c && opens room up down state c) _ (sym (run.shown c) ∙ shown)).0
 
-  shown_taken : (c : ℕ) → takes down c ≡ true → shows down.commands.signals c ≡ true
+  pub shown_taken : (c : ℕ) → takes down c ≡ true → shows down.commands.signals c ≡ true
   shown_taken c t = accepts_shows down.commands.signals down.commands.waitrequest c t
 
   -- a beat that stands above is the same in the next cycle
-  same_raw : (c : ℕ) → suc c < end → shows up.commands.signals c ≡ true → takes up c ≡ false → (raw_at up c ≡ raw_at up (suc c)) × (shows up.commands.signals (suc c) ≡ true)
+  pub same_raw : (c : ℕ) → suc c < end → shows up.commands.signals c ≡ true → takes up c ≡ false → (raw_at up c ≡ raw_at up (suc c)) × (shows up.commands.signals (suc c) ≡ true)
   same_raw c h shown waits =
       let stands : is_held up.commands.signals (takes up) c ≡ true = ap₂ (λ s t. s && not t) shown waits in
       let levels = legal.legal.held c h stands in (
@@ -55,13 +55,13 @@ module _ (room : ℕ) (up down : Port) (state : SplitState) (run : RunsAsSplit r
       )
 
   -- what has gone is as much of the parts as the register says
-  abbrev Stands : ℕ → Type 0
+  abbrev pub Stands : ℕ → Type 0
   Stands c = (shows up.commands.signals c ≡ true → parts_sent up down c ≡ take (state.place c) (split_at up down c)) × (shows up.commands.signals c ≡ false → (parts_sent up down c ≡ []) × (state.place c ≡ 0))
 
   begins_anew : (c : ℕ) → parts_sent up down c ≡ [] → state.place c ≡ 0 → Stands c
   begins_anew c none_sent first = (λ shown. none_sent ∙ ap (λ n. take n (split_at up down c)) (sym first), λ quiet. (none_sent, first))
 
-  stands : (c : ℕ) → c < end → Stands c
+  pub stands : (c : ℕ) → c < end → Stands c
   stands zero h = begins_anew 0 refl run.place_begins
   stands (suc c) h = by_taken (stands c (omega arith)) (takes up c) refl (shows up.commands.signals c) refl (takes down c) refl
     where
@@ -92,12 +92,12 @@ module _ (room : ℕ) (up down : Port) (state : SplitState) (run : RunsAsSplit r
           grown true taken e = ap (λ l. l ++ raw_at down c ∷ []) e ∙ take_next (split_at up down c) (state.place c) (raw_at down c) (run.part c (shown_taken c taken))
           grown false taken e = append-nil (parts_sent up down c) ∙ e
 
-  part_there : (c : ℕ) → c < end → shows down.commands.signals c ≡ true → split_at up down c ≡ parts_sent up down c ++ raw_at down c ∷ split_rest up down state c
+  pub part_there : (c : ℕ) → c < end → shows down.commands.signals c ≡ true → split_at up down c ≡ parts_sent up down c ++ raw_at down c ∷ split_rest up down state c
   part_there c h shown =
       split_there (split_at up down c) (state.place c) (raw_at down c) (run.part c shown)
       ∙ ap (λ l. l ++ raw_at down c ∷ split_rest up down state c) (sym ((stands c h).0 (shown_above c shown).0))
 
-  accepted_whole : (c : ℕ) → c < end → takes up c ≡ true → parts_sent up down c ++ only_if (takes down c) (raw_at down c) ≡ split_at up down c
+  pub accepted_whole : (c : ℕ) → c < end → takes up c ≡ true → parts_sent up down c ++ only_if (takes down c) (raw_at down c) ≡ split_at up down c
   accepted_whole c h t =
       let parts = and_parts (shows up.commands.signals c && opens room up down state c) _ (sym (run.accepts c) ∙ t) in
       let above = (and_parts (shows up.commands.signals c) (opens room up down state c) parts.0).0 in
@@ -120,7 +120,7 @@ module _ (room : ℕ) (up down : Port) (state : SplitState) (run : RunsAsSplit r
           ∙ take_next (split_at up down c) (state.place c) (raw_at down c) (run.part c (shown_taken c last.0))
           ∙ take_all (split_at up down c) (suc (state.place c)) (same_true (suc (state.place c)) (length (split_at up down c)) last.1)
 
-  waits_there : (c : ℕ) → is_held down.commands.signals (takes down) c ≡ true → takes up c ≡ false
+  pub waits_there : (c : ℕ) → is_held down.commands.signals (takes down) c ≡ true → takes up c ≡ false
   waits_there c held = by_taken (takes up c) refl
     where
       shown : shows down.commands.signals c ≡ true

@@ -64,6 +64,19 @@ one_more_word port c = by_valid (is_raised (port.answers.valid c))
     by_valid true = length-append (words_at port c) (record { word = port.answers.word c; code = port.answers.code c } ∷ [])
     by_valid false = let same = ap length (append-nil (words_at port c)) in omega (arith, same)
 
+-- the rank of what is owed doesn't rise while nothing is taken
+pub still_rank : (port : Port) (c : ℕ) → IsFalse (takes port c) → owing_rank port (suc c) ≤ owing_rank port c
+still_rank port c none = by_tests (nat_lt (length (words_at port (suc c))) (words_owed port (suc c))) refl
+  where
+    by_tests : (b : Bool) → nat_lt (length (words_at port (suc c))) (words_owed port (suc c)) ≡ b → one_if b ≤ owing_rank port c
+    by_tests false e = omega arith
+    by_tests true e =
+        let less = ltb-true (length (words_at port (suc c))) (words_owed port (suc c)) e in
+        let same = ap (λ l. length (read_beats l)) (none_taken port c none) in
+        let grow = one_more_word port c in
+        let before = lt-ltb (length (words_at port c)) (words_owed port c) (omega (arith, less, same, grow)) in
+        rw before (omega arith)
+
 -- ---- what waits behind the beats that are taken below
 
 behind_length : (ended : Bool) (xs : List Accepted) → behind ended xs ≤ length xs
@@ -331,19 +344,6 @@ module _ (laws : StageLaws) (depth : ℕ) (shape : Shape) (uc dc : CommandView) 
             let grow = one_more_word down c ∙ ap (λ v. length (words_at down c) + (if v then 1 else 0)) ev in
             absurd (omega (arith, same, less, all, shift, grow))
 
-    -- the rank doesn't rise while nothing is taken below
-    still_rank : (c : ℕ) → IsFalse (takes down c) → owing_rank down (suc c) ≤ owing_rank down c
-    still_rank c none = by_tests (nat_lt (length (words_at down (suc c))) (words_owed down (suc c))) refl
-      where
-        by_tests : (b : Bool) → nat_lt (length (words_at down (suc c))) (words_owed down (suc c)) ≡ b → one_if b ≤ owing_rank down c
-        by_tests false e = omega arith
-        by_tests true e =
-            let less = ltb-true (length (words_at down (suc c))) (words_owed down (suc c)) e in
-            let same = ap (λ l. length (read_beats l)) (none_taken down c none) in
-            let grow = one_more_word down c in
-            let before = lt-ltb (length (words_at down c)) (words_owed down c) (omega (arith, less, same, grow)) in
-            rw before (omega arith)
-
     pub stage_goes_on : GoesOn target (record { largest = 1; hold = depth }) up down end
     stage_goes_on = record {
       rank = owing_rank down;
@@ -355,7 +355,7 @@ module _ (laws : StageLaws) (depth : ℕ) (shape : Shape) (uc dc : CommandView) 
           falls = λ c h w m e. two_of (has_commands target up down c) (is_held dc.signals (takes down) c) w
               (λ commands. falls_commands.falls c h commands m e)
               (λ held. absurd (both_ways (is_excused up down c) (by_not (is_excused up down c) e) (or_left _ _ (or_left _ _ held))));
-          stays = λ c h w m. still_rank c (not_or (takes down c) (takes up c) m);
+          stays = λ c h w m. still_rank down c (not_or (takes down c) (takes up c) m);
         };
         words = words;
       };

@@ -5,9 +5,10 @@ use Rattle.mm_runs.specs.Views.{Shape, levels_at}
 use Rattle.mm_runs.specs.Operations.{Beat, pieces}
 use Rattle.mm_runs.specs.Commands.{shows}
 use Rattle.mm_runs.specs.Legal.{Word}
-use Rattle.mm_machines.specs.Link.{Port, takes}
+use Rattle.mm_machines.specs.Link.{Target, Port, takes}
 use Rattle.mm_machines.specs.Machines.{Raw, raw_at, parts_at, split_parts, beat_of, piece_of, is_touched}
 use Rattle.mm_links.specs.Selects.{takes_read, first_of}
+use Rattle.mm_links.specs.Links.{LinkForm}
 
 abbrev pub or_first_piece : List ℕ → List ℕ
 or_first_piece [] = 0 ∷ []
@@ -83,3 +84,7 @@ pub record RunsAsSplit (room : ℕ) (up down : Port) (state : SplitState) : Type
 -- the parts behind the one that is shown
 abbrev pub split_rest : Port → Port → SplitState → ℕ → List Raw
 split_rest up down state c = drop (suc (state.place c)) (split_at up down c)
+
+-- it holds nothing. Its rank is 1 while a word is owed below, and its words are gathered, so not word for word
+abbrev pub split_form : Target → LinkForm
+split_form target = record { target = target; hold = 0; paces = record { largest = 1; hold = 0 } ∷ []; word_for_word = false; makes_lanes = false }

@@ -7,7 +7,7 @@ ghost use Rattle.mm_machines.specs.PartRanks.{HoldsBack};
 ghost use Rattle.mm_machines.specs.Machines.{IsExpanderRun, MaySplit, split_parts, parts_sent};
 ghost use Rattle.mm_links.specs.Links.{IsLink, IsStraightLink};
 ghost use Rattle.mm_links.specs.Selects.{RunsAsSelect, IsSelectPlan, EnablesFit, select_form};
-ghost use Rattle.mm_links.specs.Splits.{SplitState, RunsAsSplit, split_rest};
+ghost use Rattle.mm_links.specs.Splits.{SplitState, RunsAsSplit, split_rest, split_form};
 
 /// A lane selector keeps all that a link promises, where at least two reads may be under way in it.
 pub fn select_is_a_link()
@@ -44,4 +44,14 @@ pub fn split_carries_commands()
         → HandsOn up down end }
 {
     mm_machines::machines::split_carries()
+}
+
+/// A splitter keeps all that a link promises: each word above is gathered from the words of its pieces, with the greatest of their codes,
+/// and its rank is 1 while a word is owed below.
+pub fn split_is_a_link()
+    ensures { (target : Target) (room count : ℕ) (up down : Port) (state : SplitState) (end : ℕ) → MaySplit target up.shape down.shape count
+        → 0 < room → RunsAsSplit room up down state → IsLink (split_form target) up down end }
+{
+    mm_machines::machines::split_carries();
+    mm_machines::machines::beat_is_pieces()
 }
