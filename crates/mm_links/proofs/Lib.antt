@@ -20,3 +20,4 @@ pub mod SplitWords
 pub mod SplitShown
 pub mod SplitJoins
 pub mod SplitLink
+pub mod SplitPrompt

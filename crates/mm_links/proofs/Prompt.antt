@@ -18,7 +18,7 @@ some_of [] test f rest h = cc
 some_of (lane ∷ later) test f rest h = omega arith
 
 -- a transfer with a lane in its first word has an operation
-some_operation : (target : Target) (up down : Shape) (m : Marked) → IsTrue (has_first_lane target up down m) → 0 < length (operations_in target up m)
+pub some_operation : (target : Target) (up down : Shape) (m : Marked) → IsTrue (has_first_lane target up down m) → 0 < length (operations_in target up m)
 some_operation target up down m h = by_beats m.transfer.beats h
   where
     first : (a : Bool) → IsTrue (a || false) → IsTrue a
@@ -31,7 +31,7 @@ some_operation target up down m h = by_beats m.transfer.beats h
     by_beats (b ∷ later) h = some_of (filled_lanes up target.shape b.enables) (λ lane. nat_lt lane (piece_bytes up down)) (operation_at target.span b) (flat_map (beat_operations target up) later) (first _ h)
 
 -- the transfers before one in a list, and that one, have no more operations than the list
-within : (target : Target) (shape : Shape) (ts : List Marked) (number : ℕ) (m : Marked) → slice_get ts number ≡ Some m →
+pub within : (target : Target) (shape : Shape) (ts : List Marked) (number : ℕ) (m : Marked) → slice_get ts number ≡ Some m →
     length (operations_among target shape (take number ts)) + length (operations_in target shape m) ≤ length (operations_among target shape ts)
 within target shape [] number m got = cc
 within target shape (t ∷ ts) zero m got =
@@ -46,7 +46,7 @@ within target shape (t ∷ ts) (suc number) m got =
     omega (arith, rest, front, all)
 
 -- a beat that is shown after one was accepted was shown first after it
-shown_later : (shown accepts : ℕ → Bool) (item : ℕ → Marked) (c d : ℕ) → accepts c ≡ true → c < d → shown d ≡ true →
+pub shown_later : (shown accepts : ℕ → Bool) (item : ℕ → Marked) (c d : ℕ) → accepts c ≡ true → c < d → shown d ≡ true →
     length (first_shown shown accepts item (suc c)) < length (first_shown shown accepts item (suc d))
 shown_later shown accepts item c zero taken later here = absurd (omega arith)
 shown_later shown accepts item c (suc d) taken later here = by_test (stands_on shown accepts d) refl (λ less there. shown_later shown accepts item c d taken less there)
@@ -75,19 +75,27 @@ shown_later shown accepts item c (suc d) taken later here = by_test (stands_on s
         by_cycle (inl same) parts more ih = absurd (true≢false (sym parts.1 ∙ ap (λ k. not (accepts k)) (sym same) ∙ ap not taken))
         by_cycle (inr less) parts more ih = let there = ih less in omega (arith, there, more)
 
-front_get : (xs rest : List Marked) (n : ℕ) (x : Marked) → n < length xs → slice_get (xs ++ rest) n ≡ Some x → slice_get xs n ≡ Some x
+pub front_get : (xs rest : List Marked) (n : ℕ) (x : Marked) → n < length xs → slice_get (xs ++ rest) n ≡ Some x → slice_get xs n ≡ Some x
 front_get [] rest n x low g = absurd (omega arith)
 front_get (y ∷ ys) rest zero x low g = g
 front_get (y ∷ ys) rest (suc n) x low g = front_get ys rest n x (omega arith) g
 
 -- a front that is no longer than so many is a front of so many
-take_front : (xs ys : List Marked) → IsPrefix xs ys → (n : ℕ) → length xs ≤ n → IsPrefix xs (take n ys)
+pub take_front : (xs ys : List Marked) → IsPrefix xs ys → (n : ℕ) → length xs ≤ n → IsPrefix xs (take n ys)
 take_front xs ys p n h = subst (λ l. IsPrefix xs (take n l)) p.joins (past xs n h)
   where
     past : (xs : List Marked) (n : ℕ) → length xs ≤ n → IsPrefix xs (take n (xs ++ p.rest))
     past [] n h = record { rest = take n p.rest; joins = refl }
     past (x ∷ xs) zero h = absurd (omega arith)
     past (x ∷ xs) (suc n) h = let rest = past xs n (omega arith) in record { rest = rest.rest; joins = ap (λ l. x ∷ l) rest.joins }
+
+-- where no beat is shown first after one was accepted, none is shown later
+pub only_then : (port : Port) (c d : ℕ) → c ≤ d → IsTrue (takes port c) → length (shown_at port (suc d)) ≡ length (shown_at port (suc c)) → IsTrue (shows port.commands.signals d) → d ≡ c
+only_then port c d low takes_it same shows_it =
+    elim (eq-or-lt_of_le low) [
+      | inl equal ↦ sym equal
+      | inr less ↦ let more = shown_later (shows port.commands.signals) (takes port) (marked_at port) c d takes_it less shows_it in absurd (omega (arith, more, same))
+    ]
 
 module _ (target : Target) (up down : Port) (lets : ℕ → Bool) (shows_same : (c : ℕ) → shows down.commands.signals c ≡ shows up.commands.signals c && lets c)
     (takes_same : (c : ℕ) → takes down c ≡ takes up c) (end : ℕ) (alike : (c : ℕ) → c < end → shows up.commands.signals c ≡ true → IsAlike target up.shape down.shape (marked_at up c) (marked_at down c))
@@ -160,13 +168,6 @@ module _ (target : Target) (up down : Port) (lets : ℕ → Bool) (shows_same : 
               earlier_front : IsPrefix (taken_at up c) (shown_at up (suc c))
               earlier_front = prefix_trans (before_extends (λ k. only_if (takes up k) (marked_at up k)) c) front
 
-  only_then : (c d : ℕ) → c ≤ d → IsTrue (takes up c) → length (shown_at up (suc d)) ≡ length (shown_at up (suc c)) → IsTrue (shows up.commands.signals d) → d ≡ c
-  only_then c d low takes_it same shows_it =
-      elim (eq-or-lt_of_le low) [
-        | inl equal ↦ sym equal
-        | inr less ↦ let more = shown_later (shows up.commands.signals) (takes up) (marked_at up) c d takes_it less shows_it in absurd (omega (arith, more, same))
-      ]
-
   pub gate_is_prompt : (few : ℕ) (may_burst : Bool) → IsShownPromptly few may_burst target up down end
   gate_is_prompt few may_burst = record {
     shown = λ c number m low got begins done.
@@ -180,5 +181,5 @@ module _ (target : Target) (up down : Port) (lets : ℕ → Bool) (shows_same : 
         let takes_it = (and_parts (takes up c) (closes (marked_at up c)) (and_parts (takes up c && closes (marked_at up c)) (list_all (λ n. not (is_of_reads n.transfer.kind) && not (has_lane up.shape n)) (last_command (taken_at up (suc c)))) empty).0).0 in
         let shows_it = (and_parts (shows down.commands.signals d) (not (is_of_reads (marked_at down d).transfer.kind)) (and_parts (shows down.commands.signals d && not (is_of_reads (marked_at down d).transfer.kind)) (not (is_nonempty (operations_in target down.shape (marked_at down d)))) shown).0).0 in
         let above = (and_parts (shows up.commands.signals d) (lets d) (sym (shows_same d) ∙ shows_it)).0 in
-        (only_then c d low takes_it same above, takes_same c ∙ takes_it);
+        (only_then up c d low takes_it same above, takes_same c ∙ takes_it);
   }

@@ -33,7 +33,7 @@ use Rattle.mm_links.proofs.SplitJoins.{lanes_down, joins_down, more_down, write_
 no_true : IsTrue false → ⊥
 no_true h = cc
 
-reached_all : (ns : List ℕ) (n : ℕ) → unreached ns n ≤ 0 → total ns ≤ n
+pub reached_all : (ns : List ℕ) (n : ℕ) → unreached ns n ≤ 0 → total ns ≤ n
 reached_all [] n h = omega arith
 reached_all (size ∷ ns) n h = by_size (nat_lt n size) refl h (reached_all ns (n - size))
   where
@@ -52,10 +52,10 @@ module _ (law : HasPieces) (carries : Carries) (target : Target) (count room : �
   pub carried : CarriesCommands target 0 up down end
   carried = carries target up down room count state end may run legal
 
-  one_up : (c : ℕ) → c < end → shows up.commands.signals c ≡ true → up.commands.count c ≡ 1
+  pub one_up : (c : ℕ) → c < end → shows up.commands.signals c ≡ true → up.commands.count c ≡ 1
   one_up = count_is_one up end may.one_beat legal
 
-  one_down : (c : ℕ) → c < end → shows down.commands.signals c ≡ true → down.commands.count c ≡ 1
+  pub one_down : (c : ℕ) → c < end → shows down.commands.signals c ≡ true → down.commands.count c ≡ 1
   one_down c h shown = (bears_shown room up down state run end legal c shown).count
 
   abbrev parts : List Raw → List Raw
@@ -121,7 +121,7 @@ module _ (law : HasPieces) (carries : Carries) (target : Target) (count room : �
       flat_taken down end carried.legal one_down (suc c) h
       ∙ ap (map (flat_mark down.shape)) (raws_below room up down state run end legal (suc c) h ∙ ap (λ l. parts (raws up (suc c)) ++ l) sent ∙ append-nil (parts (raws up (suc c))))
 
-  up_taken : (c : ℕ) → c ≤ end → taken_at up c ≡ map (flat_mark up.shape) (raws up c)
+  pub up_taken : (c : ℕ) → c ≤ end → taken_at up c ≡ map (flat_mark up.shape) (raws up c)
   up_taken = flat_taken up end legal one_up
 
   open_above : (c : ℕ) → c < end → taken_at down (suc c) ≡ map (flat_mark down.shape) (parts (raws up (suc c))) → is_unclosed down c ≡ true → is_unclosed up c ≡ true
@@ -135,12 +135,12 @@ module _ (law : HasPieces) (carries : Carries) (target : Target) (count room : �
       ∙ write_down law target up down count may (raws up (suc c)) (sym (written_last down.shape (parts (raws up (suc c)))) ∙ ap is_last_write (sym same) ∙ e)
 
   -- what holds a beat back above: a read that waits for other reads
-  record IsShut (c : ℕ) : Type 0 where
+  pub record IsShut (c : ℕ) : Type 0 where
     pub reads : is_raised (up.commands.write c) ≡ false
     pub first : state.place c ≡ 0
     pub some : 0 < state.reads c
 
-  shut : (c : ℕ) → c < end → shows up.commands.signals c ≡ true → takes up c ≡ false → shows down.commands.signals c ≡ false → IsShut c
+  pub shut : (c : ℕ) → c < end → shows up.commands.signals c ≡ true → takes up c ≡ false → shows down.commands.signals c ≡ false → IsShut c
   shut c h shown not_taken not_shown = by_open (opens room up down state c) refl
     where
       none_zero : (n : ℕ) → nat_lt 0 n ≡ false → n ≡ 0

@@ -28,7 +28,7 @@ module _ (room : ℕ) (up down : Port) (state : SplitState) (run : RunsAsSplit r
   all_parts rs = flat_map (parts_of up.shape down.shape) rs
 
   -- the parts that have gone, and the one that is shown, are a front of the parts of what stands
-  going_front : (c : ℕ) → c < end → (h : Bool) → is_held down.commands.signals (takes down) c ≡ h → (t : Bool) → takes up c ≡ t → (s : Bool) → shows up.commands.signals c ≡ s →
+  pub going_front : (c : ℕ) → c < end → (h : Bool) → is_held down.commands.signals (takes down) c ≡ h → (t : Bool) → takes up c ≡ t → (s : Bool) → shows up.commands.signals c ≡ s →
       IsPrefix ((if t then [] else parts_sent up down c ++ only_if (takes down c) (raw_at down c)) ++ only_if h (raw_at down c)) (all_parts (only_if (s && not t) (raw_at up c)))
   going_front c low true held true t s shown = let bad = sym (waits_there room up down state run end legal c held) ∙ t in cc
   going_front c low false held true t s shown = record { rest = _; joins = refl }
@@ -124,7 +124,7 @@ module _ (law : HasPieces) (target : Target) (wide narrow : Shape) (count : ℕ)
       some_first [] ys e = cc
       some_first (x ∷ xs) ys e = refl
 
-  no_lane : (enables : ℕ) → filter (has_lane_in narrow.word_bytes enables) (numbers 0 (pieces wide narrow)) ≡ [] → (has_lane_in narrow.word_bytes enables 0 ≡ false) × (is_nonempty (filled_lanes wide target.shape enables) ≡ false)
+  pub no_lane : (enables : ℕ) → filter (has_lane_in narrow.word_bytes enables) (numbers 0 (pieces wide narrow)) ≡ [] → (has_lane_in narrow.word_bytes enables 0 ≡ false) × (is_nonempty (filled_lanes wide target.shape enables) ≡ false)
   no_lane enables e = by_list (filled_lanes wide target.shape enables) refl (has_lane_in narrow.word_bytes enables 0) refl
     where
       first_asked : asked_of wide narrow enables ≡ 0 ∷ []

@@ -55,3 +55,12 @@ pub fn split_is_a_link()
     mm_machines::machines::split_carries();
     mm_machines::machines::beat_is_pieces()
 }
+
+/// A splitter is prompt: a read waits in it only while earlier ones are owed. Its words differ, so nothing is said of going straight.
+pub fn split_is_prompt()
+    ensures { (target : Target) (room count : ℕ) (up down : Port) (state : SplitState) (end : ℕ) → MaySplit target up.shape down.shape count
+        → 1 < count → 0 < room → RunsAsSplit room up down state → (few : ℕ) (ahead may_burst : Bool) → IsStraightLink few ahead may_burst target up down end }
+{
+    mm_machines::machines::split_carries();
+    mm_machines::machines::beat_is_pieces()
+}

@@ -1,0 +1,267 @@
+-- A splitter shows a first beat in its own cycle, once all earlier ones are taken and answered.
+use Rattle.std.proofs.Common.{ℕ, zero, suc, ◌<◌, ◌≤◌, ◌≡◌, ◌+◌, ◌*◌, Bool, true, false, not, ◌&&◌, ◌||◌, List, [], ◌∷◌, ◌++◌, if◌then◌else◌, arith, refl, sym, ap, ap₂, subst, ◌∙◌, length, map, filter, flat_map, take, nat_lt, nat_eq, IsTrue, Some, slice_get, append-nil, append_assoc, length-append, ltb-true, ltb-false, lt-ltb, leb-true, mul-le-mul_right}
+use Rattle.std.specs.List.{list_all}
+use Rattle.std.proofs.lemmas.Bool.{and_parts, not-true}
+use Rattle.std.proofs.lemmas.List.{map-append, length-map}
+use Rattle.std.proofs.lemmas.Grind.{flat_map-append}
+use Rattle.histories.specs.History.{is_raised, only_if, is_first, numbers, IsPrefix}
+use Rattle.histories.specs.Laws.{shown_is_accepted_and_standing, before_prefix, prefix_flat_map, prefix_length}
+use Rattle.mm_runs.specs.Views.{Shape}
+use Rattle.mm_runs.specs.Operations.{filled_lanes, pieces}
+use Rattle.mm_runs.specs.Commands.{shows, is_held, is_of_reads}
+use Rattle.mm_machines.specs.Link.{Target, Port, Marked, AreLegalAt, AnswersAreOwed, CarriesCommands, takes, marked_at, taken_at, shown_at, operations_among, operations_in, is_nonempty, closes, sizes, words_at, words_owed, read_beats}
+use Rattle.mm_machines.specs.Machines.{Raw, raw_at, raws, parts_sent, single, joined, piece_of, beat_of, MaySplit}
+use Rattle.mm_machines.specs.SideLaws.{marked_keeps, taken_is_shown, prefix_take}
+use Rattle.mm_machines.specs.Straight.{IsShownPromptly, has_first_lane, begins_alone, may_be_prompt, has_lane, last_command, are_answered, are_taken_below}
+use Rattle.mm_links.specs.Links.{IsStraightLink}
+use Rattle.mm_links.specs.Splits.{SplitState, RunsAsSplit, split_at, opens, or_first_piece}
+use Rattle.mm_links.proofs.Gated.{total_sizes}
+use Rattle.mm_links.proofs.Gather.{HasPieces, cut_of, has_lane_in, spread, wide_lanes}
+use Rattle.mm_links.proofs.OneBeat.{flat_mark, flat_shown, flat_at, shown_raws}
+use Rattle.mm_links.proofs.Prompt.{some_operation, within, front_get, only_then}
+use Rattle.mm_links.proofs.Splitting.{shown_above, either_of, same_true}
+use Rattle.mm_links.proofs.SplitParts.{parts_of, parts_are, sent_pieces, chosen, raws_below}
+use Rattle.mm_links.proofs.SplitWords.{none_owed}
+use Rattle.mm_links.proofs.SplitShown.{going_front, upper_acts, acts, ArePartsOf, are_parts, no_lane}
+use Rattle.mm_links.proofs.SplitShown.ArePartsOf.{last_part, more_parts, no_parts}
+use Rattle.mm_links.proofs.SplitLink.{Carries, carried, one_up, one_down, up_taken, shut, reached_all}
+
+some_in : {A : Type 0} (xs : List A) → is_nonempty xs ≡ true → 0 < length xs
+some_in [] h = cc
+some_in (x ∷ xs) h = omega arith
+
+is_some : {A : Type 0} (xs : List A) → 0 < length xs → is_nonempty xs ≡ true
+is_some [] h = absurd (omega (arith, h))
+is_some (x ∷ xs) h = refl
+
+one_size : {A B : Type 0} (f : A → B) (xs : List A) → length (map f xs ++ []) ≡ length xs
+one_size f xs = ap length (append-nil (map f xs)) ∙ length-map xs f
+
+module _ (law : HasPieces) (target : Target) (wide narrow : Shape) (count : ℕ) (may : MaySplit target wide narrow count) where
+  -- the parts of a beat have as many operations as it has
+  joined_sizes : (raw : Raw) (tag last : ℕ) (ps : List ℕ) → length (operations_among target narrow (map (flat_mark narrow) (joined tag last (map (piece_of narrow.word_bytes (beat_of wide raw.levels)) ps))))
+      ≡ length (spread narrow.word_bytes (λ p. filled_lanes narrow target.shape (cut_of narrow.word_bytes raw.levels.enables p)) ps)
+  joined_sizes raw tag last [] = refl
+  joined_sizes raw tag last (p ∷ []) =
+      ap length (append-nil _) ∙ one_size _ (filled_lanes narrow target.shape (cut_of narrow.word_bytes raw.levels.enables p))
+      ∙ sym (one_size (λ lane. p * narrow.word_bytes + lane) (filled_lanes narrow target.shape (cut_of narrow.word_bytes raw.levels.enables p)))
+  joined_sizes raw tag last (p ∷ q ∷ ps) =
+      let lanes = filled_lanes narrow target.shape (cut_of narrow.word_bytes raw.levels.enables p) in
+      let rest = joined_sizes raw tag last (q ∷ ps) in
+      length-append (operations_in target narrow (flat_mark narrow (single tag 1 (piece_of narrow.word_bytes (beat_of wide raw.levels) p)))) _
+      ∙ ap₂ (λ a b. a + b) (one_size _ lanes ∙ sym (length-map lanes (λ lane. p * narrow.word_bytes + lane))) rest
+      ∙ sym (length-append (map (λ lane. p * narrow.word_bytes + lane) lanes) _)
+
+  parts_sizes : (raw : Raw) → length (operations_among target narrow (map (flat_mark narrow) (parts_of wide narrow raw))) ≡ length (operations_in target wide (flat_mark wide raw))
+  parts_sizes raw =
+      ap (λ l. length (operations_among target narrow (map (flat_mark narrow) l))) (parts_are wide narrow raw)
+      ∙ joined_sizes raw raw.tag raw.more (sent_pieces wide narrow raw)
+      ∙ by_list (filter (has_lane_in narrow.word_bytes raw.levels.enables) (numbers 0 (pieces wide narrow))) refl (not (is_raised raw.more) || not (is_raised raw.levels.write))
+      ∙ sym (one_size _ (filled_lanes wide target.shape raw.levels.enables))
+    where
+      asked_sizes : (l : List ℕ) → filter (has_lane_in narrow.word_bytes raw.levels.enables) (numbers 0 (pieces wide narrow)) ≡ l →
+          length (spread narrow.word_bytes (λ p. filled_lanes narrow target.shape (cut_of narrow.word_bytes raw.levels.enables p)) (or_first_piece l)) ≡ length (filled_lanes wide target.shape raw.levels.enables)
+      asked_sizes l e =
+          ap (λ ns. length (spread narrow.word_bytes (λ p. filled_lanes narrow target.shape (cut_of narrow.word_bytes raw.levels.enables p)) (or_first_piece ns))) (sym e)
+          ∙ ap length (sym (wide_lanes law wide narrow target.shape may.some may.same count may.one may.whole raw.levels.enables))
+
+      by_list : (l : List ℕ) → filter (has_lane_in narrow.word_bytes raw.levels.enables) (numbers 0 (pieces wide narrow)) ≡ l → (needed : Bool) →
+          length (spread narrow.word_bytes (λ p. filled_lanes narrow target.shape (cut_of narrow.word_bytes raw.levels.enables p)) (chosen needed (filter (has_lane_in narrow.word_bytes raw.levels.enables) (numbers 0 (pieces wide narrow))))) ≡ length (filled_lanes wide target.shape raw.levels.enables)
+      by_list (p ∷ ps) e needed =
+          ap (λ ns. length (spread narrow.word_bytes (λ p. filled_lanes narrow target.shape (cut_of narrow.word_bytes raw.levels.enables p)) (chosen needed ns))) e ∙ asked_sizes (p ∷ ps) e
+      by_list [] e true =
+          ap (λ ns. length (spread narrow.word_bytes (λ p. filled_lanes narrow target.shape (cut_of narrow.word_bytes raw.levels.enables p)) (chosen true ns))) e ∙ asked_sizes [] e
+      by_list [] e false =
+          ap (λ ns. length (spread narrow.word_bytes (λ p. filled_lanes narrow target.shape (cut_of narrow.word_bytes raw.levels.enables p)) (chosen false ns))) e
+          ∙ none_in (filled_lanes wide target.shape raw.levels.enables) (no_lane law target wide narrow count may raw.levels.enables e).1
+        where
+          none_in : (xs : List ℕ) → is_nonempty xs ≡ false → 0 ≡ length xs
+          none_in [] f = refl
+          none_in (x ∷ xs) f = cc
+
+  pub all_sizes : (rs : List Raw) → length (operations_among target narrow (map (flat_mark narrow) (flat_map (parts_of wide narrow) rs))) ≡ length (operations_among target wide (map (flat_mark wide) rs))
+  all_sizes [] = refl
+  all_sizes (r ∷ rs) =
+      ap length (ap (operations_among target narrow) (map-append (flat_mark narrow) (parts_of wide narrow r) (flat_map (parts_of wide narrow) rs))
+      ∙ flat_map-append (operations_in target narrow) (map (flat_mark narrow) (parts_of wide narrow r)) (map (flat_mark narrow) (flat_map (parts_of wide narrow) rs)))
+      ∙ length-append (operations_among target narrow (map (flat_mark narrow) (parts_of wide narrow r))) _
+      ∙ ap₂ (λ a b. a + b) (parts_sizes r) (all_sizes rs)
+      ∙ sym (length-append (operations_in target wide (flat_mark wide r)) _)
+
+  first_acts : (x : Raw) (l : List Raw) → is_nonempty (operations_in target narrow (flat_mark narrow x)) ≡ true → 0 < length (operations_among target narrow (map (flat_mark narrow) (x ∷ l)))
+  first_acts x l f =
+      let size = length-append (operations_in target narrow (flat_mark narrow x)) (operations_among target narrow (map (flat_mark narrow) l)) in
+      let first = some_in (operations_in target narrow (flat_mark narrow x)) f in
+      omega (arith, size, first)
+
+  -- a front of the parts of a beat with an operation has one
+  pub front_acts : (raw : Raw) (ps : List Raw) → ArePartsOf law target wide narrow count may raw ps → acts law target wide narrow count may raw ≡ true → (l : List Raw) → IsPrefix l (ps ++ []) → 0 < length l →
+      0 < length (operations_among target narrow (map (flat_mark narrow) l))
+  front_acts raw ps all e [] p some = absurd (omega (arith, some))
+  front_acts raw ps (no_parts out) e (x ∷ l) p some = let bad = p.joins in cc
+  front_acts raw ps (last_part part is more) e (x ∷ l) p some =
+      let joins = p.joins in
+      let same : part ≡ x = cc in
+      first_acts x l (ap (λ (r : Raw). is_nonempty (operations_in target narrow (flat_mark narrow r))) (sym same) ∙ is.acts_so ∙ e)
+  front_acts raw ps (more_parts part next later is more rest) e (x ∷ l) p some =
+      let joins = p.joins in
+      let same : part ≡ x = cc in
+      first_acts x l (ap (λ (r : Raw). is_nonempty (operations_in target narrow (flat_mark narrow r))) (sym same) ∙ is.acts_so ∙ e)
+
+get_low : {A : Type 0} (xs : List A) (n : ℕ) (x : A) → slice_get xs n ≡ Some x → n < length xs
+get_low [] n x h = cc
+get_low (y ∷ ys) zero x h = omega arith
+get_low (y ∷ ys) (suc n) x h = let rest = get_low ys n x h in omega (arith, rest)
+
+get_end : {A : Type 0} (xs : List A) (y x : A) → slice_get (xs ++ y ∷ []) (length xs) ≡ Some x → y ≡ x
+get_end [] y x h = cc
+get_end (z ∷ zs) y x h = get_end zs y x h
+
+take_front_of : {A : Type 0} (xs ys : List A) → take (length xs) (xs ++ ys) ≡ xs
+take_front_of [] ys = refl
+take_front_of (x ∷ xs) ys = ap (λ l. x ∷ l) (take_front_of xs ys)
+
+module _ (law : HasPieces) (carries : Carries) (target : Target) (count room : ℕ) (up down : Port) (state : SplitState) (may : MaySplit target up.shape down.shape count) (some_room : 0 < room) (run : RunsAsSplit room up down state)
+    (end : ℕ) (legal : AreLegalAt up end) (owed : AnswersAreOwed down end) where
+  abbrev carry : CarriesCommands target 0 up down end
+  carry = carried law carries target count room up down state may some_room run end legal
+
+  up_side : (c : ℕ) → c < end → shown_at up (suc c) ≡ taken_at up (suc c) ++ only_if (is_held up.commands.signals (takes up) c) (marked_at up c)
+  up_side c h = shown_is_accepted_and_standing (shows up.commands.signals) (takes up) (marked_at up) end (suc c) (marked_keeps up end legal) h
+
+  -- the beat that stands is shown below, behind all earlier ones
+  stands_below : (c : ℕ) → c < end → shows up.commands.signals c ≡ true → takes up c ≡ false → words_owed up c ≤ length (words_at up c) → 0 < length (operations_in target up.shape (marked_at up c)) →
+      length (operations_among target up.shape (taken_at up (suc c))) < length (operations_among target down.shape (shown_at down (suc c)))
+  stands_below c h shown not_taken answered some = by_below (shows down.commands.signals c) refl
+    where
+      by_below : (d : Bool) → shows down.commands.signals c ≡ d → length (operations_among target up.shape (taken_at up (suc c))) < length (operations_among target down.shape (shown_at down (suc c)))
+      by_below false d =
+          let waits = (shut law carries target count room up down state may some_room run end legal c h shown not_taken d).some in
+          let none = none_owed law target count room up down state may run end legal c (omega (arith, h)) (λ k less. owed k (omega (arith, h, less))) answered in
+          absurd (omega (arith, waits, none))
+      by_below true d =
+          let tail = parts_sent up down (suc c) ++ only_if (is_held down.commands.signals (takes down) c) (raw_at down c) in
+          let before = flat_map (parts_of up.shape down.shape) (raws up (suc c)) in
+          let raws_are : shown_raws down (suc c) ≡ before ++ tail =
+          ap (λ l. l ++ only_if (is_held down.commands.signals (takes down) c) (raw_at down c)) (raws_below room up down state run end legal (suc c) h)
+          ∙ append_assoc before (parts_sent up down (suc c)) (only_if (is_held down.commands.signals (takes down) c) (raw_at down c)) in
+          let ops : operations_among target down.shape (shown_at down (suc c)) ≡ operations_among target down.shape (map (flat_mark down.shape) before) ++ operations_among target down.shape (map (flat_mark down.shape) tail) =
+          ap (operations_among target down.shape) (flat_shown down end carry.legal (one_down law carries target count room up down state may some_room run end legal) (suc c) h ∙ ap (map (flat_mark down.shape)) raws_are ∙ map-append (flat_mark down.shape) before tail)
+          ∙ flat_map-append (operations_in target down.shape) (map (flat_mark down.shape) before) (map (flat_mark down.shape) tail) in
+          let size = ap length ops ∙ length-append (operations_among target down.shape (map (flat_mark down.shape) before)) (operations_among target down.shape (map (flat_mark down.shape) tail)) in
+          let first : length (operations_among target down.shape (map (flat_mark down.shape) before)) ≡ length (operations_among target up.shape (taken_at up (suc c))) =
+          all_sizes law target up.shape down.shape count may (raws up (suc c)) ∙ ap (λ l. length (operations_among target up.shape l)) (sym (up_taken law carries target count room up down state may some_room run end legal (suc c) h)) in
+          let does : acts law target up.shape down.shape count may (raw_at up c) ≡ true =
+          sym (upper_acts law target up.shape down.shape count may (raw_at up c)) ∙ ap (λ (m : Marked). is_nonempty (operations_in target up.shape m)) (sym (flat_at up end legal (one_up law carries target count room up down state may some_room run end legal) c h shown))
+          ∙ is_some (operations_in target up.shape (marked_at up c)) some in
+          let front : IsPrefix tail (parts_of up.shape down.shape (raw_at up c) ++ []) =
+          subst (λ b. IsPrefix tail (flat_map (parts_of up.shape down.shape) (only_if b (raw_at up c)))) (ap₂ (λ s t. s && not t) shown not_taken)
+          (going_front room up down state run end legal c h (is_held down.commands.signals (takes down) c) refl (takes up c) refl (shows up.commands.signals c) refl) in
+          let more = front_acts law target up.shape down.shape count may (raw_at up c) (parts_of up.shape down.shape (raw_at up c)) (are_parts law target up.shape down.shape count may (raw_at up c)) does tail front (some_stands (takes down c) refl) in
+          omega (arith, size, first, more)
+        where
+          some_stands : (t : Bool) → takes down c ≡ t → 0 < length (parts_sent up down (suc c) ++ only_if (is_held down.commands.signals (takes down) c) (raw_at down c))
+          some_stands true t =
+              let sent : length (parts_sent up down (suc c)) ≡ length (parts_sent up down c ++ raw_at down c ∷ []) = ap₂ (λ a b. length (if a then [] else parts_sent up down c ++ only_if b (raw_at down c))) not_taken t in
+              let size = length-append (parts_sent up down c) (raw_at down c ∷ []) in
+              let all = length-append (parts_sent up down (suc c)) (only_if (is_held down.commands.signals (takes down) c) (raw_at down c)) in
+              omega (arith, sent, size, all)
+          some_stands false t =
+              let one : length (only_if (is_held down.commands.signals (takes down) c) (raw_at down c)) ≡ 1 = ap₂ (λ s k. length (only_if (s && not k) (raw_at down c))) d t in
+              let all = length-append (parts_sent up down (suc c)) (only_if (is_held down.commands.signals (takes down) c) (raw_at down c)) in
+              omega (arith, one, all)
+
+  reached : (c number : ℕ) (m : Marked) → c < end → slice_get (shown_at up (suc c)) number ≡ Some m → 0 < length (operations_in target up.shape m) → IsTrue (are_answered up (take number (shown_at up (suc c))) c) →
+      length (operations_among target up.shape (take number (shown_at up (suc c)))) < length (operations_among target down.shape (shown_at down (suc c)))
+  reached c number m h got some answered = by_place (nat_lt number (length (taken_at up (suc c)))) refl
+    where
+      front : IsPrefix (taken_at up (suc c)) (shown_at up (suc c))
+      front = taken_is_shown up end (suc c) legal h
+
+      there_get : (xs : List Marked) → IsPrefix xs (shown_at up (suc c)) → number < length xs → slice_get xs number ≡ Some m
+      there_get xs p low = front_get xs p.rest number m low (subst (λ l. slice_get l number ≡ Some m) (sym p.joins) got)
+
+      by_place : (b : Bool) → nat_lt number (length (taken_at up (suc c))) ≡ b → length (operations_among target up.shape (take number (shown_at up (suc c)))) < length (operations_among target down.shape (shown_at down (suc c)))
+      by_place true e =
+          let low = ltb-true number (length (taken_at up (suc c))) e in
+          let same_front : take number (shown_at up (suc c)) ≡ take number (taken_at up (suc c)) = prefix_take front number (omega (arith, low)) in
+          let here = within target up.shape (taken_at up (suc c)) number m (there_get (taken_at up (suc c)) front low) in
+          let size = ap (λ xs. length (operations_among target up.shape xs)) same_front in
+          let all = reached_all (sizes target up.shape (taken_at up (suc c))) (length (operations_among target down.shape (taken_at down (suc c)))) (carry.held (suc c) h) in
+          let sum = total_sizes target up.shape (taken_at up (suc c)) in
+          let more = prefix_length (prefix_flat_map (operations_in target down.shape) (taken_is_shown down end (suc c) carry.legal h)) in
+          omega (arith, here, size, all, sum, more, some)
+      by_place false e = by_held (is_held up.commands.signals (takes up) c) refl
+        where
+          high : length (taken_at up (suc c)) ≤ number
+          high = ltb-false number (length (taken_at up (suc c))) e
+
+          size_is : (b : Bool) → is_held up.commands.signals (takes up) c ≡ b → length (shown_at up (suc c)) ≡ length (taken_at up (suc c)) + length (only_if b (marked_at up c))
+          size_is b f = ap length (up_side c h ∙ ap (λ b. taken_at up (suc c) ++ only_if b (marked_at up c)) f) ∙ length-append (taken_at up (suc c)) (only_if b (marked_at up c))
+
+          by_held : (b : Bool) → is_held up.commands.signals (takes up) c ≡ b → length (operations_among target up.shape (take number (shown_at up (suc c)))) < length (operations_among target down.shape (shown_at down (suc c)))
+          by_held false f =
+              let low = get_low (shown_at up (suc c)) number m got in
+              let size = size_is false f in
+              let most = high in
+              absurd (omega (arith, low, size, most))
+          by_held true f =
+              let low = get_low (shown_at up (suc c)) number m got in
+              let size = size_is true f in
+              let most = high in
+              let place : number ≡ length (taken_at up (suc c)) = omega (arith, low, size, most) in
+              let whole : shown_at up (suc c) ≡ taken_at up (suc c) ++ marked_at up c ∷ [] = up_side c h ∙ ap (λ b. taken_at up (suc c) ++ only_if b (marked_at up c)) f in
+              let before : take number (shown_at up (suc c)) ≡ taken_at up (suc c) = ap₂ (λ n l. take n l) place whole ∙ take_front_of (taken_at up (suc c)) (marked_at up c ∷ []) in
+              let is : marked_at up c ≡ m = get_end (taken_at up (suc c)) (marked_at up c) m (ap₂ (λ n l. slice_get l n) (sym place) (sym whole) ∙ got) in
+              let parts = and_parts (shows up.commands.signals c) (not (takes up c)) f in
+              let not_taken = not-true (takes up c) parts.1 in
+              let same : taken_at up (suc c) ≡ taken_at up c = ap (λ b. taken_at up c ++ only_if b (marked_at up c)) not_taken ∙ append-nil (taken_at up c) in
+              let given = leb-true (length (read_beats (take number (shown_at up (suc c))))) (length (words_at up c)) answered in
+              let reads = ap (λ l. length (read_beats l)) (before ∙ same) in
+              subst (λ l. length (operations_among target up.shape l) < length (operations_among target down.shape (shown_at down (suc c)))) (sym before)
+              (stands_below c h parts.0 not_taken (omega (arith, given, reads)) (subst (λ m. 0 < length (operations_in target up.shape m)) (sym is) some))
+
+  -- a beat that is accepted is shown below in its last part alone
+  taken_with : (c : ℕ) → takes up c ≡ true → shows down.commands.signals c ≡ true → takes down c ≡ true
+  taken_with c t shown =
+      let parts = and_parts (shows up.commands.signals c && opens room up down state c) (nat_eq (length (split_at up down c)) 0 || (takes down c && nat_eq (suc (state.place c)) (length (split_at up down c)))) (sym (run.accepts c) ∙ t) in
+      let room_left = ltb-true (state.place c) (length (split_at up down c)) (and_parts (shows up.commands.signals c && opens room up down state c) (nat_lt (state.place c) (length (split_at up down c))) (sym (run.shown c) ∙ shown)).1 in
+      either_of (nat_eq (length (split_at up down c)) 0) (takes down c && nat_eq (suc (state.place c)) (length (split_at up down c))) parts.1
+      (λ empty. (let none = same_true (length (split_at up down c)) 0 empty in absurd (omega (arith, none, room_left))))
+      (λ last. (and_parts (takes down c) (nat_eq (suc (state.place c)) (length (split_at up down c))) last).0)
+
+  pub split_prompt : (few : ℕ) (may_burst : Bool) → IsShownPromptly few may_burst target up down end
+  split_prompt few may_burst = record {
+    shown = λ c number m low got begins done.
+        let first = (and_parts (begins_alone (take number (shown_at up (suc c))) m && may_be_prompt may_burst m) (has_first_lane target up.shape down.shape m) begins).1 in
+        let some = some_operation target up.shape down.shape m first in
+        let answered = (and_parts (are_taken_below target up down (take number (shown_at up (suc c))) c) (are_answered up (take number (shown_at up (suc c))) c) done).1 in
+        let here = reached c number m (omega (arith, low)) got some answered in
+        let more = prefix_length (prefix_flat_map (operations_in target down.shape) (before_prefix (λ k. only_if (is_first (shows down.commands.signals) (takes down) k) (marked_at down k)) (suc c) (suc (c + few)) (omega arith))) in
+        lt-ltb _ _ (omega (arith, here, more));
+    empty = λ c d low high empty same shown.
+        let takes_it = (and_parts (takes up c) (closes (marked_at up c)) (and_parts (takes up c && closes (marked_at up c)) (list_all (λ n. not (is_of_reads n.transfer.kind) && not (has_lane up.shape n)) (last_command (taken_at up (suc c)))) empty).0).0 in
+        let shows_it = (and_parts (shows down.commands.signals d) (not (is_of_reads (marked_at down d).transfer.kind)) (and_parts (shows down.commands.signals d && not (is_of_reads (marked_at down d).transfer.kind)) (not (is_nonempty (operations_in target down.shape (marked_at down d)))) shown).0).0 in
+        let above = (shown_above room up down state run end legal d shows_it).0 in
+        let now : d ≡ c = only_then up c d low takes_it same above in
+        (now, taken_with c takes_it (subst (λ k. shows down.commands.signals k ≡ true) now shows_it));
+  }
+
+module _ (law : HasPieces) (carries : Carries) (target : Target) (count room : ℕ) (up down : Port) (state : SplitState) (may : MaySplit target up.shape down.shape count) (some_room : 0 < room) (run : RunsAsSplit room up down state)
+    (end : ℕ) (many : 1 < count) where
+  smaller : up.shape.word_bytes ≡ down.shape.word_bytes → ⊥
+  smaller same =
+      let step : 2 * down.shape.word_bytes ≤ count * down.shape.word_bytes = mul-le-mul_right down.shape.word_bytes many in
+      let some = may.some in
+      let whole = may.whole in
+      omega (arith, same, step, some, whole)
+
+  pub split_is_straight : (few : ℕ) (ahead may_burst : Bool) → IsStraightLink few ahead may_burst target up down end
+  split_is_straight few ahead may_burst = record {
+    straight = λ legal owed. record {
+      shown = λ c h same. absurd (smaller same);
+      accepted = λ c h same. absurd (smaller same);
+      kept = λ c h same. absurd (smaller same);
+    };
+    prompt = λ legal owed. split_prompt law carries target count room up down state may some_room run end legal owed few may_burst;
+  }
