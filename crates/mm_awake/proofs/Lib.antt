@@ -13,7 +13,6 @@ pub mod Numbers
 pub mod Final
 pub mod Prompt
 pub mod Defaults
-pub mod StageGoes
 pub mod Few
 pub mod Whole
 pub mod Passing

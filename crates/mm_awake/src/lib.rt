@@ -48,7 +48,7 @@ pub fn machines_are_awake()
     mm_parts::steps::route_machine_is_a_part();
     mm_parts::steps::arbiter_machine_is_a_part();
     mm_parts::steps::agent_machine_is_a_part();
-    stage_keeps_going();
+    mm_links::pipes::stage_keeps_going();
     stages_pass_on();
     host_and_route_are_a_front();
     words_reach_the_host();
@@ -165,16 +165,6 @@ pub fn prompt_links_give()
         → GivesWhatHasCome target up down end }
 {
     mm_machines::progress::owed_words_flow()
-}
-
-/// A stage with a queue and an answer register keeps going, with a rank of at most 1.
-pub fn stage_keeps_going()
-    ensures { (stage : Stage) → RunsAsStage stage → 0 < stage.depth → WaitsOnlyWhenFull stage
-        → (target : Target) (end : ℕ) → AreLegalAt (above stage) end → AreLegalAt (below stage) end
-        → KeepsGoing target (above stage) (below stage) (owing_rank (below stage)) 1 end }
-{
-    mm_machines::machines::stage_has_rank();
-    mm_machines::machines::transfers_of_beats()
 }
 
 /// A wire keeps going, with a rank that is always 0.

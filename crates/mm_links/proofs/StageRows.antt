@@ -38,7 +38,8 @@ pub stages_go_on : StageLaws → (stages : ℕ) (pipe : PipeSides) → RunsAsPip
 stages_go_on laws zero pipe runs target end some legal = at_end
 stages_go_on laws (suc stages) pipe runs target end some legal =
     let first = runs.stage 0 (omega arith) in
-    further (stage_goes_on laws 2 pipe.shape (pipe.commands 0) (pipe.commands 1) (pipe.answers 0) (pipe.answers 1) (pipe.queue 0) first (omega arith) (λ c few. runs.opens 0 c (omega arith) few) target end some legal)
+    further (stage_goes_on laws 2 pipe.shape (pipe.commands 0) (pipe.commands 1) (pipe.answers 0) (pipe.answers 1) (pipe.queue 0) first (omega arith) (λ c few. runs.opens 0 c (omega arith) few) target end legal
+    (legal_down laws 2 pipe.shape (pipe.commands 0) (pipe.commands 1) (pipe.answers 0) (pipe.answers 1) (pipe.queue 0) first end some legal))
     (stages_go_on laws stages (lower_sides pipe) (lower_runs stages pipe runs) target end some (legal_down laws 2 pipe.shape (pipe.commands 0) (pipe.commands 1) (pipe.answers 0) (pipe.answers 1) (pipe.queue 0) first end some legal))
 
 -- ---- the line of a pipe

@@ -17,7 +17,7 @@ use Rattle.mm_machines.specs.PartRanks.{Accepted, HoldsBack, held_back, behind, 
 use Rattle.mm_machines.specs.Rank.{LinkRankFalls, has_commands, moves_commands, is_excused, is_owed}
 use Rattle.mm_machines.specs.Machines.{Raw, Stage, RunsAsStage, WaitsOnlyWhenFull, above, below, raws, raw_at, mark, marked, burst_of, burst_past, idle, IsStageRun, ShowsHead, port_of, owing_rank}
 use Rattle.mm_machines.specs.SideLaws.{taken_is_shown, same_counts, zip_front}
-use Rattle.mm_links.specs.Going.{GoesOn, GivesWhatHasCome, is_behind, is_untaken}
+use Rattle.mm_links.specs.Going.{GoesOn, KeepsGoing, GivesWhatHasCome, is_behind, is_untaken}
 use Rattle.mm_links.specs.Going.RowGoesOn.{at_end, further}
 use Rattle.mm_links.specs.Links.{IsLink, BringsLanesDown, HandsOnJoins, OwesNothingBelow}
 use Rattle.mm_links.specs.Pipes.{stage_form}
@@ -304,7 +304,7 @@ module _ (laws : StageLaws) (depth : ℕ) (shape : Shape) (uc dc : CommandView) 
   stage_words target end c low legal owed =
       blocks_front (block target down) (read_beats (taken_at down c)) (read_beats (taken_at up c)) (words_at up c) (words_at down c) (beats_front c) (words_front c) (enough c owed)
 
-  module _ (deep : 0 < depth) (opens : (c : ℕ) → length (queue c) < depth → is_raised (uc.waitrequest c) ≡ false) (target : Target) (end : ℕ) (some : 0 < shape.word_bytes) (legal : AreLegalAt up end) where
+  module _ (deep : 0 < depth) (opens : (c : ℕ) → length (queue c) < depth → is_raised (uc.waitrequest c) ≡ false) (target : Target) (end : ℕ) (legal : AreLegalAt up end) (legal_below : AreLegalAt down end) where
     later_words : (c : ℕ) → length (words_at up (suc c)) ≡ length (words_at down c)
     later_words c = ap length (words_later c)
 
@@ -344,22 +344,18 @@ module _ (laws : StageLaws) (depth : ℕ) (shape : Shape) (uc dc : CommandView) 
             let grow = one_more_word down c ∙ ap (λ v. length (words_at down c) + (if v then 1 else 0)) ev in
             absurd (omega (arith, same, less, all, shift, grow))
 
-    pub stage_goes_on : GoesOn target (record { largest = 1; hold = depth }) up down end
-    stage_goes_on = record {
-      rank = owing_rank down;
-      going = record {
-        legal = legal;
-        legal_down = legal_down end some legal;
-        falls = record {
-          bounded = λ c h. falls_commands.bounded c h;
-          falls = λ c h w m e. two_of (has_commands target up down c) (is_held dc.signals (takes down) c) w
-              (λ commands. falls_commands.falls c h commands m e)
-              (λ held. absurd (both_ways (is_excused up down c) (by_not (is_excused up down c) e) (or_left _ _ (or_left _ _ held))));
-          stays = λ c h w m. still_rank down c (not_or (takes down c) (takes up c) m);
-        };
-        words = words;
+    pub stage_keeps_going : KeepsGoing target up down (owing_rank down) 1 end
+    stage_keeps_going = record {
+      legal = legal;
+      legal_down = legal_below;
+      falls = record {
+        bounded = λ c h. falls_commands.bounded c h;
+        falls = λ c h w m e. two_of (has_commands target up down c) (is_held dc.signals (takes down) c) w
+            (λ commands. falls_commands.falls c h commands m e)
+            (λ held. absurd (both_ways (is_excused up down c) (by_not (is_excused up down c) e) (or_left _ _ (or_left _ _ held))));
+        stays = λ c h w m. still_rank down c (not_or (takes down c) (takes up c) m);
       };
-      holds = holds_back target end;
+      words = words;
     }
       where
         falls_commands : LinkRankFalls target up down (owing_rank down) 1 end
@@ -376,6 +372,9 @@ module _ (laws : StageLaws) (depth : ℕ) (shape : Shape) (uc dc : CommandView) 
         two_of : (a b : Bool) {R : Type 0} → IsTrue (a || b) → (IsTrue a → R) → (IsTrue b → R) → R
         two_of true b h fa fb = fa refl
         two_of false b h fa fb = fb h
+
+    pub stage_goes_on : GoesOn target (record { largest = 1; hold = depth }) up down end
+    stage_goes_on = record { rank = owing_rank down; going = stage_keeps_going; holds = holds_back target end }
 
 module _ (laws : StageLaws) (target : Target) (shape : Shape) (uc dc : CommandView) (ua da : AnswerView) (queue : ℕ → List Raw) (run : IsStageRun 2 (port_of shape uc ua) (port_of shape dc da) queue)
     (opens : (c : ℕ) → length (queue c) < 2 → is_raised (uc.waitrequest c) ≡ false) (some : 0 < shape.word_bytes)
@@ -416,5 +415,5 @@ module _ (laws : StageLaws) (target : Target) (shape : Shape) (uc dc : CommandVi
     lanes = lanes;
     joins = joins;
     quiet = quiet;
-    goes_on = λ legal owed alike. further (stage_goes_on laws 2 shape uc dc ua da queue run (omega arith) opens target end some legal) at_end;
+    goes_on = λ legal owed alike. further (stage_goes_on laws 2 shape uc dc ua da queue run (omega arith) opens target end legal (legal_down laws 2 shape uc dc ua da queue run end some legal)) at_end;
   }

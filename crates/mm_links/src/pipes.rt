@@ -5,7 +5,8 @@ ghost use Rattle.mm_runs.specs.Views.{System};
 ghost use Rattle.mm_machines.specs.Link.{Target, AreLegalAt};
 ghost use Rattle.mm_machines.specs.Lines.{IsPipeLine};
 ghost use Rattle.mm_machines.specs.Straight.{KeepsShowing};
-ghost use Rattle.mm_links.specs.Going.{GoesOn, RowGoesOn};
+ghost use Rattle.mm_machines.specs.Machines.{Stage, above, below, RunsAsStage, WaitsOnlyWhenFull, owing_rank};
+ghost use Rattle.mm_links.specs.Going.{KeepsGoing, RowGoesOn};
 ghost use Rattle.mm_links.specs.Links.{IsLink};
 ghost use Rattle.mm_links.specs.Pipes.{PipeSides, RunsAsPipe, side_of, tagged_side, stage_pace, stage_form, HoldsFewBeats};
 
@@ -13,6 +14,17 @@ ghost use Rattle.mm_links.specs.Pipes.{PipeSides, RunsAsPipe, side_of, tagged_si
 pub fn stages_go_on()
     ensures { (stages : ℕ) (pipe : PipeSides) → RunsAsPipe stages pipe → (target : Target) (end : ℕ) → 0 < pipe.shape.word_bytes
         → AreLegalAt (side_of pipe 0) end → RowGoesOn target end (replicate stages stage_pace) (side_of pipe 0) (side_of pipe stages) }
+{
+    mm_machines::machines::stage_is_a_link();
+    mm_machines::machines::stage_has_rank();
+    mm_machines::machines::stage_is_later();
+    mm_machines::machines::transfers_of_beats()
+}
+
+/// A stage of any depth keeps going, with a rank of at most 1.
+pub fn stage_keeps_going()
+    ensures { (stage : Stage) → RunsAsStage stage → 0 < stage.depth → WaitsOnlyWhenFull stage → (target : Target) (end : ℕ)
+        → AreLegalAt (above stage) end → AreLegalAt (below stage) end → KeepsGoing target (above stage) (below stage) (owing_rank (below stage)) 1 end }
 {
     mm_machines::machines::stage_is_a_link();
     mm_machines::machines::stage_has_rank();
