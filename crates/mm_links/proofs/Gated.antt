@@ -51,7 +51,7 @@ read_after_write target port (m ∷ k ∷ ms) n h joined write read =
     read_after_write target port (k ∷ ms) n (and_parts (closes m || goes_on_alike target port m k) (are_joined_alike target port (k ∷ ms ++ n ∷ [])) h).1 joined write read
 
 -- what is left open isn't excused only while its words are owed above and not below
-open_rests : (op lw above below : Bool) → IsTrue op → above ≡ below → IsFalse (below && not (op && lw)) → IsFalse (op && true && (lw || not above)) → ⊥
+pub open_rests : (op lw above below : Bool) → IsTrue op → above ≡ below → IsFalse (below && not (op && lw)) → IsFalse (op && true && (lw || not above)) → ⊥
 open_rests true true true below w e f g = cc
 open_rests true true false below w e f g = cc
 open_rests true false true true w e f g = cc
@@ -72,7 +72,7 @@ four_of false false true d h fa fb fc fd = fc refl
 four_of false false false true h fa fb fc fd = fd refl
 four_of false false false false h fa fb fc fd = no_true h
 
-never_less : (n : ℕ) → IsTrue (nat_lt n n) → ⊥
+pub never_less : (n : ℕ) → IsTrue (nat_lt n n) → ⊥
 never_less n h = let bad : n < n = grind (arith, tests) in omega (arith, bad)
 
 pub by_not : (b : Bool) → IsTrue (not b) → IsFalse b

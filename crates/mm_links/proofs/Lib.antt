@@ -21,3 +21,7 @@ pub mod SplitShown
 pub mod SplitJoins
 pub mod SplitLink
 pub mod SplitPrompt
+pub mod BurstParts
+pub mod BurstSteps
+pub mod BurstLists
+pub mod BurstLink

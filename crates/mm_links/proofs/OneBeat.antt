@@ -1,9 +1,10 @@
 -- A side whose commands have one beat: no burst is ever under way, and each read asks one word.
-use Rattle.std.proofs.Common.{ℕ, zero, suc, ◌<◌, ◌≤◌, ◌≡◌, ◌+◌, ◌*◌, ◌-◌, ◌^◌, Bool, true, false, not, ◌&&◌, List, [], ◌∷◌, ◌++◌, if◌then◌else◌, arith, refl, sym, ap, ap₂, ◌∙◌, map, filter, flat_map, nat_lt, IsFalse, append-nil}
+use Rattle.std.proofs.Common.{ℕ, zero, suc, ◌<◌, ◌≤◌, ◌≡◌, ◌+◌, ◌*◌, ◌/◌, ◌%◌, ◌-◌, ◌^◌, Bool, true, false, not, ◌&&◌, List, [], ◌∷◌, ◌++◌, if◌then◌else◌, arith, refl, sym, ap, ap₂, ◌∙◌, map, filter, flat_map, nat_lt, IsFalse, append-nil, zero-mul, mul-one}
 use Rattle.std.proofs.lemmas.Bool.{and_parts}
 use Rattle.std.proofs.lemmas.List.{map-append}
 use Rattle.std.proofs.lemmas.List.Elements.{filter-append}
 use Rattle.std.proofs.lemmas.Grind.{flat_map-append}
+use Rattle.std.proofs.Math.Nat.{mul-mod_left, mod-eq-sub-div-mul, div-mul-le_self}
 use Rattle.histories.specs.History.{is_raised, only_if, all_accepted, standing}
 use Rattle.histories.specs.Laws.{shown_is_accepted_and_standing}
 use Rattle.mm_runs.specs.Views.{Shape, Levels, levels_at, Kind}
@@ -14,6 +15,17 @@ use Rattle.mm_machines.specs.Link.{Port, Marked, AreLegalAt, takes, marked_at, t
 use Rattle.mm_machines.specs.Machines.{Raw, raw_at, raws}
 use Rattle.mm_machines.specs.SideLaws.{fit_when_shown, marked_keeps}
 use Rattle.mm_links.specs.Selects.{takes_read}
+
+pub aligned : (x bytes : ℕ) → (x - x % bytes) % bytes ≡ 0
+aligned x bytes =
+    let whole : x - x % bytes ≡ x / bytes * bytes = (let low = mod-eq-sub-div-mul x bytes in let fits = div-mul-le_self x bytes in omega (arith, low, fits)) in
+    ap (λ n. n % bytes) whole ∙ mul-mod_left (x / bytes) bytes
+
+pub whole_address : (a unit bytes : ℕ) → unit ≡ 1 → a % bytes ≡ 0 → (a * unit - (a * unit) % bytes) + 0 * bytes ≡ a
+whole_address a unit bytes one low =
+    let same : a * unit ≡ a = ap (λ n. a * n) one ∙ mul-one a in
+    let none = zero-mul bytes in
+    rw (same, low, none) (omega arith)
 
 abbrev pub beat_by : Kind → ℕ → ℕ → ℕ → Beat
 beat_by kind address word enables = record { kind = kind; address = address; word = word; enables = enables }

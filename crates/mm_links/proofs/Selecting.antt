@@ -1,9 +1,9 @@
 -- A lane selector keeps all that a link promises.
-use Rattle.std.proofs.Common.{ℕ, zero, suc, ◌<◌, ◌≤◌, ◌≡◌, ◌+◌, ◌-◌, ◌*◌, ◌/◌, ◌%◌, ◌^◌, Bool, true, false, not, ◌&&◌, ◌||◌, List, [], ◌∷◌, ◌++◌, if◌then◌else◌, arith, refl, sym, ap, ap₂, subst, ◌∙◌, length, flat_map, zip, drop, take, min, nat_lt, IsTrue, append-nil, length-append, le_refl, zero-mul, mul-one, lt-ltb, ltb-false, MatchOption, slice_get, length-drop, mul-le-mul_right, one-mul, le_of_lt}
+use Rattle.std.proofs.Common.{ℕ, zero, suc, ◌<◌, ◌≤◌, ◌≡◌, ◌+◌, ◌-◌, ◌*◌, ◌/◌, ◌%◌, ◌^◌, Bool, true, false, not, ◌&&◌, ◌||◌, List, [], ◌∷◌, ◌++◌, if◌then◌else◌, arith, refl, sym, ap, ap₂, subst, ◌∙◌, length, flat_map, zip, drop, take, min, nat_lt, IsTrue, append-nil, length-append, le_refl, zero-mul, lt-ltb, ltb-false, MatchOption, slice_get, length-drop, mul-le-mul_right, one-mul, le_of_lt}
 use Rattle.std.specs.List.{list_all}
 use Rattle.std.proofs.lemmas.Bool.{and_parts, not-true, ltb-true, or_left}
 use Rattle.std.proofs.lemmas.List.{drop-append-le, drop-drop}
-use Rattle.std.proofs.Math.Nat.{mul-mod_left, mod-eq-sub-div-mul, div-mul-le_self, one-le-pow}
+use Rattle.std.proofs.Math.Nat.{one-le-pow}
 use Rattle.histories.specs.History.{is_raised, only_if, all_accepted, IsPrefix}
 use Rattle.histories.specs.Laws.{prefix_refl, prefix_length, prefix_flat_map, prefix_filter, before_extends}
 use Rattle.mm_runs.specs.Views.{Shape, Levels, levels_at}
@@ -27,7 +27,7 @@ use Rattle.mm_links.proofs.HandOn.{hands_on_shown}
 use Rattle.mm_links.specs.Selects.{RunsAsSelect, IsSelectPlan, EnablesFit, select_form, selected, silenced, offset_in, takes_read, is_shut, first_of}
 use Rattle.mm_links.proofs.Alike.{IsAlike}
 use Rattle.mm_links.proofs.Gated.{gate_carries, gate_joins, gate_lanes, gate_quiet, gate_goes_on, owed_counts, word_counts}
-use Rattle.mm_links.proofs.OneBeat.{beat_by, transfer_by, one_transfer, reads_in, reads_of_one, reads_append, kept_left, free_before, count_is_one}
+use Rattle.mm_links.proofs.OneBeat.{aligned, whole_address, beat_by, transfer_by, one_transfer, reads_in, reads_of_one, reads_append, kept_left, free_before, count_is_one}
 use Rattle.mm_links.proofs.Lanes.{SelectsBeats, cut, bytes_moved, lanes_count, lies_within}
 
 abbrev word_by : ℕ → ℕ → Word
@@ -35,11 +35,6 @@ word_by word code = record { word = word; code = code }
 
 abbrev raw_by : Levels → ℕ → ℕ → Raw
 raw_by levels more tag = record { levels = levels; more = more; tag = tag }
-
-aligned : (x bytes : ℕ) → (x - x % bytes) % bytes ≡ 0
-aligned x bytes =
-    let whole : x - x % bytes ≡ x / bytes * bytes = (let low = mod-eq-sub-div-mul x bytes in let fits = div-mul-le_self x bytes in omega (arith, low, fits)) in
-    ap (λ n. n % bytes) whole ∙ mul-mod_left (x / bytes) bytes
 
 beat_is : (kind : Kind) (a b w v e f : ℕ) → a ≡ b → w ≡ v → e ≡ f → beat_by kind a w e ≡ beat_by kind b v f
 beat_is kind a b w v e f p q r = ap₂ (λ x y. beat_by kind x y e) p q ∙ ap (beat_by kind b v) r
@@ -194,12 +189,6 @@ module _ (law : SelectsBeats) (target : Target) (up down : Port) (many room : �
 
     fits_there : (c : ℕ) → offset c + up.shape.word_bytes ≤ down.shape.word_bytes
     fits_there c = lies_within (up.commands.address c * up.shape.unit_bytes) up.shape.word_bytes many down.shape.word_bytes plan.some (let more = plan.more in omega (arith, more)) plan.whole
-
-    whole_address : (a unit bytes : ℕ) → unit ≡ 1 → a % bytes ≡ 0 → (a * unit - (a * unit) % bytes) + 0 * bytes ≡ a
-    whole_address a unit bytes one low =
-        let same : a * unit ≡ a = ap (λ n. a * n) one ∙ mul-one a in
-        let none = zero-mul bytes in
-        rw (same, low, none) (omega arith)
 
     -- the beat below is the selected one
     below_beat : (c : ℕ) → select_of target.shape.word_bytes (beat_by (if is_raised (up.commands.write c) then Writes else Reads) (byte_address up.shape (up.commands.address c) + 0 * up.shape.word_bytes) (if is_raised (up.commands.write c) then up.commands.word c else 0) (up.commands.enables c))

@@ -1,8 +1,8 @@
 -- Runs of the machines, for all that is shown to them: the state is told by recursion on the cycle.
-use Rattle.std.specs.Prelude.{ℕ, zero, suc, ◌+◌, ◌-◌, ◌*◌, ◌/◌, ◌%◌, ◌^◌, max, ◌&&◌, ◌||◌, Bool, not, List, [], ◌∷◌, ◌++◌, length, drop, if◌then◌else◌, nat_lt, nat_eq}
+use Rattle.std.specs.Prelude.{ℕ, zero, suc, ◌+◌, ◌-◌, ◌*◌, ◌/◌, ◌%◌, ◌^◌, max, ◌&&◌, ◌||◌, Bool, true, not, List, [], ◌∷◌, ◌++◌, length, drop, if◌then◌else◌, nat_lt, nat_eq}
 use Rattle.histories.specs.History.{is_raised, one_if, only_if}
 use Rattle.mm_runs.specs.Views.{Shape, Signals, Levels, levels_at}
-use Rattle.mm_runs.specs.Commands.{shows}
+use Rattle.mm_runs.specs.Commands.{Burst, shows, burst_after}
 use Rattle.mm_machines.specs.Paths.{CommandView, AnswerView}
 use Rattle.mm_machines.specs.Link.{Port}
 use Rattle.mm_runs.specs.Legal.{Word}
@@ -10,6 +10,7 @@ use Rattle.mm_machines.specs.Machines.{Raw, idle, split_parts, beat_of}
 use Rattle.mm_links.specs.Pipes.{PipeSides}
 use Rattle.mm_links.specs.Selects.{offset_in, selected, silenced, first_of}
 use Rattle.mm_links.specs.Splits.{SplitState, pieces_asked, are_same, nothing}
+use Rattle.mm_links.specs.Bursts.{BurstState, Rest, reads_from, cut_parts, head_or, after_beat, behind_first}
 
 -- what is shown to a link: commands from above, wait and answers from below
 pub record Inputs : Type 0 where
@@ -236,6 +237,76 @@ split_below given = record {
     signals = signals_of (λ c. (split_part given (split_registers given c) c).levels);
     more = λ c. (split_part given (split_registers given c) c).more;
     tag = λ c. (split_part given (split_registers given c) c).tag;
+    waitrequest = given.inputs.waitrequest;
+  };
+  answers = given.inputs.answers;
+}
+
+-- ---- a cutter of bursts
+
+pub record BurstInputs : Type 0 where
+  pub shape : Shape
+  pub below : Shape
+  pub inputs : Inputs
+
+-- the registers in one cycle
+pub record BurstRegisters : Type 0 where
+  pub burst : Burst
+  pub rest : Rest
+
+abbrev pub burst_raw : BurstInputs → ℕ → Raw
+burst_raw given c = record { levels = levels_at given.inputs.signals c; more = given.inputs.more c; tag = given.inputs.tag c }
+
+abbrev pub burst_sends : BurstRegisters → Bool
+burst_sends now = nat_lt 0 now.rest.left
+
+abbrev pub burst_beat : BurstInputs → BurstRegisters → ℕ → Raw
+burst_beat given now c =
+    if burst_sends now then head_or (burst_raw given c) (reads_from given.shape.word_bytes now.rest.command now.rest.address now.rest.left)
+    else head_or (burst_raw given c) (cut_parts given.shape now.burst (burst_raw given c))
+
+abbrev pub burst_shows : BurstInputs → BurstRegisters → ℕ → Bool
+burst_shows given now c = if burst_sends now then true else shows given.inputs.signals c
+
+abbrev pub burst_part : BurstInputs → BurstRegisters → ℕ → Raw
+burst_part given now c = if burst_shows given now c then burst_beat given now c else silent_raw
+
+abbrev pub burst_takes_below : BurstInputs → BurstRegisters → ℕ → Bool
+burst_takes_below given now c = shows_raw (burst_part given now c) && not (is_raised (given.inputs.waitrequest c))
+
+abbrev pub burst_waits : BurstInputs → BurstRegisters → ℕ → ℕ
+burst_waits given now c = one_if (burst_sends now || is_raised (given.inputs.waitrequest c))
+
+abbrev pub burst_takes : BurstInputs → BurstRegisters → ℕ → Bool
+burst_takes given now c = shows given.inputs.signals c && not (is_raised (burst_waits given now c))
+
+abbrev pub burst_registers : BurstInputs → ℕ → BurstRegisters
+burst_registers given zero = record { burst = idle; rest = record { left = 0; address = 0; command = silent_raw } }
+burst_registers given (suc c) =
+    let now = burst_registers given c in
+    record {
+      burst = burst_after given.shape (levels_at given.inputs.signals c) (burst_takes given now c) now.burst;
+      rest = if burst_sends now then (if burst_takes_below given now c then after_beat given.shape.word_bytes now.rest else now.rest)
+          else if burst_takes given now c && not (is_raised (given.inputs.signals.write c)) then behind_first given.shape (burst_raw given c) else now.rest;
+    }
+
+abbrev pub burst_state : BurstInputs → BurstState
+burst_state given = record { burst = λ c. (burst_registers given c).burst; rest = λ c. (burst_registers given c).rest }
+
+abbrev pub burst_above : BurstInputs → Port
+burst_above given = record {
+  shape = given.shape;
+  commands = record { signals = given.inputs.signals; more = given.inputs.more; tag = given.inputs.tag; waitrequest = λ c. burst_waits given (burst_registers given c) c };
+  answers = given.inputs.answers;
+}
+
+abbrev pub burst_below : BurstInputs → Port
+burst_below given = record {
+  shape = given.below;
+  commands = record {
+    signals = signals_of (λ c. (burst_part given (burst_registers given c) c).levels);
+    more = λ c. (burst_part given (burst_registers given c) c).more;
+    tag = λ c. (burst_part given (burst_registers given c) c).tag;
     waitrequest = given.inputs.waitrequest;
   };
   answers = given.inputs.answers;

@@ -3,4 +3,5 @@ pub mod Links
 pub mod Pipes
 pub mod Selects
 pub mod Splits
+pub mod Bursts
 pub mod Driven

@@ -1,6 +1,8 @@
 //! Runs of the machines exist for all that is shown to them.
 
 ghost use Rattle.mm_links.specs.Driven.{SelectInputs, PipeInputs, SplitInputs, select_above, select_below, select_queue, pipe_run, split_above, split_below, split_state};
+ghost use Rattle.mm_links.specs.Driven.{BurstInputs, burst_above, burst_below, burst_state};
+ghost use Rattle.mm_links.specs.Bursts.{RunsAsBurst};
 ghost use Rattle.mm_links.specs.Pipes.{RunsAsPipe};
 ghost use Rattle.mm_links.specs.Selects.{RunsAsSelect};
 ghost use Rattle.mm_links.specs.Splits.{RunsAsSplit};
@@ -18,4 +20,9 @@ pub fn pipe_runs()
 /// There is a run of a splitter for all commands, waits and answers.
 pub fn split_runs()
     ensures { (given : SplitInputs) → RunsAsSplit given.room (split_above given) (split_below given) (split_state given) }
+{}
+
+/// There is a run of a cutter of bursts for all commands, waits and answers.
+pub fn burst_runs()
+    ensures { (given : BurstInputs) → RunsAsBurst (burst_above given) (burst_below given) (burst_state given) }
 {}

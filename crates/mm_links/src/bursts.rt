@@ -1,0 +1,14 @@
+//! Links that cut bursts.
+
+ghost use Rattle.std.specs.Prelude.{ℕ, Bool};
+ghost use Rattle.mm_machines.specs.Link.{Target, Port};
+ghost use Rattle.mm_links.specs.Links.{IsLink};
+ghost use Rattle.mm_links.specs.Bursts.{BurstState, RunsAsBurst, IsBurstPlan, burst_form};
+
+/// A cutter of bursts keeps all that a link promises.
+pub fn burst_is_a_link()
+    ensures { (target : Target) (up down : Port) (state : BurstState) (end : ℕ) → IsBurstPlan up.shape down.shape → RunsAsBurst up down state
+        → IsLink (burst_form target) up down end }
+{
+    mm_machines::wires::wire_is_a_row()
+}
