@@ -1,9 +1,9 @@
--- Small runs of links, right and wrong: a wire, a pipe, a lane selector and a splitter.
-use Rattle.std.specs.Prelude.{ℕ, true, [], ◌∷◌}
+-- Small runs of links, right and wrong: a wire, a pipe, a lane selector, a splitter and a cutter of bursts.
+use Rattle.std.specs.Prelude.{ℕ, true, List, [], ◌∷◌}
 use Rattle.mm_runs.specs.Views.{Shape}
 use Rattle.mm_machines.specs.Link.{Port, Target}
 use Rattle.mm_machines.specs.Lines.{TaggedPort}
-use Rattle.mm_links.specs.Driven.{Inputs, SelectInputs, PipeInputs, SplitInputs}
+use Rattle.mm_links.specs.Driven.{Inputs, SelectInputs, PipeInputs, SplitInputs, BurstInputs}
 use Rattle.mm_examples.specs.Examples.{signal, always}
 use Rattle.mm_examples.specs.MoreExamples.{write_port}
 
@@ -140,3 +140,55 @@ swaps_bytes = record {
 
 abbrev pub byte_lanes : Target
 byte_lanes = record { shape = lane_shape 1; span = 16 }
+
+-- ---- a cutter of bursts
+
+abbrev pub burst_shape : ℕ → Shape
+burst_shape bytes = record { word_bytes = bytes; unit_bytes = 1; burst_bits = 3; has_enables = true }
+
+-- a read of three words at address 8, then a write of two words at address 32, which waits until the read has gone
+abbrev pub cutting : BurstInputs
+cutting = record {
+  shape = burst_shape 4;
+  below = lane_shape 4;
+  inputs = record {
+    signals = record {
+      read = signal (1 ∷ []);
+      write = signal (0 ∷ 1 ∷ 1 ∷ 1 ∷ 1 ∷ []);
+      address = signal (8 ∷ 32 ∷ 32 ∷ 32 ∷ 0 ∷ []);
+      word = signal (0 ∷ 0xaa ∷ 0xaa ∷ 0xaa ∷ 0xbb ∷ []);
+      enables = always 15;
+      count = signal (3 ∷ 2 ∷ 2 ∷ 2 ∷ 0 ∷ []);
+    };
+    more = signal (0 ∷ 1 ∷ 1 ∷ 1 ∷ 0 ∷ []);
+    tag = always 0;
+    waitrequest = always 0;
+    answers = record { valid = always 0; word = always 0; code = always 0 };
+  };
+}
+
+-- a read of two bytes at address 2, with waits above and a word in cycle 1
+abbrev pub two_bytes : List ℕ → Port
+two_bytes waits = record {
+  shape = burst_shape 1;
+  commands = record {
+    signals = record { read = signal (1 ∷ waits); write = always 0; address = always 2; word = always 0; enables = always 1; count = always 2 };
+    more = always 0;
+    tag = always 0;
+    waitrequest = signal waits;
+  };
+  answers = record { valid = signal (0 ∷ 1 ∷ []); word = always 9; code = always 0 };
+}
+
+-- its beats, with or without `more` on the first one
+abbrev pub two_beats : ℕ → Port
+two_beats more = record {
+  shape = lane_shape 1;
+  commands = record {
+    signals = record { read = signal (1 ∷ 1 ∷ []); write = always 0; address = signal (2 ∷ 3 ∷ []); word = always 0; enables = always 1; count = always 1 };
+    more = signal (more ∷ []);
+    tag = always 0;
+    waitrequest = always 0;
+  };
+  answers = record { valid = signal (0 ∷ 1 ∷ []); word = always 9; code = always 0 };
+}

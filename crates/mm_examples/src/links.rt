@@ -3,11 +3,12 @@
 ghost use Rattle.std.specs.Prelude.{◌≡◌, ◌∷◌, [], true, false, map};
 ghost use Rattle.mm_runs.specs.Views.{levels_at};
 ghost use Rattle.mm_runs.specs.Commands.{shows};
-ghost use Rattle.mm_machines.specs.Link.{CarriesCommands, words_at, taken_at};
+ghost use Rattle.mm_machines.specs.Link.{CarriesCommands, takes, words_at, taken_at};
 ghost use Rattle.mm_machines.specs.Lines.{BringsBack, PipeCarriesCommands, AreDelayed};
-ghost use Rattle.mm_links.specs.Driven.{select_above, select_below, split_above, split_below, pipe_run};
+ghost use Rattle.mm_links.specs.Driven.{select_above, select_below, split_above, split_below, burst_above, burst_below, pipe_run};
 ghost use Rattle.mm_links.specs.Pipes.{side_of};
 ghost use Rattle.mm_examples.specs.LinkRuns.{two_writes, hides_wait, shows_twice, selecting, lane_target, read_port, three_writes, tagged_port, stage_top, newer_first, answered_at_once, accepts_early, gathering, byte_lanes, byte_reads, swaps_bytes};
+ghost use Rattle.mm_examples.specs.LinkRuns.{cutting, two_bytes, two_beats};
 ghost use Rattle.mm_examples.specs.MoreExamples.{byte_target, byte_side};
 ghost use Rattle.mm_examples.specs.WireRows.{one_read_system};
 
@@ -49,4 +50,15 @@ pub fn splitters()
     ensures words { words_at (split_above gathering) 3 ≡ (record { word = 0x00bbcc00; code = 2 }) ∷ [] }
     ensures early { CarriesCommands byte_target 0 accepts_early byte_side 2 → ⊥ }
     ensures swapped { BringsBack byte_lanes swaps_bytes byte_reads 3 → ⊥ }
+{}
+
+/// A read of three words and a write of two are sent beat by beat, joined by `more`; the read is accepted with its first beat, and the write waits.
+/// A cutter that leaves `more` low ends a command too early. One that accepts a read with its last beat gives a word that isn't owed.
+pub fn bursts()
+    ensures places { map (λ m. m.transfer.first) (taken_at (burst_below cutting) 5) ≡ 8 ∷ 12 ∷ 16 ∷ 32 ∷ 36 ∷ [] }
+    ensures joined { map (λ m. m.more) (taken_at (burst_below cutting) 5) ≡ true ∷ true ∷ false ∷ true ∷ false ∷ [] }
+    ensures accepts { takes (burst_above cutting) 0 ≡ true }
+    ensures waits { takes (burst_above cutting) 2 ≡ false }
+    ensures loose { CarriesCommands byte_lanes 1 (two_bytes []) (two_beats 0) 2 → ⊥ }
+    ensures late { BringsBack byte_lanes (two_bytes (1 ∷ [])) (two_beats 1) 2 → ⊥ }
 {}
