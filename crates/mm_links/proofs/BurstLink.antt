@@ -1,5 +1,5 @@
 -- A cutter of bursts keeps all that a link promises.
-use Rattle.std.proofs.Common.{ℕ, zero, suc, ◌<◌, ◌≤◌, ◌≡◌, ◌-◌, ◌/◌, min, Bool, true, false, not, ◌&&◌, ◌||◌, List, [], ◌∷◌, ◌++◌, if◌then◌else◌, arith, refl, sym, ap, ap₂, subst, ◌∙◌, length, map, zip, flat_map, nat_lt, nat_eq, IsTrue, IsFalse, append-nil, append_assoc, ltb-true, le_refl, le-leb, leb-true}
+use Rattle.std.proofs.Common.{ℕ, zero, suc, ◌<◌, ◌≤◌, ◌≡◌, ◌-◌, ◌/◌, min, Bool, true, false, not, ◌&&◌, ◌||◌, List, [], ◌∷◌, ◌++◌, if◌then◌else◌, arith, refl, sym, ap, ap₂, subst, ◌∙◌, length, map, take, zip, flat_map, nat_lt, nat_eq, IsTrue, IsFalse, append-nil, append_assoc, ltb-true, le_refl, le-leb, leb-true}
 use Rattle.std.specs.List.{list_all}
 use Rattle.std.proofs.lemmas.Bool.{and_parts, not-true, or_left, or_right, or_parts, both_ways}
 use Rattle.std.proofs.lemmas.List.{map-append, length-map}
@@ -71,10 +71,10 @@ module _ (target : Target) (up down : Port) (state : BurstState) (plan : IsBurst
   abbrev step : ℕ → Step
   step c = step_at up down state run c
 
-  shows_taken : (c : ℕ) → takes up c ≡ true → shows up.commands.signals c ≡ true
+  pub shows_taken : (c : ℕ) → takes up c ≡ true → shows up.commands.signals c ≡ true
   shows_taken c t = (and_parts (shows up.commands.signals c) (not (is_raised (up.commands.waitrequest c))) t).0
 
-  all_sent : (c : ℕ) → c ≤ end → All (taken_steps c)
+  pub all_sent : (c : ℕ) → c ≤ end → All (taken_steps c)
   all_sent zero h = tt
   all_sent (suc c) h = by_take (all_sent c (omega (arith, h))) (takes up c) refl
     where
@@ -87,7 +87,7 @@ module _ (target : Target) (up down : Port) (state : BurstState) (plan : IsBurst
   abbrev shown_steps : ℕ → List Step
   shown_steps c = taken_steps c ++ standing (shows up.commands.signals) (takes up) step c
 
-  up_shown : (c : ℕ) → c ≤ end → shown_at up c ≡ map above_of (taken_steps c ++ standing (shows up.commands.signals) (takes up) step c)
+  pub up_shown : (c : ℕ) → c ≤ end → shown_at up c ≡ map above_of (taken_steps c ++ standing (shows up.commands.signals) (takes up) step c)
   up_shown c h =
       shown_is_accepted_and_standing (shows up.commands.signals) (takes up) (marked_at up) end c (marked_keeps up end legal) h
       ∙ ap₂ (λ x y. x ++ y) (up_steps up down state run c) (stood c) ∙ sym (map-append above_of (taken_steps c) (standing (shows up.commands.signals) (takes up) step c))
@@ -100,7 +100,7 @@ module _ (target : Target) (up down : Port) (state : BurstState) (plan : IsBurst
           by_held true = refl
           by_held false = refl
 
-  all_shown : (c : ℕ) → c ≤ end → All (taken_steps c ++ standing (shows up.commands.signals) (takes up) step c)
+  pub all_shown : (c : ℕ) → c ≤ end → All (taken_steps c ++ standing (shows up.commands.signals) (takes up) step c)
   all_shown zero h = tt
   all_shown (suc c) h = by_held (is_held up.commands.signals (takes up) c) refl
     where
@@ -215,10 +215,10 @@ module _ (target : Target) (up down : Port) (state : BurstState) (plan : IsBurst
           some_parts : shows up.commands.signals c ≡ true → 0 < length (step c).parts
           some_parts above = subst (λ l. 0 < length l) (sym (parts_step up down state run end legal c h above (is_raised (up.commands.write c)) refl)) (omega arith)
 
-  one_shown : (c : ℕ) → c < end → shows down.commands.signals c ≡ true → down.commands.count c ≡ 1
+  pub one_shown : (c : ℕ) → c < end → shows down.commands.signals c ≡ true → down.commands.count c ≡ 1
   one_shown c h shown = (stems c h shown).count
 
-  shows_down : (c : ℕ) → takes down c ≡ true → shows down.commands.signals c ≡ true
+  pub shows_down : (c : ℕ) → takes down c ≡ true → shows down.commands.signals c ≡ true
   shows_down c t = (and_parts (shows down.commands.signals c) (not (is_raised (down.commands.waitrequest c))) t).0
 
   -- ---- the commands below are legal
@@ -328,20 +328,24 @@ module _ (target : Target) (up down : Port) (state : BurstState) (plan : IsBurst
   down_shown c h =
       subst (λ l. IsPrefix l (map low (all_parts (taken_steps c ++ standing (shows up.commands.signals) (takes up) step c)))) (sym (flat_shown down end legal_below one_shown c h)) (prefix_map low (shown_front c h))
 
-  down_taken : (c : ℕ) → c ≤ end → taken_at down c ≡ map low (raws down c)
+  pub down_taken : (c : ℕ) → c ≤ end → taken_at down c ≡ map low (raws down c)
   down_taken = flat_taken down end legal_below one_shown
 
   -- ---- one transfer at most is held
 
-  record Holds (c : ℕ) : Type 0 where
+  abbrev first_part : Step → List Raw
+  first_part s = take 1 s.parts
+
+  pub record Holds (c : ℕ) : Type 0 where
     pub front : List Step
     pub last : List Step
     pub whole : taken_steps c ≡ front ++ last
     pub few : length last ≤ 1
     pub reached : IsPrefix (all_parts front) (raws down c)
+    pub begun : IsPrefix (all_parts front ++ flat_map first_part last) (raws down c)
 
-  holds : (c : ℕ) → c ≤ end → Holds c
-  holds zero h = record { front = []; last = []; whole = refl; few = omega arith; reached = prefix_refl [] }
+  pub holds : (c : ℕ) → c ≤ end → Holds c
+  holds zero h = record { front = []; last = []; whole = refl; few = omega arith; reached = prefix_refl []; begun = prefix_refl [] }
   holds (suc c) h = by_take (holds c (omega (arith, h))) (takes up c) refl
     where
       by_take : Holds c → (t : Bool) → takes up c ≡ t → Holds (suc c)
@@ -351,6 +355,7 @@ module _ (target : Target) (up down : Port) (state : BurstState) (plan : IsBurst
         whole = ap (λ b. taken_steps c ++ only_if b (step c)) t ∙ append-nil (taken_steps c) ∙ now.whole;
         few = now.few;
         reached = prefix_trans now.reached (before_extends (λ k. only_if (takes down k) (raw_at down k)) c);
+        begun = prefix_trans now.begun (before_extends (λ k. only_if (takes down k) (raw_at down k)) c);
       }
       by_take now true t = by_sends (is_sending state c) refl
         where
@@ -363,9 +368,17 @@ module _ (target : Target) (up down : Port) (state : BurstState) (plan : IsBurst
             few = omega arith;
             reached = prefix_trans (record { rest = []; joins = append-nil _ ∙ sym (gone up down state run end legal c (omega (arith, h))) ∙ ap (λ l. raws down c ++ l) (none_at up down state run c s) ∙ append-nil (raws down c) })
                 (before_extends (λ k. only_if (takes down k) (raw_at down k)) c);
+            begun = (let taken : takes down c ≡ true = sym (takes_same up down state run c s) ∙ t in
+                let shown = shows_taken c t in
+                let before : raws down c ≡ all_parts (taken_steps c) = sym (append-nil (raws down c)) ∙ ap (λ l. raws down c ++ l) (sym (none_at up down state run c s)) ∙ gone up down state run end legal c (omega (arith, h)) in
+                let first : first_part (step c) ≡ raw_at down c ∷ [] = ap (λ l. take 1 l) (parts_step up down state run end legal c (omega (arith, h)) shown (is_raised (up.commands.write c)) refl) ∙ ap (λ x. x ∷ []) (sym (beat_first up down state run c s (shows_down c taken))) in
+                record {
+                  rest = [];
+                  joins = append-nil _ ∙ ap₂ (λ x y. x ++ y) (sym before) (append-nil (first_part (step c)) ∙ first) ∙ ap (λ b. raws down c ++ only_if b (raw_at down c)) (sym taken);
+                });
           }
 
-  sent_front : (xs ys : List Step) → All (xs ++ ys) → All xs
+  pub sent_front : (xs ys : List Step) → All (xs ++ ys) → All xs
   sent_front [] ys all = tt
   sent_front (x ∷ xs) ys all = (all.0, sent_front xs ys all.1)
 
@@ -440,12 +453,12 @@ module _ (target : Target) (up down : Port) (state : BurstState) (plan : IsBurst
   words_same zero = refl
   words_same (suc c) = ap₂ (λ x y. x ++ y) (words_same c) (ap₂ (λ v w. only_if (is_raised v) w) (run.valid c) (ap₂ (λ w k. word_by w k) (run.word c) (run.code c)))
 
-  reads_front : (c : ℕ) → c ≤ end → IsPrefix (read_beats (taken_at down c)) (read_beats (taken_at up c))
+  pub reads_front : (c : ℕ) → c ≤ end → IsPrefix (read_beats (taken_at down c)) (read_beats (taken_at up c))
   reads_front c h =
       subst (λ l. IsPrefix (read_beats (taken_at down c)) l) (all_reads target up.shape down.shape plan.same (taken_steps c) (all_sent c h) ∙ ap read_beats (sym (up_steps up down state run c)))
       (prefix_flat_map (λ (m : Marked). m.transfer.beats) (prefix_filter (λ (m : Marked). is_of_reads m.transfer.kind) (subst (λ l. IsPrefix l (map low (all_parts (taken_steps c)))) (sym (down_taken c h)) (prefix_map low (taken_front c h)))))
 
-  few_words : (c : ℕ) → AnswersAreOwed down c → length (words_at down c) ≤ words_owed down c
+  pub few_words : (c : ℕ) → AnswersAreOwed down c → length (words_at down c) ≤ words_owed down c
   few_words zero owed = omega arith
   few_words (suc c) owed =
       let there = owed c (omega arith) in
@@ -496,7 +509,7 @@ module _ (target : Target) (up down : Port) (state : BurstState) (plan : IsBurst
   -- ---- how it goes on
 
   -- where no beat is left, all that was accepted is taken
-  all_gone : (c : ℕ) → c ≤ end → is_sending state c ≡ false → taken_at down c ≡ map low (all_parts (taken_steps c))
+  pub all_gone : (c : ℕ) → c ≤ end → is_sending state c ≡ false → taken_at down c ≡ map low (all_parts (taken_steps c))
   all_gone c h e = down_taken c h ∙ ap (map low) (sym (append-nil (raws down c)) ∙ ap (λ l. raws down c ++ l) (sym (none_at up down state run c e)) ∙ gone up down state run end legal c h)
 
   owed_when_gone : (c : ℕ) → c < end → is_sending state (suc c) ≡ false → is_owed up c ≡ is_owed down c
@@ -504,7 +517,7 @@ module _ (target : Target) (up down : Port) (state : BurstState) (plan : IsBurst
       ap₂ (λ a b. nat_lt a b) (ap length (words_same (suc c)))
       (ap (λ l. length (read_beats l)) (up_steps up down state run (suc c)) ∙ ap length (sym (all_reads target up.shape down.shape plan.same (taken_steps (suc c)) (all_sent (suc c) h))) ∙ ap (λ l. length (read_beats l)) (sym (all_gone (suc c) h e)))
 
-  still_sending : (c : ℕ) → is_sending state c ≡ false → takes up c ≡ false → is_sending state (suc c) ≡ false
+  pub still_sending : (c : ℕ) → is_sending state c ≡ false → takes up c ≡ false → is_sending state (suc c) ≡ false
   still_sending c e t = ap (λ (r : Rest). nat_lt 0 r.left) (rest_first up down state run c false e (ap (λ b. b && not (is_raised (up.commands.write c))) t)) ∙ e
 
   gives : GivesWhatHasCome target up down end

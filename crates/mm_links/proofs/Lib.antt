@@ -25,3 +25,4 @@ pub mod BurstParts
 pub mod BurstSteps
 pub mod BurstLists
 pub mod BurstLink
+pub mod BurstStraight

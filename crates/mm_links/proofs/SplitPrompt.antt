@@ -26,11 +26,11 @@ use Rattle.mm_links.proofs.SplitShown.{going_front, upper_acts, acts, ArePartsOf
 use Rattle.mm_links.proofs.SplitShown.ArePartsOf.{last_part, more_parts, no_parts}
 use Rattle.mm_links.proofs.SplitLink.{Carries, carried, one_up, one_down, up_taken, shut, reached_all}
 
-some_in : {A : Type 0} (xs : List A) → is_nonempty xs ≡ true → 0 < length xs
+pub some_in : {A : Type 0} (xs : List A) → is_nonempty xs ≡ true → 0 < length xs
 some_in [] h = cc
 some_in (x ∷ xs) h = omega arith
 
-is_some : {A : Type 0} (xs : List A) → 0 < length xs → is_nonempty xs ≡ true
+pub is_some : {A : Type 0} (xs : List A) → 0 < length xs → is_nonempty xs ≡ true
 is_some [] h = absurd (omega (arith, h))
 is_some (x ∷ xs) h = refl
 
@@ -108,16 +108,16 @@ module _ (law : HasPieces) (target : Target) (wide narrow : Shape) (count : ℕ)
       let same : part ≡ x = cc in
       first_acts x l (ap (λ (r : Raw). is_nonempty (operations_in target narrow (flat_mark narrow r))) (sym same) ∙ is.acts_so ∙ e)
 
-get_low : {A : Type 0} (xs : List A) (n : ℕ) (x : A) → slice_get xs n ≡ Some x → n < length xs
+pub get_low : {A : Type 0} (xs : List A) (n : ℕ) (x : A) → slice_get xs n ≡ Some x → n < length xs
 get_low [] n x h = cc
 get_low (y ∷ ys) zero x h = omega arith
 get_low (y ∷ ys) (suc n) x h = let rest = get_low ys n x h in omega (arith, rest)
 
-get_end : {A : Type 0} (xs : List A) (y x : A) → slice_get (xs ++ y ∷ []) (length xs) ≡ Some x → y ≡ x
+pub get_end : {A : Type 0} (xs : List A) (y x : A) → slice_get (xs ++ y ∷ []) (length xs) ≡ Some x → y ≡ x
 get_end [] y x h = cc
 get_end (z ∷ zs) y x h = get_end zs y x h
 
-take_front_of : {A : Type 0} (xs ys : List A) → take (length xs) (xs ++ ys) ≡ xs
+pub take_front_of : {A : Type 0} (xs ys : List A) → take (length xs) (xs ++ ys) ≡ xs
 take_front_of [] ys = refl
 take_front_of (x ∷ xs) ys = ap (λ l. x ∷ l) (take_front_of xs ys)
 

@@ -1,8 +1,8 @@
 //! Links that cut bursts.
 
-ghost use Rattle.std.specs.Prelude.{ℕ, Bool};
+ghost use Rattle.std.specs.Prelude.{ℕ, Bool, false};
 ghost use Rattle.mm_machines.specs.Link.{Target, Port};
-ghost use Rattle.mm_links.specs.Links.{IsLink};
+ghost use Rattle.mm_links.specs.Links.{IsLink, IsStraightLink};
 ghost use Rattle.mm_links.specs.Bursts.{BurstState, RunsAsBurst, IsBurstPlan, burst_form};
 
 /// A cutter of bursts keeps all that a link promises.
@@ -12,3 +12,9 @@ pub fn burst_is_a_link()
 {
     mm_machines::wires::wire_is_a_row()
 }
+
+/// A cutter of bursts is prompt, and a plain command goes straight through it once all earlier words are given.
+pub fn burst_is_straight()
+    ensures { (target : Target) (up down : Port) (state : BurstState) (end : ℕ) → IsBurstPlan up.shape down.shape → RunsAsBurst up down state
+        → (few : ℕ) (may_burst : Bool) → IsStraightLink few false may_burst target up down end }
+{}
