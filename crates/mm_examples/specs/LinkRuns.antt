@@ -192,3 +192,17 @@ two_beats more = record {
   };
   answers = record { valid = signal (0 ∷ 1 ∷ []); word = always 9; code = always 0 };
 }
+
+-- a read of two bytes without an enabled lane, and behind it a plain write, which comes while the second beat of the read is sent
+abbrev pub behind_empty : BurstInputs
+behind_empty = record {
+  shape = burst_shape 1;
+  below = lane_shape 1;
+  inputs = record {
+    signals = record { read = signal (1 ∷ []); write = signal (0 ∷ 1 ∷ []); address = signal (2 ∷ 5 ∷ []); word = always 7; enables = signal (0 ∷ 1 ∷ []); count = signal (2 ∷ 1 ∷ []) };
+    more = always 0;
+    tag = always 0;
+    waitrequest = always 0;
+    answers = record { valid = always 0; word = always 0; code = always 0 };
+  };
+}

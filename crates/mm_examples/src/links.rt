@@ -8,7 +8,8 @@ ghost use Rattle.mm_machines.specs.Lines.{BringsBack, PipeCarriesCommands, AreDe
 ghost use Rattle.mm_links.specs.Driven.{select_above, select_below, split_above, split_below, burst_above, burst_below, pipe_run};
 ghost use Rattle.mm_links.specs.Pipes.{side_of};
 ghost use Rattle.mm_examples.specs.LinkRuns.{two_writes, hides_wait, shows_twice, selecting, lane_target, read_port, three_writes, tagged_port, stage_top, newer_first, answered_at_once, accepts_early, gathering, byte_lanes, byte_reads, swaps_bytes};
-ghost use Rattle.mm_examples.specs.LinkRuns.{cutting, two_bytes, two_beats};
+ghost use Rattle.mm_examples.specs.LinkRuns.{cutting, two_bytes, two_beats, behind_empty};
+ghost use Rattle.mm_machines.specs.Straight.{GoesStraightThrough};
 ghost use Rattle.mm_examples.specs.MoreExamples.{byte_target, byte_side};
 ghost use Rattle.mm_examples.specs.WireRows.{one_read_system};
 
@@ -54,6 +55,7 @@ pub fn splitters()
 
 /// A read of three words and a write of two are sent beat by beat, joined by `more`; the read is accepted with its first beat, and the write waits.
 /// A cutter that leaves `more` low ends a command too early. One that accepts a read with its last beat gives a word that isn't owed.
+/// While words of an earlier read without lanes are owed, a plain write doesn't go straight through a cutter.
 pub fn bursts()
     ensures places { map (λ m. m.transfer.first) (taken_at (burst_below cutting) 5) ≡ 8 ∷ 12 ∷ 16 ∷ 32 ∷ 36 ∷ [] }
     ensures joined { map (λ m. m.more) (taken_at (burst_below cutting) 5) ≡ true ∷ true ∷ false ∷ true ∷ false ∷ [] }
@@ -61,4 +63,5 @@ pub fn bursts()
     ensures waits { takes (burst_above cutting) 2 ≡ false }
     ensures loose { CarriesCommands byte_lanes 1 (two_bytes []) (two_beats 0) 2 → ⊥ }
     ensures late { BringsBack byte_lanes (two_bytes (1 ∷ [])) (two_beats 1) 2 → ⊥ }
+    ensures behind { GoesStraightThrough (λ c. true) byte_lanes (burst_above behind_empty) (burst_below behind_empty) 2 → ⊥ }
 {}

@@ -19,3 +19,6 @@ returns-clause-loose c = λ carries. (let joins = (carries.in_order 2 (omega ari
 
 pub returns-clause-late : goal.returns-clause-late
 returns-clause-late c = λ back. not-suc-le-zero (back.owed 1 (omega arith))
+
+pub returns-clause-behind : goal.returns-clause-behind
+returns-clause-behind c = λ straight. (let same = (straight.shown 1 (omega arith) refl refl refl).1 in cc)
