@@ -1,9 +1,10 @@
 use Rattle.std.proofs.Common.{◌≡◌, ◌^◌, ◌<◌, subst, ◌∙◌, arith}
 use Rattle.netlist.specs.Runs.{Always}
-use Rattle.net_parts.specs.Laws.{valued_fits, if_ok}
+use Rattle.net_parts.specs.Laws.{valued_fits, if_ok, adds_fewer, adds_twice, grows_once}
 use Rattle.net_parts.specs.Nets.{IsNetOfWidth}
 use Rattle.st_format.specs.ClearNets.{without_low}
 use Rattle.st_format.proofs.ClearLaw.{low_all, low_some}
+use Rattle.stage_core.specs.Refusing.{handed_on}
 use Rattle.st_format.proofs.clear.clear_low.Goals as goal
 
 pub returns-clause-net : goal.returns-clause-net
@@ -28,3 +29,36 @@ returns-then-low-width-clause-value c cycle v1 =
     let v0 = c.constant.ensures.adds.grows.extends.valuations cycle v1 in
     let same : c.args.word.width ≡ c.args.low = omega (arith, c.width-width.ensures.value) in
     c.in_ok-zeros.ensures.value cycle v1 ∙ low_all (cycle.net c.args.word.number) c.args.low (subst (λ w. cycle.net c.args.word.number < 2 ^ w) same (valued_fits _ cycle v0 _ _ c.requires.word))
+
+pub returns-in_err-zeros-clause-full : goal.returns-in_err-zeros-clause-full
+returns-in_err-zeros-clause-full c e = let full = c.constant.ensures.full (handed_on _ _ _ _ c.in_err-zeros.was c.from_residual.ensures.1 e) in omega (arith, full)
+
+pub returns-in_err-high-clause-full : goal.returns-in_err-high-clause-full
+returns-in_err-high-clause-full c e = let most0 = c.constant.ensures.adds.most in let full = c.slice.ensures.full.0 (handed_on _ _ _ _ c.in_err-high.was c.from_residual-in_err-high.ensures.1 e) in omega (arith, most0, full)
+
+pub returns-clause-full : goal.returns-clause-full
+returns-clause-full c e = let most0 = c.constant.ensures.adds.most in let most1 = c.slice.ensures.grows.most in let full = c.concat.ensures.full.0 e in omega (arith, most0, most1, full)
+
+pub returns-then-low-width-clause-full : goal.returns-then-low-width-clause-full
+returns-then-low-width-clause-full c e = cc
+
+pub slice-requires-clause-a_is : goal.slice-requires-clause-a_is
+slice-requires-clause-a_is c = c.constant.ensures.adds.grows.extends.nets _ _ c.requires.word
+
+pub concat-requires-clause-a_is : goal.concat-requires-clause-a_is
+concat-requires-clause-a_is c = c.in_ok-high.ensures.net.0
+
+pub concat-requires-clause-b_is : goal.concat-requires-clause-b_is
+concat-requires-clause-b_is c = c.slice.ensures.extends.nets _ _ c.in_ok-zeros.ensures.net.is_net
+
+pub returns-in_err-zeros-clause-adds : goal.returns-in_err-zeros-clause-adds
+returns-in_err-zeros-clause-adds c = adds_fewer _ _ _ _ (omega arith) c.constant.ensures.adds
+
+pub returns-in_err-high-clause-adds : goal.returns-in_err-high-clause-adds
+returns-in_err-high-clause-adds c = adds_fewer _ _ _ _ (omega arith) (adds_twice _ _ _ _ _ c.constant.ensures.adds (grows_once _ _ c.slice.ensures.extends c.slice.ensures.grows))
+
+pub returns-then-low-width-clause-adds : goal.returns-then-low-width-clause-adds
+returns-then-low-width-clause-adds c = adds_fewer _ _ _ _ (omega arith) c.constant.ensures.adds
+
+pub returns-clause-adds : goal.returns-clause-adds
+returns-clause-adds c = adds_fewer _ _ _ _ (omega arith) (adds_twice _ _ _ _ _ (adds_twice _ _ _ _ _ c.constant.ensures.adds (grows_once _ _ c.slice.ensures.extends c.slice.ensures.grows)) (grows_once _ _ c.concat.ensures.extends c.concat.ensures.grows))

@@ -1,9 +1,10 @@
-use Rattle.std.proofs.Common.{◌≡◌, ◌+◌, ◌*◌, nat_lt, if◌then◌else◌, ◌∙◌, arith}
+use Rattle.std.proofs.Common.{◌≡◌, ◌+◌, ◌*◌, nat_lt, if◌then◌else◌, ◌∙◌, arith, sym}
 use Rattle.netlist.specs.Runs.{Always}
 use Rattle.net_parts.specs.Nets.{IsNetOfWidth}
 use Rattle.net_parts.specs.Laws.{extends_twice, grows_once, adds_twice, adds_fewer, if_ok}
 use Rattle.st_format.specs.ClearNets.{without_low}
 use Rattle.st_format.proofs.ClearLaw.{more_cleared}
+use Rattle.stage_core.specs.Refusing.{handed_on}
 use Rattle.st_format.proofs.clear.clear_more.Goals as goal
 
 pub returns-clause-net : goal.returns-clause-net
@@ -34,3 +35,33 @@ returns-in_err-more-clause-adds c = adds_fewer _ _ _ _ (omega arith) (adds_twice
 
 pub returns-in_err-shorter-clause-adds : goal.returns-in_err-shorter-clause-adds
 returns-in_err-shorter-clause-adds c = adds_fewer _ _ _ _ (omega arith) (adds_twice _ _ _ _ _ (adds_twice _ _ _ _ _ c.constant.ensures.adds (grows_once _ _ c.less.ensures.extends c.less.ensures.grows)) c.clear_low.ensures.adds)
+
+pub returns-in_err-number-clause-full : goal.returns-in_err-number-clause-full
+returns-in_err-number-clause-full c e = let full = c.constant.ensures.full (handed_on _ _ _ _ c.in_err-number.was c.from_residual.ensures.1 e) in omega (arith, full)
+
+pub returns-in_err-more-clause-full : goal.returns-in_err-more-clause-full
+returns-in_err-more-clause-full c e = let most0 = c.constant.ensures.adds.most in let full = c.less.ensures.full.0 (handed_on _ _ _ _ c.in_err-more.was c.from_residual-in_err-more.ensures.1 e) in omega (arith, most0, full)
+
+pub returns-in_err-shorter-clause-full : goal.returns-in_err-shorter-clause-full
+returns-in_err-shorter-clause-full c e = let most0 = c.constant.ensures.adds.most in let most1 = c.less.ensures.grows.most in let full = c.clear_low.ensures.full (handed_on _ _ _ _ c.in_err-shorter.was c.from_residual-in_err-shorter.ensures.1 e) in omega (arith, most0, most1, full)
+
+pub returns-clause-full : goal.returns-clause-full
+returns-clause-full c e = let most0 = c.constant.ensures.adds.most in let most1 = c.less.ensures.grows.most in let most2 = c.clear_low.ensures.adds.most in let full = c.mux.ensures.full.0 e in omega (arith, most0, most1, most2, full)
+
+pub less-requires-clause-a_is : goal.less-requires-clause-a_is
+less-requires-clause-a_is c = c.in_ok-number.ensures.net.is_net
+
+pub less-requires-clause-b_is : goal.less-requires-clause-b_is
+less-requires-clause-b_is c = c.constant.ensures.adds.grows.extends.nets _ _ c.requires.empty.is_net
+
+pub less-requires-clause-widths : goal.less-requires-clause-widths
+less-requires-clause-widths c = c.in_ok-number.ensures.net.has_width ∙ sym c.requires.empty.has_width
+
+pub clear_low-requires-clause-word : goal.clear_low-requires-clause-word
+clear_low-requires-clause-word c = (extends_twice _ _ _ c.constant.ensures.adds.grows.extends c.less.ensures.extends).nets _ _ c.requires.word
+
+pub mux-requires-clause-s_is : goal.mux-requires-clause-s_is
+mux-requires-clause-s_is c = c.clear_low.ensures.adds.grows.extends.nets _ _ c.in_ok-more.ensures.net.0
+
+pub mux-requires-clause-a_is : goal.mux-requires-clause-a_is
+mux-requires-clause-a_is c = c.in_ok-shorter.ensures.net.is_net

@@ -4,6 +4,7 @@ use Rattle.stage_core.specs.Groups.{shown_in}
 use Rattle.stage_core.specs.Lasting.{beat_lasts}
 use Rattle.net_parts.specs.Laws.{extends_twice, bit_fits, adds_fewer, adds_twice, grows_once}
 use Rattle.st_format.proofs.CountedLemmas.{counted_shown}
+use Rattle.stage_core.specs.Refusing.{handed_on}
 use Rattle.st_format.proofs.counted.count_empty.Goals as goal
 
 pub returns-clause-beat : goal.returns-clause-beat
@@ -31,3 +32,15 @@ returns-in_err-empty-clause-adds c = adds_fewer _ _ _ _ (omega arith) (adds_twic
 
 pub returns-clause-adds : goal.returns-clause-adds
 returns-clause-adds c = adds_fewer _ _ _ _ (omega arith) (adds_twice _ _ _ _ _ (adds_twice _ _ _ _ _ c.widen_empty.ensures.adds c.constant.ensures.adds) (grows_once _ _ c.mux.ensures.extends c.mux.ensures.grows))
+
+pub returns-in_err-wide-clause-full : goal.returns-in_err-wide-clause-full
+returns-in_err-wide-clause-full c e = let full = c.widen_empty.ensures.full (handed_on _ _ _ _ c.in_err-wide.was c.from_residual.ensures.1 e) in omega (arith, full)
+
+pub returns-in_err-none-clause-full : goal.returns-in_err-none-clause-full
+returns-in_err-none-clause-full c e = let most0 = c.widen_empty.ensures.adds.most in let full = c.constant.ensures.full (handed_on _ _ _ _ c.in_err-none.was c.from_residual-in_err-none.ensures.1 e) in omega (arith, most0, full)
+
+pub returns-in_err-empty-clause-full : goal.returns-in_err-empty-clause-full
+returns-in_err-empty-clause-full c e = let most0 = c.widen_empty.ensures.adds.most in let most1 = c.constant.ensures.adds.most in let full = c.mux.ensures.full.0 (handed_on _ _ _ _ c.in_err-empty.was c.from_residual-in_err-empty.ensures.1 e) in omega (arith, most0, most1, full)
+
+pub returns-clause-full : goal.returns-clause-full
+returns-clause-full c e = cc

@@ -1,6 +1,7 @@
 use Rattle.stage_core.specs.Lasting.{beat_lasts}
 use Rattle.net_parts.specs.Laws.{extends_twice, adds_fewer, adds_twice, net_lasts}
 use Rattle.std.proofs.Common.{arith}
+use Rattle.stage_core.specs.Refusing.{handed_on}
 use Rattle.st_format.proofs.narrow.cut_beat.Goals as goal
 
 pub leave_rest-requires-clause-beat : goal.leave_rest-requires-clause-beat
@@ -35,3 +36,15 @@ returns-in_err-rest-clause-adds c = adds_fewer _ _ _ _ (omega arith) (adds_twice
 
 pub returns-clause-adds : goal.returns-clause-adds
 returns-clause-adds c = adds_fewer _ _ _ _ (omega arith) (adds_twice _ _ _ _ _ (adds_twice _ _ _ _ _ c.part_follows.ensures.adds c.show_part.ensures.adds) c.leave_rest.ensures.adds)
+
+pub returns-in_err-more-clause-full : goal.returns-in_err-more-clause-full
+returns-in_err-more-clause-full c e = let full = c.part_follows.ensures.full (handed_on _ _ _ _ c.in_err-more.was c.from_residual.ensures.1 e) in omega (arith, full)
+
+pub returns-in_err-part-clause-full : goal.returns-in_err-part-clause-full
+returns-in_err-part-clause-full c e = let most0 = c.part_follows.ensures.adds.most in let full = c.show_part.ensures.full (handed_on _ _ _ _ c.in_err-part.was c.from_residual-in_err-part.ensures.1 e) in omega (arith, most0, full)
+
+pub returns-in_err-rest-clause-full : goal.returns-in_err-rest-clause-full
+returns-in_err-rest-clause-full c e = let most0 = c.part_follows.ensures.adds.most in let most1 = c.show_part.ensures.adds.most in let full = c.leave_rest.ensures.full (handed_on _ _ _ _ c.in_err-rest.was c.from_residual-in_err-rest.ensures.1 e) in omega (arith, most0, most1, full)
+
+pub returns-clause-full : goal.returns-clause-full
+returns-clause-full c e = cc

@@ -5,6 +5,7 @@ use Rattle.stage_core.specs.Groups.{shown_in}
 use Rattle.stage_core.specs.Lasting.{beat_lasts}
 use Rattle.net_parts.specs.Laws.{net_lasts, extends_twice, grows_once, adds_twice, adds_fewer, bit_fits}
 use Rattle.st_format.proofs.NarrowLemmas.{rest_shown}
+use Rattle.stage_core.specs.Refusing.{handed_on}
 use Rattle.st_format.proofs.narrow.leave_rest.Goals as goal
 
 pub returns-clause-rest : goal.returns-clause-rest
@@ -59,3 +60,18 @@ returns-in_err-gone-clause-adds c = adds_fewer _ _ _ _ (omega arith) (adds_twice
 
 pub returns-in_err-empty-clause-adds : goal.returns-in_err-empty-clause-adds
 returns-in_err-empty-clause-adds c = adds_fewer _ _ _ _ (omega arith) (adds_twice _ _ _ _ _ (adds_twice _ _ _ _ _ (adds_twice _ _ _ _ _ c.rest_word.ensures.adds c.constant.ensures.adds) c.constant-2.ensures.adds) (grows_once _ _ c.add.ensures.extends c.add.ensures.grows))
+
+pub returns-in_err-word-clause-full : goal.returns-in_err-word-clause-full
+returns-in_err-word-clause-full c e = let full = c.rest_word.ensures.full (handed_on _ _ _ _ c.in_err-word.was c.from_residual.ensures.1 e) in omega (arith, full)
+
+pub returns-in_err-first-clause-full : goal.returns-in_err-first-clause-full
+returns-in_err-first-clause-full c e = let most0 = c.rest_word.ensures.adds.most in let full = c.constant.ensures.full (handed_on _ _ _ _ c.in_err-first.was c.from_residual-in_err-first.ensures.1 e) in omega (arith, most0, full)
+
+pub returns-in_err-gone-clause-full : goal.returns-in_err-gone-clause-full
+returns-in_err-gone-clause-full c e = let most0 = c.rest_word.ensures.adds.most in let most1 = c.constant.ensures.adds.most in let full = c.constant-2.ensures.full (handed_on _ _ _ _ c.in_err-gone.was c.from_residual-in_err-gone.ensures.1 e) in omega (arith, most0, most1, full)
+
+pub returns-in_err-empty-clause-full : goal.returns-in_err-empty-clause-full
+returns-in_err-empty-clause-full c e = let most0 = c.rest_word.ensures.adds.most in let most1 = c.constant.ensures.adds.most in let most2 = c.constant-2.ensures.adds.most in let full = c.add.ensures.full.0 (handed_on _ _ _ _ c.in_err-empty.was c.from_residual-in_err-empty.ensures.1 e) in omega (arith, most0, most1, most2, full)
+
+pub returns-clause-full : goal.returns-clause-full
+returns-clause-full c e = cc

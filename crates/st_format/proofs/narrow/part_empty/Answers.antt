@@ -2,6 +2,7 @@ use Rattle.std.proofs.Common.{◌≡◌, ◌-◌, ◌*◌, nat_lt, if◌then◌e
 use Rattle.netlist.specs.Runs.{Always}
 use Rattle.net_parts.specs.Laws.{valued_fits, net_lasts, extends_twice, grows_once, adds_twice, adds_fewer, bit_fits, if_ok}
 use Rattle.st_format.proofs.CountedLemmas.{left_where}
+use Rattle.stage_core.specs.Refusing.{handed_on}
 use Rattle.st_format.proofs.narrow.part_empty.Goals as goal
 
 pub mux-requires-clause-s_is : goal.mux-requires-clause-s_is
@@ -36,3 +37,15 @@ returns-in_err-left-clause-adds c = adds_fewer _ _ _ _ (omega arith) (adds_twice
 
 pub returns-in_err-none-clause-adds : goal.returns-in_err-none-clause-adds
 returns-in_err-none-clause-adds c = adds_fewer _ _ _ _ (omega arith) (adds_twice _ _ _ _ _ (adds_twice _ _ _ _ _ c.constant.ensures.adds (grows_once _ _ c.sub.ensures.extends c.sub.ensures.grows)) c.constant-2.ensures.adds)
+
+pub returns-in_err-behind-clause-full : goal.returns-in_err-behind-clause-full
+returns-in_err-behind-clause-full c e = let full = c.constant.ensures.full (handed_on _ _ _ _ c.in_err-behind.was c.from_residual.ensures.1 e) in omega (arith, full)
+
+pub returns-in_err-left-clause-full : goal.returns-in_err-left-clause-full
+returns-in_err-left-clause-full c e = let most0 = c.constant.ensures.adds.most in let full = c.sub.ensures.full.0 (handed_on _ _ _ _ c.in_err-left.was c.from_residual-in_err-left.ensures.1 e) in omega (arith, most0, full)
+
+pub returns-in_err-none-clause-full : goal.returns-in_err-none-clause-full
+returns-in_err-none-clause-full c e = let most0 = c.constant.ensures.adds.most in let most1 = c.sub.ensures.grows.most in let full = c.constant-2.ensures.full (handed_on _ _ _ _ c.in_err-none.was c.from_residual-in_err-none.ensures.1 e) in omega (arith, most0, most1, full)
+
+pub returns-clause-full : goal.returns-clause-full
+returns-clause-full c e = let most0 = c.constant.ensures.adds.most in let most1 = c.sub.ensures.grows.most in let most2 = c.constant-2.ensures.adds.most in let full = c.mux.ensures.full.0 e in omega (arith, most0, most1, most2, full)

@@ -2,6 +2,7 @@ use Rattle.std.proofs.Common.{◌≡◌, ◌==◌, if◌then◌else◌, arith}
 use Rattle.netlist.specs.Runs.{Always}
 use Rattle.net_parts.specs.Laws.{bit_fits, if_ok, adds_fewer, adds_twice, grows_once}
 use Rattle.st_format.proofs.CountedLemmas.{none_where}
+use Rattle.stage_core.specs.Refusing.{handed_on}
 use Rattle.st_format.proofs.narrow.part_last.Goals as goal
 
 pub returns-clause-value : goal.returns-clause-value
@@ -18,3 +19,9 @@ returns-in_err-none-clause-adds c = adds_fewer _ _ _ _ (omega arith) c.constant.
 
 pub returns-clause-adds : goal.returns-clause-adds
 returns-clause-adds c = adds_fewer _ _ _ _ (omega arith) (adds_twice _ _ _ _ _ c.constant.ensures.adds (grows_once _ _ c.mux.ensures.extends c.mux.ensures.grows))
+
+pub returns-in_err-none-clause-full : goal.returns-in_err-none-clause-full
+returns-in_err-none-clause-full c e = let full = c.constant.ensures.full (handed_on _ _ _ _ c.in_err-none.was c.from_residual.ensures.1 e) in omega (arith, full)
+
+pub returns-clause-full : goal.returns-clause-full
+returns-clause-full c e = let most0 = c.constant.ensures.adds.most in let full = c.mux.ensures.full.0 e in omega (arith, most0, full)

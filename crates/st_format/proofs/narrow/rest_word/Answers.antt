@@ -3,6 +3,7 @@ use Rattle.netlist.specs.Runs.{Always}
 use Rattle.net_parts.specs.Nets.{IsNetOfWidth}
 use Rattle.net_parts.specs.Laws.{if_ok, adds_fewer, adds_twice, grows_once}
 use Rattle.st_format.proofs.NarrowLemmas.{rest_shifted}
+use Rattle.stage_core.specs.Refusing.{handed_on}
 use Rattle.st_format.proofs.narrow.rest_word.Goals as goal
 
 pub returns-clause-net : goal.returns-clause-net
@@ -37,3 +38,12 @@ returns-in_err-rest-clause-adds c = adds_fewer _ _ _ _ (omega arith) (adds_twice
 
 pub returns-clause-adds : goal.returns-clause-adds
 returns-clause-adds c = adds_fewer _ _ _ _ (omega arith) (adds_twice _ _ _ _ _ (adds_twice _ _ _ _ _ c.constant.ensures.adds (grows_once _ _ c.slice.ensures.extends c.slice.ensures.grows)) (grows_once _ _ c.concat.ensures.extends c.concat.ensures.grows))
+
+pub returns-in_err-zeros-clause-full : goal.returns-in_err-zeros-clause-full
+returns-in_err-zeros-clause-full c e = let full = c.constant.ensures.full (handed_on _ _ _ _ c.in_err-zeros.was c.from_residual.ensures.1 e) in omega (arith, full)
+
+pub returns-in_err-rest-clause-full : goal.returns-in_err-rest-clause-full
+returns-in_err-rest-clause-full c e = let most0 = c.constant.ensures.adds.most in let full = c.slice.ensures.full.0 (handed_on _ _ _ _ c.in_err-rest.was c.from_residual-in_err-rest.ensures.1 e) in omega (arith, most0, full)
+
+pub returns-clause-full : goal.returns-clause-full
+returns-clause-full c e = let most0 = c.constant.ensures.adds.most in let most1 = c.slice.ensures.grows.most in let full = c.concat.ensures.full.0 e in omega (arith, most0, most1, full)

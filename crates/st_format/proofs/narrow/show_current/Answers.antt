@@ -2,6 +2,7 @@ use Rattle.std.proofs.Common.{◌==◌, if◌then◌else◌, ap, ◌∙◌, arit
 use Rattle.stage_core.specs.Groups.{shown_in}
 use Rattle.stage_core.specs.Lasting.{beat_lasts}
 use Rattle.net_parts.specs.Laws.{adds_grow, grows_fewer, grows_twice}
+use Rattle.stage_core.specs.Refusing.{handed_on}
 use Rattle.st_format.proofs.narrow.show_current.Goals as goal
 
 pub returns-clause-held : goal.returns-clause-held
@@ -45,3 +46,15 @@ returns-clause-starts c run cycles r = c.in_ok-held.ensures.starts run cycles (c
 
 pub returns-clause-newly : goal.returns-clause-newly
 returns-clause-newly c n w = elim (c.in_ok-held.ensures.newly n (c.mux_beat.ensures.adds.grows.no_more_wait n w)) [ inl before ↦ inl (c.count_empty.ensures.adds.grows.no_more_wait n before) | inr own ↦ inr own ]
+
+pub returns-in_err-counted-clause-full : goal.returns-in_err-counted-clause-full
+returns-in_err-counted-clause-full c e = let full = c.count_empty.ensures.full (handed_on _ _ _ _ c.in_err-counted.was c.from_residual.ensures.1 e) in omega (arith, full)
+
+pub returns-in_err-held-clause-full : goal.returns-in_err-held-clause-full
+returns-in_err-held-clause-full c e = let most0 = c.count_empty.ensures.adds.most in let full = c.reg_beat.ensures.full (handed_on _ _ _ _ c.in_err-held.was c.from_residual-in_err-held.ensures.1 e) in omega (arith, most0, full)
+
+pub returns-in_err-beat-clause-full : goal.returns-in_err-beat-clause-full
+returns-in_err-beat-clause-full c e = let most0 = c.count_empty.ensures.adds.most in let most1 = c.reg_beat.ensures.grows.most in let full = c.mux_beat.ensures.full (handed_on _ _ _ _ c.in_err-beat.was c.from_residual-in_err-beat.ensures.1 e) in omega (arith, most0, most1, full)
+
+pub returns-clause-full : goal.returns-clause-full
+returns-clause-full c e = cc

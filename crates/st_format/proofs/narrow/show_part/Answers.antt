@@ -5,6 +5,7 @@ use Rattle.stage_core.specs.Lasting.{beat_lasts}
 use Rattle.net_parts.specs.Laws.{net_lasts, extends_twice, adds_fewer, adds_twice, grows_once}
 use Rattle.st_format.proofs.NarrowLemmas.{part_shown, part_bits}
 use Rattle.stage_core.specs.declared.beat.BeatNets.{BeatNets}
+use Rattle.stage_core.specs.Refusing.{handed_on}
 use Rattle.st_format.proofs.narrow.show_part.Goals as goal
 
 pub part_empty-requires-clause-follows : goal.part_empty-requires-clause-follows
@@ -56,3 +57,15 @@ returns-in_err-empty-clause-adds c = adds_fewer _ _ _ _ (omega arith) (adds_twic
 
 pub returns-clause-adds : goal.returns-clause-adds
 returns-clause-adds c = adds_fewer _ _ _ _ (omega arith) (adds_twice _ _ _ _ _ (adds_twice _ _ _ _ _ (grows_once _ _ c.slice.ensures.extends c.slice.ensures.grows) c.part_last.ensures.adds) c.part_empty.ensures.adds)
+
+pub returns-in_err-word-clause-full : goal.returns-in_err-word-clause-full
+returns-in_err-word-clause-full c e = let full = c.slice.ensures.full.0 (handed_on _ _ _ _ c.in_err-word.was c.from_residual.ensures.1 e) in omega (arith, full)
+
+pub returns-in_err-last-clause-full : goal.returns-in_err-last-clause-full
+returns-in_err-last-clause-full c e = let most0 = c.slice.ensures.grows.most in let full = c.part_last.ensures.full (handed_on _ _ _ _ c.in_err-last.was c.from_residual-in_err-last.ensures.1 e) in omega (arith, most0, full)
+
+pub returns-in_err-empty-clause-full : goal.returns-in_err-empty-clause-full
+returns-in_err-empty-clause-full c e = let most0 = c.slice.ensures.grows.most in let most1 = c.part_last.ensures.adds.most in let full = c.part_empty.ensures.full (handed_on _ _ _ _ c.in_err-empty.was c.from_residual-in_err-empty.ensures.1 e) in omega (arith, most0, most1, full)
+
+pub returns-clause-full : goal.returns-clause-full
+returns-clause-full c e = cc

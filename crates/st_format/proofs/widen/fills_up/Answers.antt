@@ -4,6 +4,7 @@ use Rattle.net_parts.specs.Nets.{IsBit}
 use Rattle.net_parts.specs.Laws.{bit_fits, if_ok, adds_fewer, adds_twice, grows_once}
 use Rattle.net_parts.specs.Bits.{high_or}
 use Rattle.st_format.proofs.CountedLemmas.{test_high}
+use Rattle.stage_core.specs.Refusing.{handed_on}
 use Rattle.st_format.proofs.widen.fills_up.Goals as goal
 
 pub returns-clause-net : goal.returns-clause-net
@@ -30,3 +31,12 @@ returns-in_err-in_last_place-clause-adds c = adds_fewer _ _ _ _ (omega arith) (a
 
 pub returns-clause-adds : goal.returns-clause-adds
 returns-clause-adds c = adds_fewer _ _ _ _ (omega arith) (adds_twice _ _ _ _ _ (adds_twice _ _ _ _ _ c.constant.ensures.adds (grows_once _ _ c.eq.ensures.extends c.eq.ensures.grows)) (grows_once _ _ c.or.ensures.extends c.or.ensures.grows))
+
+pub returns-in_err-most-clause-full : goal.returns-in_err-most-clause-full
+returns-in_err-most-clause-full c e = let full = c.constant.ensures.full (handed_on _ _ _ _ c.in_err-most.was c.from_residual.ensures.1 e) in omega (arith, full)
+
+pub returns-in_err-in_last_place-clause-full : goal.returns-in_err-in_last_place-clause-full
+returns-in_err-in_last_place-clause-full c e = let most0 = c.constant.ensures.adds.most in let full = c.eq.ensures.full.0 (handed_on _ _ _ _ c.in_err-in_last_place.was c.from_residual-in_err-in_last_place.ensures.1 e) in omega (arith, most0, full)
+
+pub returns-clause-full : goal.returns-clause-full
+returns-clause-full c e = let most0 = c.constant.ensures.adds.most in let most1 = c.eq.ensures.grows.most in let full = c.or.ensures.full.0 e in omega (arith, most0, most1, full)

@@ -2,6 +2,7 @@ use Rattle.std.proofs.Common.{◌+◌, ◌%◌, ◌^◌, refl, sym, ap, ◌∙�
 use Rattle.net_parts.specs.Laws.{net_lasts, extends_twice, adds_fewer, adds_twice, grows_once}
 use Rattle.stage_core.specs.Lasting.{beat_lasts}
 use Rattle.stage_core.specs.BeatLaws.{shown_same}
+use Rattle.stage_core.specs.Refusing.{handed_on}
 use Rattle.st_format.proofs.widen.gather_more.Goals as goal
 
 pub returns-clause-filled : goal.returns-clause-filled
@@ -42,3 +43,12 @@ returns-in_err-empty-clause-adds c = adds_fewer _ _ _ _ (omega arith) (adds_twic
 
 pub returns-clause-adds : goal.returns-clause-adds
 returns-clause-adds c = adds_fewer _ _ _ _ (omega arith) (adds_twice _ _ _ _ _ c.constant.ensures.adds (grows_once _ _ c.add.ensures.extends c.add.ensures.grows))
+
+pub returns-in_err-symbols-clause-full : goal.returns-in_err-symbols-clause-full
+returns-in_err-symbols-clause-full c e = let full = c.constant.ensures.full (handed_on _ _ _ _ c.in_err-symbols.was c.from_residual.ensures.1 e) in omega (arith, full)
+
+pub returns-in_err-empty-clause-full : goal.returns-in_err-empty-clause-full
+returns-in_err-empty-clause-full c e = let most0 = c.constant.ensures.adds.most in let full = c.add.ensures.full.0 (handed_on _ _ _ _ c.in_err-empty.was c.from_residual-in_err-empty.ensures.1 e) in omega (arith, most0, full)
+
+pub returns-clause-full : goal.returns-clause-full
+returns-clause-full c e = cc

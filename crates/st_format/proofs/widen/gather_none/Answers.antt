@@ -2,6 +2,7 @@ use Rattle.std.proofs.Common.{arith}
 use Rattle.stage_core.specs.Groups.{nothing_shown}
 use Rattle.net_parts.specs.Laws.{net_lasts, extends_twice, adds_twice, adds_fewer}
 use Rattle.stage_core.specs.BeatLaws.{shown_same}
+use Rattle.stage_core.specs.Refusing.{handed_on}
 use Rattle.st_format.proofs.widen.gather_none.Goals as goal
 
 pub returns-clause-none : goal.returns-clause-none
@@ -32,3 +33,18 @@ returns-in_err-error-clause-adds c = adds_fewer _ _ _ _ (omega arith) (adds_twic
 
 pub returns-in_err-empty-clause-adds : goal.returns-in_err-empty-clause-adds
 returns-in_err-empty-clause-adds c = adds_fewer _ _ _ _ (omega arith) (adds_twice _ _ _ _ _ (adds_twice _ _ _ _ _ (adds_twice _ _ _ _ _ c.constant.ensures.adds c.constant-2.ensures.adds) c.constant-3.ensures.adds) c.constant-4.ensures.adds)
+
+pub returns-in_err-low-clause-full : goal.returns-in_err-low-clause-full
+returns-in_err-low-clause-full c e = let full = c.constant.ensures.full (handed_on _ _ _ _ c.in_err-low.was c.from_residual.ensures.1 e) in omega (arith, full)
+
+pub returns-in_err-word-clause-full : goal.returns-in_err-word-clause-full
+returns-in_err-word-clause-full c e = let most0 = c.constant.ensures.adds.most in let full = c.constant-2.ensures.full (handed_on _ _ _ _ c.in_err-word.was c.from_residual-in_err-word.ensures.1 e) in omega (arith, most0, full)
+
+pub returns-in_err-error-clause-full : goal.returns-in_err-error-clause-full
+returns-in_err-error-clause-full c e = let most0 = c.constant.ensures.adds.most in let most1 = c.constant-2.ensures.adds.most in let full = c.constant-3.ensures.full (handed_on _ _ _ _ c.in_err-error.was c.from_residual-in_err-error.ensures.1 e) in omega (arith, most0, most1, full)
+
+pub returns-in_err-empty-clause-full : goal.returns-in_err-empty-clause-full
+returns-in_err-empty-clause-full c e = let most0 = c.constant.ensures.adds.most in let most1 = c.constant-2.ensures.adds.most in let most2 = c.constant-3.ensures.adds.most in let full = c.constant-4.ensures.full (handed_on _ _ _ _ c.in_err-empty.was c.from_residual-in_err-empty.ensures.1 e) in omega (arith, most0, most1, most2, full)
+
+pub returns-clause-full : goal.returns-clause-full
+returns-clause-full c e = cc

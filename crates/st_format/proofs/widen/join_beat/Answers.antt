@@ -5,6 +5,7 @@ use Rattle.net_parts.specs.Laws.{net_lasts, extends_twice, grows_once, adds_twic
 use Rattle.stage_core.specs.Lasting.{beat_lasts}
 use Rattle.net_parts.specs.Bits.{high_and, chosen_high}
 use Rattle.st_format.proofs.WidenLemmas.{joined_shown}
+use Rattle.stage_core.specs.Refusing.{handed_on}
 use Rattle.st_format.proofs.widen.join_beat.Goals as goal
 
 pub or-requires-clause-a_is : goal.or-requires-clause-a_is
@@ -83,3 +84,24 @@ returns-in_err-full-clause-adds c = adds_fewer _ _ _ _ (omega arith) (adds_twice
 
 pub returns-in_err-valid-clause-adds : goal.returns-in_err-valid-clause-adds
 returns-in_err-valid-clause-adds c = adds_fewer _ _ _ _ (omega arith) (adds_twice _ _ _ _ _ (adds_twice _ _ _ _ _ (adds_twice _ _ _ _ _ c.join_word.ensures.adds c.join_empty.ensures.adds) c.fills_up.ensures.adds) (grows_once _ _ c.and.ensures.extends c.and.ensures.grows))
+
+pub returns-in_err-word-clause-full : goal.returns-in_err-word-clause-full
+returns-in_err-word-clause-full c e = let full = c.join_word.ensures.full (handed_on _ _ _ _ c.in_err-word.was c.from_residual.ensures.1 e) in omega (arith, full)
+
+pub returns-in_err-empty-clause-full : goal.returns-in_err-empty-clause-full
+returns-in_err-empty-clause-full c e = let most0 = c.join_word.ensures.adds.most in let full = c.join_empty.ensures.full (handed_on _ _ _ _ c.in_err-empty.was c.from_residual-in_err-empty.ensures.1 e) in omega (arith, most0, full)
+
+pub returns-in_err-full-clause-full : goal.returns-in_err-full-clause-full
+returns-in_err-full-clause-full c e = let most0 = c.join_word.ensures.adds.most in let most1 = c.join_empty.ensures.adds.most in let full = c.fills_up.ensures.full (handed_on _ _ _ _ c.in_err-full.was c.from_residual-in_err-full.ensures.1 e) in omega (arith, most0, most1, full)
+
+pub returns-in_err-valid-clause-full : goal.returns-in_err-valid-clause-full
+returns-in_err-valid-clause-full c e = let most0 = c.join_word.ensures.adds.most in let most1 = c.join_empty.ensures.adds.most in let most2 = c.fills_up.ensures.adds.most in let full = c.and.ensures.full.0 (handed_on _ _ _ _ c.in_err-valid.was c.from_residual-in_err-valid.ensures.1 e) in omega (arith, most0, most1, most2, full)
+
+pub returns-in_err-error-clause-full : goal.returns-in_err-error-clause-full
+returns-in_err-error-clause-full c e = let most0 = c.join_word.ensures.adds.most in let most1 = c.join_empty.ensures.adds.most in let most2 = c.fills_up.ensures.adds.most in let most3 = c.and.ensures.grows.most in let full = c.or.ensures.full.0 (handed_on _ _ _ _ c.in_err-error.was c.from_residual-in_err-error.ensures.1 e) in omega (arith, most0, most1, most2, most3, full)
+
+pub returns-in_err-first-clause-full : goal.returns-in_err-first-clause-full
+returns-in_err-first-clause-full c e = let most0 = c.join_word.ensures.adds.most in let most1 = c.join_empty.ensures.adds.most in let most2 = c.fills_up.ensures.adds.most in let most3 = c.and.ensures.grows.most in let most4 = c.or.ensures.grows.most in let full = c.mux.ensures.full.0 (handed_on _ _ _ _ c.in_err-first.was c.from_residual-in_err-first.ensures.1 e) in omega (arith, most0, most1, most2, most3, most4, full)
+
+pub returns-clause-full : goal.returns-clause-full
+returns-clause-full c e = cc

@@ -3,6 +3,7 @@ use Rattle.netlist.specs.Runs.{Always}
 use Rattle.net_parts.specs.Nets.{IsNetOfWidth}
 use Rattle.net_parts.specs.Laws.{grows_once, adds_twice, adds_fewer, if_ok}
 use Rattle.st_format.proofs.WidenLemmas.{missing_and}
+use Rattle.stage_core.specs.Refusing.{handed_on}
 use Rattle.st_format.proofs.widen.join_empty.Goals as goal
 
 pub returns-clause-net : goal.returns-clause-net
@@ -37,3 +38,15 @@ returns-in_err-missing-clause-adds c = adds_fewer _ _ _ _ (omega arith) (adds_tw
 
 pub returns-in_err-own-clause-adds : goal.returns-in_err-own-clause-adds
 returns-in_err-own-clause-adds c = adds_fewer _ _ _ _ (omega arith) (adds_twice _ _ _ _ _ (adds_twice _ _ _ _ _ c.constant.ensures.adds (grows_once _ _ c.sub.ensures.extends c.sub.ensures.grows)) c.widen_empty.ensures.adds)
+
+pub returns-in_err-most-clause-full : goal.returns-in_err-most-clause-full
+returns-in_err-most-clause-full c e = let full = c.constant.ensures.full (handed_on _ _ _ _ c.in_err-most.was c.from_residual.ensures.1 e) in omega (arith, full)
+
+pub returns-in_err-missing-clause-full : goal.returns-in_err-missing-clause-full
+returns-in_err-missing-clause-full c e = let most0 = c.constant.ensures.adds.most in let full = c.sub.ensures.full.0 (handed_on _ _ _ _ c.in_err-missing.was c.from_residual-in_err-missing.ensures.1 e) in omega (arith, most0, full)
+
+pub returns-in_err-own-clause-full : goal.returns-in_err-own-clause-full
+returns-in_err-own-clause-full c e = let most0 = c.constant.ensures.adds.most in let most1 = c.sub.ensures.grows.most in let full = c.widen_empty.ensures.full (handed_on _ _ _ _ c.in_err-own.was c.from_residual-in_err-own.ensures.1 e) in omega (arith, most0, most1, full)
+
+pub returns-clause-full : goal.returns-clause-full
+returns-clause-full c e = let most0 = c.constant.ensures.adds.most in let most1 = c.sub.ensures.grows.most in let most2 = c.widen_empty.ensures.adds.most in let full = c.add.ensures.full.0 e in omega (arith, most0, most1, most2, full)

@@ -3,6 +3,7 @@ use Rattle.stream_machines.specs.Words.{turned_word}
 use Rattle.net_parts.specs.Laws.{grows_once, adds_twice, adds_fewer, valued_fits}
 use Rattle.st_format.proofs.Turning.{turned_more, turned_one}
 use Rattle.std.proofs.Math.Nat.{mul-le-mul_left}
+use Rattle.stage_core.specs.Refusing.{handed_on}
 use Rattle.st_format.proofs.words.turn_symbols.Goals as goal
 
 pub loop-place-preserved : goal.loop-place-preserved
@@ -47,3 +48,24 @@ returns-in_err-turned-2-clause-adds c = adds_fewer _ _ _ _ (omega arith) (adds_t
 
 pub returns-clause-adds : goal.returns-clause-adds
 returns-clause-adds c = adds_fewer _ _ _ _ (omega arith) c.loop-place.invariant.adds
+
+pub returns-in_err-turned-clause-full : goal.returns-in_err-turned-clause-full
+returns-in_err-turned-clause-full c e = let full = c.take_symbol.ensures.full (handed_on _ _ _ _ c.in_err-turned.was c.from_residual.ensures.1 e) in omega (arith, full)
+
+pub returns-in_err-symbol-clause-full : goal.returns-in_err-symbol-clause-full
+returns-in_err-symbol-clause-full c e = let most = c.loop-place.invariant.adds.most in let full = c.take_symbol-in-loop-place.ensures.full (handed_on _ _ _ _ c.in_err-symbol.was c.from_residual-in_err-symbol.ensures.1 e) in omega (arith, most, full)
+
+pub returns-in_err-turned-2-clause-full : goal.returns-in_err-turned-2-clause-full
+returns-in_err-turned-2-clause-full c e = let most = c.loop-place.invariant.adds.most in let one = c.take_symbol-in-loop-place.ensures.adds.most in let full = c.concat.ensures.full.0 (handed_on _ _ _ _ c.in_err-turned-2.was c.from_residual-in_err-turned-2.ensures.1 e) in omega (arith, most, one, full)
+
+pub concat-requires-clause-a_is : goal.concat-requires-clause-a_is
+concat-requires-clause-a_is c = c.take_symbol-in-loop-place.ensures.adds.grows.extends.nets _ _ c.loop-place.invariant.net.is_net
+
+pub concat-requires-clause-b_is : goal.concat-requires-clause-b_is
+concat-requires-clause-b_is c = c.in_ok-symbol.ensures.net.is_net
+
+pub returns-clause-full : goal.returns-clause-full
+returns-clause-full c e = cc
+
+pub returns-then-symbols-eq1-clause-full : goal.returns-then-symbols-eq1-clause-full
+returns-then-symbols-eq1-clause-full c e = cc

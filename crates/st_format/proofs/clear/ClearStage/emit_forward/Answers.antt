@@ -1,4 +1,4 @@
-use Rattle.std.proofs.Common.{sym, subst, ap, ◌∙◌, arith}
+use Rattle.std.proofs.Common.{sym, subst, ap, ◌∙◌, arith, inl}
 use Rattle.stage_core.specs.declared.beat.BeatNets.{BeatNets}
 use Rattle.stage_core.specs.Beats.{AreBeatNets}
 use Rattle.stage_core.specs.Groups.{Shown, shown_in}
@@ -6,6 +6,7 @@ use Rattle.stage_core.specs.Lasting.{beat_lasts}
 use Rattle.net_parts.specs.Laws.{extends_twice, adds_grow, grows_fewer, grows_twice}
 use Rattle.st_format.specs.ClearNets.{cleared, without_empty}
 use Rattle.st_format.proofs.PartsLemmas.{beat_same}
+use Rattle.stage_core.specs.Refusing.{handed_on}
 use Rattle.st_format.proofs.clear.ClearStage.emit_forward.Goals as goal
 
 pub returns-clause-beat : goal.returns-clause-beat
@@ -43,3 +44,21 @@ returns-in_err-word-clause-waits c n w = c.clear_symbols.ensures.adds.grows.wait
 
 pub returns-clause-waits : goal.returns-clause-waits
 returns-clause-waits c n w = c.clear_symbols.ensures.adds.grows.waits n (c.count_empty.ensures.adds.grows.waits n w)
+
+pub returns-in_err-counted-clause-full : goal.returns-in_err-counted-clause-full
+returns-in_err-counted-clause-full c e = let full = c.count_empty.ensures.full (handed_on _ _ _ _ c.in_err-counted.was c.from_residual.ensures.1 e) in omega (arith, full)
+
+pub returns-in_err-word-clause-full : goal.returns-in_err-word-clause-full
+returns-in_err-word-clause-full c e = let most0 = c.count_empty.ensures.adds.most in let full = c.clear_symbols.ensures.full (handed_on _ _ _ _ c.in_err-word.was c.from_residual-in_err-word.ensures.1 e) in omega (arith, most0, full)
+
+pub returns-clause-full : goal.returns-clause-full
+returns-clause-full c e = cc
+
+pub returns-clause-newly : goal.returns-clause-newly
+returns-clause-newly c n w = inl (c.count_empty.ensures.adds.grows.no_more_wait n (c.clear_symbols.ensures.adds.grows.no_more_wait n w))
+
+pub count_empty-requires-clause-from : goal.count_empty-requires-clause-from
+count_empty-requires-clause-from c = c.requires.from
+
+pub count_empty-requires-clause-small : goal.count_empty-requires-clause-small
+count_empty-requires-clause-small c = c.requires.widths.1

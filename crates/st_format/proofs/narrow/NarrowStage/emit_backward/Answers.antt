@@ -6,6 +6,7 @@ use Rattle.stage_core.specs.Lasting.{beat_lasts, registers_last}
 use Rattle.stage_core.specs.BeatLaws.{widths_turned, widths_twice}
 use Rattle.net_parts.specs.Bits.{high_and}
 use Rattle.st_format.proofs.NarrowLemmas.{asks_idle}
+use Rattle.stage_core.specs.Refusing.{handed_on}
 use Rattle.st_format.proofs.narrow.NarrowStage.emit_backward.Goals as goal
 
 pub and-requires-2-clause-a_is : goal.and-requires-2-clause-a_is
@@ -96,3 +97,18 @@ returns-in_err-goes-clause-waits c n apart w = c.and-2.ensures.grows.waits n (c.
 
 pub returns-in_err-next-clause-waits : goal.returns-in_err-next-clause-waits
 returns-in_err-next-clause-waits c n apart w = c.mux_beat.ensures.adds.grows.waits n (c.and-2.ensures.grows.waits n (c.and.ensures.grows.waits n (c.not.ensures.grows.waits n w)))
+
+pub returns-in_err-none_held-clause-full : goal.returns-in_err-none_held-clause-full
+returns-in_err-none_held-clause-full c e = let full = c.not.ensures.full.0 (handed_on _ _ _ _ c.in_err-none_held.was c.from_residual.ensures.1 e) in omega (arith, full)
+
+pub returns-in_err-up-clause-full : goal.returns-in_err-up-clause-full
+returns-in_err-up-clause-full c e = let most0 = c.not.ensures.grows.most in let full = c.and.ensures.full.0 (handed_on _ _ _ _ c.in_err-up.was c.from_residual-in_err-up.ensures.1 e) in omega (arith, most0, full)
+
+pub returns-in_err-goes-clause-full : goal.returns-in_err-goes-clause-full
+returns-in_err-goes-clause-full c e = let most0 = c.not.ensures.grows.most in let most1 = c.and.ensures.grows.most in let full = c.and-2.ensures.full.0 (handed_on _ _ _ _ c.in_err-goes.was c.from_residual-in_err-goes.ensures.1 e) in omega (arith, most0, most1, full)
+
+pub returns-in_err-next-clause-full : goal.returns-in_err-next-clause-full
+returns-in_err-next-clause-full c e = let most0 = c.not.ensures.grows.most in let most1 = c.and.ensures.grows.most in let most2 = c.and-2.ensures.grows.most in let full = c.mux_beat.ensures.full (handed_on _ _ _ _ c.in_err-next.was c.from_residual-in_err-next.ensures.1 e) in omega (arith, most0, most1, most2, full)
+
+pub returns-clause-full : goal.returns-clause-full
+returns-clause-full c e = cc

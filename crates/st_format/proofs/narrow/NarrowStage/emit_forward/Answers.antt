@@ -3,6 +3,7 @@ use Rattle.stage_core.specs.Lasting.{beat_lasts, registers_last}
 use Rattle.stage_core.specs.BeatLaws.{widths_twice}
 use Rattle.st_format.specs.NarrowNets.{shown_piece, shown_rest}
 use Rattle.net_parts.specs.Laws.{adds_grow, grows_fewer, grows_twice}
+use Rattle.stage_core.specs.Refusing.{handed_on}
 use Rattle.st_format.proofs.narrow.NarrowStage.emit_forward.Goals as goal
 
 pub returns-clause-kept : goal.returns-clause-kept
@@ -58,3 +59,12 @@ returns-clause-waits c n w = c.cut_beat.ensures.adds.grows.waits n (c.show_curre
 
 pub returns-clause-newly : goal.returns-clause-newly
 returns-clause-newly c n w = c.in_ok-current.ensures.newly n (c.cut_beat.ensures.adds.grows.no_more_wait n w)
+
+pub returns-in_err-current-clause-full : goal.returns-in_err-current-clause-full
+returns-in_err-current-clause-full c e = let full = c.show_current.ensures.full (handed_on _ _ _ _ c.in_err-current.was c.from_residual.ensures.1 e) in omega (arith, full)
+
+pub returns-in_err-part-clause-full : goal.returns-in_err-part-clause-full
+returns-in_err-part-clause-full c e = let most0 = c.show_current.ensures.grows.most in let full = c.cut_beat.ensures.full (handed_on _ _ _ _ c.in_err-part.was c.from_residual-in_err-part.ensures.1 e) in omega (arith, most0, full)
+
+pub returns-clause-full : goal.returns-clause-full
+returns-clause-full c e = cc

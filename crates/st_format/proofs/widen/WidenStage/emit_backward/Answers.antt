@@ -5,6 +5,7 @@ use Rattle.net_parts.specs.Laws.{net_lasts, extends_twice, grows_once, grows_twi
 use Rattle.stage_core.specs.Lasting.{beat_lasts, registers_last}
 use Rattle.stage_core.specs.BeatLaws.{widths_turned, widths_twice}
 use Rattle.net_parts.specs.Bits.{high_and, high_room}
+use Rattle.stage_core.specs.Refusing.{handed_on}
 use Rattle.st_format.proofs.widen.WidenStage.emit_backward.Goals as goal
 
 pub or-requires-clause-widths : goal.or-requires-clause-widths
@@ -126,3 +127,21 @@ returns-in_err-gathered-clause-waits c n apart w = c.mux_beat.ensures.adds.grows
 
 pub returns-in_err-next-clause-waits : goal.returns-in_err-next-clause-waits
 returns-in_err-next-clause-waits c n apart w = c.mux_beat-2.ensures.adds.grows.waits n (c.mux_beat.ensures.adds.grows.waits n (c.and.ensures.grows.waits n (c.or.ensures.grows.waits n (c.not.ensures.grows.waits n w))))
+
+pub returns-in_err-not_full-clause-full : goal.returns-in_err-not_full-clause-full
+returns-in_err-not_full-clause-full c e = let full = c.not.ensures.full.0 (handed_on _ _ _ _ c.in_err-not_full.was c.from_residual.ensures.1 e) in omega (arith, full)
+
+pub returns-in_err-up-clause-full : goal.returns-in_err-up-clause-full
+returns-in_err-up-clause-full c e = let most0 = c.not.ensures.grows.most in let full = c.or.ensures.full.0 (handed_on _ _ _ _ c.in_err-up.was c.from_residual-in_err-up.ensures.1 e) in omega (arith, most0, full)
+
+pub returns-in_err-comes-clause-full : goal.returns-in_err-comes-clause-full
+returns-in_err-comes-clause-full c e = let most0 = c.not.ensures.grows.most in let most1 = c.or.ensures.grows.most in let full = c.and.ensures.full.0 (handed_on _ _ _ _ c.in_err-comes.was c.from_residual-in_err-comes.ensures.1 e) in omega (arith, most0, most1, full)
+
+pub returns-in_err-gathered-clause-full : goal.returns-in_err-gathered-clause-full
+returns-in_err-gathered-clause-full c e = let most0 = c.not.ensures.grows.most in let most1 = c.or.ensures.grows.most in let most2 = c.and.ensures.grows.most in let full = c.mux_beat.ensures.full (handed_on _ _ _ _ c.in_err-gathered.was c.from_residual-in_err-gathered.ensures.1 e) in omega (arith, most0, most1, most2, full)
+
+pub returns-in_err-next-clause-full : goal.returns-in_err-next-clause-full
+returns-in_err-next-clause-full c e = let most0 = c.not.ensures.grows.most in let most1 = c.or.ensures.grows.most in let most2 = c.and.ensures.grows.most in let most3 = c.mux_beat.ensures.adds.most in let full = c.mux_beat-2.ensures.full (handed_on _ _ _ _ c.in_err-next.was c.from_residual-in_err-next.ensures.1 e) in omega (arith, most0, most1, most2, most3, full)
+
+pub returns-clause-full : goal.returns-clause-full
+returns-clause-full c e = cc
