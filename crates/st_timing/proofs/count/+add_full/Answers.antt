@@ -2,10 +2,11 @@ use Rattle.std.proofs.Common.{◌≡◌, ◌+◌, List, ◌∷◌, length, sym, 
 use Rattle.std.proofs.lemmas.List.{nil_from_length}
 use Rattle.netlist.specs.Runs.{Always}
 use Rattle.net_parts.specs.declared.places.PlaceNets.{PlaceNets}
-use Rattle.net_parts.specs.Laws.{bit_fits, if_ok}
+use Rattle.net_parts.specs.Laws.{bit_fits, if_ok, adds_none, adds_twice, adds_fewer}
 use Rattle.st_timing.specs.CountNets.{full_count, HaveFull}
 use Rattle.st_timing.proofs.Counting.{bit_high, full_last}
 use Rattle.net_parts.specs.Counts.{zeros_last}
+use Rattle.stage_core.specs.Refusing.{handed_on}
 use Rattle.st_timing.proofs.count.+add_full.Goals as goal
 
 pub returns-in-None-clause-value : goal.returns-in-None-clause-value
@@ -58,3 +59,27 @@ returns-in_ok-more-in-Some-clause-value t c =
     let places = ap (full_count cycle) c.in-Some.ensures.cases.0 in
     omega (arith, one, more, all, places)))
     c.add_full.ensures.value
+
+pub returns-in-None-clause-net : goal.returns-in-None-clause-net
+returns-in-None-clause-net t c = c.requires.sum
+
+pub returns-in-None-clause-adds : goal.returns-in-None-clause-adds
+returns-in-None-clause-adds t c = adds_fewer _ _ _ _ (omega arith) (adds_none _)
+
+pub returns-in-None-clause-full : goal.returns-in-None-clause-full
+returns-in-None-clause-full t c e = cc
+
+pub returns-in_err-more-in-Some-clause-adds : goal.returns-in_err-more-in-Some-clause-adds
+returns-in_err-more-in-Some-clause-adds t c = let count : length c.args.row.now ≡ length (c.in-Some.place.now ∷ c.in-Some.rest.now) = ap length c.in-Some.ensures.cases.0 in adds_fewer _ _ _ _ (omega (arith, count)) c.add_bit.ensures.adds
+
+pub returns-in_err-more-in-Some-clause-full : goal.returns-in_err-more-in-Some-clause-full
+returns-in_err-more-in-Some-clause-full t c e = let count : length c.args.row.now ≡ length (c.in-Some.place.now ∷ c.in-Some.rest.now) = ap length c.in-Some.ensures.cases.0 in let full = c.add_bit.ensures.full (handed_on _ _ _ _ c.in_err-more-in-Some.was c.from_residual.ensures.1 e) in omega (arith, count, full)
+
+pub returns-in_ok-more-in-Some-clause-net : goal.returns-in_ok-more-in-Some-clause-net
+returns-in_ok-more-in-Some-clause-net t c = c.add_full.ensures.net
+
+pub returns-in_ok-more-in-Some-clause-adds : goal.returns-in_ok-more-in-Some-clause-adds
+returns-in_ok-more-in-Some-clause-adds t c = let count : length c.args.row.now ≡ length (c.in-Some.place.now ∷ c.in-Some.rest.now) = ap length c.in-Some.ensures.cases.0 in adds_fewer _ _ _ _ (omega (arith, count)) (adds_twice _ _ _ _ _ c.add_bit.ensures.adds c.add_full.ensures.adds)
+
+pub returns-in_ok-more-in-Some-clause-full : goal.returns-in_ok-more-in-Some-clause-full
+returns-in_ok-more-in-Some-clause-full t c e = let count : length c.args.row.now ≡ length (c.in-Some.place.now ∷ c.in-Some.rest.now) = ap length c.in-Some.ensures.cases.0 in let most = c.add_bit.ensures.adds.most in let full = c.add_full.ensures.full e in omega (arith, count, most, full)

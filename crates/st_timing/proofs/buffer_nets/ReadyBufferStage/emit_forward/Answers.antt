@@ -1,4 +1,4 @@
-use Rattle.std.proofs.Common.{◌≡◌, ◌+◌, List, length, refl, sym, subst, ap, ◌∙◌, inl, inr, lit<, arith}
+use Rattle.std.proofs.Common.{◌≡◌, ◌+◌, List, length, refl, sym, subst, ap, ◌∙◌, inl, inr, lit<, arith, ◌*◌, ◌^◌, ◌<◌}
 use Rattle.netlist.specs.Netlists.{IsWaiting}
 use Rattle.net_parts.specs.declared.places.PlaceNets.{PlaceNets}
 use Rattle.stage_core.specs.Lasting.{beat_lasts}
@@ -6,9 +6,11 @@ use Rattle.net_parts.specs.Groups.{values_of}
 use Rattle.net_parts.specs.PlaceRows.{ArePlaceNets, HaveSameWidths, AreInRow, InRow, StartsAllEmpty, shown_first}
 use Rattle.stage_core.specs.BeatPlaces.{place_nets, place_are, beat_are, place_widths}
 use Rattle.stage_core.specs.QueueNets.{FirstNumbered, first_numbered}
-use Rattle.net_parts.specs.Laws.{extends_twice, waiting_within}
+use Rattle.net_parts.specs.Laws.{extends_twice, waiting_within, grows_twice, grows_fewer, adds_grow}
 use Rattle.net_parts.specs.RowLaws.{row_here, row_waits}
 use Rattle.st_timing.proofs.BufferRows.{front, front_count}
+use Rattle.stage_core.specs.Refusing.{handed_on}
+use Rattle.net_parts.specs.Growth.{GrowsBy}
 use Rattle.st_timing.proofs.buffer_nets.ReadyBufferStage.emit_forward.Goals as goal
 
 pub show_first-requires : goal.show_first-requires
@@ -120,3 +122,86 @@ returns-clause-newly c n w =
       ]
       | inr last ↦ inr (inr (last ∙ sym c.in_ok-history.ensures.number))
     ]
+
+pub returns-in_err-fill_places-clause-grows : goal.returns-in_err-fill_places-clause-grows
+returns-in_err-fill_places-clause-grows c =
+    let few = c.args.self.now.few in
+    let same = c.from-count.ensures in
+    let count = front_count c.fill_places.new.places _ (c.from-count.result + 1) c.fill_places.auto.places (omega (arith, few, same)) in
+    let long = sym c.fill_places.auto.places ∙ count in
+    let filled = subst (λ n. GrowsBy (7 * n) c.args.builder.now c.fill_places.new.builder) long c.fill_places.ensures.grows in
+    grows_fewer _ _ _ _ (omega (arith, same)) filled
+
+pub returns-in_err-to-clause-grows : goal.returns-in_err-to-clause-grows
+returns-in_err-to-clause-grows c =
+    let few = c.args.self.now.few in
+    let same = c.from-count.ensures in
+    let count = front_count c.fill_places.new.places _ (c.from-count.result + 1) c.fill_places.auto.places (omega (arith, few, same)) in
+    let long = sym c.fill_places.auto.places ∙ count in
+    let filled = subst (λ n. GrowsBy (7 * n) c.args.builder.now c.fill_places.new.builder) long c.fill_places.ensures.grows in
+    grows_fewer _ _ _ _ (omega (arith, same)) (grows_twice _ _ _ _ _ filled (adds_grow _ _ _ c.show_first.ensures.adds))
+
+pub returns-in_err-history-clause-grows : goal.returns-in_err-history-clause-grows
+returns-in_err-history-clause-grows c =
+    let few = c.args.self.now.few in
+    let same = c.from-count.ensures in
+    let count = front_count c.fill_places.new.places _ (c.from-count.result + 1) c.fill_places.auto.places (omega (arith, few, same)) in
+    let long = sym c.fill_places.auto.places ∙ count in
+    let filled = subst (λ n. GrowsBy (7 * n) c.args.builder.now c.fill_places.new.builder) long c.fill_places.ensures.grows in
+    grows_fewer _ _ _ _ (omega (arith, same)) (grows_twice _ _ _ _ _ (grows_twice _ _ _ _ _ filled (adds_grow _ _ _ c.show_first.ensures.adds)) c.make_history.ensures.grows)
+
+pub returns-clause-grows : goal.returns-clause-grows
+returns-clause-grows c =
+    let few = c.args.self.now.few in
+    let same = c.from-count.ensures in
+    let count = front_count c.fill_places.new.places _ (c.from-count.result + 1) c.fill_places.auto.places (omega (arith, few, same)) in
+    let long = sym c.fill_places.auto.places ∙ count in
+    let filled = subst (λ n. GrowsBy (7 * n) c.args.builder.now c.fill_places.new.builder) long c.fill_places.ensures.grows in
+    grows_fewer _ _ _ _ (omega (arith, same)) (grows_twice _ _ _ _ _ (grows_twice _ _ _ _ _ filled (adds_grow _ _ _ c.show_first.ensures.adds)) c.make_history.ensures.grows)
+
+pub returns-in_err-fill_places-clause-full : goal.returns-in_err-fill_places-clause-full
+returns-in_err-fill_places-clause-full c e =
+    let few = c.args.self.now.few in
+    let same = c.from-count.ensures in
+    let count = front_count c.fill_places.new.places _ (c.from-count.result + 1) c.fill_places.auto.places (omega (arith, few, same)) in
+    let long = sym c.fill_places.auto.places ∙ count in
+    let full = subst (λ n. 2 ^ 20 < length c.args.builder.now.lines + 7 * n) long (c.fill_places.ensures.full (handed_on _ _ _ _ c.in_err-fill_places.was c.from_residual.ensures.1 e)) in
+    omega (arith, same, full)
+
+pub returns-in_err-to-clause-full : goal.returns-in_err-to-clause-full
+returns-in_err-to-clause-full c e =
+    let few = c.args.self.now.few in
+    let same = c.from-count.ensures in
+    let count = front_count c.fill_places.new.places _ (c.from-count.result + 1) c.fill_places.auto.places (omega (arith, few, same)) in
+    let long = sym c.fill_places.auto.places ∙ count in
+    let filled = subst (λ n. GrowsBy (7 * n) c.args.builder.now c.fill_places.new.builder) long c.fill_places.ensures.grows in
+    let most = filled.most in
+    let full = c.show_first.ensures.full (handed_on _ _ _ _ c.in_err-to.was c.from_residual-in_err-to.ensures.1 e) in
+    omega (arith, same, most, full)
+
+pub returns-in_err-history-clause-full : goal.returns-in_err-history-clause-full
+returns-in_err-history-clause-full c e =
+    let few = c.args.self.now.few in
+    let same = c.from-count.ensures in
+    let count = front_count c.fill_places.new.places _ (c.from-count.result + 1) c.fill_places.auto.places (omega (arith, few, same)) in
+    let long = sym c.fill_places.auto.places ∙ count in
+    let filled = subst (λ n. GrowsBy (7 * n) c.args.builder.now c.fill_places.new.builder) long c.fill_places.ensures.grows in
+    let most = filled.most in
+    let more = c.show_first.ensures.adds.most in
+    let full = c.make_history.ensures.full (handed_on _ _ _ _ c.in_err-history.was c.from_residual-in_err-history.ensures.1 e) in
+    omega (arith, same, most, more, full)
+
+pub returns-clause-full : goal.returns-clause-full
+returns-clause-full c e = cc
+
+pub returns-in_err-fill_places-clause-waits : goal.returns-in_err-fill_places-clause-waits
+returns-in_err-fill_places-clause-waits c n w = c.fill_places.ensures.still_wait n w
+
+pub returns-in_err-to-clause-waits : goal.returns-in_err-to-clause-waits
+returns-in_err-to-clause-waits c n w = c.show_first.ensures.adds.grows.waits n (c.fill_places.ensures.still_wait n w)
+
+pub returns-in_err-history-clause-waits : goal.returns-in_err-history-clause-waits
+returns-in_err-history-clause-waits c n w = c.make_history.ensures.still_wait n (c.show_first.ensures.adds.grows.waits n (c.fill_places.ensures.still_wait n w))
+
+pub returns-clause-waits : goal.returns-clause-waits
+returns-clause-waits c n w = c.make_history.ensures.still_wait n (c.show_first.ensures.adds.grows.waits n (c.fill_places.ensures.still_wait n w))
