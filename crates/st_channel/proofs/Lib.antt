@@ -1,3 +1,4 @@
+pub mod Growing
 pub mod Numbers
 pub mod Comparing
 pub mod Raising

@@ -3,6 +3,7 @@ use Rattle.netlist.specs.Runs.{Always}
 use Rattle.net_parts.specs.Nets.{IsBit}
 use Rattle.net_parts.specs.Laws.{bit_fits, if_ok, adds_fewer, adds_twice, grows_once}
 use Rattle.net_parts.specs.Bits.{high_or, high_turned}
+use Rattle.stage_core.specs.Refusing.{handed_on}
 use Rattle.st_channel.proofs.filter.ready_or_idle.Goals as goal
 
 pub returns-clause-value : goal.returns-clause-value
@@ -21,3 +22,15 @@ returns-in_err-idle-clause-adds c = adds_fewer _ _ _ _ (omega arith) (grows_once
 
 pub returns-clause-adds : goal.returns-clause-adds
 returns-clause-adds c = adds_fewer _ _ _ _ (omega arith) (adds_twice _ _ _ _ _ (grows_once _ _ c.not.ensures.extends c.not.ensures.grows) (grows_once _ _ c.or.ensures.extends c.or.ensures.grows))
+
+pub or-requires-clause-a_is : goal.or-requires-clause-a_is
+or-requires-clause-a_is c = c.not.ensures.extends.nets _ _ c.requires.ready.is_net
+
+pub or-requires-clause-b_is : goal.or-requires-clause-b_is
+or-requires-clause-b_is c = c.in_ok-idle.ensures.net.0
+
+pub returns-in_err-idle-clause-full : goal.returns-in_err-idle-clause-full
+returns-in_err-idle-clause-full c e = let full = c.not.ensures.full.0 (handed_on _ _ _ _ c.in_err-idle.was c.from_residual.ensures.1 e) in omega (arith, full)
+
+pub returns-clause-full : goal.returns-clause-full
+returns-clause-full c e = let most = c.not.ensures.grows.most in let full = c.or.ensures.full.0 e in omega (arith, most, full)

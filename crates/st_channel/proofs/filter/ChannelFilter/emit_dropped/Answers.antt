@@ -2,11 +2,13 @@ use Rattle.std.proofs.Common.{◌≡◌, ◌≤◌, true, ◌&&◌, ◌==◌, na
 use Rattle.std.proofs.lemmas.Bool.{lt-ltb, le-ltb}
 use Rattle.netlist.specs.Runs.{Always}
 use Rattle.net_parts.specs.Nets.{IsBit}
-use Rattle.net_parts.specs.Laws.{bit_fits, if_ok}
+use Rattle.net_parts.specs.Laws.{bit_fits, if_ok, extends_twice, grows_once, adds_twice}
 use Rattle.net_parts.specs.Bits.{high_and}
 use Rattle.st_channel.specs.FilterNets.{compares, takes_beat, drops}
 use Rattle.st_channel.proofs.Numbers.{bit_of_test}
 use Rattle.st_channel.proofs.Comparing.{sink_fits, drops_late, drops_now, drops_legal}
+use Rattle.stage_core.specs.Refusing.{handed_on}
+use Rattle.st_channel.proofs.Growing.{adds_where, full_where}
 use Rattle.st_channel.proofs.filter.ChannelFilter.emit_dropped.Goals as goal
 
 pub is_above-requires-clause-fits : goal.is_above-requires-clause-fits
@@ -47,3 +49,51 @@ returns-clause-legal c =
     → (cycle.net dropped.number == 1) ≡ (takes_beat c.args.self.now cycle c.args.from c.args.ready && nat_lt c.args.self.now.sink.largest (cycle.net c.args.from.channel.number))))
     (λ dropped value cycle v legal. value cycle v ∙ drops_legal c.args.self.now cycle c.args.from c.args.ready legal)
     (returns-clause-drops c)
+
+pub and-requires-clause-a_is : goal.and-requires-clause-a_is
+and-requires-clause-a_is c = c.is_above.ensures.adds.grows.extends.nets _ _ c.requires.from.valid.is_net
+
+pub and-requires-clause-b_is : goal.and-requires-clause-b_is
+and-requires-clause-b_is c = c.in_ok-above.ensures.net.is_net
+
+pub and-requires-clause-widths : goal.and-requires-clause-widths
+and-requires-clause-widths c = c.requires.from.valid.has_width ∙ sym c.in_ok-above.ensures.net.has_width
+
+pub and-requires-2-clause-a_is : goal.and-requires-2-clause-a_is
+and-requires-2-clause-a_is c = c.in_ok-over.ensures.net.0
+
+pub and-requires-2-clause-b_is : goal.and-requires-2-clause-b_is
+and-requires-2-clause-b_is c = (extends_twice _ _ _ c.is_above.ensures.adds.grows.extends c.and.ensures.extends).nets _ _ c.requires.ready.is_net
+
+pub and-requires-2-clause-widths : goal.and-requires-2-clause-widths
+and-requires-2-clause-widths c = c.in_ok-over.ensures.net.1 ∙ (c.requires.from.valid.has_width ∙ sym c.requires.ready.has_width)
+
+pub returns-in_err-above-clause-adds : goal.returns-in_err-above-clause-adds
+returns-in_err-above-clause-adds c = adds_where (compares c.args.self.now) 4 1 _ _ _ (sym c.compares.ensures ∙ c.if-not-compares.false) (omega arith) c.is_above.ensures.adds
+
+pub returns-in_err-above-clause-full : goal.returns-in_err-above-clause-full
+returns-in_err-above-clause-full c e = full_where (compares c.args.self.now) 4 1 _ _ (sym c.compares.ensures ∙ c.if-not-compares.false) (let full = c.is_above.ensures.full (handed_on _ _ _ _ c.in_err-above.was c.from_residual.ensures.1 e) in omega (arith, full))
+
+pub returns-in_err-over-clause-adds : goal.returns-in_err-over-clause-adds
+returns-in_err-over-clause-adds c = adds_where (compares c.args.self.now) 4 1 _ _ _ (sym c.compares.ensures ∙ c.if-not-compares.false) (omega arith) (adds_twice _ _ _ _ _ c.is_above.ensures.adds (grows_once _ _ c.and.ensures.extends c.and.ensures.grows))
+
+pub returns-in_err-over-clause-full : goal.returns-in_err-over-clause-full
+returns-in_err-over-clause-full c e = full_where (compares c.args.self.now) 4 1 _ _ (sym c.compares.ensures ∙ c.if-not-compares.false) (let most = c.is_above.ensures.adds.most in let full = c.and.ensures.full.0 (handed_on _ _ _ _ c.in_err-over.was c.from_residual-in_err-over.ensures.1 e) in omega (arith, most, full))
+
+pub returns-then-self-gt0-clause-net : goal.returns-then-self-gt0-clause-net
+returns-then-self-gt0-clause-net c = record { is_net = c.in_ok-over.ensures.net.0; has_width = c.in_ok-over.ensures.net.1 ∙ c.requires.from.valid.has_width }
+
+pub returns-then-self-gt0-clause-adds : goal.returns-then-self-gt0-clause-adds
+returns-then-self-gt0-clause-adds c = adds_where (compares c.args.self.now) 4 1 _ _ _ (sym c.compares.ensures ∙ c.if-not-compares.false) (omega arith) (adds_twice _ _ _ _ _ c.is_above.ensures.adds (grows_once _ _ c.and.ensures.extends c.and.ensures.grows))
+
+pub returns-then-self-gt0-clause-full : goal.returns-then-self-gt0-clause-full
+returns-then-self-gt0-clause-full c e = cc
+
+pub returns-clause-net : goal.returns-clause-net
+returns-clause-net c = if_ok c.and-2.result _ (IsBit c.and-2.new.self) (λ dropped net. record { is_net = net.0; has_width = net.1 ∙ (c.in_ok-over.ensures.net.1 ∙ c.requires.from.valid.has_width) }) c.and-2.ensures.net
+
+pub returns-clause-adds : goal.returns-clause-adds
+returns-clause-adds c = adds_where (compares c.args.self.now) 4 1 _ _ _ (sym c.compares.ensures ∙ c.if-not-compares.false) (omega arith) (adds_twice _ _ _ _ _ (adds_twice _ _ _ _ _ c.is_above.ensures.adds (grows_once _ _ c.and.ensures.extends c.and.ensures.grows)) (grows_once _ _ c.and-2.ensures.extends c.and-2.ensures.grows))
+
+pub returns-clause-full : goal.returns-clause-full
+returns-clause-full c e = full_where (compares c.args.self.now) 4 1 _ _ (sym c.compares.ensures ∙ c.if-not-compares.false) (let most = c.is_above.ensures.adds.most in let most2 = c.and.ensures.grows.most in let full = c.and-2.ensures.full.0 e in omega (arith, most, most2, full))
