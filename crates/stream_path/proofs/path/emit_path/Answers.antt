@@ -8,6 +8,7 @@ use Rattle.stream_path.specs.Between.{CarriesStream, ShowsUnreached}
 use Rattle.net_parts.specs.Laws.{extends_none, extends_twice, grows_fewer, grows_within, adds_grow, net_lasts}
 use Rattle.stream_path.proofs.EndNets.{beat_nets, path_nets, ready_lasts, empty_width, fits_few, fits_none, drops_few, drops_none}
 use Rattle.stream_path.proofs.Runs.{serves_in_longer, carries_longer}
+use Rattle.stage_core.specs.Refusing.{handed_on}
 use Rattle.stream_path.proofs.path.emit_path.Goals as goal
 
 pub returns-in_err-high-clause-grows : goal.returns-in_err-high-clause-grows
@@ -114,3 +115,21 @@ returns-in_err-high-clause-waits c n w = c.ready_or_high.ensures.adds.grows.wait
 
 pub returns-in_err-made-clause-waits : goal.returns-in_err-made-clause-waits
 returns-in_err-made-clause-waits c n w = c.emit_stages.ensures.waits n (c.ready_or_high.ensures.adds.grows.waits n (c.level.ensures.adds.grows.waits n w))
+
+pub returns-in_err-low-clause-full : goal.returns-in_err-low-clause-full
+returns-in_err-low-clause-full c e = let full = c.level.ensures.full (handed_on _ _ _ _ c.in_err-low.was c.from_residual.ensures.1 e) in omega (arith, full)
+
+pub returns-in_err-high-clause-full : goal.returns-in_err-high-clause-full
+returns-in_err-high-clause-full c e = let most = c.level.ensures.adds.most in let full = c.ready_or_high.ensures.full (handed_on _ _ _ _ c.in_err-high.was c.from_residual-in_err-high.ensures.1 e) in omega (arith, most, full)
+
+pub returns-in_err-made-clause-full : goal.returns-in_err-made-clause-full
+returns-in_err-made-clause-full c e = let most = c.level.ensures.adds.most in let more = c.ready_or_high.ensures.adds.most in let full = c.emit_stages.ensures.full (handed_on _ _ _ _ c.in_err-made.was c.from_residual-in_err-made.ensures.1 e) in omega (arith, most, more, full)
+
+pub returns-in_err-beat-clause-full : goal.returns-in_err-beat-clause-full
+returns-in_err-beat-clause-full c e = let most = c.level.ensures.adds.most in let more = c.ready_or_high.ensures.adds.most in let stages = c.emit_stages.ensures.grows.most in let full = c.fit_beat.ensures.full (handed_on _ _ _ _ c.in_err-beat.was c.from_residual-in_err-beat.ensures.1 e) in omega (arith, most, more, stages, full)
+
+pub returns-in_err-dropped-clause-full : goal.returns-in_err-dropped-clause-full
+returns-in_err-dropped-clause-full c e = let most = c.level.ensures.adds.most in let more = c.ready_or_high.ensures.adds.most in let stages = c.emit_stages.ensures.grows.most in let fitted = c.fit_beat.ensures.adds.most in let few = fits_few c.args.sink.now.empty_bits c.in_ok-made.made.beat.empty.width in let full = c.emit_dropped.ensures.full (handed_on _ _ _ _ c.in_err-dropped.was c.from_residual-in_err-dropped.ensures.1 e) in omega (arith, most, more, stages, fitted, few, full)
+
+pub returns-clause-full : goal.returns-clause-full
+returns-clause-full c e = cc
