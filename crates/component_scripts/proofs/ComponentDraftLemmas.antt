@@ -20,7 +20,6 @@ use Rattle.system_tables.specs.Names.{is_name}
 use Rattle.component_scripts.specs.Names.{place_of}
 use Rattle.component_scripts.specs.Words.{IsRefusal, text_at, check, refusal_of}
 use Rattle.component_scripts.specs.declared.component_draft.ComponentDraft.TheInside.{Inside}
-use Rattle.component_scripts.specs.declared.judge.Check.{Check}
 use Rattle.component_scripts.specs.declared.judge.Refusal.{Refusal}
 use Rattle.tcl_words.specs.declared.words.Word.{Word}
 use Rattle.tcl_words.specs.Script.{Script}
@@ -259,6 +258,12 @@ unfolding interface_checks
 interface_is_named draft words clean =
     let passes = none_fails words (interface_checks draft words) 0 (check 3 1 (not (is_name (text_at words 1)))) clean (lit< tt) refl in
     not-false (is_name (text_at words 1)) passes
+
+pub interface_is_new : (draft : DraftedComponent) (words : List Word) → refusal_of words (interface_checks draft words) ≡ None
+    → is_some (held_named draft.interfaces (text_at words 1)) ≡ false
+unfolding interface_checks
+interface_is_new draft words clean =
+    none_fails words (interface_checks draft words) 1 (check 4 1 (is_some (held_named draft.interfaces (text_at words 1)))) clean (lit< tt) refl
 
 -- of an interface that isn't refused, the rest decides
 pub first_some-more : (f : DeclaredInterface → Option Refusal) (xs : List DeclaredInterface) (i : ℕ) (d : DeclaredInterface) → i < length xs → d ≡ get_or xs i d

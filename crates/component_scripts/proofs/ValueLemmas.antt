@@ -1,5 +1,5 @@
 -- Numbers, words of two parts, and the names of roles and properties.
-use Rattle.std.proofs.Common.{◌≡◌, ◌≢◌, ℕ, zero, suc, ◌<◌, ◌≤◌, ◌^◌, Bool, true, false, cond, not, ◌&&◌, ◌||◌, ◌↔◌, IsTrue, List, [], ◌∷◌, length, drop, get_or, Option, Some, None, Result, Ok, Err, sym, refl, ap, ◌∙◌, subst, arith, Decides, nat_lt, nat_eq, lit<, inl, inr}
+use Rattle.std.proofs.Common.{◌≡◌, ◌≢◌, ℕ, ◌<◌, ◌≤◌, ◌^◌, Bool, true, false, cond, not, ◌&&◌, ◌||◌, ◌↔◌, IsTrue, List, [], ◌∷◌, length, drop, get_or, Option, Some, None, Result, Ok, Err, sym, refl, ap, ◌∙◌, subst, arith, Decides, nat_lt, nat_eq, lit<, inl, inr}
 use Rattle.std.specs.Prelude.{find, codes, ◌==◌}
 use Rattle.std.specs.Char.{is_digit, digit_value}
 use Rattle.std.specs.List.{list_all, starts_with}
@@ -10,7 +10,6 @@ use Rattle.std.proofs.lemmas.Bool.Decides.{nat_tests, Decides-and, Decides-ltb}
 use Rattle.std.proofs.lemmas.Slice.Eq.{bytes_eq-Decides, starts_is}
 use Rattle.std.proofs.lemmas.Bool.Decides.{Decides-eqb}
 use Rattle.iface_roles.specs.declared.kinds.Kind.{Kind}
-use Rattle.iface_roles.specs.declared.kinds.Kind.TheVariants.{Clock, Reset, Mm, Stream, Conduit, Interrupt}
 use Rattle.iface_roles.specs.declared.properties.Property.{Property}
 use Rattle.iface_roles.specs.declared.properties.Property.TheVariants.{Known, PassedOver, Unknown}
 use Rattle.iface_roles.specs.declared.properties.PropertyId.{PropertyId}

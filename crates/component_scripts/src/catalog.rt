@@ -3,6 +3,7 @@ ghost use Rattle.std.specs.Prelude.{◌≡◌};
 use crate::component::Component;
 use crate::faults::{ScriptFault, ScriptRule};
 use crate::names::Names;
+use av_base::NoMemory;
 use std::alloc::Global;
 use std::marker::Model;
 
@@ -42,23 +43,41 @@ impl Catalog {
         }
     }
 
-    /// Adds a component. Refused where its type is there already, or is `clock_source`.
+    /// Whether the component's type is there already, or is `clock_source`.
     #[tactic(auto, unfolding(crate::specs::Catalog::is_refused))]
+    fn refuses(&self, component: &Component) -> bool
+        ensures { result ≡ is_refused self.now component.now }
+    {
+        component.name() == "clock_source" || self.names.find(component.name()).is_some()
+    }
+
+    /// Adds a component that isn't refused.
+    #[tactic(auto, unfolding(crate::specs::Catalog::is_refused))]
+    fn insert(&mut self, component: Component) -> Result<(), NoMemory>
+        requires { is_refused self.old component ≡ false }
+        ensures added { OnOk result (self.new ≡ self.old ++ component ∷ []) }
+        ensures err { OnErr result (self.new ≡ self.old) }
+    {
+        self.names
+            .add_for(self.alloc, component.name(), &mut self.components)?;
+        self.components.push(component).unwrap();
+        Ok(())
+    }
+
+    /// Adds a component. Refused where its type is there already, or is `clock_source`.
     pub fn add(&mut self, component: Component) -> Result<(), ScriptFault>
         ensures accepted { OnOk result (is_refused self.old component ≡ false) }
         ensures added { OnOk result (self.new ≡ self.old ++ component ∷ []) }
         ensures refused { IfErr result (IsAddFault self.old component) }
         ensures err { OnErr result (self.new ≡ self.old) }
     {
-        if component.name() == "clock_source" || self.names.find(component.name()).is_some() {
+        if self.refuses(&component) {
             return Err(ScriptFault::Refused {
                 place: component.place(),
                 rule: ScriptRule::Command(15),
             });
         }
-        self.components.reserve(1)?;
-        self.names.add(self.alloc, component.name())?;
-        self.components.push(component).unwrap();
+        self.insert(component)?;
         Ok(())
     }
 

@@ -1,7 +1,7 @@
 ghost use Rattle.std.specs.Prelude.{◌≡◌, IfOk, IsTrue};
 ghost use Rattle.iface_roles.specs.Proper.{IsProper};
 ghost use Rattle.iface_roles.specs.Records.{finished};
-ghost use Rattle.component_scripts.specs.Component.{interface_table};
+ghost use Rattle.component_scripts.specs.Component.{interface_table, declared_as};
 ghost use Rattle.system_tables.specs.Names.{is_name};
 ghost use Rattle.component_scripts.specs.Tables.{IsSound};
 
@@ -18,7 +18,7 @@ use crate::settings::{is_misread, is_not_known, is_outside, set_as, with_role};
 use crate::values::{direction_named, is_name, kind_named, number_of, property_named, same_kind};
 use crate::words::{check, place, refusal_of, refused_at, text};
 use av_base::{NoMemory, Place, Text};
-use iface_roles::{Finished, Interface, Kind, Property};
+use iface_roles::{Finished, Interface, Kind, Property, Side};
 use std::alloc::Global;
 use std::marker::Model;
 use system_tables::InterfaceTable;
@@ -77,7 +77,7 @@ impl ComponentDraft {
       property_effect,
       port_effect,
     };
-    ghost use Rattle.std.specs.Prelude.{map, All, Ok};
+    ghost use Rattle.std.specs.Prelude.{◌++◌, ◌∷◌, [], map, All, Ok, IsSome, is_some, false};
     ghost use Rattle.system_tables.specs.Names.{is_name};
     ghost use Rattle.component_scripts.specs.Tables.{IsSound};
     ghost use Rattle.component_scripts.specs.Words.{refusal_of, IsRefusal};
@@ -217,22 +217,25 @@ impl ComponentDraft {
         Ok(())
     }
 
+    /// Adds an interface of a new name.
+    fn declare(&mut self, alloc: Global, declared: DeclaredInterface) -> Result<(), NoMemory>
+        requires name { IsTrue (is_name declared.name) }
+        requires new { is_some (held_named self.old.interfaces declared.name) ≡ false }
+        ensures { OnOk result (self.new ≡ record self.old { interfaces = self.old.interfaces ++ declared ∷ [] }) }
+    {
+        self.names
+            .add_for(alloc, declared.name.as_str(), &mut self.interfaces)?;
+        self.interfaces.push(declared).unwrap();
+        Ok(())
+    }
+
     #[tactic(auto, unfolding(crate::specs::Component::interface_effect))]
     fn state_interface(&mut self, alloc: Global, words: &[Word]) -> Result<(), NoMemory>
         requires { refusal_of words.now (interface_checks self.old words.now) ≡ None }
         ensures { OnOk result (self.new ≡ interface_effect self.old words.now) }
     {
         if let Some((kind, side)) = kind_and_side(words) {
-            let name = text(words, 1);
-            let declared = DeclaredInterface {
-                name: Text::copy(alloc, name)?,
-                place: place(words, 1),
-                clock: Text::copy(alloc, "")?,
-                interface: Interface::new(kind, side),
-            };
-            self.interfaces.reserve(1)?;
-            self.names.add(alloc, name)?;
-            self.interfaces.push(declared).unwrap();
+            self.declare(alloc, declared_as(alloc, words, kind, side)?)?;
         }
         Ok(())
     }
@@ -341,6 +344,22 @@ impl ComponentDraft {
         })
     }
 
+    /// The table of an interface, unless a rule refuses it.
+    fn table(
+        &self,
+        alloc: Global,
+        declared: &DeclaredInterface,
+    ) -> Result<InterfaceTable, ScriptFault>
+        requires { IsTrue (is_name declared.now.name) }
+        ensures accepted { OnOk result (interface_refusal self.now.interfaces declared.now ≡ None) }
+        ensures table { IfOk result (λ table. table ≡ interface_table declared.now) }
+        ensures sound { IfOk result IsSound }
+        ensures refused { IfErr result (λ fault. IsRefusal fault (interface_refusal self.now.interfaces declared.now)) }
+    {
+        let finished = self.finished(declared)?;
+        Ok(table_of(alloc, declared, finished)?)
+    }
+
     /// The tables of these interfaces in order, unless a rule refuses one.
     fn tables_of(
         &self,
@@ -356,8 +375,7 @@ impl ComponentDraft {
     {
         let mut tables = Vec::new(alloc);
         for declared in interfaces {
-            let finished = self.finished(declared)?;
-            tables.push(table_of(alloc, declared, finished)?)?;
+            tables.push(self.table(alloc, declared)?)?;
         }
         Ok(tables)
     }
@@ -373,11 +391,14 @@ impl ComponentDraft {
         self.tables_of(alloc, self.interfaces.as_slice())
     }
 
-    /// What the commands state, once they end here.
+    /// The tables of the interfaces, where the type has a name by the end of the file and no rule refuses an interface.
     #[tactic(auto, unfolding(crate::specs::Component::ended))]
-    pub fn finish(self, alloc: Global, end: Place) -> Result<Component, ScriptFault>
-        ensures accepted { IfOk result (λ component. ended end self ≡ Ok component) }
-        ensures refused { IfErr result (λ fault. IsFaultOf fault (ended end self)) }
+    fn ended(&self, alloc: Global, end: Place) -> Result<Vec<InterfaceTable>, ScriptFault>
+        ensures named { OnOk result (IsSome self.now.type_name) }
+        ensures accepted { OnOk result (first_some (interface_refusal self.now.interfaces) self.now.interfaces ≡ None) }
+        ensures tables { IfOk result (λ tables. tables.items ≡ map interface_table self.now.interfaces) }
+        ensures sound { IfOk result (λ tables. All IsSound tables.items) }
+        ensures refused { IfErr result (λ fault. IsFaultOf fault (ended end self.now)) }
     {
         if self.type_name.is_none() {
             return Err(ScriptFault::Refused {
@@ -385,7 +406,18 @@ impl ComponentDraft {
                 rule: ScriptRule::Command(14),
             });
         }
-        let interfaces = self.interface_tables(alloc)?;
+        Ok(self.interface_tables(alloc)?)
+    }
+
+    /// The component of these tables, which has the name that was stated.
+    #[tactic(auto, unfolding(crate::specs::Component::ended))]
+    fn with_tables(self, interfaces: Vec<InterfaceTable>) -> Component
+        requires named { IsSome self.type_name }
+        requires accepted { first_some (interface_refusal self.interfaces) self.interfaces ≡ None }
+        requires tables { interfaces.items ≡ map interface_table self.interfaces }
+        requires sound { All IsSound interfaces.items }
+        ensures { (end : Place) → ended end self ≡ Ok result }
+    {
         let ComponentDraft {
             type_name,
             names,
@@ -394,8 +426,36 @@ impl ComponentDraft {
         } = self;
         let name = type_name.unwrap();
         names.distinct();
-        Ok(Component::new(name.text, name.place, names, interfaces))
+        Component::new(name.text, name.place, names, interfaces)
     }
+
+    /// What the commands state, once they end here.
+    pub fn finish(self, alloc: Global, end: Place) -> Result<Component, ScriptFault>
+        ensures accepted { IfOk result (λ component. ended end self ≡ Ok component) }
+        ensures refused { IfErr result (λ fault. IsFaultOf fault (ended end self)) }
+    {
+        let interfaces = self.ended(alloc, end)?;
+        Ok(self.with_tables(interfaces))
+    }
+}
+
+/// The interface that the words of `add_interface` declare, of this kind and side.
+fn declared_as(
+    alloc: Global,
+    words: &[Word],
+    kind: Kind,
+    side: Side,
+) -> Result<DeclaredInterface, NoMemory>
+    ensures { IfOk result (λ declared. declared ≡ declared_as words.now (kind, side)) }
+{
+    let name = Text::copy(alloc, text(words, 1))?;
+    let clock = Text::copy(alloc, "")?;
+    Ok(DeclaredInterface {
+        name,
+        place: place(words, 1),
+        clock,
+        interface: Interface::new(kind, side),
+    })
 }
 
 #[tactic(auto, unfolding(crate::specs::Component::interface_table))]
@@ -410,11 +470,13 @@ fn table_of(
     ensures table { IfOk result (λ table. table ≡ interface_table declared.now) }
     ensures sound { IfOk result IsSound }
 {
+    let name = Text::copy(alloc, declared.name.as_str())?;
+    let clock = Text::copy(alloc, declared.clock.as_str())?;
     Ok(InterfaceTable {
-        name: Text::copy(alloc, declared.name.as_str())?,
+        name,
         kind: declared.interface.kind(),
         side: declared.interface.side(),
-        clock: Text::copy(alloc, declared.clock.as_str())?,
+        clock,
         finished: known,
     })
 }

@@ -73,13 +73,24 @@ impl<'a> Library<'a> {
     {
         let mut copy = List::new(alloc);
         for component in self.catalog.components() {
-            component.well_made();
-            copy.push(copy_interfaces(alloc, component.interfaces())?)?;
+            push_interfaces(alloc, &mut copy, component)?;
         }
-        self.clock_source.well_made();
-        copy.push(copy_interfaces(alloc, self.clock_source.interfaces())?)?;
+        push_interfaces(alloc, &mut copy, &self.clock_source)?;
         Ok(copy)
     }
+}
+
+/// Adds the interfaces of a component.
+fn push_interfaces(
+    alloc: Global,
+    copy: &mut List<List<InterfaceTable>>,
+    component: &Component,
+) -> Result<(), NoMemory>
+    ensures pushed { OnOk result (copy.new ≡ copy.old ++ component.now.interfaces ∷ []) }
+    ensures made { IsComponent component.now }
+{
+    component.well_made();
+    copy.push(copy_interfaces(alloc, component.interfaces())?)
 }
 
 /// Interfaces of a component that no file states.
@@ -99,11 +110,21 @@ impl BuiltIn {
             names: Names::new(alloc),
             interfaces: Vec::new(alloc),
         };
-        source.add(alloc, "clk_in", Kind::Clock, Side::End)?;
-        source.add(alloc, "clk_in_reset", Kind::Reset, Side::End)?;
-        source.add(alloc, "clk", Kind::Clock, Side::Start)?;
-        source.add(alloc, "clk_reset", Kind::Reset, Side::Start)?;
+        source.fill(alloc)?;
         Ok(source)
+    }
+
+    /// Adds the interfaces of the source of a clock and of its reset, where there are none yet.
+    fn fill(&mut self, alloc: Global) -> Result<(), NoMemory>
+        requires no_names { self.old.names ≡ [] }
+        requires no_interfaces { self.old.interfaces.items ≡ [] }
+        ensures interfaces { OnOk result (self.new.interfaces.items ≡ clock_source_table.interfaces) }
+        ensures names { OnOk result (HasNamesOf self.new.names self.new.interfaces.items) }
+    {
+        self.add(alloc, "clk_in", Kind::Clock, Side::End)?;
+        self.add(alloc, "clk_in_reset", Kind::Reset, Side::End)?;
+        self.add(alloc, "clk", Kind::Clock, Side::Start)?;
+        self.add(alloc, "clk_reset", Kind::Reset, Side::Start)
     }
 
     /// Adds an interface with no clock of its own and no roles.
@@ -114,15 +135,24 @@ impl BuiltIn {
             (self.new.interfaces.items ≡ self.old.interfaces.items ++ built_in name.now kind side ∷ []) }
     {
         self.names.add(alloc, name)?;
-        self.interfaces.push(InterfaceTable {
-            name: Text::copy(alloc, name)?,
-            kind,
-            side,
-            clock: Text::copy(alloc, "")?,
-            finished: Finished::Other,
-        })?;
+        self.interfaces.push(built_in(alloc, name, kind, side)?)?;
         Ok(())
     }
+}
+
+/// An interface with no clock of its own and no roles.
+fn built_in(alloc: Global, name: &str, kind: Kind, side: Side) -> Result<InterfaceTable, NoMemory>
+    ensures { IfOk result (λ interface. interface ≡ built_in name.now kind side) }
+{
+    let name = Text::copy(alloc, name)?;
+    let clock = Text::copy(alloc, "")?;
+    Ok(InterfaceTable {
+        name,
+        kind,
+        side,
+        clock,
+        finished: Finished::Other,
+    })
 }
 
 /// The built-in source of a clock and of its reset.

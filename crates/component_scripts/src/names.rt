@@ -1,4 +1,4 @@
-ghost use Rattle.std.specs.Prelude.{◌≡◌, ◌++◌, ◌∷◌, [], length, OnOk, OnErr, IsNone};
+ghost use Rattle.std.specs.Prelude.{◌≡◌, ◌++◌, ◌∷◌, ◌<◌, [], length, OnOk, OnErr, IsNone, vec_len, vec_capacity};
 ghost use Rattle.std.specs.List.{IsDistinct};
 ghost use Rattle.std.specs.Str.{bytes_eq};
 ghost use Rattle.component_scripts.specs.Names.{place_of};
@@ -53,5 +53,22 @@ impl Names {
     {
         self.names.insert(String::from_str(alloc, name)?)?;
         Ok(())
+    }
+
+    /// Adds a name that isn't there yet, and makes room for the item that it names. On `Err` the names are as before.
+    pub fn add_for<T>(
+        &mut self,
+        alloc: Global,
+        name: &str,
+        items: &mut Vec<T>,
+    ) -> Result<(), NoMemory>
+        requires { IsNone (place_of self.old name.now) }
+        ensures ok { OnOk result (self.new ≡ self.old ++ name.now ∷ []) }
+        ensures err { OnErr result (self.new ≡ self.old) }
+        ensures items { items.new.items ≡ items.old.items }
+        ensures room { OnOk result (vec_len items.new < vec_capacity items.new) }
+    {
+        items.reserve(1)?;
+        self.add(alloc, name)
     }
 }

@@ -1,24 +1,25 @@
-use Rattle.std.proofs.Common.{◌≡◌, ◌++◌, ◌∷◌, [], false, lit<, refl, sym, ap, ◌∙◌, subst}
+use Rattle.std.proofs.Common.{◌++◌, ◌∷◌, [], sym, ap, ◌∙◌, subst}
 use Rattle.std.specs.Prelude.{is_some, IsTrue}
-use Rattle.component_scripts.specs.Component.{held_named, interface_checks}
+use Rattle.std.specs.Option.{option_map_or}
+use Rattle.component_scripts.specs.declared.component.DeclaredInterface.{DeclaredInterface}
+use Rattle.component_scripts.specs.Component.{held_named, interface_effect, declared_as}
 use Rattle.system_tables.specs.Names.{is_name}
-use Rattle.component_scripts.specs.Names.{place_of}
-use Rattle.component_scripts.specs.Words.{check, text_at}
-use Rattle.component_scripts.specs.Laws.{none_fails}
-use Rattle.component_scripts.proofs.ComponentDraftLemmas.{IsComponentDraft-push, interface_is_named, shown, is_some-held}
+use Rattle.component_scripts.proofs.ComponentDraftLemmas.{interface_is_named, interface_is_new}
 use Rattle.component_scripts.proofs.component_draft.ComponentDraft.state_interface.Goals as goal
 
-pub add-requires : goal.add-requires
-unfolding interface_checks
-add-requires c =
-    let words = c.args.words.now in
-    let interfaces = c.self.inside.interfaces.items in
-    let new : is_some (held_named interfaces (text_at words 1)) ≡ false =
-    none_fails words (interface_checks (record { type_name = c.self.inside.type_name; interfaces = interfaces; ports = c.self.inside.ports }) words) 1 (check 4 1 (is_some (held_named interfaces (text_at words 1)))) (rw (← c.self.view_is) at c.requires) (lit< tt) refl in
-    subst (λ n. is_some (place_of c.self.inside.names n) ≡ false) (sym c.text-name.ensures) (is_some-held c.self.inside.names interfaces (text_at words 1) c.self.invariant.all ∙ new)
+pub declare-requires-clause-name : goal.declare-requires-clause-name
+declare-requires-clause-name c =
+    subst (λ (d : DeclaredInterface). IsTrue (is_name d.name)) (sym c.in_ok-declared_as.ensures) (interface_is_named c.args.self.now c.args.words.now c.requires)
 
-pub invariant_of-self-in-Some : goal.invariant_of-self-in-Some
-invariant_of-self-in-Some c =
-    let named = interface_is_named (shown c.self.inside) c.args.words.now (rw (← c.self.view_is) at c.requires) in
-    let pushed = rw c.unwrap.ensures at c.push.ensures.items in
-    IsComponentDraft-push c.self.inside.names c.add.new.self c.self.inside.type_name c.self.inside.interfaces.items c.push.new.self.items (record { name = c.in_ok-copy.field-0; place = c.place.result; clock = c.in_ok-copy-2.field-0; interface = c.new.result }) c.self.invariant (subst (λ t. IsTrue (is_name t)) (sym (c.in_ok-copy.ensures ∙ c.text-name.ensures)) named) (c.in_ok-add.ensures.ok ∙ ap (λ n. c.self.inside.names ++ n ∷ []) (sym c.in_ok-copy.ensures)) (pushed ∙ ap (λ xs. xs ++ record { name = c.in_ok-copy.field-0; place = c.place.result; clock = c.in_ok-copy-2.field-0; interface = c.new.result } ∷ []) c.in_ok-reserve.ensures.items)
+pub declare-requires-clause-new : goal.declare-requires-clause-new
+declare-requires-clause-new c =
+    let draft = c.args.self.now in
+    ap (λ (d : DeclaredInterface). is_some (held_named draft.interfaces d.name)) c.in_ok-declared_as.ensures ∙ interface_is_new draft c.args.words.now c.requires
+
+pub returns-in_ok-declare : goal.returns-in_ok-declare
+unfolding interface_effect
+returns-in_ok-declare c =
+    let draft = c.args.self.now in
+    c.in_ok-declare.ensures
+    ∙ ap (λ (d : DeclaredInterface). record draft { interfaces = draft.interfaces ++ d ∷ [] }) c.in_ok-declared_as.ensures
+    ∙ ap (λ o. option_map_or (λ sort. record draft { interfaces = draft.interfaces ++ declared_as c.args.words.now sort ∷ [] }) o draft) c.in-Some.ensures

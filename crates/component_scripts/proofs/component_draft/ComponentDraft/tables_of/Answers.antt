@@ -8,7 +8,7 @@ use Rattle.component_scripts.proofs.component_draft.ComponentDraft.tables_of.Goa
 
 pub loop-declared-preserved : goal.loop-declared-preserved
 loop-declared-preserved c = record {
-  tables = c.in_ok-push.ensures.items ∙ ap (λ ts. ts ++ c.in_ok-table_of.field-0 ∷ []) c.loop-declared.invariant.tables ∙ ap (λ t. map interface_table (take c.loop-declared.declared-index c.args.interfaces.now) ++ t ∷ []) (c.in_ok-table_of.ensures.table ∙ ap interface_table c.declared-item.is) ∙ sym (map_more interface_table c.args.interfaces.now c.loop-declared.declared-index c.declared-item.result c.loop-declared-test.true);
-  accepted = c.loop-declared.invariant.accepted ∙ first_some-more (interface_refusal c.args.self.now.interfaces) c.args.interfaces.now c.loop-declared.declared-index c.declared-item.result c.loop-declared-test.true c.declared-item.is c.in_ok-finished.ensures.accepted.0;
-  sound = rw c.in_ok-push.ensures.items (All-push IsSound _ _ c.loop-declared.invariant.sound c.in_ok-table_of.ensures.sound);
+  tables = c.in_ok-push.ensures.items ∙ ap (λ ts. ts ++ c.in_ok-table.field-0 ∷ []) c.loop-declared.invariant.tables ∙ ap (λ t. map interface_table (take c.loop-declared.declared-index c.args.interfaces.now) ++ t ∷ []) (c.in_ok-table.ensures.table ∙ ap interface_table c.declared-item.is) ∙ sym (map_more interface_table c.args.interfaces.now c.loop-declared.declared-index c.declared-item.result c.loop-declared-test.true);
+  accepted = c.loop-declared.invariant.accepted ∙ first_some-more (interface_refusal c.args.self.now.interfaces) c.args.interfaces.now c.loop-declared.declared-index c.declared-item.result c.loop-declared-test.true c.declared-item.is c.in_ok-table.ensures.accepted;
+  sound = rw c.in_ok-push.ensures.items (All-push IsSound _ _ c.loop-declared.invariant.sound c.in_ok-table.ensures.sound);
 }

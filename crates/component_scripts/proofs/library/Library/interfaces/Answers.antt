@@ -11,9 +11,9 @@ loop-component-preserved c =
     let components = c.components-component-items.result.now in
     let i = c.loop-component.component-index in
     record {
-      copied = c.in_ok-push.ensures.ok
-          ∙ ap (λ (t : List (List InterfaceTable)). t ++ c.in_ok-copy_interfaces.field-0 ∷ []) c.loop-component.invariant.copied
-          ∙ ap (λ (t : List InterfaceTable). interfaces_of (take i components) ++ t ∷ []) (c.in_ok-copy_interfaces.ensures ∙ c.interfaces.ensures ∙ ap (λ (component : ComponentTable). component.interfaces) c.component-item.is)
+      copied = c.in_ok-push_interfaces.ensures.pushed
+          ∙ ap (λ (t : List (List InterfaceTable)). t ++ c.component-item.result.interfaces ∷ []) c.loop-component.invariant.copied
+          ∙ ap (λ (component : ComponentTable). interfaces_of (take i components) ++ component.interfaces ∷ []) c.component-item.is
           ∙ sym (map_more (λ (component : ComponentTable). component.interfaces) components i c.component-item.result c.loop-component-test.true);
-      made = All-more IsComponent components i c.component-item.result c.loop-component-test.true c.loop-component.invariant.made (subst IsComponent c.component-item.is c.well_made.ensures);
+      made = All-more IsComponent components i c.component-item.result c.loop-component-test.true c.loop-component.invariant.made (subst IsComponent c.component-item.is c.push_interfaces.ensures.made);
     }

@@ -7,20 +7,20 @@ use Rattle.std.specs.Str.{bytes_eq}
 use Rattle.system_tables.specs.declared.tables.InterfaceTable.{InterfaceTable}
 use Rattle.component_scripts.specs.Tables.{HasNamesOf}
 use Rattle.component_scripts.proofs.ComponentDraftLemmas.{names_of-tables}
-use Rattle.component_scripts.proofs.component_draft.ComponentDraft.finish.Goals as goal
+use Rattle.component_scripts.proofs.component_draft.ComponentDraft.with_tables.Goals as goal
 
 pub new-requires-clause-sound : goal.new-requires-clause-sound
 new-requires-clause-sound c =
-    let tables = rw (← c.self.view_is) at c.in_ok-interfaces.ensures.tables in
-    let names : HasNamesOf c.self.inside.names c.in_ok-interfaces.interfaces.items =
+    let tables = rw (← c.self.view_is) at c.requires.tables in
+    let names : HasNamesOf c.self.inside.names c.args.interfaces.items =
     c.self.invariant.all ∙ sym (ap (map (λ (t : InterfaceTable). t.name)) tables ∙ names_of-tables c.self.inside.interfaces.items) in
     record {
       name = (let P : Option Word → Type 0 = λ o. IfSome o (λ w. IsTrue (is_name w.text)) in subst P c.unwrap-name.ensures c.self.invariant.type_is_name);
-      interfaces = c.in_ok-interfaces.ensures.sound;
+      interfaces = c.requires.sound;
       distinct = subst (IsDistinct bytes_eq) names c.distinct.ensures;
     }
 
 pub new-requires-clause-names : goal.new-requires-clause-names
 new-requires-clause-names c =
-    let tables = rw (← c.self.view_is) at c.in_ok-interfaces.ensures.tables in
+    let tables = rw (← c.self.view_is) at c.requires.tables in
     c.self.invariant.all ∙ sym (ap (map (λ (t : InterfaceTable). t.name)) tables ∙ names_of-tables c.self.inside.interfaces.items)
