@@ -1,11 +1,11 @@
-ghost use Rattle.std.specs.Prelude.{◌≡◌, IfOk};
-ghost use Rattle.system_scripts.specs.Clocks.{fits_clock, end_id};
+ghost use Rattle.std.specs.Prelude.{◌≡◌, IfOk, option_and_then, slice_get};
+ghost use Rattle.system_scripts.specs.Clocks.{fits_clock, end_id, clock_place};
 
 use super::SystemDraft;
 use crate::joints::{Joint, Terminal};
 use crate::roots::Roots;
 use av_base::{List, NoMemory, Place};
-use component_scripts::{Library, ScriptFault, ScriptRule};
+use component_scripts::{Component, Library, ScriptFault, ScriptRule};
 use std::alloc::Global;
 use system_tables::{Connection, EndId, InterfaceTable, System};
 
@@ -35,6 +35,24 @@ fn fits_clock(clock: Option<Terminal>, root: Option<Terminal>) -> bool
     }
 }
 
+/// The place of the clock interface that an interface of a component names.
+fn clock_place(component: &Component, interface: &InterfaceTable) -> Option<usize>
+    ensures { result ≡ clock_place component.now interface.now }
+{
+    let clock = interface.clock.as_str();
+    if clock.is_empty() {
+        return None;
+    }
+    component.find(clock)
+}
+
+/// The place of the clock interface that the interface at a place of a component names.
+fn clock_at(component: &Component, k: usize) -> Option<usize>
+    ensures { result ≡ option_and_then (clock_place component.now) (slice_get component.now.interfaces k) }
+{
+    clock_place(component, component.interfaces().get(k)?)
+}
+
 impl SystemDraft {
     ghost use Rattle.std.specs.Prelude.{map, All, ℕ, List, IfErr, IsSome, OnErr, OnOk, None, Some, Ok};
     ghost use Rattle.std.specs.Option.{option_or};
@@ -61,15 +79,10 @@ impl SystemDraft {
         ensures { result ≡ clock_of library.now self.now.instances end }
     {
         let component = self.component_at(library, end.instance)?;
-        let interface = component.interfaces().get(end.interface)?;
-        let clock = interface.clock.as_str();
-        if clock.is_empty() {
-            return None;
-        }
-        let place = component.find(clock)?;
+        let interface = clock_at(component, end.interface)?;
         Some(Terminal {
             instance: end.instance,
-            interface: place,
+            interface,
         })
     }
 
@@ -189,16 +202,12 @@ impl SystemDraft {
     }
 
     /// The system of these tables, which has the name that was stated.
-    fn with_tables(
-        self,
-        components: List<List<InterfaceTable>>,
-        connections: List<Connection>,
-    ) -> System
+    fn with_tables(self, tables: (List<List<InterfaceTable>>, List<Connection>)) -> System
         requires created { IsSome self.name }
         requires system { (name : List ℕ) → self.name ≡ Some name
-            → IsSystem (kept_table name self.stages components self.instances connections) }
+            → IsSystem (kept_table name self.stages tables.0 self.instances tables.1) }
         ensures { (name : List ℕ) → self.name ≡ Some name
-            → result ≡ kept_table name self.stages components self.instances connections }
+            → result ≡ kept_table name self.stages tables.0 self.instances tables.1 }
     {
         let SystemDraft {
             name,
@@ -210,6 +219,7 @@ impl SystemDraft {
             joints: _,
             taken: _,
         } = self;
+        let (components, connections) = tables;
         System::new(name.unwrap(), stages, components, instances, connections)
     }
 
@@ -225,6 +235,6 @@ impl SystemDraft {
         ensures refused { IfErr result (λ fault. IsFaultOf fault (ended_system end library.now self self.name)) }
     {
         let tables = self.tables(alloc, library, end)?;
-        Ok(self.with_tables(tables.0, tables.1))
+        Ok(self.with_tables(tables))
     }
 }

@@ -1,7 +1,8 @@
-ghost use Rattle.std.specs.Prelude.{◌≡◌, ◌++◌, ◌∷◌, [], false, None, Some, IsNone, IfSome, OnOk, position};
+ghost use Rattle.std.specs.Prelude.{◌≡◌, ◌++◌, ◌∷◌, [], false, None, Some, IsNone, IfSome, is_some, OnOk, position};
 ghost use Rattle.std.specs.Option.{option_map_or};
 ghost use Rattle.system_scripts.specs.System.{
   DraftedSystem,
+  instance_place,
   joins,
   first_end,
   second_end,
@@ -82,15 +83,20 @@ impl SystemDraft {
         ensures { OnOk result (self.new ≡ instance_effect library.now self.old words.now) }
     {
         if let Some(component) = library.find(text(words, 2)) {
-            let name = text(words, 1);
-            let instance = Instance {
-                name: Text::copy(alloc, name)?,
-                component,
-            };
-            self.instances.reserve(1)?;
-            self.names.add(alloc, name)?;
-            self.instances.push(instance).unwrap();
+            let name = Text::copy(alloc, text(words, 1))?;
+            self.add_instance(alloc, Instance { name, component })?;
         }
+        Ok(())
+    }
+
+    /// Adds an instance of a new name.
+    fn add_instance(&mut self, alloc: Global, instance: Instance) -> Result<(), NoMemory>
+        requires { is_some (instance_place self.old.instances instance.name) ≡ false }
+        ensures { OnOk result (self.new ≡ record self.old { instances = self.old.instances ++ instance ∷ [] }) }
+    {
+        self.names
+            .add_for(alloc, instance.name.as_str(), &mut self.instances)?;
+        self.instances.push(instance).unwrap();
         Ok(())
     }
 

@@ -13,4 +13,4 @@ returns c =
     let stages = c.self.inside.stages in
     let instances = c.self.inside.instances.items in
     rw (← c.self.view_is)
-    (λ name named. c.new.ensures ∙ ap (λ n. kept_table n stages c.args.components instances c.args.connections) (same_name c.unwrap.result name c.self.inside.name c.unwrap.ensures named))
+    (λ name named. c.new.ensures ∙ ap (λ n. kept_table n stages c.args.tables.0 instances c.args.tables.1) (same_name c.unwrap.result name c.self.inside.name c.unwrap.ensures named))
