@@ -1,5 +1,5 @@
 -- The tables of a system that commands state, as they are kept.
-use Rattle.std.proofs.Common.{◌≡◌, ℕ, zero, suc, List, [], ◌∷◌, ◌++◌, map, Option, Some, None, Ok, refl, sym, ap, ◌∙◌, subst}
+use Rattle.std.proofs.Common.{◌≡◌, ℕ, zero, suc, List, [], ◌∷◌, map, Option, Some, None, Ok, refl, sym, ap, ◌∙◌, subst}
 use Rattle.std.specs.Prelude.{All, IsSome, slice_index_or}
 use Rattle.av_base.specs.declared.faults.Place.{Place}
 use Rattle.tcl_words.specs.declared.words.Word.{Word}
@@ -8,10 +8,10 @@ use Rattle.component_scripts.specs.declared.faults.ScriptFault.{ScriptFault}
 use Rattle.component_scripts.specs.declared.faults.ScriptFault.TheVariants.{Refused, NoMemory}
 use Rattle.system_tables.specs.declared.system.Instance.{Instance}
 use Rattle.system_tables.specs.declared.tables.Connection.{Connection}
-use Rattle.system_scripts.specs.Clocks.{interfaces_at, instance_table, connection_of, system_clock, logic_joints, stated_system, ended_system, system_over, system_of}
+use Rattle.system_scripts.specs.Clocks.{interfaces_at, instance_table, connection_of, system_clock, logic_joints, stated_system, ended_system, system_over}
 use Rattle.component_scripts.specs.Component.{judged, IsFaultOf}
 use Rattle.system_tables.specs.Kept.{instance_of, kept_table}
-use Rattle.component_scripts.specs.Library.{clock_source_table, interfaces_of}
+use Rattle.component_scripts.specs.Library.{interfaces_of}
 use Rattle.system_scripts.specs.Sound.{IsSoundSystemDraft}
 use Rattle.system_scripts.specs.System.{DraftedSystem, empty_system_draft, first_system_refusal, system_after_all}
 use Rattle.system_tables.specs.declared.tables.InterfaceTable.{InterfaceTable}
@@ -52,25 +52,24 @@ pub read_is_sound : (library : List ComponentTable) (commands : List (List Word)
 read_is_sound library commands draft clean is = subst (IsSoundSystemDraft library) (sym is) (sound_draft library commands clean)
 
 -- behind the last command, what was stated decides
-pub system_of-ended : (components library : List ComponentTable) (script : Script) (draft : DraftedSystem) (end : Place) → library ≡ components ++ clock_source_table ∷ []
+pub system_over-ended : (library : List ComponentTable) (script : Script) (draft : DraftedSystem) (end : Place)
     → first_system_refusal library empty_system_draft script.commands ≡ None → draft ≡ system_after_all library empty_system_draft script.commands → end ≡ script.end
-    → system_of components script ≡ ended_system end library draft draft.name
+    → system_over library script ≡ ended_system end library draft draft.name
 unfolding system_over
-system_of-ended components library script draft end same clean is at =
+system_over-ended library script draft end clean is at =
     let last = system_after_all library empty_system_draft script.commands in
-    ap (λ l. system_over l script) (sym same)
-    ∙ ap (λ o. judged o (ended_system script.end library last last.name)) clean
+    ap (λ o. judged o (ended_system script.end library last last.name)) clean
     ∙ ap (λ (s : DraftedSystem). ended_system script.end library s s.name) (sym is)
     ∙ ap (λ e. ended_system e library draft draft.name) (sym at)
 
 -- the refusal of a command is the file's
-pub system_of-refused : (components library : List ComponentTable) (script : Script) (fault : ScriptFault) → library ≡ components ++ clock_source_table ∷ []
-    → IsRefusal fault (first_system_refusal library empty_system_draft script.commands) → IsFaultOf fault (system_of components script)
+pub system_over-refused : (library : List ComponentTable) (script : Script) (fault : ScriptFault)
+    → IsRefusal fault (first_system_refusal library empty_system_draft script.commands) → IsFaultOf fault (system_over library script)
 unfolding system_over
-system_of-refused components library script (Refused place rule) same h =
+system_over-refused library script (Refused place rule) h =
     let draft = system_after_all library empty_system_draft script.commands in
-    ap (λ l. system_over l script) (sym same) ∙ ap (λ o. judged o (ended_system script.end library draft draft.name)) h
-system_of-refused components library script NoMemory same h = tt
+    ap (λ o. judged o (ended_system script.end library draft draft.name)) h
+system_over-refused library script NoMemory h = tt
 
 -- a draft that has a name ends as the system that it states under that name
 pub ended_as_stated : (end : Place) (components : List ComponentTable) (draft : DraftedSystem) (table : SystemTable) → IsSome draft.name

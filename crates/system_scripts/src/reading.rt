@@ -1,6 +1,6 @@
 ghost use Rattle.std.specs.Prelude.{◌≡◌, Ok, IfOk, IfErr};
 ghost use Rattle.component_scripts.specs.Component.{IsFaultOf};
-ghost use Rattle.system_scripts.specs.Clocks.{system_of};
+ghost use Rattle.system_scripts.specs.Clocks.{system_of, system_over};
 
 use crate::system_draft::SystemDraft;
 use component_scripts::{Catalog, Library, ScriptFault};
@@ -18,6 +18,18 @@ pub fn read_system(
     ensures refused { IfErr result (λ fault. IsFaultOf fault (system_of catalog.now commands.now)) }
 {
     let library = Library::new(alloc, catalog)?;
-    let draft = SystemDraft::read(alloc, commands, &library)?;
-    draft.finish(alloc, &library, commands.end())
+    system_over(alloc, commands, &library)
+}
+
+/// The system that a file states over the components of a library, or the first rule that refuses it.
+fn system_over(
+    alloc: Global,
+    commands: &Commands,
+    library: &Library<'_>,
+) -> Result<System, ScriptFault>
+    ensures accepted { IfOk result (λ system. system_over library.now commands.now ≡ Ok system) }
+    ensures refused { IfErr result (λ fault. IsFaultOf fault (system_over library.now commands.now)) }
+{
+    let draft = SystemDraft::read(alloc, commands, library)?;
+    draft.finish(alloc, library, commands.end())
 }

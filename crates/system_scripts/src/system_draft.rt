@@ -110,6 +110,26 @@ impl SystemDraft {
         Ok(())
     }
 
+    /// Takes the commands of a file in order, until a rule refuses one.
+    fn take_all(
+        &mut self,
+        alloc: Global,
+        commands: &Commands,
+        library: &Library<'_>,
+    ) -> Result<(), ScriptFault>
+        ensures accepted { OnOk result
+            (first_system_refusal library.now self.old commands.now.commands ≡ None) }
+        ensures stated { OnOk result
+            (self.new ≡ system_after_all library.now self.old commands.now.commands) }
+        ensures refused { IfErr result
+            (λ fault. IsRefusal fault (first_system_refusal library.now self.old commands.now.commands)) }
+    {
+        for k in 0..commands.count() {
+            self.take(alloc, library, commands.command(k))?;
+        }
+        Ok(())
+    }
+
     /// What the commands of a file state over the components of a library, unless a rule refuses one.
     pub fn read(
         alloc: Global,
@@ -124,9 +144,7 @@ impl SystemDraft {
             (λ fault. IsRefusal fault (first_system_refusal library.now empty_system_draft commands.now.commands)) }
     {
         let mut draft = SystemDraft::new(alloc);
-        for k in 0..commands.count() {
-            draft.take(alloc, library, commands.command(k))?;
-        }
+        draft.take_all(alloc, commands, library)?;
         Ok(draft)
     }
 

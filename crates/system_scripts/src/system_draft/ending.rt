@@ -156,11 +156,25 @@ impl SystemDraft {
             ≡ map (connection_of library.now self.now (system_clock library.now self.now)) (logic_joints self.now.joints)) }
     {
         let roots = Roots::of(alloc, self.joints.as_slice())?;
-        let clock = self.clock(library, &roots);
+        self.connections_from(alloc, library, &roots)
+    }
+
+    /// The same, from the roots of all connections.
+    fn connections_from(
+        &self,
+        alloc: Global,
+        library: &Library<'_>,
+        roots: &Roots,
+    ) -> Result<List<Connection>, NoMemory>
+        requires { AreRootsOf self.now.joints roots.now }
+        ensures { IfOk result (λ connections. connections
+            ≡ map (connection_of library.now self.now (system_clock library.now self.now)) (logic_joints self.now.joints)) }
+    {
+        let clock = self.clock(library, roots);
         let mut connections = List::new(alloc);
         for joint in self.joints.as_slice() {
             if joint.kind.is_avalon() {
-                connections.push(self.connection(library, &roots, clock, joint)?)?;
+                connections.push(self.connection(library, roots, clock, joint)?)?;
             }
         }
         Ok(connections)

@@ -1,21 +1,14 @@
-use Rattle.std.proofs.lemmas.Result.{err_from_is_err_and}
-use Rattle.system_scripts.proofs.EndingLemmas.{read_is_sound, system_of-ended, system_of-refused}
+use Rattle.std.proofs.Common.{◌≡◌, List, Ok, subst}
+use Rattle.std.specs.Prelude.{IfOk, IfErr}
+use Rattle.component_scripts.specs.Component.{IsFaultOf}
+use Rattle.component_scripts.specs.Tables.{ComponentTable}
+use Rattle.system_scripts.specs.Clocks.{system_over}
 use Rattle.system_scripts.proofs.reading.read_system.Goals as goal
-
-pub finish-requires : goal.finish-requires
-finish-requires c = read_is_sound c.in_ok-library.library c.args.commands.now.commands c.in_ok-draft.draft c.in_ok-draft.ensures.accepted c.in_ok-draft.ensures.stated
-
-pub returns-in_err-draft-clause-refused : goal.returns-in_err-draft-clause-refused
-returns-in_err-draft-clause-refused c =
-    let p = err_from_is_err_and c.from_residual-in_err-draft.result c.from_residual-in_err-draft.ensures.1 in
-    rw (p.1, p.2) (system_of-refused c.args.catalog.now c.in_ok-library.library c.args.commands.now c.in_err-draft.field-0.0 c.in_ok-library.ensures c.in_err-draft.ensures.refused)
 
 pub returns-clause-accepted : goal.returns-clause-accepted
 returns-clause-accepted c =
-    let same = system_of-ended c.args.catalog.now c.in_ok-library.library c.args.commands.now c.in_ok-draft.draft c.end.result c.in_ok-library.ensures c.in_ok-draft.ensures.accepted c.in_ok-draft.ensures.stated c.end.ensures in
-    rw same c.finish.ensures.accepted
+    subst (λ (l : List ComponentTable). IfOk c.system_over.result (λ system. system_over l c.args.commands.now ≡ Ok system)) c.in_ok-library.ensures c.system_over.ensures.accepted
 
 pub returns-clause-refused : goal.returns-clause-refused
 returns-clause-refused c =
-    let same = system_of-ended c.args.catalog.now c.in_ok-library.library c.args.commands.now c.in_ok-draft.draft c.end.result c.in_ok-library.ensures c.in_ok-draft.ensures.accepted c.in_ok-draft.ensures.stated c.end.ensures in
-    rw same c.finish.ensures.refused
+    subst (λ (l : List ComponentTable). IfErr c.system_over.result (λ fault. IsFaultOf fault (system_over l c.args.commands.now))) c.in_ok-library.ensures c.system_over.ensures.refused

@@ -2,8 +2,8 @@ use Rattle.std.proofs.Common.{◌++◌, ◌∷◌, [], List, sym, ap, ◌∙◌}
 use Rattle.system_tables.specs.declared.tables.Connection.{Connection}
 use Rattle.system_scripts.specs.Clocks.{connection_of}
 use Rattle.system_scripts.proofs.ClockLemmas.{connections-more, connections-passed}
-use Rattle.system_scripts.proofs.system_draft.SystemDraft.connections.Goals as goal
-use Rattle.system_scripts.proofs.system_draft.SystemDraft.connections.Goals.{then-is_avalon+in_ok-connection+in_ok-push, else-is_avalon}
+use Rattle.system_scripts.proofs.system_draft.SystemDraft.connections_from.Goals as goal
+use Rattle.system_scripts.proofs.system_draft.SystemDraft.connections_from.Goals.{then-is_avalon+in_ok-connection+in_ok-push, else-is_avalon}
 
 pub loop-joint-preserved : goal.loop-joint-preserved
 loop-joint-preserved c = elim c.if-is_avalon.branch [
