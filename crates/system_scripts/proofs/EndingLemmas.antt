@@ -1,6 +1,6 @@
 -- The tables of a system that commands state, as they are kept.
-use Rattle.std.proofs.Common.{◌≡◌, ℕ, zero, suc, List, [], ◌∷◌, map, Option, Some, None, Ok, refl, sym, ap, ◌∙◌, subst}
-use Rattle.std.specs.Prelude.{All, IsSome, slice_index_or}
+use Rattle.std.proofs.Common.{◌≡◌, ℕ, zero, suc, List, [], ◌∷◌, map, Option, Some, None, Result, Ok, Err, refl, sym, ap, ◌∙◌, subst}
+use Rattle.std.specs.Prelude.{All, IsSome, IfOk, OnOk, slice_index_or}
 use Rattle.av_base.specs.declared.faults.Place.{Place}
 use Rattle.tcl_words.specs.declared.words.Word.{Word}
 use Rattle.tcl_words.specs.Script.{Script}
@@ -71,11 +71,19 @@ system_over-refused library script (Refused place rule) h =
     ap (λ o. judged o (ended_system script.end library draft draft.name)) h
 system_over-refused library script NoMemory h = tt
 
--- a draft that has a name ends as the system that it states under that name
-pub ended_as_stated : (end : Place) (components : List ComponentTable) (draft : DraftedSystem) (table : SystemTable) → IsSome draft.name
-    → ((name : List ℕ) → draft.name ≡ Some name → table ≡ stated_system components draft name) → ended_system end components draft draft.name ≡ Ok table
-ended_as_stated end components draft table some stated = by draft.name refl some
-  where
-    by : (o : Option (List ℕ)) → draft.name ≡ o → IsSome o → ended_system end components draft o ≡ Ok table
-    by None e h = cc
-    by (Some name) e h = ap Ok (sym (stated name e))
+-- what holds under each name that was stated holds, where one was
+pub under_name : {X : Type 0} (stated : Option (List ℕ)) → IsSome stated → ((name : List ℕ) → stated ≡ Some name → X) → X
+under_name (Some name) some holds = holds name refl
+under_name None some holds = cc
+
+-- the tables of a draft make the system that its file states
+pub made_of_tables : (library : List ComponentTable) (draft : DraftedSystem) (script : Script) (end : Place) (tables : Result (List (List InterfaceTable) × List Connection) ScriptFault)
+    → IsSoundSystemDraft library draft → system_over library script ≡ ended_system end library draft draft.name
+    → IfOk tables (λ t. t.0 ≡ interfaces_of library) → OnOk tables (All IsComponent library)
+    → IfOk tables (λ t. t.1 ≡ map (connection_of library draft (system_clock library draft)) (logic_joints draft.joints))
+    → IfOk tables (λ t. (name : List ℕ) → draft.name ≡ Some name
+        → IsSystem (kept_table name draft.stages t.0 draft.instances t.1) × (system_over library script ≡ Ok (kept_table name draft.stages t.0 draft.instances t.1)))
+made_of_tables library draft script end (Ok t) sound same copied made stated = λ name named.
+    let kept = kept_is_stated library draft name t.0 t.1 copied stated in
+    (kept_is_system library draft name _ kept made sound named, same ∙ ap (ended_system end library draft) named ∙ ap Ok (sym kept))
+made_of_tables library draft script end (Err fault) sound same copied made stated = tt

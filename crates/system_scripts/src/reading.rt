@@ -30,6 +30,7 @@ fn system_over(
     ensures accepted { IfOk result (λ system. system_over library.now commands.now ≡ Ok system) }
     ensures refused { IfErr result (λ fault. IsFaultOf fault (system_over library.now commands.now)) }
 {
-    let draft = SystemDraft::read(alloc, commands, library)?;
-    draft.finish(alloc, library, commands.end())
+    let mut draft = SystemDraft::new(alloc);
+    let tables = draft.take_file(alloc, commands, library)?;
+    Ok(draft.with_tables(tables))
 }

@@ -16,7 +16,6 @@ use system_tables::Instance;
 use tcl_words::{Commands, Word};
 
 /// What the commands of a system file state so far.
-#[derive(Drop)]
 pub(crate) struct SystemDraft {
     name: Option<Text>,
     stages: u8,
@@ -26,6 +25,22 @@ pub(crate) struct SystemDraft {
     links: Links,
     joints: Vec<Joint>,
     taken: Ends,
+}
+
+/// By hand, so that what drops a draft calls this, and isn't followed through its fields.
+impl Drop for SystemDraft {
+    fn drop(self) {
+        let SystemDraft {
+            name: _,
+            stages: _,
+            names: _,
+            instances: _,
+            exported: _,
+            links: _,
+            joints: _,
+            taken: _,
+        } = self;
+    }
 }
 
 impl Model for SystemDraft {
@@ -128,24 +143,6 @@ impl SystemDraft {
             self.take(alloc, library, commands.command(k))?;
         }
         Ok(())
-    }
-
-    /// What the commands of a file state over the components of a library, unless a rule refuses one.
-    pub fn read(
-        alloc: Global,
-        commands: &Commands,
-        library: &Library<'_>,
-    ) -> Result<SystemDraft, ScriptFault>
-        ensures accepted { OnOk result
-            (first_system_refusal library.now empty_system_draft commands.now.commands ≡ None) }
-        ensures stated { IfOk result
-            (λ draft. draft ≡ system_after_all library.now empty_system_draft commands.now.commands) }
-        ensures refused { IfErr result
-            (λ fault. IsRefusal fault (first_system_refusal library.now empty_system_draft commands.now.commands)) }
-    {
-        let mut draft = SystemDraft::new(alloc);
-        draft.take_all(alloc, commands, library)?;
-        Ok(draft)
     }
 
     fn is_early(&self) -> bool

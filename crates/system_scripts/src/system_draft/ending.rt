@@ -8,6 +8,7 @@ use av_base::{List, NoMemory, Place};
 use component_scripts::{Component, Library, ScriptFault, ScriptRule};
 use std::alloc::Global;
 use system_tables::{Connection, EndId, InterfaceTable, System};
+use tcl_words::Commands;
 
 /// The number of an end, where there is room for it.
 fn number(k: usize) -> Result<u32, NoMemory>
@@ -65,13 +66,14 @@ impl SystemDraft {
       connection_of,
       no_system,
       ended_system,
+      system_over,
     };
     ghost use Rattle.system_tables.specs.Kept.{kept_table};
     ghost use Rattle.component_scripts.specs.Library.{interfaces_of};
     ghost use Rattle.component_scripts.specs.Tables.{IsComponent};
     ghost use Rattle.system_tables.specs.Tables.{IsSystem};
     ghost use Rattle.component_scripts.specs.Component.{IsFaultOf};
-    ghost use Rattle.system_scripts.specs.Sound.{IsSoundSystemDraft};
+    ghost use Rattle.system_scripts.specs.System.{empty_system_draft};
 
     /// The end of the clock that the interface at an end names.
     #[tactic(auto, unfolding(crate::specs::Clocks::clock_of))]
@@ -216,7 +218,7 @@ impl SystemDraft {
     }
 
     /// The system of these tables, which has the name that was stated.
-    fn with_tables(self, tables: (List<List<InterfaceTable>>, List<Connection>)) -> System
+    pub fn with_tables(self, tables: (List<List<InterfaceTable>>, List<Connection>)) -> System
         requires created { IsSome self.name }
         requires system { (name : List ℕ) → self.name ≡ Some name
             → IsSystem (kept_table name self.stages tables.0 self.instances tables.1) }
@@ -237,18 +239,21 @@ impl SystemDraft {
         System::new(name.unwrap(), stages, components, instances, connections)
     }
 
-    /// The system that the commands state, once they end here.
-    pub fn finish(
-        self,
+    /// Takes the commands of a file, and gives the tables of what they state, unless a rule refuses them.
+    pub fn take_file(
+        &mut self,
         alloc: Global,
+        commands: &Commands,
         library: &Library<'_>,
-        end: Place,
-    ) -> Result<System, ScriptFault>
-        requires { IsSoundSystemDraft library.now self }
-        ensures accepted { IfOk result (λ system. ended_system end library.now self self.name ≡ Ok system) }
-        ensures refused { IfErr result (λ fault. IsFaultOf fault (ended_system end library.now self self.name)) }
+    ) -> Result<(List<List<InterfaceTable>>, List<Connection>), ScriptFault>
+        requires { self.old ≡ empty_system_draft }
+        ensures created { OnOk result (IsSome self.new.name) }
+        ensures system { IfOk result (λ tables. (name : List ℕ) → self.new.name ≡ Some name
+            → IsSystem (kept_table name self.new.stages tables.0 self.new.instances tables.1)
+            × (system_over library.now commands.now ≡ Ok (kept_table name self.new.stages tables.0 self.new.instances tables.1))) }
+        ensures refused { IfErr result (λ fault. IsFaultOf fault (system_over library.now commands.now)) }
     {
-        let tables = self.tables(alloc, library, end)?;
-        Ok(self.with_tables(tables))
+        self.take_all(alloc, commands, library)?;
+        self.tables(alloc, library, commands.end())
     }
 }
