@@ -8,11 +8,21 @@ use std::alloc::Global;
 use std::marker::Model;
 
 /// Components by the names of their types.
-#[derive(Drop)]
 pub struct Catalog {
     alloc: Global,
     names: Names,
     components: Vec<Component>,
+}
+
+/// By hand, so that what drops a catalog calls this, and isn't followed through the fields.
+impl Drop for Catalog {
+    fn drop(self) {
+        let Catalog {
+            alloc: _,
+            names: _,
+            components: _,
+        } = self;
+    }
 }
 
 impl Model for Catalog {

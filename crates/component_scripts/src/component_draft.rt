@@ -25,12 +25,23 @@ use system_tables::InterfaceTable;
 use tcl_words::Word;
 
 /// What the commands of a component file state so far.
-#[derive(Drop)]
 pub(crate) struct ComponentDraft {
     type_name: Option<Word>,
     names: Names,
     interfaces: Vec<DeclaredInterface>,
     ports: Names,
+}
+
+/// By hand, so that what drops a draft calls this, and isn't followed through the fields.
+impl Drop for ComponentDraft {
+    fn drop(self) {
+        let ComponentDraft {
+            type_name: _,
+            names: _,
+            interfaces: _,
+            ports: _,
+        } = self;
+    }
 }
 
 impl Model for ComponentDraft {

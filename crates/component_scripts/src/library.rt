@@ -15,10 +15,19 @@ use std::marker::Model;
 use system_tables::{InterfaceTable, copy_interfaces};
 
 /// The components that a system file may name: those of a catalog, and the clock source behind them.
-#[derive(Drop)]
 pub struct Library<'a> {
     catalog: &'a Catalog,
     clock_source: Component,
+}
+
+/// By hand, so that what drops a library calls this, and isn't followed through the fields.
+impl Drop for Library<'_> {
+    fn drop(self) {
+        let Library {
+            catalog: _,
+            clock_source: _,
+        } = self;
+    }
 }
 
 impl<'a> Model for Library<'a> {

@@ -82,7 +82,7 @@ pub made_of_tables : (library : List ComponentTable) (draft : DraftedSystem) (sc
     → IfOk tables (λ t. t.0 ≡ interfaces_of library) → OnOk tables (All IsComponent library)
     → IfOk tables (λ t. t.1 ≡ map (connection_of library draft (system_clock library draft)) (logic_joints draft.joints))
     → IfOk tables (λ t. (name : List ℕ) → draft.name ≡ Some name
-        → IsSystem (kept_table name draft.stages t.0 draft.instances t.1) × (system_over library script ≡ Ok (kept_table name draft.stages t.0 draft.instances t.1)))
+    → IsSystem (kept_table name draft.stages t.0 draft.instances t.1) × (system_over library script ≡ Ok (kept_table name draft.stages t.0 draft.instances t.1)))
 made_of_tables library draft script end (Ok t) sound same copied made stated = λ name named.
     let kept = kept_is_stated library draft name t.0 t.1 copied stated in
     (kept_is_system library draft name _ kept made sound named, same ∙ ap (ended_system end library draft) named ∙ ap Ok (sym kept))

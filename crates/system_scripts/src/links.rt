@@ -10,9 +10,15 @@ use std::alloc::Global;
 use std::marker::Model;
 
 /// The ends of connections, by the numbers of the connections.
-#[derive(Drop)]
 pub(crate) struct Links {
     links: IndexSet<Link>,
+}
+
+/// By hand, so that what drops links calls this, and isn't followed through the fields.
+impl Drop for Links {
+    fn drop(self) {
+        let Links { links: _ } = self;
+    }
 }
 
 impl Model for Links {
@@ -42,9 +48,15 @@ impl Links {
 }
 
 /// Ends, each once.
-#[derive(Drop)]
 pub(crate) struct Ends {
     ends: IndexSet<Terminal>,
+}
+
+/// By hand, so that what drops ends calls this, and isn't followed through the fields.
+impl Drop for Ends {
+    fn drop(self) {
+        let Ends { ends: _ } = self;
+    }
 }
 
 impl Model for Ends {
