@@ -13,7 +13,7 @@ use av_base::{Bytes, NoMemory, Text};
 use std::alloc::Global;
 
 /// What a piece of a script says.
-#[derive(Debug, Drop)]
+#[derive(Drop)]
 pub(crate) enum Piece {
     /// Nothing: a blank, a line join or a comment.
     Gap,
@@ -24,21 +24,21 @@ pub(crate) enum Piece {
 }
 
 /// A piece, and how many bytes it takes.
-#[derive(Debug, Drop)]
+#[derive(Drop)]
 pub(crate) struct Found {
     pub piece: Piece,
     pub len: usize,
 }
 
 /// The text of a word in braces or quotes, and how many bytes the word takes.
-#[derive(Debug, Drop)]
+#[derive(Drop)]
 struct Group {
     text: Bytes,
     len: usize,
 }
 
 /// Why there is no piece.
-#[derive(Clone, Copy, Debug)]
+#[derive(Clone, Copy)]
 pub(crate) enum PieceFault {
     /// A rule is broken, so many bytes behind the front.
     Flaw { at: usize, rule: Rule },
