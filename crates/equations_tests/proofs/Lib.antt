@@ -1,3 +1,4 @@
 mod Same
 mod ThreePorts
 mod TwoPorts
+pub mod Whole

@@ -1,4 +1,4 @@
-use Rattle.std.proofs.Common.{inl, inr, sym, ap, ◌∙◌}
+use Rattle.std.proofs.Common.{◌≡◌, inl, inr, sym, ap, ◌∙◌, rules}
 use Rattle.equations_tests.proofs.Same.{still_written}
 use Rattle.equations_tests.proofs.ThreePorts.{first_input}
 use Rattle.netlist.specs.Nets.{NetValue}
@@ -11,7 +11,9 @@ pub add-requires-clause-b_is : goal.add-requires-clause-b_is
 add-requires-clause-b_is c = c.reg.ensures.extends.nets _ _ c.input-input.ensures.net
 
 pub add-requires-clause-widths : goal.add-requires-clause-widths
-add-requires-clause-widths c = c.in_ok-register.ensures.net.1 ∙ sym c.width.ensures.value ∙ c.if-width-ne8.false ∙ sym (c.input-input.ensures.width _ (first_input c.in_ok-builder.builder.ports (8) (1) (1) c.in_ok-builder.ensures.ports))
+add-requires-clause-widths c =
+    let ten : c.in_ok-register.register.width ≡ 8 = search rules in
+    ten ∙ sym (c.input-input.ensures.width _ (first_input c.in_ok-builder.builder.ports (8) (1) (1) c.in_ok-builder.ensures.ports))
 
 pub finish-requires-clause-clocked : goal.finish-requires-clause-clocked
 finish-requires-clause-clocked c n h =

@@ -1,0 +1,46 @@
+//! Makes the modules that the rows of the standard input name, steps some of them, and prints their lines and values.
+#![tactic(auto)]
+
+mod headers;
+mod modules;
+mod room;
+mod steps;
+mod values;
+
+use modules::push_module;
+use room::NoRoom;
+use std::alloc::Global;
+use std::io;
+use steps::{push_bytes, push_counted, push_joined, push_operators, push_outputs, push_run};
+
+/// Appends what is said of a row.
+fn push_answer(alloc: Global, text: &mut String, row: &str) -> Result<(), NoRoom> {
+    let (name, words) = row.split_once(' ').unwrap_or((row, ""));
+    match name {
+        "operators" => push_operators(alloc, text, words),
+        "joined" => push_joined(alloc, text, words),
+        "counted" => push_counted(alloc, text, words),
+        "bytes" => push_bytes(alloc, text, words),
+        "outputs" => push_outputs(alloc, text, words),
+        "run" => push_run(alloc, text, words),
+        _ => push_module(alloc, text, name, words),
+    }
+}
+
+fn answer_of(alloc: Global, row: &str) -> Result<String, NoRoom> {
+    let mut text = String::new(alloc);
+    push_answer(alloc, &mut text, row)?;
+    Ok(text)
+}
+
+fn main(rt: HostRuntime) -> io::Result<()> {
+    let alloc = rt.alloc();
+    for row in rt.lines(alloc) {
+        let row = row?;
+        let Ok(answer) = answer_of(alloc, row.as_str()) else {
+            return Err(io::ErrorKind::OutOfMemory.into());
+        };
+        println!(rt; "{row}:{answer}")?;
+    }
+    Ok(())
+}
