@@ -15,7 +15,8 @@ use Rattle.mm_parts.specs.Steps.{IsArbiterPart}
 use Rattle.mm_parts.specs.Ahead.{waits_left}
 use Rattle.mm_awake.specs.Ways.{Ways, Standings, tagged}
 use Rattle.mm_awake.specs.Front.{KeepsWhole}
-use Rattle.mm_awake.specs.Ahead.{ShowsSoon, LeadsAhead, CanTakeMore}
+use Rattle.mm_awake.specs.Ahead.{LeadsAhead, CanTakeMore}
+use Rattle.mm_links.specs.Soon.{ShowsSoon}
 use Rattle.mm_awake.proofs.Arbiter.{TurnLaws, Idles, Idles.beat_stands, Idles.rests, Idles.nothing, idles}
 use Rattle.mm_awake.proofs.Wanted.{some_or_none, own_taken, tagged_of_host, two_of}
 use Rattle.mm_awake.proofs.Bits.{none_taken, takes_shows, not_shown, shown_again, holds, no_true}

@@ -22,7 +22,8 @@ use Rattle.mm_links.specs.Going.{KeepsGoing}
 use Rattle.mm_awake.specs.Slack.{PassesOn, AreModest}
 use Rattle.mm_awake.specs.Approach.{IsAwake}
 use Rattle.mm_awake.specs.Ways.{KeepsAwake}
-use Rattle.mm_awake.specs.Ahead.{KeepsNothingBack, LeavesNothingOpen, ShowsSoon, LeadsAhead}
+use Rattle.mm_awake.specs.Ahead.{KeepsNothingBack, LeavesNothingOpen, LeadsAhead}
+use Rattle.mm_links.specs.Soon.{ShowsSoon}
 use Rattle.mm_parts.specs.Ahead.{AcceptsAhead}
 use Rattle.mm_awake.proofs.Piped.{StageLaws, legal_at, tagged_at}
 

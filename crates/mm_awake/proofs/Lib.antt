@@ -20,7 +20,6 @@ pub mod Building
 pub mod Piped
 pub mod WireGoes
 pub mod AheadFront
-pub mod AheadStages
 pub mod AheadOwed
 pub mod Ahead
 pub mod AheadWhole

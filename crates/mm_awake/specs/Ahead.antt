@@ -1,5 +1,5 @@
 -- Reads that travel while others are owed: what the parts that lead to an agent do of what it is asked, where nothing but it can wait.
-use Rattle.std.specs.Prelude.{◌≡◌, ℕ, suc, ◌-◌, ◌<◌, ◌≤◌, ◌||◌, length, IsTrue, IsFalse}
+use Rattle.std.specs.Prelude.{◌≡◌, ℕ, suc, ◌-◌, ◌<◌, ◌≤◌, length, IsTrue, IsFalse}
 use Rattle.histories.specs.History.{is_raised}
 use Rattle.mm_runs.specs.Views.{System, Run}
 use Rattle.mm_runs.specs.Commands.{shows}
@@ -10,6 +10,7 @@ use Rattle.mm_machines.specs.Lines.{target_of}
 use Rattle.mm_machines.specs.Rank.{is_unclosed}
 use Rattle.mm_parts.specs.Steps.{has_room}
 use Rattle.mm_parts.specs.Ahead.{AcceptsAhead, BearsMore}
+use Rattle.mm_links.specs.Soon.{ShowsSoon}
 use Rattle.mm_awake.specs.Front.{owes_alone}
 use Rattle.mm_awake.specs.Ways.{Ways, tagged}
 
@@ -22,12 +23,6 @@ KeepsNothingBack system run host agent top end =
 -- no command is left open at a port
 abbrev pub LeavesNothingOpen : Port → ℕ → Type 0
 LeavesNothingOpen port end = (c : ℕ) → c < end → IsFalse (is_unclosed port c)
-
--- a beat that is shown above is shown below in the next cycle at the latest, and where none is shown below, nothing is kept
-pub record ShowsSoon (up down : Port) : Type 0 where
-  pub shape : up.shape ≡ down.shape
-  pub next : (c : ℕ) → IsTrue (shows up.commands.signals c) → IsTrue (shows down.commands.signals c || shows down.commands.signals (suc c))
-  pub all : (c : ℕ) → IsFalse (shows down.commands.signals c) → taken_at up c ≡ taken_at down c
 
 -- what the parts that lead to an agent with readdatavalid do beside their records
 pub record LeadsAhead (system : System) (run : Run) (agent : ℕ) (ways : Ways) (end : ℕ) : Type 0 where

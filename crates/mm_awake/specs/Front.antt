@@ -11,7 +11,7 @@ use Rattle.mm_runs.specs.Awake.{owes, is_place, count_for, serves, is_given_from
 use Rattle.mm_machines.specs.Link.{Port, takes, taken_at, shown_at, operations_among}
 use Rattle.mm_machines.specs.Lines.{target_of, asked_among, host_accepted, tagged_operations, groups_of}
 use Rattle.mm_machines.specs.Rank.{is_owed, is_unclosed}
-use Rattle.mm_parts.specs.Steps.{given_before, has_room}
+use Rattle.mm_parts.specs.Steps.{given_before}
 use Rattle.mm_awake.specs.Ways.{Ways, Standings, KeepsAwake, longest}
 
 -- a host shows a beat for a place

@@ -22,7 +22,7 @@ ghost use Rattle.mm_awake.specs.Front.{owes_alone, GivesAtOnce, AreLegalHosts, A
 ghost use Rattle.mm_links.specs.Going.{GivesWhatHasCome, KeepsGoing};
 ghost use Rattle.mm_awake.specs.Slack.{Slack, Slacks, PassesOn, AllPassOn, CostsAtMost, AreModest, HasModestLinks, host_allows, toll, all_allow};
 ghost use Rattle.mm_awake.specs.Approach.{Approach, IsAwake, ServesWanted};
-ghost use Rattle.mm_awake.specs.Ahead.{KeepsNothingBack, LeavesNothingOpen, ShowsSoon, LeadsAhead, CanTakeMore};
+ghost use Rattle.mm_awake.specs.Ahead.{KeepsNothingBack, LeavesNothingOpen, LeadsAhead, CanTakeMore};
 ghost use Rattle.mm_awake.specs.Ways.{Ways, Standings, KeepsAwake, IsAtWork, longest};
 
 /// Where every part of a system is its machine, its links and pipes keep their lines, its links keep going, and the components are legal, the whole is safe and never idles: a wanted agent, and the default agent, are served within their windows, and reads travel while others are owed.
@@ -54,7 +54,7 @@ pub fn machines_are_awake()
     words_reach_the_host();
     host_and_route_serve_default();
     mm_parts::steps::agent_machine_accepts_ahead();
-    stages_show_soon();
+    mm_links::soon::stage_shows_soon();
     host_and_route_keep_nothing_back()
 }
 
@@ -194,13 +194,6 @@ pub fn host_and_route_keep_nothing_back()
         → ((kind : Kind) (address : ℕ) → system.place host kind address ≡ Some agent → IsTrue (is_joined system agent host))
         → (c : ℕ) → c < end → IsTrue (shows (down agent).commands.signals c) → IsTrue (is_joined system agent host) }
 {}
-
-/// A stage that takes a beat whenever there is room shows it below in the next cycle at the latest, and keeps nothing where it shows nothing.
-pub fn stages_show_soon()
-    ensures { (stage : Stage) → RunsAsStage stage → 0 < stage.depth → WaitsOnlyWhenFull stage → ShowsSoon (above stage) (below stage) }
-{
-    mm_machines::machines::transfers_of_beats()
-}
 
 /// A host whose unfinished commands are all for one agent is owed words by it alone.
 pub fn asked_words_are_owed()

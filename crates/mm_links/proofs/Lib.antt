@@ -2,6 +2,7 @@ pub mod HandOn
 pub mod Pass
 pub mod Chain
 pub mod Stages
+pub mod StageSoon
 pub mod StagePipe
 pub mod StageRows
 pub mod Alike

@@ -5,3 +5,4 @@ pub mod Selects
 pub mod Splits
 pub mod Bursts
 pub mod Driven
+pub mod Soon

@@ -5,4 +5,5 @@ pub mod bursts;
 pub mod pipes;
 pub mod rows;
 pub mod runs;
+pub mod soon;
 pub mod widths;

@@ -50,7 +50,7 @@ returns-clause-awake c = λ responses system run inside states ranks end built l
     ahead : AheadLaws
     ahead = record {
       agent = c.agent_machine_accepts_ahead.ensures;
-      stage = c.stages_show_soon.ensures;
+      stage = c.stage_shows_soon.ensures;
       back = c.host_and_route_keep_nothing_back.ensures.back;
       closed = c.host_and_route_keep_nothing_back.ensures.left_open;
       joined = c.host_and_route_keep_nothing_back.ensures.joined;
