@@ -13,8 +13,9 @@ use Rattle.mm_machines.specs.PartRanks.{Accepted, held_back, behind, are_joined_
 use Rattle.mm_machines.specs.Rank.{is_last_write}
 use Rattle.mm_links.proofs.Alike.{have_operations}
 use Rattle.mm_links.proofs.OneBeat.{flat_mark}
+use Rattle.mm_links.proofs.Stages.{all_append, tail_alike}
 use Rattle.mm_links.proofs.BurstParts.{Step, parts_in, above_of}
-use Rattle.mm_links.proofs.BurstSteps.{IsBeatOf, Sent, AllSent, same_operations}
+use Rattle.mm_links.proofs.BurstSteps.{IsBeatOf, Sent, AllSent, or_nil, same_operations}
 use Rattle.mm_links.proofs.BurstSteps.Sent.{last_beat, more_beats}
 
 -- ---- the last of some transfers
@@ -97,14 +98,6 @@ within_front ls us (placed {size} {room} {lower} {upper} fits w) (x ∷ xs) rest
     placed (subst (λ n. n ≤ room) same fits) (subst (λ n. AreWithin xs ((room - n) ∷ upper)) same (within_front lower _ w xs rest later))
 within_front ls us (next_room w) xs rest e = next_room (within_front ls _ w xs rest e)
 
-nonempty_nil : {A : Type 0} (xs : List A) → is_nonempty (xs ++ []) ≡ is_nonempty xs
-nonempty_nil [] = refl
-nonempty_nil (x ∷ xs) = refl
-
-all_append : (test : Marked → Bool) (xs ys : List Marked) → IsTrue (list_all test xs) → IsTrue (list_all test ys) → IsTrue (list_all test (xs ++ ys))
-all_append test [] ys a b = b
-all_append test (x ∷ xs) ys a b = let parts = and_parts (test x) (list_all test xs) a in and_from _ _ parts.0 (all_append test xs ys parts.1 b)
-
 module _ (target : Target) (up down : Port) (same : down.shape.word_bytes ≡ up.shape.word_bytes) where
   abbrev low : Raw → Marked
   low raw = flat_mark down.shape raw
@@ -146,7 +139,7 @@ module _ (target : Target) (up down : Port) (same : down.shape.word_bytes ≡ up
   does_as m p b is = record {
     tag = is.tag;
     kind = is.kind;
-    acts = ap (λ (bs : List Beat). is_nonempty (flat_map (beat_operations target down.shape) bs)) is.beats ∙ nonempty_nil (beat_operations target down.shape b) ∙ ap is_nonempty (same_operations target up.shape down.shape same b) ∙ is.acts;
+    acts = ap (λ (bs : List Beat). is_nonempty (flat_map (beat_operations target down.shape) bs)) is.beats ∙ or_nil (beat_operations target down.shape b) ∙ ap is_nonempty (same_operations target up.shape down.shape same b) ∙ is.acts;
   }
 
   goes_as : (m n : Marked) (p q : Raw) → DoesAs m p → DoesAs n q → goes_on_alike target down (low p) (low q) ≡ goes_on_alike target up m n
@@ -188,15 +181,11 @@ module _ (target : Target) (up down : Port) (same : down.shape.word_bytes ≡ up
       let does : DoesAs m q = subst (DoesAs m) (sym same_first) head.does in
       and_from _ _ (or_right (closes (low p)) _ (goes_as m m p q (does_as m p b is) does ∙ goes_itself m)) (parts_alike m (q ∷ ps') (d ∷ bs') others close ss all joined rest)
 
-  tail_alike : (m : Marked) (ms : List Marked) → IsTrue (are_joined_alike target up (m ∷ ms)) → IsTrue (are_joined_alike target up ms)
-  tail_alike m [] h = refl
-  tail_alike m (n ∷ ms) h = (and_parts (closes m || goes_on_alike target up m n) (are_joined_alike target up (n ∷ ms)) h).1
-
   pub joins_below : (ss : List Step) → All ss → IsTrue (are_joined_alike target up (map above_of ss)) → IsTrue (are_joined_alike target down (map low (parts_of ss)))
   joins_below [] all h = refl
   joins_below (s ∷ ss) all h =
       subst (λ l. IsTrue (are_joined_alike target down l)) (sym (map-append low s.parts (parts_of ss)))
-      (parts_alike s.above s.parts s.above.transfer.beats all.0.sent all.0.closes_so ss all.1 h (joins_below ss all.1 (tail_alike s.above (map above_of ss) h)))
+      (parts_alike s.above s.parts s.above.transfer.beats all.0.sent all.0.closes_so ss all.1 h (joins_below ss all.1 (tail_alike target up s.above (map above_of ss) h)))
 
   -- ---- sizes
 

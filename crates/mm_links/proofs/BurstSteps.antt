@@ -53,7 +53,7 @@ only_map : {A B : Type 0} (f : A → B) (xs : List A) → is_nonempty (map f xs)
 only_map f [] = refl
 only_map f (x ∷ xs) = refl
 
-or_nil : {A : Type 0} (xs : List A) → is_nonempty (xs ++ []) ≡ is_nonempty xs
+pub or_nil : {A : Type 0} (xs : List A) → is_nonempty (xs ++ []) ≡ is_nonempty xs
 or_nil [] = refl
 or_nil (x ∷ xs) = refl
 
@@ -83,9 +83,6 @@ module _ (target : Target) (up down : Port) (state : BurstState) (plan : IsBurst
 
   transfer_when : (c : ℕ) (w : Bool) → is_raised (up.commands.write c) ≡ w → (marked_at up c).transfer ≡ (if w then write_transfer up.shape (levels_at up.commands.signals c) (burst_before up.shape up.commands.signals (takes up) c) else read_transfer up.shape (levels_at up.commands.signals c))
   transfer_when c w e = ap (λ b. if b then write_transfer up.shape (levels_at up.commands.signals c) (burst_before up.shape up.commands.signals (takes up) c) else read_transfer up.shape (levels_at up.commands.signals c)) e
-
-  marked_by : Transfer → ℕ → Marked
-  marked_by transfer c = record { tag = up.commands.tag c; more = is_raised (up.commands.more c); transfer = transfer }
 
   -- a write
   written : (c : ℕ) → Sent target up.shape down.shape (record { tag = up.commands.tag c; more = is_raised (up.commands.more c); transfer = write_transfer up.shape (levels_at up.commands.signals c) (state.burst c) }) (write_beat_of up.shape (state.burst c) (raw_at up c) ∷ [])

@@ -35,9 +35,6 @@ answers_append shape target (x ∷ xs) ys (w ∷ ws) vs h =
     ap (λ l. map (answer_by w) (filled_lanes shape target x) ++ l) (answers_append shape target xs ys ws vs (omega (arith, h)))
     ∙ sym (append_assoc (map (answer_by w) (filled_lanes shape target x)) (answers_by shape target xs ws) (answers_by shape target ys vs))
 
-code_of : Word → ℕ
-code_of given = given.code
-
 gather_code : (bytes : ℕ) (so_far : Word) (ps : List ℕ) (ws : List Word) → length ws ≤ length ps → (gather bytes so_far ps ws).code ≡ max so_far.code (highest (map (λ (w : Word). w.code) ws))
 gather_code bytes so_far [] [] h = omega arith
 gather_code bytes so_far [] (w ∷ ws) h = absurd (omega (arith, h))

@@ -15,6 +15,7 @@ use Rattle.mm_machines.specs.Rank.{is_last_write}
 use Rattle.mm_links.proofs.Alike.{have_operations}
 use Rattle.mm_links.proofs.Gather.{HasPieces}
 use Rattle.mm_links.proofs.OneBeat.{flat_mark}
+use Rattle.mm_links.proofs.Stages.{all_append, tail_alike}
 use Rattle.mm_links.proofs.SplitParts.{parts_of, reads_among}
 use Rattle.mm_links.proofs.SplitShown.{acts, upper_acts, ArePartsOf, are_parts, IsPart, IsLeftOut}
 use Rattle.mm_links.proofs.SplitShown.ArePartsOf.{last_part, more_parts, no_parts}
@@ -61,9 +62,6 @@ pub flat_reads : (shape : Shape) (rs : List Raw) → length (read_beats (map (fl
 flat_reads shape [] = refl
 flat_reads shape (r ∷ rs) = by_write (is_raised r.levels.write) refl (flat_reads shape rs)
   where
-    beats : List Marked → ℕ
-    beats ms = length (flat_map (λ (m : Marked). m.transfer.beats) ms)
-
     by_write : (w : Bool) → is_raised r.levels.write ≡ w → length (read_beats (map (flat_mark shape) rs)) ≡ length (reads_among rs) →
         length (read_beats (flat_mark shape r ∷ map (flat_mark shape) rs)) ≡ length (reads_among (r ∷ rs))
     by_write true e rest = rw e rest
@@ -71,20 +69,12 @@ flat_reads shape (r ∷ rs) = by_write (is_raised r.levels.write) refl (flat_rea
 
 -- ---- lists of transfers
 
-all_append : (test : Marked → Bool) (xs ys : List Marked) → IsTrue (list_all test xs) → IsTrue (list_all test ys) → IsTrue (list_all test (xs ++ ys))
-all_append test [] ys a b = b
-all_append test (x ∷ xs) ys a b = let parts = and_parts (test x) (list_all test xs) a in and_from _ _ parts.0 (all_append test xs ys parts.1 b)
-
 has_one : (l : List Operation) → (is_nonempty l && true) ≡ is_nonempty (l ++ [])
 has_one [] = refl
 has_one (x ∷ l) = refl
 
 pub have_flat : (target : Target) (shape : Shape) (raw : Raw) → have_operations target shape (flat_mark shape raw) ≡ is_nonempty (operations_in target shape (flat_mark shape raw))
 have_flat target shape raw = has_one _
-
-tail_alike : (target : Target) (port : Port) (m : Marked) (ms : List Marked) → IsTrue (are_joined_alike target port (m ∷ ms)) → IsTrue (are_joined_alike target port ms)
-tail_alike target port m [] h = refl
-tail_alike target port m (n ∷ ms) h = (and_parts (closes m || goes_on_alike target port m n) (are_joined_alike target port (n ∷ ms)) h).1
 
 same_bits : (a b : Bool) → IsTrue (is_same a b) → b ≡ a
 same_bits true true h = refl

@@ -125,6 +125,14 @@ alike_front target port (m ∷ next ∷ later) ys h =
 pub alike_prefix : (target : Target) (port : Port) {xs ys : List Marked} → IsPrefix xs ys → IsTrue (are_joined_alike target port ys) → IsTrue (are_joined_alike target port xs)
 alike_prefix target port {xs} {ys} p h = alike_front target port xs p.rest (subst (λ l. IsTrue (are_joined_alike target port l)) (sym p.joins) h)
 
+pub tail_alike : (target : Target) (port : Port) (m : Marked) (ms : List Marked) → IsTrue (are_joined_alike target port (m ∷ ms)) → IsTrue (are_joined_alike target port ms)
+tail_alike target port m [] h = refl
+tail_alike target port m (next ∷ later) h = (and_parts (closes m || goes_on_alike target port m next) (are_joined_alike target port (next ∷ later)) h).1
+
+pub all_append : {A : Type 0} (test : A → Bool) (xs ys : List A) → IsTrue (list_all test xs) → IsTrue (list_all test ys) → IsTrue (list_all test (xs ++ ys))
+all_append test [] ys a b = b
+all_append test (x ∷ xs) ys a b = let parts = and_parts (test x) (list_all test xs) a in and_from _ _ parts.0 (all_append test xs ys parts.1 b)
+
 pub all_front : {A : Type 0} (test : A → Bool) (xs ys : List A) → IsTrue (list_all test (xs ++ ys)) → IsTrue (list_all test xs)
 all_front test [] ys h = refl
 all_front test (x ∷ xs) ys h = let parts = and_parts (test x) (list_all test (xs ++ ys)) h in and_from _ _ parts.0 (all_front test xs ys parts.1)
