@@ -1,15 +1,17 @@
 //! The filter on channels and the tied error.
 
-ghost use Rattle.std.specs.Prelude.{◌≡◌};
+ghost use Rattle.std.specs.Prelude.{◌≡◌, OnOk};
 ghost use Rattle.st_channel.specs.Ports.{HasChannels};
+ghost use Rattle.adapters_tests.specs.Whole.{StaysWhole};
 
-use crate::builders::{BYTES, empty_builder, value};
+use crate::builders::{BYTES, beat_of, empty_builder};
+use crate::lines::push_lines;
 use iface_roles::StreamPort;
-use netlist::{Equation, Module};
+use net_parts::{constant, level};
+use netlist::{Builder, Module, NetFault};
 use st_channel::{ChannelFilter, ErrorTie};
-use stage_core::{BeatNets, Maybe, emit_stream};
-use std::alloc::Global;
-use std::test::Fail;
+use stage_core::{Maybe, emit_stream};
+use std::alloc::{AllocError, Global};
 
 /// A source at ready latency 0 with eight channels.
 fn source() -> StreamPort
@@ -35,98 +37,108 @@ fn sink(channel_bits: u8, max_channel: u32) -> StreamPort
     }
 }
 
-/// A module with the filter between the two, behind a beat of net 0 on channel 5, net 1, and before a ready that is net 0; and
-/// the numbers of the `valid`, the channel, the ready and the `dropped` that it makes.
-fn filtered(alloc: Global, sink: &StreamPort) -> Result<(Module, [u32; 4]), Fail>
-    requires { HasChannels sink.now.channel_bits sink.now.max_channel }
+/// The filter behind a beat of net 0 on channel 5, net 1, and before a ready that is net 0; and the numbers of the `valid`, the
+/// channel, the ready and the `dropped` that it makes.
+#[tactic(auto, using(net_parts::specs::Laws::growing))]
+fn emit_filter(builder: &mut Builder, filter: &ChannelFilter) -> Result<[u32; 4], NetFault>
+    requires { filter.now.source.bits ≡ 3 }
+    ensures { OnOk result (StaysWhole builder.old builder.new) }
 {
-    let filter = ChannelFilter::new(&source(), sink);
-    let mut builder = empty_builder(alloc)?;
-    let bit = builder.constant(value(1, 1)?)?;
-    let channel = builder.constant(value(3, 5)?)?;
-    let from = BeatNets {
-        valid: bit,
-        word: bit,
-        channel,
-        error: bit,
-        first: bit,
-        last: bit,
-        empty: bit,
-    };
-    let made = emit_stream(&filter, &mut builder, from, bit)?;
-    let dropped = filter.emit_dropped(&mut builder, from, made.ready)?;
-    let numbers = [
+    let bit = level(builder, true)?;
+    let channel = constant(builder, 3, 5)?;
+    let from = beat_of(builder, bit, bit, channel, bit);
+    let made = emit_stream(filter, builder, from, bit)?;
+    let again = beat_of(builder, bit, bit, channel, bit);
+    let dropped = filter.emit_dropped(builder, again, made.ready)?;
+    Ok([
         made.beat.valid.number(),
         made.beat.channel.number(),
         made.ready.number(),
         dropped.number(),
-    ];
-    Ok((builder.finish(), numbers))
+    ])
 }
 
-#[test]
-fn eight_channels_to_four(rt: HostRuntime) -> Result<(), Fail> {
-    let (module, numbers) = filtered(rt.alloc(), &sink(2, 3))?;
-    assert_eq!(rt; numbers, [6, 2, 8, 12]);
-    assert_eq!(rt; module.net_count(), 13);
-    assert!(rt;
-        matches!(
-            module.equation(2),
-            Equation::Slice {
-                a: 1,
-                high: 1,
-                low: 0
-            }
-        )
-    );
-    assert!(rt; matches!(module.equation(4), Equation::Less { a: 3, b: 1 }));
-    assert!(rt; matches!(module.equation(6), Equation::And { a: 0, b: 5 }));
-    assert!(rt; matches!(module.equation(8), Equation::Or { a: 0, b: 7 }));
-    Ok(())
+/// A module, and the numbers of the nets that were looked at.
+#[derive(Drop)]
+struct Made {
+    module: Module,
+    numbers: [u32; 4],
 }
 
-#[test]
-fn no_nets_between_equal_channels(rt: HostRuntime) -> Result<(), Fail> {
-    let (module, numbers) = filtered(rt.alloc(), &sink(3, 7))?;
-    assert_eq!(rt; numbers, [0, 1, 0, 2]);
-    assert_eq!(rt; module.net_count(), 3);
-    Ok(())
+fn push_made(text: &mut String, made: &Made, words: &str) -> Result<(), AllocError> {
+    write!(text, " {:?},", made.numbers)?;
+    push_lines(text, &made.module, words)
 }
 
-/// A module with no stage and a tied error of two bits, behind a beat of net 0 and before a ready that is net 0; and the numbers
-/// of the `valid`, the error and the ready that they make.
-fn tied(alloc: Global) -> Result<(Module, [u32; 3]), Fail> {
+/// The module with the filter before a sink.
+fn filtered(alloc: Global, sink: &StreamPort) -> Result<Made, NetFault>
+    requires { HasChannels sink.now.channel_bits sink.now.max_channel }
+{
+    let filter = ChannelFilter::new(&source(), sink);
     let mut builder = empty_builder(alloc)?;
-    let bit = builder.constant(value(1, 1)?)?;
-    let from = BeatNets {
-        valid: bit,
-        word: bit,
-        channel: bit,
-        error: bit,
-        first: bit,
-        last: bit,
-        empty: bit,
-    };
+    let numbers = emit_filter(&mut builder, &filter)?;
+    Ok(Made {
+        module: builder.finish(),
+        numbers,
+    })
+}
+
+/// No stage and a tied error of two bits, behind a beat of net 0 and before a ready that is net 0; and the numbers of the `valid`,
+/// the channel, the error and the ready that they make.
+#[tactic(auto, using(net_parts::specs::Laws::growing))]
+fn emit_tie(builder: &mut Builder) -> Result<[u32; 4], NetFault>
+    ensures { OnOk result (StaysWhole builder.old builder.new) }
+{
+    let bit = level(builder, true)?;
     let none: Maybe<ErrorTie> = Maybe { stage: None };
-    let through = emit_stream(&none, &mut builder, from, bit)?;
+    let from = beat_of(builder, bit, bit, bit, bit);
+    let through = emit_stream(&none, builder, from, bit)?;
     let tie = Maybe {
         stage: Some(ErrorTie::new(2)),
     };
-    let made = emit_stream(&tie, &mut builder, through.beat, through.ready)?;
-    let numbers = [
+    let made = emit_stream(&tie, builder, through.beat, through.ready)?;
+    Ok([
         made.beat.valid.number(),
+        made.beat.channel.number(),
         made.beat.error.number(),
         made.ready.number(),
-    ];
-    Ok((builder.finish(), numbers))
+    ])
 }
 
-#[test]
-fn error_tied_where_a_stage_is_needed(rt: HostRuntime) -> Result<(), Fail> {
-    let (module, numbers) = tied(rt.alloc())?;
-    let zero = value(2, 0)?;
-    assert_eq!(rt; numbers, [0, 1, 0]);
-    assert_eq!(rt; module.net_count(), 2);
-    assert!(rt; matches!(module.equation(1), Equation::Constant { value } if value == zero));
+fn tied(alloc: Global) -> Result<Made, NetFault> {
+    let mut builder = empty_builder(alloc)?;
+    let numbers = emit_tie(&mut builder)?;
+    Ok(Made {
+        module: builder.finish(),
+        numbers,
+    })
+}
+
+fn push_filter(
+    alloc: Global,
+    text: &mut String,
+    sink: &StreamPort,
+    words: &str,
+) -> Result<(), NetFault>
+    requires { HasChannels sink.now.channel_bits sink.now.max_channel }
+{
+    let made = filtered(alloc, sink)?;
+    push_made(text, &made, words)?;
     Ok(())
+}
+
+fn push_tie(alloc: Global, text: &mut String, words: &str) -> Result<(), NetFault> {
+    let made = tied(alloc)?;
+    push_made(text, &made, words)?;
+    Ok(())
+}
+
+/// The module that the first word names.
+pub(crate) fn push_channels(alloc: Global, text: &mut String, words: &str) -> Result<(), NetFault> {
+    let (name, words) = words.split_once(' ').unwrap_or((words, ""));
+    match name {
+        "eight_to_four" => push_filter(alloc, text, &sink(2, 3), words),
+        "equal" => push_filter(alloc, text, &sink(3, 7), words),
+        _ => push_tie(alloc, text, words),
+    }
 }

@@ -1,78 +1,66 @@
 //! Whole paths between a source and a sink, by the nets that they make.
 
-use crate::builders::{BYTES, empty_builder, value};
+ghost use Rattle.std.specs.Prelude.{◌≡◌, None};
+
+use crate::builders::{BYTES, empty_builder};
 use iface_roles::StreamPort;
-use std::test::Fail;
+use net_parts::{constant, level};
+use netlist::{Builder, Net, NetFault};
+use std::alloc::Global;
 use stream_path::{SourceNets, emit_path};
 
-/// A source of ready latency 2, a queue of three beats, and a sink of ready latency 0. A row of k places has a register and two
-/// choices for each of its seven nets in each place, and k more bits that say where a beat goes, with two choices and three
-/// bits beside. The buffer adds 3 bits of history and 16 nets that count, the queue 2 bits. One net is low, and no delay is
-/// made.
-#[test]
-fn nets_of_a_path(rt: HostRuntime) -> Result<(), Fail> {
-    let mut builder = empty_builder(rt.alloc())?;
-    let bit = builder.constant(value(1, 1)?)?;
-    let word = builder.constant(value(8, 0xa5)?)?;
-    let from = SourceNets {
-        valid: bit,
+/// The nets of a source without channels, errors and packets.
+fn plain_source(valid: Net, word: Net) -> SourceNets
+    ensures { result ≡ record { valid = valid; word = word; channel = None; error = None; startofpacket = None; endofpacket = None; empty = None } }
+{
+    SourceNets {
+        valid,
         word,
         channel: None,
         error: None,
         startofpacket: None,
         endofpacket: None,
         empty: None,
-    };
+    }
+}
+
+/// From a source of ready latency 2, through a queue of three beats: the number of `dropped`, and that of the net behind the path.
+fn emit_queued(alloc: Global, builder: &mut Builder) -> Result<[u32; 2], NetFault> {
+    let bit = level(builder, true)?;
+    let word = constant(builder, 8, 0xa5)?;
     let source = StreamPort {
         latency: 2,
         allowance: 2,
         ..BYTES
     };
-    let path = emit_path(
-        rt.alloc(),
-        &mut builder,
-        &source,
-        &BYTES,
-        3,
-        &from,
-        Some(bit),
-    )?;
-    let next = builder.constant(value(1, 0)?)?;
-    assert_eq!(rt; path.dropped.number(), 2);
-    assert_eq!(rt; next.number(), 2 + 1 + 94 + 77);
-    Ok(())
+    let from = plain_source(bit, word);
+    let path = emit_path(alloc, builder, &source, &BYTES, 3, &from, Some(bit))?;
+    let next = level(builder, false)?;
+    Ok([path.dropped.number(), next.number()])
 }
 
-/// From beats of four symbols to beats of one: 43 nets take beats apart. No turn, no queue and no delay is made.
-#[test]
-fn nets_to_fewer_symbols(rt: HostRuntime) -> Result<(), Fail> {
-    let mut builder = empty_builder(rt.alloc())?;
-    let bit = builder.constant(value(1, 1)?)?;
-    let word = builder.constant(value(32, 0xa5)?)?;
+/// From beats of four symbols to beats of one.
+fn emit_narrowed(alloc: Global, builder: &mut Builder) -> Result<[u32; 2], NetFault> {
+    let bit = level(builder, true)?;
+    let word = constant(builder, 32, 0xa5)?;
     let source = StreamPort {
         symbols: 4,
         ..BYTES
     };
-    let from = SourceNets {
-        valid: bit,
-        word,
-        channel: None,
-        error: None,
-        startofpacket: None,
-        endofpacket: None,
-        empty: None,
+    let from = plain_source(bit, word);
+    let path = emit_path(alloc, builder, &source, &BYTES, 0, &from, Some(bit))?;
+    let next = level(builder, false)?;
+    Ok([path.dropped.number(), next.number()])
+}
+
+/// The path of this name.
+pub(crate) fn push_path(alloc: Global, text: &mut String, name: &str) -> Result<(), NetFault> {
+    let mut builder = empty_builder(alloc)?;
+    let numbers = if name == "queued" {
+        emit_queued(alloc, &mut builder)?
+    } else {
+        emit_narrowed(alloc, &mut builder)?
     };
-    let path = emit_path(
-        rt.alloc(),
-        &mut builder,
-        &source,
-        &BYTES,
-        0,
-        &from,
-        Some(bit),
-    )?;
-    let next = builder.constant(value(1, 0)?)?;
-    assert_eq!(rt; path.dropped.number(), 2);
-    assert_eq!(rt; next.number(), 2 + 1 + 43);
+    write!(text, " {numbers:?}")?;
     Ok(())
 }

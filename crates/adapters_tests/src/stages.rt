@@ -1,50 +1,28 @@
-//! A queue of one place before a register.
+//! Single stages, and a queue of one place before a register.
 
-use crate::builders::{made_by, value};
-use netlist::Equation;
+use crate::builders::push_stage;
+use netlist::NetFault;
+use st_timing::{ReadyBuffer, ReadyDelay, TieReady};
 use stage_core::{Chain, Fifo, PipeReg};
-use std::test::Fail;
+use std::alloc::Global;
 
-#[test]
-fn queue_before_a_register(rt: HostRuntime) -> Result<(), Fail> {
-    let stage = Chain {
-        first: Fifo::new(rt.alloc(), 1),
-        second: PipeReg,
-    };
-    let made = made_by(rt.alloc(), &stage, 8)?;
-    let module = made.module;
-    let reset = value(1, 0)?;
-    assert_eq!(rt; (made.valid, made.ready), (17, 33));
-    assert_eq!(rt; module.net_count(), 52);
-    assert!(rt;
-        matches!(module.equation(3), Equation::Reg { reset: value, next: 45 } if value == reset)
-    );
-    assert!(rt; matches!(module.equation(10), Equation::Mux { s: 3, a: 3, b: 0 }));
-    assert!(rt;
-        matches!(module.equation(17), Equation::Reg { reset: value, next: 26 } if value == reset)
-    );
-    assert!(rt; matches!(module.equation(25), Equation::Or { a: 24, b: 0 }));
-    assert!(rt;
-        matches!(
-            module.equation(26),
-            Equation::Mux {
-                s: 25,
-                a: 10,
-                b: 17
-            }
-        )
-    );
-    assert!(rt; matches!(module.equation(33), Equation::Not { a: 3 }));
-    assert!(rt; matches!(module.equation(36), Equation::And { a: 35, b: 25 }));
-    assert!(rt;
-        matches!(
-            module.equation(45),
-            Equation::Mux {
-                s: 36,
-                a: 37,
-                b: 38
-            }
-        )
-    );
-    Ok(())
+/// The stage that the first word names.
+pub(crate) fn push_named_stage(
+    alloc: Global,
+    text: &mut String,
+    words: &str,
+) -> Result<(), NetFault> {
+    let (name, words) = words.split_once(' ').unwrap_or((words, ""));
+    match name {
+        "tied_ready" => push_stage(alloc, text, &TieReady::new(), words),
+        "ready_of_two_cycles_before" => { push_stage(alloc, text, &ReadyDelay::new(0, 2), words) }
+        "two_places_behind_latency_1" => push_stage(alloc, text, &ReadyBuffer::new(1), words),
+        _ => {
+            let stage = Chain {
+                first: Fifo::new(alloc, 1),
+                second: PipeReg,
+            };
+            push_stage(alloc, text, &stage, words)
+        }
+    }
 }

@@ -4,38 +4,53 @@ ghost use Rattle.std.specs.Prelude.{◌≡◌, ℕ, [], ◌∷◌, ◌++◌, IfO
 ghost use Rattle.netlist.specs.Netlists.{IsInputPort, IsOutputPort, IsClocked, IsWritten};
 ghost use Rattle.mm_wire.specs.Wires.{AreHostNets, AreAgentNets};
 
-use crate::builders::value;
-use av_base::{List, Text};
-use mm_wire::{AgentNets, HostNets, emit};
-use netlist::{Builder, Equation, Module, PortLine};
-use std::alloc::Global;
-use std::test::Fail;
+use crate::builders::text_of;
+use crate::lines::push_lines;
+use av_base::List;
+use mm_wire::{AgentNets, HostNets, WireNets, emit};
+use netlist::{Builder, Module, NetFault, PortLine};
+use std::alloc::{AllocError, Global};
 
-fn push_input(alloc: Global, ports: &mut List<PortLine>, name: &str, width: u8) -> Result<(), Fail>
+fn push_input(
+    alloc: Global,
+    ports: &mut List<PortLine>,
+    name: &str,
+    width: u8,
+) -> Result<(), NetFault>
     ensures { OnOk result (ports.new ≡ ports.old ++ record { name = name.now; width = width; output = false } ∷ []) }
 {
-    ports.push(PortLine {
-        name: Text::copy(alloc, name)?,
+    let name = text_of(alloc, name)?;
+    match ports.push(PortLine {
+        name,
         width,
         output: false,
-    })?;
-    Ok(())
+    }) {
+        Ok(()) => Ok(()),
+        Err(_) => Err(NetFault::NoMemory),
+    }
 }
 
 /// A host's address and read, an agent's waitrequest and readdatavalid, and a word.
-fn inputs(alloc: Global) -> Result<List<PortLine>, Fail>
+fn push_inputs(alloc: Global, ports: &mut List<PortLine>) -> Result<(), NetFault>
+    requires { ports.old ≡ [] }
+    ensures { OnOk result (ports.new ≡ record { name = codes "h$m$a"; width = 10; output = false } ∷ record { name = codes "h$m$r"; width = 1; output = false } ∷ record { name = codes "a$s$w"; width = 1; output = false } ∷ record { name = codes "a$s$v"; width = 1; output = false } ∷ record { name = codes "a$s$d"; width = 32; output = false } ∷ []) }
+{
+    push_input(alloc, ports, "h$m$a", 10)?;
+    push_input(alloc, ports, "h$m$r", 1)?;
+    push_input(alloc, ports, "a$s$w", 1)?;
+    push_input(alloc, ports, "a$s$v", 1)?;
+    push_input(alloc, ports, "a$s$d", 32)
+}
+
+fn inputs(alloc: Global) -> Result<List<PortLine>, NetFault>
     ensures { IfOk result (λ ps. ps ≡ record { name = codes "h$m$a"; width = 10; output = false } ∷ record { name = codes "h$m$r"; width = 1; output = false } ∷ record { name = codes "a$s$w"; width = 1; output = false } ∷ record { name = codes "a$s$v"; width = 1; output = false } ∷ record { name = codes "a$s$d"; width = 32; output = false } ∷ []) }
 {
     let mut ports = List::new(alloc);
-    push_input(alloc, &mut ports, "h$m$a", 10)?;
-    push_input(alloc, &mut ports, "h$m$r", 1)?;
-    push_input(alloc, &mut ports, "a$s$w", 1)?;
-    push_input(alloc, &mut ports, "a$s$v", 1)?;
-    push_input(alloc, &mut ports, "a$s$d", 32)?;
+    push_inputs(alloc, &mut ports)?;
     Ok(ports)
 }
 
-fn input_builder(alloc: Global) -> Result<Builder, Fail>
+fn input_builder(alloc: Global) -> Result<Builder, NetFault>
     ensures address { IfOk result (λ b. IsInputPort b.ports 0 10) }
     ensures read { IfOk result (λ b. IsInputPort b.ports 1 1) }
     ensures waitrequest { IfOk result (λ b. IsInputPort b.ports 2 1) }
@@ -46,7 +61,7 @@ fn input_builder(alloc: Global) -> Result<Builder, Fail>
     ensures written { IfOk result (λ b. IsWritten b) }
 {
     let ports = inputs(alloc)?;
-    let name = Text::copy(alloc, "t_interconnect")?;
+    let name = text_of(alloc, "t_interconnect")?;
     Ok(Builder::new(alloc, name, ports)?)
 }
 
@@ -80,68 +95,35 @@ fn agent_of(builder: &Builder) -> AgentNets
 }
 
 /// An agent of eight address bits that bears four reads.
-fn wire_module(alloc: Global) -> Result<Module, Fail> {
+fn wire_module(alloc: Global) -> Result<(Module, WireNets), NetFault> {
     let mut builder = input_builder(alloc)?;
     let host = host_of(&builder);
     let agent = agent_of(&builder);
     let made = emit(&mut builder, &host, &agent, 8, 4)?;
-    match (
+    Ok((builder.finish(), made))
+}
+
+/// The numbers of nets of the wire, and the width of the last net.
+fn push_nets(text: &mut String, module: &Module, made: &WireNets) -> Result<(), AllocError> {
+    let numbers = [
         made.address.number(),
         made.read.number(),
         made.grant.number(),
         made.waitrequest.number(),
         made.unanswered.number(),
-    ) {
-        (19, 9, 12, 11, 5) => Ok(builder.finish()),
-        _ => Err(Fail::from("other nets")),
-    }
+    ];
+    let count = module.net_count();
+    let bits = if count > 0 {
+        module.width(count - 1)
+    } else {
+        0
+    };
+    write!(text, " {numbers:?}, {bits} bits in the last of")
 }
 
-#[test]
-fn gate_on_reads(rt: HostRuntime) -> Result<(), Fail> {
-    let module = wire_module(rt.alloc())?;
-    let none = value(5, 0)?;
-    let four = value(5, 4)?;
-    assert_eq!(rt; module.net_count(), 20);
-    assert!(rt; matches!(module.equation(5), Equation::Reg { reset, next: 18 } if reset == none));
-    assert!(rt; matches!(module.equation(6), Equation::Constant { value } if value == four));
-    assert!(rt; matches!(module.equation(7), Equation::Eq { a: 5, b: 6 }));
-    assert!(rt; matches!(module.equation(8), Equation::Not { a: 7 }));
-    assert!(rt; matches!(module.equation(9), Equation::And { a: 1, b: 8 }));
-    assert!(rt; matches!(module.equation(10), Equation::And { a: 1, b: 7 }));
-    assert!(rt; matches!(module.equation(11), Equation::Or { a: 10, b: 2 }));
-    Ok(())
-}
-
-#[test]
-fn count_of_reads(rt: HostRuntime) -> Result<(), Fail> {
-    let module = wire_module(rt.alloc())?;
-    let zero = value(4, 0)?;
-    assert_eq!(rt; module.net_count(), 20);
-    assert!(rt; matches!(module.equation(12), Equation::Constant { value } if value == zero));
-    assert!(rt; matches!(module.equation(13), Equation::Not { a: 2 }));
-    assert!(rt; matches!(module.equation(14), Equation::And { a: 9, b: 13 }));
-    assert!(rt; matches!(module.equation(15), Equation::Concat { a: 12, b: 14 }));
-    assert!(rt; matches!(module.equation(16), Equation::Concat { a: 12, b: 3 }));
-    assert!(rt; matches!(module.equation(17), Equation::Add { a: 5, b: 15 }));
-    assert!(rt; matches!(module.equation(18), Equation::Sub { a: 17, b: 16 }));
-    Ok(())
-}
-
-#[test]
-fn word_address(rt: HostRuntime) -> Result<(), Fail> {
-    let module = wire_module(rt.alloc())?;
-    assert_eq!(rt; module.net_count(), 20);
-    assert!(rt;
-        matches!(
-            module.equation(19),
-            Equation::Slice {
-                a: 0,
-                high: 9,
-                low: 2
-            }
-        )
-    );
-    assert_eq!(rt; module.width(19), 8);
+pub(crate) fn push_wire(alloc: Global, text: &mut String, words: &str) -> Result<(), NetFault> {
+    let (module, made) = wire_module(alloc)?;
+    push_nets(text, &module, &made)?;
+    push_lines(text, &module, words)?;
     Ok(())
 }

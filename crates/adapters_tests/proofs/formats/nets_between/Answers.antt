@@ -1,8 +1,8 @@
 use Rattle.std.proofs.Common.{◌≡◌, ◌*◌, refl, ◌∙◌, arith}
 use Rattle.adapters_tests.proofs.formats.nets_between.Goals as goal
 
-pub nets_of-requires : goal.nets_of-requires
-nets_of-requires c widths word empty =
+pub nets_of-requires-clause-takes : goal.nets_of-requires-clause-takes
+nets_of-requires-clause-takes c widths word empty =
     let bits = c.requires.bits in
     let symbols = c.requires.symbols in
     let all : 32 ≡ c.args.source.now.symbol_bits * c.args.source.now.symbols = rw (bits, symbols) refl in
