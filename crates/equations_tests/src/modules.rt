@@ -6,6 +6,7 @@ ghost use Rattle.equations_tests.specs.Whole.{AreGrown, StaysWhole};
 ghost use Rattle.netlist.specs.Netlists.{IsNet, IsInputPort, IsOutputPort, IsClocked, IsWritten, driver_of};
 
 use crate::headers::push_port;
+use crate::lines::push_lines;
 use crate::room::NoRoom;
 use av_base::{List, NoMemory, Text, Val};
 use netlist::{Builder, Module, Net, NetFault, PortLine};
@@ -195,25 +196,6 @@ fn push_head(text: &mut String, made: &Made) -> Result<(), AllocError> {
         made.driver,
         made.nets
     )
-}
-
-/// The width and the equation of each net that a word names, and each memory.
-fn push_lines(text: &mut String, module: &Module, words: &str) -> Result<(), AllocError> {
-    for word in words.split_whitespace() {
-        let net = word.parse().unwrap_or(u32::MAX);
-        if net < module.net_count() {
-            write!(
-                text,
-                "; {net} of {}: {:?}",
-                module.width(net),
-                module.equation(net)
-            )?;
-        }
-    }
-    for k in 0..module.memory_count() {
-        write!(text, "; {:?}", module.memory(k))?;
-    }
-    Ok(())
 }
 
 /// The module of this name, by the lines of the nets that words name.
