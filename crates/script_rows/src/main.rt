@@ -2,35 +2,37 @@
 //! what the row says of it.
 #![tactic(auto)]
 
-mod book;
 mod judge;
+mod row;
 
-use book::Book;
-use judge::{Verdict, judge};
+use judge::judge;
+use row::Row;
 use std::io;
 
-fn main(rt: HostRuntime) -> io::Result<()> {
-    let alloc = rt.alloc();
-    let mut book = Book::new(alloc);
-    for line in rt.lines(alloc) {
-        book.take(alloc, line?.as_str())?;
-    }
+/// Tells what is answered to a row, and gives whether it is what the row says.
+fn tell_row(rt: &HostRuntime, row: &Row) -> io::Result<bool> {
+    let Ok(verdict) = judge(rt.alloc(), row) else {
+        return Err(io::ErrorKind::OutOfMemory.into());
+    };
+    println!(rt; "{}: {}", row.title, verdict.written)?;
+    Ok(verdict.is_as_said)
+}
+
+fn tell_rows(rt: &HostRuntime, text: &str) -> io::Result<()> {
+    let (parts, rows) = text.split_once("\n:row ").unwrap_or((text, ""));
+    let mut count: u32 = 0;
     let mut others: u32 = 0;
-    for row in book.rows() {
-        let Ok(
-            Verdict {
-                written,
-                is_as_said,
-            },
-        ) = judge(alloc, row)
-        else {
-            return Err(io::ErrorKind::OutOfMemory.into());
-        };
-        println!(rt; "{}: {written}", row.title)?;
-        if !is_as_said {
+    for row in rows.split("\n:row ") {
+        count = count.saturating_add(1);
+        if !tell_row(rt, &Row::of(parts, row))? {
             others = others.saturating_add(1);
             println!(rt; "  and not as the row says")?;
         }
     }
-    println!(rt; "{} rows, {others} not as they say", book.rows().len())
+    println!(rt; "{count} rows, {others} not as they say")
+}
+
+fn main(rt: HostRuntime) -> io::Result<()> {
+    let text = io::read_to_string(rt.alloc(), rt.reader())?;
+    tell_rows(&rt, text.as_str())
 }
