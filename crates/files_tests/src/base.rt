@@ -1,35 +1,40 @@
-use av_base::{Bytes, List, Text, Val};
+use av_base::{Bytes, List, NoMemory, Text, Val};
 use av_files::{
     DirShelf, LoadFault, MemShelf, MemSink, ReadStep, Shelf, Sink, StdSink, WriteStep, load_all,
     put_all,
 };
-use std::alloc::Global;
+use std::alloc::{AllocError, Global};
+use std::process::Abort;
+use std::rt::Files;
 use std::test::Fail;
 use std::{env, fs, io};
 
-fn bytes(alloc: Global, text: &[u8]) -> Result<Bytes, Fail> {
-    let mut bytes = Bytes::new(alloc);
-    bytes.append(text)?;
-    Ok(bytes)
+#[test]
+fn bytes_keep_what_is_pushed(rt: HostRuntime) -> Result<(), Fail> {
+    let mut bytes = Bytes::new(rt.alloc());
+    bytes.append(b"ab")?;
+    bytes.push(b'c')?;
+    assert_eq!(rt; bytes.as_slice(), b"abc".as_slice());
+    Ok(())
 }
 
-fn numbers(alloc: Global, items: &[u64]) -> Result<List<u64>, Fail> {
-    let mut list = List::new(alloc);
-    for item in items {
-        list.push(*item)?;
-    }
-    Ok(list)
+fn push_two(list: &mut List<u64>) -> Result<(), NoMemory> {
+    list.push(3)?;
+    list.push(1)
 }
 
 #[test]
-fn keeps_what_is_pushed(rt: HostRuntime) -> Result<(), Fail> {
-    let mut bytes = bytes(rt.alloc(), b"ab")?;
-    bytes.push(b'c')?;
-    assert_eq!(rt; bytes.as_slice(), b"abc".as_slice());
+fn lists_keep_what_is_pushed(rt: HostRuntime) -> Result<(), Fail> {
+    let mut list = List::new(rt.alloc());
+    push_two(&mut list)?;
+    assert_eq!(rt; list.as_slice(), [3, 1].as_slice());
+    Ok(())
+}
+
+#[test]
+fn texts_are_kept(rt: HostRuntime) -> Result<(), Fail> {
     let moved = Bytes::from(String::from_str(rt.alloc(), "moved")?);
     assert_eq!(rt; moved.as_slice(), b"moved".as_slice());
-    let list = numbers(rt.alloc(), &[3, 1])?;
-    assert_eq!(rt; list.as_slice(), [3, 1].as_slice());
     let text = Text::copy(rt.alloc(), "name")?;
     assert_eq!(rt; text.as_str(), "name");
     Ok(())
@@ -53,33 +58,99 @@ fn makes_values_that_fit(rt: HostRuntime) {
     }
 }
 
+/// Adds a file of 5000 bytes.
+fn push_sevens(alloc: Global, files: &mut List<Bytes>) -> Result<(), Fail> {
+    let mut bytes = Bytes::new(alloc);
+    bytes.append(&[7; 5000])?;
+    files.push(bytes)?;
+    Ok(())
+}
+
+/// The number of the only call that fails.
+fn only(alloc: Global, call: u64) -> Result<List<u64>, Fail> {
+    let mut calls = List::new(alloc);
+    calls.push(call)?;
+    Ok(calls)
+}
+
+/// A shelf of that file, whose tenth call fails.
+fn shelf_of(alloc: Global) -> Result<MemShelf, Fail> {
+    let mut files = List::new(alloc);
+    push_sevens(alloc, &mut files)?;
+    Ok(MemShelf::new(files, only(alloc, 9)?))
+}
+
+/// Whether these bytes were loaded.
+fn are_loaded(loaded: Result<Bytes, LoadFault>, bytes: &[u8]) -> bool {
+    match loaded {
+        Ok(all) => all.as_slice() == bytes,
+        Err(_) => false,
+    }
+}
+
+fn is_fault(loaded: Result<Bytes, LoadFault>, fault: LoadFault) -> bool {
+    match loaded {
+        Ok(_) => false,
+        Err(other) => other == fault,
+    }
+}
+
+/// Whether a whole file, one that is too long, one that isn't there and one that fails are loaded as that.
+fn loads(alloc: Global, shelf: &mut MemShelf) -> [bool; 4] {
+    [
+        are_loaded(load_all(alloc, shelf, 0, 5000), &[7; 5000]),
+        is_fault(load_all(alloc, shelf, 0, 4999), LoadFault::TooLong),
+        are_loaded(load_all(alloc, shelf, 5, 5000), b""),
+        is_fault(load_all(alloc, shelf, 0, 5000), LoadFault::ReadFault),
+    ]
+}
+
 #[test]
 fn loads_files_up_to_the_limit(rt: HostRuntime) -> Result<(), Fail> {
-    let alloc = rt.alloc();
-    let mut files = List::new(alloc);
-    files.push(bytes(alloc, &[7; 5000])?)?;
-    let mut shelf = MemShelf::new(files, numbers(alloc, &[9])?);
-    let whole = load_all(alloc, &mut shelf, 0, 5000);
-    assert_eq!(rt;
-        whole.ok().ok_or("not loaded")?.as_slice(),
-        [7; 5000].as_slice()
-    );
-    let long = load_all(alloc, &mut shelf, 0, 4999);
-    assert_eq!(rt; long.err().ok_or("loaded")?, LoadFault::TooLong);
-    let absent = load_all(alloc, &mut shelf, 5, 5000);
-    assert_eq!(rt; absent.ok().ok_or("not loaded")?.as_slice(), b"".as_slice());
-    let failed = load_all(alloc, &mut shelf, 0, 5000);
-    assert_eq!(rt; failed.err().ok_or("loaded")?, LoadFault::ReadFault);
+    let mut shelf = shelf_of(rt.alloc())?;
+    assert_eq!(rt; loads(rt.alloc(), &mut shelf), [true; 4]);
     Ok(())
 }
 
 #[test]
 fn takes_bytes_while_there_is_room(rt: HostRuntime) -> Result<(), Fail> {
-    let mut sink = MemSink::new(rt.alloc(), 5, numbers(rt.alloc(), &[1])?)?;
-    assert_eq!(rt; sink.write(b"abc"), WriteStep::Wrote(3));
-    assert_eq!(rt; sink.write(b"x"), WriteStep::Failed);
+    let mut sink = MemSink::new(rt.alloc(), 5, only(rt.alloc(), 1)?)?;
+    let steps = [sink.write(b"abc"), sink.write(b"x")];
+    assert_eq!(rt; steps, [WriteStep::Wrote(3), WriteStep::Failed]);
     assert!(rt; !put_all(&mut sink, b"defg"));
     assert_eq!(rt; sink.bytes(), b"abcde".as_slice());
+    Ok(())
+}
+
+fn names_of(alloc: Global, names: &[&str]) -> Result<Vec<String>, AllocError> {
+    let mut all = Vec::new(alloc);
+    for name in names {
+        all.push(String::from_str(alloc, name)?)?;
+    }
+    Ok(all)
+}
+
+/// The first name is that of a file of the bytes `hello`, the second is no file's, and the third a folder's.
+fn judge_shelf<R: Files + Abort>(rt: &R, names: &[String]) {
+    let mut shelf = DirShelf::new(rt, names);
+    let mut into = [0; 4];
+    assert_eq!(rt; shelf.read_at(0, 1, &mut into), ReadStep::Bytes(4));
+    assert_eq!(rt; into, *b"ello");
+    let steps = [
+        shelf.read_at(0, 5, &mut into),
+        shelf.read_at(1, 0, &mut into),
+        shelf.read_at(2, 0, &mut into),
+        shelf.read_at(3, 0, &mut into),
+    ];
+    let failed = ReadStep::Failed;
+    assert_eq!(rt; steps, [ReadStep::End, failed, failed, failed]);
+}
+
+fn read_back<R: Files + AllocGlobal + Abort>(rt: &R, path: &str) -> Result<(), Fail> {
+    fs::write(rt, path, "hello")?;
+    let names = names_of(rt.alloc(), &[path, "no/such/file", "."])?;
+    judge_shelf(rt, names.as_slice());
+    fs::remove_file(rt, path)?;
     Ok(())
 }
 
@@ -87,26 +158,7 @@ fn takes_bytes_while_there_is_room(rt: HostRuntime) -> Result<(), Fail> {
 fn reads_real_files(rt: HostRuntime) -> Result<(), Fail> {
     let mut file = env::temp_dir(&rt)?;
     file.push("avalon_shelf_test")?;
-    let path = file.as_path().to_str().ok_or("the path is no text")?;
-    fs::write(&rt, path, "hello")?;
-    let mut names = Vec::new(rt.alloc());
-    names.push(String::from_str(rt.alloc(), path)?)?;
-    names.push(String::from_str(rt.alloc(), "no/such/file")?)?;
-    names.push(String::from_str(rt.alloc(), ".")?)?;
-    let mut shelf = DirShelf::new(&rt, names.as_slice());
-    let mut into = [0; 4];
-    assert_eq!(rt; shelf.read_at(0, 1, &mut into), ReadStep::Bytes(4));
-    assert_eq!(rt; into, *b"ello");
-    assert_eq!(rt; shelf.read_at(0, 5, &mut into), ReadStep::End);
-    for file in [1, 2, 3] {
-        assert_eq!(rt;
-            shelf.read_at(file, 0, &mut into),
-            ReadStep::Failed,
-            "file {file}"
-        );
-    }
-    fs::remove_file(&rt, path)?;
-    Ok(())
+    read_back(&rt, file.as_path().to_str().ok_or("the path is no text")?)
 }
 
 /// A writer that takes one byte at a time, and fails past its room.

@@ -1,3 +1,5 @@
+ghost use Rattle.std.specs.Prelude.{◌≡◌};
+
 use av_base::Val;
 use std::test::Fail;
 
@@ -11,63 +13,87 @@ const WIDTHS: [(u8, u128); 6] = [
     (128, 0xffff_ffff_ffff_ffff_ffff_ffff_ffff_ffff),
 ];
 
-#[test]
-fn carries_and_borrows_end_at_the_width(rt: HostRuntime) -> Result<(), Fail> {
-    for (width, most) in WIDTHS {
-        let top = Val::new(width, most).ok_or("the greatest")?;
-        let one = Val::new(width, 1).ok_or("one")?;
-        let zero = Val::new(width, 0).ok_or("zero")?;
-        assert_eq!(rt; top.add(one).bits(), 0, "at {width}");
-        assert_eq!(rt; top.add(zero).bits(), most, "at {width}");
-        assert_eq!(rt; zero.sub(one).bits(), most, "at {width}");
-        assert_eq!(rt; top.sub(top).bits(), 0, "at {width}");
-    }
-    Ok(())
+/// Whether sums and differences end at the width.
+fn sums_end(width: u8, most: u128) -> Option<bool> {
+    let top = Val::new(width, most)?;
+    let one = Val::new(width, 1)?;
+    let zero = Val::new(width, 0)?;
+    let got = [top.add(one), top.add(zero), zero.sub(one), top.sub(top)];
+    Some(got == [zero, top, top, zero])
+}
+
+/// Whether bit by bit operators reach the width.
+fn bits_reach(width: u8, most: u128) -> Option<bool> {
+    let top = Val::new(width, most)?;
+    let zero = Val::new(width, 0)?;
+    let got = [zero.not(), zero.or(top), zero.and(top), top.xor(top)];
+    Some(got == [top, top, zero, zero])
+}
+
+/// Whether comparisons read the whole width.
+fn tests_read_all(width: u8, most: u128) -> Option<bool> {
+    let top = Val::new(width, most)?;
+    let zero = Val::new(width, 0)?;
+    let no = Val::new(1, 0)?;
+    let yes = Val::new(1, 1)?;
+    let got = [
+        zero.eq(top),
+        top.eq(top),
+        zero.less(top),
+        top.less(top),
+        top.any(),
+        zero.any(),
+    ];
+    Some(got == [no, yes, yes, no, yes, no])
+}
+
+/// Whether a choice gives the whole width.
+fn choices_give_all(width: u8, most: u128) -> Option<bool> {
+    let top = Val::new(width, most)?;
+    let zero = Val::new(width, 0)?;
+    let got = [zero.any().mux(top, zero), top.any().mux(top, zero)];
+    Some(got == [zero, top])
 }
 
 #[test]
-fn bits_and_tests(rt: HostRuntime) -> Result<(), Fail> {
+fn operators_end_at_the_width(rt: HostRuntime) {
     for (width, most) in WIDTHS {
-        let top = Val::new(width, most).ok_or("the greatest")?;
-        let zero = Val::new(width, 0).ok_or("zero")?;
-        assert_eq!(rt; zero.not().bits(), most, "at {width}");
-        assert_eq!(rt; zero.or(top).bits(), most, "at {width}");
-        assert_eq!(rt; zero.and(top).bits(), 0, "at {width}");
-        assert_eq!(rt; top.xor(top).bits(), 0, "at {width}");
-        assert_eq!(rt; zero.eq(top).bits(), 0, "at {width}");
-        assert_eq!(rt; top.eq(top).bits(), 1, "at {width}");
-        assert_eq!(rt; zero.less(top).bits(), 1, "at {width}");
-        assert_eq!(rt; top.less(top).bits(), 0, "at {width}");
-        assert_eq!(rt; top.any().bits(), 1, "at {width}");
-        assert_eq!(rt; zero.any().bits(), 0, "at {width}");
-        assert_eq!(rt; zero.any().mux(top, zero), zero, "at {width}");
-        assert_eq!(rt; top.any().mux(top, zero), top, "at {width}");
+        let got = [
+            sums_end(width, most),
+            bits_reach(width, most),
+            tests_read_all(width, most),
+            choices_give_all(width, most),
+        ];
+        assert_eq!(rt; got, [Some(true); 4], "at {width}");
     }
-    Ok(())
+}
+
+fn parts_of(wide: Val) -> [u128; 3]
+    requires { wide.width ≡ 128 }
+{
+    [
+        wide.slice(67, 60).bits(),
+        wide.slice(127, 64).bits(),
+        wide.slice(4, 4).bits(),
+    ]
+}
+
+/// The whole value by one part, and by two parts joined.
+fn wholes_of(wide: Val) -> [Val; 2]
+    requires { wide.width ≡ 128 }
+{
+    [
+        wide.slice(127, 0),
+        wide.slice(127, 65).concat(wide.slice(64, 0)),
+    ]
 }
 
 #[test]
 fn parts_across_a_machine_word(rt: HostRuntime) -> Result<(), Fail> {
     let wide = Val::new(128, 0x0123_4567_89ab_cdef_fedc_ba98_7654_3210).ok_or("128 bits")?;
-    assert_eq!(rt; wide.slice(67, 60).bits(), 0xff);
-    assert_eq!(rt; wide.slice(127, 64).bits(), 0x0123_4567_89ab_cdef);
-    assert_eq!(rt; wide.slice(127, 0), wide);
-    assert_eq!(rt; wide.slice(4, 4).bits(), 1);
-    let low = wide.slice(64, 0);
-    let high = wide.slice(127, 65);
-    assert_eq!(rt; (low.width(), high.width()), (65, 63));
-    assert_eq!(rt; high.concat(low), wide);
+    assert_eq!(rt; parts_of(wide), [0xff, 0x0123_4567_89ab_cdef, 1]);
+    assert_eq!(rt; wholes_of(wide), [wide, wide]);
+    let widths = [wide.slice(64, 0).width(), wide.slice(127, 65).width()];
+    assert_eq!(rt; widths, [65, 63]);
     Ok(())
-}
-
-#[test]
-fn no_value_past_its_width(rt: HostRuntime) {
-    assert_eq!(rt; Val::new(0, 0), None);
-    assert_eq!(rt; Val::new(129, 0), None);
-    assert_eq!(rt; Val::new(1, 2), None);
-    assert_eq!(rt; Val::new(64, 0x1_0000_0000_0000_0000), None);
-    assert_eq!(rt;
-        Val::new(127, 0x8000_0000_0000_0000_0000_0000_0000_0000),
-        None
-    );
 }
