@@ -1,9 +1,9 @@
-//! What the top call answers, writes and says.
+//! What the top call answers to words, and where a shelf or a sink fails.
 
 ghost use Rattle.std.specs.Prelude.{None};
 ghost use Rattle.av_files.specs.Memory.{failed_below};
 
-use av_base::{Bytes, List};
+use av_base::{Bytes, List, NoMemory};
 use av_files::{MemShelf, MemSink, ReadStep, Shelf, Sink, WriteStep};
 use avalon_top::{Exit, Task, read_words, run};
 use std::alloc::{AllocError, Global};
@@ -20,223 +20,129 @@ fn words_of(alloc: Global, texts: &[&str]) -> Result<Vec<String>, AllocError> {
     Ok(words)
 }
 
-fn bytes_of(alloc: Global, text: &[u8]) -> Result<Bytes, Fail> {
-    let mut bytes = Bytes::new(alloc);
-    bytes.append(text)?;
-    Ok(bytes)
-}
-
-/// Files by the place of their word: the command's place is empty.
-fn files_of(alloc: Global, texts: &[&[u8]]) -> Result<List<Bytes>, Fail> {
-    let mut files = List::new(alloc);
-    files.push(Bytes::new(alloc))?;
-    for text in texts {
-        files.push(bytes_of(alloc, text)?)?;
-    }
-    Ok(files)
-}
-
-fn numbers_of(alloc: Global, items: &[u64]) -> Result<List<u64>, Fail> {
-    let mut list = List::new(alloc);
-    for item in items {
-        list.push(*item)?;
-    }
-    Ok(list)
-}
-
-/// The calls of the shelf and of the sink that fail, and the room of the sink.
-#[derive(Clone, Copy)]
-struct Outside<'a> {
-    reads: &'a [u64],
-    room: usize,
-    writes: &'a [u64],
-}
-
-/// The answer to these words over these files, and what the sink holds after it.
-fn answer_from(
+/// The answer to these words.
+fn answer<S: Shelf, K: Sink>(
     alloc: Global,
     words: &[&str],
-    files: &[&[u8]],
-    outside: Outside,
-) -> Result<(Exit, MemSink), Fail> {
+    shelf: &mut S,
+    sink: &mut K,
+) -> Result<Exit, AllocError> {
     let words = words_of(alloc, words)?;
-    let mut shelf = MemShelf::new(files_of(alloc, files)?, numbers_of(alloc, outside.reads)?);
-    let mut sink = MemSink::new(alloc, outside.room, numbers_of(alloc, outside.writes)?)?;
-    let exit = run(alloc, words.as_slice(), &mut shelf, &mut sink);
-    Ok((exit, sink))
+    Ok(run(alloc, words.as_slice(), shelf, sink))
 }
 
-/// The same, where nothing fails.
-fn answer(alloc: Global, words: &[&str], files: &[&[u8]]) -> Result<(Exit, MemSink), Fail> {
-    let outside = Outside {
-        reads: &[],
-        room: 2000,
-        writes: &[],
-    };
-    answer_from(alloc, words, files, outside)
+const WIRE: [&str; 4] = ["generate", "one.tcl", "gen.tcl", "chk.tcl"];
+
+fn push_file(alloc: Global, files: &mut List<Bytes>, text: &[u8]) -> Result<(), NoMemory> {
+    let mut bytes = Bytes::new(alloc);
+    bytes.append(text)?;
+    files.push(bytes)
 }
 
-/// The answer to `generate` over the files of a wire.
-fn answer_to_wire(alloc: Global, outside: Outside) -> Result<(Exit, MemSink), Fail> {
-    let files = [scripts::wire(), scripts::source(), scripts::sink()];
-    answer_from(alloc, &THREE, &files, outside)
+/// Adds the files of a wire: the command's place is empty.
+fn push_wire(alloc: Global, files: &mut List<Bytes>) -> Result<(), NoMemory> {
+    push_file(alloc, files, b"")?;
+    push_file(alloc, files, scripts::wire())?;
+    push_file(alloc, files, scripts::source())?;
+    push_file(alloc, files, scripts::sink())
 }
 
-const THREE: [&str; 4] = ["generate", "one.tcl", "gen.tcl", "chk.tcl"];
+/// The number of the only call that fails.
+fn only(alloc: Global, call: u64) -> Result<List<u64>, NoMemory> {
+    let mut calls = List::new(alloc);
+    calls.push(call)?;
+    Ok(calls)
+}
+
+/// A number of a call that never comes.
+const NEVER: u64 = 1_000_000;
+
+/// A shelf of the files of a wire, of which a call fails.
+fn wire_shelf(alloc: Global, failing: u64) -> Result<MemShelf, NoMemory> {
+    let mut files = List::new(alloc);
+    push_wire(alloc, &mut files)?;
+    Ok(MemShelf::new(files, only(alloc, failing)?))
+}
+
+fn sink_of(alloc: Global, room: usize, failing: u64) -> Result<MemSink, NoMemory> {
+    MemSink::new(alloc, room, only(alloc, failing)?)
+}
 
 /// Words, and what they ask for.
-fn tried_words() -> [(&'static [&'static str], Option<Task>); 13] {
-    [
-        (&[], None),
-        (&["generate"], None),
-        (&["generate", "a"], Some(Task::Generate)),
-        (&["generate", "a", "b", "c"], Some(Task::Generate)),
-        (&["check", "a"], Some(Task::Check)),
-        (&["check"], None),
-        (&["generate", "-h", "x"], None),
-        (&["generate", "a", "-"], None),
-        (&["check", ""], None),
-        (&["Generate", "a"], None),
-        (&["simulate", "a", "b"], None),
-        (&["replay", "a", "b"], None),
-        (&["workload", "01"], None),
-    ]
-}
+const TRIED: [(&[&str], Option<Task>); 13] = [
+    (&[], None),
+    (&["generate"], None),
+    (&["generate", "a"], Some(Task::Generate)),
+    (&["generate", "a", "b", "c"], Some(Task::Generate)),
+    (&["check", "a"], Some(Task::Check)),
+    (&["check"], None),
+    (&["generate", "-h", "x"], None),
+    (&["generate", "a", "-"], None),
+    (&["check", ""], None),
+    (&["Generate", "a"], None),
+    (&["simulate", "a", "b"], None),
+    (&["replay", "a", "b"], None),
+    (&["workload", "01"], None),
+];
 
 #[test]
 fn reads_words_by_the_table(rt: HostRuntime) -> Result<(), Fail> {
-    for (texts, task) in tried_words() {
+    for (texts, task) in TRIED {
         let words = words_of(rt.alloc(), texts)?;
         assert_eq!(rt; read_words(words.as_slice()), task, "{texts:?}");
+    }
+    Ok(())
+}
+
+/// What is answered to words over no files.
+fn answer_to_words(alloc: Global, words: &[&str], sink: &mut MemSink) -> Result<Exit, AllocError> {
+    let mut shelf = MemShelf::new(List::new(alloc), List::new(alloc));
+    answer(alloc, words, &mut shelf, sink)
+}
+
+fn judge_usage(
+    rt: &impl Abort,
+    alloc: Global,
+    words: &[&str],
+    room: usize,
+    written: &[u8],
+) -> Result<(), Fail> {
+    let mut sink = sink_of(alloc, room, NEVER)?;
+    let exit = answer_to_words(alloc, words, &mut sink)?;
+    assert_eq!(rt; exit, Exit::Usage);
+    assert_eq!(rt; exit.status(), 2);
+    assert_eq!(rt; sink.bytes(), written);
+    Ok(())
+}
+
+#[test]
+fn answers_with_the_usage(rt: HostRuntime) -> Result<(), Fail> {
+    for (words, task) in TRIED {
         if task.is_none() {
-            let (exit, sink) = answer(rt.alloc(), texts, &[])?;
-            assert_eq!(rt; exit, Exit::Usage);
-            assert_eq!(rt; exit.status(), 2);
-            assert_eq!(rt; sink.bytes(), scripts::usage());
+            judge_usage(&rt, rt.alloc(), words, 2000, scripts::usage())?;
         }
     }
-    Ok(())
+    judge_usage(&rt, rt.alloc(), &[], 10, b"usage: gen")
 }
 
-/// Words, the files that they name, the status of the answer, and what is written.
-type Row = (
-    &'static [&'static str],
-    [&'static [u8]; 3],
-    u8,
-    &'static [u8],
-);
-
-const CHECK_THREE: [&str; 4] = ["check", "one.tcl", "gen.tcl", "chk.tcl"];
-
-fn rows() -> [Row; 14] {
-    use scripts::*;
-    [
-        (&THREE, [wire(), source(), sink()], 0, wire_text()),
-        (&THREE, [wire(), sink(), source()], 0, wire_text()),
-        (&CHECK_THREE, [wire(), source(), sink()], 0, wire_maps()),
-        (&THREE, [bus(), master(), memory()], 0, bus_text()),
-        (&THREE, [bus(), memory(), master()], 0, bus_text()),
-        (
-            &CHECK_THREE,
-            [desk(), processor(), small_memory()],
-            0,
-            desk_maps(),
-        ),
-        (
-            &["generate", "empty.tcl"],
-            [b"", b"", b""],
-            5,
-            b"script refused: file 1 line 1 byte 0 rule C13\n",
-        ),
-        (
-            &["generate", "one.tcl", "bad.tcl"],
-            [wire(), half(), b""],
-            5,
-            b"script refused: file 2 line 2 byte 61 rule T3\n",
-        ),
-        (
-            &THREE,
-            [wire_joined_twice(), source(), sink()],
-            5,
-            b"script refused: file 1 line 5 byte 90 rule C4\n",
-        ),
-        (
-            &CHECK_THREE,
-            [crooked_desk(), processor(), small_memory()],
-            6,
-            b"link refused: connection 1 rule A1\n",
-        ),
-        (
-            &CHECK_THREE,
-            [crowded_desk(), processor(), small_memory()],
-            6,
-            b"link refused: connection 2 rule A2 with 1\n",
-        ),
-        (
-            &THREE,
-            [desk(), processor(), small_memory()],
-            6,
-            b"link refused: connection 0 rule P10\n",
-        ),
-        (
-            &THREE,
-            [staged_bus(), master(), memory()],
-            6,
-            b"link refused: connection 0 rule P10\n",
-        ),
-        (
-            &CHECK_THREE,
-            [wire(), wide_source(), sink()],
-            0,
-            wire_maps(),
-        ),
-    ]
+/// What is answered to a wire where a read fails.
+fn answer_to_wire(alloc: Global, failing: u64, sink: &mut MemSink) -> Result<Exit, NoMemory> {
+    let mut shelf = wire_shelf(alloc, failing)?;
+    Ok(answer(alloc, &WIRE, &mut shelf, sink)?)
 }
 
-fn judge_row(rt: &impl Abort, alloc: Global, row: Row) -> Result<(), Fail> {
-    let (words, files, status, text) = row;
-    let (exit, sink) = answer(alloc, words, &files)?;
-    assert_eq!(rt; sink.bytes(), text);
-    assert_eq!(rt; exit.status(), status);
-    Ok(())
-}
-
-#[test]
-fn answers_by_the_table(rt: HostRuntime) -> Result<(), Fail> {
-    for row in rows() {
-        judge_row(&rt, rt.alloc(), row)?;
-    }
-    Ok(())
-}
-
-#[test]
-fn counts_files(rt: HostRuntime) -> Result<(), Fail> {
-    let mut words = ["a"; 66];
-    words[0] = "generate";
-    let (exit, _) = answer(rt.alloc(), &words[..65], &[])?;
-    assert_eq!(rt; exit.status(), 5);
-    let (exit, sink) = answer(rt.alloc(), &words, &[])?;
-    assert_eq!(rt; exit.status(), 7);
-    assert_eq!(rt; sink.bytes(), b"limit: L7 count 65\n".as_slice());
-    Ok(())
-}
-
-#[test]
-fn counts_bytes(rt: HostRuntime) -> Result<(), Fail> {
-    for (bytes, status, line) in [
-        (
-            1_048_576,
-            5,
-            "script refused: file 1 line 1048577 byte 1048576 rule C13\n",
-        ),
-        (1_048_577, 7, "limit: L5 count 1048577\n"),
-    ] {
-        let mut long = Vec::new(rt.alloc());
-        long.resize(bytes, b'\n')?;
-        let (exit, sink) = answer(rt.alloc(), &["generate", "a"], &[long.as_slice()])?;
-        assert_eq!(rt; exit.status(), status);
-        assert_eq!(rt; sink.bytes(), line.as_bytes());
-    }
+fn judge_fault(
+    rt: &impl Abort,
+    alloc: Global,
+    call: u64,
+    file: u32,
+    line: &[u8],
+) -> Result<(), Fail> {
+    let mut sink = sink_of(alloc, 2000, NEVER)?;
+    let exit = answer_to_wire(alloc, call, &mut sink)?;
+    assert_eq!(rt; exit, Exit::ReadFault { file }, "call {call}");
+    assert_eq!(rt; exit.status(), 3);
+    assert_eq!(rt; sink.bytes(), line);
     Ok(())
 }
 
@@ -244,53 +150,32 @@ fn counts_bytes(rt: HostRuntime) -> Result<(), Fail> {
 fn names_the_file_of_each_call_that_fails(rt: HostRuntime) -> Result<(), Fail> {
     // Each file takes two calls: one that gives its bytes, and one that finds its end.
     for (call, file, line) in [
-        (0, 1, "read fault: file 1\n"),
-        (1, 1, "read fault: file 1\n"),
-        (2, 2, "read fault: file 2\n"),
-        (3, 2, "read fault: file 2\n"),
-        (4, 3, "read fault: file 3\n"),
-        (5, 3, "read fault: file 3\n"),
+        (0, 1, b"read fault: file 1\n"),
+        (1, 1, b"read fault: file 1\n"),
+        (2, 2, b"read fault: file 2\n"),
+        (3, 2, b"read fault: file 2\n"),
+        (4, 3, b"read fault: file 3\n"),
+        (5, 3, b"read fault: file 3\n"),
     ] {
-        let outside = Outside {
-            reads: &[call],
-            room: 2000,
-            writes: &[],
-        };
-        let (exit, sink) = answer_to_wire(rt.alloc(), outside)?;
-        assert_eq!(rt; exit, Exit::ReadFault { file }, "call {call}");
-        assert_eq!(rt; exit.status(), 3);
-        assert_eq!(rt; sink.bytes(), line.as_bytes());
+        judge_fault(&rt, rt.alloc(), call, file, line)?;
     }
     Ok(())
+}
+
+fn judge_prefix(rt: &impl Abort, exit: Exit, held: usize, written: &[u8]) {
+    assert_eq!(rt; exit, Exit::WriteFault, "{held}");
+    assert_eq!(rt; exit.status(), 4);
+    assert_eq!(rt; written.len(), held);
+    assert!(rt; scripts::wire_text().starts_with(written));
 }
 
 #[test]
 fn leaves_a_prefix_where_the_sink_fails(rt: HostRuntime) -> Result<(), Fail> {
     for (failing, room, held) in [(0, 2000, 0), (9, 100, 100), (9, 0, 0)] {
-        let outside = Outside {
-            reads: &[],
-            room,
-            writes: &[failing],
-        };
-        let (exit, sink) = answer_to_wire(rt.alloc(), outside)?;
-        assert_eq!(rt; exit, Exit::WriteFault, "room {room}");
-        assert_eq!(rt; exit.status(), 4);
-        assert_eq!(rt; sink.bytes().len(), held);
-        assert!(rt; scripts::wire_text().starts_with(sink.bytes()));
+        let mut sink = sink_of(rt.alloc(), room, failing)?;
+        let exit = answer_to_wire(rt.alloc(), NEVER, &mut sink)?;
+        judge_prefix(&rt, exit, held, sink.bytes());
     }
-    Ok(())
-}
-
-#[test]
-fn leaves_a_prefix_of_a_line(rt: HostRuntime) -> Result<(), Fail> {
-    let outside = Outside {
-        reads: &[],
-        room: 10,
-        writes: &[],
-    };
-    let (exit, sink) = answer_from(rt.alloc(), &[], &[], outside)?;
-    assert_eq!(rt; exit, Exit::Usage);
-    assert_eq!(rt; sink.bytes(), b"usage: gen".as_slice());
     Ok(())
 }
 
@@ -330,41 +215,45 @@ impl Sink for SlowSink {
     }
 }
 
-/// The answer over a shelf and a sink that go byte by byte and fail at these calls, and what the sink holds after it.
-fn byte_by_byte(alloc: Global, read: u64, write: u64) -> Result<(Exit, MemSink), Fail> {
-    let words = words_of(alloc, &THREE)?;
-    let files = files_of(
-        alloc,
-        &[scripts::wire(), scripts::source(), scripts::sink()],
-    )?;
-    let mut shelf = NarrowShelf {
-        shelf: MemShelf::new(files, numbers_of(alloc, &[read])?),
-    };
-    let mut sink = SlowSink {
-        sink: MemSink::new(alloc, 2000, numbers_of(alloc, &[write])?)?,
-    };
-    let exit = run(alloc, words.as_slice(), &mut shelf, &mut sink);
-    Ok((exit, sink.sink))
+/// What is answered over a shelf that goes byte by byte, where a read fails.
+fn byte_by_byte(alloc: Global, failing: u64, sink: &mut SlowSink) -> Result<Exit, NoMemory> {
+    let shelf = wire_shelf(alloc, failing)?;
+    let mut shelf = NarrowShelf { shelf };
+    Ok(answer(alloc, &WIRE, &mut shelf, sink)?)
 }
 
-/// A number of a call that never comes.
-const NEVER: u64 = 1_000_000;
+fn slow_sink(alloc: Global, failing: u64) -> Result<SlowSink, NoMemory> {
+    let sink = sink_of(alloc, 2000, failing)?;
+    Ok(SlowSink { sink })
+}
+
+/// The file that a call reads: each takes a call for each byte, and one that finds its end.
+fn file_of_call(call: usize) -> u32 {
+    let first = scripts::wire().len();
+    let second = first.saturating_add(scripts::source().len());
+    if call <= first {
+        1
+    } else if call <= second.saturating_add(1) {
+        2
+    } else {
+        3
+    }
+}
+
+/// How many calls read the three files.
+fn calls_of_all() -> usize {
+    let two = scripts::wire()
+        .len()
+        .saturating_add(scripts::source().len());
+    two.saturating_add(scripts::sink().len()).saturating_add(3)
+}
 
 #[test]
 fn reads_byte_by_byte(rt: HostRuntime) -> Result<(), Fail> {
-    // Each file takes a call for each byte, and one that finds its end.
-    let first = scripts::wire().len() as u64 + 1;
-    let second = first.saturating_add(scripts::source().len() as u64 + 1);
-    let all = second.saturating_add(scripts::sink().len() as u64 + 1);
-    for call in 0..all {
-        let file = if call < first {
-            1
-        } else if call < second {
-            2
-        } else {
-            3
-        };
-        let (exit, _) = byte_by_byte(rt.alloc(), call, NEVER)?;
+    for call in 0..calls_of_all() {
+        let mut sink = slow_sink(rt.alloc(), NEVER)?;
+        let exit = byte_by_byte(rt.alloc(), call as u64, &mut sink)?;
+        let file = file_of_call(call);
         assert_eq!(rt; exit, Exit::ReadFault { file }, "call {call}");
     }
     Ok(())
@@ -373,13 +262,18 @@ fn reads_byte_by_byte(rt: HostRuntime) -> Result<(), Fail> {
 #[test]
 fn writes_byte_by_byte(rt: HostRuntime) -> Result<(), Fail> {
     for call in 0..scripts::wire_text().len() {
-        let (exit, sink) = byte_by_byte(rt.alloc(), NEVER, call as u64)?;
-        assert_eq!(rt; exit, Exit::WriteFault, "call {call}");
-        assert_eq!(rt; sink.bytes().len(), call);
-        assert!(rt; scripts::wire_text().starts_with(sink.bytes()));
+        let mut sink = slow_sink(rt.alloc(), call as u64)?;
+        let exit = byte_by_byte(rt.alloc(), NEVER, &mut sink)?;
+        judge_prefix(&rt, exit, call, sink.sink.bytes());
     }
-    let (exit, sink) = byte_by_byte(rt.alloc(), NEVER, NEVER)?;
+    Ok(())
+}
+
+#[test]
+fn reads_and_writes_byte_by_byte(rt: HostRuntime) -> Result<(), Fail> {
+    let mut sink = slow_sink(rt.alloc(), NEVER)?;
+    let exit = byte_by_byte(rt.alloc(), NEVER, &mut sink)?;
     assert_eq!(rt; exit, Exit::Done);
-    assert_eq!(rt; sink.bytes(), scripts::wire_text());
+    assert_eq!(rt; sink.sink.bytes(), scripts::wire_text());
     Ok(())
 }

@@ -5,10 +5,11 @@ ghost use Rattle.std.specs.Prelude.{◌≡◌, ◌^◌, ◌<◌, ◌≤◌, true
 use av_base::{Bytes, Val};
 use cycle_sim::Sim;
 use interconnect::{build, pending};
-use std::alloc::{AllocError, Global};
+use link_rules::Plan;
+use std::alloc::Global;
 use std::process::Abort;
 use std::test::Fail;
-use system_plan::plan_of;
+use system_plan::{Refusal, plan_of};
 
 fn bus() -> &'static [u8] {
     b"create_system bus\nadd_instance m master\nadd_instance s memory\nadd_connection m.h s.a\n"
@@ -57,18 +58,32 @@ fn file_of(alloc: Global, text: &[u8]) -> Result<Bytes, Fail>
     Ok(bytes)
 }
 
-/// The module of the host and the agent, before its first cycle.
-fn bus_sim(alloc: Global) -> Result<Sim, Fail> {
-    let files = [
-        file_of(alloc, bus())?,
-        file_of(alloc, master())?,
-        file_of(alloc, memory())?,
-    ];
-    let plan = plan_of(alloc, &files)?;
-    match pending(&plan) {
-        None => Ok(Sim::new(alloc, build(alloc, &plan)?.module)?),
+fn plan_of_three(alloc: Global, system: Bytes, host: Bytes, agent: Bytes) -> Result<Plan, Refusal>
+    requires system { length system < 2 ^ 31 }
+    requires host { length host < 2 ^ 31 }
+    requires agent { length agent < 2 ^ 31 }
+{
+    plan_of(alloc, &[system, host, agent])
+}
+
+fn bus_plan(alloc: Global) -> Result<Plan, Fail> {
+    let system = file_of(alloc, bus())?;
+    let host = file_of(alloc, master())?;
+    let agent = file_of(alloc, memory())?;
+    Ok(plan_of_three(alloc, system, host, agent)?)
+}
+
+/// The module of a plan, before its first cycle.
+fn sim_of(alloc: Global, plan: &Plan) -> Result<Sim, Fail> {
+    match pending(plan) {
+        None => Ok(Sim::new(alloc, build(alloc, plan)?.module)?),
         Some(_) => Err(Fail::new("the bus isn't built")),
     }
+}
+
+fn bus_sim(alloc: Global) -> Result<Sim, Fail> {
+    let plan = bus_plan(alloc)?;
+    sim_of(alloc, &plan)
 }
 
 /// The value with these bits, and 0 where they don't fit.
@@ -94,19 +109,21 @@ fn inputs_of(from_host: [u64; 5], from_agent: [u64; 3]) -> [Val; 8] {
     ]
 }
 
-/// The values at the outputs in the present cycle, in header order.
-fn outputs_of(alloc: Global, sim: &Sim) -> Result<Vec<u128>, AllocError>
+/// Whether these values stand at the outputs in the present cycle, in header order.
+fn shows(sim: &Sim, values: &[u128]) -> bool
     requires { sim.now.stepped ≡ true }
 {
     // there are fewer than 2^32 ports
     sim.module().well_made();
-    let mut shown = Vec::new(alloc);
+    let mut rest = values;
+    let mut same = true;
     for (port, line) in sim.module().ports().iter().enumerate() {
         if line.output {
-            shown.push(sim.output(port as u32).bits())?;
+            same &= rest.first() == Some(&sim.output(port as u32).bits());
+            rest = rest.get(1..).unwrap_or(&[]);
         }
     }
-    Ok(shown)
+    same && rest.is_empty()
 }
 
 /// What the host gives (address, read, write, word, byte enables), what the agent gives (wait, word, valid), what the host sees (wait, word,
@@ -152,18 +169,26 @@ fn cycles() -> [([u64; 5], [u64; 3], [u128; 9]); 11] {
     ]
 }
 
+/// A cycle: what the ends give, and what they see.
+fn step(
+    rt: &impl Abort,
+    sim: &mut Sim,
+    from_host: [u64; 5],
+    from_agent: [u64; 3],
+    seen: [u128; 9],
+) {
+    let inputs = inputs_of(from_host, from_agent);
+    assert!(rt; sim.fits(&inputs));
+    sim.step(&inputs);
+    assert!(rt; shows(sim, &seen));
+    sim.advance();
+}
+
 #[test]
 fn holds_a_third_read_back(rt: HostRuntime) -> Result<(), Fail> {
-    let alloc = rt.alloc();
-    let mut sim = bus_sim(alloc)?;
-    for (from_host, from_agent, expected) in cycles() {
-        let inputs = inputs_of(from_host, from_agent);
-        if !sim.fits(&inputs) {
-            return Err(Fail::new("these aren't inputs of the bus"));
-        }
-        sim.step(&inputs);
-        assert_eq!(rt; outputs_of(alloc, &sim)?.as_slice(), expected.as_slice());
-        sim.advance();
+    let mut sim = bus_sim(rt.alloc())?;
+    for (from_host, from_agent, seen) in cycles() {
+        step(&rt, &mut sim, from_host, from_agent, seen);
     }
     Ok(())
 }

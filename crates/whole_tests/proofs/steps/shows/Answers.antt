@@ -1,7 +1,7 @@
 use Rattle.std.proofs.Common.{refl, sym, ap, ◌∙◌, length, slice_get}
 use Rattle.std.proofs.lemmas.Option.{slice_get_read}
 use Rattle.netlist.specs.Netlists.{Netlist}
-use Rattle.whole_tests.proofs.steps.outputs_of.Goals as goal
+use Rattle.whole_tests.proofs.steps.shows.Goals as goal
 
 pub output-requires-clause-port_is : goal.output-requires-clause-port_is
 output-requires-clause-port_is c =
