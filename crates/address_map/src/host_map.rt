@@ -22,9 +22,16 @@ pub struct MapEntry {
 }
 
 /// The map of one host: its entries by rising address.
-#[derive(Debug, Drop)]
+#[derive(Debug)]
 pub(crate) struct HostMap {
     entries: Vec<MapEntry>,
+}
+
+/// By hand, so that what drops one calls this, and isn't followed through its fields.
+impl Drop for HostMap {
+    fn drop(self) {
+        let HostMap { entries: _ } = self;
+    }
 }
 
 impl Model for HostMap {

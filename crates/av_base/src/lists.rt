@@ -5,9 +5,16 @@ use std::alloc::Global;
 use std::marker::Model;
 
 /// Bytes in memory.
-#[derive(Debug, Drop)]
+#[derive(Debug)]
 pub struct Bytes {
     bytes: Vec<u8>,
+}
+
+/// By hand, so that what drops one calls this, and isn't followed through its fields.
+impl Drop for Bytes {
+    fn drop(self) {
+        let Bytes { bytes: _ } = self;
+    }
 }
 
 impl Model for Bytes {
@@ -69,9 +76,16 @@ impl From<String> for Bytes {
 }
 
 /// A text, seen as its bytes.
-#[derive(Debug, Drop)]
+#[derive(Debug)]
 pub struct Text {
     text: String,
+}
+
+/// By hand, so that what drops one calls this, and isn't followed through its fields.
+impl Drop for Text {
+    fn drop(self) {
+        let Text { text: _ } = self;
+    }
 }
 
 impl Model for Text {
@@ -105,9 +119,16 @@ impl Text {
 }
 
 /// A list of items in memory.
-#[derive(Debug, Drop)]
+#[derive(Debug)]
 pub struct List<T> {
     items: Vec<T>,
+}
+
+/// By hand, so that what drops one calls this, and isn't followed through its fields.
+impl<T: Drop> Drop for List<T> {
+    fn drop(self) {
+        let List { items: _ } = self;
+    }
 }
 
 impl<T> Model for List<T> {

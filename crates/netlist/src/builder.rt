@@ -24,13 +24,19 @@ const MEMORY_LIMIT: usize = 1 << 16;
 ///
 /// Each maker appends one equation and keeps all that stand there. After a refusal the builder is unchanged.
 /// A `Net` or `Mem` argument must be one of this builder.
-#[derive(Drop)]
 pub struct Builder {
     name: Text,
     ports: List<PortLine>,
     lines: Vec<Line>,
     drivers: Vec<Option<u32>>,
     memories: Vec<Memory>,
+}
+
+/// By hand, so that what drops one calls this, and isn't followed through its fields.
+impl Drop for Builder {
+    fn drop(self) {
+        let Builder { name: _, ports: _, lines: _, drivers: _, memories: _ } = self;
+    }
 }
 
 impl Model for Builder {
@@ -555,13 +561,14 @@ impl Builder {
         ensures same { result ≡ self }
         ensures module { IsModule result }
     {
-        Module::new(
-            self.name,
-            self.ports,
-            self.lines,
-            self.drivers,
-            self.memories,
-        )
+        let Builder {
+            name,
+            ports,
+            lines,
+            drivers,
+            memories,
+        } = self;
+        Module::new(name, ports, lines, drivers, memories)
     }
 
     /// What a builder keeps.

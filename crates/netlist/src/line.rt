@@ -81,11 +81,17 @@ impl Mem {
 }
 
 /// A port of a module: its width in bits, and whether the module drives it.
-#[derive(Drop)]
 pub struct PortLine {
     pub name: Text,
     pub width: u8,
     pub output: bool,
+}
+
+/// By hand, so that what drops one calls this, and isn't followed through its fields.
+impl Drop for PortLine {
+    fn drop(self) {
+        let PortLine { name: _, width: _, output: _ } = self;
+    }
 }
 
 /// What gives a net its value. Nets, ports and memories are named by number; the operators are those of `Val`.

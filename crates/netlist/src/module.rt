@@ -6,13 +6,19 @@ use av_base::{List, Text};
 use std::marker::Model;
 
 /// A whole module: its header, its nets, what drives its outputs, and its memories.
-#[derive(Drop)]
 pub struct Module {
     name: Text,
     ports: List<PortLine>,
     lines: Vec<Line>,
     drivers: Vec<Option<u32>>,
     memories: Vec<Memory>,
+}
+
+/// By hand, so that what drops one calls this, and isn't followed through its fields.
+impl Drop for Module {
+    fn drop(self) {
+        let Module { name: _, ports: _, lines: _, drivers: _, memories: _ } = self;
+    }
 }
 
 impl Model for Module {

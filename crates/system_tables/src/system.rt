@@ -11,21 +11,35 @@ use iface_roles::Finished;
 use std::marker::Model;
 
 /// An instance of a component.
-#[derive(Debug, Drop)]
+#[derive(Debug)]
 pub struct Instance {
     pub name: Text,
     /// The number of its component among those that the system keeps.
     pub component: usize,
 }
 
+/// By hand, so that what drops one calls this, and isn't followed through its fields.
+impl Drop for Instance {
+    fn drop(self) {
+        let Instance { name: _, component: _ } = self;
+    }
+}
+
 /// A system that keeps the rules, with the interfaces of the components that its instances name.
-#[derive(Debug, Drop)]
+#[derive(Debug)]
 pub struct System {
     name: Text,
     stages: u8,
     components: List<List<InterfaceTable>>,
     instances: Vec<Instance>,
     connections: List<Connection>,
+}
+
+/// By hand, so that what drops one calls this, and isn't followed through its fields.
+impl Drop for System {
+    fn drop(self) {
+        let System { name: _, stages: _, components: _, instances: _, connections: _ } = self;
+    }
 }
 
 impl Model for System {

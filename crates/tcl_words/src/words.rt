@@ -124,10 +124,17 @@ fn piece_at(
 }
 
 /// The commands of a script, in order, each a list of words.
-#[derive(Debug, Drop)]
+#[derive(Debug)]
 pub struct Commands {
     lines: List<List<Word>>,
     end: Place,
+}
+
+/// By hand, so that what drops one calls this, and isn't followed through its fields.
+impl Drop for Commands {
+    fn drop(self) {
+        let Commands { lines: _, end: _ } = self;
+    }
 }
 
 impl Model for Commands {
