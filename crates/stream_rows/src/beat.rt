@@ -3,7 +3,7 @@
 use crate::end::End;
 use std::alloc::{AllocError, Global};
 
-#[derive(Clone, Copy, Debug, PartialEq, Eq)]
+#[derive(Clone, Copy, PartialEq)]
 pub struct Beat {
     pub word: u128,
     pub first: bool,
@@ -15,7 +15,7 @@ pub struct Beat {
 }
 
 /// A symbol and the marks that it bears.
-#[derive(Clone, Copy, Debug, PartialEq, Eq)]
+#[derive(Clone, Copy, PartialEq)]
 pub struct Symbol {
     pub value: u128,
     pub first: bool,
@@ -91,29 +91,23 @@ impl Beat {
     }
 }
 
-fn number_mark(alloc: Global, name: &str, number: u32) -> Result<String, AllocError> {
+fn push_mark(text: &mut String, name: &str, number: u32) -> Result<(), AllocError> {
     if number == 0 {
-        String::from_str(alloc, "")
-    } else {
-        format!(in alloc; "/{name}={number}")
+        return Ok(());
     }
+    write!(text, "/{name}={number}")
 }
 
-/// The marks of a packet.
-fn packet_marks(alloc: Global, beat: &Beat) -> Result<String, AllocError> {
+/// Appends a beat as the rows write it.
+pub fn push_beat(text: &mut String, beat: &Beat) -> Result<(), AllocError> {
+    let word = beat.word;
     let first = if beat.first { "/s" } else { "" };
     let last = if beat.last { "/e" } else { "" };
     let empty = if beat.last { beat.empty } else { 0 };
-    let empty = number_mark(alloc, "empty", u32::from(empty))?;
-    format!(in alloc; "{first}{last}{empty}")
-}
-
-/// A beat as the rows write it.
-pub fn text_of(alloc: Global, beat: &Beat) -> Result<String, AllocError> {
-    let marks = packet_marks(alloc, beat)?;
-    let channel = number_mark(alloc, "channel", beat.channel)?;
-    let error = number_mark(alloc, "error", beat.error)?;
-    format!(in alloc; "{:x}{marks}{channel}{error}", beat.word)
+    write!(text, " {word:x}{first}{last}")?;
+    push_mark(text, "empty", u32::from(empty))?;
+    push_mark(text, "channel", beat.channel)?;
+    push_mark(text, "error", beat.error)
 }
 
 /// The symbols of beats, in order.

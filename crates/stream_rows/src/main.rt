@@ -10,96 +10,100 @@ mod scripts;
 mod steps;
 
 use av_base::NoMemory;
-use beat::{Beat, symbols_of, text_of};
+use beat::{Beat, Symbol, push_beat, symbols_of};
 use bench::Tally;
 use row::Row;
 use std::alloc::{AllocError, Global};
 use std::io;
 use steps::run_row;
 
-/// When the beats came.
-fn cycles_of(alloc: Global, tally: &Tally) -> Result<String, AllocError> {
-    if tally.beats.is_empty() {
-        String::from_str(alloc, "")
-    } else {
-        format!(in alloc; ", in cycles {} to {}", tally.first, tally.last)
+/// Appends when the beats came, how many didn't reach the sink, and whether the source was held back.
+fn push_pace(text: &mut String, tally: &Tally) -> Result<(), AllocError> {
+    if !tally.in_time {
+        text.push_str(", out of time")?;
     }
-}
-
-/// How many beats didn't reach the sink.
-fn loss_of(alloc: Global, tally: &Tally) -> Result<String, AllocError> {
-    if tally.dropped == 0 {
-        String::from_str(alloc, "")
-    } else {
-        format!(in alloc; ", {} dropped", tally.dropped)
+    if !tally.beats.is_empty() {
+        write!(text, ", in cycles {} to {}", tally.first, tally.last)?;
     }
-}
-
-/// Whether the source was held back.
-fn wait_of(alloc: Global, tally: &Tally) -> Result<String, AllocError> {
+    if tally.dropped > 0 {
+        write!(text, ", {} dropped", tally.dropped)?;
+    }
     match tally.held_back {
-        None => String::from_str(alloc, "the source never held back"),
-        Some(cycle) => format!(in alloc; "the source held back in cycle {cycle}"),
+        None => text.push_str(", the source never held back"),
+        Some(cycle) => write!(text, ", the source held back in cycle {cycle}"),
     }
 }
 
-/// The beats that came.
-fn beats_of(alloc: Global, beats: &[Beat]) -> Result<String, AllocError> {
-    let mut text = String::from_str(
-        alloc,
-        if beats.is_empty() {
-            "got nothing"
-        } else {
-            "got"
-        },
-    )?;
+/// Appends the beats that came.
+fn push_beats(text: &mut String, beats: &[Beat]) -> Result<(), AllocError> {
+    text.push_str(if beats.is_empty() {
+        " got nothing"
+    } else {
+        " got"
+    })?;
     for beat in beats {
-        text.push_str(" ")?;
-        text.push_str(text_of(alloc, beat)?.as_str())?;
+        push_beat(text, beat)?;
     }
-    Ok(text)
+    Ok(())
 }
 
-/// Whether what came is the beginning of what was sent.
-fn symbols_told(alloc: Global, row: &Row, tally: &Tally) -> Result<String, AllocError> {
-    let sent = symbols_of(alloc, &row.source, row.beats.as_slice())?;
-    let came = symbols_of(alloc, &row.sink, tally.beats.as_slice())?;
-    let order = if sent.as_slice().starts_with(came.as_slice()) {
+/// Appends whether what came is the beginning of what was sent.
+fn push_order(
+    text: &mut String,
+    sent: &[Symbol],
+    came: &[Symbol],
+    beats: usize,
+) -> Result<(), AllocError> {
+    let order = if sent.starts_with(came) {
         "each once and in order"
     } else {
         "lost, doubled or out of order"
     };
-    format!(in alloc;
-        "{} of {} symbols in {} beats, {order}",
+    write!(
+        text,
+        " {} of {} symbols in {beats} beats, {order}",
         came.len(),
-        sent.len(),
-        tally.beats.len()
+        sent.len()
     )
 }
 
-/// What is said of a row's run.
-fn run_of(alloc: Global, row: &Row, tally: &Tally) -> Result<String, AllocError> {
-    let what = if row.counted {
-        symbols_told(alloc, row, tally)?
-    } else {
-        beats_of(alloc, tally.beats.as_slice())?
-    };
-    let pace = if tally.in_time { "" } else { ", out of time" };
-    let cycles = cycles_of(alloc, tally)?;
-    let loss = loss_of(alloc, tally)?;
-    let wait = wait_of(alloc, tally)?;
-    format!(in alloc; "{what}{pace}{cycles}{loss}, {wait}")
+fn push_symbols(
+    alloc: Global,
+    text: &mut String,
+    row: &Row,
+    beats: &[Beat],
+) -> Result<(), AllocError> {
+    let sent = symbols_of(alloc, &row.source, row.beats.as_slice())?;
+    let came = symbols_of(alloc, &row.sink, beats)?;
+    push_order(text, sent.as_slice(), came.as_slice(), beats.len())
 }
 
-/// What is said of a line.
-fn answer_of(alloc: Global, line: &str) -> Result<String, NoMemory> {
+/// Appends what is said of a row's run.
+fn push_run(alloc: Global, text: &mut String, row: &Row, tally: &Tally) -> Result<(), AllocError> {
+    if row.counted {
+        push_symbols(alloc, text, row, tally.beats.as_slice())?;
+    } else {
+        push_beats(text, tally.beats.as_slice())?;
+    }
+    push_pace(text, tally)
+}
+
+/// Appends what is said of a line.
+fn push_answer(alloc: Global, text: &mut String, line: &str) -> Result<(), NoMemory> {
     let Some(row) = Row::read(alloc, line)? else {
-        return Ok(String::from_str(alloc, "not a row")?);
+        return Ok(text.push_str(" not a row")?);
     };
     match run_row(alloc, &row)? {
-        Some(tally) => Ok(run_of(alloc, &row, &tally)?),
-        None => Ok(String::from_str(alloc, "not built")?),
+        Some(tally) => push_run(alloc, text, &row, &tally)?,
+        None => text.push_str(" not built")?,
     }
+    Ok(())
+}
+
+fn answer_of(alloc: Global, line: &str) -> Result<String, NoMemory> {
+    let mut text = String::new(alloc);
+    push_answer(alloc, &mut text, line)?;
+    Ok(text)
 }
 
 fn main(rt: HostRuntime) -> io::Result<()> {
@@ -109,7 +113,7 @@ fn main(rt: HostRuntime) -> io::Result<()> {
         let Ok(answer) = answer_of(alloc, line.as_str()) else {
             return Err(io::ErrorKind::OutOfMemory.into());
         };
-        println!(rt; "{line}: {answer}")?;
+        println!(rt; "{line}:{answer}")?;
     }
     Ok(())
 }

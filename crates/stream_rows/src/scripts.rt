@@ -17,101 +17,103 @@ struct Names<'a> {
     beat: &'a str,
 }
 
-/// A port of so many bits, none where there are 0.
-fn port(
-    alloc: Global,
+/// Appends a port of so many bits, none where there are 0.
+fn push_port(
+    text: &mut String,
     interface: &str,
     role: &str,
     direction: &str,
     bits: u16,
-) -> Result<String, AllocError> {
+) -> Result<(), AllocError> {
     if bits == 0 {
-        return String::from_str(alloc, "");
+        return Ok(());
     }
-    format!(in alloc; "add_interface_port {interface} {role} {role} {direction} {bits}\n")
-}
-
-/// The ports of the beat's data.
-fn data_ports(alloc: Global, names: &Names, end: &End) -> Result<String, AllocError> {
-    let width = u16::from(end.symbols).saturating_mul(u16::from(end.bits));
-    let valid = port(alloc, names.interface, "valid", names.beat, 1)?;
-    let data = port(alloc, names.interface, "data", names.beat, width)?;
-    let channel = port(
-        alloc,
-        names.interface,
-        "channel",
-        names.beat,
-        u16::from(end.channel_bits),
-    )?;
-    let error = port(
-        alloc,
-        names.interface,
-        "error",
-        names.beat,
-        u16::from(end.error_bits),
-    )?;
-    format!(in alloc; "{valid}{data}{channel}{error}")
-}
-
-/// The ports of packets.
-fn packet_ports(alloc: Global, names: &Names, end: &End) -> Result<String, AllocError> {
-    let marks = u16::from(end.packets);
-    let first = port(alloc, names.interface, "startofpacket", names.beat, marks)?;
-    let last = port(alloc, names.interface, "endofpacket", names.beat, marks)?;
-    let empty = port(
-        alloc,
-        names.interface,
-        "empty",
-        names.beat,
-        u16::from(end.empty_bits),
-    )?;
-    format!(in alloc; "{first}{last}{empty}")
-}
-
-/// The ready latency and the port.
-fn ready_of(alloc: Global, names: &Names, end: &End) -> Result<String, AllocError> {
-    let Some(latency) = end.latency else {
-        return String::from_str(alloc, "");
-    };
-    let ready = port(alloc, names.interface, "ready", names.ready, 1)?;
-    format!(in alloc;
-        "set_interface_property {} readyLatency {latency}\n{ready}",
-        names.interface
+    write!(
+        text,
+        "add_interface_port {interface} {role} {role} {direction} {bits}\n"
     )
 }
 
-/// What is set of symbols and channels.
-fn settings_of(alloc: Global, names: &Names, end: &End) -> Result<String, AllocError> {
+/// Appends the ports of the beat.
+fn push_ports(text: &mut String, names: &Names, end: &End) -> Result<(), AllocError> {
+    let marks = u16::from(end.packets);
+    let roles = [
+        ("valid", 1),
+        (
+            "data",
+            u16::from(end.symbols).saturating_mul(u16::from(end.bits)),
+        ),
+        ("channel", u16::from(end.channel_bits)),
+        ("error", u16::from(end.error_bits)),
+        ("startofpacket", marks),
+        ("endofpacket", marks),
+        ("empty", u16::from(end.empty_bits)),
+    ];
+    for (role, bits) in roles {
+        push_port(text, names.interface, role, names.beat, bits)?;
+    }
+    Ok(())
+}
+
+/// Appends a property of the interface.
+fn push_property(
+    text: &mut String,
+    interface: &str,
+    property: &str,
+    value: u32,
+) -> Result<(), AllocError> {
+    write!(
+        text,
+        "set_interface_property {interface} {property} {value}\n"
+    )
+}
+
+/// Appends the ready latency and the port.
+fn push_ready(text: &mut String, names: &Names, end: &End) -> Result<(), AllocError> {
+    let Some(latency) = end.latency else {
+        return Ok(());
+    };
+    push_property(text, names.interface, "readyLatency", u32::from(latency))?;
+    push_port(text, names.interface, "ready", names.ready, 1)
+}
+
+/// Appends what is set of symbols and channels.
+fn push_settings(text: &mut String, interface: &str, end: &End) -> Result<(), AllocError> {
     let high = if end.low_first { "false" } else { "true" };
-    let order = format!(in alloc;
-        "set_interface_property {} firstSymbolInHighOrderBits {high}\n",
-        names.interface
+    write!(
+        text,
+        "set_interface_property {interface} firstSymbolInHighOrderBits {high}\n"
     )?;
-    let symbols = format!(in alloc;
-        "set_interface_property {} symbolsPerBeat {}\n",
-        names.interface, end.symbols
+    let properties = [
+        ("symbolsPerBeat", u32::from(end.symbols)),
+        ("dataBitsPerSymbol", u32::from(end.bits)),
+        ("maxChannel", end.largest_channel),
+    ];
+    for (property, value) in properties {
+        push_property(text, interface, property, value)?;
+    }
+    Ok(())
+}
+
+fn push_component(text: &mut String, names: &Names, end: &End) -> Result<(), AllocError> {
+    let Names {
+        component,
+        interface,
+        side,
+        ..
+    } = *names;
+    write!(
+        text,
+        "package require -exact qsys 16.0\nset_module_property NAME {component}\nadd_interface {interface} avalon_streaming {side}\n"
     )?;
-    let bits = format!(in alloc;
-        "set_interface_property {} dataBitsPerSymbol {}\n",
-        names.interface, end.bits
-    )?;
-    let channels = format!(in alloc;
-        "set_interface_property {} maxChannel {}\n",
-        names.interface, end.largest_channel
-    )?;
-    format!(in alloc; "{order}{symbols}{bits}{channels}")
+    push_settings(text, interface, end)?;
+    push_ready(text, names, end)?;
+    push_ports(text, names, end)
 }
 
 fn component(alloc: Global, names: &Names, end: &End) -> Result<Bytes, AllocError> {
-    let settings = settings_of(alloc, names, end)?;
-    let ready = ready_of(alloc, names, end)?;
-    let data = data_ports(alloc, names, end)?;
-    let packet = packet_ports(alloc, names, end)?;
-    let head = format!(in alloc;
-        "package require -exact qsys 16.0\nset_module_property NAME {}\nadd_interface {} avalon_streaming {}\n",
-        names.component, names.interface, names.side
-    )?;
-    let text = format!(in alloc; "{head}{settings}{ready}{data}{packet}")?;
+    let mut text = String::new(alloc);
+    push_component(&mut text, names, end)?;
     Ok(Bytes::from(text))
 }
 
@@ -129,27 +131,29 @@ fn is_short(text: &Bytes) -> bool
     text.len() < 4096
 }
 
+const SOURCE: Names<'static> = Names {
+    component: "source",
+    interface: "out",
+    side: "start",
+    ready: "Input",
+    beat: "Output",
+};
+
+const SINK: Names<'static> = Names {
+    component: "sink",
+    interface: "into",
+    side: "end",
+    ready: "Output",
+    beat: "Input",
+};
+
 /// The system's file and those of its components, where they are short.
 pub fn files_of(alloc: Global, row: &Row) -> Result<Option<[Bytes; 3]>, AllocError>
     ensures { IfOk result (λ files. IfSome files (All (λ bytes. length bytes < 2 ^ 31))) }
 {
-    let source = Names {
-        component: "source",
-        interface: "out",
-        side: "start",
-        ready: "Input",
-        beat: "Output",
-    };
-    let sink = Names {
-        component: "sink",
-        interface: "into",
-        side: "end",
-        ready: "Output",
-        beat: "Input",
-    };
     let system = system(alloc, row.depth)?;
-    let source = component(alloc, &source, &row.source)?;
-    let sink = component(alloc, &sink, &row.sink)?;
+    let source = component(alloc, &SOURCE, &row.source)?;
+    let sink = component(alloc, &SINK, &row.sink)?;
     if is_short(&system) && is_short(&source) && is_short(&sink) {
         Ok(Some([system, source, sink]))
     } else {

@@ -155,6 +155,43 @@ fn seen_in(sim: &Sim, places: &Places) -> Seen
     }
 }
 
+/// A cycle; false where its inputs are not those of a row.
+fn run_cycle(
+    alloc: Global,
+    sim: &mut Sim,
+    bench: &mut Bench,
+    places: &Places,
+    row: &Row,
+    cycle: u32,
+) -> Result<bool, AllocError> {
+    let shown = bench.shows(row, cycle);
+    let inputs = inputs_of(alloc, sim.module().ports(), places, &shown)?;
+    if !sim.fits(inputs.as_slice()) {
+        return Ok(false);
+    }
+    sim.step(inputs.as_slice());
+    let seen = seen_in(sim, places);
+    bench.sees(row, shown, seen, cycle)?;
+    sim.advance();
+    Ok(true)
+}
+
+/// The cycles of a row; false where its inputs are not those of a row.
+fn run_cycles(
+    alloc: Global,
+    sim: &mut Sim,
+    bench: &mut Bench,
+    places: &Places,
+    row: &Row,
+) -> Result<bool, AllocError> {
+    for cycle in 0..row.cycles {
+        if !run_cycle(alloc, sim, bench, places, row, cycle)? {
+            return Ok(false);
+        }
+    }
+    Ok(true)
+}
+
 /// What comes of a row whose module is built; None where its inputs are not those of a row.
 fn stepped(
     alloc: Global,
@@ -164,18 +201,11 @@ fn stepped(
 ) -> Result<Option<Tally>, NoMemory> {
     let mut sim = Sim::new(alloc, module)?;
     let mut bench = Bench::new(alloc);
-    for cycle in 0..row.cycles {
-        let shown = bench.shows(row, cycle);
-        let inputs = inputs_of(alloc, sim.module().ports(), places, &shown)?;
-        if !sim.fits(inputs.as_slice()) {
-            return Ok(None);
-        }
-        sim.step(inputs.as_slice());
-        let seen = seen_in(&sim, places);
-        bench.sees(row, shown, seen, cycle)?;
-        sim.advance();
+    if run_cycles(alloc, &mut sim, &mut bench, places, row)? {
+        Ok(Some(bench.tally))
+    } else {
+        Ok(None)
     }
-    Ok(Some(bench.tally))
 }
 
 /// The port that shows dropped beats.
@@ -186,25 +216,34 @@ fn dropped_of(module: &Module) -> Option<u32> {
     Some(number)
 }
 
+/// The plan of a row; None where its files are refused.
+fn planned(alloc: Global, row: &Row) -> Result<Option<Plan>, NoMemory> {
+    match files_of(alloc, row)? {
+        Some(files) => Ok(plan_of(alloc, &files).ok()),
+        None => Ok(None),
+    }
+}
+
+fn places_of(plan: &Plan, module: &Module, ports: &PortMap) -> Option<Places> {
+    let stream = plan.connections().first()?;
+    Some(Places {
+        source: end_places(ports, stream.start),
+        sink: end_places(ports, stream.end),
+        dropped: dropped_of(module),
+    })
+}
+
 /// Builds the module of a row and steps it. None where the system is refused or not built yet.
 pub fn run_row(alloc: Global, row: &Row) -> Result<Option<Tally>, NoMemory> {
-    let Some(files) = files_of(alloc, row)? else {
-        return Ok(None);
-    };
-    let Ok(plan) = plan_of(alloc, &files) else {
+    let Some(plan) = planned(alloc, row)? else {
         return Ok(None);
     };
     if pending(&plan).is_some() {
         return Ok(None);
     }
     let Built { module, ports } = build(alloc, &plan)?;
-    let Some(stream) = plan.connections().first() else {
-        return Ok(None);
-    };
-    let places = Places {
-        source: end_places(&ports, stream.start),
-        sink: end_places(&ports, stream.end),
-        dropped: dropped_of(&module),
-    };
-    stepped(alloc, module, &places, row)
+    match places_of(&plan, &module, &ports) {
+        Some(places) => stepped(alloc, module, &places, row),
+        None => Ok(None),
+    }
 }
