@@ -35,7 +35,13 @@ pub struct Builder {
 /// By hand, so that what drops one calls this, and isn't followed through its fields.
 impl Drop for Builder {
     fn drop(self) {
-        let Builder { name: _, ports: _, lines: _, drivers: _, memories: _ } = self;
+        let Builder {
+            name: _,
+            ports: _,
+            lines: _,
+            drivers: _,
+            memories: _,
+        } = self;
     }
 }
 

@@ -90,7 +90,11 @@ pub struct PortLine {
 /// By hand, so that what drops one calls this, and isn't followed through its fields.
 impl Drop for PortLine {
     fn drop(self) {
-        let PortLine { name: _, width: _, output: _ } = self;
+        let PortLine {
+            name: _,
+            width: _,
+            output: _,
+        } = self;
     }
 }
 

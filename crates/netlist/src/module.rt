@@ -17,7 +17,13 @@ pub struct Module {
 /// By hand, so that what drops one calls this, and isn't followed through its fields.
 impl Drop for Module {
     fn drop(self) {
-        let Module { name: _, ports: _, lines: _, drivers: _, memories: _ } = self;
+        let Module {
+            name: _,
+            ports: _,
+            lines: _,
+            drivers: _,
+            memories: _,
+        } = self;
     }
 }
 

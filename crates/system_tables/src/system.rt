@@ -21,7 +21,10 @@ pub struct Instance {
 /// By hand, so that what drops one calls this, and isn't followed through its fields.
 impl Drop for Instance {
     fn drop(self) {
-        let Instance { name: _, component: _ } = self;
+        let Instance {
+            name: _,
+            component: _,
+        } = self;
     }
 }
 
@@ -38,7 +41,13 @@ pub struct System {
 /// By hand, so that what drops one calls this, and isn't followed through its fields.
 impl Drop for System {
     fn drop(self) {
-        let System { name: _, stages: _, components: _, instances: _, connections: _ } = self;
+        let System {
+            name: _,
+            stages: _,
+            components: _,
+            instances: _,
+            connections: _,
+        } = self;
     }
 }
 

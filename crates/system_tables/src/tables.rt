@@ -41,7 +41,13 @@ pub struct InterfaceTable {
 /// By hand, so that what drops one calls this, and isn't followed through its fields.
 impl Drop for InterfaceTable {
     fn drop(self) {
-        let InterfaceTable { name: _, kind: _, side: _, clock: _, finished: _ } = self;
+        let InterfaceTable {
+            name: _,
+            kind: _,
+            side: _,
+            clock: _,
+            finished: _,
+        } = self;
     }
 }
 
