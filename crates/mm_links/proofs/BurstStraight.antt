@@ -18,6 +18,7 @@ use Rattle.mm_links.specs.Bursts.{BurstState, RunsAsBurst, IsBurstPlan, Rest, is
 use Rattle.mm_links.proofs.OneBeat.{flat_mark, flat_at, reads_append}
 use Rattle.mm_links.proofs.Prompt.{some_operation, within, front_get, only_then}
 use Rattle.mm_links.proofs.SplitPrompt.{get_low, get_end, take_front_of, some_in, is_some}
+use Rattle.mm_links.proofs.InStep.{earlier_is}
 use Rattle.mm_links.proofs.BurstParts.{Step, parts_in, above_of, steps, left_at, gone, up_steps, shows_same, waits_sending, takes_same, beat_first, beat_sending, rest_first, parts_step}
 use Rattle.mm_links.proofs.BurstSteps.{Sent, AllSent, sent_at, all_operations, all_reads, same_operations}
 use Rattle.mm_links.proofs.BurstSteps.Sent.{last_beat, more_beats}
@@ -56,20 +57,6 @@ module _ (target : Target) (up down : Port) (state : BurstState) (plan : IsBurst
       by_sends : (b : Bool) → is_sending state c ≡ b → is_sending state c ≡ false
       by_sends false e = e
       by_sends true e = let owes = sending_owes c h e in absurd (omega (arith, owes, given))
-
-  -- what stands before the beat that is shown was accepted before
-  earlier_is : (c : ℕ) → c < end → shows up.commands.signals c ≡ true → earlier_shown up c ≡ taken_at up c
-  earlier_is c h shown =
-      let whole : shown_at up (suc c) ≡ taken_at up c ++ marked_at up c ∷ [] = up_side c h ∙ by_take (takes up c) refl in
-      let size = ap length whole ∙ length-append (taken_at up c) (marked_at up c ∷ []) in
-      let back : length (shown_at up (suc c)) - 1 ≡ length (taken_at up c) = omega (arith, size) in
-      ap₂ (λ n l. take n l) back whole ∙ take_front_of (taken_at up c) (marked_at up c ∷ [])
-    where
-      by_take : (t : Bool) → takes up c ≡ t → taken_at up (suc c) ++ only_if (is_held up.commands.signals (takes up) c) (marked_at up c) ≡ taken_at up c ++ marked_at up c ∷ []
-      by_take true t =
-          ap₂ (λ b s. (taken_at up c ++ only_if b (marked_at up c)) ++ only_if (s && not b) (marked_at up c)) t shown ∙ append-nil (taken_at up c ++ marked_at up c ∷ [])
-      by_take false t =
-          ap₂ (λ b s. (taken_at up c ++ only_if b (marked_at up c)) ++ only_if (s && not b) (marked_at up c)) t shown ∙ ap (λ l. l ++ marked_at up c ∷ []) (append-nil (taken_at up c))
 
   record IsPlainAt (c : ℕ) : Type 0 where
     pub shown : shows up.commands.signals c ≡ true
@@ -111,7 +98,7 @@ module _ (target : Target) (up down : Port) (state : BurstState) (plan : IsBurst
       idle_at c h shown may =
           let answered = (and_parts (are_just_taken target up down (earlier_shown up c) c) (are_answered up (earlier_shown up c) c) may).1 in
           let given = leb-true (length (read_beats (earlier_shown up c))) (length (words_at up c)) answered in
-          let same = ap (λ l. length (read_beats l)) (earlier_is c h shown) in
+          let same = ap (λ l. length (read_beats l)) (earlier_is up end legal c h shown) in
           idle_when_given c (omega (arith, h)) (omega (arith, given, same))
 
       kept : (c : ℕ) → c < end → IsPlainAt c → takes up c ≡ true → IsTrue (are_taken_below target up down (taken_at up (suc c)) (suc c))

@@ -22,6 +22,7 @@ pub mod SplitShown
 pub mod SplitJoins
 pub mod SplitLink
 pub mod SplitPrompt
+pub mod InStep
 pub mod BurstParts
 pub mod BurstSteps
 pub mod BurstLists

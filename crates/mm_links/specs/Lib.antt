@@ -1,5 +1,6 @@
 pub mod Going
 pub mod Links
+pub mod InStep
 pub mod Pipes
 pub mod Selects
 pub mod Splits
