@@ -1,9 +1,9 @@
--- Small runs of links, right and wrong: a wire, a pipe, a lane selector, a splitter and a cutter of bursts.
+-- Small runs of links, right and wrong: a wire, a pipe, a lane selector, a splitter, a cutter of bursts, and what keeps beats without a lane from an agent.
 use Rattle.std.specs.Prelude.{ℕ, true, List, [], ◌∷◌}
 use Rattle.mm_runs.specs.Views.{Shape}
 use Rattle.mm_machines.specs.Link.{Port, Target}
 use Rattle.mm_machines.specs.Lines.{TaggedPort}
-use Rattle.mm_links.specs.Driven.{Inputs, SelectInputs, PipeInputs, SplitInputs, BurstInputs}
+use Rattle.mm_links.specs.Driven.{Inputs, SelectInputs, PipeInputs, SplitInputs, BurstInputs, DropInputs}
 use Rattle.mm_examples.specs.Examples.{signal, always}
 use Rattle.mm_examples.specs.MoreExamples.{write_port}
 
@@ -204,5 +204,72 @@ behind_empty = record {
     tag = always 0;
     waitrequest = always 0;
     answers = record { valid = always 0; word = always 0; code = always 0 };
+  };
+}
+
+-- ---- what keeps beats without a lane from an agent
+
+-- a joined write to 8, 12, 16 and 20, of which 12 and 20 have no lane; then reads of 8, 12 and 16, of which 12 has none.
+-- The words of the other two come in cycles 6 and 9
+abbrev pub dropping : DropInputs
+dropping = record {
+  shape = lane_shape 4;
+  below = lane_shape 4;
+  room = 16;
+  inputs = record {
+    signals = record {
+      read = signal (0 ∷ 0 ∷ 0 ∷ 0 ∷ 1 ∷ 1 ∷ 1 ∷ 1 ∷ 1 ∷ []);
+      write = signal (1 ∷ 1 ∷ 1 ∷ 1 ∷ []);
+      address = signal (8 ∷ 12 ∷ 16 ∷ 20 ∷ 8 ∷ 12 ∷ 12 ∷ 12 ∷ 16 ∷ []);
+      word = signal (0xaa ∷ 0xbb ∷ 0xcc ∷ 0xdd ∷ []);
+      enables = signal (15 ∷ 0 ∷ 15 ∷ 0 ∷ 15 ∷ 0 ∷ 0 ∷ 0 ∷ 15 ∷ []);
+      count = always 1;
+    };
+    more = signal (1 ∷ 1 ∷ 1 ∷ 0 ∷ []);
+    tag = always 0;
+    waitrequest = always 0;
+    answers = record { valid = signal (0 ∷ 0 ∷ 0 ∷ 0 ∷ 0 ∷ 0 ∷ 1 ∷ 0 ∷ 0 ∷ 1 ∷ []); word = signal (0 ∷ 0 ∷ 0 ∷ 0 ∷ 0 ∷ 0 ∷ 0x11 ∷ 0 ∷ 0 ∷ 0x22 ∷ []); code = always 0 };
+  };
+}
+
+-- a port of byte beats, some of them without a lane
+abbrev pub lane_port : List ℕ → List ℕ → List ℕ → List ℕ → List ℕ → List ℕ → Port
+lane_port read write address enables more word = record {
+  shape = lane_shape 1;
+  commands = record {
+    signals = record { read = signal read; write = signal write; address = signal address; word = always 7; enables = signal enables; count = always 1 };
+    more = signal more;
+    tag = always 0;
+    waitrequest = always 0;
+  };
+  answers = record { valid = signal (0 ∷ 0 ∷ 1 ∷ 1 ∷ []); word = signal word; code = always 0 };
+}
+
+-- a write to 2 joined to one without a lane, then a write to 5; below, `more` of the first one is left as it is
+abbrev pub ends_without_lane : Port
+ends_without_lane = lane_port [] (1 ∷ 1 ∷ 1 ∷ []) (2 ∷ 3 ∷ 5 ∷ []) (1 ∷ 0 ∷ 1 ∷ []) (1 ∷ []) []
+
+abbrev pub stays_joined : Port
+stays_joined = lane_port [] (1 ∷ 1 ∷ []) (2 ∷ 5 ∷ []) (1 ∷ 1 ∷ []) (1 ∷ []) []
+
+-- a read of 2 and one without a lane; the word of the second comes before that of the first
+abbrev pub own_word_first : Port
+own_word_first = lane_port (1 ∷ 1 ∷ []) [] (2 ∷ 3 ∷ []) (1 ∷ 0 ∷ []) [] (0 ∷ 0 ∷ 0 ∷ 9 ∷ [])
+
+abbrev pub one_word : Port
+one_word = lane_port (1 ∷ []) [] (2 ∷ []) (1 ∷ []) [] (0 ∷ 0 ∷ 9 ∷ [])
+
+-- a read of 2 joined to one without a lane, then a write to 5
+abbrev pub mixed_reads : DropInputs
+mixed_reads = record {
+  shape = lane_shape 1;
+  below = lane_shape 1;
+  room = 16;
+  inputs = record {
+    signals = record { read = signal (1 ∷ 1 ∷ 1 ∷ []); write = signal (0 ∷ 0 ∷ 0 ∷ 1 ∷ []); address = signal (2 ∷ 3 ∷ 3 ∷ 5 ∷ []); word = always 7; enables = signal (1 ∷ 0 ∷ 0 ∷ 1 ∷ []); count = always 1 };
+    more = signal (1 ∷ []);
+    tag = always 0;
+    waitrequest = always 0;
+    answers = record { valid = signal (0 ∷ 1 ∷ []); word = always 9; code = always 0 };
   };
 }

@@ -5,10 +5,11 @@ ghost use Rattle.mm_runs.specs.Views.{levels_at};
 ghost use Rattle.mm_runs.specs.Commands.{shows};
 ghost use Rattle.mm_machines.specs.Link.{CarriesCommands, takes, words_at, taken_at};
 ghost use Rattle.mm_machines.specs.Lines.{BringsBack, PipeCarriesCommands, AreDelayed};
-ghost use Rattle.mm_links.specs.Driven.{select_above, select_below, split_above, split_below, burst_above, burst_below, pipe_run};
+ghost use Rattle.mm_links.specs.Driven.{select_above, select_below, split_above, split_below, burst_above, burst_below, drop_above, drop_below, pipe_run};
 ghost use Rattle.mm_links.specs.Pipes.{side_of};
 ghost use Rattle.mm_examples.specs.LinkRuns.{two_writes, hides_wait, shows_twice, selecting, lane_target, read_port, three_writes, tagged_port, stage_top, newer_first, answered_at_once, accepts_early, gathering, byte_lanes, byte_reads, swaps_bytes};
 ghost use Rattle.mm_examples.specs.LinkRuns.{cutting, two_bytes, two_beats, behind_empty};
+ghost use Rattle.mm_examples.specs.LinkRuns.{dropping, ends_without_lane, stays_joined, own_word_first, one_word, mixed_reads};
 ghost use Rattle.mm_machines.specs.Straight.{GoesStraightThrough};
 ghost use Rattle.mm_examples.specs.MoreExamples.{byte_target, byte_side};
 ghost use Rattle.mm_examples.specs.WireRows.{one_read_system};
@@ -64,4 +65,19 @@ pub fn bursts()
     ensures loose { CarriesCommands byte_lanes 1 (two_bytes []) (two_beats 0) 2 → ⊥ }
     ensures late { BringsBack byte_lanes (two_bytes (1 ∷ [])) (two_beats 1) 2 → ⊥ }
     ensures behind { GoesStraightThrough (λ c. true) byte_lanes (burst_above behind_empty) (burst_below behind_empty) 2 → ⊥ }
+{}
+
+/// Of a joined write those beats go on that have a lane, the last of them with `more` low. A read without a lane waits until nothing is
+/// owed, and is given 0 in the next cycle.
+/// What leaves `more` as it is joins two commands; what answers such a read before an earlier one brings wrong bytes. Where a read with a
+/// lane is joined to one without, the machine itself joins it to the next command, so it needs joined commands that are alike.
+pub fn drops()
+    ensures places { map (λ m. m.transfer.first) (taken_at (drop_below dropping) 10) ≡ 8 ∷ 16 ∷ 8 ∷ 16 ∷ [] }
+    ensures joined { map (λ m. m.more) (taken_at (drop_below dropping) 10) ≡ true ∷ false ∷ false ∷ false ∷ [] }
+    ensures kept { shows (drop_below dropping).commands.signals 0 ≡ false }
+    ensures waits { takes (drop_above dropping) 6 ≡ false }
+    ensures words { map (λ w. w.word) (words_at (drop_above dropping) 10) ≡ 0x11 ∷ 0 ∷ 0x22 ∷ [] }
+    ensures loose { CarriesCommands byte_target 1 ends_without_lane stays_joined 3 → ⊥ }
+    ensures early { BringsBack byte_target own_word_first one_word 4 → ⊥ }
+    ensures mixed { CarriesCommands byte_target 1 (drop_above mixed_reads) (drop_below mixed_reads) 4 → ⊥ }
 {}

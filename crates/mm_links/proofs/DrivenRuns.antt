@@ -11,6 +11,8 @@ use Rattle.mm_links.specs.Splits.{RunsAsSplit}
 use Rattle.mm_links.specs.Bursts.{RunsAsBurst, reads_from, write_beat_of, cut_parts, head_or}
 use Rattle.mm_links.specs.Driven.{BurstInputs, BurstRegisters, burst_raw, burst_sends, burst_beat, burst_shows, burst_part, burst_takes_below, burst_takes, burst_registers, burst_state, burst_above, burst_below}
 use Rattle.mm_links.specs.Driven.{SelectInputs, PipeInputs, select_above, select_below, select_queue, shuts, pipe_run, pipe_queues, raw_there, waits_there, takes_there, shows_raw, head_of, late_by, SplitInputs, split_registers, split_above, split_below, split_state, split_list, split_shows, split_part, split_opens, split_completes, part_at, silent_raw}
+use Rattle.mm_links.specs.Drops.{RunsAsDrop, sends, sent_beat}
+use Rattle.mm_links.specs.Driven.{DropInputs, DropRegisters, drop_raw, drop_stands, drop_part, drop_registers, drop_state, drop_above, drop_below}
 
 raised_one : (b : Bool) → is_raised (one_if b) ≡ b
 raised_one true = refl
@@ -224,3 +226,39 @@ module _ (given : BurstInputs) where
           by_sends true true w = refl
           by_sends true false w = refl
           by_sends false s w = refl
+
+-- ---- what keeps beats without a lane from an agent
+
+module _ (given : DropInputs) where
+  sent_shows : (now : DropRegisters) (c : ℕ) → shows given.inputs.signals c ≡ true → (kept : List Raw) → shows_raw (sent_beat kept (drop_raw given c) (drop_stands given now c).acts) ≡ true
+  sent_shows now c shown [] = shown
+  sent_shows now c shown (raw ∷ later) = refl
+
+  drop_shown : (now : DropRegisters) (c : ℕ) → shows_raw (drop_part given now c) ≡ sends given.room (drop_stands given now c)
+  drop_shown now c = by_sends (sends given.room (drop_stands given now c)) refl
+    where
+      by_sends : (b : Bool) → sends given.room (drop_stands given now c) ≡ b → shows_raw (if b then sent_beat now.kept (drop_raw given c) (drop_stands given now c).acts else silent_raw) ≡ b
+      by_sends false e = refl
+      by_sends true e = sent_shows now c (and_parts (shows given.inputs.signals c) _ e).0 now.kept
+
+  drop_accepts : (shown rest : Bool) → shown && not (is_raised (one_if (not (shown && rest)))) ≡ shown && rest
+  drop_accepts true true = refl
+  drop_accepts true false = refl
+  drop_accepts false rest = refl
+
+  pub drop_runs : RunsAsDrop given.room (drop_above given) (drop_below given) (drop_state given)
+  drop_runs = record {
+    shown = λ c. drop_shown (drop_registers given c) c;
+    beat = λ c shown. ap (λ b. if b then sent_beat (drop_registers given c).kept (drop_raw given c) (drop_stands given (drop_registers given c) c).acts else silent_raw)
+        (sym (drop_shown (drop_registers given c) c) ∙ shown);
+    accepts = λ c. drop_accepts (shows given.inputs.signals c) _;
+    kept_begins = refl;
+    kept_next = λ c. refl;
+    reads_begin = refl;
+    reads_next = λ c. refl;
+    own_begins = refl;
+    own_next = λ c. refl;
+    valid = λ c. raised_one ((drop_registers given c).own || is_raised (given.inputs.answers.valid c));
+    word = λ c. refl;
+    code = λ c. refl;
+  }

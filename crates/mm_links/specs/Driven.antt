@@ -1,16 +1,17 @@
 -- Runs of the machines, for all that is shown to them: the state is told by recursion on the cycle.
-use Rattle.std.specs.Prelude.{ℕ, zero, suc, ◌+◌, ◌-◌, ◌*◌, ◌/◌, ◌%◌, ◌^◌, max, ◌&&◌, ◌||◌, Bool, true, not, List, [], ◌∷◌, ◌++◌, length, drop, if◌then◌else◌, nat_lt, nat_eq}
+use Rattle.std.specs.Prelude.{ℕ, zero, suc, ◌+◌, ◌-◌, ◌*◌, ◌/◌, ◌%◌, ◌^◌, max, ◌&&◌, ◌||◌, Bool, true, false, not, List, [], ◌∷◌, ◌++◌, length, drop, if◌then◌else◌, nat_lt, nat_eq}
 use Rattle.histories.specs.History.{is_raised, one_if, only_if}
 use Rattle.mm_runs.specs.Views.{Shape, Signals, Levels, levels_at}
 use Rattle.mm_runs.specs.Commands.{Burst, shows, burst_after}
 use Rattle.mm_machines.specs.Paths.{CommandView, AnswerView}
-use Rattle.mm_machines.specs.Link.{Port}
+use Rattle.mm_machines.specs.Link.{Port, is_nonempty}
 use Rattle.mm_runs.specs.Legal.{Word}
 use Rattle.mm_machines.specs.Machines.{Raw, idle, split_parts, beat_of}
 use Rattle.mm_links.specs.Pipes.{PipeSides}
 use Rattle.mm_links.specs.Selects.{offset_in, selected, silenced, first_of}
 use Rattle.mm_links.specs.Splits.{SplitState, pieces_asked, are_same, nothing}
 use Rattle.mm_links.specs.Bursts.{BurstState, Rest, reads_from, cut_parts, head_or, after_beat, behind_first}
+use Rattle.mm_links.specs.Drops.{DropState, Standing, any_lane, sends, accepted, keeps, owes_itself, sent_beat}
 
 -- what is shown to a link: commands from above, wait and answers from below
 pub record Inputs : Type 0 where
@@ -307,6 +308,78 @@ burst_below given = record {
     signals = signals_of (λ c. (burst_part given (burst_registers given c) c).levels);
     more = λ c. (burst_part given (burst_registers given c) c).more;
     tag = λ c. (burst_part given (burst_registers given c) c).tag;
+    waitrequest = given.inputs.waitrequest;
+  };
+  answers = given.inputs.answers;
+}
+
+-- ---- what keeps beats without a lane from an agent
+
+pub record DropInputs : Type 0 where
+  pub shape : Shape
+  pub below : Shape
+  pub room : ℕ
+  pub inputs : Inputs
+
+-- the registers in one cycle
+pub record DropRegisters : Type 0 where
+  pub kept : List Raw
+  pub reads : ℕ
+  pub own : Bool
+
+abbrev pub drop_raw : DropInputs → ℕ → Raw
+drop_raw given c = record { levels = levels_at given.inputs.signals c; more = given.inputs.more c; tag = given.inputs.tag c }
+
+abbrev pub drop_stands : DropInputs → DropRegisters → ℕ → Standing
+drop_stands given now c = record {
+  shown = shows given.inputs.signals c;
+  writes = is_raised (given.inputs.signals.write c);
+  acts = any_lane given.shape (given.inputs.signals.enables c);
+  more = is_raised (given.inputs.more c);
+  holds = is_nonempty now.kept;
+  reads = now.reads;
+}
+
+abbrev pub drop_part : DropInputs → DropRegisters → ℕ → Raw
+drop_part given now c = if sends given.room (drop_stands given now c) then sent_beat now.kept (drop_raw given c) (drop_stands given now c).acts else silent_raw
+
+abbrev pub drop_takes_below : DropInputs → DropRegisters → ℕ → Bool
+drop_takes_below given now c = shows_raw (drop_part given now c) && not (is_raised (given.inputs.waitrequest c))
+
+abbrev pub drop_waits : DropInputs → DropRegisters → ℕ → ℕ
+drop_waits given now c = one_if (not (accepted (drop_stands given now c) (drop_takes_below given now c)))
+
+abbrev pub drop_registers : DropInputs → ℕ → DropRegisters
+drop_registers given zero = record { kept = []; reads = 0; own = false }
+drop_registers given (suc c) =
+    let now = drop_registers given c in
+    record {
+      kept = if keeps (drop_stands given now c) (drop_takes_below given now c) then drop_raw given c ∷ [] else if drop_takes_below given now c then [] else now.kept;
+      reads = (now.reads + one_if (drop_takes_below given now c && not (is_raised (drop_part given now c).levels.write))) - one_if (is_raised (given.inputs.answers.valid c));
+      own = owes_itself (drop_stands given now c) (drop_takes_below given now c);
+    }
+
+abbrev pub drop_state : DropInputs → DropState
+drop_state given = record { kept = λ c. (drop_registers given c).kept; reads = λ c. (drop_registers given c).reads; own = λ c. (drop_registers given c).own }
+
+abbrev pub drop_above : DropInputs → Port
+drop_above given = record {
+  shape = given.shape;
+  commands = record { signals = given.inputs.signals; more = given.inputs.more; tag = given.inputs.tag; waitrequest = λ c. drop_waits given (drop_registers given c) c };
+  answers = record {
+    valid = λ c. one_if ((drop_registers given c).own || is_raised (given.inputs.answers.valid c));
+    word = λ c. if (drop_registers given c).own then 0 else given.inputs.answers.word c;
+    code = λ c. if (drop_registers given c).own then 0 else given.inputs.answers.code c;
+  };
+}
+
+abbrev pub drop_below : DropInputs → Port
+drop_below given = record {
+  shape = given.below;
+  commands = record {
+    signals = signals_of (λ c. (drop_part given (drop_registers given c) c).levels);
+    more = λ c. (drop_part given (drop_registers given c) c).more;
+    tag = λ c. (drop_part given (drop_registers given c) c).tag;
     waitrequest = given.inputs.waitrequest;
   };
   answers = given.inputs.answers;

@@ -5,5 +5,6 @@ pub mod Pipes
 pub mod Selects
 pub mod Splits
 pub mod Bursts
+pub mod Drops
 pub mod Driven
 pub mod Soon

@@ -2,7 +2,9 @@
 
 ghost use Rattle.mm_links.specs.Driven.{SelectInputs, PipeInputs, SplitInputs, select_above, select_below, select_queue, pipe_run, split_above, split_below, split_state};
 ghost use Rattle.mm_links.specs.Driven.{BurstInputs, burst_above, burst_below, burst_state};
+ghost use Rattle.mm_links.specs.Driven.{DropInputs, drop_above, drop_below, drop_state};
 ghost use Rattle.mm_links.specs.Bursts.{RunsAsBurst};
+ghost use Rattle.mm_links.specs.Drops.{RunsAsDrop};
 ghost use Rattle.mm_links.specs.Pipes.{RunsAsPipe};
 ghost use Rattle.mm_links.specs.Selects.{RunsAsSelect};
 ghost use Rattle.mm_links.specs.Splits.{RunsAsSplit};
@@ -25,4 +27,9 @@ pub fn split_runs()
 /// There is a run of a cutter of bursts for all commands, waits and answers.
 pub fn burst_runs()
     ensures { (given : BurstInputs) → RunsAsBurst (burst_above given) (burst_below given) (burst_state given) }
+{}
+
+/// There is a run of what keeps beats without a lane from an agent, for all commands, waits and answers.
+pub fn drop_runs()
+    ensures { (given : DropInputs) → RunsAsDrop given.room (drop_above given) (drop_below given) (drop_state given) }
 {}

@@ -1,0 +1,27 @@
+use Rattle.std.proofs.Common.{◌≡◌, arith, refl, ap}
+use Rattle.mm_links.specs.Selects.{first_of}
+use Rattle.mm_examples.proofs.links.drops.Goals as goal
+
+pub returns-clause-places : goal.returns-clause-places
+returns-clause-places c = refl
+
+pub returns-clause-joined : goal.returns-clause-joined
+returns-clause-joined c = refl
+
+pub returns-clause-kept : goal.returns-clause-kept
+returns-clause-kept c = refl
+
+pub returns-clause-waits : goal.returns-clause-waits
+returns-clause-waits c = refl
+
+pub returns-clause-words : goal.returns-clause-words
+returns-clause-words c = refl
+
+pub returns-clause-loose : goal.returns-clause-loose
+returns-clause-loose c = λ carries. (let joins = (carries.in_order 3 (omega arith)).joins in cc)
+
+pub returns-clause-early : goal.returns-clause-early
+returns-clause-early c = λ back. (let same : 0 ≡ 9 = ap first_of (back.bytes 3 (omega arith)).joins in absurd (omega (arith, same)))
+
+pub returns-clause-mixed : goal.returns-clause-mixed
+returns-clause-mixed c = λ carries. (let joins = (carries.in_order 4 (omega arith)).joins in cc)
