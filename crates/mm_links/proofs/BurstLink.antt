@@ -1,17 +1,16 @@
 -- A cutter of bursts keeps all that a link promises.
-use Rattle.std.proofs.Common.{ℕ, zero, suc, ◌<◌, ◌≤◌, ◌≡◌, ◌-◌, ◌/◌, min, Bool, true, false, not, ◌&&◌, ◌||◌, List, [], ◌∷◌, ◌++◌, if◌then◌else◌, arith, refl, sym, ap, ap₂, subst, ◌∙◌, length, map, take, zip, flat_map, nat_lt, nat_eq, IsTrue, IsFalse, append-nil, append_assoc, ltb-true, le_refl, le-leb, leb-true}
+use Rattle.std.proofs.Common.{ℕ, zero, suc, ◌<◌, ◌≤◌, ◌≡◌, ◌/◌, min, Bool, true, false, not, ◌&&◌, ◌||◌, List, [], ◌∷◌, ◌++◌, if◌then◌else◌, arith, refl, sym, ap, ap₂, subst, ◌∙◌, length, map, take, zip, flat_map, nat_lt, nat_eq, IsTrue, IsFalse, append-nil, append_assoc, ltb-true, le_refl, le-leb, leb-true}
 use Rattle.std.specs.List.{list_all}
 use Rattle.std.proofs.lemmas.Bool.{and_parts, not-true, or_left, or_right, or_parts, both_ways}
 use Rattle.std.proofs.lemmas.List.{map-append, length-map}
 use Rattle.std.proofs.lemmas.Grind.{flat_map-append}
-use Rattle.std.proofs.Math.Nat.{one-le-pow}
 use Rattle.histories.specs.History.{is_raised, only_if, standing, total, unreached, IsPrefix, AreWithin}
 use Rattle.histories.specs.Laws.{shown_is_accepted_and_standing, prefix_refl, prefix_trans, prefix_map, prefix_filter, prefix_flat_map, prefix_length, before_extends}
 use Rattle.mm_runs.specs.Views.{Levels, levels_at}
 use Rattle.mm_runs.specs.Legal.{Word}
 use Rattle.mm_runs.specs.Laws.{same_pieces}
 use Rattle.mm_runs.specs.Operations.{Beat, pieces, filled_lanes}
-use Rattle.mm_runs.specs.Commands.{Transfer, shows, is_held, is_of_reads, burst_before, burst_after, words_before, transfer_of, write_transfer, read_transfer}
+use Rattle.mm_runs.specs.Commands.{shows, is_held, is_of_reads, burst_before, burst_after, words_before, write_transfer, read_transfer}
 use Rattle.mm_machines.specs.Link.{Target, Port, Marked, AreLegalAt, AnswersAreOwed, CarriesCommands, takes, marked_at, taken_at, shown_at, operations_among, operations_in, items, items_from, beats_with, sizes, read_beats, words_at, words_owed, answers_at, bytes_in, is_last_joined}
 use Rattle.mm_machines.specs.Blocks.{blocks_at, worded, codes_of, AreGreatest}
 use Rattle.mm_machines.specs.Lines.{BringsBack, KeepsRow, HasLanes, bytes_of, HandsOn}
@@ -28,15 +27,12 @@ use Rattle.mm_links.specs.Bursts.{BurstState, RunsAsBurst, IsBurstPlan, burst_fo
 use Rattle.mm_links.proofs.Alike.{have_operations}
 use Rattle.mm_links.proofs.Gated.{items_prefix, total_sizes, four_of, by_not, open_rests}
 use Rattle.mm_links.proofs.HandOn.{hands_on_shown}
-use Rattle.mm_links.proofs.OneBeat.{one_transfer, flat_mark, shown_raws, flat_taken, flat_shown, stays_free}
+use Rattle.mm_links.proofs.OneBeat.{raw_by, flat_mark, shown_raws, flat_taken, flat_shown, fit_alone}
 use Rattle.mm_links.proofs.Stages.{all_front, alike_prefix, accepted_of, total_accepted}
 use Rattle.mm_links.proofs.BurstParts.{Step, beats_left, left_step, parts_in, above_of, steps, step_at, left_at, gone, up_steps, shows_sending, shows_same, waits_sending, takes_same, beat_sending, beat_first, none_at, rest_sending, rest_first, parts_step}
 use Rattle.mm_links.proofs.BurstSteps.{IsBeatOf, Sent, AllSent, sent_push, sent_at, all_operations, all_items, all_reads, all_tagged}
 use Rattle.mm_links.proofs.BurstSteps.Sent.{last_beat, more_beats}
 use Rattle.mm_links.proofs.BurstLists.{unreached_past, held_past, within_front, lanes_below, joins_below, within_below, more_below, write_below}
-
-abbrev raw_by : Levels → ℕ → ℕ → Raw
-raw_by levels more tag = record { levels = levels; more = more; tag = tag }
 
 abbrev word_by : ℕ → ℕ → Word
 word_by word code = record { word = word; code = code }
@@ -224,24 +220,7 @@ module _ (target : Target) (up down : Port) (state : BurstState) (plan : IsBurst
   -- ---- the commands below are legal
 
   fit_below : (c : ℕ) → c < end → shows down.commands.signals c ≡ true → IsFitBeat down.shape (burst_before down.shape down.commands.signals (takes down) c) (raw_at down c)
-  fit_below c h shown =
-      let there = stems c h shown in
-      let free = stays_free down end (λ k low t. one_shown k low (shows_down k t)) c (omega (arith, h)) in
-      record {
-        one_kind = not_both (is_raised (down.commands.read c)) (is_raised (down.commands.write c)) there.one;
-        least = λ f. (let one = there.count in omega (arith, one));
-        most = λ f. (let one = there.count in let some = one-le-pow (down.shape.burst_bits - 1) 2 (omega arith) in omega (arith, one, some));
-        finished = λ busy. absurd (no_busy (burst_before down.shape down.commands.signals (takes down) c).left free busy);
-        joined = or_left _ (is_raised (down.commands.more c)) (ends_it (is_raised (down.commands.write c)) refl free there.count);
-      }
-    where
-      no_busy : (n : ℕ) → n ≡ 0 → IsTrue (nat_lt 0 n) → ⊥
-      no_busy n e busy = let less = ltb-true 0 n busy in omega (arith, e, less)
-
-      ends_it : (w : Bool) → is_raised (down.commands.write c) ≡ w → (burst_before down.shape down.commands.signals (takes down) c).left ≡ 0 → down.commands.count c ≡ 1 →
-          (transfer_of down.shape (levels_at down.commands.signals c) (burst_before down.shape down.commands.signals (takes down) c)).ends ≡ true
-      ends_it w e free one =
-          ap (λ (t : Transfer). t.ends) (one_transfer down.shape (levels_at down.commands.signals c) (burst_before down.shape down.commands.signals (takes down) c) free one (is_raised (down.commands.write c)))
+  fit_below = fit_alone down end one_shown (λ c h shown. not_both (is_raised (down.commands.read c)) (is_raised (down.commands.write c)) (stems c h shown).one)
 
   held_on : (c : ℕ) → suc c < end → is_held down.commands.signals (takes down) c ≡ true → raw_at down c ≡ raw_at down (suc c)
   held_on c h held = by_sends (is_sending state c) refl

@@ -28,3 +28,4 @@ pub mod BurstSteps
 pub mod BurstLists
 pub mod BurstLink
 pub mod BurstStraight
+pub mod DropShown

@@ -1,10 +1,10 @@
 -- A side whose commands have one beat: no burst is ever under way, and each read asks one word.
-use Rattle.std.proofs.Common.{ℕ, zero, suc, ◌<◌, ◌≤◌, ◌≡◌, ◌+◌, ◌*◌, ◌/◌, ◌%◌, ◌-◌, ◌^◌, Bool, true, false, not, ◌&&◌, List, [], ◌∷◌, ◌++◌, if◌then◌else◌, arith, refl, sym, ap, ap₂, ◌∙◌, map, filter, flat_map, nat_lt, IsFalse, append-nil, zero-mul, mul-one}
-use Rattle.std.proofs.lemmas.Bool.{and_parts}
+use Rattle.std.proofs.Common.{ℕ, zero, suc, ◌<◌, ◌≤◌, ◌≡◌, ◌+◌, ◌*◌, ◌/◌, ◌%◌, ◌-◌, ◌^◌, Bool, true, false, not, ◌&&◌, List, [], ◌∷◌, ◌++◌, if◌then◌else◌, arith, refl, sym, ap, ap₂, ◌∙◌, map, filter, flat_map, nat_lt, IsTrue, IsFalse, append-nil, zero-mul, mul-one}
+use Rattle.std.proofs.lemmas.Bool.{and_parts, ltb-true, or_left}
 use Rattle.std.proofs.lemmas.List.{map-append}
 use Rattle.std.proofs.lemmas.List.Elements.{filter-append}
 use Rattle.std.proofs.lemmas.Grind.{flat_map-append}
-use Rattle.std.proofs.Math.Nat.{mul-mod_left, mod-eq-sub-div-mul, div-mul-le_self}
+use Rattle.std.proofs.Math.Nat.{mul-mod_left, mod-eq-sub-div-mul, div-mul-le_self, one-le-pow}
 use Rattle.histories.specs.History.{is_raised, only_if, all_accepted, standing}
 use Rattle.histories.specs.Laws.{shown_is_accepted_and_standing}
 use Rattle.mm_runs.specs.Views.{Shape, Levels, levels_at, Kind}
@@ -12,7 +12,7 @@ use Rattle.mm_runs.specs.Views.Kind.{Reads, Writes}
 use Rattle.mm_runs.specs.Operations.{Beat}
 use Rattle.mm_runs.specs.Commands.{Burst, Transfer, shows, is_held, is_of_reads, burst_before, write_transfer, read_transfer, byte_address, burst_after, next_burst}
 use Rattle.mm_machines.specs.Link.{Port, Marked, AreLegalAt, takes, marked_at, taken_at, shown_at, read_beats}
-use Rattle.mm_machines.specs.Machines.{Raw, raw_at, raws}
+use Rattle.mm_machines.specs.Machines.{Raw, raw_at, raws, IsFitBeat}
 use Rattle.mm_machines.specs.SideLaws.{fit_when_shown, marked_keeps}
 use Rattle.mm_links.specs.Selects.{takes_read}
 
@@ -26,6 +26,9 @@ whole_address a unit bytes one low =
     let same : a * unit ≡ a = ap (λ n. a * n) one ∙ mul-one a in
     let none = zero-mul bytes in
     rw (same, low, none) (omega arith)
+
+abbrev pub raw_by : Levels → ℕ → ℕ → Raw
+raw_by levels more tag = record { levels = levels; more = more; tag = tag }
 
 abbrev pub beat_by : Kind → ℕ → ℕ → ℕ → Beat
 beat_by kind address word enables = record { kind = kind; address = address; word = word; enables = enables }
@@ -163,3 +166,21 @@ module _ (port : Port) (end : ℕ) (one_beat : port.shape.burst_bits ≡ 1) (leg
 
   pub count_is_one : (c : ℕ) → c < end → shows port.commands.signals c ≡ true → port.commands.count c ≡ 1
   count_is_one c h shown = count_when_free c h shown (free_before c (omega (arith, h)))
+
+-- beats that each count as one and have one kind are those of a legal side
+pub fit_alone : (port : Port) (end : ℕ) → ((c : ℕ) → c < end → shows port.commands.signals c ≡ true → port.commands.count c ≡ 1) →
+    ((c : ℕ) → c < end → shows port.commands.signals c ≡ true → IsTrue (not (is_raised (port.commands.read c) && is_raised (port.commands.write c)))) →
+    (c : ℕ) → c < end → shows port.commands.signals c ≡ true → IsFitBeat port.shape (burst_before port.shape port.commands.signals (takes port) c) (raw_at port c)
+fit_alone port end single kind c h shown =
+    let one = single c h shown in
+    let free = stays_free port end (λ k low t. single k low (and_parts (shows port.commands.signals k) (not (is_raised (port.commands.waitrequest k))) t).0) c (omega (arith, h)) in
+    record {
+      one_kind = kind c h shown;
+      least = λ f. omega (arith, one);
+      most = λ f. (let some = one-le-pow (port.shape.burst_bits - 1) 2 (omega arith) in omega (arith, one, some));
+      finished = λ busy. absurd (no_busy (burst_before port.shape port.commands.signals (takes port) c).left free busy);
+      joined = or_left _ (is_raised (port.commands.more c)) (ap (λ (t : Transfer). t.ends) (one_transfer port.shape (levels_at port.commands.signals c) (burst_before port.shape port.commands.signals (takes port) c) free one (is_raised (port.commands.write c))));
+    }
+  where
+    no_busy : (n : ℕ) → n ≡ 0 → IsTrue (nat_lt 0 n) → ⊥
+    no_busy n e busy = let less = ltb-true 0 n busy in omega (arith, e, less)

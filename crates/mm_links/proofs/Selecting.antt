@@ -17,7 +17,7 @@ use Rattle.mm_runs.specs.Commands.{Transfer, shows, is_held, is_of_reads, burst_
 use Rattle.mm_machines.specs.Link.{Target, Port, Marked, KeepsLinkLaw, AreLegalAt, AnswersAreOwed, takes, marked_at, taken_at, shown_at, read_beats, words_at, words_owed, answers_at, bytes_in, beat_operations, is_nonempty, reads_of, HasGreatestCode, IsAnswered}
 use Rattle.mm_machines.specs.Blocks.{block, blocks_at, worded}
 use Rattle.mm_machines.specs.Lines.{KeepsRow, IsWordForWord, HandsOn}
-use Rattle.mm_machines.specs.Machines.{Raw, raw_at, IsFitBeat, MaySelect, LiesInOneWord, select_of}
+use Rattle.mm_machines.specs.Machines.{raw_at, IsFitBeat, MaySelect, LiesInOneWord, select_of}
 use Rattle.mm_machines.specs.Rank.{is_owed}
 use Rattle.mm_machines.specs.SideLaws.{fit_when_shown, legal_when_shown, same_counts}
 use Rattle.mm_links.specs.Going.RowGoesOn.{at_end, further}
@@ -27,14 +27,11 @@ use Rattle.mm_links.proofs.HandOn.{hands_on_shown}
 use Rattle.mm_links.specs.Selects.{RunsAsSelect, IsSelectPlan, EnablesFit, select_form, selected, silenced, offset_in, takes_read, is_shut, first_of}
 use Rattle.mm_links.proofs.Alike.{IsAlike}
 use Rattle.mm_links.proofs.Gated.{gate_carries, gate_joins, gate_lanes, gate_quiet, gate_goes_on, owed_counts, word_counts}
-use Rattle.mm_links.proofs.OneBeat.{aligned, whole_address, beat_by, transfer_by, one_transfer, reads_in, reads_of_one, reads_append, kept_left, free_before, count_is_one}
+use Rattle.mm_links.proofs.OneBeat.{aligned, whole_address, raw_by, beat_by, transfer_by, one_transfer, reads_in, reads_of_one, reads_append, kept_left, free_before, count_is_one}
 use Rattle.mm_links.proofs.Lanes.{SelectsBeats, cut, bytes_moved, lanes_count, lies_within}
 
 abbrev word_by : ℕ → ℕ → Word
 word_by word code = record { word = word; code = code }
-
-abbrev raw_by : Levels → ℕ → ℕ → Raw
-raw_by levels more tag = record { levels = levels; more = more; tag = tag }
 
 beat_is : (kind : Kind) (a b w v e f : ℕ) → a ≡ b → w ≡ v → e ≡ f → beat_by kind a w e ≡ beat_by kind b v f
 beat_is kind a b w v e f p q r = ap₂ (λ x y. beat_by kind x y e) p q ∙ ap (beat_by kind b v) r

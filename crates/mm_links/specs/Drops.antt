@@ -1,11 +1,11 @@
 -- The machine that keeps beats without an enabled lane from an agent without byte enables. Commands have one beat.
-use Rattle.std.specs.Prelude.{◌≡◌, ℕ, suc, ◌+◌, ◌-◌, Bool, true, false, not, ◌&&◌, ◌||◌, List, [], ◌∷◌, if◌then◌else◌, nat_eq, nat_lt}
+use Rattle.std.specs.Prelude.{◌≡◌, ◌<◌, ℕ, suc, ◌+◌, ◌-◌, Bool, true, false, not, ◌&&◌, ◌||◌, List, [], ◌∷◌, if◌then◌else◌, nat_eq, nat_lt}
 use Rattle.std.specs.List.{list_any}
 use Rattle.histories.specs.History.{is_raised, one_if, numbers}
 use Rattle.mm_runs.specs.Views.{Shape}
 use Rattle.mm_runs.specs.Operations.{is_enabled}
 use Rattle.mm_runs.specs.Commands.{shows}
-use Rattle.mm_machines.specs.Link.{Port, takes, is_nonempty}
+use Rattle.mm_machines.specs.Link.{Target, Port, takes, is_nonempty}
 use Rattle.mm_machines.specs.Machines.{Raw, raw_at}
 use Rattle.mm_links.specs.Selects.{takes_read}
 
@@ -93,3 +93,11 @@ pub record RunsAsDrop (room : ℕ) (up down : Port) (state : DropState) : Type 0
   pub valid : (c : ℕ) → is_raised (up.answers.valid c) ≡ (state.own c || is_raised (down.answers.valid c))
   pub word : (c : ℕ) → up.answers.word c ≡ (if state.own c then 0 else down.answers.word c)
   pub code : (c : ℕ) → up.answers.code c ≡ (if state.own c then 0 else down.answers.code c)
+
+-- words are those of the agent, which has no byte enables. Commands have one beat on both sides
+pub record IsDropPlan (target : Target) (up down : Shape) : Type 0 where
+  pub some : 0 < up.word_bytes
+  pub same : down.word_bytes ≡ up.word_bytes
+  pub agent : target.shape.word_bytes ≡ up.word_bytes
+  pub enables : target.shape.has_enables ≡ false
+  pub one_beat : up.burst_bits ≡ 1

@@ -2,6 +2,7 @@
 #![tactic(auto)]
 
 pub mod bursts;
+pub mod drops;
 pub mod pipes;
 pub mod rows;
 pub mod runs;
