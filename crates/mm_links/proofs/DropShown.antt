@@ -16,7 +16,7 @@ use Rattle.mm_links.specs.Selects.{takes_read}
 use Rattle.mm_links.specs.Drops.{DropState, RunsAsDrop, IsDropPlan, Standing, any_lane, sends, accepted, keeps, sent_beat, standing_at}
 use Rattle.mm_links.proofs.OneBeat.{raw_by, beat_by, flat_mark, flat_shown, shown_raws, fit_alone, count_is_one}
 
-abbrev stands_so : Bool → Bool → Bool → Bool → Bool → ℕ → Standing
+abbrev pub stands_so : Bool → Bool → Bool → Bool → Bool → ℕ → Standing
 stands_so s w a m h r = record { shown = s; writes = w; acts = a; more = m; holds = h; reads = r }
 
 -- where a beat is shown and waits below, what stands above waits too
@@ -81,7 +81,7 @@ lanes_act target lower enables some same none acts =
     by_any false (suc n) h e = cc
 
 module _ (target : Target) (room : ℕ) (up down : Port) (state : DropState) (end : ℕ) (plan : IsDropPlan target up.shape down.shape) (run : RunsAsDrop room up down state) (legal : AreLegalAt up end) where
-  abbrev now : ℕ → Standing
+  abbrev pub now : ℕ → Standing
   now c = standing_at up state c
 
   -- a beat with a lane that counts as one
@@ -107,13 +107,13 @@ module _ (target : Target) (room : ℕ) (up down : Port) (state : DropState) (en
           let parts = kept_parts (now c).shown (now c).writes (now c).acts (now c).more (now c).holds (takes down c) (now c).reads e in
           (record { lane = parts.1; one = count_is_one up end plan.one_beat legal c (omega (arith, h)) parts.0 }, tt)
 
-  abbrev so : Raw → List Raw → ℕ → Standing
+  abbrev pub so : Raw → List Raw → ℕ → Standing
   so raw kept reads = stands_so (is_raised raw.levels.read || is_raised raw.levels.write) (is_raised raw.levels.write) (any_lane up.shape raw.levels.enables) (is_raised raw.more) (is_nonempty kept) reads
 
-  sends_at : (c : ℕ) → shows down.commands.signals c ≡ true → sends room (so (raw_at up c) (state.kept c) (state.reads c)) ≡ true
+  pub sends_at : (c : ℕ) → shows down.commands.signals c ≡ true → sends room (so (raw_at up c) (state.kept c) (state.reads c)) ≡ true
   sends_at c shown = sym (run.shown c) ∙ shown
 
-  above : (c : ℕ) → shows down.commands.signals c ≡ true → shows up.commands.signals c ≡ true
+  pub above : (c : ℕ) → shows down.commands.signals c ≡ true → shows up.commands.signals c ≡ true
   above c shown = (and_parts (shows up.commands.signals c) _ (sends_at c shown)).0
 
   shown_is : (c : ℕ) → c < end → shows down.commands.signals c ≡ true → IsKept (raw_at down c)
@@ -151,7 +151,7 @@ module _ (target : Target) (room : ℕ) (up down : Port) (state : DropState) (en
       run.shown (suc c) ∙ ap₂ (λ q raw. sends room (so raw q (state.reads (suc c)))) kept (sym same) ∙ later in
       run.beat c parts.0 ∙ ap₂ (λ q (raw : Raw). sent_beat q raw (any_lane up.shape raw.levels.enables)) (sym kept) same ∙ sym (run.beat (suc c) next)
 
-  one_shown : (c : ℕ) → c < end → shows down.commands.signals c ≡ true → down.commands.count c ≡ 1
+  pub one_shown : (c : ℕ) → c < end → shows down.commands.signals c ≡ true → down.commands.count c ≡ 1
   one_shown c h shown = (shown_is c h shown).one
 
   pub drop_legal : AreLegalAt down end

@@ -29,3 +29,4 @@ pub mod BurstLists
 pub mod BurstLink
 pub mod BurstStraight
 pub mod DropShown
+pub mod DropWords

@@ -1,7 +1,8 @@
 //! What keeps beats without an enabled lane from an agent without byte enables.
 
-ghost use Rattle.std.specs.Prelude.{ℕ};
-ghost use Rattle.mm_machines.specs.Link.{Target, Port, AreLegalAt};
+ghost use Rattle.std.specs.Prelude.{◌<◌, ◌≡◌, ℕ, true, false};
+ghost use Rattle.histories.specs.History.{is_raised};
+ghost use Rattle.mm_machines.specs.Link.{Target, Port, AreLegalAt, AnswersAreOwed};
 ghost use Rattle.mm_machines.specs.Lines.{HasLanes};
 ghost use Rattle.mm_links.specs.Drops.{DropState, RunsAsDrop, IsDropPlan};
 
@@ -11,4 +12,13 @@ pub fn drop_brings_lanes()
         → RunsAsDrop room up down state → AreLegalAt up end → AreLegalAt down end }
     ensures lanes { (target : Target) (room : ℕ) (up down : Port) (state : DropState) (end : ℕ) → IsDropPlan target up.shape down.shape
         → RunsAsDrop room up down state → AreLegalAt up end → HasLanes target down end }
+{}
+
+/// A word of its own never comes together with one from below, and each word above is owed.
+pub fn drop_owes_its_words()
+    ensures apart { (target : Target) (room : ℕ) (up down : Port) (state : DropState) (end : ℕ) → IsDropPlan target up.shape down.shape
+        → RunsAsDrop room up down state → AreLegalAt up end → AnswersAreOwed down end
+        → (c : ℕ) → c < end → state.own c ≡ true → is_raised (down.answers.valid c) ≡ false }
+    ensures owed { (target : Target) (room : ℕ) (up down : Port) (state : DropState) (end : ℕ) → IsDropPlan target up.shape down.shape
+        → RunsAsDrop room up down state → AreLegalAt up end → AnswersAreOwed down end → AnswersAreOwed up end }
 {}

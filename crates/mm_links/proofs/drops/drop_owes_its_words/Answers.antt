@@ -1,0 +1,8 @@
+use Rattle.mm_links.proofs.DropWords.{words_apart, words_are_owed}
+use Rattle.mm_links.proofs.drops.drop_owes_its_words.Goals as goal
+
+pub returns-clause-apart : goal.returns-clause-apart
+returns-clause-apart c = λ target room up down state end plan run legal owed. words_apart target room up down state end plan run legal owed
+
+pub returns-clause-owed : goal.returns-clause-owed
+returns-clause-owed c = λ target room up down state end plan run legal owed. words_are_owed target room up down state end plan run legal owed
