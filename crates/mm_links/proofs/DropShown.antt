@@ -9,11 +9,12 @@ use Rattle.mm_runs.specs.Laws.{same_pieces}
 use Rattle.mm_runs.specs.Commands.{shows, is_held, byte_address}
 use Rattle.mm_runs.specs.Views.Kind.{Reads, Writes}
 use Rattle.mm_machines.specs.Link.{Target, Port, Marked, AreLegalAt, takes, beat_operations, is_nonempty}
-use Rattle.mm_machines.specs.Lines.{HasLanes}
+use Rattle.mm_machines.specs.Lines.{HasLanes, HandsOn}
 use Rattle.mm_machines.specs.Machines.{Raw, raw_at, raws}
 use Rattle.mm_machines.specs.SideLaws.{legal_when_shown}
 use Rattle.mm_links.specs.Selects.{takes_read}
 use Rattle.mm_links.specs.Drops.{DropState, RunsAsDrop, IsDropPlan, Standing, any_lane, sends, accepted, keeps, sent_beat, standing_at}
+use Rattle.mm_links.proofs.HandOn.{IsShownFor, hands_on_shown}
 use Rattle.mm_links.proofs.OneBeat.{raw_by, beat_by, flat_mark, flat_shown, shown_raws, fit_alone, count_is_one}
 
 abbrev pub stands_so : Bool → Bool → Bool → Bool → Bool → ℕ → Standing
@@ -60,6 +61,14 @@ kept_parts true w false m h t r e = no_keep (accepted (stands_so true w false m 
     no_keep true true e = cc
     no_keep true false e = cc
     no_keep false y e = cc
+
+kept_writes : (s w a m h t : Bool) (r : ℕ) → keeps (stands_so s w a m h r) t ≡ true → w ≡ true
+kept_writes s true a m h t r e = refl
+kept_writes s false a m h t r e = no_keep (accepted (stands_so s false a m h r) t) e
+  where
+    no_keep : (x : Bool) → x && false ≡ true → false ≡ true
+    no_keep true e = cc
+    no_keep false e = cc
 
 -- ---- a lane is an operation
 
@@ -133,12 +142,20 @@ module _ (target : Target) (room : ℕ) (up down : Port) (state : DropState) (en
       by_kept [] = legal.legal.one_kind c h
       by_kept (raw ∷ later) = refl
 
+  -- what stands below waits above too
+  pub stands_above : (c : ℕ) → is_held down.commands.signals (takes down) c ≡ true → is_held up.commands.signals (takes up) c ≡ true
+  stands_above c held =
+      let parts = and_parts (shows down.commands.signals c) (not (takes down c)) held in
+      let not_taken = not-true (takes down c) parts.1 in
+      let waits : takes up c ≡ false = run.accepts c ∙ ap (accepted (now c)) not_taken ∙ waits_above room (now c).shown (now c).writes (now c).acts (now c).more (now c).holds (now c).reads (sends_at c parts.0) in
+      ap₂ (λ s t. s && not t) (above c parts.0) waits
+
   held_on : (c : ℕ) → suc c < end → is_held down.commands.signals (takes down) c ≡ true → raw_at down c ≡ raw_at down (suc c)
   held_on c h held =
       let parts = and_parts (shows down.commands.signals c) (not (takes down c)) held in
       let not_taken = not-true (takes down c) parts.1 in
-      let waits : takes up c ≡ false = run.accepts c ∙ ap (accepted (now c)) not_taken ∙ waits_above room (now c).shown (now c).writes (now c).acts (now c).more (now c).holds (now c).reads (sends_at c parts.0) in
-      let stands : is_held up.commands.signals (takes up) c ≡ true = ap₂ (λ s t. s && not t) (above c parts.0) waits in
+      let stands = stands_above c held in
+      let waits = not-true (takes up c) (and_parts (shows up.commands.signals c) (not (takes up c)) stands).1 in
       let same : raw_at up c ≡ raw_at up (suc c) =
       ap₂ (λ l m. raw_by l m (up.commands.tag c)) (legal.legal.held c h stands) (legal.more c h stands) ∙ ap (raw_by (levels_at up.commands.signals (suc c)) (up.commands.more (suc c))) (legal.tag c h stands) in
       let not_kept : keeps (now c) (takes down c) ≡ false = ap (λ b. b && (((now c).writes && (now c).more) && (now c).acts)) (sym (run.accepts c) ∙ waits) in
@@ -198,3 +215,79 @@ module _ (target : Target) (room : ℕ) (up down : Port) (state : DropState) (en
   drop_lanes c h =
       or_right target.shape.has_enables _
       (subst (λ l. IsTrue (list_all (λ (m : Marked). list_all (λ (b : Beat). is_nonempty (beat_operations target down.shape b)) m.transfer.beats) l)) (sym (flat_shown down end drop_legal one_shown c h)) (have_lanes (shown_raws down c) (shown_kept c h)))
+
+  -- ---- each beat below has the tag and the kind of one above
+
+  record IsFrom (c : ℕ) (raw : Raw) : Type 0 where
+    pub cycle : ℕ
+    pub by_then : cycle < c
+    pub shown : shows up.commands.signals cycle ≡ true
+    pub writes : is_raised (up.commands.write cycle) ≡ true
+    pub tag : raw.tag ≡ up.commands.tag cycle
+
+  abbrev AllFrom : ℕ → List Raw → Type 0
+  AllFrom c [] = Unit {0}
+  AllFrom c (raw ∷ later) = IsFrom c raw × AllFrom c later
+
+  later_from : (c : ℕ) (q : List Raw) → AllFrom c q → AllFrom (suc c) q
+  later_from c [] all = tt
+  later_from c (raw ∷ later) all =
+      let here = all.0 in
+      let before = here.by_then in
+      (record { cycle = here.cycle; by_then = omega (arith, before); shown = here.shown; writes = here.writes; tag = here.tag }, later_from c later all.1)
+
+  kept_from : (c : ℕ) → AllFrom c (state.kept c)
+  kept_from zero = subst (AllFrom 0) (sym run.kept_begins) tt
+  kept_from (suc c) = subst (AllFrom (suc c)) (sym (run.kept_next c)) (by_keep (later_from c (state.kept c) (kept_from c)) (keeps (now c) (takes down c)) refl (takes down c))
+    where
+      by_keep : AllFrom (suc c) (state.kept c) → (k : Bool) → keeps (now c) (takes down c) ≡ k → (t : Bool) → AllFrom (suc c) (if k then raw_at up c ∷ [] else if t then [] else state.kept c)
+      by_keep before false e true = tt
+      by_keep before false e false = before
+      by_keep before true e t = (
+        record {
+          cycle = c;
+          by_then = omega arith;
+          shown = (kept_parts (now c).shown (now c).writes (now c).acts (now c).more (now c).holds (takes down c) (now c).reads e).0;
+          writes = kept_writes (now c).shown (now c).writes (now c).acts (now c).more (now c).holds (takes down c) (now c).reads e;
+          tag = refl;
+        },
+        tt,
+      )
+
+  shown_for : (c : ℕ) → c < end → shows down.commands.signals c ≡ true → (k : ℕ) × IsShownFor up down c k
+  shown_for c h shown = by_kept (state.kept c) refl (kept_from c)
+    where
+      beat : (q : List Raw) → state.kept c ≡ q → raw_at down c ≡ sent_beat q (raw_at up c) (now c).acts
+      beat q e = run.beat c shown ∙ ap (λ q. sent_beat q (raw_at up c) (now c).acts) e
+
+      no_read : (r w : Bool) → w ≡ true → IsTrue (not (r && w)) → false ≡ r
+      no_read false w e one = refl
+      no_read true true e one = cc
+      no_read true false e one = cc
+
+      by_kept : (q : List Raw) → state.kept c ≡ q → AllFrom c q → (k : ℕ) × IsShownFor up down c k
+      by_kept [] e all = (
+        c,
+        record {
+          by_then = omega arith;
+          shown = above c shown;
+          tag = ap (λ (raw : Raw). raw.tag) (beat [] e);
+          reads = ap (λ (raw : Raw). is_raised raw.levels.read) (beat [] e);
+          writes = ap (λ (raw : Raw). is_raised raw.levels.write) (beat [] e);
+        },
+      )
+      by_kept (raw ∷ later) e all =
+          let here = all.0 in
+          let before = here.by_then in (
+            here.cycle,
+            record {
+              by_then = omega (arith, before);
+              shown = here.shown;
+              tag = ap (λ (raw : Raw). raw.tag) (beat (raw ∷ later) e) ∙ here.tag;
+              reads = ap (λ (raw : Raw). is_raised raw.levels.read) (beat (raw ∷ later) e) ∙ no_read (is_raised (up.commands.read here.cycle)) (is_raised (up.commands.write here.cycle)) here.writes (legal.legal.one_kind here.cycle (omega (arith, before, h)));
+              writes = ap (λ (raw : Raw). is_raised raw.levels.write) (beat (raw ∷ later) e) ∙ sym here.writes;
+            },
+          )
+
+  pub drop_hands_on : HandsOn up down end
+  drop_hands_on = hands_on_shown up down end shown_for

@@ -1,15 +1,19 @@
 -- The words that a machine that drops beats without a lane gives: its own never meet those from below, and each is owed.
-use Rattle.std.proofs.Common.{ℕ, zero, suc, ◌<◌, ◌≤◌, ◌≡◌, ◌+◌, Bool, true, false, not, ◌&&◌, ◌||◌, List, [], ◌∷◌, arith, refl, sym, ap, ap₂, subst, ◌∙◌, length, nat_eq, length-append}
+use Rattle.std.proofs.Common.{ℕ, zero, suc, ◌<◌, ◌≤◌, ◌≡◌, ◌+◌, Bool, true, false, not, ◌&&◌, ◌||◌, List, [], ◌∷◌, arith, refl, sym, ap, ap₂, subst, ◌∙◌, length, nat_eq, IsTrue, length-append, le_of_eq, le-leb, leb-true}
 use Rattle.std.proofs.lemmas.Bool.{and_parts, eqb-true}
 use Rattle.std.proofs.lemmas.List.{length-map}
 use Rattle.histories.specs.History.{is_raised, one_if, only_if, all_accepted}
-use Rattle.mm_runs.specs.Commands.{shows, words_before}
-use Rattle.mm_machines.specs.Link.{Target, Port, AreLegalAt, AnswersAreOwed, takes, taken_at, words_owed, read_beats}
+use Rattle.histories.specs.Laws.{shown_is_accepted_and_standing}
+use Rattle.mm_runs.specs.Views.{levels_at}
+use Rattle.mm_runs.specs.Commands.{shows, is_held, words_before}
+use Rattle.mm_machines.specs.Link.{Target, Port, AreLegalAt, AnswersAreOwed, takes, marked_at, taken_at, shown_at, words_at, words_owed, read_beats}
+use Rattle.mm_machines.specs.SideLaws.{marked_keeps, same_counts}
+use Rattle.mm_machines.specs.Straight.{are_answered}
 use Rattle.mm_machines.specs.Machines.{Raw, raw_at}
 use Rattle.mm_links.specs.Selects.{takes_read}
 use Rattle.mm_links.specs.Drops.{DropState, RunsAsDrop, IsDropPlan, sends, accepted, owes_itself, sent_beat}
-use Rattle.mm_links.proofs.OneBeat.{enables_in, enables_asked, count_is_one}
-use Rattle.mm_links.proofs.DropShown.{stands_so, now, so, sends_at, one_shown}
+use Rattle.mm_links.proofs.OneBeat.{enables_in, enables_asked, count_is_one, flat_mark, flat_at, transfer_by, reads_in, reads_of_one, reads_append}
+use Rattle.mm_links.proofs.DropShown.{stands_so, now, so, sends_at, one_shown, stands_above, drop_legal}
 
 size_if : {A : Type 0} (b : Bool) (x : A) → length (only_if b x) ≡ one_if b
 size_if true x = refl
@@ -26,6 +30,24 @@ asked_step port end one c h =
   where
     asked : (c : ℕ) → c ≤ end → words_owed port c ≡ length (all_accepted (takes_read port) port.commands.enables c)
     asked c h = sym (length-map (read_beats (taken_at port c)) enables_in) ∙ ap length (enables_asked port end one c h)
+
+-- one that stands asks one more
+shown_reads : (port : Port) (end : ℕ) → AreLegalAt port end → ((c : ℕ) → c < end → shows port.commands.signals c ≡ true → port.commands.count c ≡ 1) → (c : ℕ) → c < end →
+    length (read_beats (shown_at port (suc c))) ≡ words_owed port (suc c) + one_if (is_held port.commands.signals (takes port) c && not (is_raised (port.commands.write c)))
+shown_reads port end legal one c h =
+    ap (λ l. length (read_beats l)) (shown_is_accepted_and_standing (shows port.commands.signals) (takes port) (marked_at port) end (suc c) (marked_keeps port end legal) h)
+    ∙ ap length (reads_append (taken_at port (suc c)) (only_if (is_held port.commands.signals (takes port) c) (marked_at port c)))
+    ∙ length-append (read_beats (taken_at port (suc c))) _ ∙ ap (λ n. words_owed port (suc c) + n) (by_held (is_held port.commands.signals (takes port) c) refl)
+  where
+    by_held : (b : Bool) → is_held port.commands.signals (takes port) c ≡ b → length (read_beats (only_if b (marked_at port c))) ≡ one_if (b && not (is_raised (port.commands.write c)))
+    by_held false e = refl
+    by_held true e =
+        let flat = flat_at port end legal one c h (and_parts (shows port.commands.signals c) (not (takes port c)) e).0 in
+        ap (λ m. length (read_beats (m ∷ []))) flat ∙ ap length (reads_of_one (flat_mark port.shape (raw_at port c))) ∙ by_write (is_raised (port.commands.write c))
+      where
+        by_write : (w : Bool) → length (reads_in (transfer_by port.shape (levels_at port.commands.signals c) w)) ≡ one_if (not w)
+        by_write true = refl
+        by_write false = refl
 
 -- a read that is accepted while nothing is kept goes through, or is swallowed
 reads_alone : (room : ℕ) (s w a m t : Bool) (r : ℕ) → (t ≡ true → sends room (stands_so s w a m false r) ≡ true) →
@@ -205,3 +227,50 @@ module _ (target : Target) (room : ℕ) (up down : Port) (state : DropState) (en
       let asked = now.asked in
       let most = owed c h in
       omega (arith, words, asked, most)
+
+  -- ---- where nothing is owed above, nothing is owed below
+
+  fewer_stand : (c : ℕ) → one_if (is_held down.commands.signals (takes down) c && not (is_raised (down.commands.write c))) ≤ one_if (is_held up.commands.signals (takes up) c && not (is_raised (up.commands.write c)))
+  fewer_stand c = by_held (is_held down.commands.signals (takes down) c) refl
+    where
+      least : (n : ℕ) → one_if false ≤ n
+      least n = omega arith
+
+      by_held : (b : Bool) → is_held down.commands.signals (takes down) c ≡ b → one_if (b && not (is_raised (down.commands.write c))) ≤ one_if (is_held up.commands.signals (takes up) c && not (is_raised (up.commands.write c)))
+      by_held false e = least (one_if (is_held up.commands.signals (takes up) c && not (is_raised (up.commands.write c))))
+      by_held true e = by_kept (state.kept c) refl
+        where
+          shown : shows down.commands.signals c ≡ true
+          shown = (and_parts (shows down.commands.signals c) (not (takes down c)) e).0
+
+          stands : is_held up.commands.signals (takes up) c ≡ true
+          stands = stands_above target room up down state end plan run legal c e
+
+          beat : (q : List Raw) → state.kept c ≡ q → raw_at down c ≡ sent_beat q (raw_at up c) (now target room up down state end plan run legal c).acts
+          beat q k = run.beat c shown ∙ ap (λ q. sent_beat q (raw_at up c) (now target room up down state end plan run legal c).acts) k
+
+          by_kept : (q : List Raw) → state.kept c ≡ q → one_if (not (is_raised (down.commands.write c))) ≤ one_if (is_held up.commands.signals (takes up) c && not (is_raised (up.commands.write c)))
+          by_kept [] k = le_of_eq (ap (λ (raw : Raw). one_if (not (is_raised raw.levels.write))) (beat [] k) ∙ ap (λ b. one_if (b && not (is_raised (up.commands.write c)))) (sym stands))
+          by_kept (kept ∷ later) k =
+              let none : one_if (not (is_raised (down.commands.write c))) ≡ 0 = ap (λ (raw : Raw). one_if (not (is_raised raw.levels.write))) (beat (kept ∷ later) k) in
+              omega (arith, none)
+
+  counted : (port : Port) (c : ℕ) → length (words_at port c) ≡ words_before port.answers.valid c
+  counted port c = sym (same_counts (λ k. is_raised (port.answers.valid k)) (λ k. k) (λ k. record { word = port.answers.word k; code = port.answers.code k }) c)
+
+  pub quiet_below : (c : ℕ) → c ≤ end → IsTrue (are_answered up (shown_at up c) c) → IsTrue (are_answered down (shown_at down c) c)
+  quiet_below zero h answered = refl
+  quiet_below (suc c) h answered =
+      let given = leb-true (length (read_beats (shown_at up (suc c)))) (length (words_at up (suc c))) answered in
+      let now = counts c h in
+      let words = now.words in
+      let asked = now.asked in
+      let above = asked_up c h in
+      let below = asked_down c h in
+      let split = reads_split c in
+      let up_shown = shown_reads up end legal (λ k low shown. count_is_one up end plan.one_beat legal k low shown) c h in
+      let down_shown = shown_reads down end (drop_legal target room up down state end plan run legal) (one_shown target room up down state end plan run legal) c h in
+      let fewer = fewer_stand c in
+      let up_words = counted up (suc c) in
+      let down_words = counted down (suc c) in
+      le-leb (length (read_beats (shown_at down (suc c)))) (length (words_at down (suc c))) (omega (arith, given, words, asked, above, below, split, up_shown, down_shown, fewer, up_words, down_words))

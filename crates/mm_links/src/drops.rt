@@ -3,22 +3,27 @@
 ghost use Rattle.std.specs.Prelude.{◌<◌, ◌≡◌, ℕ, true, false};
 ghost use Rattle.histories.specs.History.{is_raised};
 ghost use Rattle.mm_machines.specs.Link.{Target, Port, AreLegalAt, AnswersAreOwed};
-ghost use Rattle.mm_machines.specs.Lines.{HasLanes};
+ghost use Rattle.mm_machines.specs.Lines.{HasLanes, HandsOn};
+ghost use Rattle.mm_links.specs.Links.{OwesNothingBelow};
 ghost use Rattle.mm_links.specs.Drops.{DropState, RunsAsDrop, IsDropPlan};
 
-/// Below it the commands are legal, and each beat has an operation.
+/// Below it the commands are legal, each beat has an operation, and no tags and no kinds are made.
 pub fn drop_brings_lanes()
     ensures legal { (target : Target) (room : ℕ) (up down : Port) (state : DropState) (end : ℕ) → IsDropPlan target up.shape down.shape
         → RunsAsDrop room up down state → AreLegalAt up end → AreLegalAt down end }
     ensures lanes { (target : Target) (room : ℕ) (up down : Port) (state : DropState) (end : ℕ) → IsDropPlan target up.shape down.shape
         → RunsAsDrop room up down state → AreLegalAt up end → HasLanes target down end }
+    ensures tags { (target : Target) (room : ℕ) (up down : Port) (state : DropState) (end : ℕ) → IsDropPlan target up.shape down.shape
+        → RunsAsDrop room up down state → AreLegalAt up end → HandsOn up down end }
 {}
 
-/// A word of its own never comes together with one from below, and each word above is owed.
+/// A word of its own never comes together with one from below, each word above is owed, and where nothing is owed above, nothing is owed below.
 pub fn drop_owes_its_words()
     ensures apart { (target : Target) (room : ℕ) (up down : Port) (state : DropState) (end : ℕ) → IsDropPlan target up.shape down.shape
         → RunsAsDrop room up down state → AreLegalAt up end → AnswersAreOwed down end
         → (c : ℕ) → c < end → state.own c ≡ true → is_raised (down.answers.valid c) ≡ false }
     ensures owed { (target : Target) (room : ℕ) (up down : Port) (state : DropState) (end : ℕ) → IsDropPlan target up.shape down.shape
         → RunsAsDrop room up down state → AreLegalAt up end → AnswersAreOwed down end → AnswersAreOwed up end }
+    ensures quiet { (target : Target) (room : ℕ) (up down : Port) (state : DropState) (end : ℕ) → IsDropPlan target up.shape down.shape
+        → RunsAsDrop room up down state → OwesNothingBelow up down end }
 {}

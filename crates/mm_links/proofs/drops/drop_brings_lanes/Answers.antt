@@ -1,4 +1,4 @@
-use Rattle.mm_links.proofs.DropShown.{drop_legal, drop_lanes}
+use Rattle.mm_links.proofs.DropShown.{drop_legal, drop_lanes, drop_hands_on}
 use Rattle.mm_links.proofs.drops.drop_brings_lanes.Goals as goal
 
 pub returns-clause-legal : goal.returns-clause-legal
@@ -6,3 +6,6 @@ returns-clause-legal c = λ target room up down state end plan run legal. drop_l
 
 pub returns-clause-lanes : goal.returns-clause-lanes
 returns-clause-lanes c = λ target room up down state end plan run legal. drop_lanes target room up down state end plan run legal
+
+pub returns-clause-tags : goal.returns-clause-tags
+returns-clause-tags c = λ target room up down state end plan run legal. drop_hands_on target room up down state end plan run legal
