@@ -51,18 +51,18 @@ module _ (target : Target) (up down : Port) (state : BurstState) (plan : IsBurst
       let words = ap length (words_same target up down state plan run end legal c) in
       omega (arith, some, all, split, taken, left, few, words)
 
-  idle_when_given : (c : ℕ) → c ≤ end → words_owed up c ≤ length (words_at up c) → is_sending state c ≡ false
+  pub idle_when_given : (c : ℕ) → c ≤ end → words_owed up c ≤ length (words_at up c) → is_sending state c ≡ false
   idle_when_given c h given = by_sends (is_sending state c) refl
     where
       by_sends : (b : Bool) → is_sending state c ≡ b → is_sending state c ≡ false
       by_sends false e = e
       by_sends true e = let owes = sending_owes c h e in absurd (omega (arith, owes, given))
 
-  record IsPlainAt (c : ℕ) : Type 0 where
+  pub record IsPlainAt (c : ℕ) : Type 0 where
     pub shown : shows up.commands.signals c ≡ true
     pub one : length (marked_at up c).transfer.beats ≡ 1
 
-  plain_at : (c : ℕ) → IsTrue (shows_plain up c) → IsPlainAt c
+  pub plain_at : (c : ℕ) → IsTrue (shows_plain up c) → IsPlainAt c
   plain_at c plain =
       let both = and_parts (shows up.commands.signals c) (is_plain up.shape (earlier_shown up c) (marked_at up c)) plain in
       let lanes = and_parts (begins_alone (earlier_shown up c) (marked_at up c) && closes (marked_at up c) && nat_eq (length (marked_at up c).transfer.beats) 1) (has_lane up.shape (marked_at up c)) both.1 in
@@ -78,18 +78,20 @@ module _ (target : Target) (up down : Port) (state : BurstState) (plan : IsBurst
       )
   only_part m ps bs (more_beats p q b d ps' bs' is more others) one r rest e = absurd (omega (arith, one))
 
+  -- while no read is sent, a plain command is shown below
+  pub goes_through : (c : ℕ) → c < end → IsPlainAt c → is_sending state c ≡ false → (shows down.commands.signals c ≡ true) × (operations_in target down.shape (marked_at down c) ≡ operations_in target up.shape (marked_at up c))
+  goes_through c h p idle =
+      let there : shows down.commands.signals c ≡ true = shows_same up down state run c idle ∙ p.shown in
+      let parts = parts_step up down state run end legal c h p.shown (is_raised (up.commands.write c)) refl in
+      let ops = (only_part (marked_at up c) _ _ (sent_at target up down state plan run end legal c h p.shown).sent p.one _ _ parts).1 in (
+        there,
+        ap (operations_in target down.shape) (flat_at down end (legal_below target up down state plan run end legal) (one_shown target up down state plan run end legal) c h there)
+            ∙ ap (λ r. operations_in target down.shape (low r)) (beat_first up down state run c idle there) ∙ ops,
+      )
+
   straight : GoesStraightThrough (λ c. false) target up down end
   straight = record {
-    shown = λ c h same plain may.
-        let p = plain_at c plain in
-        let idle = idle_at c h p.shown may in
-        let there : shows down.commands.signals c ≡ true = shows_same up down state run c idle ∙ p.shown in
-        let parts = parts_step up down state run end legal c h p.shown (is_raised (up.commands.write c)) refl in
-        let ops = (only_part (marked_at up c) _ _ (sent_at target up down state plan run end legal c h p.shown).sent p.one _ _ parts).1 in (
-          there,
-          ap (operations_in target down.shape) (flat_at down end (legal_below target up down state plan run end legal) (one_shown target up down state plan run end legal) c h there)
-              ∙ ap (λ r. operations_in target down.shape (low r)) (beat_first up down state run c idle there) ∙ ops,
-        );
+    shown = λ c h same plain may. (let p = plain_at c plain in goes_through c h p (idle_at c h p.shown may));
     accepted = λ c h same plain may. takes_same up down state run c (idle_at c h (plain_at c plain).shown may);
     kept = λ c h same plain taken. kept c h (plain_at c plain) taken;
   }

@@ -31,10 +31,10 @@ earlier_is port end legal c h shown =
     by_take false t =
         ap₂ (λ b s. (taken_at port c ++ only_if b (marked_at port c)) ++ only_if (s && not b) (marked_at port c)) t shown ∙ ap (λ l. l ++ marked_at port c ∷ []) (append-nil (taken_at port c))
 
-both : {a b : Bool} → IsTrue a → IsTrue b → IsTrue (a && b)
+pub both : {a b : Bool} → IsTrue a → IsTrue b → IsTrue (a && b)
 both p q = ap₂ (λ a b. a && b) p q
 
-record IsNext (ahead : Bool) (target : Target) (up down : Port) (c : ℕ) : Type 0 where
+pub record IsNext (ahead : Bool) (target : Target) (up down : Port) (c : ℕ) : Type 0 where
   pub plain : IsTrue (shows_plain up c)
   pub acts : IsTrue (is_nonempty (operations_in target up.shape (marked_at up c)))
   pub all : length (operations_among target down.shape (taken_at down c)) ≡ length (operations_among target up.shape (earlier_shown up c))
@@ -43,7 +43,7 @@ record IsNext (ahead : Bool) (target : Target) (up down : Port) (c : ℕ) : Type
 as_next : (ahead : Bool) (target : Target) (up down : Port) (c : ℕ) → IsNext ahead target up down c → IsTrue (is_next ahead target up down c)
 as_next ahead target up down c next = both (both next.plain next.acts) (both (eq-eqb _ _ next.all) next.given)
 
-of_next : (ahead : Bool) (target : Target) (up down : Port) (c : ℕ) → IsTrue (is_next ahead target up down c) → IsNext ahead target up down c
+pub of_next : (ahead : Bool) (target : Target) (up down : Port) (c : ℕ) → IsTrue (is_next ahead target up down c) → IsNext ahead target up down c
 of_next ahead target up down c next =
     let counts = nat_eq (length (operations_among target down.shape (taken_at down c))) (length (operations_among target up.shape (earlier_shown up c))) in
     let halves = and_parts (shows_plain up c && is_nonempty (operations_in target up.shape (marked_at up c))) (counts && (ahead || are_answered up (earlier_shown up c) c)) next in

@@ -28,5 +28,6 @@ pub mod BurstSteps
 pub mod BurstLists
 pub mod BurstLink
 pub mod BurstStraight
+pub mod BurstInStep
 pub mod DropShown
 pub mod DropWords

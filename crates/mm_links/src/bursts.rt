@@ -1,8 +1,9 @@
 //! Links that cut bursts.
 
 ghost use Rattle.std.specs.Prelude.{ℕ, Bool, false};
-ghost use Rattle.mm_machines.specs.Link.{Target, Port};
+ghost use Rattle.mm_machines.specs.Link.{Target, Port, AreLegalAt, AnswersAreOwed};
 ghost use Rattle.mm_links.specs.Links.{IsLink, IsStraightLink};
+ghost use Rattle.mm_links.specs.InStep.{GoesInStep};
 ghost use Rattle.mm_links.specs.Bursts.{BurstState, RunsAsBurst, IsBurstPlan, burst_form};
 
 /// A cutter of bursts keeps all that a link promises.
@@ -17,4 +18,10 @@ pub fn burst_is_a_link()
 pub fn burst_is_straight()
     ensures { (target : Target) (up down : Port) (state : BurstState) (end : ℕ) → IsBurstPlan up.shape down.shape → RunsAsBurst up down state
         → (few : ℕ) (may_burst : Bool) → IsStraightLink few false may_burst target up down end }
+{}
+
+/// A cutter of bursts goes in step: a plain command stays plain, and nothing is taken below before it is accepted.
+pub fn burst_goes_in_step()
+    ensures { (target : Target) (up down : Port) (state : BurstState) (end : ℕ) → IsBurstPlan up.shape down.shape → RunsAsBurst up down state
+        → AreLegalAt up end → AnswersAreOwed down end → GoesInStep false target up down end }
 {}
