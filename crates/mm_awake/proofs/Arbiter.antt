@@ -22,7 +22,7 @@ choice_round (Nobody round) = refl
 choice_round (Begins host round) = refl
 
 -- a host that is chosen asks
-chosen_asks : TurnLaws → (open_host : Option ℕ) (asks : ℕ → Bool) (round : Round) (k : ℕ) → (choice_of open_host asks round).host ≡ Some k → IsTrue (asks k)
+pub chosen_asks : TurnLaws → (open_host : Option ℕ) (asks : ℕ → Bool) (round : Round) (k : ℕ) → (choice_of open_host asks round).host ≡ Some k → IsTrue (asks k)
 chosen_asks laws None asks round k e = by_turn (turn_of asks round) (laws.asked round asks) e
   where
     by_turn : (turn : Turn) → IsOfAsker asks turn → (choice_by turn).host ≡ Some k → IsTrue (asks k)

@@ -23,3 +23,6 @@ pub mod AheadFront
 pub mod AheadOwed
 pub mod Ahead
 pub mod AheadWhole
+pub mod FairTurns
+pub mod FairRing
+pub mod FairArbiter

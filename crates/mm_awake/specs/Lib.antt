@@ -5,3 +5,4 @@ pub mod Slack
 pub mod Approach
 pub mod Theorem
 pub mod Ahead
+pub mod Fair

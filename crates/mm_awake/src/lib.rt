@@ -1,6 +1,8 @@
 //! Whole memory-mapped systems never idle: a wanted agent is served, from what each part promises of its ports.
 #![tactic(auto)]
 
+pub mod fair;
+
 ghost use Rattle.std.specs.Prelude.{◌≡◌, ℕ, ◌≤◌, ◌<◌, ◌+◌, ◌-◌, IsTrue, Some};
 ghost use Rattle.histories.specs.History.{IsPrefix};
 ghost use Rattle.ranks.specs.Turns.{AllShare};
