@@ -21,7 +21,7 @@ use Rattle.mm_awake.proofs.Arbiter.{TurnLaws, Idles, Idles.beat_stands, Idles.re
 use Rattle.mm_awake.proofs.Wanted.{some_or_none, own_taken, tagged_of_host, two_of}
 use Rattle.mm_awake.proofs.Bits.{none_taken, takes_shows, not_shown, shown_again, holds, no_true}
 
-each_of : (test : ℕ → Bool) (xs : List ℕ) (h : ℕ) → IsTrue (list_all test xs) → IsTrue (list_any (nat_eq h) xs) → IsTrue (test h)
+pub each_of : (test : ℕ → Bool) (xs : List ℕ) (h : ℕ) → IsTrue (list_all test xs) → IsTrue (list_any (nat_eq h) xs) → IsTrue (test h)
 each_of test [] h all any = absurd (no_true any)
 each_of test (x ∷ xs) h all any = by_same (nat_eq h x) refl any (each_of test xs h parts.1)
   where

@@ -101,13 +101,13 @@ module _ (laws : Laws) (responses : Responses) (system : System) (run : Run) (in
   lower_tagged : (a i : ℕ) → a < system.agents → i ≤ system.stages → AreTaggedInOrder (inside.lower a i) end
   lower_tagged a i there low = tagged_at laws.stages (target_of system a) (inside.lower a) (states.stage a) system.stages end (λ i low. built.machines.stage a i there low) (some_word a there) (settled.after_arbiter a there).legal (lower_tags a there) i low
 
-  host_part : (h : ℕ) → h < system.hosts → IsHostPart system run h (inside.after_host h) end
+  pub host_part : (h : ℕ) → h < system.hosts → IsHostPart system run h (inside.after_host h) end
   host_part h low = laws.host responses system run h (inside.after_host h) (states.host h) end (built.machines.one_word h low) (legal.hosts h low) (settled.owed h low) (built.machines.host h low)
 
   abbrev behind : ℕ → ℕ → Port
   behind h a = inside.upper h a (inside.links h a)
 
-  route_part : (h : ℕ) → h < system.hosts → IsRoutePart system h (inside.after_host h) (behind h) end
+  pub route_part : (h : ℕ) → h < system.hosts → IsRoutePart system h (inside.after_host h) (behind h) end
   route_part h low = laws.route responses system h (states.room h) (inside.after_host h) (behind h) (states.route h) end (built.plan.places h low) (settled.legal h low) (settled.single h low) (settled.debt h low)
       (λ a there. settled.owed_after_route h a low there) (built.machines.route h low)
 
@@ -126,7 +126,7 @@ module _ (laws : Laws) (responses : Responses) (system : System) (run : Run) (in
       let is = built.machines.stage a i there low in
       subst (λ p. PassesOn (record { hold = stage.depth; kept = 1 }) p (inside.lower a i).port end) is.up_is (subst (λ p. PassesOn (record { hold = stage.depth; kept = 1 }) (above stage) p end) is.down_is (laws.pass stage is.runs end))
 
-  awake_at : (a : ℕ) → a < system.agents → KeepsAwake system run a (ways_of system inside a) (standings_of system run states ranks a) end
+  pub awake_at : (a : ℕ) → a < system.agents → KeepsAwake system run a (ways_of system inside a) (standings_of system run states ranks a) end
   awake_at a there = record {
     agent_part = laws.agent responses system run a (inside.lower a 0) (states.agent a) end (built.plan.agents a there) (settled.before_agent a there) (legal.agents a there) (built.machines.agent a there);
     lower = λ i low. stage_goes a i there low;

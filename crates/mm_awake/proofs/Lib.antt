@@ -26,3 +26,4 @@ pub mod AheadWhole
 pub mod FairTurns
 pub mod FairRing
 pub mod FairArbiter
+pub mod FairWrites

@@ -1,11 +1,12 @@
 -- Full turns: what is asked of the hosts at an arbiter, and whose beats are taken behind it.
 use Rattle.std.specs.Prelude.{◌≡◌, ℕ, zero, suc, ◌+◌, ◌<◌, ◌≤◌, Bool, true, not, ◌&&◌, List, [], ◌∷◌, ◌++◌, map, take, drop, nat_eq, IsTrue}
 use Rattle.std.specs.List.{list_any}
-use Rattle.histories.specs.History.{only_if}
+use Rattle.histories.specs.History.{only_if, is_raised}
 use Rattle.mm_runs.specs.Views.{System}
 use Rattle.mm_runs.specs.Commands.{shows}
 use Rattle.mm_runs.specs.Order.{Owner, is_joined}
 use Rattle.mm_machines.specs.Link.{Port, takes, marked_at, closes}
+use Rattle.mm_awake.specs.Theorem.{Boundaries}
 
 -- each number stands once
 abbrev pub are_apart : List ℕ → Bool
@@ -28,3 +29,18 @@ pub record AreAmong (owners : List Owner) (down : Port) (from size : ℕ) : Type
   pub first : ℕ
   pub few : ℕ
   pub same : map (λ o. o.tag) owners ≡ take few (drop first (hosts_taken down from size))
+
+-- a write beat that ends its command stands at a port
+pub record IsPlainAt (port : Port) (c : ℕ) : Type 0 where
+  pub shown : IsTrue (shows port.commands.signals c)
+  pub write : IsTrue (is_raised (port.commands.write c))
+  pub ends : IsTrue (closes (marked_at port c))
+
+-- a link shows such a beat in the cycle in which it comes, as a wire does
+abbrev pub HandsWritesOn : Port → Port → ℕ → Type 0
+HandsWritesOn up down end = (c : ℕ) → c < end → IsPlainAt up c → IsPlainAt down c
+
+-- what turns ask beside `IsBuilt`: no host is joined to an agent twice, and the links hand plain writes on
+pub record HandsPlainWrites (system : System) (inside : Boundaries) (agent end : ℕ) : Type 0 where
+  pub apart : IsTrue (are_apart (system.joined agent))
+  pub links : (h i : ℕ) → IsTrue (is_joined system agent h) → i < inside.links h agent → HandsWritesOn (inside.upper h agent (suc i)) (inside.upper h agent i) end

@@ -1,15 +1,54 @@
 //! Fairness of whole systems: the turns that hosts take at an agent.
 
-ghost use Rattle.std.specs.Prelude.{ℕ, List, ◌≤◌, ◌+◌, IsTrue};
+ghost use Rattle.std.specs.Prelude.{ℕ, List, ◌≤◌, ◌<◌, ◌+◌, IsTrue};
+ghost use Rattle.std.specs.List.{list_all};
 ghost use Rattle.ranks.specs.Turns.{AllShare};
-ghost use Rattle.mm_runs.specs.Views.{System};
+ghost use Rattle.mm_runs.specs.Views.{System, Run, Responses};
+ghost use Rattle.mm_runs.specs.Whole.{IsLegalRun};
 ghost use Rattle.mm_runs.specs.Order.{Owner};
-ghost use Rattle.mm_runs.specs.Awake.{HasFullTurns, turns_of};
+ghost use Rattle.mm_runs.specs.Awake.{HasFullTurns, turns_of, shows_plain_write, Throughout};
 ghost use Rattle.mm_machines.specs.Link.{Port};
 ghost use Rattle.mm_machines.specs.Lines.{TaggedPort};
 ghost use Rattle.mm_machines.specs.Turns.{seats_of};
-ghost use Rattle.mm_parts.specs.Steps.{IsArbiterPart};
-ghost use Rattle.mm_awake.specs.Fair.{are_apart, AllAskPlainly, AreAmong};
+ghost use Rattle.mm_parts.specs.Steps.{IsArbiterPart, IsHostPart, IsRoutePart};
+ghost use Rattle.mm_awake.specs.Theorem.{Boundaries, States, LinkRanks, IsBuilt};
+ghost use Rattle.mm_awake.specs.Fair.{are_apart, AllAskPlainly, AreAmong, IsPlainAt, HandsWritesOn, HandsPlainWrites};
+
+/// In a system of machines whose links hand plain writes on, where each host that is joined to an agent shows a plain write for it in every cycle of a window, the commands that are taken behind its arbiter stand in full turns.
+pub fn plain_writers_take_full_turns()
+    ensures { (responses : Responses) (system : System) (run : Run) (inside : Boundaries) (states : States) (ranks : LinkRanks) (end agent from size : ℕ) (owners : List Owner)
+        → IsBuilt responses system run inside states ranks end → IsLegalRun system run end → agent < system.agents → HandsPlainWrites system inside agent end
+        → from + size ≤ end → Throughout from size (λ c. IsTrue (list_all (shows_plain_write system run agent c) (system.joined agent)))
+        → AreAmong owners (inside.lower agent system.stages).port from size
+        → HasFullTurns system agent (turns_of owners) }
+{
+    asking_hosts_take_full_turns();
+    plain_writes_go_on();
+    mm_machines::settled::lines_settle();
+    mm_machines::machines::stage_is_a_link();
+    mm_machines::machines::stage_is_later();
+    mm_parts::lines::host_machine_keeps_its_line();
+    mm_parts::lines::route_machine_keeps_its_line();
+    mm_parts::lines::arbiter_machine_keeps_its_line();
+    mm_parts::lines::agent_machine_keeps_its_line();
+    mm_parts::steps::host_machine_is_a_part();
+    mm_parts::steps::route_machine_is_a_part();
+    mm_parts::steps::arbiter_machine_is_a_part();
+    mm_parts::steps::agent_machine_is_a_part();
+    mm_links::pipes::stage_keeps_going();
+    crate::stages_pass_on();
+    crate::host_and_route_are_a_front();
+    crate::words_reach_the_host();
+    crate::host_and_route_serve_default()
+}
+
+/// A plain write that a host shows for an agent stands behind its route in the same cycle, and ends its command there. A wire hands it on.
+pub fn plain_writes_go_on()
+    ensures route { (system : System) (run : Run) (host agent : ℕ) (middle : Port) (down : ℕ → Port) (end : ℕ) → agent < system.agents
+        → IsHostPart system run host middle end → IsRoutePart system host middle down end
+        → (c : ℕ) → c < end → IsTrue (shows_plain_write system run agent c host) → IsPlainAt (down agent) c }
+    ensures wire { (port : Port) (end : ℕ) → HandsWritesOn port port end }
+{}
 
 /// Where each host that is joined to an agent asks at its arbiter in every cycle of a window, with beats that end their commands, the commands that are taken there stand in full turns, wherever a row of them begins and ends: a turn between others is of exactly its host's shares, and the next host in the order follows.
 pub fn asking_hosts_take_full_turns()

@@ -1,0 +1,114 @@
+-- The plain writes that hosts show ask at the arbiter in their cycle.
+use Rattle.std.proofs.Common.{ℕ, zero, suc, ◌<◌, ◌≤◌, ◌≡◌, ◌+◌, Bool, true, false, not, ◌||◌, ◌&&◌, arith, refl, sym, ap, subst, ◌∙◌, IsTrue}
+use Rattle.histories.specs.History.{is_raised}
+use Rattle.mm_runs.specs.Views.{System, Run}
+use Rattle.mm_runs.specs.Commands.{Transfer, shows, transfer_at}
+use Rattle.mm_runs.specs.Legal.{host_accepts}
+use Rattle.mm_runs.specs.Order.{place_of, is_agent, is_joined}
+use Rattle.mm_runs.specs.Awake.{shows_plain_write, Throughout}
+use Rattle.std.specs.List.{list_all}
+use Rattle.mm_machines.specs.Link.{Port, marked_at, closes}
+use Rattle.mm_parts.specs.Steps.{IsHostPart, IsRoutePart, may_read, place_shown}
+use Rattle.mm_awake.specs.Fair.{IsPlainAt, HandsWritesOn, AllAskPlainly}
+use Rattle.mm_awake.proofs.Ahead.{each_of}
+
+abbrev shown_by : System → Run → ℕ → ℕ → Transfer
+shown_by system run host c = transfer_at (system.host host).shape (run.at_host host).signals (host_accepts (run.at_host host)) c
+
+-- what a plain write is
+record IsPlainWrite (system : System) (run : Run) (agent host c : ℕ) : Type 0 where
+  write : IsTrue (is_raised ((run.at_host host).write c))
+  ends : IsTrue (shown_by system run host c).ends
+  place : IsTrue (is_agent agent (place_of system host (shown_by system run host c)))
+
+plain_parts : (w b e n p o : Bool) → IsTrue (w && b && e && n && p && o) → IsTrue w × IsTrue e × IsTrue p
+plain_parts true true true true true true h = (refl, refl, refl)
+plain_parts true true true true true false h = absurd cc
+plain_parts true true true true false o h = absurd cc
+plain_parts true true true false p o h = absurd cc
+plain_parts true true false n p o h = absurd cc
+plain_parts true false e n p o h = absurd cc
+plain_parts false b e n p o h = absurd cc
+
+plain_of : (system : System) (run : Run) (agent host c : ℕ) → IsTrue (shows_plain_write system run agent c host) → IsPlainWrite system run agent host c
+plain_of system run agent host c h = let parts = plain_parts _ _ _ _ _ _ h in record { write = parts.0; ends = parts.1; place = parts.2 }
+
+shows_write : (r w : Bool) → IsTrue w → IsTrue (r || w)
+shows_write true true h = refl
+shows_write false true h = refl
+shows_write r false h = absurd cc
+
+both : (a b : Bool) → IsTrue a → IsTrue b → IsTrue (a && b)
+both true true a b = refl
+both true false a b = b
+both false b a c = a
+
+or_first : (a b : Bool) → IsTrue a → IsTrue (a || b)
+or_first true b a = refl
+or_first false b a = absurd cc
+
+ends_alone : (e m : Bool) → IsTrue e → m ≡ not e → IsTrue (e && not m)
+ends_alone true true a b = absurd cc
+ends_alone true false a b = refl
+ends_alone false m a b = absurd cc
+
+module _ (system : System) (run : Run) (host agent : ℕ) (middle : Port) (down : ℕ → Port) (end : ℕ) (there : agent < system.agents)
+    (part : IsHostPart system run host middle end) (route : IsRoutePart system host middle down end) (c : ℕ) (fit : c < end) where
+  abbrev view_write : Bool
+  view_write = is_raised ((run.at_host host).write c)
+
+  at_middle : IsTrue view_write → IsTrue (shows middle.commands.signals c)
+  at_middle write =
+      part.shown c fit ∙ both (shows (run.at_host host).signals c) (view_write || may_read system run host middle c) (shows_write (is_raised ((run.at_host host).read c)) view_write write) (or_first view_write (may_read system run host middle c) write)
+
+  module _ (plain : IsPlainWrite system run agent host c) where
+    abbrev shown : IsTrue (shows middle.commands.signals c)
+    shown = at_middle plain.write
+
+    same : (marked_at middle c).transfer ≡ shown_by system run host c
+    same = part.same c fit shown
+
+    write_at : IsTrue (is_raised (middle.commands.write c))
+    write_at = part.level c fit shown ∙ plain.write
+
+    place_at : IsTrue (is_agent agent (place_shown system host middle c))
+    place_at = ap (λ t. is_agent agent (place_of system host t)) same ∙ plain.place
+
+    ends_at : IsTrue (closes (marked_at middle c))
+    ends_at = ends_alone (marked_at middle c).transfer.ends (marked_at middle c).more (ap (λ (t : Transfer). t.ends) same ∙ plain.ends) (part.more c fit shown)
+
+    behind : IsTrue (shows (down agent).commands.signals c)
+    behind = route.shown agent c there fit
+        ∙ all_three (shows middle.commands.signals c) (is_agent agent (place_shown system host middle c)) (is_raised (middle.commands.write c)) _ shown place_at write_at
+      where
+        all_three : (s p w o : Bool) → IsTrue s → IsTrue p → IsTrue w → IsTrue (s && p && (w || o))
+        all_three true true true o a b c = refl
+        all_three true true false o a b c = absurd cc
+        all_three true false w o a b c = absurd cc
+        all_three false p w o a b c = absurd cc
+
+    plain_behind : IsPlainAt (down agent) c
+    plain_behind = record {
+      shown = behind;
+      write = route.level agent c there fit behind ∙ write_at;
+      ends = subst IsTrue (sym (ap (λ (t : Transfer). t.ends && not (marked_at (down agent) c).more) (route.same agent c there fit behind)
+          ∙ ap (λ m. (marked_at middle c).transfer.ends && not m) (route.more agent c there fit behind))) ends_at;
+    }
+
+  pub goes_on : IsTrue (shows_plain_write system run agent c host) → IsPlainAt (down agent) c
+  goes_on h = plain_behind (plain_of system run agent host c h)
+
+pub handed_down : (port : ℕ → Port) (n end c : ℕ) → c < end → ((i : ℕ) → i < n → HandsWritesOn (port (suc i)) (port i) end) → IsPlainAt (port n) c → IsPlainAt (port 0) c
+handed_down port zero end c fit hands at = at
+handed_down port (suc n) end c fit hands at = handed_down port n end c fit (λ i low. hands i (omega (arith, low))) (hands n (omega arith) c fit at)
+
+-- plain writers ask at the arbiter throughout
+pub all_ask : (system : System) (run : Run) (agent : ℕ) (links : ℕ → ℕ) (upper : ℕ → ℕ → Port) (from size end : ℕ) → from + size ≤ end →
+    ((h i : ℕ) → IsTrue (is_joined system agent h) → i < links h → HandsWritesOn (upper h (suc i)) (upper h i) end) →
+    ((h c : ℕ) → IsTrue (is_joined system agent h) → c < end → IsTrue (shows_plain_write system run agent c h) → IsPlainAt (upper h (links h)) c) →
+    Throughout from size (λ c. IsTrue (list_all (shows_plain_write system run agent c) (system.joined agent))) → AllAskPlainly system agent (λ h. upper h 0) from size
+all_ask system run agent links upper from size end fit hands goes writes h c joined low high =
+    let inside : c < end = omega (arith, fit, high) in
+    let shown = each_of (shows_plain_write system run agent c) (system.joined agent) h (writes c low high) joined in
+    let at = handed_down (upper h) (links h) end c inside (λ i less. hands h i joined less) (goes h c joined inside shown) in
+    (at.shown, at.ends)

@@ -1,0 +1,8 @@
+use Rattle.mm_awake.proofs.FairWrites.{goes_on}
+use Rattle.mm_awake.proofs.fair.plain_writes_go_on.Goals as goal
+
+pub returns-clause-route : goal.returns-clause-route
+returns-clause-route c = λ system run host agent middle down end there part route c fit shown. goes_on system run host agent middle down end there part route c fit shown
+
+pub returns-clause-wire : goal.returns-clause-wire
+returns-clause-wire c = λ port end c fit at. at
