@@ -64,7 +64,7 @@ none_begins asks round h e seated = by_test (asks (last_host round.ring) && nat_
     by_test true e = absurd cc
     by_test false e = none_in_row asks [] round.ring h e seated
 
-seated_if_joined : (shares : ℕ → ℕ) (order : List ℕ) (h : ℕ) → IsTrue (list_any (nat_eq h) order) → IsTrue (is_seated h (map (λ host. record { host = host; shares = shares host }) order))
+pub seated_if_joined : (shares : ℕ → ℕ) (order : List ℕ) (h : ℕ) → IsTrue (list_any (nat_eq h) order) → IsTrue (is_seated h (map (λ host. record { host = host; shares = shares host }) order))
 seated_if_joined shares [] h any = absurd cc
 seated_if_joined shares (x ∷ order) h any = by_same (nat_eq h x) refl any (seated_if_joined shares order h)
   where

@@ -27,3 +27,4 @@ pub mod FairTurns
 pub mod FairRing
 pub mod FairArbiter
 pub mod FairWrites
+pub mod FairFew

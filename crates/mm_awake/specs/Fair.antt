@@ -2,10 +2,11 @@
 use Rattle.std.specs.Prelude.{◌≡◌, ℕ, zero, suc, ◌+◌, ◌<◌, ◌≤◌, Bool, true, not, ◌&&◌, List, [], ◌∷◌, ◌++◌, map, take, drop, nat_eq, IsTrue}
 use Rattle.std.specs.List.{list_any}
 use Rattle.histories.specs.History.{only_if, is_raised}
-use Rattle.mm_runs.specs.Views.{System}
+use Rattle.mm_runs.specs.Views.{System, Run}
 use Rattle.mm_runs.specs.Commands.{shows}
 use Rattle.mm_runs.specs.Order.{Owner, is_joined}
 use Rattle.mm_machines.specs.Link.{Port, takes, marked_at, closes}
+use Rattle.mm_parts.specs.Steps.{IsHostPart, IsRoutePart, IsArbiterPart}
 use Rattle.mm_awake.specs.Theorem.{Boundaries}
 
 -- each number stands once
@@ -44,3 +45,9 @@ HandsWritesOn up down end = (c : ℕ) → c < end → IsPlainAt up c → IsPlain
 pub record HandsPlainWrites (system : System) (inside : Boundaries) (agent end : ℕ) : Type 0 where
   pub apart : IsTrue (are_apart (system.joined agent))
   pub links : (h i : ℕ) → IsTrue (is_joined system agent h) → i < inside.links h agent → HandsWritesOn (inside.upper h agent (suc i)) (inside.upper h agent i) end
+
+-- next to the hosts, at the routes and at the arbiters each part keeps its record
+pub record AreParts (system : System) (run : Run) (inside : Boundaries) (end : ℕ) : Type 0 where
+  pub host : (h : ℕ) → h < system.hosts → IsHostPart system run h (inside.after_host h) end
+  pub route : (h : ℕ) → h < system.hosts → IsRoutePart system h (inside.after_host h) (λ a. inside.upper h a (inside.links h a)) end
+  pub arbiter : (a : ℕ) → a < system.agents → IsArbiterPart system a (λ h. inside.upper h a 0) (inside.lower a system.stages) end

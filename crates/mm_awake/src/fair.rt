@@ -6,13 +6,13 @@ ghost use Rattle.ranks.specs.Turns.{AllShare};
 ghost use Rattle.mm_runs.specs.Views.{System, Run, Responses};
 ghost use Rattle.mm_runs.specs.Whole.{IsLegalRun};
 ghost use Rattle.mm_runs.specs.Order.{Owner};
-ghost use Rattle.mm_runs.specs.Awake.{HasFullTurns, turns_of, shows_plain_write, Throughout};
+ghost use Rattle.mm_runs.specs.Awake.{HasFullTurns, turns_of, shows_plain_write, shares_of_others, Throughout};
 ghost use Rattle.mm_machines.specs.Link.{Port};
 ghost use Rattle.mm_machines.specs.Lines.{TaggedPort};
-ghost use Rattle.mm_machines.specs.Turns.{seats_of};
+ghost use Rattle.mm_machines.specs.Turns.{seats_of, others_begun, IsKeptAsking};
 ghost use Rattle.mm_parts.specs.Steps.{IsArbiterPart, IsHostPart, IsRoutePart};
 ghost use Rattle.mm_awake.specs.Theorem.{Boundaries, States, LinkRanks, IsBuilt};
-ghost use Rattle.mm_awake.specs.Fair.{are_apart, AllAskPlainly, AreAmong, IsPlainAt, HandsWritesOn, HandsPlainWrites};
+ghost use Rattle.mm_awake.specs.Fair.{are_apart, AllAskPlainly, AreAmong, IsPlainAt, HandsWritesOn, HandsPlainWrites, AreParts};
 
 /// In a system of machines whose links hand plain writes on, where each host that is joined to an agent shows a plain write for it in every cycle of a window, the commands that are taken behind its arbiter stand in full turns.
 pub fn plain_writers_take_full_turns()
@@ -24,6 +24,25 @@ pub fn plain_writers_take_full_turns()
 {
     asking_hosts_take_full_turns();
     plain_writes_go_on();
+    machines_are_parts()
+}
+
+/// In a system of machines a host that asks at an agent's arbiter throughout a window, and none of whose commands begins there, is passed by at most as many commands of the others as they have shares together.
+pub fn askers_are_passed_by_few()
+    ensures { (responses : Responses) (system : System) (run : Run) (inside : Boundaries) (states : States) (ranks : LinkRanks) (end agent host from size : ℕ)
+        → IsBuilt responses system run inside states ranks end → IsLegalRun system run end → agent < system.agents → from + size ≤ end
+        → IsKeptAsking (seats_of system agent) (λ h. inside.upper h agent 0) (inside.lower agent system.stages).port host from size
+        → others_begun (seats_of system agent) (λ h. inside.upper h agent 0) (inside.lower agent system.stages).port host from size ≤ shares_of_others system agent host }
+{
+    mm_machines::progress::turn_rule_is_fair();
+    machines_are_parts()
+}
+
+/// In a system of machines the parts next to the hosts, the routes and the arbiters keep the equations of their records.
+pub fn machines_are_parts()
+    ensures { (responses : Responses) (system : System) (run : Run) (inside : Boundaries) (states : States) (ranks : LinkRanks) (end : ℕ)
+        → IsBuilt responses system run inside states ranks end → IsLegalRun system run end → AreParts system run inside end }
+{
     mm_machines::settled::lines_settle();
     mm_machines::machines::stage_is_a_link();
     mm_machines::machines::stage_is_later();

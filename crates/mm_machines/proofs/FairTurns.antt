@@ -1,5 +1,5 @@
 -- An arbiter that keeps the turn rule lets a host that asks be passed by no more commands than the others have shares.
-use Rattle.std.proofs.Common.{ℕ, zero, suc, ◌≤◌, ◌≡◌, ◌+◌, [], ◌∷◌, ◌++◌, List, Bool, true, false, not, ◌&&◌, IsTrue, IsFalse, arith, refl, sym, ◌∙◌, subst, nat_eq, Option, Some, None, is_none, MatchOption, if◌then◌else◌, tests}
+use Rattle.std.proofs.Common.{ℕ, zero, suc, ◌<◌, ◌≤◌, ◌≡◌, ◌+◌, [], ◌∷◌, ◌++◌, List, Bool, true, false, not, ◌&&◌, IsTrue, IsFalse, arith, refl, sym, ◌∙◌, subst, nat_eq, Option, Some, None, is_none, MatchOption, if◌then◌else◌, tests}
 use Rattle.histories.specs.History.{one_if}
 use Rattle.mm_runs.specs.Commands.{shows}
 use Rattle.mm_machines.specs.Link.{Port}
@@ -56,7 +56,7 @@ free_ask host asks rest None asked all = (asked, all)
 free_ask host asks rest (Some k) asked all = all
 
 module _ (laws : TurnLaws) (seats : List Seat) (up : ℕ → Port) (down : Port) (end : ℕ) (rule : TakesTurnsByRule seats up down end)
-    (tags : (h c : ℕ) → IsTrue (asks_at up c h) → (up h).commands.tag c ≡ h) (share : AllShare seats) where
+    (tags : (h c : ℕ) → c < end → IsTrue (asks_at up c h) → (up h).commands.tag c ≡ h) (share : AllShare seats) where
   next_round : (round : Round) (asks : ℕ → Bool) (open_host : Option ℕ) → IsRoundOf seats round → IsRoundOf seats (choice_of open_host asks round).round
   next_round round asks None is = subst (IsRoundOf seats) (sym (choice_round (turn_of asks round))) (laws.seats seats round asks is)
   next_round round asks (Some k) is = is
@@ -71,7 +71,7 @@ module _ (laws : TurnLaws) (seats : List Seat) (up : ℕ → Port) (down : Port)
   counted host from (suc size) fits waits =
       let grant = grant_before seats up down from in
       by_open host (down.commands.tag from) (others_begun seats up down host (suc from) size) (shows down.commands.signals from) (asks_at up from) (λ k. (up k).commands.tag from)
-      (free_asks seats up down (suc from) size) grant.round grant.open_host (laws.asked grant.round (asks_at up from)) (rule from (omega (arith, fits))) (λ k asked. tags k from asked)
+      (free_asks seats up down (suc from) size) grant.round grant.open_host (laws.asked grant.round (asks_at up from)) (rule from (omega (arith, fits))) (λ k asked. tags k from (omega (arith, fits)) asked)
       (waits from (omega arith) (omega arith)).1
       (counted host (suc from) size (omega (arith, fits)) (λ c low high. waits c (omega (arith, low)) (omega (arith, high))))
 

@@ -79,13 +79,13 @@ IsKeptAsking seats up down host from size =
     (c : ℕ) → from ≤ c → c < from + size → IsTrue (asks_at up c host) × IsFalse (begins_at seats up down (nat_eq host) c)
 
 -- a host that asks bears its number as its tag
-abbrev pub BearOwnTags : (ℕ → Port) → Type 0
-BearOwnTags up = (host c : ℕ) → IsTrue (asks_at up c host) → (up host).commands.tag c ≡ host
+abbrev pub BearOwnTags : (ℕ → Port) → ℕ → Type 0
+BearOwnTags up end = (host c : ℕ) → c < end → IsTrue (asks_at up c host) → (up host).commands.tag c ≡ host
 
 -- an arbiter that keeps the turn rule, among hosts that each have a share
 pub record IsFairArbiter (seats : List Seat) (up : ℕ → Port) (down : Port) (end : ℕ) : Type 0 where
   pub rule : TakesTurnsByRule seats up down end
-  pub tags : BearOwnTags up
+  pub tags : BearOwnTags up end
   pub shares : AllShare seats
 
 -- a host with a seat asks throughout a window before `end`, and none of its commands begins in it
