@@ -28,3 +28,4 @@ pub mod FairRing
 pub mod FairArbiter
 pub mod FairWrites
 pub mod FairFew
+pub mod FairBegun

@@ -104,7 +104,7 @@ three_parts a b c f = let p = or_parts (a || b) c f in let q = or_parts a b p.0 
 
 -- ---- operations with one tag
 
-host_ops : (tag : ℕ) (ops : List Operation) (h : ℕ) → length (of_host h (map (λ o. record { tag = tag; operation = o }) ops)) ≡ (if nat_eq tag h then length ops else 0)
+pub host_ops : (tag : ℕ) (ops : List Operation) (h : ℕ) → length (of_host h (map (λ o. record { tag = tag; operation = o }) ops)) ≡ (if nat_eq tag h then length ops else 0)
 host_ops tag [] h = by_same (nat_eq tag h)
   where
     by_same : (b : Bool) → zero ≡ (if b then zero else zero)
@@ -118,7 +118,7 @@ host_ops tag (o ∷ ops) h = by_same (nat_eq tag h) (host_ops tag ops h)
     by_same true more = ap suc more
     by_same false more = more
 
-of_host_append : (h : ℕ) (xs ys : List Tagged) → length (of_host h (xs ++ ys)) ≡ length (of_host h xs) + length (of_host h ys)
+pub of_host_append : (h : ℕ) (xs ys : List Tagged) → length (of_host h (xs ++ ys)) ≡ length (of_host h xs) + length (of_host h ys)
 of_host_append h [] ys = omega arith
 of_host_append h (x ∷ xs) ys = by_same (has_tag h x) (of_host_append h xs ys)
   where

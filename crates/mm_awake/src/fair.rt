@@ -2,11 +2,12 @@
 
 ghost use Rattle.std.specs.Prelude.{ℕ, List, ◌≤◌, ◌<◌, ◌+◌, IsTrue};
 ghost use Rattle.std.specs.List.{list_all};
+ghost use Rattle.histories.specs.History.{IsPrefix};
 ghost use Rattle.ranks.specs.Turns.{AllShare};
 ghost use Rattle.mm_runs.specs.Views.{System, Run, Responses};
 ghost use Rattle.mm_runs.specs.Whole.{IsLegalRun};
-ghost use Rattle.mm_runs.specs.Order.{Owner};
-ghost use Rattle.mm_runs.specs.Awake.{HasFullTurns, turns_of, shows_plain_write, shares_of_others, Throughout};
+ghost use Rattle.mm_runs.specs.Order.{Owner, ServesInGrantedOrder, is_joined};
+ghost use Rattle.mm_runs.specs.Awake.{begun, HasFullTurns, turns_of, shows_plain_write, shares_of_others, Throughout};
 ghost use Rattle.mm_machines.specs.Link.{Port};
 ghost use Rattle.mm_machines.specs.Lines.{TaggedPort};
 ghost use Rattle.mm_machines.specs.Turns.{seats_of, others_begun, IsKeptAsking};
@@ -77,4 +78,13 @@ pub fn asking_hosts_take_full_turns()
         → HasFullTurns system agent (turns_of owners) }
 {
     ranks::turns_keep_seats()
+}
+
+/// Where an agent serves in granted order, what has begun there stays begun, in its order.
+pub fn begun_grows()
+    ensures { (system : System) (run : Run) (agent end : ℕ) → ServesInGrantedOrder system run agent end
+        → ((h : ℕ) → IsTrue (is_joined system agent h) → h < system.hosts)
+        → (c d : ℕ) → c ≤ d → d ≤ end → IsPrefix (begun system run agent c) (begun system run agent d) }
+{
+    mm_runs::histories_grow()
 }
