@@ -120,7 +120,7 @@ module _ (laws : Laws) (responses : Responses) (system : System) (run : Run) (in
       let here = laws.going stage is.runs is.some is.ready (target_of system a) end (subst (λ p. AreLegalAt p end) (sym is.up_is) up_legal) (subst (λ p. AreLegalAt p end) (sym is.down_is) down_legal) in
       subst (λ p. KeepsGoing (target_of system a) p (inside.lower a i).port (owing_rank (below stage)) 1 end) is.up_is (subst (λ p. KeepsGoing (target_of system a) (above stage) p (owing_rank (below stage)) 1 end) is.down_is here)
 
-  stage_passes : (a i : ℕ) → a < system.agents → i < system.stages → PassesOn (record { hold = (states.stage a i).depth; kept = 1 }) (inside.lower a (suc i)).port (inside.lower a i).port end
+  pub stage_passes : (a i : ℕ) → a < system.agents → i < system.stages → PassesOn (record { hold = (states.stage a i).depth; kept = 1 }) (inside.lower a (suc i)).port (inside.lower a i).port end
   stage_passes a i there low =
       let stage = states.stage a i in
       let is = built.machines.stage a i there low in

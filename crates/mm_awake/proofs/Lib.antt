@@ -29,3 +29,4 @@ pub mod FairArbiter
 pub mod FairWrites
 pub mod FairFew
 pub mod FairBegun
+pub mod FairPipe

@@ -3,10 +3,11 @@ use Rattle.std.specs.Prelude.{◌≡◌, ℕ, zero, suc, ◌+◌, ◌<◌, ◌�
 use Rattle.std.specs.List.{list_any}
 use Rattle.histories.specs.History.{only_if, is_raised}
 use Rattle.mm_runs.specs.Views.{System, Run}
-use Rattle.mm_runs.specs.Commands.{shows}
+use Rattle.mm_runs.specs.Commands.{shows, agent_accepts}
 use Rattle.mm_runs.specs.Order.{Owner, is_joined}
 use Rattle.mm_machines.specs.Link.{Port, takes, marked_at, closes}
 use Rattle.mm_parts.specs.Steps.{IsHostPart, IsRoutePart, IsArbiterPart}
+use Rattle.mm_awake.specs.Slack.{PassesOn}
 use Rattle.mm_awake.specs.Theorem.{Boundaries}
 
 -- each number stands once
@@ -46,8 +47,10 @@ pub record HandsPlainWrites (system : System) (inside : Boundaries) (agent end :
   pub apart : IsTrue (are_apart (system.joined agent))
   pub links : (h i : ℕ) → IsTrue (is_joined system agent h) → i < inside.links h agent → HandsWritesOn (inside.upper h agent (suc i)) (inside.upper h agent i) end
 
--- next to the hosts, at the routes and at the arbiters each part keeps its record
+-- next to the hosts, at the routes and at the arbiters each part keeps its record, each stage holds back two beats at most, and the part next to an agent none
 pub record AreParts (system : System) (run : Run) (inside : Boundaries) (end : ℕ) : Type 0 where
   pub host : (h : ℕ) → h < system.hosts → IsHostPart system run h (inside.after_host h) end
   pub route : (h : ℕ) → h < system.hosts → IsRoutePart system h (inside.after_host h) (λ a. inside.upper h a (inside.links h a)) end
   pub arbiter : (a : ℕ) → a < system.agents → IsArbiterPart system a (λ h. inside.upper h a 0) (inside.lower a system.stages) end
+  pub stage : (a i : ℕ) → a < system.agents → i < system.stages → PassesOn (record { hold = 2; kept = 1 }) (inside.lower a (suc i)).port (inside.lower a i).port end
+  pub agent : (a c : ℕ) → a < system.agents → c < end → takes (inside.lower a 0).port c ≡ agent_accepts (system.agent a) (run.at_agent a) c

@@ -1,17 +1,19 @@
 //! Fairness of whole systems: the turns that hosts take at an agent.
 
-ghost use Rattle.std.specs.Prelude.{ℕ, List, ◌≤◌, ◌<◌, ◌+◌, IsTrue};
+ghost use Rattle.std.specs.Prelude.{ℕ, List, ◌≤◌, ◌<◌, ◌+◌, ◌*◌, IsTrue};
 ghost use Rattle.std.specs.List.{list_all};
 ghost use Rattle.histories.specs.History.{IsPrefix};
 ghost use Rattle.ranks.specs.Turns.{AllShare};
 ghost use Rattle.mm_runs.specs.Views.{System, Run, Responses};
 ghost use Rattle.mm_runs.specs.Whole.{IsLegalRun};
+ghost use Rattle.mm_runs.specs.Commands.{agent_accepts};
 ghost use Rattle.mm_runs.specs.Order.{Owner, ServesInGrantedOrder, is_joined};
 ghost use Rattle.mm_runs.specs.Awake.{begun, HasFullTurns, turns_of, shows_plain_write, shares_of_others, Throughout};
-ghost use Rattle.mm_machines.specs.Link.{Port};
+ghost use Rattle.mm_machines.specs.Link.{Port, takes};
 ghost use Rattle.mm_machines.specs.Lines.{TaggedPort};
 ghost use Rattle.mm_machines.specs.Turns.{seats_of, others_begun, IsKeptAsking};
 ghost use Rattle.mm_parts.specs.Steps.{IsArbiterPart, IsHostPart, IsRoutePart};
+ghost use Rattle.mm_awake.specs.Ways.{count_in};
 ghost use Rattle.mm_awake.specs.Theorem.{Boundaries, States, LinkRanks, IsBuilt};
 ghost use Rattle.mm_awake.specs.Fair.{are_apart, AllAskPlainly, AreAmong, IsPlainAt, HandsWritesOn, HandsPlainWrites, AreParts};
 
@@ -39,7 +41,16 @@ pub fn askers_are_passed_by_few()
     machines_are_parts()
 }
 
-/// In a system of machines the parts next to the hosts, the routes and the arbiters keep the equations of their records.
+/// In a system of machines, in each stretch of cycles an agent's arbiter hands on at most two beats for each stage more than the agent accepts.
+pub fn few_stand_in_the_pipe()
+    ensures { (responses : Responses) (system : System) (run : Run) (inside : Boundaries) (states : States) (ranks : LinkRanks) (end agent from size : ℕ)
+        → IsBuilt responses system run inside states ranks end → IsLegalRun system run end → agent < system.agents → from + size ≤ end
+        → count_in (takes (inside.lower agent system.stages).port) from size ≤ count_in (agent_accepts (system.agent agent) (run.at_agent agent)) from size + 2 * system.stages }
+{
+    machines_are_parts()
+}
+
+/// In a system of machines the parts next to the hosts, the routes and the arbiters keep the equations of their records, each stage holds back two beats at most, and the part next to an agent none.
 pub fn machines_are_parts()
     ensures { (responses : Responses) (system : System) (run : Run) (inside : Boundaries) (states : States) (ranks : LinkRanks) (end : ℕ)
         → IsBuilt responses system run inside states ranks end → IsLegalRun system run end → AreParts system run inside end }

@@ -1,4 +1,5 @@
-use Rattle.mm_awake.proofs.Building.{Laws, host_part, route_part, awake_at}
+use Rattle.mm_awake.proofs.Building.{Laws, host_part, route_part, awake_at, stage_passes}
+use Rattle.mm_awake.proofs.FairPipe.{holds_two}
 use Rattle.mm_awake.proofs.fair.machines_are_parts.Goals as goal
 
 pub returns : goal.returns
@@ -6,6 +7,8 @@ returns c = λ responses system run inside states ranks end built legal. record 
   host = λ h low. host_part laws responses system run inside states ranks end built legal h low;
   route = λ h low. route_part laws responses system run inside states ranks end built legal h low;
   arbiter = λ a there. (awake_at laws responses system run inside states ranks end built legal a there).arbiter;
+  stage = λ a i there low. holds_two _ _ _ _ end (built.machines.stage a i there low).few (stage_passes laws responses system run inside states ranks end built legal a i there low);
+  agent = λ a k there low. (awake_at laws responses system run inside states ranks end built legal a there).agent_part.accepted k low;
 }
   where
     laws : Laws
