@@ -30,3 +30,4 @@ pub mod FairWrites
 pub mod FairFew
 pub mod FairBegun
 pub mod FairPipe
+pub mod FairWaits

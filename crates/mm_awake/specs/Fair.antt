@@ -1,10 +1,11 @@
 -- Full turns: what is asked of the hosts at an arbiter, and whose beats are taken behind it.
-use Rattle.std.specs.Prelude.{◌≡◌, ℕ, zero, suc, ◌+◌, ◌<◌, ◌≤◌, Bool, true, not, ◌&&◌, List, [], ◌∷◌, ◌++◌, map, take, drop, nat_eq, IsTrue}
+use Rattle.std.specs.Prelude.{◌≡◌, ℕ, zero, suc, ◌+◌, ◌<◌, ◌≤◌, Bool, true, not, ◌&&◌, List, [], ◌∷◌, ◌++◌, map, take, drop, nat_eq, IsTrue, IsFalse, Some}
 use Rattle.std.specs.List.{list_any}
 use Rattle.histories.specs.History.{only_if, is_raised}
 use Rattle.mm_runs.specs.Views.{System, Run}
 use Rattle.mm_runs.specs.Commands.{shows, agent_accepts}
 use Rattle.mm_runs.specs.Order.{Owner, is_joined}
+use Rattle.mm_runs.specs.Awake.{commands_begun, is_for, are_finished_before, has_no_operation}
 use Rattle.mm_machines.specs.Link.{Port, takes, marked_at, closes}
 use Rattle.mm_parts.specs.Steps.{IsHostPart, IsRoutePart, IsArbiterPart}
 use Rattle.mm_awake.specs.Slack.{PassesOn}
@@ -54,3 +55,9 @@ pub record AreParts (system : System) (run : Run) (inside : Boundaries) (end : �
   pub arbiter : (a : ℕ) → a < system.agents → IsArbiterPart system a (λ h. inside.upper h a 0) (inside.lower a system.stages) end
   pub stage : (a i : ℕ) → a < system.agents → i < system.stages → PassesOn (record { hold = 2; kept = 1 }) (inside.lower a (suc i)).port (inside.lower a i).port end
   pub agent : (a c : ℕ) → a < system.agents → c < end → takes (inside.lower a 0).port c ≡ agent_accepts (system.agent a) (run.at_agent a) c
+
+-- the last command that a host has presented is for an agent and has an operation, and all earlier ones are finished
+pub record WaitsAlone (system : System) (run : Run) (agent host c : ℕ) : Type 0 where
+  pub presented : IsTrue (is_for system run host (Some agent) (commands_begun system run host (suc c)) (suc c))
+  pub operation : IsFalse (has_no_operation system run host (commands_begun system run host (suc c)) (suc c))
+  pub earlier : IsTrue (are_finished_before system run host (commands_begun system run host (suc c)) c)

@@ -1,21 +1,21 @@
 //! Fairness of whole systems: the turns that hosts take at an agent.
 
-ghost use Rattle.std.specs.Prelude.{ℕ, List, ◌≤◌, ◌<◌, ◌+◌, ◌*◌, IsTrue};
+ghost use Rattle.std.specs.Prelude.{ℕ, suc, List, length, ◌≤◌, ◌<◌, ◌+◌, ◌*◌, IsTrue, IsFalse};
 ghost use Rattle.std.specs.List.{list_all};
 ghost use Rattle.histories.specs.History.{IsPrefix};
 ghost use Rattle.ranks.specs.Turns.{AllShare};
 ghost use Rattle.mm_runs.specs.Views.{System, Run, Responses};
 ghost use Rattle.mm_runs.specs.Whole.{IsLegalRun};
-ghost use Rattle.mm_runs.specs.Commands.{agent_accepts};
-ghost use Rattle.mm_runs.specs.Order.{Owner, ServesInGrantedOrder, is_joined};
-ghost use Rattle.mm_runs.specs.Awake.{begun, HasFullTurns, turns_of, shows_plain_write, shares_of_others, Throughout};
-ghost use Rattle.mm_machines.specs.Link.{Port, takes};
-ghost use Rattle.mm_machines.specs.Lines.{TaggedPort};
+ghost use Rattle.mm_runs.specs.Commands.{agent_accepts, shows};
+ghost use Rattle.mm_runs.specs.Order.{Owner, ServesInGrantedOrder, is_joined, issued};
+ghost use Rattle.mm_runs.specs.Awake.{asks_only, begun, HasFullTurns, turns_of, shows_plain_write, shares_of_others, Throughout};
+ghost use Rattle.mm_machines.specs.Link.{Port, takes, taken_at, operations_among};
+ghost use Rattle.mm_machines.specs.Lines.{TaggedPort, target_of};
 ghost use Rattle.mm_machines.specs.Turns.{seats_of, others_begun, IsKeptAsking};
-ghost use Rattle.mm_parts.specs.Steps.{IsArbiterPart, IsHostPart, IsRoutePart};
+ghost use Rattle.mm_parts.specs.Steps.{IsArbiterPart, IsHostPart, IsRoutePart, has_room};
 ghost use Rattle.mm_awake.specs.Ways.{count_in};
 ghost use Rattle.mm_awake.specs.Theorem.{Boundaries, States, LinkRanks, IsBuilt};
-ghost use Rattle.mm_awake.specs.Fair.{are_apart, AllAskPlainly, AreAmong, IsPlainAt, HandsWritesOn, HandsPlainWrites, AreParts};
+ghost use Rattle.mm_awake.specs.Fair.{are_apart, AllAskPlainly, AreAmong, IsPlainAt, HandsWritesOn, HandsPlainWrites, AreParts, WaitsAlone};
 
 /// In a system of machines whose links hand plain writes on, where each host that is joined to an agent shows a plain write for it in every cycle of a window, the commands that are taken behind its arbiter stand in full turns.
 pub fn plain_writers_take_full_turns()
@@ -38,6 +38,21 @@ pub fn askers_are_passed_by_few()
         → others_begun (seats_of system agent) (λ h. inside.upper h agent 0) (inside.lower agent system.stages).port host from size ≤ shares_of_others system agent host }
 {
     mm_machines::progress::turn_rule_is_fair();
+    machines_are_parts()
+}
+
+/// In a system of machines a host that waits for its last command alone, which is for an agent, and of which fewer than 16 reads are under way, asks behind its route, or all that it has presented for the agent was taken there.
+pub fn waiting_hosts_ask()
+    ensures only { (system : System) (run : Run) (agent host c : ℕ) → WaitsAlone system run agent host c → IsTrue (asks_only system run host agent c) }
+    ensures asks { (responses : Responses) (system : System) (run : Run) (inside : Boundaries) (states : States) (ranks : LinkRanks) (end agent host c : ℕ)
+        → IsBuilt responses system run inside states ranks end → IsLegalRun system run end → agent < system.agents → host < system.hosts → c < end
+        → WaitsAlone system run agent host c → IsTrue (has_room system run host c)
+        → IsFalse (shows (inside.upper host agent (inside.links host agent)).commands.signals c)
+        → length (issued system run host agent (suc c))
+            ≤ length (operations_among (target_of system agent) (inside.upper host agent (inside.links host agent)).shape (taken_at (inside.upper host agent (inside.links host agent)) c)) }
+{
+    crate::asked_words_are_owed();
+    crate::host_and_route_keep_nothing_back();
     machines_are_parts()
 }
 
