@@ -1,16 +1,16 @@
 -- What has begun at an agent stays begun, in its order.
-use Rattle.std.proofs.Common.{ℕ, zero, suc, ◌<◌, ◌≤◌, ◌≡◌, ◌+◌, ◌-◌, Bool, true, false, not, ◌||◌, ◌&&◌, List, [], ◌∷◌, ◌++◌, length, map, filter, replicate, nat_eq, if◌then◌else◌, arith, refl, sym, ap, ap₂, subst, ◌∙◌, append_assoc, append-nil, length-append, IsTrue, IsFalse, tests}
+use Rattle.std.proofs.Common.{ℕ, zero, suc, ◌<◌, ◌≤◌, ◌≡◌, ◌+◌, ◌-◌, Bool, true, false, List, [], ◌∷◌, ◌++◌, length, map, replicate, nat_eq, if◌then◌else◌, arith, refl, sym, ap, ap₂, subst, ◌∙◌, append_assoc, length-append, IsTrue, IsFalse, tests}
 use Rattle.std.specs.Prelude.{flat_map, zip, slice_index}
 use Rattle.std.specs.List.{list_any}
 use Rattle.std.proofs.lemmas.List.{length-replicate}
 use Rattle.std.proofs.lemmas.Grind.{flat_map-append}
 use Rattle.std.proofs.lemmas.Bool.{both_ways}
-use Rattle.histories.specs.History.{IsPrefix, only_if, before}
+use Rattle.histories.specs.History.{IsPrefix, only_if}
 use Rattle.histories.specs.Laws.{before_prefix, prefix_length}
 use Rattle.mm_runs.specs.Views.{System, Run}
 use Rattle.mm_runs.specs.Operations.{Operation, Beat, own_operations}
 use Rattle.mm_runs.specs.Commands.{Transfer, agent_accepts, transfer_at}
-use Rattle.mm_runs.specs.Order.{Owner, Tagged, TaggedBeat, owners, owners_from, owners_taken, owner_of, of_host, taken, issued, is_joined, is_agent, place_of, host_transfers, for_agent, transfer_operations, numbers_by_ends, operations_at, beats_taken, beats_taken_in, is_same_owner, ServesInGrantedOrder}
+use Rattle.mm_runs.specs.Order.{Owner, Tagged, owners, owners_from, owners_taken, owner_of, of_host, taken, issued, is_joined, is_agent, place_of, host_transfers, for_agent, transfer_operations, numbers_by_ends, operations_at, beats_taken, beats_taken_in, is_same_owner, ServesInGrantedOrder}
 use Rattle.mm_runs.specs.Awake.{begun, first_owners}
 use Rattle.mm_awake.proofs.Wanted.{of_host_append, host_ops}
 

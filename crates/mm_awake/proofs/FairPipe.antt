@@ -1,5 +1,5 @@
 -- Few beats stand between an arbiter and its agent.
-use Rattle.std.proofs.Common.{ℕ, zero, suc, ◌<◌, ◌≤◌, ◌≡◌, ◌+◌, ◌*◌, Bool, arith, refl, ap, ap₂, IsTrue}
+use Rattle.std.proofs.Common.{ℕ, zero, suc, ◌<◌, ◌≤◌, ◌≡◌, ◌+◌, ◌*◌, Bool, arith, refl, ap₂}
 use Rattle.histories.specs.History.{one_if}
 use Rattle.mm_machines.specs.Link.{Port, takes}
 use Rattle.mm_awake.specs.Slack.{PassesOn}

@@ -1,5 +1,5 @@
 -- Where a host waits for its last command alone, all its unfinished commands are for one agent.
-use Rattle.std.proofs.Common.{ℕ, zero, suc, ◌<◌, ◌≤◌, ◌≡◌, ◌+◌, ◌-◌, Bool, true, false, not, ◌||◌, ◌&&◌, arith, refl, sym, subst, nat_eq, nat_le, IsTrue, IsFalse, Some, tests}
+use Rattle.std.proofs.Common.{ℕ, zero, suc, ◌<◌, ◌≤◌, ◌≡◌, ◌+◌, ◌-◌, Bool, true, false, not, ◌||◌, ◌&&◌, arith, refl, subst, nat_eq, nat_le, IsTrue, IsFalse, Some, tests}
 use Rattle.std.specs.List.{list_all}
 use Rattle.histories.specs.History.{numbers}
 use Rattle.mm_runs.specs.Views.{System, Run}

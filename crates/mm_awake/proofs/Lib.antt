@@ -30,4 +30,5 @@ pub mod FairWrites
 pub mod FairFew
 pub mod FairBegun
 pub mod FairPipe
+pub mod FairRoom
 pub mod FairWaits

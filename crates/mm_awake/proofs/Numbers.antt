@@ -693,7 +693,7 @@ module _ (system : System) (run : Run) (host end : ℕ) (legal : IsLegalHost (sy
           let b = ap reads_in (up_is c j h) in
           inr (omega (arith, all, a, b))
 
-  earlier_given : (c k : ℕ) → c < end → ((j : ℕ) → 1 ≤ j → j ≤ k → IsTrue (is_finished system run host j c)) → reads_in (chosen (λ i. nat_le i k) 1 (whole c)) ≤ given_before system run host c
+  pub earlier_given : (c k : ℕ) → c < end → ((j : ℕ) → 1 ≤ j → j ≤ k → IsTrue (is_finished system run host j c)) → reads_in (chosen (λ i. nat_le i k) 1 (whole c)) ≤ given_before system run host c
   unfolding reads_in
   earlier_given c zero h all = let none = ap reads_in (none_above system host (λ i. nat_le i 0) 1 (whole c) (λ i low. nat_le_zero i low)) in omega (arith, none)
   earlier_given c (suc k) h all =

@@ -7,8 +7,9 @@ ghost use Rattle.ranks.specs.Turns.{AllShare};
 ghost use Rattle.mm_runs.specs.Views.{System, Run, Responses};
 ghost use Rattle.mm_runs.specs.Whole.{IsLegalRun};
 ghost use Rattle.mm_runs.specs.Commands.{agent_accepts, shows};
+ghost use Rattle.mm_runs.specs.Legal.{IsLegalHost};
 ghost use Rattle.mm_runs.specs.Order.{Owner, ServesInGrantedOrder, is_joined, issued};
-ghost use Rattle.mm_runs.specs.Awake.{asks_only, begun, HasFullTurns, turns_of, shows_plain_write, shares_of_others, Throughout};
+ghost use Rattle.mm_runs.specs.Awake.{are_finished_before, asks_only, begun, commands_begun, HasFullTurns, turns_of, shows_plain_write, shares_of_others, Throughout};
 ghost use Rattle.mm_machines.specs.Link.{Port, takes, taken_at, operations_among};
 ghost use Rattle.mm_machines.specs.Lines.{TaggedPort, target_of};
 ghost use Rattle.mm_machines.specs.Turns.{seats_of, others_begun, IsKeptAsking};
@@ -41,15 +42,17 @@ pub fn askers_are_passed_by_few()
     machines_are_parts()
 }
 
-/// In a system of machines a host that waits for its last command alone, which is for an agent, and of which fewer than 16 reads are under way, asks behind its route, or all that it has presented for the agent was taken there.
+/// In a system of machines a host that waits for its last command alone, which is for an agent, asks behind its route, or all that it has presented for the agent was taken there.
 pub fn waiting_hosts_ask()
     ensures only { (system : System) (run : Run) (agent host c : ℕ) → WaitsAlone system run agent host c → IsTrue (asks_only system run host agent c) }
+    ensures room { (system : System) (run : Run) (host end c : ℕ) → IsLegalHost (system.host host) (run.at_host host) end → c < end
+        → IsTrue (are_finished_before system run host (commands_begun system run host (suc c)) c) → IsTrue (has_room system run host c) }
     ensures asks { (responses : Responses) (system : System) (run : Run) (inside : Boundaries) (states : States) (ranks : LinkRanks) (end agent host c : ℕ)
         → IsBuilt responses system run inside states ranks end → IsLegalRun system run end → agent < system.agents → host < system.hosts → c < end
-        → WaitsAlone system run agent host c → IsTrue (has_room system run host c)
+        → WaitsAlone system run agent host c
         → IsFalse (shows (inside.upper host agent (inside.links host agent)).commands.signals c)
         → length (issued system run host agent (suc c))
-            ≤ length (operations_among (target_of system agent) (inside.upper host agent (inside.links host agent)).shape (taken_at (inside.upper host agent (inside.links host agent)) c)) }
+        ≤ length (operations_among (target_of system agent) (inside.upper host agent (inside.links host agent)).shape (taken_at (inside.upper host agent (inside.links host agent)) c)) }
 {
     crate::asked_words_are_owed();
     crate::host_and_route_keep_nothing_back();
