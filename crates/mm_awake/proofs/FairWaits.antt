@@ -1,9 +1,11 @@
 -- Where a host waits for its last command alone, all its unfinished commands are for one agent.
-use Rattle.std.proofs.Common.{ℕ, zero, suc, ◌<◌, ◌≤◌, ◌≡◌, ◌+◌, ◌-◌, Bool, true, false, not, ◌||◌, ◌&&◌, arith, refl, subst, nat_eq, nat_le, IsTrue, IsFalse, Some, tests}
+use Rattle.std.proofs.Common.{ℕ, zero, suc, ◌<◌, ◌≤◌, ◌≡◌, ◌+◌, ◌-◌, Bool, true, false, not, ◌||◌, ◌&&◌, arith, refl, sym, ap, subst, nat_eq, nat_le, IsTrue, IsFalse, Some, tests}
 use Rattle.std.specs.List.{list_all}
 use Rattle.histories.specs.History.{numbers}
 use Rattle.mm_runs.specs.Views.{System, Run}
 use Rattle.mm_runs.specs.Awake.{commands_begun, is_for, is_finished, is_unfinished, has_no_operation, asks_only}
+use Rattle.mm_runs.specs.Commands.{shows}
+use Rattle.mm_machines.specs.Link.{Port}
 use Rattle.mm_awake.specs.Fair.{WaitsAlone}
 use Rattle.mm_awake.proofs.Numbers.{each_holds}
 
@@ -46,3 +48,11 @@ waits_only system run agent host c waits = all_hold test 1 last each
 
     each : (k : ℕ) → 1 ≤ k → k < 1 + last → IsTrue (test k)
     each k low high = by_last k low high (nat_eq last k) refl
+
+-- a host that is wired to the arbiter asks there
+pub asks_by : (count : Port → ℕ) (presented : ℕ) (port top : Port) (c : ℕ) → port ≡ top → (IsFalse (shows top.commands.signals c) → presented ≤ count top) → count port < presented → IsTrue (shows port.commands.signals c)
+asks_by count presented port top c same all untaken = subst (λ p. IsTrue (shows p.commands.signals c)) (sym same) (by_shown (shows top.commands.signals c) refl)
+  where
+    by_shown : (b : Bool) → shows top.commands.signals c ≡ b → IsTrue b
+    by_shown true e = refl
+    by_shown false e = let taken = all e in let here = ap count same in absurd (omega (arith, taken, here, untaken))

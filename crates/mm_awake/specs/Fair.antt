@@ -1,12 +1,14 @@
 -- Full turns: what is asked of the hosts at an arbiter, and whose beats are taken behind it.
-use Rattle.std.specs.Prelude.{◌≡◌, ℕ, zero, suc, ◌+◌, ◌<◌, ◌≤◌, Bool, true, not, ◌&&◌, List, [], ◌∷◌, ◌++◌, map, take, drop, nat_eq, IsTrue, IsFalse, Some}
+use Rattle.std.specs.Prelude.{◌≡◌, ℕ, zero, suc, ◌+◌, ◌<◌, ◌≤◌, Bool, true, not, ◌&&◌, List, [], ◌∷◌, ◌++◌, map, take, drop, nat_eq, IsTrue, IsFalse, Some, length}
 use Rattle.std.specs.List.{list_any}
 use Rattle.histories.specs.History.{only_if, is_raised}
 use Rattle.mm_runs.specs.Views.{System, Run}
 use Rattle.mm_runs.specs.Commands.{shows, agent_accepts}
-use Rattle.mm_runs.specs.Order.{Owner, is_joined}
+use Rattle.mm_runs.specs.Order.{Owner, is_joined, issued}
 use Rattle.mm_runs.specs.Awake.{commands_begun, is_for, are_finished_before, has_no_operation}
-use Rattle.mm_machines.specs.Link.{Port, takes, marked_at, closes}
+use Rattle.mm_machines.specs.Link.{Port, takes, taken_at, marked_at, closes, operations_among}
+use Rattle.mm_machines.specs.Lines.{target_of}
+use Rattle.mm_machines.specs.Turns.{begins_at, seats_of}
 use Rattle.mm_parts.specs.Steps.{IsHostPart, IsRoutePart, IsArbiterPart}
 use Rattle.mm_awake.specs.Slack.{PassesOn}
 use Rattle.mm_awake.specs.Theorem.{Boundaries}
@@ -61,3 +63,9 @@ pub record WaitsAlone (system : System) (run : Run) (agent host c : ℕ) : Type 
   pub presented : IsTrue (is_for system run host (Some agent) (commands_begun system run host (suc c)) (suc c))
   pub operation : IsFalse (has_no_operation system run host (commands_begun system run host (suc c)) (suc c))
   pub earlier : IsTrue (are_finished_before system run host (commands_begun system run host (suc c)) c)
+
+-- so a host waits before an agent's arbiter: not all operations that it has presented were taken there, and no command of it begins there
+pub record WaitsBefore (system : System) (run : Run) (inside : Boundaries) (agent host c : ℕ) : Type 0 where
+  pub alone : WaitsAlone system run agent host c
+  pub untaken : length (operations_among (target_of system agent) (inside.upper host agent 0).shape (taken_at (inside.upper host agent 0) c)) < length (issued system run host agent (suc c))
+  pub none : IsFalse (begins_at (seats_of system agent) (λ h. inside.upper h agent 0) (inside.lower agent system.stages).port (nat_eq host) c)

@@ -1,6 +1,6 @@
 //! Fairness of whole systems: the turns that hosts take at an agent.
 
-ghost use Rattle.std.specs.Prelude.{ℕ, suc, List, length, ◌≤◌, ◌<◌, ◌+◌, ◌*◌, IsTrue, IsFalse};
+ghost use Rattle.std.specs.Prelude.{◌≡◌, ℕ, suc, List, length, ◌≤◌, ◌<◌, ◌+◌, ◌*◌, IsTrue, IsFalse};
 ghost use Rattle.std.specs.List.{list_all};
 ghost use Rattle.histories.specs.History.{IsPrefix};
 ghost use Rattle.ranks.specs.Turns.{AllShare};
@@ -16,7 +16,7 @@ ghost use Rattle.mm_machines.specs.Turns.{seats_of, others_begun, IsKeptAsking};
 ghost use Rattle.mm_parts.specs.Steps.{IsArbiterPart, IsHostPart, IsRoutePart, has_room};
 ghost use Rattle.mm_awake.specs.Ways.{count_in};
 ghost use Rattle.mm_awake.specs.Theorem.{Boundaries, States, LinkRanks, IsBuilt};
-ghost use Rattle.mm_awake.specs.Fair.{are_apart, AllAskPlainly, AreAmong, IsPlainAt, HandsWritesOn, HandsPlainWrites, AreParts, WaitsAlone};
+ghost use Rattle.mm_awake.specs.Fair.{are_apart, AllAskPlainly, AreAmong, IsPlainAt, HandsWritesOn, HandsPlainWrites, AreParts, WaitsAlone, WaitsBefore};
 
 /// In a system of machines whose links hand plain writes on, where each host that is joined to an agent shows a plain write for it in every cycle of a window, the commands that are taken behind its arbiter stand in full turns.
 pub fn plain_writers_take_full_turns()
@@ -40,6 +40,17 @@ pub fn askers_are_passed_by_few()
 {
     mm_machines::progress::turn_rule_is_fair();
     machines_are_parts()
+}
+
+/// In a system of machines a host that is wired to an agent's arbiter, and that waits there for its last command alone throughout a window, is passed by at most as many commands of the others as they have shares together.
+pub fn waiting_hosts_are_passed_by_few()
+    ensures { (responses : Responses) (system : System) (run : Run) (inside : Boundaries) (states : States) (ranks : LinkRanks) (end agent host from size : ℕ)
+        → IsBuilt responses system run inside states ranks end → IsLegalRun system run end → agent < system.agents → host < system.hosts → from + size ≤ end
+        → inside.upper host agent 0 ≡ inside.upper host agent (inside.links host agent) → Throughout from size (WaitsBefore system run inside agent host)
+        → others_begun (seats_of system agent) (λ h. inside.upper h agent 0) (inside.lower agent system.stages).port host from size ≤ shares_of_others system agent host }
+{
+    waiting_hosts_ask();
+    askers_are_passed_by_few()
 }
 
 /// In a system of machines a host that waits for its last command alone, which is for an agent, asks behind its route, or all that it has presented for the agent was taken there.
