@@ -1,8 +1,12 @@
 -- Two hosts with 3 and 1 shares write to one agent that never waits: host 0 has 4 writes and host 1 has 8, without gaps.
 use Rattle.std.specs.Prelude.{ℕ, true, List, [], ◌∷◌, replicate, nat_eq, if◌then◌else◌}
 use Rattle.ranks.specs.Turns.{Seat}
+use Rattle.mm_runs.specs.Views.{System}
 use Rattle.mm_machines.specs.Link.{Port}
 use Rattle.mm_examples.specs.Examples.{signal, always, shape_of}
+use Rattle.ranks.specs.Turns as turns
+use Rattle.mm_machines.specs.Turns.{seats_of}
+use Rattle.mm_examples.specs.MoreExamples.{shared_system}
 
 abbrev pub seats : List Seat
 seats = record { host = 0; shares = 3 } ∷ record { host = 1; shares = 1 } ∷ []
@@ -38,3 +42,11 @@ one_share_each = 0 ∷ 1 ∷ 0 ∷ 1 ∷ 0 ∷ 1 ∷ 0 ∷ 1 ∷ 1 ∷ 1 ∷ 1 �
 
 abbrev pub first_host_first : List ℕ
 first_host_first = 0 ∷ 0 ∷ 0 ∷ 0 ∷ 1 ∷ 1 ∷ 1 ∷ 1 ∷ 1 ∷ 1 ∷ 1 ∷ 1 ∷ []
+
+-- host 0 is joined to the agent twice, each host with one share
+abbrev pub twice_system : System
+twice_system = record shared_system { joined = λ a. 0 ∷ 1 ∷ 0 ∷ []; shares = λ h a. 1 }
+
+-- whose commands begin where both ask in each of six cycles
+abbrev pub twice_tags : List ℕ
+twice_tags = turns.begun (record { left = 0; ring = seats_of twice_system 0 }) (replicate 6 turns.both_ask)

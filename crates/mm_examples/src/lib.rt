@@ -14,7 +14,7 @@ ghost use Rattle.ranks.specs.Turns.{shares_of_others};
 ghost use Rattle.mm_examples.specs.DefaultRows.{odd_word_run, strayed_read_run, behind_default_run, past_default_run, default_first_run, around_default_run};
 ghost use Rattle.mm_examples.specs.WidthRows.{short_agent, short_system, bursts_read, parts_run};
 ghost use Rattle.mm_examples.specs.WireRows.{one_read, one_read_system, held_back_host, held_back_agent, held_back_count, held_back_run, let_through_host, let_through_agent};
-ghost use Rattle.mm_examples.specs.TurnRows.{seats, askers, granted, by_shares, one_share_each, first_host_first};
+ghost use Rattle.mm_examples.specs.TurnRows.{seats, askers, granted, by_shares, one_share_each, first_host_first, twice_system, twice_tags};
 ghost use Rattle.mm_runs.specs.Packed.{operations_touched, beats_between, ReadsEachTouchedWordOnce};
 ghost use Rattle.mm_machines.specs.Link.Item.{Acts, Ends};
 ghost use Rattle.mm_examples.specs.MoreExamples.{waiting_agent, held_writes, late_read, two_reads, agent_with_bound, two_agents, limited_run};
@@ -168,6 +168,12 @@ pub fn turns()
     ensures right { map (λ t. t.commands) (turns_of (begun_within shared_system (turn_run fair_tags) 0 0 20)) ≡ 3 ∷ 1 ∷ 3 ∷ 1 ∷ 3 ∷ 1 ∷ [] }
     ensures full { HasFullTurns shared_system 0 (turns_of (owners_by fair_tags)) }
     ensures wrong { HasFullTurns shared_system 0 (turns_of (owners_by unfair_tags)) → ⊥ }
+{}
+
+/// A host that stands in the order of the connections twice takes two turns in a row, which are one of twice its shares.
+pub fn host_joined_twice()
+    ensures tags { twice_tags ≡ 0 ∷ 1 ∷ 0 ∷ 0 ∷ 1 ∷ 0 ∷ [] }
+    ensures broken { HasFullTurns twice_system 0 (turns_of (owners_by twice_tags)) → ⊥ }
 {}
 
 /// A write in two pieces is one command: `more` is high on the first piece.
