@@ -9,7 +9,7 @@ use iface_roles::{AgentPort, Finished, HostPort, proper_records_are_bounded};
 use system_tables::{Connection, EndId, System};
 
 /// The bytes that an agent takes in the map of a host.
-#[derive(Clone, Copy, Debug, PartialEq, Eq)]
+#[derive(Clone, Copy, PartialEq, Eq)]
 pub struct Footprint {
     pub host: EndId,
     /// How many bytes the host's addresses reach.

@@ -7,7 +7,7 @@ use std::alloc::Global;
 use std::marker::Model;
 
 /// The footprint of a connection in the map of its host.
-#[derive(Clone, Copy, Debug, PartialEq, Eq)]
+#[derive(Clone, Copy, PartialEq, Eq)]
 pub struct MapEntry {
     /// The number of the connection.
     pub connection: u32,
@@ -22,7 +22,6 @@ pub struct MapEntry {
 }
 
 /// The map of one host: its entries by rising address.
-#[derive(Debug)]
 pub(crate) struct HostMap {
     entries: Vec<MapEntry>,
 }

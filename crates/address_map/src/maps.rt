@@ -26,7 +26,6 @@ use std::marker::Model;
 use system_tables::System;
 
 /// The maps of a system's hosts, by the numbers of the hosts.
-#[derive(Debug)]
 pub struct Maps {
     maps: Vec<HostMap>,
 }

@@ -143,7 +143,7 @@ fn words_have_their_numbers(rt: HostRuntime) {
         .iter()
         .position(|(id, text, want)| id.values().number_of(text) != *want);
     assert_eq!(rt; wrong, None);
-    assert_eq!(rt; Id::ReadLatency.values(), Values::Number(0, 63));
+    assert!(rt; Id::ReadLatency.values() == Values::Number(0, 63));
 }
 
 #[test]
@@ -180,7 +180,7 @@ fn ports_stay_and_the_last_setting_counts(rt: HostRuntime) {
         pending: 0,
         setup_hold: false,
     };
-    assert_eq!(rt; ram.finish(), Ok(Finished::Agent(want)));
+    assert!(rt; ram.finish() == Ok(Finished::Agent(want)));
 }
 
 /// What an interface is finished as.
@@ -191,7 +191,7 @@ fn finished(kind: Kind, side: Side, ports: &str, settings: &str) -> Option<Resul
 #[test]
 fn a_port_without_bits_is_refused(rt: HostRuntime) {
     let ports = "<read:1 >readdata:32 <address:0";
-    assert_eq!(rt; finished(Kind::Mm, Side::End, ports, ""), Some(Err(7)));
+    assert!(rt; finished(Kind::Mm, Side::End, ports, "") == Some(Err(7)));
 }
 
 const HOST: HostPort = HostPort {
@@ -339,5 +339,5 @@ fn streams_have_their_records(rt: HostRuntime) {
     ];
     assert_eq!(rt; are, [true; 4]);
     let other = finished(Kind::Conduit, Side::Start, "", "");
-    assert_eq!(rt; other, Some(Ok(Finished::Other)));
+    assert!(rt; other == Some(Ok(Finished::Other)));
 }

@@ -8,7 +8,7 @@ use crate::roles::Role;
 use std::marker::Model;
 
 /// A port as a component declares it.
-#[derive(Clone, Copy, Debug)]
+#[derive(Clone, Copy)]
 pub(crate) struct Port {
     pub direction: PortDirection,
     /// In bits.
@@ -16,7 +16,7 @@ pub(crate) struct Port {
 }
 
 /// One interface of a component, while its ports and settings are read.
-#[derive(Clone, Copy, Debug)]
+#[derive(Clone, Copy)]
 pub struct Interface {
     kind: Kind,
     side: Side,

@@ -2,7 +2,7 @@ ghost use Rattle.std.specs.Prelude.{◌≡◌};
 ghost use Rattle.iface_roles.specs.Kinds.{is_avalon};
 
 /// What an interface is for.
-#[derive(Clone, Copy, Debug, PartialEq, Eq)]
+#[derive(Clone, Copy, PartialEq, Eq)]
 pub enum Kind {
     Clock,
     Reset,
@@ -15,14 +15,14 @@ pub enum Kind {
 }
 
 /// The side of a connection at which an interface stands: a host or a source is a start.
-#[derive(Clone, Copy, Debug, PartialEq, Eq)]
+#[derive(Clone, Copy, PartialEq, Eq)]
 pub enum Side {
     Start,
     End,
 }
 
 /// The direction of a port, seen from the component.
-#[derive(Clone, Copy, Debug, PartialEq, Eq)]
+#[derive(Clone, Copy, PartialEq, Eq)]
 pub enum PortDirection {
     Input,
     Output,

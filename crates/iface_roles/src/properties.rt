@@ -25,7 +25,7 @@ use crate::kinds::{Kind, Side};
 use crate::names::same_name;
 
 /// A property of memory-mapped and streaming interfaces.
-#[derive(Clone, Copy, Debug, PartialEq, Eq)]
+#[derive(Clone, Copy, PartialEq, Eq)]
 pub enum PropertyId {
     AddressUnits,
     ReadLatency,
@@ -56,7 +56,7 @@ pub enum PropertyId {
 }
 
 /// What a name of a property stands for in an interface of some kind.
-#[derive(Clone, Copy, Debug, PartialEq, Eq)]
+#[derive(Clone, Copy, PartialEq, Eq)]
 pub enum Property {
     Known(PropertyId),
     /// It may be set, to any value, and means nothing here.
@@ -73,7 +73,7 @@ pub(crate) enum Kinds {
 }
 
 /// What a property is set to, and the numbers by which words are kept.
-#[derive(Clone, Copy, Debug, PartialEq, Eq)]
+#[derive(Clone, Copy, PartialEq, Eq)]
 pub enum Values {
     /// A number from the first to the second.
     Number(u32, u32),

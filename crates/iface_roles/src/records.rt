@@ -28,7 +28,7 @@ use crate::properties::PropertyId;
 use crate::roles::Role;
 
 /// A memory-mapped host. Widths are in bits, 0 where the port isn't there.
-#[derive(Clone, Copy, Debug, PartialEq, Eq)]
+#[derive(Clone, Copy, PartialEq, Eq)]
 pub struct HostPort {
     pub address_bits: u8,
     /// Addresses count bytes; else words.
@@ -57,7 +57,7 @@ pub struct HostPort {
 }
 
 /// A memory-mapped agent. Widths are in bits, 0 where the port isn't there; times are in cycles.
-#[derive(Clone, Copy, Debug, PartialEq, Eq)]
+#[derive(Clone, Copy, PartialEq, Eq)]
 pub struct AgentPort {
     pub address_bits: u8,
     /// Addresses count bytes; else words.
@@ -95,7 +95,7 @@ pub struct AgentPort {
 }
 
 /// A streaming source or sink. Widths are in bits, 0 where the port isn't there; latencies are in cycles.
-#[derive(Clone, Copy, Debug, PartialEq, Eq)]
+#[derive(Clone, Copy, PartialEq, Eq)]
 pub struct StreamPort {
     /// The symbols of a beat.
     pub symbols: u8,
@@ -131,7 +131,7 @@ impl StreamPort {
 }
 
 /// What an interface is, once its ports and properties are known.
-#[derive(Clone, Copy, Debug, PartialEq, Eq)]
+#[derive(Clone, Copy, PartialEq, Eq)]
 pub enum Finished {
     Host(HostPort),
     Agent(AgentPort),

@@ -6,7 +6,7 @@ use crate::kinds::Kind;
 use crate::names::same_name;
 
 /// What a port of a memory-mapped or a streaming interface is for. The order is that of the ports in a header.
-#[derive(Clone, Copy, Debug, PartialEq, Eq)]
+#[derive(Clone, Copy, PartialEq, Eq)]
 pub enum Role {
     Address,
     Read,

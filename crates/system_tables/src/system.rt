@@ -11,7 +11,6 @@ use iface_roles::Finished;
 use std::marker::Model;
 
 /// An instance of a component.
-#[derive(Debug)]
 pub struct Instance {
     pub name: Text,
     /// The number of its component among those that the system keeps.
@@ -29,7 +28,6 @@ impl Drop for Instance {
 }
 
 /// A system that keeps the rules, with the interfaces of the components that its instances name.
-#[derive(Debug)]
 pub struct System {
     name: Text,
     stages: u8,

@@ -5,14 +5,14 @@ use iface_roles::{Finished, Kind, Side};
 use std::alloc::Global;
 
 /// An end of a connection: the numbers of an instance, and of an interface of its component, from 0.
-#[derive(Clone, Copy, Debug, PartialEq, Eq, Hash)]
+#[derive(Clone, Copy, PartialEq, Eq, Hash)]
 pub struct EndId {
     pub instance: u32,
     pub interface: u32,
 }
 
 /// A connection of a host to an agent, or of a source to a sink.
-#[derive(Clone, Copy, Debug, PartialEq, Eq)]
+#[derive(Clone, Copy, PartialEq, Eq)]
 pub struct Connection {
     pub start: EndId,
     pub end: EndId,
@@ -28,7 +28,6 @@ pub struct Connection {
 }
 
 /// An interface of a component that keeps the rules.
-#[derive(Debug)]
 pub struct InterfaceTable {
     pub name: Text,
     pub kind: Kind,
