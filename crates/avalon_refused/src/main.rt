@@ -1,7 +1,7 @@
 //! The program, whose stored run is of files that are refused.
 #![tactic(auto)]
 
-use avalon_process::status_of_process;
+use avalon_top::status_of_process;
 use std::process::ExitCode;
 
 fn main(rt: HostRuntime) -> ExitCode {

@@ -2,3 +2,4 @@ pub mod Lines
 pub mod Words
 pub mod Run
 pub mod Loading
+pub mod Ending

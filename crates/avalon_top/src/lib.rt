@@ -5,6 +5,7 @@ mod answer;
 mod exit;
 mod laws;
 mod line;
+mod process;
 mod words;
 
 pub use answer::run;
@@ -13,4 +14,5 @@ pub use exit::Exit;
 pub use laws::files_call_for_one_answer;
 pub use line::Line;
 pub use link_rules::LinkRule;
+pub use process::status_of_process;
 pub use words::{Task, read_words};

@@ -1,14 +1,12 @@
-//! The program but for its `main`: its words, their run over files and standard output, and the status that it ends with.
-#![tactic(auto)]
-
 ghost use Rattle.std.specs.Prelude.{◌≡◌, map, drop, string_bytes};
 ghost use Rattle.std.specs.Process.{exit_status};
 ghost use Rattle.avalon_top.specs.Lines.{status_of, line_of};
 ghost use Rattle.avalon_top.specs.Run.{Answers, IsRefusal, WritesLine};
-ghost use Rattle.avalon_process.specs.Ending.{unread, unwritten, reads_of, writes_of, IsStatusOf, IsEnd};
+ghost use Rattle.avalon_top.specs.Ending.{unread, unwritten, reads_of, writes_of, IsStatusOf, IsEnd};
 
+use crate::answer::run;
+use crate::exit::Exit;
 use av_files::{DirShelf, StdSink};
-use avalon_top::{Exit, run};
 use std::alloc::Global;
 use std::io::Write;
 use std::process::ExitCode;
