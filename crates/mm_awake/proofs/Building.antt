@@ -16,7 +16,7 @@ use Rattle.mm_parts.specs.Arbiter.{IsArbiterMachine}
 use Rattle.mm_parts.specs.Host.{HostState, IsHostMachine, ReadsWords}
 use Rattle.mm_parts.specs.Route.{RouteState, IsRouteMachine, IsRoutePlan}
 use Rattle.mm_parts.specs.Steps.{AreSilentPast, IsHostPart, IsRoutePart, IsArbiterPart, IsAgentPart, agent_rank}
-use Rattle.mm_awake.specs.Theorem.{Boundaries, States, LinkRanks, IsBuilt, inside_of, approach_of, ways_of, standings_of, slacks_of}
+use Rattle.mm_awake.specs.Theorem.{Boundaries, States, LinkRanks, ArePlanned, KeepRows, AreMachines, IsBuilt, inside_of, approach_of, ways_of, standings_of, slacks_of}
 use Rattle.mm_awake.specs.Front.{KeepsWhole, IsFront, GivesAtOnce, IsDefaultFront}
 use Rattle.mm_links.specs.Going.{KeepsGoing}
 use Rattle.mm_awake.specs.Slack.{PassesOn, AreModest}
@@ -65,25 +65,33 @@ pub record AheadLaws : Type 0 where
   pub joined : (system : System) (run : Run) (host agent : ℕ) (middle : Port) (down : ℕ → Port) (end : ℕ) → agent < system.agents → IsHostPart system run host middle end → IsRoutePart system host middle down end →
       ((kind : Kind) (address : ℕ) → system.place host kind address ≡ Some agent → IsTrue (is_joined system agent host)) → (c : ℕ) → c < end → IsTrue (shows (down agent).commands.signals c) → IsTrue (is_joined system agent host)
 
+module _ (laws : LineLaws) (responses : Responses) (system : System) (run : Run) (inside : Boundaries) (states : States) (end : ℕ)
+    (plan : ArePlanned system inside states) (rows : KeepRows system run inside states end) (machines : AreMachines responses system run inside states end) where
+  abbrev pub row_holds : Holds
+  row_holds = record { host = 0; route = 0; links = rows.link_hold; arbiter = 0; pipe = rows.pipe_hold; agent = 0 }
+
+  abbrev pub machine_lines : Wired responses system run (inside_of system inside) row_holds end
+  machine_lines = record {
+    room = states.room;
+    placed = λ h t a low place. (plan.places h low).agents _ _ a place;
+    joined = plan.joined;
+    words = rows.words;
+    few = let few = rows.few in omega (arith, few);
+    host = λ h low. laws.host responses system run h (states.room h) (inside.after_host h) (states.host h) end (plan.rooms h low) (machines.one_word h low) (machines.host h low);
+    route = λ h low. laws.route responses system h (states.room h) (inside.after_host h) (λ a. inside.upper h a (inside.links h a)) (states.route h) end (plan.places h low) (machines.route h low);
+    links = rows.links;
+    lanes = rows.lanes;
+    arbiter = λ a there. laws.arbiter responses system a (λ h. inside.upper h a 0) (inside.lower a system.stages) (states.grant a) end (plan.joined a) (machines.arbiter a there);
+    pipe = rows.pipe;
+    agent = λ a there. laws.agent responses system run a (inside.lower a 0) (states.agent a) end (plan.agents a there) (machines.agent a there);
+  }
+
 module _ (laws : LineLaws) (responses : Responses) (system : System) (run : Run) (inside : Boundaries) (states : States) (ranks : LinkRanks) (end : ℕ) (built : IsBuilt responses system run inside states ranks end) where
   abbrev pub holds : Holds
-  holds = record { host = 0; route = 0; links = built.rows.link_hold; arbiter = 0; pipe = built.rows.pipe_hold; agent = 0 }
+  holds = row_holds laws responses system run inside states end built.plan built.rows built.machines
 
   abbrev pub lines : Wired responses system run (inside_of system inside) holds end
-  lines = record {
-    room = states.room;
-    placed = λ h t a low place. (built.plan.places h low).agents _ _ a place;
-    joined = built.plan.joined;
-    words = built.rows.words;
-    few = let few = built.rows.few in omega (arith, few);
-    host = λ h low. laws.host responses system run h (states.room h) (inside.after_host h) (states.host h) end (built.plan.rooms h low) (built.machines.one_word h low) (built.machines.host h low);
-    route = λ h low. laws.route responses system h (states.room h) (inside.after_host h) (λ a. inside.upper h a (inside.links h a)) (states.route h) end (built.plan.places h low) (built.machines.route h low);
-    links = built.rows.links;
-    lanes = built.rows.lanes;
-    arbiter = λ a there. laws.arbiter responses system a (λ h. inside.upper h a 0) (inside.lower a system.stages) (states.grant a) end (built.plan.joined a) (built.machines.arbiter a there);
-    pipe = built.rows.pipe;
-    agent = λ a there. laws.agent responses system run a (inside.lower a 0) (states.agent a) end (built.plan.agents a there) (built.machines.agent a there);
-  }
+  lines = machine_lines laws responses system run inside states end built.plan built.rows built.machines
 
 module _ (laws : Laws) (responses : Responses) (system : System) (run : Run) (inside : Boundaries) (states : States) (ranks : LinkRanks) (end : ℕ) (built : IsBuilt responses system run inside states ranks end) (legal : IsLegalRun system run end) where
   abbrev settled : IsSettled system run (inside_of system inside) states.room end

@@ -32,3 +32,4 @@ pub mod FairBegun
 pub mod FairPipe
 pub mod FairRoom
 pub mod FairWaits
+pub mod BuiltRuns

@@ -6,3 +6,4 @@ pub mod Approach
 pub mod Theorem
 pub mod Ahead
 pub mod Fair
+pub mod PlainSystem

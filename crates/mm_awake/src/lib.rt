@@ -2,6 +2,7 @@
 #![tactic(auto)]
 
 pub mod fair;
+pub mod plain;
 
 ghost use Rattle.std.specs.Prelude.{◌≡◌, ℕ, ◌≤◌, ◌<◌, ◌+◌, ◌-◌, IsTrue, Some};
 ghost use Rattle.histories.specs.History.{IsPrefix};

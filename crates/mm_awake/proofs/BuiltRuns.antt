@@ -1,0 +1,96 @@
+-- A plain system of machines is built.
+use Rattle.std.proofs.Common.{ℕ, ◌≡◌, ◌<◌, List, [], ◌∷◌, map, nat_eq, arith, refl, IsTrue}
+use Rattle.std.specs.List.{list_any}
+use Rattle.ranks.specs.Turns.{AllShare}
+use Rattle.mm_runs.specs.Views.{System, Run, Responses, Shape}
+use Rattle.mm_runs.specs.Plan.{IsMemoryPlan, AreViews}
+use Rattle.mm_runs.specs.Whole.{IsLegalRun}
+use Rattle.mm_machines.specs.Link.{Port, Target, AreLegalAt}
+use Rattle.mm_machines.specs.Lines.{Inside, Holds, Wired, target_of}
+use Rattle.mm_machines.specs.Settled.{IsSettled}
+use Rattle.mm_links.specs.Going.{KeepsGoing}
+use Rattle.mm_parts.specs.Agent.{IsAgentPlan}
+use Rattle.mm_parts.specs.Host.{ReadsWords}
+use Rattle.mm_parts.specs.Route.{IsRoutePlan}
+use Rattle.mm_parts.specs.Steps.{AreSilentPast}
+use Rattle.mm_parts.specs.System.{RunsAsMachines}
+use Rattle.mm_parts.specs.SystemRun.{PlainPlan, Outside, Registers, plain_system, registers_of, ports_run, inside_run, states_run, before_arbiter}
+use Rattle.mm_awake.specs.PlainSystem.{AreQuietPast, wire_ranks, wired_inside, wired_states}
+use Rattle.mm_awake.specs.Slack.{PassesOn}
+use Rattle.mm_awake.specs.Theorem.{ArePlanned, KeepRows, AreMachines, AreLinks, IsBuilt, inside_of}
+use Rattle.mm_awake.proofs.Building.{LineLaws, row_holds, machine_lines}
+
+pub record Laws : Type 0 where
+  pub line : LineLaws
+  pub agent_plan : (system : System) → IsMemoryPlan system → (a : ℕ) → a < system.agents → IsAgentPlan (system.agent a)
+  pub route_plan : (system : System) → IsMemoryPlan system → (h : ℕ) (shape : Shape) → h < system.hosts → shape.word_bytes ≡ (system.host h).word_bytes → IsRoutePlan system h shape
+  pub reads_words : (system : System) (run : Run) (h end : ℕ) → AreViews system run end → h < system.hosts → ReadsWords (system.host h) (run.at_host h) end
+  pub settle : (responses : Responses) (system : System) (run : Run) (inside : Inside) (holds : Holds) (end : ℕ) (wired : Wired responses system run inside holds end) → IsLegalRun system run end → IsSettled system run inside wired.room end
+  pub going : (target : Target) (port : Port) (end : ℕ) → AreLegalAt port end → KeepsGoing target port port (λ c. 0) 0 end
+  pub pass : (port : Port) (end : ℕ) → PassesOn (record { hold = 0; kept = 0 }) port port end
+
+-- a joined host has shares, so each seat has some
+seats_share : (system : System) (agent : ℕ) (order : List ℕ) → ((h : ℕ) → IsTrue (list_any (nat_eq h) order) → 0 < system.shares h agent) →
+    AllShare (map (λ host. record { host = host; shares = system.shares host agent }) order)
+seats_share system agent [] share = cc
+seats_share system agent (x ∷ order) share = (share x (grind arith), seats_share system agent order (λ h is. share h (grind arith)))
+
+module _ (laws : Laws) (responses : Responses) (plan : PlainPlan) (outside : Outside) (end : ℕ) where
+  abbrev system : System
+  system = plain_system plan
+
+  abbrev registers : ℕ → Registers
+  registers = registers_of responses plan outside
+
+  abbrev run : Run
+  run = ports_run responses plan outside registers
+
+  -- a route shows nothing of a host that shows nothing
+  silent : AreQuietPast plan outside → (a : ℕ) → AreSilentPast plan.hosts (λ h. before_arbiter responses plan outside registers h a) end
+  silent quiet a h c past low = grind arith
+
+  module _ (is_plan : IsMemoryPlan system) (views : AreViews system run end) (machines : RunsAsMachines responses system run (inside_run responses plan outside registers) (states_run responses plan outside registers) (record { links = 0; pipe = 0 }) end)
+      (quiet : AreQuietPast plan outside) (legal : IsLegalRun system run end) where
+    planned : ArePlanned system (wired_inside responses plan outside registers) (wired_states responses plan outside registers machines.room)
+    planned = record {
+      few_stages = omega arith;
+      few_hosts = is_plan.few_hosts;
+      joined = is_plan.joined;
+      shares = λ a there. seats_share system a (plan.joined a) (λ h is. let some = is_plan.shares a h is in omega (arith, some));
+      plain = is_plan.plain;
+      places = λ h low. laws.route_plan system is_plan h _ low refl;
+      agents = laws.agent_plan system is_plan;
+      rooms = machines.large;
+      words = λ h a low there. refl;
+    }
+
+    rows : KeepRows system run (wired_inside responses plan outside registers) (wired_states responses plan outside registers machines.room) end
+    rows = record { link_hold = 0; pipe_hold = 0; few = omega arith; links = machines.links; lanes = machines.lanes; words = machines.words; pipe = machines.pipe }
+
+    are_machines : AreMachines responses system run (wired_inside responses plan outside registers) (wired_states responses plan outside registers machines.room) end
+    are_machines = record {
+      one_word = λ h low. laws.reads_words system run h end views low;
+      host = machines.host;
+      route = machines.route;
+      arbiter = machines.arbiter;
+      silent = λ a there. silent quiet a;
+      stage = λ a i there low. absurd (omega (arith, low));
+      agent = machines.agent;
+    }
+
+    settled : IsSettled system run (inside_of system (wired_inside responses plan outside registers)) machines.room end
+    settled = laws.settle responses system run (inside_of system (wired_inside responses plan outside registers)) (row_holds laws.line responses system run (wired_inside responses plan outside registers) (wired_states responses plan outside registers machines.room) end planned rows are_machines) end
+        (machine_lines laws.line responses system run (wired_inside responses plan outside registers) (wired_states responses plan outside registers machines.room) end planned rows are_machines) legal
+
+    links : AreLinks system run (wired_inside responses plan outside registers) (wired_states responses plan outside registers machines.room) wire_ranks end
+    links = record {
+      some = λ h a low there. omega arith;
+      going = λ h a i low there only. laws.going (target_of system a) (before_arbiter responses plan outside registers h a) end (settled.asks a there h low).legal;
+      pass = λ h a i low there only. laws.pass (before_arbiter responses plan outside registers h a) end;
+      allow = λ h a low there. omega arith;
+      toll = λ h a low there. omega arith;
+      wired = λ h a low there is valid alike. refl;
+    }
+
+    pub built : (room : ℕ → ℕ) × IsBuilt responses system run (wired_inside responses plan outside registers) (wired_states responses plan outside registers room) wire_ranks end
+    built = (machines.room, record { plan = planned; rows = rows; machines = are_machines; links = links })

@@ -1,0 +1,22 @@
+use Rattle.mm_awake.proofs.BuiltRuns.{Laws, built}
+use Rattle.mm_awake.proofs.plain.plain_systems_are_built.Goals as goal
+
+pub returns : goal.returns
+returns c = λ responses plan outside end is_plan one views quiet legal.
+    built laws responses plan outside end is_plan views (c.systems_of_machines_run.ensures responses plan outside end is_plan one views) quiet legal
+  where
+    laws : Laws
+    laws = record {
+      line = record {
+        host = c.host_machine_keeps_its_line.ensures;
+        route = c.route_machine_keeps_its_line.ensures;
+        arbiter = c.arbiter_machine_keeps_its_line.ensures;
+        agent = c.agent_machine_keeps_its_line.ensures;
+      };
+      agent_plan = c.plans_suit_machines.ensures.agents;
+      route_plan = c.plans_suit_machines.ensures.routes;
+      reads_words = c.plans_suit_machines.ensures.hosts;
+      settle = c.lines_settle.ensures;
+      going = c.wires_keep_going.ensures;
+      pass = c.stages_pass_on.ensures.wire;
+    }
