@@ -79,6 +79,10 @@ three_writes = record {
   answer_tag = always 0;
 }
 
+-- the same through four stages; the agent waits in the two cycles in which the first write stands before it
+abbrev pub stalled_writes : PipeInputs
+stalled_writes = record three_writes { stages = 4; inputs = record (three_writes.inputs) { waitrequest = signal (0 ∷ 0 ∷ 0 ∷ 0 ∷ 1 ∷ 1 ∷ []) } }
+
 abbrev pub tagged_port : Port → TaggedPort
 tagged_port port = record { port = port; answer_tag = always 0 }
 

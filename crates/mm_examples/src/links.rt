@@ -7,7 +7,8 @@ ghost use Rattle.mm_machines.specs.Link.{CarriesCommands, takes, words_at, taken
 ghost use Rattle.mm_machines.specs.Lines.{BringsBack, PipeCarriesCommands, AreDelayed};
 ghost use Rattle.mm_links.specs.Driven.{select_above, select_below, split_above, split_below, burst_above, burst_below, drop_above, drop_below, pipe_run};
 ghost use Rattle.mm_links.specs.Pipes.{side_of};
-ghost use Rattle.mm_examples.specs.LinkRuns.{two_writes, hides_wait, shows_twice, selecting, lane_target, read_port, three_writes, tagged_port, stage_top, newer_first, answered_at_once, accepts_early, gathering, byte_lanes, byte_reads, swaps_bytes};
+ghost use Rattle.mm_examples.specs.LinkRuns.{two_writes, hides_wait, shows_twice, selecting, lane_target, read_port, three_writes, stalled_writes, tagged_port, stage_top, newer_first, answered_at_once, accepts_early, gathering, byte_lanes, byte_reads, swaps_bytes};
+ghost use Rattle.mm_examples.specs.PartRows.{levels};
 ghost use Rattle.mm_examples.specs.LinkRuns.{cutting, two_bytes, two_beats, behind_empty};
 ghost use Rattle.mm_examples.specs.LinkRuns.{dropping, ends_without_lane, stays_joined, own_word_first, one_word, mixed_reads};
 ghost use Rattle.mm_machines.specs.Straight.{GoesStraightThrough};
@@ -42,6 +43,15 @@ pub fn pipes()
     ensures answered { map (λ w. w.word) (words_at (side_of (pipe_run three_writes) 0) 7) ≡ 7 ∷ [] }
     ensures newer { PipeCarriesCommands one_read_system 0 2 1 (tagged_port stage_top) (tagged_port newer_first) 3 → ⊥ }
     ensures at_once { AreDelayed one_read_system 1 (tagged_port answered_at_once) (tagged_port answered_at_once) 2 → ⊥ }
+{}
+
+/// Through four stages the writes are shown from the fourth cycle on. While the agent waits they gather in the stages, and nobody waits above.
+pub fn long_pipes()
+    ensures shown { levels (side_of (pipe_run stalled_writes) 4).commands.write 10 ≡ 0 ∷ 0 ∷ 0 ∷ 0 ∷ 1 ∷ 1 ∷ 1 ∷ 1 ∷ 1 ∷ 0 ∷ [] }
+    ensures words { map (λ m. m.transfer.first) (taken_at (side_of (pipe_run stalled_writes) 4) 9) ≡ 1 ∷ 2 ∷ 3 ∷ [] }
+    ensures stands { (side_of (pipe_run stalled_writes) 4).commands.word 6 ≡ 0xaa }
+    ensures above { levels (side_of (pipe_run stalled_writes) 0).commands.waitrequest 6 ≡ 0 ∷ 0 ∷ 0 ∷ 0 ∷ 0 ∷ 0 ∷ [] }
+    ensures answered { map (λ w. w.word) (words_at (side_of (pipe_run stalled_writes) 0) 9) ≡ 7 ∷ [] }
 {}
 
 /// A read with two enabled lanes is sent as two bytes, joined, and its word is gathered with the greater code.

@@ -1,6 +1,6 @@
 //! Rows of the machines of agent, host, route and arbiter, computed.
 
-ghost use Rattle.std.specs.Prelude.{◌≡◌, ◌∷◌, ◌++◌, [], ℕ, true, replicate};
+ghost use Rattle.std.specs.Prelude.{◌≡◌, ◌∷◌, ◌++◌, [], ℕ, true, false, replicate};
 ghost use Rattle.mm_runs.specs.Views.Responses.{AreZero};
 ghost use Rattle.mm_machines.specs.Lines.{word_tags, IsAgentLine, IsArbiterLine, IsRouteLine, IsHostLine};
 ghost use Rattle.mm_examples.specs.Examples.{host_of};
@@ -48,6 +48,7 @@ pub fn agent_answers_bursts()
 /// `more` is low on the last beat of each burst; a 17th read waits; without readdatavalid a read is shown until it is taken and waits for its word.
 pub fn host_rows()
     ensures bursts { levels (below_host (host_of 4 true) burst_writes_in).commands.more 10 ≡ 0 ∷ 1 ∷ 0 ∷ 1 ∷ 1 ∷ 0 ∷ 1 ∷ 1 ∷ 1 ∷ 0 ∷ [] }
+    ensures without_enables { levels (below_host (host_of 4 false) burst_writes_in).commands.more 10 ≡ 0 ∷ 1 ∷ 0 ∷ 1 ∷ 1 ∷ 0 ∷ 1 ∷ 1 ∷ 1 ∷ 0 ∷ [] }
     ensures full { levels (at_host (host_of 4 true) many_reads_in).waitrequest 17 ≡ replicate 16 0 ++ 1 ∷ [] }
     ensures shut { levels (below_host (host_of 4 true) many_reads_in).commands.read 17 ≡ replicate 16 1 ++ 0 ∷ [] }
     ensures once { levels (below_host waiting_host waiting_read_in).commands.read 5 ≡ 1 ∷ 1 ∷ 0 ∷ 0 ∷ 0 ∷ [] }
