@@ -1,8 +1,8 @@
 -- The status of each answer, and the bytes of the line that it writes.
 use Rattle.std.specs.Prelude.{ℕ, List, [], ◌++◌, Option, Some, None, codes, decimal}
 use Rattle.av_base.specs.declared.faults.Place.{Place}
-use Rattle.component_scripts.specs.declared.faults.ScriptRule.{ScriptRule}
-use Rattle.component_scripts.specs.declared.faults.ScriptRule.TheVariants as script
+use Rattle.script_words.specs.declared.faults.ScriptRule.{ScriptRule}
+use Rattle.script_words.specs.declared.faults.ScriptRule.TheVariants as script
 use Rattle.link_rules.specs.declared.faults.LinkRule.{LinkRule}
 use Rattle.link_rules.specs.declared.faults.LinkRule.TheVariants as link
 use Rattle.avalon_top.specs.declared.exit.Exit.{Exit}

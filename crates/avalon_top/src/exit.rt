@@ -3,7 +3,7 @@ ghost use Rattle.avalon_top.specs.Lines.{status_of, line_of, script_line, link_l
 
 use crate::line::Line;
 use av_base::{NoMemory, Place};
-use component_scripts::ScriptRule;
+use script_words::ScriptRule;
 use link_rules::LinkRule;
 use system_plan::Refusal;
 

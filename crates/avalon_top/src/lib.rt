@@ -9,7 +9,7 @@ mod process;
 mod words;
 
 pub use answer::run;
-pub use component_scripts::ScriptRule;
+pub use script_words::ScriptRule;
 pub use exit::Exit;
 pub use laws::files_call_for_one_answer;
 pub use line::Line;

@@ -4,7 +4,7 @@ use Rattle.std.specs.Prelude.{find, position, is_some, IsTrue, All, ◌&&◌}
 use Rattle.std.proofs.lemmas.Bool.{not-false}
 use Rattle.std.proofs.lemmas.List.{map-append, at_drop_more, at_drop_all, length-map, get_or-map}
 use Rattle.system_tables.specs.declared.tables.InterfaceTable.{InterfaceTable}
-use Rattle.component_scripts.specs.Tables.{ComponentTable}
+use Rattle.component_types.specs.Tables.{ComponentTable}
 use Rattle.av_base.specs.declared.faults.Place.{Place}
 use Rattle.std.proofs.lemmas.List.Elements.{All-push}
 use Rattle.std.specs.List.{position_or_len}
@@ -14,19 +14,20 @@ use Rattle.std.proofs.lemmas.Bool.Decides.{nat_tests}
 use Rattle.std.proofs.lemmas.List.Folds.{find_at}
 use Rattle.std.proofs.lemmas.Option.{slice_get_past, slice_get-get_or, slice_get_within, cond_some, get_or_from_slice_get}
 use Rattle.iface_roles.specs.Held.{Held}
-use Rattle.component_scripts.specs.Component.{DraftedComponent, empty_component_draft, component_refusal, component_after, first_component_refusal, component_after_all, judged, ended, component_of, IsFaultOf, IsComponentDraft, first_some, interface_table, module_checks, interface_checks, names_type, held_named, changed, property_checks, property_at, property_effect, port_checks, port_effect, is_outside, set_as, has_role, with_role}
-use Rattle.component_scripts.specs.Kinds.{property_named}
+use Rattle.component_scripts.specs.Component.{DraftedComponent, empty_component_draft, component_refusal, component_after, first_component_refusal, component_after_all, ended, component_of, IsComponentDraft, interface_table, module_checks, interface_checks, names_type, held_named, changed, property_checks, property_at, property_effect, port_checks, port_effect, is_outside, set_as, has_role, with_role}
+use Rattle.script_words.specs.Judgements.{judged, IsFaultOf, first_some}
+use Rattle.script_words.specs.Kinds.{property_named}
 use Rattle.system_tables.specs.Names.{is_name}
-use Rattle.component_scripts.specs.Names.{place_of}
-use Rattle.component_scripts.specs.Words.{IsRefusal, text_at, check, refusal_of}
+use Rattle.script_words.specs.Names.{place_of}
+use Rattle.script_words.specs.Words.{IsRefusal, text_at, check, refusal_of}
 use Rattle.component_scripts.specs.declared.component_draft.ComponentDraft.TheInside.{Inside}
-use Rattle.component_scripts.specs.declared.judge.Refusal.{Refusal}
+use Rattle.script_words.specs.declared.judge.Refusal.{Refusal}
 use Rattle.tcl_words.specs.declared.words.Word.{Word}
 use Rattle.tcl_words.specs.Script.{Script}
-use Rattle.component_scripts.specs.declared.faults.ScriptFault.{ScriptFault}
-use Rattle.component_scripts.specs.declared.faults.ScriptFault.TheVariants.{Refused, NoMemory}
+use Rattle.script_words.specs.declared.faults.ScriptFault.{ScriptFault}
+use Rattle.script_words.specs.declared.faults.ScriptFault.TheVariants.{Refused, NoMemory}
 use Rattle.component_scripts.specs.declared.component.DeclaredInterface.{DeclaredInterface}
-use Rattle.component_scripts.specs.Laws.{position-map, position_within, none_fails}
+use Rattle.script_words.specs.Laws.{position-map, position_within, none_fails}
 
 -- the first item that passes is the one at the first place
 pub find_by_position : {A : Type 0} (p : A → Bool) (xs : List A) (k : ℕ) → position p xs ≡ Some k → find p xs ≡ slice_get xs k

@@ -10,7 +10,7 @@ use Rattle.iface_roles.specs.Held.{Held}
 use Rattle.iface_roles.specs.Rules.{breaks, tests, KeepsRules, IsLeastBroken}
 use Rattle.component_scripts.specs.Component.{breaks_rule, lacks_clock, interface_refusal}
 use Rattle.component_scripts.specs.declared.component.DeclaredInterface.{DeclaredInterface}
-use Rattle.component_scripts.specs.declared.faults.ScriptRule.TheVariants.{Interface}
+use Rattle.script_words.specs.declared.faults.ScriptRule.TheVariants.{Interface}
 
 -- the first of some numbers in a row at which a test passes
 find-first : (p : ℕ → Bool) (from count k : ℕ) → from ≤ k → k < from + count → p k ≡ true → ((j : ℕ) → from ≤ j → j < k → p j ≡ false)

@@ -25,19 +25,20 @@ use Rattle.iface_roles.specs.Rules.{breaks}
 use Rattle.component_scripts.specs.declared.component.DeclaredInterface.{DeclaredInterface}
 use Rattle.component_scripts.specs.declared.component.ComponentCommand.{ComponentCommand}
 use Rattle.component_scripts.specs.declared.component.ComponentCommand.TheVariants.{Package, SetModuleProperty, AddInterface, SetInterfaceProperty, AddInterfacePort, SetPortProperty, PassedOver as Nothing}
-use Rattle.component_scripts.specs.declared.faults.ScriptFault.{ScriptFault}
-use Rattle.component_scripts.specs.declared.faults.ScriptFault.TheVariants.{Refused, NoMemory}
-use Rattle.component_scripts.specs.declared.faults.ScriptRule.TheVariants.{Command, Interface}
-use Rattle.component_scripts.specs.declared.judge.Check.{Check}
-use Rattle.component_scripts.specs.declared.judge.Refusal.{Refusal}
-use Rattle.component_scripts.specs.Kinds.{same_kind, kind_named, side_named, direction_named, role_named, property_named}
+use Rattle.script_words.specs.declared.faults.ScriptFault.{ScriptFault}
+use Rattle.script_words.specs.declared.faults.ScriptFault.TheVariants.{Refused, NoMemory}
+use Rattle.script_words.specs.declared.faults.ScriptRule.TheVariants.{Command, Interface}
+use Rattle.script_words.specs.declared.judge.Check.{Check}
+use Rattle.script_words.specs.declared.judge.Refusal.{Refusal}
+use Rattle.script_words.specs.Kinds.{same_kind, kind_named, side_named, direction_named, role_named, property_named}
 use Rattle.system_tables.specs.Names.{is_name}
-use Rattle.component_scripts.specs.Names.{is_empty, place_of}
-use Rattle.component_scripts.specs.Numbers.{number_of}
-use Rattle.component_scripts.specs.Package.{package_checks}
+use Rattle.script_words.specs.Names.{is_empty, place_of}
+use Rattle.script_words.specs.Numbers.{number_of}
+use Rattle.script_words.specs.Package.{package_checks}
 use Rattle.system_tables.specs.declared.tables.InterfaceTable.{InterfaceTable}
-use Rattle.component_scripts.specs.Tables.{ComponentTable}
-use Rattle.component_scripts.specs.Words.{text_at, place_at, check, refused_at, refusal_of}
+use Rattle.component_types.specs.Tables.{ComponentTable}
+use Rattle.script_words.specs.Judgements.{counted, first_some, judged}
+use Rattle.script_words.specs.Words.{text_at, place_at, check, refused_at, refusal_of, is_misdirected}
 
 -- what the commands so far state: the value of `NAME`, the interfaces, and the names of all ports
 pub record DraftedComponent : Type 0 where
@@ -104,10 +105,6 @@ abbrev pub changed : List DeclaredInterface → List ℕ → (DeclaredInterface 
 changed [] name change = []
 changed (declared ∷ rest) name change =
     if bytes_eq name declared.name then change declared ∷ rest else declared ∷ changed rest name change
-
--- the words `KIND DIRECTION` of `add_interface` don't fit each other; an unknown kind is another rule's
-unfoldable pub is_misdirected : List Word → Bool
-is_misdirected words = option_map_or (λ kind. is_none (side_named kind (text_at words 3))) (kind_named (text_at words 2)) false
 
 -- C3: a new name is a name. C4: no interface has it. C6: the kind is known. C7: the direction fits the kind.
 unfoldable pub interface_checks : DraftedComponent → List Word → List Check
@@ -259,10 +256,6 @@ component_effect AddInterfacePort draft words = port_effect draft words
 component_effect SetPortProperty draft words = draft
 component_effect Nothing draft words = draft
 
-abbrev pub counted : Bool → List Word → Option Refusal → Option Refusal
-counted true words refusal = refusal
-counted false words refusal = Some (refused_at words 2 0)
-
 abbrev pub component_refusal_at : DraftedComponent → List Word → Option ComponentCommand → Option Refusal
 component_refusal_at draft words None = Some (refused_at words 1 0)
 component_refusal_at draft words (Some command) =
@@ -305,10 +298,6 @@ unfoldable pub interface_refusal : List DeclaredInterface → DeclaredInterface 
 interface_refusal interfaces declared =
     option_map (λ rule. record { place = declared.place; rule = Interface rule }) (find (breaks_rule interfaces declared) (range_with_len 1 14))
 
-abbrev pub first_some : {A B : Type 0} → (A → Option B) → List A → Option B
-first_some f [] = None
-first_some f (x ∷ xs) = option_or (f x) (first_some f xs)
-
 unfoldable pub interface_table : DeclaredInterface → InterfaceTable
 interface_table declared =
     record {
@@ -318,11 +307,6 @@ interface_table declared =
       clock = declared.clock;
       finished = finished declared.interface;
     }
-
--- a fault is the refusal of this result, or want of memory
-abbrev pub IsFaultOf : {A : Type 0} → ScriptFault → Result A Refusal → Type 0
-IsFaultOf (Refused place rule) answer = answer ≡ Err (record { place = place; rule = rule })
-IsFaultOf NoMemory answer = Unit {0}
 
 abbrev pub unless : {A : Type 0} → Option Refusal → A → Result A Refusal
 unless None answer = Ok answer
@@ -338,10 +322,6 @@ ended_as end (Some name) interfaces = unless (first_some (interface_refusal inte
 
 unfoldable pub ended : Place → DraftedComponent → Result ComponentTable Refusal
 ended end draft = ended_as end draft.type_name draft.interfaces
-
-abbrev pub judged : {A : Type 0} → Option Refusal → Result A Refusal → Result A Refusal
-judged None answer = answer
-judged (Some refusal) answer = Err refusal
 
 -- the component that a script states, or what refuses it
 unfoldable pub component_of : Script → Result ComponentTable Refusal

@@ -1,10 +1,1 @@
-pub mod Catalog
 pub mod Component
-pub mod Kinds
-pub mod Laws
-pub mod Library
-pub mod Names
-pub mod Numbers
-pub mod Package
-pub mod Tables
-pub mod Words

@@ -3,22 +3,19 @@ ghost use Rattle.iface_roles.specs.Proper.{IsProper};
 ghost use Rattle.iface_roles.specs.Records.{finished};
 ghost use Rattle.component_scripts.specs.Component.{interface_table, declared_as};
 ghost use Rattle.system_tables.specs.Names.{is_name};
-ghost use Rattle.component_scripts.specs.Tables.{IsSound};
+ghost use Rattle.component_types.specs.Tables.{IsSound};
 
-use crate::component::{Component, ComponentCommand, DeclaredInterface};
+use crate::component::{ComponentCommand, DeclaredInterface};
 use crate::component_words::{
-    component_command, has_role, is_misdirected, judge_port_property, kind_and_side, lacks_role,
-    names_type, takes,
+    component_command, has_role, judge_port_property, kind_and_side, lacks_role, names_type, takes,
 };
-use crate::faults::{ScriptFault, ScriptRule};
-use crate::judge::Refusal;
-use crate::names::Names;
-use crate::package::judge_package;
 use crate::settings::{is_misread, is_not_known, is_outside, set_as, with_role};
-use crate::values::{direction_named, is_name, kind_named, number_of, property_named, same_kind};
-use crate::words::{check, place, refusal_of, refused_at, text};
 use av_base::{NoMemory, Place, Text};
+use component_types::{Component, is_name};
 use iface_roles::{Finished, Interface, Kind, Property, Side};
+use script_words::values::{direction_named, kind_named, number_of, property_named, same_kind};
+use script_words::words::{check, is_misdirected, place, refusal_of, refused_at, text};
+use script_words::{Names, Refusal, ScriptFault, ScriptRule, judge_package};
 use std::alloc::Global;
 use std::marker::Model;
 use system_tables::InterfaceTable;
@@ -56,42 +53,13 @@ impl Model for ComponentDraft {
 
 impl ComponentDraft {
     ghost use Rattle.std.specs.Prelude.{◌≡◌, ◌<◌, ◌≤◌, ◌||◌, ◌-◌, IsTrue, Some, length, OnOk, IfOk, IfErr, None};
-    ghost use Rattle.component_scripts.specs.Component.{
-      DraftedComponent,
-      empty_component_draft,
-      held_named,
-      names_type,
-      is_misdirected,
-      kind_and_side,
-      property_at,
-      has_role,
-      lacks_role,
-      port_stated,
-      module_checks,
-      interface_checks,
-      property_checks,
-      port_checks,
-      port_property_checks,
-      component_checks,
-      component_effect,
-      component_refusal,
-      component_after,
-      names_clock,
-      lacks_clock,
-      interface_refusal,
-      interface_table,
-      first_some,
-      ended,
-      IsFaultOf,
-      module_effect,
-      interface_effect,
-      property_effect,
-      port_effect,
-    };
+    ghost use Rattle.component_scripts.specs.Component.{DraftedComponent, empty_component_draft, held_named, names_type, kind_and_side, property_at, has_role, lacks_role, port_stated, module_checks, interface_checks, property_checks, port_checks, port_property_checks, component_checks, component_effect, component_refusal, component_after, names_clock, lacks_clock, interface_refusal, interface_table, ended, module_effect, interface_effect, property_effect, port_effect};
+    ghost use Rattle.script_words.specs.Judgements.{first_some, IsFaultOf};
+    ghost use Rattle.script_words.specs.Words.{is_misdirected};
     ghost use Rattle.std.specs.Prelude.{◌++◌, ◌∷◌, [], map, All, Ok, IsSome, is_some, false};
     ghost use Rattle.system_tables.specs.Names.{is_name};
-    ghost use Rattle.component_scripts.specs.Tables.{IsSound};
-    ghost use Rattle.component_scripts.specs.Words.{refusal_of, IsRefusal};
+    ghost use Rattle.component_types.specs.Tables.{IsSound};
+    ghost use Rattle.script_words.specs.Words.{refusal_of, IsRefusal};
     ghost use Rattle.iface_roles.specs.Proper.{IsProper};
     ghost use Rattle.iface_roles.specs.Records.{finished};
 

@@ -2,24 +2,14 @@ ghost use Rattle.std.specs.Prelude.{◌≡◌};
 ghost use Rattle.std.specs.List.{list_any};
 ghost use Rattle.std.specs.Str.{bytes_eq};
 ghost use Rattle.iface_roles.specs.Held.{Held};
-ghost use Rattle.component_scripts.specs.Component.{
-  component_command,
-  passed_over,
-  takes,
-  names_type,
-  is_misdirected,
-  kind_and_side,
-  has_role,
-  lacks_role,
-  port_property_checks,
-};
-ghost use Rattle.component_scripts.specs.Words.{refusal_of};
+ghost use Rattle.component_scripts.specs.Component.{component_command, passed_over, takes, names_type, kind_and_side, has_role, lacks_role, port_property_checks};
+ghost use Rattle.script_words.specs.Words.{refusal_of};
 
 use crate::component::ComponentCommand;
-use crate::judge::Refusal;
-use crate::values::{is_among, kind_named, role_named, same_name, side_named};
-use crate::words::{check, refusal_of, text};
 use iface_roles::{Interface, Kind, Side};
+use script_words::Refusal;
+use script_words::values::{is_among, kind_named, role_named, same_name, same_text, side_named};
+use script_words::words::{check, refusal_of, text};
 use tcl_words::Word;
 
 /// Commands that state nothing here.
@@ -47,28 +37,23 @@ fn is_passed_over(name: &str) -> bool
 pub(crate) fn component_command(name: &str) -> Option<ComponentCommand>
     ensures { result ≡ component_command name.now }
 {
-    if name == "package" {
-        return Some(ComponentCommand::Package);
+    if same_text(name, "package") {
+        Some(ComponentCommand::Package)
+    } else if same_text(name, "set_module_property") {
+        Some(ComponentCommand::SetModuleProperty)
+    } else if same_text(name, "add_interface") {
+        Some(ComponentCommand::AddInterface)
+    } else if same_text(name, "set_interface_property") {
+        Some(ComponentCommand::SetInterfaceProperty)
+    } else if same_text(name, "add_interface_port") {
+        Some(ComponentCommand::AddInterfacePort)
+    } else if same_text(name, "set_port_property") {
+        Some(ComponentCommand::SetPortProperty)
+    } else if is_passed_over(name) {
+        Some(ComponentCommand::PassedOver)
+    } else {
+        None
     }
-    if name == "set_module_property" {
-        return Some(ComponentCommand::SetModuleProperty);
-    }
-    if name == "add_interface" {
-        return Some(ComponentCommand::AddInterface);
-    }
-    if name == "set_interface_property" {
-        return Some(ComponentCommand::SetInterfaceProperty);
-    }
-    if name == "add_interface_port" {
-        return Some(ComponentCommand::AddInterfacePort);
-    }
-    if name == "set_port_property" {
-        return Some(ComponentCommand::SetPortProperty);
-    }
-    if is_passed_over(name) {
-        return Some(ComponentCommand::PassedOver);
-    }
-    None
 }
 
 /// Whether the command may have so many words behind its name.
@@ -91,17 +76,6 @@ pub(crate) fn names_type(words: &[Word]) -> bool
     ensures { result ≡ names_type words.now }
 {
     same_name("NAME", text(words, 1))
-}
-
-/// Whether the direction in the words `KIND DIRECTION` of `add_interface` isn't one of the kind.
-#[tactic(auto, unfolding(crate::specs::Component::is_misdirected))]
-pub fn is_misdirected(words: &[Word]) -> bool
-    ensures { result ≡ is_misdirected words.now }
-{
-    match kind_named(text(words, 2)) {
-        Some(kind) => side_named(kind, text(words, 3)).is_none(),
-        None => false,
-    }
 }
 
 /// The kind and the side that the words of `add_interface` name.

@@ -2,14 +2,15 @@ ghost use Rattle.std.specs.Prelude.{◌≡◌, IsTrue, false, true, OnOk};
 ghost use Rattle.iface_roles.specs.Held.{is_kept};
 ghost use Rattle.iface_roles.specs.Properties.{property_row, is_of};
 ghost use Rattle.component_scripts.specs.Component.{value_of, is_within, is_not_known, is_misread, is_outside, has_role, set_to_number, set_as, port_stated, with_role};
-ghost use Rattle.component_scripts.specs.Kinds.{property_named};
-ghost use Rattle.component_scripts.specs.Words.{text_at};
+ghost use Rattle.script_words.specs.Kinds.{property_named};
+ghost use Rattle.script_words.specs.Words.{text_at};
 
 use crate::component::DeclaredInterface;
-use crate::values::{direction_named, is_name, number_of, property_named, role_named};
-use crate::words::text;
 use av_base::{NoMemory, Text};
+use component_types::is_name;
 use iface_roles::{PortDirection, Property, PropertyId, Values};
+use script_words::values::{direction_named, number_of, property_named, role_named};
+use script_words::words::text;
 use std::alloc::Global;
 use tcl_words::Word;
 

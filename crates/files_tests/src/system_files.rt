@@ -1,6 +1,7 @@
 ghost use Rattle.system_tables.specs.Tables.{IsLogic};
 
-use component_scripts::{Catalog, Component};
+use component_scripts::read_component;
+use component_types::Catalog;
 use std::alloc::Global;
 use std::test::Fail;
 use system_scripts::read_system;
@@ -105,7 +106,7 @@ fn commands_of(alloc: Global, text: &str) -> Result<Commands, Fail> {
 
 fn component_of(alloc: Global, text: &str) -> Result<Component, Fail> {
     let commands = commands_of(alloc, text)?;
-    Ok(Component::read(alloc, &commands)?)
+    Ok(read_component(alloc, &commands)?)
 }
 
 fn add_components(alloc: Global, catalog: &mut Catalog) -> Result<(), Fail> {

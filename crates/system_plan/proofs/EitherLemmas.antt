@@ -6,12 +6,12 @@ use Rattle.tcl_words.specs.Reading.{Fault, first_word_fault}
 use Rattle.tcl_words.specs.Rules.{number_of}
 use Rattle.tcl_words.specs.Script.{Script}
 use Rattle.tcl_words.specs.Spelling.{Spells}
-use Rattle.component_scripts.specs.declared.faults.ScriptRule.{ScriptRule}
-use Rattle.component_scripts.specs.declared.faults.ScriptRule.TheVariants.{Words, Command}
-use Rattle.component_scripts.specs.declared.judge.Refusal.{Refusal as ScriptRefusal}
-use Rattle.component_scripts.specs.Catalog.{is_refused}
+use Rattle.script_words.specs.declared.faults.ScriptRule.{ScriptRule}
+use Rattle.script_words.specs.declared.faults.ScriptRule.TheVariants.{Words, Command}
+use Rattle.script_words.specs.declared.judge.Refusal.{Refusal as ScriptRefusal}
+use Rattle.component_types.specs.Catalog.{is_refused}
 use Rattle.component_scripts.specs.Component.{component_of}
-use Rattle.component_scripts.specs.Tables.{ComponentTable}
+use Rattle.component_types.specs.Tables.{ComponentTable}
 use Rattle.system_scripts.specs.Clocks.{system_of}
 use Rattle.system_tables.specs.declared.tables.Connection.{Connection}
 use Rattle.system_tables.specs.Tables.{SystemTable}

@@ -3,7 +3,7 @@ use Rattle.std.proofs.Common.{◌≡◌, ℕ, ◌-◌, ◌<◌, List, [], ◌∷
 use Rattle.std.proofs.lemmas.Bool.{false≢true}
 use Rattle.std.proofs.lemmas.Option.{same_Some}
 use Rattle.av_base.specs.declared.faults.Place.{Place}
-use Rattle.component_scripts.specs.declared.faults.ScriptRule.{ScriptRule}
+use Rattle.script_words.specs.declared.faults.ScriptRule.{ScriptRule}
 use Rattle.system_tables.specs.declared.tables.Connection.{Connection}
 use Rattle.system_tables.specs.Tables.{SystemTable}
 use Rattle.address_map.specs.declared.footprint.Footprint.{Footprint}

@@ -2,8 +2,8 @@
 use Rattle.std.proofs.Common.{◌≡◌, ℕ, List, None, Result, Err, sym, ap, subst, ◌∙◌, inl, inr}
 use Rattle.std.proofs.lemmas.Option.{same_Some, none-some}
 use Rattle.av_base.specs.declared.faults.Place.{Place}
-use Rattle.component_scripts.specs.declared.faults.ScriptRule.{ScriptRule}
-use Rattle.component_scripts.specs.declared.faults.ScriptRule.TheVariants.{Words}
+use Rattle.script_words.specs.declared.faults.ScriptRule.{ScriptRule}
+use Rattle.script_words.specs.declared.faults.ScriptRule.TheVariants.{Words}
 use Rattle.tcl_words.specs.Reading.{Fault, first_word_fault}
 use Rattle.tcl_words.specs.Rules.{number_of}
 use Rattle.tcl_words.specs.Script.{Script}

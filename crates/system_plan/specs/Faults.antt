@@ -3,9 +3,9 @@ use Rattle.std.specs.Prelude.{None}
 use Rattle.tcl_words.specs.declared.rule.WordsFault.{WordsFault}
 use Rattle.tcl_words.specs.declared.rule.WordsFault.TheVariants as words
 use Rattle.tcl_words.specs.Rules.{number_of}
-use Rattle.component_scripts.specs.declared.faults.ScriptFault.{ScriptFault}
-use Rattle.component_scripts.specs.declared.faults.ScriptFault.TheVariants as scripts
-use Rattle.component_scripts.specs.declared.faults.ScriptRule.TheVariants.{Words}
+use Rattle.script_words.specs.declared.faults.ScriptFault.{ScriptFault}
+use Rattle.script_words.specs.declared.faults.ScriptFault.TheVariants as scripts
+use Rattle.script_words.specs.declared.faults.ScriptRule.TheVariants.{Words}
 use Rattle.address_map.specs.declared.faults.MapFault.{MapFault}
 use Rattle.address_map.specs.declared.faults.MapFault.TheVariants as maps
 use Rattle.link_rules.specs.declared.faults.LinkRule.TheVariants.{Map}

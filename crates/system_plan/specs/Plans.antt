@@ -1,7 +1,7 @@
 -- The plan of files, and what refuses them.
 use Rattle.std.specs.Prelude.{◌≡◌, ℕ, List, Option, None, ◌⊎◌}
 use Rattle.av_base.specs.declared.faults.Place.{Place}
-use Rattle.component_scripts.specs.declared.faults.ScriptRule.{ScriptRule}
+use Rattle.script_words.specs.declared.faults.ScriptRule.{ScriptRule}
 use Rattle.system_tables.specs.Tables.{SystemTable}
 use Rattle.address_map.specs.Footprints.{footprints}
 use Rattle.address_map.specs.MapRules.{KeepsMapRules, IsFirstRefused as IsFirstInMaps}

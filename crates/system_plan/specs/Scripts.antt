@@ -5,8 +5,8 @@ use Rattle.tcl_words.specs.Reading.{Fault, first_word_fault}
 use Rattle.tcl_words.specs.Rules.{number_of}
 use Rattle.tcl_words.specs.Script.{Script}
 use Rattle.tcl_words.specs.Spelling.{Spells}
-use Rattle.component_scripts.specs.declared.faults.ScriptRule.{ScriptRule}
-use Rattle.component_scripts.specs.declared.faults.ScriptRule.TheVariants.{Words}
+use Rattle.script_words.specs.declared.faults.ScriptRule.{ScriptRule}
+use Rattle.script_words.specs.declared.faults.ScriptRule.TheVariants.{Words}
 
 -- the bytes of a file spell a script that states this
 pub record States {X : Type 0} (says : Script → X → Type 0) (file : ℕ) (bytes : List ℕ) (stated : X) : Type 0 where

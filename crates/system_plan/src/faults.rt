@@ -3,7 +3,7 @@ ghost use Rattle.system_plan.specs.Faults.{of_words, of_script, of_maps, of_plan
 
 use address_map::MapFault;
 use av_base::Place;
-use component_scripts::{ScriptFault, ScriptRule};
+use script_words::{ScriptFault, ScriptRule};
 use link_rules::{LinkRule, PlanFault};
 use tcl_words::WordsFault;
 use thiserror::Error;

@@ -1,5 +1,5 @@
 ghost use Rattle.std.specs.Prelude.{◌≡◌, ◌^◌, ◌<◌, ◌≤◌, ◌+◌, ◌∷◌, [], ◌++◌, ◌⊎◌, All, length, OnOk, IfOk, IfErr, MatchResult};
-ghost use Rattle.component_scripts.specs.Tables.{ComponentTable};
+ghost use Rattle.component_types.specs.Tables.{ComponentTable};
 ghost use Rattle.link_rules.specs.Plans.{IsPlan};
 ghost use Rattle.system_plan.specs.declared.faults.Refusal.{Refusal as Answer};
 ghost use Rattle.system_plan.specs.Scripts.{States, IsRefused};
@@ -9,7 +9,8 @@ ghost use Rattle.system_plan.specs.Plans.{IsPlanned, IsAccepted, IsRefusedBy, Is
 use crate::faults::Refusal;
 use address_map::Maps;
 use av_base::Bytes;
-use component_scripts::{Catalog, Component};
+use component_scripts::read_component;
+use component_types::Catalog;
 use link_rules::Plan;
 use std::alloc::Global;
 use system_scripts::read_system;
@@ -28,7 +29,7 @@ fn add_component(
     ensures refused { IfErr result (IsScriptCause (IsRefused (RefusesComponent catalog.old) file bytes.now)) }
 {
     let commands = Commands::read(alloc, file, bytes)?;
-    let component = Component::read(alloc, &commands)?;
+    let component = read_component(alloc, &commands)?;
     catalog.add(component)?;
     Ok(())
 }

@@ -8,9 +8,9 @@ use Rattle.system_scripts.specs.declared.joints.Joint.{Joint}
 use Rattle.system_scripts.specs.declared.joints.Terminal.{Terminal}
 use Rattle.system_scripts.specs.Clocks.{root_of, system_clock, logic_joints}
 use Rattle.system_tables.specs.declared.tables.Connection.{Connection}
-use Rattle.component_scripts.specs.Component.{first_some}
+use Rattle.script_words.specs.Judgements.{first_some}
 use Rattle.system_scripts.specs.System.{DraftedSystem}
-use Rattle.component_scripts.specs.Tables.{ComponentTable}
+use Rattle.component_types.specs.Tables.{ComponentTable}
 
 abbrev pub joint_root : List ComponentTable → DraftedSystem → Joint → Option Terminal
 joint_root components draft joint = option_or (root_of components draft joint.start) (root_of components draft joint.end)

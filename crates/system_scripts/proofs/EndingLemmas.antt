@@ -4,20 +4,20 @@ use Rattle.std.specs.Prelude.{All, IsSome, IfOk, OnOk, slice_index_or}
 use Rattle.av_base.specs.declared.faults.Place.{Place}
 use Rattle.tcl_words.specs.declared.words.Word.{Word}
 use Rattle.tcl_words.specs.Script.{Script}
-use Rattle.component_scripts.specs.declared.faults.ScriptFault.{ScriptFault}
-use Rattle.component_scripts.specs.declared.faults.ScriptFault.TheVariants.{Refused, NoMemory}
+use Rattle.script_words.specs.declared.faults.ScriptFault.{ScriptFault}
+use Rattle.script_words.specs.declared.faults.ScriptFault.TheVariants.{Refused, NoMemory}
 use Rattle.system_tables.specs.declared.system.Instance.{Instance}
 use Rattle.system_tables.specs.declared.tables.Connection.{Connection}
 use Rattle.system_scripts.specs.Clocks.{interfaces_at, instance_table, connection_of, system_clock, logic_joints, stated_system, ended_system, system_over}
-use Rattle.component_scripts.specs.Component.{judged, IsFaultOf}
+use Rattle.script_words.specs.Judgements.{judged, IsFaultOf}
 use Rattle.system_tables.specs.Kept.{instance_of, kept_table}
-use Rattle.component_scripts.specs.Library.{interfaces_of}
+use Rattle.component_types.specs.Library.{interfaces_of}
 use Rattle.system_scripts.specs.Sound.{IsSoundSystemDraft}
 use Rattle.system_scripts.specs.System.{DraftedSystem, empty_system_draft, first_system_refusal, system_after_all}
 use Rattle.system_tables.specs.declared.tables.InterfaceTable.{InterfaceTable}
 use Rattle.system_tables.specs.Tables.{InstanceTable, SystemTable, IsSystem}
-use Rattle.component_scripts.specs.Tables.{ComponentTable, IsComponent}
-use Rattle.component_scripts.specs.Words.{IsRefusal}
+use Rattle.component_types.specs.Tables.{ComponentTable, IsComponent}
+use Rattle.script_words.specs.Words.{IsRefusal}
 use Rattle.system_scripts.proofs.StatedLemmas.{stated_is_system, sound_draft}
 
 interfaces_kept : (components : List ComponentTable) (k : ℕ) → slice_index_or (interfaces_of components) k [] ≡ interfaces_at components k

@@ -23,18 +23,18 @@ use Rattle.system_scripts.specs.declared.joints.Parameter.{Parameter}
 use Rattle.system_scripts.specs.declared.joints.Parameter.TheVariants.{BaseAddress, ArbitrationPriority, FifoDepth, DefaultConnection}
 use Rattle.system_scripts.specs.declared.joints.Terminal.{Terminal}
 use Rattle.system_tables.specs.declared.system.Instance.{Instance}
-use Rattle.component_scripts.specs.Kinds.{same_kind}
-use Rattle.component_scripts.specs.Numbers.{number_of, number_in, is_numeral}
+use Rattle.script_words.specs.Kinds.{same_kind}
+use Rattle.script_words.specs.Numbers.{number_of, number_in, is_numeral}
 use Rattle.system_scripts.specs.Sound.{IsSoundJoint, AreApart, IsSoundSystemDraft}
 use Rattle.system_scripts.specs.System.{DraftedSystem, same_end, joins, is_taken, has_sides, is_start, is_mismatched, of_both, component_at, instance_place, end_of, sort_at, sort_of, first_named, second_named, first_end, second_end, connection_checks, connection_effect, joint_of, joined_at, joint_place, parameter_named, is_number, may_be, exceeds, parameter_checks, parameter_effect, with_parameter, with_number, set_at}
 use Rattle.system_tables.specs.declared.tables.InterfaceTable.{InterfaceTable}
-use Rattle.component_scripts.specs.Tables.{ComponentTable, interface_place}
-use Rattle.component_scripts.specs.Words.{text_at, check, refusal_of}
-use Rattle.component_scripts.specs.Laws.{none_fails, position_within}
-use Rattle.component_scripts.specs.Laws.{none_passes}
+use Rattle.component_types.specs.Tables.{ComponentTable, interface_place}
+use Rattle.script_words.specs.Words.{text_at, check, refusal_of}
+use Rattle.script_words.specs.Laws.{none_fails, position_within}
+use Rattle.script_words.specs.Laws.{none_passes}
 use Rattle.system_scripts.proofs.SystemDraftLemmas.{connection_is_new, parameter_not_exceeds, ends_and_kind-with_number}
 use Rattle.system_scripts.proofs.SoundLemmas.{all_fail}
-use Rattle.component_scripts.specs.Laws.{same_kind-Decides}
+use Rattle.script_words.specs.Laws.{same_kind-Decides}
 
 some_at : {A : Type 0} (xs : List A) (k : ℕ) → k < length xs → (x : A) × (slice_get xs k ≡ Some x)
 some_at [] k h = absurd (omega arith)

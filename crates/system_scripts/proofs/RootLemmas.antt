@@ -10,7 +10,7 @@ use Rattle.iface_roles.specs.declared.kinds.Kind.TheVariants.{Clock}
 use Rattle.system_scripts.specs.declared.joints.Joint.{Joint}
 use Rattle.system_scripts.specs.declared.joints.Terminal.{Terminal}
 use Rattle.system_scripts.specs.Clocks.{clocks, source_of, start_for}
-use Rattle.component_scripts.specs.Kinds.{same_kind}
+use Rattle.script_words.specs.Kinds.{same_kind}
 use Rattle.system_scripts.specs.System.{same_end}
 use Rattle.system_scripts.proofs.LinkLemmas.{same_end-true}
 

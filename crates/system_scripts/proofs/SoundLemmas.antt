@@ -15,16 +15,16 @@ use Rattle.iface_roles.specs.declared.kinds.Side.{Side}
 use Rattle.system_scripts.specs.declared.joints.Joint.{Joint}
 use Rattle.system_scripts.specs.declared.joints.Terminal.{Terminal}
 use Rattle.system_tables.specs.declared.system.Instance.{Instance}
-use Rattle.component_scripts.specs.Catalog.{type_place}
+use Rattle.component_types.specs.Catalog.{type_place}
 use Rattle.system_tables.specs.Names.{is_name}
-use Rattle.component_scripts.specs.Names.{place_of}
-use Rattle.component_scripts.specs.Numbers.{number_of}
+use Rattle.script_words.specs.Names.{place_of}
+use Rattle.script_words.specs.Numbers.{number_of}
 use Rattle.system_scripts.specs.Sound.{IsSoundJoint, IsSoundSystemDraft}
 use Rattle.system_scripts.specs.System.{DraftedSystem, empty_system_draft, create_checks, create_effect, has_word, component_at, instance_checks, instance_effect, requirement_checks, requirement_effect, sets_stages, exported_effect, sort_at, sort_of}
-use Rattle.component_scripts.specs.Tables.{ComponentTable}
-use Rattle.component_scripts.specs.Words.{text_at, check, refusal_of}
-use Rattle.component_scripts.specs.Laws.{none_fails}
-use Rattle.component_scripts.specs.Laws.{none_passes}
+use Rattle.component_types.specs.Tables.{ComponentTable}
+use Rattle.script_words.specs.Words.{text_at, check, refusal_of}
+use Rattle.script_words.specs.Laws.{none_fails}
+use Rattle.script_words.specs.Laws.{none_passes}
 use Rattle.system_scripts.proofs.SystemDraftLemmas.{stages_are_few, instance_is_new}
 
 pub sound_nothing : (components : List ComponentTable) → IsSoundSystemDraft components empty_system_draft

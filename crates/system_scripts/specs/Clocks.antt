@@ -6,21 +6,21 @@ use Rattle.av_base.specs.declared.faults.Place.{Place}
 use Rattle.tcl_words.specs.Script.{Script}
 use Rattle.iface_roles.specs.declared.kinds.Kind.TheVariants.{Clock}
 use Rattle.iface_roles.specs.Kinds.{is_avalon}
-use Rattle.component_scripts.specs.declared.faults.ScriptRule.TheVariants.{Command}
+use Rattle.script_words.specs.declared.faults.ScriptRule.TheVariants.{Command}
 use Rattle.system_scripts.specs.declared.joints.Joint.{Joint}
 use Rattle.system_scripts.specs.declared.joints.Terminal.{Terminal}
-use Rattle.component_scripts.specs.declared.judge.Refusal.{Refusal}
+use Rattle.script_words.specs.declared.judge.Refusal.{Refusal}
 use Rattle.system_tables.specs.declared.system.Instance.{Instance}
 use Rattle.system_tables.specs.declared.tables.Connection.{Connection}
 use Rattle.system_tables.specs.declared.tables.EndId.{EndId}
-use Rattle.component_scripts.specs.Component.{first_some, judged}
-use Rattle.component_scripts.specs.Kinds.{same_kind}
-use Rattle.component_scripts.specs.Library.{clock_source_table}
-use Rattle.component_scripts.specs.Names.{is_empty}
+use Rattle.script_words.specs.Judgements.{first_some, judged}
+use Rattle.script_words.specs.Kinds.{same_kind}
+use Rattle.component_types.specs.Library.{clock_source_table}
+use Rattle.script_words.specs.Names.{is_empty}
 use Rattle.system_scripts.specs.System.{DraftedSystem, empty_system_draft, same_end, component_at, first_system_refusal, system_after_all}
 use Rattle.system_tables.specs.declared.tables.InterfaceTable.{InterfaceTable}
 use Rattle.system_tables.specs.Tables.{InstanceTable, SystemTable}
-use Rattle.component_scripts.specs.Tables.{ComponentTable, interface_place}
+use Rattle.component_types.specs.Tables.{ComponentTable, interface_place}
 
 -- the clock interface that an interface of a component names, by its place there
 abbrev pub clock_place : ComponentTable → InterfaceTable → Option ℕ

@@ -7,7 +7,7 @@ use Rattle.system_scripts.specs.declared.joints.Joint.{Joint}
 use Rattle.system_tables.specs.declared.system.Instance.{Instance}
 use Rattle.system_tables.specs.Names.{is_name}
 use Rattle.system_scripts.specs.System.{DraftedSystem, sort_at, has_sides}
-use Rattle.component_scripts.specs.Tables.{ComponentTable}
+use Rattle.component_types.specs.Tables.{ComponentTable}
 
 -- a connection joins interfaces of its kind, where that has sides a start and an end, and its parameters are in range
 pub record IsSoundJoint (components : List ComponentTable) (instances : List Instance) (joint : Joint) : Type 0 where

@@ -15,21 +15,22 @@ use Rattle.system_scripts.specs.declared.joints.Parameter.{Parameter}
 use Rattle.system_scripts.specs.declared.joints.Parameter.TheVariants.{BaseAddress, ArbitrationPriority, FifoDepth, DefaultConnection}
 use Rattle.system_scripts.specs.declared.joints.SystemCommand.{SystemCommand}
 use Rattle.system_scripts.specs.declared.joints.SystemCommand.TheVariants.{Package, CreateSystem, AddInstance, AddConnection, SetParameter, AddInterface, SetInterfaceProperty, SetRequirement, SaveSystem, PassedOver}
-use Rattle.component_scripts.specs.declared.judge.Check.{Check}
-use Rattle.component_scripts.specs.declared.judge.Refusal.{Refusal}
+use Rattle.script_words.specs.declared.judge.Check.{Check}
+use Rattle.script_words.specs.declared.judge.Refusal.{Refusal}
 use Rattle.system_tables.specs.declared.system.Instance.{Instance}
 use Rattle.system_scripts.specs.declared.joints.Terminal.{Terminal}
 use Rattle.system_scripts.specs.declared.joints.Link.{Link}
-use Rattle.component_scripts.specs.Catalog.{type_place}
-use Rattle.component_scripts.specs.Component.{is_misdirected, counted}
-use Rattle.component_scripts.specs.Kinds.{same_kind, kind_named}
+use Rattle.component_types.specs.Catalog.{type_place}
+use Rattle.script_words.specs.Judgements.{counted}
+use Rattle.script_words.specs.Words.{is_misdirected}
+use Rattle.script_words.specs.Kinds.{same_kind, kind_named}
 use Rattle.system_tables.specs.Names.{is_name}
-use Rattle.component_scripts.specs.Names.{place_of, parts_round, end_named}
-use Rattle.component_scripts.specs.Numbers.{number_of}
-use Rattle.component_scripts.specs.Package.{package_checks}
+use Rattle.script_words.specs.Names.{place_of, parts_round, end_named}
+use Rattle.script_words.specs.Numbers.{number_of}
+use Rattle.script_words.specs.Package.{package_checks}
 use Rattle.system_tables.specs.declared.tables.InterfaceTable.{InterfaceTable}
-use Rattle.component_scripts.specs.Tables.{ComponentTable, interface_place}
-use Rattle.component_scripts.specs.Words.{text_at, check, refused_at, refusal_of}
+use Rattle.component_types.specs.Tables.{ComponentTable, interface_place}
+use Rattle.script_words.specs.Words.{text_at, check, refused_at, refusal_of}
 
 -- what the commands so far state: the system's name, once it is created; its pipeline stages; its instances, each with
 -- the place of its component; the exported names; and its connections of all kinds

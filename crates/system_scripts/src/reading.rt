@@ -1,9 +1,10 @@
 ghost use Rattle.std.specs.Prelude.{◌≡◌, Ok, IfOk, IfErr};
-ghost use Rattle.component_scripts.specs.Component.{IsFaultOf};
+ghost use Rattle.script_words.specs.Judgements.{IsFaultOf};
 ghost use Rattle.system_scripts.specs.Clocks.{system_of, system_over};
 
 use crate::system_draft::SystemDraft;
-use component_scripts::{Catalog, Library, ScriptFault};
+use component_types::{Catalog, Library};
+use script_words::ScriptFault;
 use std::alloc::Global;
 use system_tables::System;
 use tcl_words::Commands;

@@ -4,7 +4,7 @@ ghost use Rattle.system_scripts.specs.declared.joints.Terminal.{Terminal};
 
 use crate::joints::{Joint, Terminal};
 use av_base::NoMemory;
-use component_scripts::values::same_kind;
+use script_words::values::same_kind;
 use iface_roles::Kind;
 use indexmap::IndexMap;
 use std::alloc::Global;

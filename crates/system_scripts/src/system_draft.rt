@@ -6,9 +6,10 @@ use crate::joints::{Joint, Link, Terminal};
 use crate::links::{Ends, Links};
 use crate::system_words::{first_named, pair_named, second_named, system_command, system_takes};
 use av_base::Text;
-use component_scripts::values::end_named;
-use component_scripts::words::{refused_at, text};
-use component_scripts::{Component, Library, Names, ScriptFault};
+use script_words::values::end_named;
+use script_words::words::{refused_at, text};
+use component_types::{Component, Library};
+use script_words::{Names, ScriptFault};
 use iface_roles::{Kind, Side};
 use std::alloc::Global;
 use std::marker::Model;
@@ -62,7 +63,7 @@ impl Model for SystemDraft {
 impl SystemDraft {
     ghost use Rattle.std.specs.Prelude.{◌≡◌, ◌||◌, OnOk, IfOk, IfErr, None, is_none, is_some, position, option_and_then};
     ghost use Rattle.std.specs.Option.{option_copied};
-    ghost use Rattle.component_scripts.specs.Names.{end_named};
+    ghost use Rattle.script_words.specs.Names.{end_named};
     ghost use Rattle.system_scripts.specs.System.{
       DraftedSystem,
       empty_system_draft,
@@ -82,7 +83,7 @@ impl SystemDraft {
       first_system_refusal,
       system_after_all,
     };
-    ghost use Rattle.component_scripts.specs.Words.{IsRefusal};
+    ghost use Rattle.script_words.specs.Words.{IsRefusal};
 
     #[tactic(auto, unfolding(crate::specs::System::empty_system_draft))]
     pub fn new(alloc: Global) -> SystemDraft

@@ -1,7 +1,7 @@
 ghost use Rattle.std.specs.Prelude.{◌≡◌, ◌&&◌, option_map, is_some, is_none};
-ghost use Rattle.component_scripts.specs.Kinds.{kind_named};
-ghost use Rattle.component_scripts.specs.Names.{end_named};
-ghost use Rattle.component_scripts.specs.Words.{text_at};
+ghost use Rattle.script_words.specs.Kinds.{kind_named};
+ghost use Rattle.script_words.specs.Names.{end_named};
+ghost use Rattle.script_words.specs.Words.{text_at};
 ghost use Rattle.std.specs.List.{list_any};
 ghost use Rattle.std.specs.Str.{bytes_eq};
 ghost use Rattle.system_scripts.specs.System.{
@@ -30,10 +30,10 @@ ghost use Rattle.system_scripts.specs.System.{
 };
 
 use crate::joints::{Parameter, SystemCommand, Terminal};
-use component_scripts::values::{
-    end_named, is_among, kind_named, number_of, parts_round, same_kind, same_name,
+use script_words::values::{
+    end_named, is_among, kind_named, number_of, parts_round, same_kind, same_name, same_text,
 };
-use component_scripts::words::text;
+use script_words::words::text;
 use iface_roles::Kind;
 use tcl_words::Word;
 
@@ -58,22 +58,19 @@ fn is_passed_over(name: &str) -> bool
 fn later_command(name: &str) -> Option<SystemCommand>
     ensures { result ≡ later_command name.now }
 {
-    if name == "add_interface" {
-        return Some(SystemCommand::AddInterface);
+    if same_text(name, "add_interface") {
+        Some(SystemCommand::AddInterface)
+    } else if same_text(name, "set_interface_property") {
+        Some(SystemCommand::SetInterfaceProperty)
+    } else if same_text(name, "set_interconnect_requirement") {
+        Some(SystemCommand::SetRequirement)
+    } else if same_text(name, "save_system") {
+        Some(SystemCommand::SaveSystem)
+    } else if is_passed_over(name) {
+        Some(SystemCommand::PassedOver)
+    } else {
+        None
     }
-    if name == "set_interface_property" {
-        return Some(SystemCommand::SetInterfaceProperty);
-    }
-    if name == "set_interconnect_requirement" {
-        return Some(SystemCommand::SetRequirement);
-    }
-    if name == "save_system" {
-        return Some(SystemCommand::SaveSystem);
-    }
-    if is_passed_over(name) {
-        return Some(SystemCommand::PassedOver);
-    }
-    None
 }
 
 /// The command of this name in a system file.
@@ -81,22 +78,19 @@ fn later_command(name: &str) -> Option<SystemCommand>
 pub(crate) fn system_command(name: &str) -> Option<SystemCommand>
     ensures { result ≡ system_command name.now }
 {
-    if name == "package" {
-        return Some(SystemCommand::Package);
+    if same_text(name, "package") {
+        Some(SystemCommand::Package)
+    } else if same_text(name, "create_system") {
+        Some(SystemCommand::CreateSystem)
+    } else if same_text(name, "add_instance") {
+        Some(SystemCommand::AddInstance)
+    } else if same_text(name, "add_connection") {
+        Some(SystemCommand::AddConnection)
+    } else if same_text(name, "set_connection_parameter_value") {
+        Some(SystemCommand::SetParameter)
+    } else {
+        later_command(name)
     }
-    if name == "create_system" {
-        return Some(SystemCommand::CreateSystem);
-    }
-    if name == "add_instance" {
-        return Some(SystemCommand::AddInstance);
-    }
-    if name == "add_connection" {
-        return Some(SystemCommand::AddConnection);
-    }
-    if name == "set_connection_parameter_value" {
-        return Some(SystemCommand::SetParameter);
-    }
-    later_command(name)
 }
 
 /// Whether the command may have so many words behind its name.
@@ -123,19 +117,17 @@ pub(crate) fn system_takes(command: SystemCommand, count: usize) -> bool
 pub(crate) fn parameter_named(name: &str) -> Option<Parameter>
     ensures { result ≡ parameter_named name.now }
 {
-    if name == "baseAddress" {
-        return Some(Parameter::BaseAddress);
+    if same_text(name, "baseAddress") {
+        Some(Parameter::BaseAddress)
+    } else if same_text(name, "arbitrationPriority") {
+        Some(Parameter::ArbitrationPriority)
+    } else if same_text(name, "fifoDepth") {
+        Some(Parameter::FifoDepth)
+    } else if same_text(name, "defaultConnection") {
+        Some(Parameter::DefaultConnection)
+    } else {
+        None
     }
-    if name == "arbitrationPriority" {
-        return Some(Parameter::ArbitrationPriority);
-    }
-    if name == "fifoDepth" {
-        return Some(Parameter::FifoDepth);
-    }
-    if name == "defaultConnection" {
-        return Some(Parameter::DefaultConnection);
-    }
-    None
 }
 
 fn is_number(parameter: Parameter) -> bool
@@ -174,7 +166,7 @@ fn asks_default(kind: Kind, parameter: Parameter, value: &str) -> bool
     ensures { result ≡ asks_default kind parameter value.now }
 {
     match (kind, parameter) {
-        (Kind::Mm, Parameter::DefaultConnection) => !(value == "0" || value == "false"),
+        (Kind::Mm, Parameter::DefaultConnection) => !(same_text(value, "0") || same_text(value, "false")),
         _ => false,
     }
 }
@@ -204,7 +196,8 @@ pub(crate) fn exports(words: &[Word]) -> bool
 pub(crate) fn sets_stages(words: &[Word]) -> bool
     ensures { result ≡ sets_stages words.now }
 {
-    text(words, 1) == "$system" && text(words, 2) == "qsys_mm.maxAdditionalLatency"
+    same_text(text(words, 1), "$system")
+        && same_text(text(words, 2), "qsys_mm.maxAdditionalLatency")
 }
 
 pub(crate) fn has_sides(kind: Kind) -> bool

@@ -5,7 +5,8 @@ use super::SystemDraft;
 use crate::joints::{Joint, Terminal};
 use crate::roots::Roots;
 use av_base::{List, NoMemory, Place};
-use component_scripts::{Component, Library, ScriptFault, ScriptRule};
+use component_types::{Component, Library};
+use script_words::{ScriptFault, ScriptRule};
 use std::alloc::Global;
 use system_tables::{Connection, EndId, InterfaceTable, System};
 use tcl_words::Commands;
@@ -69,10 +70,10 @@ impl SystemDraft {
       system_over,
     };
     ghost use Rattle.system_tables.specs.Kept.{kept_table};
-    ghost use Rattle.component_scripts.specs.Library.{interfaces_of};
-    ghost use Rattle.component_scripts.specs.Tables.{IsComponent};
+    ghost use Rattle.component_types.specs.Library.{interfaces_of};
+    ghost use Rattle.component_types.specs.Tables.{IsComponent};
     ghost use Rattle.system_tables.specs.Tables.{IsSystem};
-    ghost use Rattle.component_scripts.specs.Component.{IsFaultOf};
+    ghost use Rattle.script_words.specs.Judgements.{IsFaultOf};
     ghost use Rattle.system_scripts.specs.System.{empty_system_draft};
 
     /// The end of the clock that the interface at an end names.

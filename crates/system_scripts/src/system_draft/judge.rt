@@ -13,7 +13,7 @@ ghost use Rattle.system_scripts.specs.System.{
   is_mismatched,
   is_start,
 };
-ghost use Rattle.component_scripts.specs.Words.{refusal_of};
+ghost use Rattle.script_words.specs.Words.{refusal_of};
 
 use super::SystemDraft;
 use crate::joints::SystemCommand;
@@ -22,9 +22,10 @@ use crate::system_words::{
     has_sides, is_missing, is_no_joint, names_an_end, names_first, names_pair, names_second,
     parameter_named, second_word, sets_stages,
 };
-use component_scripts::values::{is_name, kind_named, number_of, same_kind};
-use component_scripts::words::{check, refusal_of, text};
-use component_scripts::{Library, Refusal, is_misdirected, judge_package};
+use component_types::{Library, is_name};
+use script_words::values::{kind_named, number_of, same_kind};
+use script_words::words::{check, is_misdirected, refusal_of, text};
+use script_words::{Refusal, judge_package};
 use iface_roles::{Kind, Side};
 use tcl_words::Word;
 

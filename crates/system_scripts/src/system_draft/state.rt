@@ -22,16 +22,16 @@ ghost use Rattle.system_scripts.specs.System.{
   system_checks,
   system_effect,
 };
-ghost use Rattle.component_scripts.specs.Words.{text_at, refusal_of};
+ghost use Rattle.script_words.specs.Words.{text_at, refusal_of};
 
 use super::SystemDraft;
 use crate::joints::{Joint, Link, Parameter, SystemCommand};
 use crate::links::add_link;
 use crate::system_words::{parameter_named, sets_stages};
 use av_base::{NoMemory, Text};
-use component_scripts::Library;
-use component_scripts::values::{number_of, same_kind};
-use component_scripts::words::text;
+use component_types::Library;
+use script_words::values::{number_of, same_kind};
+use script_words::words::text;
 use iface_roles::Kind;
 use std::alloc::Global;
 use system_tables::Instance;

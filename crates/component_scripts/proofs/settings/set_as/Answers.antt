@@ -1,6 +1,6 @@
 use Rattle.std.proofs.Common.{IsTrue, sym, subst}
 use Rattle.iface_roles.specs.Properties.{property_row, is_of}
-use Rattle.component_scripts.proofs.ValueLemmas.{property_named-kind}
+use Rattle.script_words.specs.Laws.{property_named-kind}
 use Rattle.component_scripts.proofs.settings.set_as.Goals as goal
 
 pub set_to_number-requires-clause-known : goal.set_to_number-requires-clause-known

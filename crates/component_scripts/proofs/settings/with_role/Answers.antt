@@ -1,5 +1,5 @@
 use Rattle.std.proofs.Common.{sym, ◌∙◌}
-use Rattle.component_scripts.proofs.ValueLemmas.{role_named-kind}
+use Rattle.script_words.specs.Laws.{role_named-kind}
 use Rattle.component_scripts.proofs.settings.with_role.Goals as goal
 
 pub add_port-requires : goal.add_port-requires

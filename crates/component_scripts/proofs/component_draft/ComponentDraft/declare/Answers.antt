@@ -1,6 +1,6 @@
 use Rattle.std.proofs.Common.{◌≡◌, ◌++◌, ◌∷◌, [], false, sym, ap, ◌∙◌, subst}
 use Rattle.std.specs.Prelude.{is_some}
-use Rattle.component_scripts.specs.Names.{place_of}
+use Rattle.script_words.specs.Names.{place_of}
 use Rattle.component_scripts.proofs.ComponentDraftLemmas.{IsComponentDraft-push, is_some-held}
 use Rattle.component_scripts.proofs.component_draft.ComponentDraft.declare.Goals as goal
 

@@ -1,5 +1,5 @@
 use Rattle.std.proofs.Common.{sym, ap, Some, ◌∙◌}
-use Rattle.component_scripts.specs.declared.faults.ScriptRule.TheVariants.{Interface}
+use Rattle.script_words.specs.declared.faults.ScriptRule.TheVariants.{Interface}
 use Rattle.component_scripts.proofs.RuleLemmas.{not_refused, refused_by_clock, refused_by_rule}
 use Rattle.component_scripts.proofs.component_draft.ComponentDraft.finished.Goals as goal
 use Rattle.component_scripts.proofs.component_draft.ComponentDraft.finished.Goals.{in-Ok-2, in-Err}

@@ -1,8 +1,8 @@
 use Rattle.std.proofs.Common.{◌≡◌, ◌++◌, ◌∷◌, [], List, ℕ, false, set, sym, ap, ◌∙◌, subst}
 use Rattle.std.specs.Prelude.{is_some}
 use Rattle.component_scripts.specs.Component.{with_role}
-use Rattle.component_scripts.specs.Names.{place_of}
-use Rattle.component_scripts.specs.Words.{text_at}
+use Rattle.script_words.specs.Names.{place_of}
+use Rattle.script_words.specs.Words.{text_at}
 use Rattle.component_scripts.specs.declared.component.DeclaredInterface.{DeclaredInterface}
 use Rattle.component_scripts.proofs.ComponentDraftLemmas.{IsNamedAt, shown, IsComponentDraft-set, port_is_new, role_is_new, port_added, port_alone}
 use Rattle.component_scripts.proofs.component_draft.ComponentDraft.state_port.Goals as goal

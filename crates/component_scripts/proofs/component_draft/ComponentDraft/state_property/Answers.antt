@@ -1,6 +1,6 @@
 use Rattle.std.proofs.Common.{set, sym, ap, ◌∙◌}
-use Rattle.component_scripts.specs.Names.{place_of}
-use Rattle.component_scripts.specs.Words.{text_at}
+use Rattle.script_words.specs.Names.{place_of}
+use Rattle.script_words.specs.Words.{text_at}
 use Rattle.component_scripts.specs.declared.component.DeclaredInterface.{DeclaredInterface}
 use Rattle.component_scripts.proofs.ComponentDraftLemmas.{IsNamedAt, shown, IsComponentDraft-set, property_not_outside, property_stated, property_unstated}
 use Rattle.component_scripts.proofs.component_draft.ComponentDraft.state_property.Goals as goal

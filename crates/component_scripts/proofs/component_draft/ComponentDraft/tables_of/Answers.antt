@@ -1,6 +1,6 @@
 use Rattle.std.proofs.Common.{sym, ap, ◌∙◌, ◌++◌, ◌∷◌, [], map, take}
 use Rattle.component_scripts.specs.Component.{interface_table, interface_refusal}
-use Rattle.component_scripts.specs.Tables.{IsSound}
+use Rattle.component_types.specs.Tables.{IsSound}
 use Rattle.std.proofs.lemmas.List.{map_more}
 use Rattle.std.proofs.lemmas.List.Elements.{All-push}
 use Rattle.component_scripts.proofs.ComponentDraftLemmas.{first_some-more}

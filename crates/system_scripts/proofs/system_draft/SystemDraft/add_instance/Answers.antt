@@ -1,6 +1,6 @@
 use Rattle.std.proofs.Common.{◌≡◌, false, sym, ap, ◌∙◌, subst}
 use Rattle.std.specs.Prelude.{is_some}
-use Rattle.component_scripts.specs.Names.{place_of}
+use Rattle.script_words.specs.Names.{place_of}
 use Rattle.system_scripts.specs.System.{instance_place}
 use Rattle.system_scripts.proofs.system_draft.SystemDraft.add_instance.Goals as goal
 

@@ -1,6 +1,6 @@
 use Rattle.std.proofs.Common.{◌≡◌, false, sym, subst}
 use Rattle.std.specs.Prelude.{is_some}
-use Rattle.component_scripts.specs.Names.{place_of}
+use Rattle.script_words.specs.Names.{place_of}
 use Rattle.system_scripts.proofs.SystemDraftLemmas.{exported_is_new}
 use Rattle.system_scripts.proofs.system_draft.SystemDraft.state_exported.Goals as goal
 

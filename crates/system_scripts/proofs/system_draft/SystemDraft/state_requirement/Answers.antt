@@ -1,6 +1,6 @@
 use Rattle.std.proofs.Common.{◌≡◌, ◌≤◌, Some, ap, sym, ◌∙◌, arith}
-use Rattle.component_scripts.specs.Numbers.{number_of}
-use Rattle.component_scripts.specs.Words.{text_at}
+use Rattle.script_words.specs.Numbers.{number_of}
+use Rattle.script_words.specs.Words.{text_at}
 use Rattle.system_scripts.proofs.SystemDraftLemmas.{stages_are_few}
 use Rattle.system_scripts.proofs.system_draft.SystemDraft.state_requirement.Goals as goal
 

@@ -1,6 +1,6 @@
 use Rattle.std.proofs.Common.{◌≡◌, None, ap, ◌∙◌, subst}
 use Rattle.std.proofs.lemmas.Result.{err_from_is_err_and}
-use Rattle.component_scripts.specs.Words.{IsRefusal}
+use Rattle.script_words.specs.Words.{IsRefusal}
 use Rattle.system_scripts.specs.Clocks.{system_over, ended_system}
 use Rattle.system_scripts.specs.System.{empty_system_draft, first_system_refusal, system_after_all}
 use Rattle.system_scripts.proofs.EndingLemmas.{read_is_sound, system_over-ended, system_over-refused, made_of_tables}

@@ -1,0 +1,2 @@
+pub mod BuiltInLemmas
+pub mod LibraryLemmas
