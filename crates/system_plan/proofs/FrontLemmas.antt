@@ -1,5 +1,6 @@
 -- Items of the fronts of lists, and the least number that passes a test.
-use Rattle.std.proofs.Common.{◌≡◌, ℕ, ◌<◌, zero, suc, List, [], ◌∷◌, ◌++◌, Some, length, take, slice_get, refl, ap, ◌∙◌, arith, take-suc}
+use Rattle.std.proofs.Common.{◌≡◌, ℕ, ◌<◌, ◌≤◌, zero, suc, List, [], ◌∷◌, ◌++◌, Some, length, take, drop, slice_get, refl, ap, ◌∙◌, arith, take-suc, take_all}
+use Rattle.std.specs.Prelude.{◌-◌, All}
 use Rattle.std.proofs.lemmas.Option.{slice_get_within, get_or_from_slice_get}
 
 -- an item in front of a place stands in the front of the list
@@ -27,6 +28,18 @@ slice_get_some (x ∷ xs) (suc k) less = slice_get_some xs k (omega arith)
 pub take-next : {X : Type 0} (xs : List X) (n : ℕ) (x : X) → slice_get xs n ≡ Some x → take (suc n) xs ≡ take n xs ++ x ∷ []
 take-next xs n x at =
     take-suc xs n x (slice_get_within xs n x at) ∙ ap (λ y. take n xs ++ y ∷ []) (get_or_from_slice_get xs n x x at)
+
+-- what stands behind the first item
+pub length-rest : {X : Type 0} (xs : List X) → length (drop 1 xs) ≤ length xs - 1
+length-rest [] = omega arith
+length-rest (x ∷ xs) = omega arith
+
+pub rest_is : {X : Type 0} (xs : List X) → take (length xs - 1) (drop 1 xs) ≡ drop 1 xs
+rest_is xs = take_all (length xs - 1) (drop 1 xs) (length-rest xs)
+
+pub All-rest : {X : Type 0} (P : X → Type 0) (xs : List X) → All P xs → All P (drop 1 xs)
+All-rest P [] all = all
+All-rest P (x ∷ xs) all = λ k d less. all (suc k) d (omega arith)
 
 -- two numbers are the same where neither is below the other
 pub same_number : (a b : ℕ) → (a < b → ⊥) → (b < a → ⊥) → a ≡ b

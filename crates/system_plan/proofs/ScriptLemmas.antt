@@ -8,6 +8,9 @@ use Rattle.tcl_words.specs.Reading.{Fault, first_word_fault}
 use Rattle.tcl_words.specs.Rules.{number_of}
 use Rattle.tcl_words.specs.Script.{Script}
 use Rattle.tcl_words.specs.Spelling.{Spells}
+use Rattle.system_plan.specs.declared.faults.Refusal.{Refusal}
+use Rattle.system_plan.specs.declared.faults.Refusal.TheVariants.{Script as InScript, Link, Limit, NoMemory}
+use Rattle.system_plan.specs.Plans.{IsScriptCause}
 use Rattle.system_plan.specs.Scripts.{States, IsMisspelled, IsRefused}
 
 -- bytes spell one script at most, and none where they have a fault
@@ -47,3 +50,11 @@ refused_once refuses readings once file bytes p q r s (inr a) (inr b) =
 -- an answer has one refusal at most
 pub refusal_once : {X R A B : Type 0} {answer : Result X R} {x y : R} → answer ≡ Err x → answer ≡ Err y → (f : R → A) (g : R → B) → (f x ≡ f y) × (g x ≡ g y)
 refusal_once {answer} {x} {y} at_x at_y f g = let same : x ≡ y = cc in (ap f same, ap g same)
+
+-- where more is refused, what is a cause stays one
+pub IsScriptCause-weaker : (P Q : Place → ScriptRule → Type 0) → ((place : Place) (rule : ScriptRule) → P place rule → Q place rule)
+    → (answer : Refusal) → IsScriptCause P answer → IsScriptCause Q answer
+IsScriptCause-weaker P Q more (InScript place rule) cause = more place rule cause
+IsScriptCause-weaker P Q more (Link connection rule other) cause = absurd cause
+IsScriptCause-weaker P Q more (Limit which count) cause = absurd cause
+IsScriptCause-weaker P Q more NoMemory cause = tt

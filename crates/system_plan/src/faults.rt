@@ -3,8 +3,8 @@ ghost use Rattle.system_plan.specs.Faults.{of_words, of_script, of_maps, of_plan
 
 use address_map::MapFault;
 use av_base::Place;
-use script_words::{ScriptFault, ScriptRule};
 use link_rules::{LinkRule, PlanFault};
+use script_words::{ScriptFault, ScriptRule};
 use tcl_words::WordsFault;
 use thiserror::Error;
 
