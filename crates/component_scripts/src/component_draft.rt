@@ -130,17 +130,9 @@ impl ComponentDraft {
             words,
             &[
                 check(5, 1, property.is_none()),
-                check(9, 2, property.map_or(false, is_not_known)),
-                check(
-                    10,
-                    3,
-                    property.map_or(false, |known| is_misread(known, value)),
-                ),
-                check(
-                    11,
-                    3,
-                    property.map_or(false, |known| is_outside(known, value)),
-                ),
+                check(9, 2, is_not_known(property)),
+                check(10, 3, is_misread(property, value)),
+                check(11, 3, is_outside(property, value)),
             ],
         )
     }
@@ -157,12 +149,12 @@ impl ComponentDraft {
             &[
                 check(3, 2, !is_name(text(words, 2))),
                 check(4, 2, self.ports.find(text(words, 2)).is_some()),
-                check(4, 3, interface.map_or(false, |held| has_role(role, held))),
+                check(4, 3, has_role(role, interface)),
                 check(5, 1, interface.is_none()),
                 check(7, 4, direction_named(text(words, 4)).is_none()),
-                check(8, 3, interface.map_or(false, |held| lacks_role(role, held))),
+                check(8, 3, lacks_role(role, interface)),
                 check(10, 5, width.is_none()),
-                check(11, 5, width.map_or(false, |bits| bits == 0)),
+                check(11, 5, matches!(width, Some(0))),
             ],
         )
     }

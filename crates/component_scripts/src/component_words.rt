@@ -1,4 +1,5 @@
-ghost use Rattle.std.specs.Prelude.{◌≡◌};
+ghost use Rattle.std.specs.Prelude.{◌≡◌, false};
+ghost use Rattle.std.specs.Option.{option_map_or};
 ghost use Rattle.std.specs.List.{list_any};
 ghost use Rattle.std.specs.Str.{bytes_eq};
 ghost use Rattle.iface_roles.specs.Held.{Held};
@@ -88,21 +89,27 @@ pub(crate) fn kind_and_side(words: &[Word]) -> Option<(Kind, Side)>
     Some((kind, side))
 }
 
-/// Whether the interface has the role already.
-pub(crate) fn has_role(role: &str, held: Interface) -> bool
-    ensures { result ≡ has_role role.now held }
+/// Whether there is an interface, and has the role already.
+pub(crate) fn has_role(role: &str, interface: Option<Interface>) -> bool
+    ensures { result ≡ option_map_or (has_role role.now) interface false }
 {
+    let Some(held) = interface else {
+        return false;
+    };
     match role_named(held.kind(), role) {
         Some(role) => held.has(role),
         None => false,
     }
 }
 
-/// Whether the interface ought to have roles, and has no such role.
-pub(crate) fn lacks_role(role: &str, held: Interface) -> bool
-    ensures { result ≡ lacks_role role.now held }
+/// Whether there is an interface that ought to have roles, and has no such role.
+pub(crate) fn lacks_role(role: &str, interface: Option<Interface>) -> bool
+    ensures { result ≡ option_map_or (lacks_role role.now) interface false }
 {
-    held.kind().is_avalon() && role_named(held.kind(), role).is_none()
+    match interface {
+        Some(held) => held.kind().is_avalon() && role_named(held.kind(), role).is_none(),
+        None => false,
+    }
 }
 
 #[tactic(auto, unfolding(crate::specs::Component::port_property_checks))]

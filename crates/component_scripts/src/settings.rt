@@ -1,4 +1,5 @@
 ghost use Rattle.std.specs.Prelude.{◌≡◌, IsTrue, false, true, OnOk};
+ghost use Rattle.std.specs.Option.{option_map_or};
 ghost use Rattle.iface_roles.specs.Held.{is_kept};
 ghost use Rattle.iface_roles.specs.Properties.{property_row, is_of};
 ghost use Rattle.component_scripts.specs.Component.{value_of, is_within, is_not_known, is_misread, is_outside, has_role, set_to_number, set_as, port_stated, with_role};
@@ -38,32 +39,32 @@ pub(crate) fn is_within(id: PropertyId, number: u32) -> bool
     range.contains(&number)
 }
 
-pub(crate) fn is_not_known(property: Property) -> bool
-    ensures { result ≡ is_not_known property }
+pub(crate) fn is_not_known(property: Option<Property>) -> bool
+    ensures { result ≡ option_map_or is_not_known property false }
 {
-    matches!(property, Property::Unknown)
+    matches!(property, Some(Property::Unknown))
 }
 
 /// Whether a value isn't as the property asks for it.
-pub(crate) fn is_misread(property: Property, text: &str) -> bool
-    ensures { result ≡ is_misread property text.now }
+pub(crate) fn is_misread(property: Option<Property>, text: &str) -> bool
+    ensures { result ≡ option_map_or (λ known. is_misread known text.now) property false }
 {
     match property {
-        Property::Known(id) => value_of(id.values(), text).is_none(),
-        Property::PassedOver | Property::Unknown => false,
+        Some(Property::Known(id)) => value_of(id.values(), text).is_none(),
+        _ => false,
     }
 }
 
 /// Whether a value is outside the property's range.
-pub(crate) fn is_outside(property: Property, text: &str) -> bool
-    ensures { result ≡ is_outside property text.now }
+pub(crate) fn is_outside(property: Option<Property>, text: &str) -> bool
+    ensures { result ≡ option_map_or (λ known. is_outside known text.now) property false }
 {
-    match property {
-        Property::Known(id) => match value_of(id.values(), text) {
-            Some(number) => !is_within(id, number),
-            None => false,
-        },
-        Property::PassedOver | Property::Unknown => false,
+    let Some(Property::Known(id)) = property else {
+        return false;
+    };
+    match value_of(id.values(), text) {
+        Some(number) => !is_within(id, number),
+        None => false,
     }
 }
 

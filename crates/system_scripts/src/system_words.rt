@@ -184,7 +184,10 @@ fn exceeds(value: &str, kind: Kind, parameter: Parameter) -> bool
 {
     kind.is_avalon()
         && is_number(parameter)
-        && number_of(value).map_or(false, |number| !may_be(parameter, number))
+        && match number_of(value) {
+            Some(number) => !may_be(parameter, number),
+            None => false,
+        }
 }
 
 pub(crate) fn exports(words: &[Word]) -> bool

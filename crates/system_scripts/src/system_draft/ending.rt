@@ -15,7 +15,10 @@ use tcl_words::Commands;
 fn number(k: usize) -> Result<u32, NoMemory>
     ensures { IfOk result (λ number. number ≡ k) }
 {
-    u32::try_from(k).map_err(|_| NoMemory)
+    match u32::try_from(k) {
+        Ok(number) => Ok(number),
+        Err(_) => Err(NoMemory),
+    }
 }
 
 fn end_id(end: Terminal) -> Result<EndId, NoMemory>

@@ -79,7 +79,7 @@ impl SystemDraft {
                 check(
                     11,
                     3,
-                    sets_stages(words) && number.map_or(false, |stages| 4 < stages),
+                    sets_stages(words) && matches!(number, Some(stages) if 4 < stages),
                 ),
                 check(13, 0, self.is_early()),
             ],
