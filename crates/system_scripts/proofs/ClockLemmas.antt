@@ -4,8 +4,8 @@ use Rattle.std.specs.Option.{option_or}
 use Rattle.std.proofs.lemmas.List.{at_drop_more, map-append, append-nil}
 use Rattle.std.proofs.lemmas.List.Elements.{filter_more}
 use Rattle.iface_roles.specs.Kinds.{is_avalon}
-use Rattle.system_scripts.specs.declared.joints.Joint.{Joint}
-use Rattle.system_scripts.specs.declared.joints.Terminal.{Terminal}
+use Rattle.system_words.specs.declared.joints.Joint.{Joint}
+use Rattle.system_words.specs.declared.joints.Terminal.{Terminal}
 use Rattle.system_scripts.specs.Clocks.{root_of, system_clock, logic_joints}
 use Rattle.system_tables.specs.declared.tables.Connection.{Connection}
 use Rattle.script_words.specs.Judgements.{first_some}

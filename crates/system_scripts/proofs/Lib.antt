@@ -1,8 +1,6 @@
 pub mod ClockLemmas
 pub mod EndingLemmas
 pub mod JointLemmas
-pub mod LinkLemmas
-pub mod RootLemmas
 pub mod SoundLemmas
 pub mod StatedLemmas
 pub mod SystemDraftLemmas

@@ -13,18 +13,20 @@ use Rattle.iface_roles.specs.declared.kinds.Kind.TheVariants.{Stream}
 use Rattle.iface_roles.specs.Kinds.{is_avalon}
 use Rattle.script_words.specs.declared.faults.ScriptFault.{ScriptFault}
 use Rattle.script_words.specs.declared.faults.ScriptFault.TheVariants.{Refused, NoMemory}
-use Rattle.system_scripts.specs.declared.joints.Joint.{Joint}
-use Rattle.system_scripts.specs.declared.joints.Link.{Link}
-use Rattle.system_scripts.specs.declared.joints.Parameter.{Parameter}
-use Rattle.system_scripts.specs.declared.joints.Parameter.TheVariants.{BaseAddress, ArbitrationPriority, FifoDepth, DefaultConnection}
-use Rattle.system_scripts.specs.declared.joints.Terminal.{Terminal}
+use Rattle.system_words.specs.declared.joints.Joint.{Joint}
+use Rattle.system_words.specs.declared.joints.Link.{Link}
+use Rattle.system_words.specs.declared.joints.Parameter.{Parameter}
+use Rattle.system_words.specs.declared.joints.Parameter.TheVariants.{BaseAddress, ArbitrationPriority, FifoDepth, DefaultConnection}
+use Rattle.system_words.specs.declared.joints.Terminal.{Terminal}
 use Rattle.script_words.specs.declared.judge.Refusal.{Refusal}
 use Rattle.system_scripts.specs.declared.system_draft.SystemDraft.TheInside.{Inside}
 use Rattle.system_tables.specs.declared.system.Instance.{Instance}
 use Rattle.script_words.specs.Kinds.{same_kind}
 use Rattle.script_words.specs.Names.{place_of}
 use Rattle.script_words.specs.Numbers.{number_of}
-use Rattle.system_scripts.specs.System.{DraftedSystem, IsSystemDraft, requirement_checks, sets_stages, exported_checks, instance_checks, instance_place, connection_checks, first_end, second_end, joins, of_both, link_of, same_end, end_of, pair_named, joint_place, kind_of_joint, parameter_named, parameter_checks, parameter_effect, exceeds, with_parameter, with_number, set_at, system_refusal, system_after, first_system_refusal, system_after_all}
+use Rattle.system_scripts.specs.System.{DraftedSystem, IsSystemDraft, requirement_checks, exported_checks, instance_checks, instance_place, connection_checks, first_end, second_end, joins, link_of, end_of, joint_place, kind_of_joint, parameter_checks, parameter_effect, with_parameter, with_number, set_at, system_refusal, system_after, first_system_refusal, system_after_all}
+use Rattle.system_words.specs.Commands.{sets_stages, of_both, pair_named, parameter_named, exceeds}
+use Rattle.system_words.specs.Joints.{same_end}
 use Rattle.component_types.specs.Tables.{ComponentTable}
 use Rattle.script_words.specs.Words.{IsRefusal, text_at, check, refusal_of}
 use Rattle.script_words.specs.Laws.{none_fails, position_within}

@@ -1,26 +1,25 @@
 -- The clocks of a system, and the system that a script states.
-use Rattle.std.specs.Prelude.{◌≡◌, ℕ, Bool, true, ◌&&◌, List, [], ◌∷◌, ◌++◌, map, filter, find, slice_get, Option, Some, None, option_and_then, Result, Ok, Err, if◌then◌else◌}
-use Rattle.std.specs.Map.{lookup}
+use Rattle.std.specs.Prelude.{ℕ, Bool, true, ◌&&◌, List, [], ◌∷◌, ◌++◌, map, filter, slice_get, Option, Some, None, option_and_then, Result, Ok, Err, if◌then◌else◌}
 use Rattle.std.specs.Option.{option_map, option_map_or, option_or}
 use Rattle.av_base.specs.declared.faults.Place.{Place}
 use Rattle.tcl_words.specs.Script.{Script}
-use Rattle.iface_roles.specs.declared.kinds.Kind.TheVariants.{Clock}
 use Rattle.iface_roles.specs.Kinds.{is_avalon}
 use Rattle.script_words.specs.declared.faults.ScriptRule.TheVariants.{Command}
-use Rattle.system_scripts.specs.declared.joints.Joint.{Joint}
-use Rattle.system_scripts.specs.declared.joints.Terminal.{Terminal}
+use Rattle.system_words.specs.declared.joints.Joint.{Joint}
+use Rattle.system_words.specs.declared.joints.Terminal.{Terminal}
 use Rattle.script_words.specs.declared.judge.Refusal.{Refusal}
 use Rattle.system_tables.specs.declared.system.Instance.{Instance}
 use Rattle.system_tables.specs.declared.tables.Connection.{Connection}
 use Rattle.system_tables.specs.declared.tables.EndId.{EndId}
 use Rattle.script_words.specs.Judgements.{first_some, judged}
-use Rattle.script_words.specs.Kinds.{same_kind}
 use Rattle.component_types.specs.Library.{clock_source_table}
 use Rattle.script_words.specs.Names.{is_empty}
-use Rattle.system_scripts.specs.System.{DraftedSystem, empty_system_draft, same_end, component_at, first_system_refusal, system_after_all}
+use Rattle.system_scripts.specs.System.{DraftedSystem, empty_system_draft, component_at, first_system_refusal, system_after_all}
 use Rattle.system_tables.specs.declared.tables.InterfaceTable.{InterfaceTable}
 use Rattle.system_tables.specs.Tables.{InstanceTable, SystemTable}
 use Rattle.component_types.specs.Tables.{ComponentTable, interface_place}
+use Rattle.system_words.specs.Joints.{same_end}
+use Rattle.system_words.specs.Roots.{source_of}
 
 -- the clock interface that an interface of a component names, by its place there
 abbrev pub clock_place : ComponentTable → InterfaceTable → Option ℕ
@@ -32,22 +31,6 @@ clock_of components instances end =
     option_and_then
     (λ (component : ComponentTable). option_map (λ place. record { instance = end.instance; interface = place }) (option_and_then (clock_place component) (slice_get component.interfaces end.interface)))
     (component_at components instances end.instance)
-
--- a clock is connected to this end
-abbrev pub clocks : Terminal → Joint → Bool
-clocks end joint = same_kind joint.kind Clock && same_end end joint.end
-
--- the start of the first clock connection to this end
-abbrev pub source_of : List Joint → Terminal → Option Terminal
-source_of joints end = option_map (λ (joint : Joint). joint.start) (find (clocks end) joints)
-
--- the start that a table has for an end
-abbrev pub start_for : List (Terminal × Terminal) → Terminal → Option Terminal
-start_for starts end = lookup (same_end end) starts
-
--- the table has where the first clock connection to each end starts
-abbrev pub AreRootsOf : List Joint → List (Terminal × Terminal) → Type 0
-AreRootsOf joints starts = (end : Terminal) → start_for starts end ≡ source_of joints end
 
 -- the root of the interface at an end: where its clock comes from
 unfoldable pub root_of : List ComponentTable → DraftedSystem → Terminal → Option Terminal

@@ -1,36 +1,36 @@
 -- What the commands of a system file state, and what refuses them.
-use Rattle.std.specs.Prelude.{◌≡◌, ℕ, zero, suc, ◌-◌, Bool, true, false, ◌&&◌, ◌||◌, ◌==◌, not, nat_le, nat_lt, List, [], ◌∷◌, ◌++◌, length, map, position, slice_get, Option, Some, None, is_some, is_none, option_and_then, codes, if◌then◌else◌}
+use Rattle.std.specs.Prelude.{◌≡◌, ℕ, zero, suc, ◌-◌, Bool, true, false, ◌&&◌, ◌||◌, not, nat_lt, List, [], ◌∷◌, ◌++◌, length, map, position, slice_get, Option, Some, None, is_some, is_none, option_and_then, codes, if◌then◌else◌}
 use Rattle.std.specs.List.{list_any}
 use Rattle.std.specs.Option.{option_map, option_map_or, option_or}
-use Rattle.std.specs.Str.{bytes_eq}
 use Rattle.tcl_words.specs.declared.words.Word.{Word}
 use Rattle.iface_roles.specs.declared.kinds.Kind.{Kind}
-use Rattle.iface_roles.specs.declared.kinds.Kind.TheVariants.{Clock, Reset, Mm, Stream, Conduit, Interrupt}
+use Rattle.iface_roles.specs.declared.kinds.Kind.TheVariants.{Stream}
 use Rattle.iface_roles.specs.declared.kinds.Side.{Side}
 use Rattle.iface_roles.specs.declared.kinds.Side.TheVariants.{Start, End}
 use Rattle.iface_roles.specs.Kinds.{is_avalon}
-use Rattle.iface_roles.specs.Names.{same_name}
-use Rattle.system_scripts.specs.declared.joints.Joint.{Joint}
-use Rattle.system_scripts.specs.declared.joints.Parameter.{Parameter}
-use Rattle.system_scripts.specs.declared.joints.Parameter.TheVariants.{BaseAddress, ArbitrationPriority, FifoDepth, DefaultConnection}
-use Rattle.system_scripts.specs.declared.joints.SystemCommand.{SystemCommand}
-use Rattle.system_scripts.specs.declared.joints.SystemCommand.TheVariants.{Package, CreateSystem, AddInstance, AddConnection, SetParameter, AddInterface, SetInterfaceProperty, SetRequirement, SaveSystem, PassedOver}
+use Rattle.system_words.specs.declared.joints.Joint.{Joint}
+use Rattle.system_words.specs.declared.joints.Parameter.{Parameter}
+use Rattle.system_words.specs.declared.joints.Parameter.TheVariants.{BaseAddress, ArbitrationPriority, FifoDepth, DefaultConnection}
+use Rattle.system_words.specs.declared.joints.SystemCommand.{SystemCommand}
+use Rattle.system_words.specs.declared.joints.SystemCommand.TheVariants.{Package, CreateSystem, AddInstance, AddConnection, SetParameter, AddInterface, SetInterfaceProperty, SetRequirement, SaveSystem, PassedOver}
 use Rattle.script_words.specs.declared.judge.Check.{Check}
 use Rattle.script_words.specs.declared.judge.Refusal.{Refusal}
 use Rattle.system_tables.specs.declared.system.Instance.{Instance}
-use Rattle.system_scripts.specs.declared.joints.Terminal.{Terminal}
-use Rattle.system_scripts.specs.declared.joints.Link.{Link}
+use Rattle.system_words.specs.declared.joints.Terminal.{Terminal}
+use Rattle.system_words.specs.declared.joints.Link.{Link}
 use Rattle.component_types.specs.Catalog.{type_place}
 use Rattle.script_words.specs.Judgements.{counted}
 use Rattle.script_words.specs.Words.{is_misdirected}
 use Rattle.script_words.specs.Kinds.{same_kind, kind_named}
 use Rattle.system_tables.specs.Names.{is_name}
-use Rattle.script_words.specs.Names.{place_of, parts_round, end_named}
+use Rattle.script_words.specs.Names.{place_of, end_named}
 use Rattle.script_words.specs.Numbers.{number_of}
 use Rattle.script_words.specs.Package.{package_checks}
 use Rattle.system_tables.specs.declared.tables.InterfaceTable.{InterfaceTable}
 use Rattle.component_types.specs.Tables.{ComponentTable, interface_place}
 use Rattle.script_words.specs.Words.{text_at, check, refused_at, refusal_of}
+use Rattle.system_words.specs.Commands.{system_command, system_takes, has_word, has_sides, pair_named, first_named, second_named, second_word, asks_other, of_both, parameter_named, is_misplaced, asks_default, misreads, exceeds, exports, sets_stages}
+use Rattle.system_words.specs.Joints.{same_end}
 
 -- what the commands so far state: the system's name, once it is created; its pipeline stages; its instances, each with
 -- the place of its component; the exported names; and its connections of all kinds
@@ -44,60 +44,12 @@ pub record DraftedSystem : Type 0 where
 abbrev pub empty_system_draft : DraftedSystem
 empty_system_draft = record { name = None; stages = 0; instances = []; exported = []; joints = [] }
 
-abbrev pub same_end : Terminal → Terminal → Bool
-same_end a b = a.instance == b.instance && a.interface == b.interface
-
--- two connections join the same ends
-abbrev pub same_link : Link → Link → Bool
-same_link a b = same_end a.start b.start && same_end a.end b.end
-
 abbrev pub link_of : Joint → Link
 link_of joint = record { start = joint.start; end = joint.end }
-
--- commands that state nothing here
-abbrev pub system_passed_over : List (List ℕ)
-system_passed_over = codes "set_project_property" ∷ codes "set_validation_property" ∷ codes "set_instance_parameter_value"
-    ∷ codes "set_instance_property" ∷ codes "set_module_property" ∷ codes "set_use_testbench_naming_pattern" ∷ []
-
--- the commands of a system file that follow its connections, and those that state nothing, by their names
-unfoldable pub later_command : List ℕ → Option SystemCommand
-later_command name =
-    if bytes_eq name (codes "add_interface") then Some AddInterface
-    else (if bytes_eq name (codes "set_interface_property") then Some SetInterfaceProperty
-    else (if bytes_eq name (codes "set_interconnect_requirement") then Some SetRequirement
-    else (if bytes_eq name (codes "save_system") then Some SaveSystem
-    else (if list_any (bytes_eq name) system_passed_over then Some PassedOver else None))))
-
--- the commands of a system file, by their names
-unfoldable pub system_command : List ℕ → Option SystemCommand
-system_command name =
-    if bytes_eq name (codes "package") then Some Package
-    else (if bytes_eq name (codes "create_system") then Some CreateSystem
-    else (if bytes_eq name (codes "add_instance") then Some AddInstance
-    else (if bytes_eq name (codes "add_connection") then Some AddConnection
-    else (if bytes_eq name (codes "set_connection_parameter_value") then Some SetParameter
-    else later_command name))))
-
--- how many words a command may have behind its name
-unfoldable pub system_takes : SystemCommand → ℕ → Bool
-system_takes Package count = nat_le 2 count && nat_le count 4
-system_takes CreateSystem count = nat_le count 1
-system_takes AddInstance count = nat_le 2 count && nat_le count 3
-system_takes AddConnection count = nat_le 1 count && nat_le count 3
-system_takes SetParameter count = count == 3
-system_takes AddInterface count = count == 3
-system_takes SetInterfaceProperty count = count == 3
-system_takes SetRequirement count = count == 3
-system_takes SaveSystem count = nat_le count 1
-system_takes PassedOver count = true
 
 -- no `create_system` stands before
 abbrev pub is_early : DraftedSystem → Bool
 is_early draft = is_none draft.name
-
--- a command has a word of this place
-abbrev pub has_word : List Word → ℕ → Bool
-has_word words k = nat_lt k (length words)
 
 -- `create_system [NAME]`. C3: a name is a name. C13: it is the first.
 unfoldable pub create_checks : DraftedSystem → List Word → List Check
@@ -138,37 +90,9 @@ end_of components instances names =
     (λ k. option_and_then (λ (component : ComponentTable). option_map (λ i. record { instance = k; interface = i }) (interface_place component.interfaces names.1)) (component_at components instances k))
     (instance_place instances names.0)
 
--- the ends of these kinds of connection are a start and an end
-abbrev pub has_sides : Kind → Bool
-has_sides Clock = true
-has_sides Mm = true
-has_sides Stream = true
-has_sides Reset = false
-has_sides Conduit = false
-has_sides Interrupt = false
-
 abbrev pub is_start : Side → Bool
 is_start Start = true
 is_start End = false
-
--- the ends in one word `start/end`, each `instance.interface`
-unfoldable pub pair_named : List ℕ → Option ((List ℕ × List ℕ) × (List ℕ × List ℕ))
-pair_named text =
-    option_and_then (λ parts. option_and_then (λ start. option_map (λ end. (start, end)) (end_named parts.1)) (end_named parts.0))
-    (parts_round 47 text)
-
--- the names of a connection's two ends, in one word or in two, and the word of the second
-abbrev pub in_one_word : List Word → Bool
-in_one_word words = nat_le (length words) 2
-
-unfoldable pub first_named : List Word → Option (List ℕ × List ℕ)
-first_named words = if in_one_word words then option_map (λ pair. pair.0) (pair_named (text_at words 1)) else end_named (text_at words 1)
-
-unfoldable pub second_named : List Word → Option (List ℕ × List ℕ)
-second_named words = if in_one_word words then option_map (λ pair. pair.1) (pair_named (text_at words 1)) else end_named (text_at words 2)
-
-unfoldable pub second_word : List Word → ℕ
-second_word words = if in_one_word words then 1 else 2
 
 -- a connection joins these ends
 abbrev pub joins : Terminal → Terminal → Joint → Bool
@@ -194,18 +118,10 @@ sort_at components instances end =
     option_and_then (λ (component : ComponentTable). option_map sort_of (slice_get component.interfaces end.interface))
     (component_at components instances end.instance)
 
--- a kind word names another kind
-unfoldable pub asks_other : List Word → Kind → Bool
-asks_other words kind = has_word words 3 && option_map_or (λ asked. not (same_kind asked kind)) (kind_named (text_at words 3)) false
-
 -- C16: the ends differ in kind or from the kind word; or the first isn't a start or the second isn't an end
 abbrev pub is_mismatched : List Word → Kind × Side → Kind × Side → Bool
 is_mismatched words start end =
     not (same_kind start.0 end.0) || asks_other words start.0 || (has_sides start.0 && (not (is_start start.1) || is_start end.1))
-
--- a test of both ends, where both are there
-abbrev pub of_both : {A B : Type 0} → Option A → Option B → (A → B → Bool) → Bool
-of_both a b test = option_map_or (λ x. option_map_or (test x) b false) a false
 
 -- the ends of a connection, where they are there
 unfoldable pub first_end : List ComponentTable → DraftedSystem → List Word → Option Terminal
@@ -250,46 +166,6 @@ connection_effect components draft words =
     option_map_or (λ start. option_map_or (joined_at components draft start) (second_end components draft words) draft)
     (first_end components draft words)
     draft
-
--- the parameters of connections that mean something here
-unfoldable pub parameter_named : List ℕ → Option Parameter
-parameter_named text =
-    if bytes_eq text (codes "baseAddress") then Some BaseAddress
-    else (if bytes_eq text (codes "arbitrationPriority") then Some ArbitrationPriority
-    else (if bytes_eq text (codes "fifoDepth") then Some FifoDepth
-    else (if bytes_eq text (codes "defaultConnection") then Some DefaultConnection else None)))
-
--- the parameter takes a number
-abbrev pub is_number : Parameter → Bool
-is_number BaseAddress = true
-is_number ArbitrationPriority = true
-is_number FifoDepth = true
-is_number DefaultConnection = false
-
--- the number is within the parameter's range
-abbrev pub may_be : Parameter → ℕ → Bool
-may_be BaseAddress number = true
-may_be ArbitrationPriority number = nat_le 1 number && nat_le number 63
-may_be FifoDepth number = nat_le number 64
-may_be DefaultConnection number = true
-
--- the parameter stands on a wrong kind of connection
-abbrev pub is_misplaced : Kind → Parameter → Bool
-is_misplaced Stream BaseAddress = true
-is_misplaced Stream ArbitrationPriority = true
-is_misplaced Mm FifoDepth = true
-is_misplaced _ _ = false
-
--- a default connection of a host is asked for
-abbrev pub asks_default : Kind → Parameter → List ℕ → Bool
-asks_default Mm DefaultConnection text = not (bytes_eq text (codes "0") || bytes_eq text (codes "false"))
-asks_default _ _ text = false
-
-abbrev pub misreads : List ℕ → Kind → Parameter → Bool
-misreads text kind parameter = is_avalon kind && is_number parameter && is_none (number_of text)
-
-abbrev pub exceeds : List ℕ → Kind → Parameter → Bool
-exceeds text kind parameter = is_avalon kind && is_number parameter && option_map_or (λ number. not (may_be parameter number)) (number_of text) false
 
 -- the place of the connection that the word `start/end` names
 unfoldable pub joint_place : List ComponentTable → DraftedSystem → List ℕ → Option ℕ
@@ -350,9 +226,6 @@ exported_checks draft words =
 unfoldable pub exported_effect : DraftedSystem → List Word → DraftedSystem
 exported_effect draft words = record draft { exported = draft.exported ++ text_at words 1 ∷ [] }
 
-abbrev pub exports : List Word → Bool
-exports words = same_name (codes "EXPORT_OF") (text_at words 2)
-
 -- `set_interface_property NAME P V`. C5: the exported name is there, and what it exports. C13: the system is there.
 -- C20: what is exported is an end.
 unfoldable pub export_checks : List ComponentTable → DraftedSystem → List Word → List Check
@@ -362,11 +235,6 @@ export_checks components draft words =
     ∷ check 5 3 (exports words && is_some named && is_none (option_and_then (end_of components draft.instances) named))
     ∷ check 13 0 (is_early draft)
     ∷ check 20 3 (exports words && is_none named) ∷ []
-
--- the requirement that sets the pipeline stages
-abbrev pub sets_stages : List Word → Bool
-sets_stages words =
-    bytes_eq (text_at words 1) (codes "$system") && bytes_eq (text_at words 2) (codes "qsys_mm.maxAdditionalLatency")
 
 -- `set_interconnect_requirement ELEMENT R V`. C10, C11: the stages are a number, 4 at most. C13: the system is there.
 unfoldable pub requirement_checks : DraftedSystem → List Word → List Check

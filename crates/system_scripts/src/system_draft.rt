@@ -2,9 +2,9 @@ mod ending;
 mod judge;
 mod state;
 
-use crate::joints::{Joint, Link, Terminal};
-use crate::links::{Ends, Links};
-use crate::system_words::{first_named, pair_named, second_named, system_command, system_takes};
+use system_words::joints::{Joint, Link, Terminal};
+use system_words::links::{Ends, Links};
+use system_words::commands::{first_named, pair_named, second_named, system_command, system_takes};
 use av_base::Text;
 use script_words::values::end_named;
 use script_words::words::{refused_at, text};
@@ -64,25 +64,8 @@ impl SystemDraft {
     ghost use Rattle.std.specs.Prelude.{◌≡◌, ◌||◌, OnOk, IfOk, IfErr, None, is_none, is_some, position, option_and_then};
     ghost use Rattle.std.specs.Option.{option_copied};
     ghost use Rattle.script_words.specs.Names.{end_named};
-    ghost use Rattle.system_scripts.specs.System.{
-      DraftedSystem,
-      empty_system_draft,
-      instance_place,
-      component_at,
-      end_of,
-      first_end,
-      second_end,
-      sort_at,
-      joins,
-      is_taken,
-      of_both,
-      joint_place,
-      kind_of_joint,
-      system_refusal,
-      system_after,
-      first_system_refusal,
-      system_after_all,
-    };
+    ghost use Rattle.system_scripts.specs.System.{DraftedSystem, empty_system_draft, instance_place, component_at, end_of, first_end, second_end, sort_at, joins, is_taken, joint_place, kind_of_joint, system_refusal, system_after, first_system_refusal, system_after_all};
+    ghost use Rattle.system_words.specs.Commands.{of_both};
     ghost use Rattle.script_words.specs.Words.{IsRefusal};
 
     #[tactic(auto, unfolding(crate::specs::System::empty_system_draft))]

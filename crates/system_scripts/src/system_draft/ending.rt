@@ -2,8 +2,8 @@ ghost use Rattle.std.specs.Prelude.{◌≡◌, IfOk, option_and_then, slice_get}
 ghost use Rattle.system_scripts.specs.Clocks.{fits_clock, end_id, clock_place};
 
 use super::SystemDraft;
-use crate::joints::{Joint, Terminal};
-use crate::roots::Roots;
+use system_words::joints::{Joint, Terminal};
+use system_words::Roots;
 use av_base::{List, NoMemory, Place};
 use component_types::{Component, Library};
 use script_words::{ScriptFault, ScriptRule};
@@ -61,17 +61,8 @@ fn clock_at(component: &Component, k: usize) -> Option<usize>
 impl SystemDraft {
     ghost use Rattle.std.specs.Prelude.{map, All, ℕ, List, IfErr, IsSome, OnErr, OnOk, None, Some, Ok};
     ghost use Rattle.std.specs.Option.{option_or};
-    ghost use Rattle.system_scripts.specs.Clocks.{
-      clock_of,
-      AreRootsOf,
-      root_of,
-      system_clock,
-      logic_joints,
-      connection_of,
-      no_system,
-      ended_system,
-      system_over,
-    };
+    ghost use Rattle.system_scripts.specs.Clocks.{clock_of, root_of, system_clock, logic_joints, connection_of, no_system, ended_system, system_over};
+    ghost use Rattle.system_words.specs.Roots.{AreRootsOf};
     ghost use Rattle.system_tables.specs.Kept.{kept_table};
     ghost use Rattle.component_types.specs.Library.{interfaces_of};
     ghost use Rattle.component_types.specs.Tables.{IsComponent};

@@ -1,23 +1,11 @@
 ghost use Rattle.std.specs.Prelude.{◌≡◌};
-ghost use Rattle.system_scripts.specs.System.{
-  late_checks,
-  create_checks,
-  exported_checks,
-  export_checks,
-  requirement_checks,
-  connection_checks,
-  instance_checks,
-  parameter_checks,
-  system_checks,
-  of_both,
-  is_mismatched,
-  is_start,
-};
+ghost use Rattle.system_scripts.specs.System.{late_checks, create_checks, exported_checks, export_checks, requirement_checks, connection_checks, instance_checks, parameter_checks, system_checks, is_mismatched, is_start};
+ghost use Rattle.system_words.specs.Commands.{of_both};
 ghost use Rattle.script_words.specs.Words.{refusal_of};
 
 use super::SystemDraft;
-use crate::joints::SystemCommand;
-use crate::system_words::{
+use system_words::joints::SystemCommand;
+use system_words::commands::{
     any_default, any_exceeds, any_misplaced, any_misread, asks_other, asks_unknown, exports,
     has_sides, is_missing, is_no_joint, names_an_end, names_first, names_pair, names_second,
     parameter_named, second_word, sets_stages,

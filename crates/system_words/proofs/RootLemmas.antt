@@ -7,12 +7,12 @@ use Rattle.std.proofs.lemmas.Bool.Decides.{nat_tests}
 use Rattle.std.proofs.lemmas.List.{take_more}
 use Rattle.std.proofs.lemmas.List.Folds.{find-append}
 use Rattle.iface_roles.specs.declared.kinds.Kind.TheVariants.{Clock}
-use Rattle.system_scripts.specs.declared.joints.Joint.{Joint}
-use Rattle.system_scripts.specs.declared.joints.Terminal.{Terminal}
-use Rattle.system_scripts.specs.Clocks.{clocks, source_of, start_for}
+use Rattle.system_words.specs.declared.joints.Joint.{Joint}
+use Rattle.system_words.specs.declared.joints.Terminal.{Terminal}
+use Rattle.system_words.specs.Roots.{clocks, source_of, start_for}
 use Rattle.script_words.specs.Kinds.{same_kind}
-use Rattle.system_scripts.specs.System.{same_end}
-use Rattle.system_scripts.proofs.LinkLemmas.{same_end-true}
+use Rattle.system_words.specs.Joints.{same_end}
+use Rattle.system_words.proofs.LinkLemmas.{same_end-true}
 
 same_end-comm : (a b : Terminal) → same_end a b ≡ same_end b a
 same_end-comm a b = grind (arith, nat_tests)

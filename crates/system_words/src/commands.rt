@@ -4,30 +4,7 @@ ghost use Rattle.script_words.specs.Names.{end_named};
 ghost use Rattle.script_words.specs.Words.{text_at};
 ghost use Rattle.std.specs.List.{list_any};
 ghost use Rattle.std.specs.Str.{bytes_eq};
-ghost use Rattle.system_scripts.specs.System.{
-  later_command,
-  system_command,
-  system_passed_over,
-  system_takes,
-  pair_named,
-  first_named,
-  second_named,
-  second_word,
-  in_one_word,
-  has_word,
-  of_both,
-  asks_other,
-  parameter_named,
-  is_number,
-  may_be,
-  is_misplaced,
-  asks_default,
-  misreads,
-  exceeds,
-  exports,
-  sets_stages,
-  has_sides,
-};
+ghost use Rattle.system_words.specs.Commands.{later_command, system_command, system_passed_over, system_takes, pair_named, first_named, second_named, second_word, in_one_word, has_word, of_both, asks_other, parameter_named, is_number, may_be, is_misplaced, asks_default, misreads, exceeds, exports, sets_stages, has_sides};
 
 use crate::joints::{Parameter, SystemCommand, Terminal};
 use script_words::values::{
@@ -54,7 +31,7 @@ fn is_passed_over(name: &str) -> bool
 }
 
 /// The command of this name among those that follow the connections, and those that state nothing.
-#[tactic(auto, unfolding(crate::specs::System::later_command))]
+#[tactic(auto, unfolding(crate::specs::Commands::later_command))]
 fn later_command(name: &str) -> Option<SystemCommand>
     ensures { result ≡ later_command name.now }
 {
@@ -74,8 +51,8 @@ fn later_command(name: &str) -> Option<SystemCommand>
 }
 
 /// The command of this name in a system file.
-#[tactic(auto, unfolding(crate::specs::System::system_command))]
-pub(crate) fn system_command(name: &str) -> Option<SystemCommand>
+#[tactic(auto, unfolding(crate::specs::Commands::system_command))]
+pub fn system_command(name: &str) -> Option<SystemCommand>
     ensures { result ≡ system_command name.now }
 {
     if same_text(name, "package") {
@@ -94,8 +71,8 @@ pub(crate) fn system_command(name: &str) -> Option<SystemCommand>
 }
 
 /// Whether the command may have so many words behind its name.
-#[tactic(auto, unfolding(crate::specs::System::system_takes))]
-pub(crate) fn system_takes(command: SystemCommand, count: usize) -> bool
+#[tactic(auto, unfolding(crate::specs::Commands::system_takes))]
+pub fn system_takes(command: SystemCommand, count: usize) -> bool
     ensures { result ≡ system_takes command count }
 {
     match command {
@@ -113,8 +90,8 @@ pub(crate) fn system_takes(command: SystemCommand, count: usize) -> bool
 }
 
 /// The parameter of this name.
-#[tactic(auto, unfolding(crate::specs::System::parameter_named))]
-pub(crate) fn parameter_named(name: &str) -> Option<Parameter>
+#[tactic(auto, unfolding(crate::specs::Commands::parameter_named))]
+pub fn parameter_named(name: &str) -> Option<Parameter>
     ensures { result ≡ parameter_named name.now }
 {
     if same_text(name, "baseAddress") {
@@ -190,34 +167,34 @@ fn exceeds(value: &str, kind: Kind, parameter: Parameter) -> bool
         }
 }
 
-pub(crate) fn exports(words: &[Word]) -> bool
+pub fn exports(words: &[Word]) -> bool
     ensures { result ≡ exports words.now }
 {
     same_name("EXPORT_OF", text(words, 2))
 }
 
-pub(crate) fn sets_stages(words: &[Word]) -> bool
+pub fn sets_stages(words: &[Word]) -> bool
     ensures { result ≡ sets_stages words.now }
 {
     same_text(text(words, 1), "$system")
         && same_text(text(words, 2), "qsys_mm.maxAdditionalLatency")
 }
 
-pub(crate) fn has_sides(kind: Kind) -> bool
+pub fn has_sides(kind: Kind) -> bool
     ensures { result ≡ has_sides kind }
 {
     matches!(kind, Kind::Clock | Kind::Mm | Kind::Stream)
 }
 
-pub(crate) fn in_one_word(words: &[Word]) -> bool
+pub fn in_one_word(words: &[Word]) -> bool
     ensures { result ≡ in_one_word words.now }
 {
     words.len() <= 2
 }
 
 /// The names of the two ends in one word `start/end`.
-#[tactic(auto, unfolding(crate::specs::System::pair_named))]
-pub(crate) fn pair_named(text: &str) -> Option<((&str, &str), (&str, &str))>
+#[tactic(auto, unfolding(crate::specs::Commands::pair_named))]
+pub fn pair_named(text: &str) -> Option<((&str, &str), (&str, &str))>
     ensures { option_map (λ pair. ((pair.0.0.now, pair.0.1.now), (pair.1.0.now, pair.1.1.now))) result
         ≡ pair_named text.now }
 {
@@ -228,8 +205,8 @@ pub(crate) fn pair_named(text: &str) -> Option<((&str, &str), (&str, &str))>
 }
 
 /// The names of a connection's first end.
-#[tactic(auto, unfolding(crate::specs::System::first_named))]
-pub(crate) fn first_named(words: &[Word]) -> Option<(&str, &str)>
+#[tactic(auto, unfolding(crate::specs::Commands::first_named))]
+pub fn first_named(words: &[Word]) -> Option<(&str, &str)>
     ensures { option_map (λ names. (names.0.now, names.1.now)) result ≡ first_named words.now }
 {
     if in_one_word(words) {
@@ -240,8 +217,8 @@ pub(crate) fn first_named(words: &[Word]) -> Option<(&str, &str)>
 }
 
 /// The names of a connection's second end.
-#[tactic(auto, unfolding(crate::specs::System::second_named))]
-pub(crate) fn second_named(words: &[Word]) -> Option<(&str, &str)>
+#[tactic(auto, unfolding(crate::specs::Commands::second_named))]
+pub fn second_named(words: &[Word]) -> Option<(&str, &str)>
     ensures { option_map (λ names. (names.0.now, names.1.now)) result ≡ second_named words.now }
 {
     if in_one_word(words) {
@@ -252,34 +229,34 @@ pub(crate) fn second_named(words: &[Word]) -> Option<(&str, &str)>
 }
 
 /// The word of a connection's second end.
-#[tactic(auto, unfolding(crate::specs::System::second_word))]
-pub(crate) fn second_word(words: &[Word]) -> usize
+#[tactic(auto, unfolding(crate::specs::Commands::second_word))]
+pub fn second_word(words: &[Word]) -> usize
     ensures { result ≡ second_word words.now }
 {
     if in_one_word(words) { 1 } else { 2 }
 }
 
-pub(crate) fn names_first(words: &[Word]) -> bool
+pub fn names_first(words: &[Word]) -> bool
     ensures { result ≡ is_some (first_named words.now) }
 {
     first_named(words).is_some()
 }
 
-pub(crate) fn names_second(words: &[Word]) -> bool
+pub fn names_second(words: &[Word]) -> bool
     ensures { result ≡ is_some (second_named words.now) }
 {
     second_named(words).is_some()
 }
 
-pub(crate) fn names_an_end(word: &str) -> bool
+pub fn names_an_end(word: &str) -> bool
     ensures { result ≡ is_some (end_named word.now) }
 {
     end_named(word).is_some()
 }
 
 /// Whether the kind word names another kind.
-#[tactic(auto, unfolding(crate::specs::System::asks_other))]
-pub(crate) fn asks_other(words: &[Word], kind: Kind) -> bool
+#[tactic(auto, unfolding(crate::specs::Commands::asks_other))]
+pub fn asks_other(words: &[Word], kind: Kind) -> bool
     ensures { result ≡ asks_other words.now kind }
 {
     words.len() > 3
@@ -290,33 +267,33 @@ pub(crate) fn asks_other(words: &[Word], kind: Kind) -> bool
 }
 
 /// Whether a kind word names no kind.
-pub(crate) fn asks_unknown(words: &[Word]) -> bool
+pub fn asks_unknown(words: &[Word]) -> bool
     ensures { result ≡ (has_word words.now 3 && is_none (kind_named (text_at words.now 3))) }
 {
     words.len() > 3 && kind_named(text(words, 3)).is_none()
 }
 
 /// Whether an end is named, and isn't there.
-pub(crate) fn is_missing(named: bool, end: Option<Terminal>) -> bool
+pub fn is_missing(named: bool, end: Option<Terminal>) -> bool
     ensures { result ≡ (named && is_none end) }
 {
     named && end.is_none()
 }
 
 /// Whether a connection is named, and isn't there.
-pub(crate) fn is_no_joint(named: bool, kind: Option<Kind>) -> bool
+pub fn is_no_joint(named: bool, kind: Option<Kind>) -> bool
     ensures { result ≡ (named && is_none kind) }
 {
     named && kind.is_none()
 }
 
-pub(crate) fn names_pair(text: &str) -> bool
+pub fn names_pair(text: &str) -> bool
     ensures { result ≡ is_some (pair_named text.now) }
 {
     pair_named(text).is_some()
 }
 
-pub(crate) fn any_misread(value: &str, kind: Option<Kind>, parameter: Option<Parameter>) -> bool
+pub fn any_misread(value: &str, kind: Option<Kind>, parameter: Option<Parameter>) -> bool
     ensures { result ≡ of_both kind parameter (misreads value.now) }
 {
     match (kind, parameter) {
@@ -325,7 +302,7 @@ pub(crate) fn any_misread(value: &str, kind: Option<Kind>, parameter: Option<Par
     }
 }
 
-pub(crate) fn any_exceeds(value: &str, kind: Option<Kind>, parameter: Option<Parameter>) -> bool
+pub fn any_exceeds(value: &str, kind: Option<Kind>, parameter: Option<Parameter>) -> bool
     ensures { result ≡ of_both kind parameter (exceeds value.now) }
 {
     match (kind, parameter) {
@@ -334,7 +311,7 @@ pub(crate) fn any_exceeds(value: &str, kind: Option<Kind>, parameter: Option<Par
     }
 }
 
-pub(crate) fn any_misplaced(kind: Option<Kind>, parameter: Option<Parameter>) -> bool
+pub fn any_misplaced(kind: Option<Kind>, parameter: Option<Parameter>) -> bool
     ensures { result ≡ of_both kind parameter is_misplaced }
 {
     match (kind, parameter) {
@@ -343,7 +320,7 @@ pub(crate) fn any_misplaced(kind: Option<Kind>, parameter: Option<Parameter>) ->
     }
 }
 
-pub(crate) fn any_default(value: &str, kind: Option<Kind>, parameter: Option<Parameter>) -> bool
+pub fn any_default(value: &str, kind: Option<Kind>, parameter: Option<Parameter>) -> bool
     ensures { result ≡ of_both kind parameter (λ k p. asks_default k p value.now) }
 {
     match (kind, parameter) {

@@ -1,6 +1,6 @@
 ghost use Rattle.std.specs.Prelude.{◌≡◌, [], IfOk, OnOk};
-ghost use Rattle.system_scripts.specs.Clocks.{start_for, AreRootsOf};
-ghost use Rattle.system_scripts.specs.declared.joints.Terminal.{Terminal};
+ghost use Rattle.system_words.specs.Roots.{start_for, AreRootsOf};
+ghost use Rattle.system_words.specs.declared.joints.Terminal.{Terminal};
 
 use crate::joints::{Joint, Terminal};
 use av_base::NoMemory;
@@ -11,7 +11,7 @@ use std::alloc::Global;
 use std::marker::Model;
 
 /// Where the first clock connection to an end starts, by that end.
-pub(crate) struct Roots {
+pub struct Roots {
     starts: IndexMap<Terminal, Terminal>,
 }
 
@@ -24,7 +24,7 @@ impl Drop for Roots {
 
 impl Model for Roots {
     ghost use Rattle.std.specs.Prelude.{List};
-    ghost use Rattle.system_scripts.specs.declared.joints.Terminal.{Terminal};
+    ghost use Rattle.system_words.specs.declared.joints.Terminal.{Terminal};
 
     ghost Value = { List (Terminal × Terminal) };
 
@@ -34,7 +34,7 @@ impl Model for Roots {
 impl Roots {
     ghost use Rattle.std.specs.Prelude.{None, Some, if◌then◌else◌};
     ghost use Rattle.std.specs.Option.{option_or};
-    ghost use Rattle.system_scripts.specs.System.{same_end};
+    ghost use Rattle.system_words.specs.Joints.{same_end};
 
     fn new(alloc: Global) -> Roots
         ensures { result ≡ [] }

@@ -1,8 +1,8 @@
 use Rattle.std.proofs.Common.{◌∙◌, sym, ap}
-use Rattle.system_scripts.specs.Clocks.{start_for}
-use Rattle.system_scripts.proofs.RootLemmas.{source_of-passed, start_for-clock}
-use Rattle.system_scripts.proofs.roots.Roots.of.Goals as goal
-use Rattle.system_scripts.proofs.roots.Roots.of.Goals.{then-same_kind+in_ok-add, else-same_kind}
+use Rattle.system_words.specs.Roots.{start_for}
+use Rattle.system_words.proofs.RootLemmas.{source_of-passed, start_for-clock}
+use Rattle.system_words.proofs.roots.Roots.of.Goals as goal
+use Rattle.system_words.proofs.roots.Roots.of.Goals.{then-same_kind+in_ok-add, else-same_kind}
 
 pub loop-joint-preserved : goal.loop-joint-preserved
 loop-joint-preserved c = λ end. elim c.if-same_kind.branch [

@@ -1,7 +1,7 @@
 ghost use Rattle.std.specs.Prelude.{◌≡◌, ◌&&◌, ◌||◌, ◌++◌, ◌∷◌, [], position, OnOk, OnErr, IsNone};
 ghost use Rattle.std.specs.List.{list_any};
-ghost use Rattle.system_scripts.specs.declared.joints.Terminal.{Terminal};
-ghost use Rattle.system_scripts.specs.System.{same_end, same_link};
+ghost use Rattle.system_words.specs.declared.joints.Terminal.{Terminal};
+ghost use Rattle.system_words.specs.Joints.{same_end, same_link};
 
 use crate::joints::{Link, Terminal};
 use av_base::NoMemory;
@@ -10,7 +10,7 @@ use std::alloc::Global;
 use std::marker::Model;
 
 /// The ends of connections, by the numbers of the connections.
-pub(crate) struct Links {
+pub struct Links {
     links: IndexSet<Link>,
 }
 
@@ -23,7 +23,7 @@ impl Drop for Links {
 
 impl Model for Links {
     ghost use Rattle.std.specs.Prelude.{List};
-    ghost use Rattle.system_scripts.specs.declared.joints.Link.{Link};
+    ghost use Rattle.system_words.specs.declared.joints.Link.{Link};
 
     ghost Value = { List Link };
 
@@ -48,7 +48,7 @@ impl Links {
 }
 
 /// Ends, each once.
-pub(crate) struct Ends {
+pub struct Ends {
     ends: IndexSet<Terminal>,
 }
 
@@ -61,7 +61,7 @@ impl Drop for Ends {
 
 impl Model for Ends {
     ghost use Rattle.std.specs.Prelude.{List};
-    ghost use Rattle.system_scripts.specs.declared.joints.Terminal.{Terminal};
+    ghost use Rattle.system_words.specs.declared.joints.Terminal.{Terminal};
 
     ghost Value = { List Terminal };
 
@@ -97,7 +97,7 @@ impl Ends {
 }
 
 /// Adds a connection that isn't there yet, and its ends where it takes them: all of that, or nothing.
-pub(crate) fn add_link(
+pub fn add_link(
     links: &mut Links,
     taken: &mut Ends,
     link: Link,

@@ -1,9 +1,9 @@
 use Rattle.std.proofs.Common.{◌++◌, ◌∷◌, [], ap, ◌∙◌}
 use Rattle.std.specs.Prelude.{if◌then◌else◌}
 use Rattle.std.specs.List.{list_any}
-use Rattle.system_scripts.specs.System.{same_link}
+use Rattle.system_words.specs.Joints.{same_link}
 use Rattle.script_words.specs.Laws.{none_passes}
-use Rattle.system_scripts.proofs.links.add_link.Goals as goal
+use Rattle.system_words.proofs.links.add_link.Goals as goal
 
 pub returns-clause-links : goal.returns-clause-links
 returns-clause-links c =

@@ -5,8 +5,8 @@ use Rattle.std.specs.List.{list_any}
 use Rattle.std.proofs.Math.Bool.{or-true, or-false}
 use Rattle.std.proofs.lemmas.Bool.Decides.{nat_tests}
 use Rattle.std.proofs.lemmas.List.Folds.{list_any-append}
-use Rattle.system_scripts.specs.declared.joints.Terminal.{Terminal}
-use Rattle.system_scripts.specs.System.{same_end}
+use Rattle.system_words.specs.declared.joints.Terminal.{Terminal}
+use Rattle.system_words.specs.Joints.{same_end}
 
 pub same_end-true : (a b : Terminal) → same_end a b ≡ true → a ≡ b
 same_end-true a b h =

@@ -1,9 +1,9 @@
 use Rattle.std.proofs.Common.{ap, ◌∙◌}
 use Rattle.std.specs.Prelude.{◌||◌}
 use Rattle.std.specs.List.{list_any}
-use Rattle.system_scripts.specs.System.{same_end}
-use Rattle.system_scripts.proofs.LinkLemmas.{list_any-end_added}
-use Rattle.system_scripts.proofs.links.Ends.add_both.Goals as goal
+use Rattle.system_words.specs.Joints.{same_end}
+use Rattle.system_words.proofs.LinkLemmas.{list_any-end_added}
+use Rattle.system_words.proofs.links.Ends.add_both.Goals as goal
 
 pub returns-clause-ok : goal.returns-clause-ok
 returns-clause-ok c = λ end.

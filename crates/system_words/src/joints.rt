@@ -2,21 +2,21 @@ use iface_roles::Kind;
 
 /// An end of a connection while its file is read: the places of an instance, and of an interface of its component.
 #[derive(Clone, Copy, PartialEq, Eq, Hash)]
-pub(crate) struct Terminal {
+pub struct Terminal {
     pub instance: usize,
     pub interface: usize,
 }
 
 /// The two ends of a connection.
 #[derive(Clone, Copy, PartialEq, Eq, Hash)]
-pub(crate) struct Link {
+pub struct Link {
     pub start: Terminal,
     pub end: Terminal,
 }
 
 /// A connection of any kind, and its parameters.
 #[derive(Clone, Copy)]
-pub(crate) struct Joint {
+pub struct Joint {
     pub start: Terminal,
     pub end: Terminal,
     pub kind: Kind,
@@ -27,7 +27,7 @@ pub(crate) struct Joint {
 
 /// The parameters of connections that mean something here.
 #[derive(Clone, Copy)]
-pub(crate) enum Parameter {
+pub enum Parameter {
     BaseAddress,
     ArbitrationPriority,
     FifoDepth,
@@ -36,7 +36,7 @@ pub(crate) enum Parameter {
 
 /// The commands of a system file.
 #[derive(Clone, Copy)]
-pub(crate) enum SystemCommand {
+pub enum SystemCommand {
     Package,
     CreateSystem,
     AddInstance,

@@ -1,6 +1,6 @@
-use Rattle.system_scripts.specs.Clocks.{start_for}
-use Rattle.system_scripts.proofs.RootLemmas.{start_for-added, none_from}
-use Rattle.system_scripts.proofs.roots.Roots.add.Goals as goal
+use Rattle.system_words.specs.Roots.{start_for}
+use Rattle.system_words.proofs.RootLemmas.{start_for-added, none_from}
+use Rattle.system_words.proofs.roots.Roots.add.Goals as goal
 
 pub returns-in_ok-insert : goal.returns-in_ok-insert
 returns-in_ok-insert c = λ other.
