@@ -3,8 +3,8 @@ ghost use Rattle.avalon_top.specs.Lines.{status_of, line_of, script_line, link_l
 
 use crate::line::Line;
 use av_base::{NoMemory, Place};
-use script_words::ScriptRule;
 use link_rules::LinkRule;
+use script_words::ScriptRule;
 use system_plan::Refusal;
 
 /// What a run answers.

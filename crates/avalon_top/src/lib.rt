@@ -9,10 +9,10 @@ mod process;
 mod words;
 
 pub use answer::run;
-pub use script_words::ScriptRule;
 pub use exit::Exit;
 pub use laws::files_call_for_one_answer;
 pub use line::Line;
 pub use link_rules::LinkRule;
 pub use process::status_of_process;
+pub use script_words::ScriptRule;
 pub use words::{Task, read_words};

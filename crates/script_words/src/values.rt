@@ -91,7 +91,8 @@ fn names_start(kind: Kind, text: &str) -> bool
     ensures { result ≡ names_start kind text.now }
 {
     same_text(text, "start")
-        || (!same_kind(kind, Kind::Stream) && (same_text(text, "master") || same_text(text, "host")))
+        || (!same_kind(kind, Kind::Stream)
+            && (same_text(text, "master") || same_text(text, "host")))
         || (!same_kind(kind, Kind::Mm) && same_text(text, "source"))
 }
 
@@ -99,7 +100,8 @@ fn names_end(kind: Kind, text: &str) -> bool
     ensures { result ≡ names_end kind text.now }
 {
     same_text(text, "end")
-        || (!same_kind(kind, Kind::Stream) && (same_text(text, "slave") || same_text(text, "agent")))
+        || (!same_kind(kind, Kind::Stream)
+            && (same_text(text, "slave") || same_text(text, "agent")))
         || (!same_kind(kind, Kind::Mm) && same_text(text, "sink"))
 }
 

@@ -2,18 +2,18 @@ mod ending;
 mod judge;
 mod state;
 
-use system_words::joints::{Joint, Link, Terminal};
-use system_words::links::{Ends, Links};
-use system_words::commands::{first_named, pair_named, second_named, system_command, system_takes};
 use av_base::Text;
+use component_types::{Component, Library};
+use iface_roles::{Kind, Side};
 use script_words::values::end_named;
 use script_words::words::{refused_at, text};
-use component_types::{Component, Library};
 use script_words::{Names, ScriptFault};
-use iface_roles::{Kind, Side};
 use std::alloc::Global;
 use std::marker::Model;
 use system_tables::Instance;
+use system_words::commands::{first_named, pair_named, second_named, system_command, system_takes};
+use system_words::joints::{Joint, Link, Terminal};
+use system_words::links::{Ends, Links};
 use tcl_words::{Commands, Word};
 
 /// What the commands of a system file state so far.

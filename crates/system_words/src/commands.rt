@@ -7,11 +7,11 @@ ghost use Rattle.std.specs.Str.{bytes_eq};
 ghost use Rattle.system_words.specs.Commands.{later_command, system_command, system_passed_over, system_takes, pair_named, first_named, second_named, second_word, in_one_word, has_word, of_both, asks_other, parameter_named, is_number, may_be, is_misplaced, asks_default, misreads, exceeds, exports, sets_stages, has_sides};
 
 use crate::joints::{Parameter, SystemCommand, Terminal};
+use iface_roles::Kind;
 use script_words::values::{
     end_named, is_among, kind_named, number_of, parts_round, same_kind, same_name, same_text,
 };
 use script_words::words::text;
-use iface_roles::Kind;
 use tcl_words::Word;
 
 /// Commands that state nothing here.
@@ -143,7 +143,8 @@ fn asks_default(kind: Kind, parameter: Parameter, value: &str) -> bool
     ensures { result ≡ asks_default kind parameter value.now }
 {
     match (kind, parameter) {
-        (Kind::Mm, Parameter::DefaultConnection) => !(same_text(value, "0") || same_text(value, "false")),
+        (Kind::Mm, Parameter::DefaultConnection) => !(same_text(value, "0")
+            || same_text(value, "false")),
         _ => false,
     }
 }

@@ -4,9 +4,9 @@ ghost use Rattle.system_words.specs.declared.joints.Terminal.{Terminal};
 
 use crate::joints::{Joint, Terminal};
 use av_base::NoMemory;
-use script_words::values::same_kind;
 use iface_roles::Kind;
 use indexmap::IndexMap;
+use script_words::values::same_kind;
 use std::alloc::Global;
 use std::marker::Model;
 

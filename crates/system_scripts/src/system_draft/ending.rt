@@ -2,13 +2,13 @@ ghost use Rattle.std.specs.Prelude.{◌≡◌, IfOk, option_and_then, slice_get}
 ghost use Rattle.system_scripts.specs.Clocks.{fits_clock, end_id, clock_place};
 
 use super::SystemDraft;
-use system_words::joints::{Joint, Terminal};
-use system_words::Roots;
 use av_base::{List, NoMemory, Place};
 use component_types::{Component, Library};
 use script_words::{ScriptFault, ScriptRule};
 use std::alloc::Global;
 use system_tables::{Connection, EndId, InterfaceTable, System};
+use system_words::Roots;
+use system_words::joints::{Joint, Terminal};
 use tcl_words::Commands;
 
 /// The number of an end, where there is room for it.

@@ -4,17 +4,17 @@ ghost use Rattle.system_words.specs.Commands.{of_both};
 ghost use Rattle.script_words.specs.Words.{refusal_of};
 
 use super::SystemDraft;
-use system_words::joints::SystemCommand;
+use component_types::{Library, is_name};
+use iface_roles::{Kind, Side};
+use script_words::values::{kind_named, number_of, same_kind};
+use script_words::words::{check, is_misdirected, refusal_of, text};
+use script_words::{Refusal, judge_package};
 use system_words::commands::{
     any_default, any_exceeds, any_misplaced, any_misread, asks_other, asks_unknown, exports,
     has_sides, is_missing, is_no_joint, names_an_end, names_first, names_pair, names_second,
     parameter_named, second_word, sets_stages,
 };
-use component_types::{Library, is_name};
-use script_words::values::{kind_named, number_of, same_kind};
-use script_words::words::{check, is_misdirected, refusal_of, text};
-use script_words::{Refusal, judge_package};
-use iface_roles::{Kind, Side};
+use system_words::joints::SystemCommand;
 use tcl_words::Word;
 
 impl SystemDraft {

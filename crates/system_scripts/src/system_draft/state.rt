@@ -5,16 +5,16 @@ ghost use Rattle.system_words.specs.Commands.{exceeds};
 ghost use Rattle.script_words.specs.Words.{text_at, refusal_of};
 
 use super::SystemDraft;
-use system_words::joints::{Joint, Link, Parameter, SystemCommand};
-use system_words::links::add_link;
-use system_words::commands::{parameter_named, sets_stages};
 use av_base::{NoMemory, Text};
 use component_types::Library;
+use iface_roles::Kind;
 use script_words::values::{number_of, same_kind};
 use script_words::words::text;
-use iface_roles::Kind;
 use std::alloc::Global;
 use system_tables::Instance;
+use system_words::commands::{parameter_named, sets_stages};
+use system_words::joints::{Joint, Link, Parameter, SystemCommand};
+use system_words::links::add_link;
 use tcl_words::Word;
 
 impl SystemDraft {
