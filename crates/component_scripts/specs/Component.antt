@@ -25,8 +25,6 @@ use Rattle.iface_roles.specs.Rules.{breaks}
 use Rattle.component_scripts.specs.declared.component.DeclaredInterface.{DeclaredInterface}
 use Rattle.component_scripts.specs.declared.component.ComponentCommand.{ComponentCommand}
 use Rattle.component_scripts.specs.declared.component.ComponentCommand.TheVariants.{Package, SetModuleProperty, AddInterface, SetInterfaceProperty, AddInterfacePort, SetPortProperty, PassedOver as Nothing}
-use Rattle.script_words.specs.declared.faults.ScriptFault.{ScriptFault}
-use Rattle.script_words.specs.declared.faults.ScriptFault.TheVariants.{Refused, NoMemory}
 use Rattle.script_words.specs.declared.faults.ScriptRule.TheVariants.{Command, Interface}
 use Rattle.script_words.specs.declared.judge.Check.{Check}
 use Rattle.script_words.specs.declared.judge.Refusal.{Refusal}
