@@ -1,5 +1,5 @@
 -- How far a netlist grows while a row of places is made or set.
-use Rattle.std.proofs.Common.{◌≡◌, ℕ, ◌+◌, ◌*◌, ◌<◌, ◌≤◌, List, ◌∷◌, length, subst, ◌∙◌, arith}
+use Rattle.std.proofs.Common.{◌≡◌, ℕ, ◌+◌, ◌*◌, ◌^◌, ◌<◌, ◌≤◌, List, ◌∷◌, length, subst, ◌∙◌, arith}
 use Rattle.std.proofs.Math.Nat.{mul-le-mul_left}
 use Rattle.netlist.specs.Nets.{NetValue}
 use Rattle.netlist.specs.Netlists.{Netlist}
@@ -23,6 +23,12 @@ pub set_grows : {N : ℕ} (old now new : Netlist) (row rest others : List (Place
 set_grows old now new row rest others place first filled comes shift from end k e h grows few =
     set_within old now new row others place first filled comes shift from end k (subst (λ (rest : List (PlaceNets _)). AreSet old now row rest first filled comes shift from end) e h) grows few
 
+-- and where it finds no room for them
+pub set_full : {N : ℕ} (old now : Netlist) (row rest others : List (PlaceNets N)) (place first filled : PlaceNets N) (comes shift : NetValue) (from end : PlaceNets N) (k : ℕ) → rest ≡ place ∷ others → AreSet old now row rest first filled comes shift from end → k ≤ 2 * N + 3 → 2 ^ 20 < length now.lines + k → 2 ^ 20 < length old.lines + (2 * N + 3) * length row
+set_full {N} old now row rest others place first filled comes shift from end k e h few full =
+    let most = (subst (λ (rest : List (PlaceNets _)). AreSet old now row rest first filled comes shift from end) e h).most in
+    omega (arith, most, few, full)
+
 -- once some places are set
 pub set_all : {N : ℕ} (old now : Netlist) (row rest : List (PlaceNets N)) (first filled : PlaceNets N) (comes shift : NetValue) (from end : PlaceNets N) → AreSet old now row rest first filled comes shift from end → GrowsBy ((2 * N + 3) * length row) old now
 set_all old now row rest first filled comes shift from end h = record { extends = h.extends; most = (let most = h.most in omega arith); drivers = h.drivers; memories = h.memories }
@@ -39,3 +45,11 @@ made_grows {N} old now new like places k count h grows lt =
 -- once some places are made
 pub made_all : {N : ℕ} (old now : Netlist) (like : PlaceNets N) (places : List (PlaceNets N)) (k count : ℕ) → AreMade old now like places k → k ≤ count → GrowsBy ((N + 1) * count) old now
 made_all {N} old now like places k count h le = grows_fewer ((N + 1) * k) ((N + 1) * count) old now (mul-le-mul_left (N + 1) le) h.grows
+
+-- where the next place finds no room
+pub made_full : {N : ℕ} (old now : Netlist) (like : PlaceNets N) (places : List (PlaceNets N)) (k count : ℕ) → AreMade old now like places k → k < count → 2 ^ 20 < length now.lines + (N + 1) → 2 ^ 20 < length old.lines + (N + 1) * count
+made_full {N} old now like places k count h lt full =
+    let next : k + 1 ≤ count = omega arith in
+    let most = mul-le-mul_left (N + 1) next in
+    let lines = h.grows.most in
+    omega (arith, most, lines, full)

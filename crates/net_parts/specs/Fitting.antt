@@ -1,5 +1,5 @@
 -- A net in another width. No contract reads a proof of these.
-use Rattle.std.proofs.Common.{◌≡◌, ℕ, ◌+◌, ◌*◌, ◌%◌, ◌^◌, ◌<◌, ◌≤◌, refl, sym, ap, ◌∙◌, arith}
+use Rattle.std.proofs.Common.{◌≡◌, ℕ, ◌+◌, ◌-◌, ◌*◌, ◌/◌, ◌%◌, ◌^◌, ◌<◌, ◌≤◌, refl, sym, ap, ◌∙◌, arith}
 use Rattle.std.proofs.lemmas.Bool.{ne_eqb}
 use Rattle.std.proofs.Math.Nat.{mod-eq_of_lt}
 use Rattle.std.proofs.Math.Pow.{pow_mono}
@@ -14,6 +14,13 @@ pub widened : (high channel net width bits wanted : ℕ) → net ≡ high * 2 ^ 
 widened high channel net width bits wanted is none same h le =
     let low : 0 * 2 ^ width + channel ≡ channel = omega arith in
     is ∙ ap (λ z. z * 2 ^ width + channel) none ∙ low ∙ sym (fits_more channel width wanted h (omega (arith, same, le)))
+
+-- the lowest bits of a number
+pub cut_low : (n wanted : ℕ) → 1 ≤ wanted → n / 2 ^ 0 % 2 ^ (wanted - 1 - 0 + 1) ≡ n % 2 ^ wanted
+cut_low n wanted h =
+    let same : wanted - 1 - 0 + 1 ≡ wanted = omega arith in
+    let whole : n / 2 ^ 0 ≡ n = omega arith in
+    ap (λ k. n / 2 ^ 0 % 2 ^ k) same ∙ ap (λ m. m % 2 ^ wanted) whole
 
 pub two_nets : (bits wanted : ℕ) → (bits ≡ wanted → ⊥) → 2 ≡ fit_nets bits wanted
 two_nets bits wanted other = rw (ne_eqb bits wanted other) refl

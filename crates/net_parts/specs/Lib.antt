@@ -1,6 +1,7 @@
 pub mod Nets
 pub mod Growth
 pub mod Laws
+pub mod Refusing
 pub mod Bits
 pub mod Counts
 pub mod Histories

@@ -2,7 +2,7 @@ pub mod Beats
 pub mod Groups
 pub mod BeatPlaces
 pub mod Lasting
-pub mod Refusing
+pub use Rattle.net_parts.specs.Refusing
 pub mod BeatLaws
 pub mod Law
 pub mod PassNets

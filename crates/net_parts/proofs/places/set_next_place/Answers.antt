@@ -34,3 +34,12 @@ returns-clause-no_more_wait g c n w =
     let item = c.set_all_next.ensures.no_more_wait n w in
     let full = c.set_next.ensures.no_more_wait n item.0 in
     (full.0, λ o. elim o [ inl e ↦ full.1 e | inr p ↦ item.1 p ])
+
+pub returns-clause-value : goal.returns-clause-value
+returns-clause-value g c run cycles r n lt =
+    let full = c.set_next.ensures.value run cycles (c.set_all_next.ensures.grows.extends.runs run cycles r) n lt in
+    let item = c.set_all_next.ensures.value run cycles r n lt in
+    cc
+
+pub returns-clause-still_wait : goal.returns-clause-still_wait
+returns-clause-still_wait g c n apart w = c.set_all_next.ensures.still_wait n (λ o. apart (inr o)) (c.set_next.ensures.still_wait n (λ e. apart (inl e)) w)

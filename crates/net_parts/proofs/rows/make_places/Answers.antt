@@ -1,7 +1,9 @@
-use Rattle.std.proofs.Common.{◌+◌, List, length, sym, subst, arith}
+use Rattle.std.proofs.Common.{◌+◌, List, length, sym, subst, arith, ◌∙◌}
 use Rattle.net_parts.specs.declared.places.PlaceNets.{PlaceNets}
 use Rattle.net_parts.specs.RowLaws.{AreMade, made_none, made_more, place_lasts, row_numbers}
-use Rattle.net_parts.proofs.RowsGrown.{made_all, made_grows}
+use Rattle.net_parts.proofs.RowsGrown.{made_all, made_grows, made_full}
+use Rattle.std.proofs.lemmas.Result.{IfOk-from_err}
+use Rattle.net_parts.specs.Refusing.{handed_on}
 use Rattle.net_parts.proofs.rows.make_places.Goals as goal
 
 pub loop-place-init : goal.loop-place-init
@@ -49,3 +51,43 @@ returns-in_err-push-clause-grows g c = made_grows _ _ _ _ _ _ _ c.loop-place.inv
 
 pub returns-clause-grows : goal.returns-clause-grows
 returns-clause-grows g c = made_all _ _ _ _ _ _ c.loop-place.invariant (omega arith)
+
+pub returns-in_err-place-clause-row : goal.returns-in_err-place-clause-row
+returns-in_err-place-clause-row g c = IfOk-from_err _ _ c.from_residual.ensures.0
+
+pub returns-in_err-place-clause-count : goal.returns-in_err-place-clause-count
+returns-in_err-place-clause-count g c = IfOk-from_err _ _ c.from_residual.ensures.0
+
+pub returns-in_err-place-clause-made : goal.returns-in_err-place-clause-made
+returns-in_err-place-clause-made g c = IfOk-from_err _ _ c.from_residual.ensures.0
+
+pub returns-in_err-place-clause-starts : goal.returns-in_err-place-clause-starts
+returns-in_err-place-clause-starts g c = IfOk-from_err _ _ c.from_residual.ensures.0
+
+pub returns-in_err-place-clause-newly : goal.returns-in_err-place-clause-newly
+returns-in_err-place-clause-newly g c = IfOk-from_err _ _ c.from_residual.ensures.0
+
+pub returns-in_err-push-clause-row : goal.returns-in_err-push-clause-row
+returns-in_err-push-clause-row g c = IfOk-from_err _ _ c.from_residual-in_err-push.ensures.0
+
+pub returns-in_err-push-clause-count : goal.returns-in_err-push-clause-count
+returns-in_err-push-clause-count g c = IfOk-from_err _ _ c.from_residual-in_err-push.ensures.0
+
+pub returns-in_err-push-clause-made : goal.returns-in_err-push-clause-made
+returns-in_err-push-clause-made g c = IfOk-from_err _ _ c.from_residual-in_err-push.ensures.0
+
+pub returns-in_err-push-clause-starts : goal.returns-in_err-push-clause-starts
+returns-in_err-push-clause-starts g c = IfOk-from_err _ _ c.from_residual-in_err-push.ensures.0
+
+pub returns-in_err-push-clause-newly : goal.returns-in_err-push-clause-newly
+returns-in_err-push-clause-newly g c = IfOk-from_err _ _ c.from_residual-in_err-push.ensures.0
+
+pub returns-in_err-place-clause-full : goal.returns-in_err-place-clause-full
+returns-in_err-place-clause-full g c e =
+    made_full _ _ _ _ _ _ c.loop-place.invariant (omega arith) (c.low_place.ensures.full (handed_on _ _ _ _ c.in_err-place.was c.from_residual.ensures.1 e))
+
+pub returns-clause-count : goal.returns-clause-count
+returns-clause-count g c = c.loop-place.invariant.count_is ∙ omega arith
+
+pub returns-clause-full : goal.returns-clause-full
+returns-clause-full g c e = cc

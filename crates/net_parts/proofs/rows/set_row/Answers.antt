@@ -1,10 +1,12 @@
-use Rattle.std.proofs.Common.{List, refl, sym, subst, ◌∙◌, arith}
+use Rattle.std.proofs.Common.{List, refl, sym, subst, ◌∙◌, arith, ◌+◌}
 use Rattle.std.proofs.lemmas.List.{nil_from_length}
 use Rattle.net_parts.specs.declared.places.PlaceNets.{PlaceNets}
 use Rattle.net_parts.specs.Laws.{net_lasts, extends_twice, extends_none, adds_grow, grows_twice}
-use Rattle.net_parts.specs.PlaceRows.{RowMoves}
+use Rattle.net_parts.specs.PlaceRows.{RowMoves, InRow}
 use Rattle.net_parts.specs.RowLaws.{AreSet, place_lasts, numbered_here, set_more, set_none}
-use Rattle.net_parts.proofs.RowsGrown.{set_all, set_grows}
+use Rattle.net_parts.proofs.RowsGrown.{set_all, set_grows, set_full}
+use Rattle.std.proofs.lemmas.Result.{IfOk-from_err}
+use Rattle.net_parts.specs.Refusing.{handed_on}
 use Rattle.net_parts.proofs.rows.set_row.Goals as goal
 
 pub fill_next-requires : goal.fill_next-requires
@@ -77,3 +79,32 @@ returns-clause-grows g c = set_all _ _ _ _ _ _ _ _ _ _ c.loop-place.invariant
 
 pub returns-clause-waits : goal.returns-clause-waits
 returns-clause-waits g c = c.loop-place.invariant.waits
+
+pub returns-in_err-behind-clause-moves : goal.returns-in_err-behind-clause-moves
+returns-in_err-behind-clause-moves g c = IfOk-from_err _ _ c.from_residual.ensures.0
+
+pub returns-in_err-behind-clause-no_more_wait : goal.returns-in_err-behind-clause-no_more_wait
+returns-in_err-behind-clause-no_more_wait g c = IfOk-from_err _ _ c.from_residual.ensures.0
+
+pub returns-in_err-next-clause-moves : goal.returns-in_err-next-clause-moves
+returns-in_err-next-clause-moves g c = IfOk-from_err _ _ c.from_residual-in_err-next.ensures.0
+
+pub returns-in_err-next-clause-no_more_wait : goal.returns-in_err-next-clause-no_more_wait
+returns-in_err-next-clause-no_more_wait g c = IfOk-from_err _ _ c.from_residual-in_err-next.ensures.0
+
+pub returns-in_err-behind-clause-full : goal.returns-in_err-behind-clause-full
+returns-in_err-behind-clause-full g c e = set_full c.args.builder.now c.loop-place.builder c.args.row.now c.loop-place.rest.now c.in-Some.others.now c.in-Some.place.now c.args.first.now c.loop-place.filled c.args.comes c.args.shift c.args.from.now c.args.end.now _ c.in-Some.ensures.cases.0 c.loop-place.invariant (omega arith) (c.fill_next.ensures.full (handed_on _ _ _ _ c.in_err-behind.was c.from_residual.ensures.1 e))
+
+pub returns-in_err-next-clause-full : goal.returns-in_err-next-clause-full
+returns-in_err-next-clause-full g c e =
+    let most = c.fill_next.ensures.adds.most in
+    let full = c.choose_place.ensures.full (handed_on _ _ _ _ c.in_err-next.was c.from_residual-in_err-next.ensures.1 e) in
+    set_full c.args.builder.now c.loop-place.builder c.args.row.now c.loop-place.rest.now c.in-Some.others.now c.in-Some.place.now c.args.first.now c.loop-place.filled c.args.comes c.args.shift c.args.from.now c.args.end.now (g.row.N + 2 + (g.row.N + 1)) c.in-Some.ensures.cases.0 c.loop-place.invariant (omega arith) (omega (arith, most, full))
+
+pub returns-clause-no_more_wait : goal.returns-clause-no_more_wait
+returns-clause-no_more_wait g c n w =
+    let before = c.loop-place.invariant.no_more_wait n w in
+    (before.0, λ o. subst (λ (rest : List (PlaceNets g.row.N)). InRow rest n) (nil_from_length c.loop-place.rest.now c.in_default.ensures.cases) (before.1 o))
+
+pub returns-clause-full : goal.returns-clause-full
+returns-clause-full g c e = cc
