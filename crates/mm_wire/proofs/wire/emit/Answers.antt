@@ -5,6 +5,8 @@ use Rattle.netlist.specs.Nets.{NetValue}
 use Rattle.mm_wire.specs.declared.nets.WireNets.{WireNets}
 use Rattle.net_parts.specs.Laws.{extends_twice, net_lasts, waiting_within, one_more, new_register, register_lasts}
 use Rattle.mm_wire.proofs.Made.{IsBuilt, made_of, host_lasts, runs_as_wire, ignores_word}
+use Rattle.std.proofs.lemmas.Result.{IfOk-from_err}
+use Rattle.net_parts.specs.Refusing.{handed_on}
 use Rattle.mm_wire.proofs.wire.emit.Goals as goal
 
 pub returns-in_err-address-clause-waits : goal.returns-in_err-address-clause-waits
@@ -103,3 +105,122 @@ returns-in_err-address-clause-extends c = extends_twice _ _ _ c.reg.ensures.exte
 
 pub returns-clause-extends : goal.returns-clause-extends
 returns-clause-extends c = extends_twice _ _ _ c.reg.ensures.extends (extends_twice _ _ _ c.gate_reads.ensures.adds.grows.extends (extends_twice _ _ _ c.constant.ensures.extends (extends_twice _ _ _ c.next_count.ensures.adds.grows.extends (extends_twice _ _ _ c.set_next.ensures.extends c.slice.ensures.extends))))
+
+pub returns-in_err-unanswered-clause-nets : goal.returns-in_err-unanswered-clause-nets
+returns-in_err-unanswered-clause-nets c = IfOk-from_err _ _ c.from_residual.ensures.0
+
+pub returns-in_err-unanswered-clause-value : goal.returns-in_err-unanswered-clause-value
+returns-in_err-unanswered-clause-value c = IfOk-from_err _ _ c.from_residual.ensures.0
+
+pub returns-in_err-unanswered-clause-register : goal.returns-in_err-unanswered-clause-register
+returns-in_err-unanswered-clause-register c = IfOk-from_err _ _ c.from_residual.ensures.0
+
+pub returns-in_err-unanswered-clause-ignores : goal.returns-in_err-unanswered-clause-ignores
+returns-in_err-unanswered-clause-ignores c = IfOk-from_err _ _ c.from_residual.ensures.0
+
+pub returns-in_err-unanswered-clause-count : goal.returns-in_err-unanswered-clause-count
+returns-in_err-unanswered-clause-count c = IfOk-from_err _ _ c.from_residual.ensures.0
+
+pub returns-in_err-unanswered-clause-no_more_wait : goal.returns-in_err-unanswered-clause-no_more_wait
+returns-in_err-unanswered-clause-no_more_wait c = IfOk-from_err _ _ c.from_residual.ensures.0
+
+pub returns-in_err-gate-clause-nets : goal.returns-in_err-gate-clause-nets
+returns-in_err-gate-clause-nets c = IfOk-from_err _ _ c.from_residual-in_err-gate.ensures.0
+
+pub returns-in_err-gate-clause-value : goal.returns-in_err-gate-clause-value
+returns-in_err-gate-clause-value c = IfOk-from_err _ _ c.from_residual-in_err-gate.ensures.0
+
+pub returns-in_err-gate-clause-register : goal.returns-in_err-gate-clause-register
+returns-in_err-gate-clause-register c = IfOk-from_err _ _ c.from_residual-in_err-gate.ensures.0
+
+pub returns-in_err-gate-clause-ignores : goal.returns-in_err-gate-clause-ignores
+returns-in_err-gate-clause-ignores c = IfOk-from_err _ _ c.from_residual-in_err-gate.ensures.0
+
+pub returns-in_err-gate-clause-count : goal.returns-in_err-gate-clause-count
+returns-in_err-gate-clause-count c = IfOk-from_err _ _ c.from_residual-in_err-gate.ensures.0
+
+pub returns-in_err-gate-clause-no_more_wait : goal.returns-in_err-gate-clause-no_more_wait
+returns-in_err-gate-clause-no_more_wait c = IfOk-from_err _ _ c.from_residual-in_err-gate.ensures.0
+
+pub returns-in_err-gate-clause-full : goal.returns-in_err-gate-clause-full
+returns-in_err-gate-clause-full c e =
+    let full = c.gate_reads.ensures.full (handed_on _ _ _ _ c.in_err-gate.was c.from_residual-in_err-gate.ensures.1 e) in
+    omega (arith, full)
+
+pub returns-in_err-grant-clause-nets : goal.returns-in_err-grant-clause-nets
+returns-in_err-grant-clause-nets c = IfOk-from_err _ _ c.from_residual-in_err-grant.ensures.0
+
+pub returns-in_err-grant-clause-value : goal.returns-in_err-grant-clause-value
+returns-in_err-grant-clause-value c = IfOk-from_err _ _ c.from_residual-in_err-grant.ensures.0
+
+pub returns-in_err-grant-clause-register : goal.returns-in_err-grant-clause-register
+returns-in_err-grant-clause-register c = IfOk-from_err _ _ c.from_residual-in_err-grant.ensures.0
+
+pub returns-in_err-grant-clause-ignores : goal.returns-in_err-grant-clause-ignores
+returns-in_err-grant-clause-ignores c = IfOk-from_err _ _ c.from_residual-in_err-grant.ensures.0
+
+pub returns-in_err-grant-clause-count : goal.returns-in_err-grant-clause-count
+returns-in_err-grant-clause-count c = IfOk-from_err _ _ c.from_residual-in_err-grant.ensures.0
+
+pub returns-in_err-grant-clause-no_more_wait : goal.returns-in_err-grant-clause-no_more_wait
+returns-in_err-grant-clause-no_more_wait c = IfOk-from_err _ _ c.from_residual-in_err-grant.ensures.0
+
+pub returns-in_err-grant-clause-full : goal.returns-in_err-grant-clause-full
+returns-in_err-grant-clause-full c e =
+    let most0 = c.gate_reads.ensures.adds.most in
+    let full = c.constant.ensures.full.0 (handed_on _ _ _ _ c.in_err-grant.was c.from_residual-in_err-grant.ensures.1 e) in
+    omega (arith, most0, full)
+
+pub returns-in_err-next-clause-nets : goal.returns-in_err-next-clause-nets
+returns-in_err-next-clause-nets c = IfOk-from_err _ _ c.from_residual-in_err-next.ensures.0
+
+pub returns-in_err-next-clause-value : goal.returns-in_err-next-clause-value
+returns-in_err-next-clause-value c = IfOk-from_err _ _ c.from_residual-in_err-next.ensures.0
+
+pub returns-in_err-next-clause-register : goal.returns-in_err-next-clause-register
+returns-in_err-next-clause-register c = IfOk-from_err _ _ c.from_residual-in_err-next.ensures.0
+
+pub returns-in_err-next-clause-ignores : goal.returns-in_err-next-clause-ignores
+returns-in_err-next-clause-ignores c = IfOk-from_err _ _ c.from_residual-in_err-next.ensures.0
+
+pub returns-in_err-next-clause-count : goal.returns-in_err-next-clause-count
+returns-in_err-next-clause-count c = IfOk-from_err _ _ c.from_residual-in_err-next.ensures.0
+
+pub returns-in_err-next-clause-no_more_wait : goal.returns-in_err-next-clause-no_more_wait
+returns-in_err-next-clause-no_more_wait c = IfOk-from_err _ _ c.from_residual-in_err-next.ensures.0
+
+pub returns-in_err-next-clause-full : goal.returns-in_err-next-clause-full
+returns-in_err-next-clause-full c e =
+    let most0 = c.gate_reads.ensures.adds.most in
+    let most1 = c.constant.ensures.grows.most in
+    let full = c.next_count.ensures.full (handed_on _ _ _ _ c.in_err-next.was c.from_residual-in_err-next.ensures.1 e) in
+    omega (arith, most0, most1, full)
+
+pub returns-in_err-address-clause-nets : goal.returns-in_err-address-clause-nets
+returns-in_err-address-clause-nets c = IfOk-from_err _ _ c.from_residual-in_err-address.ensures.0
+
+pub returns-in_err-address-clause-value : goal.returns-in_err-address-clause-value
+returns-in_err-address-clause-value c = IfOk-from_err _ _ c.from_residual-in_err-address.ensures.0
+
+pub returns-in_err-address-clause-register : goal.returns-in_err-address-clause-register
+returns-in_err-address-clause-register c = IfOk-from_err _ _ c.from_residual-in_err-address.ensures.0
+
+pub returns-in_err-address-clause-ignores : goal.returns-in_err-address-clause-ignores
+returns-in_err-address-clause-ignores c = IfOk-from_err _ _ c.from_residual-in_err-address.ensures.0
+
+pub returns-in_err-address-clause-count : goal.returns-in_err-address-clause-count
+returns-in_err-address-clause-count c = IfOk-from_err _ _ c.from_residual-in_err-address.ensures.0
+
+pub returns-in_err-address-clause-no_more_wait : goal.returns-in_err-address-clause-no_more_wait
+returns-in_err-address-clause-no_more_wait c = IfOk-from_err _ _ c.from_residual-in_err-address.ensures.0
+
+pub returns-in_err-address-clause-full : goal.returns-in_err-address-clause-full
+returns-in_err-address-clause-full c e =
+    let most0 = c.gate_reads.ensures.adds.most in
+    let most1 = c.constant.ensures.grows.most in
+    let most2 = c.next_count.ensures.adds.most in
+    let full = c.slice.ensures.full.0 (handed_on _ _ _ _ c.in_err-address.was c.from_residual-in_err-address.ensures.1 e) in
+    omega (arith, most0, most1, most2, full)
+
+pub returns-clause-full : goal.returns-clause-full
+returns-clause-full c e = cc
