@@ -8,7 +8,7 @@ use Rattle.stage_core.specs.BeatPlaces.{place_nets, place_are, beat_are, place_w
 use Rattle.stage_core.specs.QueueNets.{FirstNumbered, first_numbered}
 use Rattle.net_parts.specs.Laws.{extends_twice, waiting_within, grows_twice, grows_fewer, adds_grow}
 use Rattle.net_parts.specs.RowLaws.{row_here, row_waits}
-use Rattle.st_timing.proofs.BufferRows.{front, front_count}
+use Rattle.st_timing.proofs.BufferRows.{front, front_count, count_fits}
 use Rattle.stage_core.specs.Refusing.{handed_on}
 use Rattle.net_parts.specs.Growth.{GrowsBy}
 use Rattle.st_timing.proofs.buffer_nets.ReadyBufferStage.emit_forward.Goals as goal
@@ -17,7 +17,7 @@ pub show_first-requires : goal.show_first-requires
 show_first-requires c =
     let few = c.args.self.now.few in
     let same = c.from-count.ensures in
-    let count = front_count c.fill_places.new.places _ (c.from-count.result + 1) c.fill_places.auto.places (omega (arith, few, same)) in (
+    let count = front_count c.fill_places.new.places _ (c.from-count.result + 1) c.fill_places.auto.places (count_fits _ _ few same) in (
       lit< tt,
       (
         lit< tt,
@@ -41,7 +41,7 @@ pub returns-clause-kept : goal.returns-clause-kept
 returns-clause-kept c =
     let few = c.args.self.now.few in
     let same = c.from-count.ensures in
-    let count = front_count c.fill_places.new.places _ (c.from-count.result + 1) c.fill_places.auto.places (omega (arith, few, same)) in
+    let count = front_count c.fill_places.new.places _ (c.from-count.result + 1) c.fill_places.auto.places (count_fits _ _ few same) in
     let here : c.args.self.now.latency + 1 ≡ c.from-count.result + 1 = ap (λ n. n + 1) (sym same) in
     let more = extends_twice _ _ _ c.show_first.ensures.adds.grows.extends c.make_history.ensures.grows.extends in
     let net = c.in_ok-history.ensures.history.net in
@@ -65,7 +65,7 @@ pub returns-clause-owned : goal.returns-clause-owned
 returns-clause-owned c n o =
     let few = c.args.self.now.few in
     let same = c.from-count.ensures in
-    let count = front_count c.fill_places.new.places _ (c.from-count.result + 1) c.fill_places.auto.places (omega (arith, few, same)) in
+    let count = front_count c.fill_places.new.places _ (c.from-count.result + 1) c.fill_places.auto.places (count_fits _ _ few same) in
     let here : c.args.self.now.latency + 1 ≡ c.from-count.result + 1 = ap (λ n. n + 1) (sym same) in
     let filled = c.fill_places.ensures.grows.extends.count in
     let shown = c.show_first.ensures.adds.grows.extends.count in
@@ -79,7 +79,7 @@ pub returns-clause-made : goal.returns-clause-made
 returns-clause-made c =
     let few = c.args.self.now.few in
     let same = c.from-count.ensures in
-    let count = front_count c.fill_places.new.places _ (c.from-count.result + 1) c.fill_places.auto.places (omega (arith, few, same)) in
+    let count = front_count c.fill_places.new.places _ (c.from-count.result + 1) c.fill_places.auto.places (count_fits _ _ few same) in
     let here : c.args.self.now.latency + 1 ≡ c.from-count.result + 1 = ap (λ n. n + 1) (sym same) in
     let more = extends_twice _ _ _ c.show_first.ensures.adds.grows.extends c.make_history.ensures.grows.extends in
     record {
@@ -102,7 +102,7 @@ pub returns-clause-own_wait : goal.returns-clause-own_wait
 returns-clause-own_wait c n o =
     let few = c.args.self.now.few in
     let same = c.from-count.ensures in
-    let count = front_count c.fill_places.new.places _ (c.from-count.result + 1) c.fill_places.auto.places (omega (arith, few, same)) in
+    let count = front_count c.fill_places.new.places _ (c.from-count.result + 1) c.fill_places.auto.places (count_fits _ _ few same) in
     let here : c.args.self.now.latency + 1 ≡ c.from-count.result + 1 = ap (λ n. n + 1) (sym same) in
     elim o [
       | inl p ↦ c.make_history.ensures.still_wait n (c.show_first.ensures.adds.grows.waits n (row_waits _ _ _ _ c.in_ok-fill_places.ensures.row.is_row n (subst (λ (row : List (PlaceNets 6)). InRow row n) (front _ _ _ _ here count) p)))
@@ -113,7 +113,7 @@ pub returns-clause-newly : goal.returns-clause-newly
 returns-clause-newly c n w =
     let few = c.args.self.now.few in
     let same = c.from-count.ensures in
-    let count = front_count c.fill_places.new.places _ (c.from-count.result + 1) c.fill_places.auto.places (omega (arith, few, same)) in
+    let count = front_count c.fill_places.new.places _ (c.from-count.result + 1) c.fill_places.auto.places (count_fits _ _ few same) in
     let here : c.args.self.now.latency + 1 ≡ c.from-count.result + 1 = ap (λ n. n + 1) (sym same) in
     elim (c.make_history.ensures.newly n w) [
       | inl before ↦ elim (c.in_ok-fill_places.ensures.newly n (c.show_first.ensures.adds.grows.no_more_wait n before)) [
@@ -127,7 +127,7 @@ pub returns-in_err-fill_places-clause-grows : goal.returns-in_err-fill_places-cl
 returns-in_err-fill_places-clause-grows c =
     let few = c.args.self.now.few in
     let same = c.from-count.ensures in
-    let count = front_count c.fill_places.new.places _ (c.from-count.result + 1) c.fill_places.auto.places (omega (arith, few, same)) in
+    let count = front_count c.fill_places.new.places _ (c.from-count.result + 1) c.fill_places.auto.places (count_fits _ _ few same) in
     let long = sym c.fill_places.auto.places ∙ count in
     let filled = subst (λ n. GrowsBy (7 * n) c.args.builder.now c.fill_places.new.builder) long c.fill_places.ensures.grows in
     grows_fewer _ _ _ _ (omega (arith, same)) filled
@@ -136,7 +136,7 @@ pub returns-in_err-to-clause-grows : goal.returns-in_err-to-clause-grows
 returns-in_err-to-clause-grows c =
     let few = c.args.self.now.few in
     let same = c.from-count.ensures in
-    let count = front_count c.fill_places.new.places _ (c.from-count.result + 1) c.fill_places.auto.places (omega (arith, few, same)) in
+    let count = front_count c.fill_places.new.places _ (c.from-count.result + 1) c.fill_places.auto.places (count_fits _ _ few same) in
     let long = sym c.fill_places.auto.places ∙ count in
     let filled = subst (λ n. GrowsBy (7 * n) c.args.builder.now c.fill_places.new.builder) long c.fill_places.ensures.grows in
     grows_fewer _ _ _ _ (omega (arith, same)) (grows_twice _ _ _ _ _ filled (adds_grow _ _ _ c.show_first.ensures.adds))
@@ -145,7 +145,7 @@ pub returns-in_err-history-clause-grows : goal.returns-in_err-history-clause-gro
 returns-in_err-history-clause-grows c =
     let few = c.args.self.now.few in
     let same = c.from-count.ensures in
-    let count = front_count c.fill_places.new.places _ (c.from-count.result + 1) c.fill_places.auto.places (omega (arith, few, same)) in
+    let count = front_count c.fill_places.new.places _ (c.from-count.result + 1) c.fill_places.auto.places (count_fits _ _ few same) in
     let long = sym c.fill_places.auto.places ∙ count in
     let filled = subst (λ n. GrowsBy (7 * n) c.args.builder.now c.fill_places.new.builder) long c.fill_places.ensures.grows in
     grows_fewer _ _ _ _ (omega (arith, same)) (grows_twice _ _ _ _ _ (grows_twice _ _ _ _ _ filled (adds_grow _ _ _ c.show_first.ensures.adds)) c.make_history.ensures.grows)
@@ -154,7 +154,7 @@ pub returns-clause-grows : goal.returns-clause-grows
 returns-clause-grows c =
     let few = c.args.self.now.few in
     let same = c.from-count.ensures in
-    let count = front_count c.fill_places.new.places _ (c.from-count.result + 1) c.fill_places.auto.places (omega (arith, few, same)) in
+    let count = front_count c.fill_places.new.places _ (c.from-count.result + 1) c.fill_places.auto.places (count_fits _ _ few same) in
     let long = sym c.fill_places.auto.places ∙ count in
     let filled = subst (λ n. GrowsBy (7 * n) c.args.builder.now c.fill_places.new.builder) long c.fill_places.ensures.grows in
     grows_fewer _ _ _ _ (omega (arith, same)) (grows_twice _ _ _ _ _ (grows_twice _ _ _ _ _ filled (adds_grow _ _ _ c.show_first.ensures.adds)) c.make_history.ensures.grows)
@@ -163,7 +163,7 @@ pub returns-in_err-fill_places-clause-full : goal.returns-in_err-fill_places-cla
 returns-in_err-fill_places-clause-full c e =
     let few = c.args.self.now.few in
     let same = c.from-count.ensures in
-    let count = front_count c.fill_places.new.places _ (c.from-count.result + 1) c.fill_places.auto.places (omega (arith, few, same)) in
+    let count = front_count c.fill_places.new.places _ (c.from-count.result + 1) c.fill_places.auto.places (count_fits _ _ few same) in
     let long = sym c.fill_places.auto.places ∙ count in
     let full = subst (λ n. 2 ^ 20 < length c.args.builder.now.lines + 7 * n) long (c.fill_places.ensures.full (handed_on _ _ _ _ c.in_err-fill_places.was c.from_residual.ensures.1 e)) in
     omega (arith, same, full)
@@ -172,7 +172,7 @@ pub returns-in_err-to-clause-full : goal.returns-in_err-to-clause-full
 returns-in_err-to-clause-full c e =
     let few = c.args.self.now.few in
     let same = c.from-count.ensures in
-    let count = front_count c.fill_places.new.places _ (c.from-count.result + 1) c.fill_places.auto.places (omega (arith, few, same)) in
+    let count = front_count c.fill_places.new.places _ (c.from-count.result + 1) c.fill_places.auto.places (count_fits _ _ few same) in
     let long = sym c.fill_places.auto.places ∙ count in
     let filled = subst (λ n. GrowsBy (7 * n) c.args.builder.now c.fill_places.new.builder) long c.fill_places.ensures.grows in
     let most = filled.most in
@@ -183,7 +183,7 @@ pub returns-in_err-history-clause-full : goal.returns-in_err-history-clause-full
 returns-in_err-history-clause-full c e =
     let few = c.args.self.now.few in
     let same = c.from-count.ensures in
-    let count = front_count c.fill_places.new.places _ (c.from-count.result + 1) c.fill_places.auto.places (omega (arith, few, same)) in
+    let count = front_count c.fill_places.new.places _ (c.from-count.result + 1) c.fill_places.auto.places (count_fits _ _ few same) in
     let long = sym c.fill_places.auto.places ∙ count in
     let filled = subst (λ n. GrowsBy (7 * n) c.args.builder.now c.fill_places.new.builder) long c.fill_places.ensures.grows in
     let most = filled.most in
