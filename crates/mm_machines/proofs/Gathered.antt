@@ -5,8 +5,9 @@ use Rattle.std.proofs.lemmas.List.{map-append}
 use Rattle.std.proofs.lemmas.Bool.{and_parts}
 use Rattle.std.proofs.lemmas.List.Folds.{list_all-append}
 use Rattle.histories.specs.Laws.{prefix_trans, prefix_map, prefix_filter, prefix_flat_map, before_prefix}
-use Rattle.mm_machines.proofs.Whole.{owners_of_groups, turn_after, acts_after, groups_whole, whole_together, all_of_copies}
-use Rattle.mm_machines.proofs.TurnOrder.{turns, prefix_turns, turns_of_groups, turn_of, host_turns, by_turns, by_turn, commands_with, together_front, together_back}
+use Rattle.mm_machines.proofs.Whole.{whole_together, all_of_copies}
+use Rattle.mm_machines.specs.Begun.{owners_of_groups, turn_after, acts_after, groups_whole, turn_of, turn_at, by_turn, IsMatched}
+use Rattle.mm_machines.proofs.TurnOrder.{turns, prefix_turns, turns_of_groups, host_turns, by_turns, commands_with, together_front, together_back}
 use Rattle.mm_machines.proofs.Headline.{at_agent, arbiter_commands, arbiter_path, pipe_commands}
 use Rattle.histories.specs.History.{IsPrefix, only_if, is_first, stands_on}
 use Rattle.mm_runs.specs.Views.{Responses, System, Run, Shape}
@@ -70,8 +71,11 @@ tags_shown may port end bears (suc c) low =
     by_first false seen = refl
 
 module _ (responses : Responses) (system : System) (run : Run) (inside : Inside) (holds : Holds) (end : ℕ) (wired : Wired responses system run inside holds end) (legal : IsLegalRun system run end) where
-  pub together : (a c : ℕ) → a < system.agents → c ≤ end → IsTrue (are_together (owners_taken system run a c))
-  together a c there low =
+  -- what is taken of a joined host at an agent stands in the turns that it has behind the arbiter
+  owners_match : (a c : ℕ) → a < system.agents → c ≤ end →
+      IsPrefix (map (by_turn (turn_at system run a c)) (owners_taken system run a c))
+      (owners_of_groups (λ _. 0) (λ _. false) (groups_of (target_of system a) (inside.after_arbiter a).shape (shown_at (inside.after_arbiter a).port (c - system.stages))))
+  owners_match a c there low =
       let target = target_of system a in
       let far = inside.after_arbiter a in
       let near = inside.before_agent a in
@@ -82,16 +86,12 @@ module _ (responses : Responses) (system : System) (run : Run) (inside : Inside)
       subst (λ shape. IsPrefix (groups_of target shape (shown_at near.port c)) groups) (wired.pipe a there).same (prefix_map (group_of target far.shape) ((pipe_commands responses system run inside holds end wired legal a there).shown c low)) in
       let all_taken : IsPrefix (taken system run a c) (tagged_operations groups) = prefix_trans own (prefix_flat_map _ through) in
       let commands = arbiter_commands responses system run inside holds end wired legal a there in
-      let whole : groups_whole groups ≡ true = sym (same_whole target far.shape (shown_at far.port d)) ∙ commands.whole d (omega arith) in
       let owners_there = owners_of_groups (λ _. 0) (λ _. false) groups in
       let joined : list_all (λ (o : Owner). is_joined system a o.tag) owners_there ≡ true =
       owners_joined (is_joined system a) (λ _. 0) (λ _. false) groups (sym (groups_joined (is_joined system a) target far.shape (shown_at far.port d)) ∙ tags_shown (is_joined system a) far.port end commands.fit.tags d (omega arith)) in
-      let f : ℕ → ℕ → ℕ = λ h. turn_of system h a 1 0 false (host_transfers system run h c) in
-      let matched = by_turns f (λ h. owners system run h a c) (is_joined system a) [] (taken system run a c) [] owners_there (λ h. refl)
+      by_turns (turn_at system run a c) (λ h. owners system run h a c) (is_joined system a) [] (taken system run a c) [] owners_there (λ h. refl)
       (subst (λ l. IsPrefix (map (λ (t : Tagged). t.tag) (taken system run a c)) l) (same_tags (λ _. 0) (λ _. false) groups) (prefix_map (λ (t : Tagged). t.tag) all_taken)) joined
-      (λ h is. host_turns_there h (wired.joined a h is)) in
-      together_back f (owners_taken system run a c)
-      (together_front (map (by_turn f) (owners_taken system run a c)) matched.rest (ap are_together matched.joins ∙ whole_together (λ _. 0) (λ _. false) groups whole))
+      (λ h is. host_turns_there h (wired.joined a h is))
     where
       host_turns_there : (h : ℕ) → h < system.hosts →
           IsPrefix (commands_with h (owners_of_groups (λ _. 0) (λ _. false) (groups_of (target_of system a) (inside.after_arbiter a).shape (shown_at (inside.after_arbiter a).port (c - system.stages)))))
@@ -110,3 +110,22 @@ module _ (responses : Responses) (system : System) (run : Run) (inside : Inside)
           let front = prefix_turns 0 (prefix_trans above items) in
           subst (λ l. IsPrefix l (map (turn_of system h a 1 0 false (host_transfers system run h c)) (owners system run h a c))) (sym own)
           (subst (λ l. IsPrefix (turns 0 (items_among false ((tagged_flow h target far.port).shown d))) l) (host_turns system h a 1 0 false (host_transfers system run h c)) front)
+
+  whole_there : (a c : ℕ) → a < system.agents → c ≤ end → groups_whole (groups_of (target_of system a) (inside.after_arbiter a).shape (shown_at (inside.after_arbiter a).port c)) ≡ true
+  whole_there a c there low =
+      sym (same_whole (target_of system a) (inside.after_arbiter a).shape (shown_at (inside.after_arbiter a).port c)) ∙ (arbiter_commands responses system run inside holds end wired legal a there).whole c low
+
+  pub together : (a c : ℕ) → a < system.agents → c ≤ end → IsTrue (are_together (owners_taken system run a c))
+  together a c there low =
+      let matched = owners_match a c there low in
+      let groups = groups_of (target_of system a) (inside.after_arbiter a).shape (shown_at (inside.after_arbiter a).port (c - system.stages)) in
+      together_back (turn_at system run a c) (owners_taken system run a c)
+      (together_front (map (by_turn (turn_at system run a c)) (owners_taken system run a c)) matched.rest
+      (ap are_together matched.joins ∙ whole_together (λ _. 0) (λ _. false) groups (whole_there a (c - system.stages) there (omega arith))))
+
+  pub matched : (a : ℕ) → a < system.agents → IsMatched system run inside a end
+  matched a there = record {
+    owners = λ c low. owners_match a c there low;
+    taken = λ c low. (pipe_commands responses system run inside holds end wired legal a there).taken c low;
+    whole = λ c low. whole_there a c there low;
+  }

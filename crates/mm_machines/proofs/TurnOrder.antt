@@ -5,7 +5,7 @@ use Rattle.std.proofs.lemmas.List.{map-append}
 use Rattle.std.proofs.lemmas.List.Elements.{filter-append}
 use Rattle.std.proofs.lemmas.Bool.{and_parts}
 use Rattle.std.proofs.lemmas.List.Folds.{list_all-append}
-use Rattle.mm_machines.proofs.Whole.{owners_of_groups, turn_after, acts_after}
+use Rattle.mm_machines.specs.Begun.{owners_of_groups, turn_after, acts_after, turn_of, by_turn}
 use Rattle.histories.specs.History.{IsPrefix, only_if}
 use Rattle.mm_runs.specs.Views.{System}
 use Rattle.mm_runs.specs.Operations.{Operation}
@@ -101,16 +101,7 @@ owners_among system host agent number ts =
     (zip (numbers_by_ends number ts) ts)
 
 module _ (system : System) (host agent : ℕ) where
-  -- the turn of a command
-  abbrev pub turn_of : ℕ → ℕ → Bool → List Transfer → ℕ → ℕ
-  turn_of number n acted [] command = n
-  turn_of number n acted (t ∷ ts) command =
-      if nat_le command number then n
-      else turn_of (if t.ends then number + 1 else number)
-      (if is_agent agent (place_of system host t) && (t.ends && (acted || is_nonempty (transfer_operations system host agent t))) then suc n else n)
-      (if is_agent agent (place_of system host t) then not t.ends && (acted || is_nonempty (transfer_operations system host agent t)) else acted) ts command
-
-  first_turn : (number n : ℕ) (acted : Bool) (ts : List Transfer) → turn_of number n acted ts number ≡ n
+  first_turn : (number n : ℕ) (acted : Bool) (ts : List Transfer) → turn_of system host agent number n acted ts number ≡ n
   first_turn number n acted [] = refl
   first_turn number n acted (t ∷ ts) = let least : nat_le number number ≡ true = grind (arith, tests) in rw least refl
 
@@ -142,11 +133,11 @@ module _ (system : System) (host agent : ℕ) where
 
   -- the turn of an operation is that of its command
   pub host_turns : (number n : ℕ) (acted : Bool) (ts : List Transfer) →
-      turns n (items_among acted (placed system host agent (sent_by ts))) ≡ map (turn_of number n acted ts) (owners_among system host agent number ts)
+      turns n (items_among acted (placed system host agent (sent_by ts))) ≡ map (turn_of system host agent number n acted ts) (owners_among system host agent number ts)
   host_turns number n acted [] = refl
   host_turns number n acted (t ∷ ts) =
-      left here ∙ ap₂ (λ a b. a ++ b) (sym (mine_turns here)) (host_turns number_after (n_after here) (acted_after_it here) ts ∙ sym (map_from number_after ts (turn_of number n acted (t ∷ ts)) later_turn same))
-      ∙ sym (map-append (turn_of number n acted (t ∷ ts)) (mine here) (owners_among system host agent number_after ts))
+      left here ∙ ap₂ (λ a b. a ++ b) (sym (mine_turns here)) (host_turns number_after (n_after here) (acted_after_it here) ts ∙ sym (map_from number_after ts (turn_of system host agent number n acted (t ∷ ts)) later_turn same))
+      ∙ sym (map-append (turn_of system host agent number n acted (t ∷ ts)) (mine here) (owners_among system host agent number_after ts))
     where
       here : Bool
       here = is_agent agent (place_of system host t)
@@ -164,7 +155,7 @@ module _ (system : System) (host agent : ℕ) where
       acted_after_it p = if p then not t.ends && (acted || is_nonempty operations) else acted
 
       later_turn : ℕ → ℕ
-      later_turn d = turn_of number_after (n_after here) (acted_after_it here) ts d
+      later_turn d = turn_of system host agent number_after (n_after here) (acted_after_it here) ts d
 
       mine : Bool → List ℕ
       mine p = if p then replicate (length operations) number else []
@@ -177,8 +168,8 @@ module _ (system : System) (host agent : ℕ) where
       left true = group_turns n host operations (t.ends && (acted || is_nonempty operations)) (items_among (not t.ends && (acted || is_nonempty operations)) (map (placed_group system host agent) rest))
       left false = refl
 
-      mine_turns : (p : Bool) → map (turn_of number n acted (t ∷ ts)) (mine p) ≡ (if p then replicate (length operations) n else [])
-      mine_turns true = map_copies (turn_of number n acted (t ∷ ts)) (length operations) number ∙ ap (replicate (length operations)) (first_turn number n acted (t ∷ ts))
+      mine_turns : (p : Bool) → map (turn_of system host agent number n acted (t ∷ ts)) (mine p) ≡ (if p then replicate (length operations) n else [])
+      mine_turns true = map_copies (turn_of system host agent number n acted (t ∷ ts)) (length operations) number ∙ ap (replicate (length operations)) (first_turn number n acted (t ∷ ts))
       mine_turns false = refl
 
       no_end : (p : Bool) → t.ends ≡ false → n_after p ≡ n
@@ -196,7 +187,7 @@ module _ (system : System) (host agent : ℕ) where
       by_le d true e low = by_end d t.ends refl low (grind (arith, tests, e))
       by_le d false e low = refl
 
-      same : (d : ℕ) → number_after ≤ d → turn_of number n acted (t ∷ ts) d ≡ later_turn d
+      same : (d : ℕ) → number_after ≤ d → turn_of system host agent number n acted (t ∷ ts) d ≡ later_turn d
       same d low = by_le d (nat_le d number) refl low
 
 -- ---- from groups to what was taken
@@ -209,10 +200,6 @@ at_index f (x ∷ xs) (suc r) y e = at_index f xs r y e
 get_middle : (xs ys : List ℕ) (y : ℕ) → slice_get (xs ++ y ∷ ys) (length xs) ≡ Some y
 get_middle [] ys y = refl
 get_middle (x ∷ xs) ys y = get_middle xs ys y
-
--- an owner by its turn
-abbrev pub by_turn : (ℕ → ℕ → ℕ) → Owner → Owner
-by_turn f owner = record { tag = owner.tag; command = f owner.tag owner.command }
 
 one_more : (h : ℕ) (earlier : List Tagged) (t : Tagged) → length (of_host h (earlier ++ t ∷ [])) ≡ length (of_host h earlier) + (if nat_eq t.tag h then 1 else 0)
 one_more h earlier t =

@@ -5,30 +5,8 @@ use Rattle.std.proofs.lemmas.Bool.{and_parts}
 use Rattle.mm_runs.specs.Order.{Owner, is_same_owner, stays_together, are_together}
 use Rattle.mm_machines.specs.Link.{is_nonempty}
 use Rattle.mm_machines.specs.Lines.{Group}
+use Rattle.mm_machines.specs.Begun.{is_ended, turn_after, acts_after, owners_of_groups, groups_whole}
 use Rattle.mm_machines.proofs.Laws.{same_number}
-
--- ---- owners by the ends of joined commands
-
--- whether a joined command ends with this group
-abbrev pub is_ended : (ℕ → Bool) → Group → Bool
-is_ended acted g = g.closes && (acted g.tag || is_nonempty g.operations)
-
-abbrev pub turn_after : (ℕ → ℕ) → (ℕ → Bool) → Group → ℕ → ℕ
-turn_after turn acted g h = if nat_eq h g.tag && is_ended acted g then suc (turn h) else turn h
-
-abbrev pub acts_after : (ℕ → Bool) → Group → ℕ → Bool
-acts_after acted g h = if nat_eq h g.tag then not g.closes && (acted h || is_nonempty g.operations) else acted h
-
-abbrev pub owners_of_groups : (ℕ → ℕ) → (ℕ → Bool) → List Group → List Owner
-owners_of_groups turn acted [] = []
-owners_of_groups turn acted (g ∷ later) =
-    replicate (length g.operations) (record { tag = g.tag; command = turn g.tag }) ++ owners_of_groups (turn_after turn acted g) (acts_after acted g) later
-
--- after a group that doesn't close comes one of the same tag
-abbrev pub groups_whole : List Group → Bool
-groups_whole [] = true
-groups_whole (g ∷ []) = true
-groups_whole (g ∷ next ∷ later) = (g.closes || nat_eq g.tag next.tag) && groups_whole (next ∷ later)
 
 pub all_of_copies : {A : Type 0} (test : A → Bool) (n : ℕ) (x : A) (rest : List A) → test x ≡ true → list_all test rest ≡ true → list_all test (replicate n x ++ rest) ≡ true
 all_of_copies test zero x rest e all = all

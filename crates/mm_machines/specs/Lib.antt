@@ -15,3 +15,4 @@ pub mod Shorter
 pub mod SideLaws
 pub mod ReadLaws
 pub mod Settled
+pub mod Begun

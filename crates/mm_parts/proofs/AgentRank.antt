@@ -1,23 +1,23 @@
 -- The part next to an agent has a rank of at most the longest wait time and 1.
-use Rattle.std.proofs.Common.{ℕ, zero, suc, ◌<◌, ◌≤◌, ◌≡◌, ◌+◌, ◌-◌, [], ◌∷◌, ◌++◌, List, Bool, true, false, not, ◌&&◌, ◌||◌, IsTrue, IsFalse, nat_lt, nat_eq, if◌then◌else◌, max, arith, tests, refl, sym, ap, ap₂, ◌∙◌, subst, length, map, filter, flat_map, append-nil, length-append, inl, inr, ◌⊎◌}
+use Rattle.std.proofs.Common.{ℕ, zero, suc, ◌<◌, ◌≤◌, ◌≡◌, ◌+◌, ◌-◌, [], ◌∷◌, ◌++◌, List, Bool, true, false, not, ◌&&◌, ◌||◌, IsTrue, IsFalse, nat_lt, nat_eq, if◌then◌else◌, max, arith, tests, refl, sym, ap, ap₂, ◌∙◌, length, map, filter, flat_map, append-nil, length-append, inl, inr, ◌⊎◌}
 use Rattle.std.proofs.lemmas.Bool.{and_parts, or_parts, both_ways, or_left, or_right, ltb-true, ltb-false, lt-ltb, le-ltb}
 use Rattle.std.proofs.lemmas.List.{length-map}
-use Rattle.histories.specs.History.{before, only_if, one_if, is_raised, stands_on, total, unreached}
+use Rattle.histories.specs.History.{before, only_if, one_if, is_raised}
 use Rattle.histories.specs.Laws.{prefix_length, before_extends, shown_is_accepted_and_standing}
 use Rattle.mm_runs.specs.Views.{Responses, System, Run, AgentSide, AgentView, Levels, Shape}
 use Rattle.mm_runs.specs.Commands.{Burst, Transfer, shows, is_held, agent_accepts, stood_before, wait_time, transfer_at, burst_before, words_before}
 use Rattle.mm_runs.specs.Legal.{IsLegalAgent, IsProperAtAgent, is_under_way}
 use Rattle.mm_runs.specs.Order.{Tagged, TaggedBeat, beats_taken, beats_taken_in, is_read_beat, taken, words_given_in}
 use Rattle.mm_runs.specs.Awake.{owes, longest_wait}
-use Rattle.mm_machines.specs.Link.{Target, Port, Marked, takes, taken_at, shown_at, marked_at, words_owed, operations_among, operations_in}
-use Rattle.mm_machines.specs.Lines.{TaggedPort, IsFit, target_of, groups_of, group_of, tagged_operations}
-use Rattle.mm_machines.specs.Rank.{Falls, may_rest, is_owed}
+use Rattle.mm_machines.specs.Link.{Target, Marked, takes, taken_at, shown_at, marked_at, operations_among, operations_in}
+use Rattle.mm_machines.specs.Lines.{TaggedPort, IsFit, target_of, groups_of, tagged_operations}
+use Rattle.mm_machines.specs.Rank.{may_rest, is_owed}
 use Rattle.mm_machines.specs.PartRanks.{AgentRankFalls, has_agent_work, moves_at_agent, is_agent_excused}
 use Rattle.mm_machines.specs.SideLaws.{marked_keeps, all_reached}
 use Rattle.mm_parts.specs.Queue.{Entry}
 use Rattle.mm_parts.specs.Agent.{AgentState, IsAgentMachine, IsAgentPlan, is_full}
 use Rattle.mm_parts.specs.Steps.{IsAgentPart, words_from_agent, agent_rank}
-use Rattle.mm_parts.proofs.Queued.{entries, words_of, all_ask, unreached_is}
+use Rattle.mm_parts.proofs.Queued.{entries, all_ask, unreached_is}
 use Rattle.mm_parts.proofs.QueueBound.{owed_is}
 use Rattle.mm_parts.proofs.AgentShown.{same_takes, shows_is, same_burst}
 use Rattle.mm_parts.proofs.AgentLegal.{queue_holds}

@@ -1,18 +1,18 @@
 -- When the words of an agent go up: each in its cycle, or at latency 0 in the next.
-use Rattle.std.proofs.Common.{ℕ, zero, suc, ◌<◌, ◌≤◌, ◌≡◌, ◌+◌, ◌-◌, [], ◌∷◌, ◌++◌, List, Bool, true, false, not, ◌&&◌, IsTrue, IsFalse, nat_le, nat_lt, if◌then◌else◌, max, arith, tests, refl, sym, ap, ap₂, ◌∙◌, subst, length, map, filter, flat_map, length-append, le_of_eq}
+use Rattle.std.proofs.Common.{ℕ, zero, suc, ◌<◌, ◌≤◌, ◌≡◌, ◌-◌, [], ◌∷◌, List, Bool, true, false, ◌&&◌, IsFalse, nat_le, nat_lt, if◌then◌else◌, max, arith, tests, refl, sym, ap, ap₂, ◌∙◌, length, filter, length-append, le_of_eq}
 use Rattle.std.proofs.lemmas.List.{length-map}
-use Rattle.histories.specs.History.{before, only_if, one_if, is_raised, IsPrefix}
+use Rattle.histories.specs.History.{before, only_if, one_if, is_raised}
 use Rattle.histories.specs.Laws.{prefix_length, prefix_flat_map, prefix_filter, before_extends}
 use Rattle.mm_runs.specs.Views.{Shape, Responses, System, Run, AgentSide, AgentView}
 use Rattle.mm_runs.specs.Operations.{Beat}
 use Rattle.mm_runs.specs.Commands.{agent_accepts, is_of_reads}
 use Rattle.mm_runs.specs.Legal.{IsLegalAgent, Word}
 use Rattle.mm_runs.specs.Order.{TaggedBeat, beats_taken, is_read_beat, words_given_in}
-use Rattle.mm_machines.specs.Link.{Port, Marked, takes, taken_at, words_at, words_owed, read_beats}
-use Rattle.mm_machines.specs.Lines.{TaggedPort, IsFit, AreTaggedInOrder, word_tags, asked_tags}
+use Rattle.mm_machines.specs.Link.{Marked, takes, taken_at, words_at, words_owed, read_beats}
+use Rattle.mm_machines.specs.Lines.{TaggedPort, IsFit, AreTaggedInOrder, word_tags}
 use Rattle.mm_machines.specs.SideLaws.{same_counts}
 use Rattle.mm_parts.specs.Queue.{takes_read}
-use Rattle.mm_parts.specs.Agent.{AgentState, ShowsToAgent, GivesQueued, GivesFixed, IsAgentMachine, IsAgentPlan, row_places}
+use Rattle.mm_parts.specs.Agent.{AgentState, IsAgentMachine, IsAgentPlan, row_places}
 use Rattle.mm_parts.specs.Steps.{words_from_agent}
 use Rattle.mm_parts.proofs.Alike.{AreAlike, tag_all, tagged_beats}
 use Rattle.mm_parts.proofs.Alike.AreAlike.{no_beats, one_more}

@@ -1,5 +1,5 @@
 -- The arbiter machine passes the chosen host's beats, told by the two sides alone.
-use Rattle.std.proofs.Common.{ℕ, suc, ◌<◌, ◌≤◌, ◌≡◌, Bool, true, false, not, ◌&&◌, IsTrue, IsFalse, nat_eq, nat_lt, arith, tests, refl, sym, ap, ◌∙◌, subst, Option, Some, None}
+use Rattle.std.proofs.Common.{ℕ, ◌<◌, ◌≤◌, ◌≡◌, Bool, true, false, not, ◌&&◌, IsTrue, IsFalse, nat_eq, nat_lt, arith, tests, refl, sym, ap, ◌∙◌, Option, Some, None}
 use Rattle.std.proofs.lemmas.Bool.{and_parts, both_ways, eqb-true}
 use Rattle.mm_runs.specs.Views.{System}
 use Rattle.mm_runs.specs.Commands.{shows}

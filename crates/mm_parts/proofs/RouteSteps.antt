@@ -1,14 +1,14 @@
 -- The route machine, told by its two sides alone.
-use Rattle.std.proofs.Common.{ℕ, suc, ◌<◌, ◌≤◌, ◌≡◌, ◌-◌, [], ◌∷◌, ◌++◌, List, Bool, true, false, not, ◌&&◌, ◌||◌, IsTrue, IsFalse, nat_lt, nat_eq, length, drop, map, arith, tests, refl, sym, ap, ap₂, ◌∙◌, subst, if◌then◌else◌, Option, Some, None}
+use Rattle.std.proofs.Common.{ℕ, suc, ◌<◌, ◌≡◌, [], ◌∷◌, ◌++◌, List, Bool, true, false, not, ◌&&◌, ◌||◌, IsTrue, nat_lt, nat_eq, length, drop, arith, tests, refl, sym, ap, ap₂, ◌∙◌, subst, if◌then◌else◌, Option, Some, None}
 use Rattle.std.specs.List.{All, list_all}
 use Rattle.std.proofs.lemmas.Bool.{and_parts}
 use Rattle.std.proofs.lemmas.List.Elements.{All-head, All-tail}
 use Rattle.histories.specs.History.{is_raised, one_if}
 use Rattle.mm_runs.specs.Views.{Responses, System}
 use Rattle.mm_runs.specs.Commands.{shows}
-use Rattle.mm_runs.specs.Order.{Asked, is_agent, place_of}
+use Rattle.mm_runs.specs.Order.{Asked, is_agent}
 use Rattle.mm_runs.specs.Awake.{is_place}
-use Rattle.mm_machines.specs.Link.{Port, Marked, takes, marked_at, words_at, AreLegalAt, AnswersAreOwed}
+use Rattle.mm_machines.specs.Link.{Port, Marked, takes, words_at, AreLegalAt, AnswersAreOwed}
 use Rattle.mm_machines.specs.Lines.{AreSingle, OwesBelow}
 use Rattle.mm_parts.specs.Queue.{by_option}
 use Rattle.mm_parts.specs.Route.{RouteState, IsRouteMachine, is_same_place}

@@ -1,13 +1,13 @@
 //! What each machine does in a cycle, told by its two sides alone: never idling and fairness rest on it.
 
-ghost use Rattle.std.specs.Prelude.{◌<◌, ◌≤◌, ◌+◌, ℕ, IsTrue, IsFalse};
+ghost use Rattle.std.specs.Prelude.{◌≡◌, ◌<◌, ◌≤◌, ◌+◌, ℕ, IsTrue, IsFalse};
 ghost use Rattle.mm_runs.specs.Views.{Responses, System, Run};
 ghost use Rattle.mm_runs.specs.Commands.{shows};
 ghost use Rattle.mm_runs.specs.Legal.{IsLegalHost, IsLegalAgent};
-ghost use Rattle.mm_runs.specs.Order.{is_joined};
+ghost use Rattle.mm_runs.specs.Order.{is_joined, taken};
 ghost use Rattle.mm_runs.specs.Awake.{longest_wait};
-ghost use Rattle.mm_machines.specs.Link.{Port, AreLegalAt, AnswersAreOwed};
-ghost use Rattle.mm_machines.specs.Lines.{TaggedPort, AreFitToAsk, AreTaggedInOrder, AreSingle, OwesBelow, IsFit};
+ghost use Rattle.mm_machines.specs.Link.{Port, taken_at, AreLegalAt, AnswersAreOwed};
+ghost use Rattle.mm_machines.specs.Lines.{TaggedPort, target_of, groups_of, tagged_operations, AreFitToAsk, AreTaggedInOrder, AreSingle, OwesBelow, IsFit};
 ghost use Rattle.mm_machines.specs.Turns.{Grant, seats_of};
 ghost use Rattle.mm_parts.specs.Agent.{AgentState, IsAgentMachine, IsAgentPlan};
 ghost use Rattle.mm_parts.specs.Arbiter.{IsArbiterMachine};
@@ -45,7 +45,7 @@ pub fn route_machine_is_a_part()
     crate::lines::route_machine_keeps_its_line()
 }
 
-/// The machine next to an agent accepts exactly when the agent does, has a rank of at most the longest wait time and 1, and sends words up in their cycle, or at latency 0 in the next, under the tags of their reads.
+/// The machine next to an agent accepts exactly when the agent does, has a rank of at most the longest wait time and 1, sends words up in their cycle, or at latency 0 in the next, under the tags of their reads, and the agent has taken the operations of what is taken above it.
 pub fn agent_machine_is_a_part()
     ensures part { (responses : Responses) (system : System) (run : Run) (agent : ℕ) (up : TaggedPort) (state : AgentState) (end : ℕ)
         → IsAgentPlan (system.agent agent) → IsFit system agent up.port end
@@ -56,6 +56,11 @@ pub fn agent_machine_is_a_part()
         → IsAgentPlan (system.agent agent) → IsFit system agent up.port end
         → IsLegalAgent (system.agent agent) (run.at_agent agent) end
         → IsAgentMachine responses (system.agent agent) (run.at_agent agent) up state end → AreTaggedInOrder up end }
+    ensures operations { (responses : Responses) (system : System) (run : Run) (agent : ℕ) (up : TaggedPort) (state : AgentState) (end : ℕ)
+        → IsAgentPlan (system.agent agent) → IsFit system agent up.port end
+        → IsLegalAgent (system.agent agent) (run.at_agent agent) end
+        → IsAgentMachine responses (system.agent agent) (run.at_agent agent) up state end
+        → (c : ℕ) → c ≤ end → taken system run agent c ≡ tagged_operations (groups_of (target_of system agent) up.shape (taken_at up.port c)) }
 {
     crate::lines::agent_machine_keeps_its_line()
 }

@@ -1,4 +1,4 @@
-use Rattle.std.proofs.Common.{ℕ, ◌<◌, ◌≤◌, ◌-◌, arith}
+use Rattle.std.proofs.Common.{arith}
 use Rattle.mm_parts.proofs.RouteSteps.{route_part}
 use Rattle.mm_parts.proofs.steps.route_machine_is_a_part.Goals as goal
 
