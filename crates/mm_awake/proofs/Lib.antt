@@ -33,3 +33,4 @@ pub mod FairPipe
 pub mod FairRoom
 pub mod FairWaits
 pub mod BuiltRuns
+pub mod FairOwners
