@@ -16,7 +16,7 @@ use Rattle.mm_awake.proofs.Wanted.{of_host_append, host_ops}
 
 -- ---- whom the operations that a host issues belong to
 
-abbrev owners_among : System → ℕ → ℕ → ℕ → List Transfer → List ℕ
+abbrev pub owners_among : System → ℕ → ℕ → ℕ → List Transfer → List ℕ
 owners_among system host agent number ts =
     flat_map (λ p. if is_agent agent (place_of system host p.1) then replicate (length (transfer_operations system host agent p.1)) p.0 else []) (zip (numbers_by_ends number ts) ts)
 
@@ -27,7 +27,7 @@ owners_grow system host agent number (t ∷ xs) ys =
     let mine : List ℕ = if is_agent agent (place_of system host t) then replicate (length (transfer_operations system host agent t)) number else [] in
     record { rest = more.rest; joins = append_assoc mine (owners_among system host agent (if t.ends then number + 1 else number) xs) more.rest ∙ ap (λ l. mine ++ l) more.joins }
 
-one_for_each : (system : System) (host agent number : ℕ) (xs : List Transfer) →
+pub one_for_each : (system : System) (host agent number : ℕ) (xs : List Transfer) →
     length (owners_among system host agent number xs) ≡ length (flat_map (transfer_operations system host agent) (for_agent system host agent xs))
 one_for_each system host agent number [] = refl
 one_for_each system host agent number (t ∷ xs) = by_place (is_agent agent (place_of system host t)) (one_for_each system host agent (if t.ends then number + 1 else number) xs)
@@ -61,13 +61,18 @@ in_prefix i xs zs front low = in_front i xs front.rest low ∙ ap (λ l. slice_i
 own_length : (t : Tagged) (later : List Tagged) → 0 < length (of_host t.tag (t ∷ later))
 own_length t later = let same : nat_eq t.tag t.tag ≡ true = grind (arith, tests) in rw same (omega arith)
 
+-- an operation's number with its tag is below how many there are
+pub own_here : (t : Tagged) (earlier later : List Tagged) → length (of_host t.tag earlier) < length (of_host t.tag (earlier ++ t ∷ later))
+own_here t earlier later =
+    let own = own_length t later in
+    let split = of_host_append t.tag earlier (t ∷ later) in
+    omega (arith, own, split)
+
 same_from : (one two : ℕ → List ℕ) (earlier xs : List Tagged) → ((h n : ℕ) → n < length (of_host h (earlier ++ xs)) → slice_index (one h) n ≡ slice_index (two h) n) →
     owners_from one earlier xs ≡ owners_from two earlier xs
 same_from one two earlier [] same = refl
 same_from one two earlier (t ∷ later) same =
-    let own = own_length t later in
-    let split = of_host_append t.tag earlier (t ∷ later) in
-    let here : length (of_host t.tag earlier) < length (of_host t.tag (earlier ++ t ∷ later)) = omega (arith, own, split) in
+    let here = own_here t earlier later in
     ap₂ (λ (n : ℕ) (l : List Owner). record { tag = t.tag; command = n } ∷ l) (same t.tag (length (of_host t.tag earlier)) here)
     (same_from one two (earlier ++ t ∷ []) later (λ h n low. same h n (subst (λ l. n < length (of_host h l)) (append_assoc earlier (t ∷ []) later) low)))
 
@@ -115,7 +120,7 @@ module _ (system : System) (run : Run) (agent end : ℕ) (serves : ServesInGrant
       by_accept false e = refl
       by_accept true e = not_mine h grant _ (other (serves.tags c fit e) (nat_eq grant h) refl)
 
-  none_taken : (h c : ℕ) → c ≤ end → IsFalse (is_joined system agent h) → length (of_host h (taken system run agent c)) ≡ 0
+  pub none_taken : (h c : ℕ) → c ≤ end → IsFalse (is_joined system agent h) → length (of_host h (taken system run agent c)) ≡ 0
   none_taken h zero fit apart = refl
   none_taken h (suc c) fit apart =
       let old = none_taken h c (omega (arith, fit)) apart in

@@ -66,7 +66,7 @@ module _ (system : System) (host : ℕ) where
   starts None t ts steady = let start = steady.0 in rw start refl
   starts (Some p) t ts steady = let start = steady.0 in rw start refl
 
-  rest_is : (opened : Option (Option ℕ)) (t : Transfer) (ts : List Transfer) → Steady system host opened (t ∷ ts) → Steady system host (after_one system host opened t) ts
+  pub rest_is : (opened : Option (Option ℕ)) (t : Transfer) (ts : List Transfer) → Steady system host opened (t ∷ ts) → Steady system host (after_one system host opened t) ts
   unfolding Steady
   rest_is None t ts steady = steady.2
   rest_is (Some p) t ts steady = steady.3

@@ -34,3 +34,5 @@ pub mod FairRoom
 pub mod FairWaits
 pub mod BuiltRuns
 pub mod FairOwners
+pub mod FairNumbers
+pub mod FairAgent

@@ -1,13 +1,14 @@
 -- Full turns: what is asked of the hosts at an arbiter, and whose beats are taken behind it.
-use Rattle.std.specs.Prelude.{◌≡◌, ℕ, zero, suc, ◌+◌, ◌<◌, ◌≤◌, Bool, true, not, ◌&&◌, List, [], ◌∷◌, ◌++◌, map, take, drop, nat_eq, IsTrue, IsFalse, Some, length}
+use Rattle.std.specs.Prelude.{◌≡◌, ℕ, zero, suc, ◌+◌, ◌<◌, ◌≤◌, Bool, true, false, not, ◌&&◌, List, [], ◌∷◌, ◌++◌, map, take, drop, nat_eq, IsTrue, IsFalse, Some, length}
 use Rattle.std.specs.List.{list_any}
-use Rattle.histories.specs.History.{only_if, is_raised}
+use Rattle.histories.specs.History.{IsPrefix, only_if, is_raised}
 use Rattle.mm_runs.specs.Views.{System, Run}
 use Rattle.mm_runs.specs.Commands.{shows, agent_accepts}
 use Rattle.mm_runs.specs.Order.{Owner, is_joined, issued}
-use Rattle.mm_runs.specs.Awake.{commands_begun, is_for, are_finished_before, has_no_operation}
+use Rattle.mm_runs.specs.Awake.{begun, first_owners, commands_begun, is_for, are_finished_before, has_no_operation}
 use Rattle.mm_machines.specs.Link.{Port, takes, taken_at, marked_at, closes, operations_among}
-use Rattle.mm_machines.specs.Lines.{target_of}
+use Rattle.mm_machines.specs.Begun.{owners_of_groups, groups_whole}
+use Rattle.mm_machines.specs.Lines.{TaggedPort, groups_of, target_of}
 use Rattle.mm_machines.specs.Turns.{begins_at, seats_of}
 use Rattle.mm_parts.specs.Steps.{IsHostPart, IsRoutePart, IsArbiterPart}
 use Rattle.mm_awake.specs.Slack.{PassesOn}
@@ -69,3 +70,9 @@ pub record WaitsBefore (system : System) (run : Run) (inside : Boundaries) (agen
   pub alone : WaitsAlone system run agent host c
   pub untaken : length (operations_among (target_of system agent) (inside.upper host agent 0).shape (taken_at (inside.upper host agent 0) c)) < length (issued system run host agent (suc c))
   pub none : IsFalse (begins_at (seats_of system agent) (λ h. inside.upper h agent 0) (inside.lower agent system.stages).port (nat_eq host) c)
+
+-- the hosts of the commands begun at an agent are, in order, those of the first owners of what is taken before it, by the ends of their commands; and that is the front of what is taken behind the arbiter, where commands stand whole
+pub record BeginsByTurns (system : System) (run : Run) (agent : ℕ) (near far : TaggedPort) (end : ℕ) : Type 0 where
+  pub begun : (c : ℕ) → c ≤ end → map (λ o. o.tag) (begun system run agent c) ≡ map (λ o. o.tag) (first_owners [] (owners_of_groups (λ _. 0) (λ _. false) (groups_of (target_of system agent) far.shape (taken_at near.port c))))
+  pub pipe : (c : ℕ) → c ≤ end → IsPrefix (taken_at near.port c) (taken_at far.port c)
+  pub whole : (c : ℕ) → c ≤ end → IsTrue (groups_whole (groups_of (target_of system agent) far.shape (taken_at far.port c)))

@@ -16,7 +16,7 @@ ghost use Rattle.mm_machines.specs.Turns.{seats_of, others_begun, IsKeptAsking};
 ghost use Rattle.mm_parts.specs.Steps.{IsArbiterPart, IsHostPart, IsRoutePart, has_room};
 ghost use Rattle.mm_awake.specs.Ways.{count_in};
 ghost use Rattle.mm_awake.specs.Theorem.{Boundaries, States, LinkRanks, IsBuilt};
-ghost use Rattle.mm_awake.specs.Fair.{are_apart, AllAskPlainly, AreAmong, IsPlainAt, HandsWritesOn, HandsPlainWrites, AreParts, WaitsAlone, WaitsBefore};
+ghost use Rattle.mm_awake.specs.Fair.{are_apart, AllAskPlainly, AreAmong, BeginsByTurns, IsPlainAt, HandsWritesOn, HandsPlainWrites, AreParts, WaitsAlone, WaitsBefore};
 
 /// In a system of machines whose links hand plain writes on, where each host that is joined to an agent shows a plain write for it in every cycle of a window, the commands that are taken behind its arbiter stand in full turns.
 pub fn plain_writers_take_full_turns()
@@ -127,4 +127,20 @@ pub fn begun_grows()
         → (c d : ℕ) → c ≤ d → d ≤ end → IsPrefix (begun system run agent c) (begun system run agent d) }
 {
     mm_runs::histories_grow()
+}
+
+/// In a system of machines the hosts of the commands begun at an agent are, in order, those of what is taken before it, each command once, and that is the front of what is taken behind its arbiter.
+pub fn commands_begin_by_turns()
+    ensures { (responses : Responses) (system : System) (run : Run) (inside : Boundaries) (states : States) (ranks : LinkRanks) (end agent : ℕ)
+        → IsBuilt responses system run inside states ranks end → IsLegalRun system run end → agent < system.agents
+        → BeginsByTurns system run agent (inside.lower agent 0) (inside.lower agent system.stages) end }
+{
+    crate::machines_are_awake();
+    mm_machines::settled::lines_settle();
+    mm_machines::settled::agents_take_by_turns();
+    mm_parts::lines::host_machine_keeps_its_line();
+    mm_parts::lines::route_machine_keeps_its_line();
+    mm_parts::lines::arbiter_machine_keeps_its_line();
+    mm_parts::lines::agent_machine_keeps_its_line();
+    mm_parts::steps::agent_machine_is_a_part()
 }
