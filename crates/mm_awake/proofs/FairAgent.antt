@@ -13,10 +13,11 @@ use Rattle.mm_runs.specs.Laws.{issued_prefix}
 use Rattle.mm_runs.specs.Order.{Owner, Tagged, owners, owners_from, owners_taken, of_host, taken, issued, is_joined, is_same_owner, host_transfers, ServesInGrantedOrder}
 use Rattle.mm_runs.specs.Awake.{begun, first_owners}
 use Rattle.mm_machines.specs.Link.{AreLegalAt, shown_at, taken_at}
-use Rattle.mm_machines.specs.Lines.{Group, TaggedPort, Inside, groups_of, group_of, tagged_operations, target_of}
+use Rattle.mm_machines.specs.Lines.{Group, BearsTags, TaggedPort, Inside, groups_of, group_of, tagged_operations, target_of}
 use Rattle.mm_machines.specs.SideLaws.{taken_is_shown}
 use Rattle.mm_machines.specs.Begun.{owners_of_groups, turn_after, acts_after, groups_whole, by_turn, turn_at, IsMatched}
 use Rattle.mm_awake.specs.Fair.{BeginsByTurns}
+use Rattle.mm_awake.proofs.Bits.{takes_shows}
 use Rattle.mm_awake.proofs.FairBegun.{one_for_each, own_here, none_taken}
 use Rattle.mm_awake.proofs.FairNumbers.{is_among, later_turn, presented_steady}
 use Rattle.mm_awake.proofs.FairOwners.{Every, same_firsts, owners_append, turns_after, acted_after}
@@ -114,7 +115,7 @@ same_tags : (f : ℕ → ℕ → ℕ) (xs : List Owner) → map (λ (o : Owner).
 same_tags f [] = refl
 same_tags f (o ∷ xs) = ap (λ l. o.tag ∷ l) (same_tags f xs)
 
-front_whole : (xs ys : List Group) → groups_whole (xs ++ ys) ≡ true → groups_whole xs ≡ true
+pub front_whole : (xs ys : List Group) → groups_whole (xs ++ ys) ≡ true → groups_whole xs ≡ true
 front_whole [] ys whole = refl
 front_whole (x ∷ []) ys whole = refl
 front_whole (x ∷ y ∷ xs) ys whole =
@@ -126,7 +127,8 @@ front_whole (x ∷ y ∷ xs) ys whole =
 module _ (system : System) (run : Run) (inside : Inside) (agent end : ℕ) (matched : IsMatched system run inside agent end) (same : (inside.after_arbiter agent).shape ≡ (inside.before_agent agent).shape)
     (operations : (c : ℕ) → c ≤ end → taken system run agent c ≡ tagged_operations (groups_of (target_of system agent) (inside.before_agent agent).shape (taken_at (inside.before_agent agent).port c)))
     (legal : AreLegalAt (inside.after_arbiter agent).port end) (hosts : (h : ℕ) → h < system.hosts → IsLegalHost (system.host h) (run.at_host h) end) (serves : ServesInGrantedOrder system run agent end)
-    (joined : (h : ℕ) → IsTrue (is_joined system agent h) → h < system.hosts) where
+    (joined : (h : ℕ) → IsTrue (is_joined system agent h) → h < system.hosts)
+    (tags : BearsTags (is_joined system agent) (inside.after_arbiter agent).port end) where
   abbrev far : TaggedPort
   far = inside.after_arbiter agent
 
@@ -187,4 +189,5 @@ module _ (system : System) (run : Run) (inside : Inside) (agent end : ℕ) (matc
     whole = λ c low.
         let front = prefix_map (group_of (target_of system agent) far.shape) (taken_is_shown far.port end c legal low) in
         front_whole (groups_of (target_of system agent) far.shape (taken_at far.port c)) front.rest (ap groups_whole front.joins ∙ matched.whole c low);
+    tags = λ c low taken. tags c low (takes_shows far.port c taken);
   }

@@ -16,7 +16,7 @@ same_count one two from zero end fit same = refl
 same_count one two from (suc size) end fit same =
     ap₂ (λ (n : ℕ) (b : Bool). n + one_if b) (same_count one two from size end (omega (arith, fit)) same) (same (from + size) (omega (arith, fit)))
 
-down_the_pipe : (port : ℕ → Port) (stages end from size : ℕ) → from + size ≤ end → ((i : ℕ) → i < stages → PassesOn (record { hold = 2; kept = 1 }) (port (suc i)) (port i) end) →
+pub down_the_pipe : (port : ℕ → Port) (stages end from size : ℕ) → from + size ≤ end → ((i : ℕ) → i < stages → PassesOn (record { hold = 2; kept = 1 }) (port (suc i)) (port i) end) →
     count_in (takes (port stages)) from size ≤ count_in (takes (port 0)) from size + 2 * stages
 down_the_pipe port zero end from size fit pass = omega arith
 down_the_pipe port (suc stages) end from size fit pass =

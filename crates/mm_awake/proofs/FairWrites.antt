@@ -1,16 +1,19 @@
 -- The plain writes that hosts show ask at the arbiter in their cycle.
-use Rattle.std.proofs.Common.{ℕ, zero, suc, ◌<◌, ◌≤◌, ◌≡◌, ◌+◌, Bool, true, false, not, ◌||◌, ◌&&◌, arith, refl, sym, ap, subst, ◌∙◌, IsTrue}
+use Rattle.std.proofs.Common.{ℕ, zero, suc, ◌<◌, ◌≤◌, ◌≡◌, ◌+◌, Bool, true, false, not, ◌||◌, ◌&&◌, List, [], ◌∷◌, length, flat_map, nat_lt, arith, refl, sym, ap, subst, ◌∙◌, tests, IsTrue}
 use Rattle.histories.specs.History.{is_raised}
-use Rattle.mm_runs.specs.Views.{System, Run}
+use Rattle.mm_runs.specs.Views.{System, Run, Shape}
+use Rattle.mm_runs.specs.Operations.{Beat}
 use Rattle.mm_runs.specs.Commands.{Transfer, shows, transfer_at}
 use Rattle.mm_runs.specs.Legal.{host_accepts}
-use Rattle.mm_runs.specs.Order.{place_of, is_agent, is_joined}
+use Rattle.mm_runs.specs.Order.{place_of, is_agent, is_joined, transfer_operations}
 use Rattle.mm_runs.specs.Awake.{shows_plain_write, Throughout}
 use Rattle.std.specs.List.{list_all}
-use Rattle.mm_machines.specs.Link.{Port, marked_at, closes}
+use Rattle.mm_machines.specs.Link.{Port, Target, marked_at, closes, is_nonempty, operations_in, beat_operations}
+use Rattle.mm_machines.specs.Lines.{target_of}
 use Rattle.mm_parts.specs.Steps.{IsHostPart, IsRoutePart, may_read, place_shown}
 use Rattle.mm_awake.specs.Fair.{IsPlainAt, HandsWritesOn, AllAskPlainly}
 use Rattle.mm_awake.proofs.Ahead.{each_of}
+use Rattle.mm_awake.proofs.Beats.{same_count}
 
 abbrev shown_by : System → Run → ℕ → ℕ → Transfer
 shown_by system run host c = transfer_at (system.host host).shape (run.at_host host).signals (host_accepts (run.at_host host)) c
@@ -20,9 +23,10 @@ record IsPlainWrite (system : System) (run : Run) (agent host c : ℕ) : Type 0 
   write : IsTrue (is_raised ((run.at_host host).write c))
   ends : IsTrue (shown_by system run host c).ends
   place : IsTrue (is_agent agent (place_of system host (shown_by system run host c)))
+  acts : IsTrue (nat_lt 0 (length (transfer_operations system host agent (shown_by system run host c))))
 
-plain_parts : (w b e n p o : Bool) → IsTrue (w && b && e && n && p && o) → IsTrue w × IsTrue e × IsTrue p
-plain_parts true true true true true true h = (refl, refl, refl)
+plain_parts : (w b e n p o : Bool) → IsTrue (w && b && e && n && p && o) → IsTrue w × IsTrue e × IsTrue p × IsTrue o
+plain_parts true true true true true true h = (refl, refl, refl, refl)
 plain_parts true true true true true false h = absurd cc
 plain_parts true true true true false o h = absurd cc
 plain_parts true true true false p o h = absurd cc
@@ -31,7 +35,7 @@ plain_parts true false e n p o h = absurd cc
 plain_parts false b e n p o h = absurd cc
 
 plain_of : (system : System) (run : Run) (agent host c : ℕ) → IsTrue (shows_plain_write system run agent c host) → IsPlainWrite system run agent host c
-plain_of system run agent host c h = let parts = plain_parts _ _ _ _ _ _ h in record { write = parts.0; ends = parts.1; place = parts.2 }
+plain_of system run agent host c h = let parts = plain_parts _ _ _ _ _ _ h in record { write = parts.0; ends = parts.1; place = parts.2; acts = parts.3 }
 
 shows_write : (r w : Bool) → IsTrue w → IsTrue (r || w)
 shows_write true true h = refl
@@ -51,6 +55,10 @@ ends_alone : (e m : Bool) → IsTrue e → m ≡ not e → IsTrue (e && not m)
 ends_alone true true a b = absurd cc
 ends_alone true false a b = refl
 ends_alone false m a b = absurd cc
+
+some_there : {A : Type 0} (xs : List A) → 0 < length xs → IsTrue (is_nonempty xs)
+some_there {A} [] some = absurd (omega (arith, some))
+some_there {A} (x ∷ xs) some = refl
 
 module _ (system : System) (run : Run) (host agent : ℕ) (middle : Port) (down : ℕ → Port) (end : ℕ) (there : agent < system.agents)
     (part : IsHostPart system run host middle end) (route : IsRoutePart system host middle down end) (c : ℕ) (fit : c < end) where
@@ -87,28 +95,47 @@ module _ (system : System) (run : Run) (host agent : ℕ) (middle : Port) (down 
         all_three true false w o a b c = absurd cc
         all_three false p w o a b c = absurd cc
 
-    plain_behind : IsPlainAt (down agent) c
+    acts_behind : IsTrue (is_nonempty (operations_in (target_of system agent) (down agent).shape (marked_at (down agent) c)))
+    acts_behind = some_there (operations_in (target_of system agent) (down agent).shape (marked_at (down agent) c)) long
+      where
+        beats_of : Transfer → List Beat
+        beats_of t = t.beats
+
+        long : 0 < length (operations_in (target_of system agent) (down agent).shape (marked_at (down agent) c))
+        long =
+            let bytes : (system.host host).word_bytes ≡ (down agent).shape.word_bytes = sym part.bytes ∙ sym (ap (λ (s : Shape). s.word_bytes) (route.shape agent there)) in
+            let count = same_count system host agent (down agent).shape (beats_of (shown_by system run host c)) bytes in
+            let moved : length (operations_in (target_of system agent) (down agent).shape (marked_at (down agent) c)) ≡ length (flat_map (beat_operations (target_of system agent) (down agent).shape) (beats_of (shown_by system run host c))) =
+            ap (λ (t : Transfer). length (flat_map (beat_operations (target_of system agent) (down agent).shape) t.beats)) (route.same agent c there fit behind ∙ same) in
+            let some : 0 < length (transfer_operations system host agent (shown_by system run host c)) = grind (arith, tests, plain.acts) in
+            omega (arith, count, moved, some)
+
+    plain_behind : IsPlainAt (target_of system agent) (down agent) c
     plain_behind = record {
       shown = behind;
       write = route.level agent c there fit behind ∙ write_at;
       ends = subst IsTrue (sym (ap (λ (t : Transfer). t.ends && not (marked_at (down agent) c).more) (route.same agent c there fit behind)
           ∙ ap (λ m. (marked_at middle c).transfer.ends && not m) (route.more agent c there fit behind))) ends_at;
+      acts = acts_behind;
     }
 
-  pub goes_on : IsTrue (shows_plain_write system run agent c host) → IsPlainAt (down agent) c
+  pub goes_on : IsTrue (shows_plain_write system run agent c host) → IsPlainAt (target_of system agent) (down agent) c
   goes_on h = plain_behind (plain_of system run agent host c h)
 
-pub handed_down : (port : ℕ → Port) (n end c : ℕ) → c < end → ((i : ℕ) → i < n → HandsWritesOn (port (suc i)) (port i) end) → IsPlainAt (port n) c → IsPlainAt (port 0) c
-handed_down port zero end c fit hands at = at
-handed_down port (suc n) end c fit hands at = handed_down port n end c fit (λ i low. hands i (omega (arith, low))) (hands n (omega arith) c fit at)
+handed_down : (target : Target) (port : ℕ → Port) (n end c : ℕ) → c < end → ((i : ℕ) → i < n → HandsWritesOn target (port (suc i)) (port i) end) → IsPlainAt target (port n) c → IsPlainAt target (port 0) c
+handed_down target port zero end c fit hands at = at
+handed_down target port (suc n) end c fit hands at = handed_down target port n end c fit (λ i low. hands i (omega (arith, low))) (hands n (omega arith) c fit at)
 
--- plain writers ask at the arbiter throughout
-pub all_ask : (system : System) (run : Run) (agent : ℕ) (links : ℕ → ℕ) (upper : ℕ → ℕ → Port) (from size end : ℕ) → from + size ≤ end →
-    ((h i : ℕ) → IsTrue (is_joined system agent h) → i < links h → HandsWritesOn (upper h (suc i)) (upper h i) end) →
-    ((h c : ℕ) → IsTrue (is_joined system agent h) → c < end → IsTrue (shows_plain_write system run agent c h) → IsPlainAt (upper h (links h)) c) →
-    Throughout from size (λ c. IsTrue (list_all (shows_plain_write system run agent c) (system.joined agent))) → AllAskPlainly system agent (λ h. upper h 0) from size
-all_ask system run agent links upper from size end fit hands goes writes h c joined low high =
-    let inside : c < end = omega (arith, fit, high) in
-    let shown = each_of (shows_plain_write system run agent c) (system.joined agent) h (writes c low high) joined in
-    let at = handed_down (upper h) (links h) end c inside (λ i less. hands h i joined less) (goes h c joined inside shown) in
-    (at.shown, at.ends)
+-- plain writers show plain writes at the arbiter throughout
+module _ (system : System) (run : Run) (agent : ℕ) (links : ℕ → ℕ) (upper : ℕ → ℕ → Port) (from size end : ℕ) (fit : from + size ≤ end)
+    (hands : (h i : ℕ) → IsTrue (is_joined system agent h) → i < links h → HandsWritesOn (target_of system agent) (upper h (suc i)) (upper h i) end)
+    (goes : (h c : ℕ) → IsTrue (is_joined system agent h) → c < end → IsTrue (shows_plain_write system run agent c h) → IsPlainAt (target_of system agent) (upper h (links h)) c)
+    (writes : Throughout from size (λ c. IsTrue (list_all (shows_plain_write system run agent c) (system.joined agent)))) where
+  pub all_plain : (h c : ℕ) → IsTrue (is_joined system agent h) → from ≤ c → c < from + size → IsPlainAt (target_of system agent) (upper h 0) c
+  all_plain h c joined low high =
+      let inside : c < end = omega (arith, fit, high) in
+      let shown = each_of (shows_plain_write system run agent c) (system.joined agent) h (writes c low high) joined in
+      handed_down (target_of system agent) (upper h) (links h) end c inside (λ i less. hands h i joined less) (goes h c joined inside shown)
+
+  pub all_ask : AllAskPlainly system agent (λ h. upper h 0) from size
+  all_ask h c joined low high = let at = all_plain h c joined low high in (at.shown, at.ends)

@@ -36,3 +36,5 @@ pub mod BuiltRuns
 pub mod FairOwners
 pub mod FairNumbers
 pub mod FairAgent
+pub mod FairSkips
+pub mod FairWindow

@@ -166,7 +166,7 @@ tagged_length target shape (m ∷ ms) =
     omega (arith, more, one, two, size)
 
 -- operations are told by the bytes of a word alone
-same_operations : (target : Target) (one other : Shape) (m : Marked) → one.word_bytes ≡ other.word_bytes → operations_in target one m ≡ operations_in target other m
+pub same_operations : (target : Target) (one other : Shape) (m : Marked) → one.word_bytes ≡ other.word_bytes → operations_in target one m ≡ operations_in target other m
 same_operations target one other m e = ap (λ w. operations_in target (record one { word_bytes = w }) m) e
 
 -- what an arbiter takes of an asker is what it takes below with that tag

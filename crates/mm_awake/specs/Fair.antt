@@ -6,7 +6,7 @@ use Rattle.mm_runs.specs.Views.{System, Run}
 use Rattle.mm_runs.specs.Commands.{shows, agent_accepts}
 use Rattle.mm_runs.specs.Order.{Owner, is_joined, issued}
 use Rattle.mm_runs.specs.Awake.{begun, first_owners, commands_begun, is_for, are_finished_before, has_no_operation}
-use Rattle.mm_machines.specs.Link.{Port, takes, taken_at, marked_at, closes, operations_among}
+use Rattle.mm_machines.specs.Link.{Port, Target, takes, taken_at, marked_at, closes, is_nonempty, operations_in, operations_among}
 use Rattle.mm_machines.specs.Begun.{owners_of_groups, groups_whole}
 use Rattle.mm_machines.specs.Lines.{TaggedPort, groups_of, target_of}
 use Rattle.mm_machines.specs.Turns.{begins_at, seats_of}
@@ -36,20 +36,21 @@ pub record AreAmong (owners : List Owner) (down : Port) (from size : ℕ) : Type
   pub few : ℕ
   pub same : map (λ o. o.tag) owners ≡ take few (drop first (hosts_taken down from size))
 
--- a write beat that ends its command stands at a port
-pub record IsPlainAt (port : Port) (c : ℕ) : Type 0 where
+-- a write beat with an operation that ends its command stands at a port
+pub record IsPlainAt (target : Target) (port : Port) (c : ℕ) : Type 0 where
   pub shown : IsTrue (shows port.commands.signals c)
   pub write : IsTrue (is_raised (port.commands.write c))
   pub ends : IsTrue (closes (marked_at port c))
+  pub acts : IsTrue (is_nonempty (operations_in target port.shape (marked_at port c)))
 
 -- a link shows such a beat in the cycle in which it comes, as a wire does
-abbrev pub HandsWritesOn : Port → Port → ℕ → Type 0
-HandsWritesOn up down end = (c : ℕ) → c < end → IsPlainAt up c → IsPlainAt down c
+abbrev pub HandsWritesOn : Target → Port → Port → ℕ → Type 0
+HandsWritesOn target up down end = (c : ℕ) → c < end → IsPlainAt target up c → IsPlainAt target down c
 
 -- what turns ask beside `IsBuilt`: no host is joined to an agent twice, and the links hand plain writes on
 pub record HandsPlainWrites (system : System) (inside : Boundaries) (agent end : ℕ) : Type 0 where
   pub apart : IsTrue (are_apart (system.joined agent))
-  pub links : (h i : ℕ) → IsTrue (is_joined system agent h) → i < inside.links h agent → HandsWritesOn (inside.upper h agent (suc i)) (inside.upper h agent i) end
+  pub links : (h i : ℕ) → IsTrue (is_joined system agent h) → i < inside.links h agent → HandsWritesOn (target_of system agent) (inside.upper h agent (suc i)) (inside.upper h agent i) end
 
 -- next to the hosts, at the routes and at the arbiters each part keeps its record, each stage holds back two beats at most, and the part next to an agent none
 pub record AreParts (system : System) (run : Run) (inside : Boundaries) (end : ℕ) : Type 0 where
@@ -76,3 +77,4 @@ pub record BeginsByTurns (system : System) (run : Run) (agent : ℕ) (near far :
   pub begun : (c : ℕ) → c ≤ end → map (λ o. o.tag) (begun system run agent c) ≡ map (λ o. o.tag) (first_owners [] (owners_of_groups (λ _. 0) (λ _. false) (groups_of (target_of system agent) far.shape (taken_at near.port c))))
   pub pipe : (c : ℕ) → c ≤ end → IsPrefix (taken_at near.port c) (taken_at far.port c)
   pub whole : (c : ℕ) → c ≤ end → IsTrue (groups_whole (groups_of (target_of system agent) far.shape (taken_at far.port c)))
+  pub tags : (c : ℕ) → c < end → IsTrue (takes far.port c) → IsTrue (is_joined system agent (far.port.commands.tag c))

@@ -9,8 +9,8 @@ ghost use Rattle.mm_runs.specs.Whole.{IsLegalRun};
 ghost use Rattle.mm_runs.specs.Commands.{agent_accepts, shows};
 ghost use Rattle.mm_runs.specs.Legal.{IsLegalHost};
 ghost use Rattle.mm_runs.specs.Order.{Owner, ServesInGrantedOrder, is_joined, issued};
-ghost use Rattle.mm_runs.specs.Awake.{are_finished_before, asks_only, begun, commands_begun, HasFullTurns, turns_of, shows_plain_write, shares_of_others, Throughout};
-ghost use Rattle.mm_machines.specs.Link.{Port, takes, taken_at, operations_among};
+ghost use Rattle.mm_runs.specs.Awake.{are_finished_before, asks_only, begun, commands_begun, HasFullTurns, TakesTurns, turns_of, shows_plain_write, shares_of_others, Throughout};
+ghost use Rattle.mm_machines.specs.Link.{Port, Target, takes, taken_at, operations_among};
 ghost use Rattle.mm_machines.specs.Lines.{TaggedPort, target_of};
 ghost use Rattle.mm_machines.specs.Turns.{seats_of, others_begun, IsKeptAsking};
 ghost use Rattle.mm_parts.specs.Steps.{IsArbiterPart, IsHostPart, IsRoutePart, has_room};
@@ -27,6 +27,18 @@ pub fn plain_writers_take_full_turns()
         → HasFullTurns system agent (turns_of owners) }
 {
     asking_hosts_take_full_turns();
+    plain_writes_go_on();
+    machines_are_parts()
+}
+
+/// In a system of machines whose links hand plain writes on, hosts that write without gaps take turns at their agent by their shares: a turn between others is of exactly its host's shares, and the next host in the order follows.
+pub fn commands_take_turns()
+    ensures { (responses : Responses) (system : System) (run : Run) (inside : Boundaries) (states : States) (ranks : LinkRanks) (end agent : ℕ)
+        → IsBuilt responses system run inside states ranks end → IsLegalRun system run end → agent < system.agents → HandsPlainWrites system inside agent end
+        → TakesTurns system run agent end }
+{
+    plain_writers_take_full_turns();
+    commands_begin_by_turns();
     plain_writes_go_on();
     machines_are_parts()
 }
@@ -102,12 +114,12 @@ pub fn machines_are_parts()
     crate::host_and_route_serve_default()
 }
 
-/// A plain write that a host shows for an agent stands behind its route in the same cycle, and ends its command there. A wire hands it on.
+/// A plain write that a host shows for an agent stands behind its route in the same cycle, with an operation, and ends its command there. A wire hands it on.
 pub fn plain_writes_go_on()
     ensures route { (system : System) (run : Run) (host agent : ℕ) (middle : Port) (down : ℕ → Port) (end : ℕ) → agent < system.agents
         → IsHostPart system run host middle end → IsRoutePart system host middle down end
-        → (c : ℕ) → c < end → IsTrue (shows_plain_write system run agent c host) → IsPlainAt (down agent) c }
-    ensures wire { (port : Port) (end : ℕ) → HandsWritesOn port port end }
+        → (c : ℕ) → c < end → IsTrue (shows_plain_write system run agent c host) → IsPlainAt (target_of system agent) (down agent) c }
+    ensures wire { (target : Target) (port : Port) (end : ℕ) → HandsWritesOn target port port end }
 {}
 
 /// Where each host that is joined to an agent asks at its arbiter in every cycle of a window, with beats that end their commands, the commands that are taken there stand in full turns, wherever a row of them begins and ends: a turn between others is of exactly its host's shares, and the next host in the order follows.

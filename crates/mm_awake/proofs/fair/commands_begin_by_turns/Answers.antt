@@ -11,7 +11,7 @@ returns c = λ responses system run inside states ranks end agent built legal th
     let settled = c.lines_settle.ensures responses system run parts held end wired legal in
     begins system run parts agent end (c.agents_take_by_turns.ensures responses system run parts held end agent wired legal there) (built.rows.pipe agent there).same
     (λ k low. c.agent_machine_is_a_part.ensures.operations responses system run agent (inside.lower agent 0) (states.agent agent) end (built.plan.agents agent there) (settled.before_agent agent there) (legal.agents agent there) (built.machines.agent agent there) k low)
-    (settled.after_arbiter agent there).legal legal.hosts ((c.machines_are_awake.ensures.safe responses system run inside states ranks end built legal).ordered agent there) (built.plan.joined agent)
+    (settled.after_arbiter agent there).legal legal.hosts ((c.machines_are_awake.ensures.safe responses system run inside states ranks end built legal).ordered agent there) (built.plan.joined agent) (settled.after_arbiter agent there).tags
   where
     laws : LineLaws
     laws = record {

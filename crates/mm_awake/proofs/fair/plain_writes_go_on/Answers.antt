@@ -5,4 +5,4 @@ pub returns-clause-route : goal.returns-clause-route
 returns-clause-route c = λ system run host agent middle down end there part route c fit shown. goes_on system run host agent middle down end there part route c fit shown
 
 pub returns-clause-wire : goal.returns-clause-wire
-returns-clause-wire c = λ port end c fit at. at
+returns-clause-wire c = λ target port end c fit at. at
