@@ -84,16 +84,16 @@ owners_append turn acted (g ∷ xs) ys =
     owner : ℕ → ℕ → Owner
     owner tag command = record { tag = tag; command = command }
 
-self_same : (o : Owner) → is_same_owner o o ≡ true
+pub self_same : (o : Owner) → is_same_owner o o ≡ true
 self_same o = grind (arith, tests)
 
 -- one command's operations, whose owner was seen before, or wasn't
-seen_copies : (seen : List Owner) (n : ℕ) (o : Owner) (rest : List Owner) → list_any (is_same_owner o) seen ≡ true →
+pub seen_copies : (seen : List Owner) (n : ℕ) (o : Owner) (rest : List Owner) → list_any (is_same_owner o) seen ≡ true →
     (first_owners seen (replicate n o ++ rest) ≡ first_owners seen rest) × (seen_after seen (replicate n o) ≡ seen)
 seen_copies seen zero o rest e = (refl, refl)
 seen_copies seen (suc n) o rest e = let more = seen_copies seen n o rest e in (rw e more.0, rw e more.1)
 
-new_copies : (seen : List Owner) (n : ℕ) (o : Owner) (rest : List Owner) → list_any (is_same_owner o) seen ≡ false →
+pub new_copies : (seen : List Owner) (n : ℕ) (o : Owner) (rest : List Owner) → list_any (is_same_owner o) seen ≡ false →
     (first_owners seen (replicate (suc n) o ++ rest) ≡ o ∷ first_owners (o ∷ seen) rest) × (seen_after seen (replicate (suc n) o) ≡ o ∷ seen)
 new_copies seen n o rest e =
     let more = seen_copies (o ∷ seen) n o rest (let same = self_same o in rw same refl) in

@@ -38,3 +38,4 @@ pub mod FairNumbers
 pub mod FairAgent
 pub mod FairSkips
 pub mod FairWindow
+pub mod FairOthers
