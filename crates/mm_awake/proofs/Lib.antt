@@ -39,3 +39,4 @@ pub mod FairAgent
 pub mod FairSkips
 pub mod FairWindow
 pub mod FairOthers
+pub mod FairPassed
