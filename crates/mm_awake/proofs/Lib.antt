@@ -40,3 +40,4 @@ pub mod FairSkips
 pub mod FairWindow
 pub mod FairOthers
 pub mod FairPassed
+pub mod FairCounts

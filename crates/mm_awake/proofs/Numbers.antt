@@ -27,7 +27,7 @@ unfoldable pub chosen : (ℕ → Bool) → ℕ → List Transfer → List Transf
 chosen test n [] = []
 chosen test n (t ∷ later) = (if test n then t ∷ [] else []) ++ chosen test (if t.ends then n + 1 else n) later
 
-pub ends_in : List Transfer → ℕ
+unfoldable pub ends_in : List Transfer → ℕ
 ends_in [] = 0
 ends_in (t ∷ later) = (if t.ends then 1 else 0) + ends_in later
 
@@ -55,7 +55,7 @@ module _ (system : System) (host : ℕ) where
   Steady None (t ∷ later) = IsTrue t.begins × (IsTrue (is_of_reads t.kind) → IsTrue t.ends) × Steady (after_one None t) later
   Steady (Some p) (t ∷ later) = IsFalse t.begins × IsFalse (is_of_reads t.kind) × (goes_to t ≡ p) × Steady (after_one (Some p) t) later
 
-  pub after : Option (Option ℕ) → List Transfer → Option (Option ℕ)
+  unfoldable pub after : Option (Option ℕ) → List Transfer → Option (Option ℕ)
   after opened [] = opened
   after opened (t ∷ later) = after (after_one opened t) later
 
@@ -65,7 +65,7 @@ module _ (system : System) (host : ℕ) where
   steady_end None (x ∷ ts) t s last = (s.0, s.1, steady_end (after_one None x) ts t s.2 last)
   steady_end (Some p) (x ∷ ts) t s last = (s.0, s.1, s.2, steady_end (after_one (Some p) x) ts t s.3 last)
 
-  after_end : (opened : Option (Option ℕ)) (ts : List Transfer) (t : Transfer) → after opened (ts ++ t ∷ []) ≡ after_one (after opened ts) t
+  pub after_end : (opened : Option (Option ℕ)) (ts : List Transfer) (t : Transfer) → after opened (ts ++ t ∷ []) ≡ after_one (after opened ts) t
   unfolding after
   after_end opened [] t = refl
   after_end opened (x ∷ ts) t = after_end (after_one opened x) ts t
@@ -82,7 +82,7 @@ module _ (system : System) (host : ℕ) where
       by_end true = refl
       by_end false = refl
 
-  begins_and_ends : (opened : Option (Option ℕ)) (ts : List Transfer) → Steady opened ts → begins_in ts + is_some opened ≡ ends_in ts + is_some (after opened ts)
+  pub begins_and_ends : (opened : Option (Option ℕ)) (ts : List Transfer) → Steady opened ts → begins_in ts + is_some opened ≡ ends_in ts + is_some (after opened ts)
   unfolding Steady after is_some begins_in ends_in
   begins_and_ends opened [] s = refl
   begins_and_ends None (t ∷ ts) s =
@@ -224,11 +224,11 @@ module _ (system : System) (host : ℕ) where
 
   -- ---- operations
 
-  ops_for : ℕ → List Transfer → ℕ
+  unfoldable pub ops_for : ℕ → List Transfer → ℕ
   ops_for a [] = 0
   ops_for a (t ∷ later) = (if is_agent a (goes_to t) then length (transfer_operations system host a t) else 0) + ops_for a later
 
-  ops_count : (a : ℕ) (ts : List Transfer) → count_for system host a ts ≡ ops_for a ts
+  pub ops_count : (a : ℕ) (ts : List Transfer) → count_for system host a ts ≡ ops_for a ts
   unfolding ops_for
   ops_count a [] = refl
   ops_count a (t ∷ ts) = by_place (is_agent a (goes_to t)) (ops_count a ts)
@@ -237,7 +237,7 @@ module _ (system : System) (host : ℕ) where
       by_place true more = let l = length-append (transfer_operations system host a t) (flat_map (transfer_operations system host a) (for_agent system host a ts)) in omega (arith, l, more)
       by_place false more = omega (arith, more)
 
-  ops_append : (a : ℕ) (xs ys : List Transfer) → ops_for a (xs ++ ys) ≡ ops_for a xs + ops_for a ys
+  pub ops_append : (a : ℕ) (xs ys : List Transfer) → ops_for a (xs ++ ys) ≡ ops_for a xs + ops_for a ys
   unfolding ops_for
   ops_append a [] ys = omega arith
   ops_append a (x ∷ xs) ys = let more = ops_append a xs ys in omega (arith, more)
@@ -476,7 +476,7 @@ module _ (system : System) (host : ℕ) where
       by_agent true e = the_agent p e
       by_agent false e = let none = none_elsewhere b p ts all e in absurd (omega (arith, none, some))
 
-ends_length : (ts : List Transfer) → length (filter (λ (t : Transfer). t.ends) ts) ≡ ends_in ts
+pub ends_length : (ts : List Transfer) → length (filter (λ (t : Transfer). t.ends) ts) ≡ ends_in ts
 unfolding ends_in
 ends_length [] = refl
 ends_length (t ∷ ts) = by_end t.ends (ends_length ts)
@@ -657,7 +657,7 @@ module _ (system : System) (run : Run) (host end : ℕ) (legal : IsLegalHost (sy
       by_shown false e = subst (Steady system host None) (sym (append-nil (all_accepted_by c))) (stands c (omega (arith, h))).steady
 
   -- of the commands up to a number that have ended, nothing lies in the beat that is shown
-  within : (c k : ℕ) → k < 1 + ends_in (all_accepted_by c) → (test : ℕ → Bool) → ((i : ℕ) → IsTrue (test i) → i ≤ k) → chosen test 1 (whole c) ≡ chosen test 1 (all_accepted_by c)
+  pub within : (c k : ℕ) → k < 1 + ends_in (all_accepted_by c) → (test : ℕ → Bool) → ((i : ℕ) → IsTrue (test i) → i ≤ k) → chosen test 1 (whole c) ≡ chosen test 1 (all_accepted_by c)
   within c k h test low =
       chosen_append system host test 1 (all_accepted_by c) (only_if (shows signals c) (now c))
       ∙ ap (λ l. chosen test 1 (all_accepted_by c) ++ l) (none_above system host test (1 + ends_in (all_accepted_by c)) (only_if (shows signals c) (now c)) (λ i above. by_test (test i) i refl above))
@@ -671,7 +671,7 @@ module _ (system : System) (run : Run) (host end : ℕ) (legal : IsLegalHost (sy
   unfolding is_some
   of_is c j h = ap (of_command j) (presented_is c h) ∙ numbered system host (λ i. nat_eq i j) None 0 1 (whole c) (whole_steady c h) (omega arith)
 
-  up_is : (c j : ℕ) → c < end → up_to j (host_transfers system run host (suc c)) ≡ chosen (λ i. nat_le i j) 1 (whole c)
+  pub up_is : (c j : ℕ) → c < end → up_to j (host_transfers system run host (suc c)) ≡ chosen (λ i. nat_le i j) 1 (whole c)
   unfolding is_some
   up_is c j h = ap (up_to j) (presented_is c h) ∙ numbered system host (λ i. nat_le i j) None 0 1 (whole c) (whole_steady c h) (omega arith)
 
