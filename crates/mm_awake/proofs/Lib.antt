@@ -41,3 +41,4 @@ pub mod FairWindow
 pub mod FairOthers
 pub mod FairPassed
 pub mod FairCounts
+pub mod FairWaiting
