@@ -185,6 +185,7 @@ module _ (system : System) (run : Run) (inside : Inside) (agent end : ℕ) (matc
   pub begins : BeginsByTurns system run agent (inside.before_agent agent) (inside.after_arbiter agent) end
   begins = record {
     begun = λ c low. begun_tags c low;
+    operations = λ c low. operations c low ∙ ap (λ (s : Shape). tagged_operations (groups_of (target_of system agent) s (taken_at near.port c))) (sym same);
     pipe = λ c low. prefix_trans (matched.taken c low) (before_prefix _ (c - system.stages) c (omega arith));
     whole = λ c low.
         let front = prefix_map (group_of (target_of system agent) far.shape) (taken_is_shown far.port end c legal low) in

@@ -97,7 +97,7 @@ module _ (system : System) (host agent : ℕ) where
 
 -- ---- what has begun
 
-first_found : (o : Owner) (seen xs : List Owner) → IsTrue (list_any (is_same_owner o) xs) → IsFalse (list_any (is_same_owner o) seen) → IsTrue (list_any (is_same_owner o) (first_owners seen xs))
+pub first_found : (o : Owner) (seen xs : List Owner) → IsTrue (list_any (is_same_owner o) xs) → IsFalse (list_any (is_same_owner o) seen) → IsTrue (list_any (is_same_owner o) (first_owners seen xs))
 first_found o seen [] found new = absurd (no_true found)
 first_found o seen (x ∷ xs) found new =
     by_seen (list_any (is_same_owner x) seen) refl (is_same_owner o x) refl found (λ f. first_found o seen xs f new) (λ f n. first_found o (x ∷ seen) xs f n)
@@ -129,7 +129,7 @@ one_host host earlier t = let split = of_host_append host earlier (t ∷ []) in 
     by_tag true = refl
     by_tag false = refl
 
-owner_found : (issuers : ℕ → List ℕ) (host number k : ℕ) (earlier xs : List Tagged) → slice_index (issuers host) k ≡ number → length (of_host host earlier) ≤ k → k < length (of_host host (earlier ++ xs)) →
+pub owner_found : (issuers : ℕ → List ℕ) (host number k : ℕ) (earlier xs : List Tagged) → slice_index (issuers host) k ≡ number → length (of_host host earlier) ≤ k → k < length (of_host host (earlier ++ xs)) →
     IsTrue (list_any (is_same_owner (record { tag = host; command = number })) (owners_from issuers earlier xs))
 owner_found issuers host number k earlier [] is low high = let same = ap (λ l. length (of_host host l)) (append-nil earlier) in absurd (omega (arith, low, high, same))
 owner_found issuers host number k earlier (t ∷ xs) is low high =
@@ -202,11 +202,11 @@ module _ (system : System) (run : Run) (host end : ℕ) (legal : IsLegalHost (sy
       more_ended : IsPrefix (accepted_by from) (accepted_by c) → k < 1 + ends_in (accepted_by c)
       more_ended grown = let more = subst (λ l. ends_in (accepted_by from) ≤ ends_in l) grown.joins (more_ends (accepted_by from) grown.rest) in omega (arith, more, ended)
 
-  abbrev all_ended : ℕ → ℕ
+  abbrev pub all_ended : ℕ → ℕ
   all_ended c = length (filter (λ (t : Transfer). t.ends) (accepted_by c))
 
   module _ (from c : ℕ) (low : from ≤ c) (fit : c < end) where
-    same_up : (j : ℕ) → j ≤ all_ended from → up_to j (host_transfers system run host (suc c)) ≡ up_to j (host_transfers system run host (suc from))
+    pub same_up : (j : ℕ) → j ≤ all_ended from → up_to j (host_transfers system run host (suc c)) ≡ up_to j (host_transfers system run host (suc from))
     same_up j ended =
         let count = ends_length (accepted_by from) in
         let less : j < 1 + ends_in (accepted_by from) = omega (arith, ended, count) in

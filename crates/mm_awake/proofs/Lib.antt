@@ -42,3 +42,4 @@ pub mod FairOthers
 pub mod FairPassed
 pub mod FairCounts
 pub mod FairWaiting
+pub mod FairQuiet

@@ -1,14 +1,14 @@
 -- Full turns: what is asked of the hosts at an arbiter, and whose beats are taken behind it.
-use Rattle.std.specs.Prelude.{◌≡◌, ℕ, zero, suc, ◌+◌, ◌<◌, ◌≤◌, Bool, true, false, not, ◌&&◌, List, [], ◌∷◌, ◌++◌, map, take, drop, nat_eq, IsTrue, IsFalse, Some, length}
+use Rattle.std.specs.Prelude.{◌≡◌, ℕ, zero, suc, ◌+◌, ◌-◌, ◌<◌, ◌≤◌, Bool, true, false, not, ◌&&◌, List, [], ◌∷◌, ◌++◌, map, take, drop, nat_eq, IsTrue, IsFalse, Some, length}
 use Rattle.std.specs.List.{list_any}
 use Rattle.histories.specs.History.{IsPrefix, only_if, is_raised}
 use Rattle.mm_runs.specs.Views.{System, Run}
 use Rattle.mm_runs.specs.Commands.{shows, agent_accepts}
-use Rattle.mm_runs.specs.Order.{Owner, is_joined, issued}
-use Rattle.mm_runs.specs.Awake.{begun, first_owners, commands_begun, is_for, are_finished_before, has_no_operation}
+use Rattle.mm_runs.specs.Order.{Owner, taken, host_transfers, is_joined, issued}
+use Rattle.mm_runs.specs.Awake.{begun, first_owners, may_be_counted, of_command, up_to, count_for, commands_begun, is_for, are_finished_before, has_no_operation}
 use Rattle.mm_machines.specs.Link.{Port, Target, takes, taken_at, marked_at, closes, is_nonempty, operations_in, operations_among}
 use Rattle.mm_machines.specs.Begun.{owners_of_groups, groups_whole}
-use Rattle.mm_machines.specs.Lines.{TaggedPort, groups_of, target_of}
+use Rattle.mm_machines.specs.Lines.{TaggedPort, groups_of, tagged_operations, target_of}
 use Rattle.mm_machines.specs.Turns.{begins_at, seats_of}
 use Rattle.mm_parts.specs.Steps.{IsHostPart, IsRoutePart, IsArbiterPart}
 use Rattle.mm_awake.specs.Slack.{PassesOn}
@@ -75,6 +75,23 @@ pub record WaitsBefore (system : System) (run : Run) (inside : Boundaries) (agen
 -- the hosts of the commands begun at an agent are, in order, those of the first owners of what is taken before it, by the ends of their commands; and that is the front of what is taken behind the arbiter, where commands stand whole
 pub record BeginsByTurns (system : System) (run : Run) (agent : ℕ) (near far : TaggedPort) (end : ℕ) : Type 0 where
   pub begun : (c : ℕ) → c ≤ end → map (λ o. o.tag) (begun system run agent c) ≡ map (λ o. o.tag) (first_owners [] (owners_of_groups (λ _. 0) (λ _. false) (groups_of (target_of system agent) far.shape (taken_at near.port c))))
+  pub operations : (c : ℕ) → c ≤ end → taken system run agent c ≡ tagged_operations (groups_of (target_of system agent) far.shape (taken_at near.port c))
   pub pipe : (c : ℕ) → c ≤ end → IsPrefix (taken_at near.port c) (taken_at far.port c)
   pub whole : (c : ℕ) → c ≤ end → IsTrue (groups_whole (groups_of (target_of system agent) far.shape (taken_at far.port c)))
   pub tags : (c : ℕ) → c < end → IsTrue (takes far.port c) → IsTrue (is_joined system agent (far.port.commands.tag c))
+
+-- an operation stands at a port
+abbrev pub ShowsOperation : Target → Port → ℕ → Type 0
+ShowsOperation target port c = IsTrue (shows port.commands.signals c) × IsTrue (is_nonempty (operations_in target port.shape (marked_at port c)))
+
+-- a host waits before an agent's arbiter for a command that may be counted: all earlier ones are finished, and nothing of this one was taken there
+pub record WaitsThere (system : System) (run : Run) (agent : ℕ) (port : Port) (host number c : ℕ) : Type 0 where
+  pub presented : IsTrue (is_for system run host (Some agent) number (suc c))
+  pub counted : IsTrue (list_any (may_be_counted system host agent) (of_command number (host_transfers system run host (suc c))))
+  pub earlier : IsTrue (are_finished_before system run host number c)
+  pub untaken : length (operations_among (target_of system agent) port.shape (taken_at port c)) ≤ count_for system host agent (up_to (number - 1) (host_transfers system run host (suc c)))
+
+-- what `few` asks beside `IsBuilt`: while a host waits so, an operation stands before the arbiter
+abbrev pub AsksWhileWaiting : System → Run → (ℕ → Port) → ℕ → ℕ → Type 0
+AsksWhileWaiting system run up agent end =
+    (host number c : ℕ) → host < system.hosts → c < end → WaitsThere system run agent (up host) host number c → ShowsOperation (target_of system agent) (up host) c
