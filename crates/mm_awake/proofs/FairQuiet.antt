@@ -29,7 +29,7 @@ module _ (system : System) (run : Run) (host end : ℕ) (legal : IsLegalHost (sy
   shown_to c = whole system run host end legal c
 
   -- what is presented stays so
-  still_any : (test : Transfer → Bool) (j from c : ℕ) → from ≤ c → c < end → IsTrue (list_any test (of_command j (host_transfers system run host (suc from)))) → IsTrue (list_any test (of_command j (host_transfers system run host (suc c))))
+  pub still_any : (test : Transfer → Bool) (j from c : ℕ) → from ≤ c → c < end → IsTrue (list_any test (of_command j (host_transfers system run host (suc from)))) → IsTrue (list_any test (of_command j (host_transfers system run host (suc c))))
   still_any test j from c low fit any =
       let grown : IsPrefix (host_transfers system run host (suc from)) (host_transfers system run host (suc c)) = before_prefix _ (suc from) (suc c) (omega (arith, low)) in
       let split = chosen_append system host (λ i. nat_eq i j) 1 (shown_to from) grown.rest in
@@ -38,10 +38,10 @@ module _ (system : System) (run : Run) (host end : ℕ) (legal : IsLegalHost (sy
       (any_front test (chosen (λ i. nat_eq i j) 1 (shown_to from)) _ (subst (λ l. IsTrue (list_any test l)) (of_is system run host end legal from j (omega (arith, low, fit))) any))
 
   module _ (agent : ℕ) (there : agent < system.agents) where
-    abbrev before_it : ℕ → ℕ → ℕ
+    abbrev pub before_it : ℕ → ℕ → ℕ
     before_it k c = ops_for system host agent (chosen (λ i. nat_le i k) 1 (shown_to c))
 
-    abbrev own : ℕ → ℕ → ℕ
+    abbrev pub own : ℕ → ℕ → ℕ
     own k c = ops_for system host agent (chosen (λ i. nat_eq i (suc k)) 1 (shown_to c))
 
     count_up : (k c : ℕ) → c < end → count_for system host agent (up_to k (host_transfers system run host (suc c))) ≡ before_it k c

@@ -43,3 +43,4 @@ pub mod FairPassed
 pub mod FairCounts
 pub mod FairWaiting
 pub mod FairQuiet
+pub mod FairPassing

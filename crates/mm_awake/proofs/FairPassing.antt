@@ -1,0 +1,261 @@
+-- A waiting command is passed by few others: those that stand in the pipe, and those that begin at the arbiter before it.
+use Rattle.std.proofs.Common.{ℕ, zero, suc, ◌<◌, ◌≤◌, ◌≡◌, ◌+◌, ◌-◌, ◌*◌, Bool, true, false, not, ◌&&◌, ◌||◌, List, [], ◌∷◌, ◌++◌, length, map, nat_eq, nat_le, nat_lt, arith, refl, sym, ap, ap₂, subst, ◌∙◌, append_assoc, length-append, tests, IsTrue, IsFalse, Some}
+use Rattle.std.specs.List.{list_any}
+use Rattle.std.proofs.lemmas.List.{map-append, length-map}
+use Rattle.std.proofs.lemmas.Bool.{both_ways}
+use Rattle.histories.specs.History.{IsPrefix, only_if}
+use Rattle.histories.specs.Laws.{prefix_map, prefix_filter, prefix_flat_map, prefix_length, before_prefix}
+use Rattle.mm_runs.specs.Views.{System, Run}
+use Rattle.mm_runs.specs.Commands.{Transfer, shows}
+use Rattle.mm_runs.specs.Legal.{IsLegalHost}
+use Rattle.mm_runs.specs.Laws.{taken_prefix}
+use Rattle.mm_runs.specs.Order.{Owner, Tagged, has_tag, of_host, taken, place_of}
+use Rattle.mm_runs.specs.Awake.{IsWaiting, has_begun, begun, begun_by_others, is_place, may_be_counted}
+use Rattle.mm_machines.specs.Link.{Port, Marked, takes, marked_at, taken_at, operations_in, operations_among, is_nonempty}
+use Rattle.mm_machines.specs.Lines.{Group, TaggedPort, groups_of, group_of, target_of, with_tag, tagged_operations}
+use Rattle.mm_machines.specs.Begun.{groups_whole}
+use Rattle.mm_machines.specs.Turns.{seats_of, others_begun, IsKeptAsking, asks_at}
+use Rattle.mm_parts.specs.Steps.{IsArbiterPart}
+use Rattle.mm_awake.specs.Fair.{BeginsByTurns, AsksWhileWaiting, ShowsOperation, WaitsThere}
+use Rattle.mm_awake.specs.Ways.{count_in}
+use Rattle.mm_awake.proofs.Arbiter.{TurnLaws}
+use Rattle.mm_awake.proofs.Beats.{ops_append}
+use Rattle.mm_awake.proofs.Bits.{one_taken}
+use Rattle.mm_awake.proofs.Wanted.{own_taken, tagged_of_host}
+use Rattle.mm_awake.proofs.FairAgent.{front_whole}
+use Rattle.mm_awake.proofs.FairOthers.{others, others_among, others_by_tags, endings, endings_append, few_endings, few_more}
+use Rattle.mm_awake.proofs.FairPassed.{ended_few, passed_while_asking}
+use Rattle.mm_awake.proofs.FairQuiet.{before_it, own, still_any, some_own, quiet, same_before, same_before_it, enough_taken}
+use Rattle.mm_awake.proofs.FairSkips.{firsts}
+use Rattle.mm_awake.proofs.FairWaiting.{all_stay_finished}
+use Rattle.mm_awake.proofs.FairWindow.{taken_in, taken_split, taken_length}
+
+-- of two fronts of a list the shorter one is a front of the other
+shorter_front : {A : Type 0} (xs ys us vs : List A) → xs ++ us ≡ ys ++ vs → length xs ≤ length ys → IsPrefix xs ys
+shorter_front {A} [] ys us vs e less = record { rest = ys; joins = refl }
+shorter_front {A} (x ∷ xs) [] us vs e less = absurd (omega (arith, less))
+shorter_front {A} (x ∷ xs) (y ∷ ys) us vs e less =
+    let head : x ≡ y = cc in
+    let tail : xs ++ us ≡ ys ++ vs = cc in
+    let more = shorter_front xs ys us vs tail (omega (arith, less)) in
+    record { rest = more.rest; joins = ap₂ (λ a l. a ∷ l) head more.joins }
+
+same_rest : {A : Type 0} (front xs ys : List A) → front ++ xs ≡ front ++ ys → xs ≡ ys
+same_rest {A} [] xs ys e = e
+same_rest {A} (x ∷ front) xs ys e = let tail : front ++ xs ≡ front ++ ys = cc in same_rest front xs ys tail
+
+some_long : {A : Type 0} (xs : List A) → IsTrue (is_nonempty xs) → 0 < length xs
+some_long {A} [] none = absurd cc
+some_long {A} (x ∷ xs) some = omega arith
+
+module _ (laws : TurnLaws) (system : System) (run : Run) (agent : ℕ) (up : ℕ → Port) (near far : TaggedPort) (end : ℕ) (there : agent < system.agents) (begins : BeginsByTurns system run agent near far end)
+    (arbiter : IsArbiterPart system agent up far end) (words : (h : ℕ) → h < system.hosts → (up h).shape.word_bytes ≡ far.shape.word_bytes)
+    (pipe : (c : ℕ) → c ≤ end → count_in (takes far.port) 0 c ≤ count_in (takes near.port) 0 c + 2 * system.stages) (asks : AsksWhileWaiting system run up agent end)
+    (host : ℕ) (is_host : host < system.hosts) (legal : IsLegalHost (system.host host) (run.at_host host) end) (most : ℕ)
+    (few : (from size : ℕ) → from + size ≤ end → IsKeptAsking (seats_of system agent) up far.port host from size → others_begun (seats_of system agent) up far.port host from size ≤ most) where
+  abbrev groups : List Marked → List Group
+  groups ms = groups_of (target_of system agent) far.shape ms
+
+  -- the host's operations among these
+  abbrev its : List Marked → ℕ
+  its ms = length (operations_among (target_of system agent) far.shape (with_tag host ms))
+
+  its_front : {xs ys : List Marked} → IsPrefix xs ys → its xs ≤ its ys
+  its_front p = prefix_length (prefix_flat_map (operations_in (target_of system agent) far.shape) (prefix_filter (λ (m : Marked). nat_eq m.tag host) p))
+
+  its_near : (c : ℕ) → c ≤ end → length (of_host host (taken system run agent c)) ≡ its (taken_at near.port c)
+  its_near c fit = ap (λ l. length (of_host host l)) (begins.operations c fit) ∙ tagged_of_host (target_of system agent) far.shape (taken_at near.port c) host
+
+  abbrev asked : ℕ → ℕ
+  asked c = length (operations_among (target_of system agent) (up host).shape (taken_at (up host) c))
+
+  its_far : (c : ℕ) → c ≤ end → asked c ≡ its (taken_at far.port c)
+  its_far c fit = own_taken system agent up far end arbiter (target_of system agent) host is_host (words host is_host) c fit
+
+  -- where what the agent has taken is the front of what was taken behind the arbiter by a cycle, few others have begun since an earlier one
+  passed_by : (from later size : ℕ) → from ≤ later → later ≤ end → from + size ≤ end → length (taken_at near.port later) ≤ length (taken_at far.port (from + size)) → from + size ≤ later →
+      others_begun (seats_of system agent) up far.port host from size ≤ most →
+      begun_by_others system run agent host later ≤ begun_by_others system run agent host from + most + (2 * system.stages + 2)
+  passed_by from later size low fit within short early few_begin =
+      let ends = ended_few laws system agent up far end arbiter host from size within in
+      let added = few_more host (groups (taken_at near.port from)) (groups new.rest) whole in
+      let left = ap (others host) (ap firsts grown) in
+      let all = counts later fit in
+      let old = counts from (omega (arith, low, fit)) in
+      let splits = endings_append host (groups new.rest) window.rest in
+      let joins = ap (endings host) rests in
+      let more = endings_append host (groups piped.rest) (groups (taken_in far.port from size)) in
+      let held = few_endings host (groups piped.rest) in
+      let size_is = length-map piped.rest (group_of (target_of system agent) far.shape) in
+      let stand = standing in
+      let begin_few = few_begin in
+      omega (arith, ends, added, left, all, old, splits, joins, more, held, size_is, stand, begin_few)
+    where
+      new : IsPrefix (taken_at near.port from) (taken_at near.port later)
+      new = before_prefix _ from later low
+
+      piped : IsPrefix (taken_at near.port from) (taken_at far.port from)
+      piped = begins.pipe from (omega (arith, low, fit))
+
+      grown : groups (taken_at near.port from) ++ groups new.rest ≡ groups (taken_at near.port later)
+      grown = sym (map-append (group_of (target_of system agent) far.shape) (taken_at near.port from) new.rest) ∙ ap groups new.joins
+
+      through : IsPrefix (taken_at near.port later) (taken_at far.port (from + size))
+      through =
+          let all = begins.pipe later fit in
+          let front : IsPrefix (taken_at far.port (from + size)) (taken_at far.port later) = before_prefix _ (from + size) later early in
+          shorter_front (taken_at near.port later) (taken_at far.port (from + size)) all.rest front.rest (all.joins ∙ sym front.joins) short
+
+      window : IsPrefix (groups (taken_at near.port later)) (groups (taken_at far.port (from + size)))
+      window = prefix_map (group_of (target_of system agent) far.shape) through
+
+      whole : groups_whole (groups (taken_at near.port from) ++ groups new.rest) ≡ true
+      whole = ap groups_whole grown ∙ front_whole (groups (taken_at near.port later)) window.rest (ap groups_whole window.joins ∙ begins.whole (from + size) within)
+
+      counts : (c : ℕ) → c ≤ end → begun_by_others system run agent host c ≡ others host (firsts (groups (taken_at near.port c)))
+      counts c low = others_by_tags host (begun system run agent c) ∙ ap (others_among host) (begins.begun c low) ∙ sym (others_by_tags host (firsts (groups (taken_at near.port c))))
+
+      rests : groups new.rest ++ window.rest ≡ groups piped.rest ++ groups (taken_in far.port from size)
+      rests = same_rest (groups (taken_at near.port from)) (groups new.rest ++ window.rest) (groups piped.rest ++ groups (taken_in far.port from size))
+          (sym (append_assoc (groups (taken_at near.port from)) (groups new.rest) window.rest) ∙ ap (λ l. l ++ window.rest) grown ∙ window.joins ∙ ap groups (taken_split far.port from size)
+          ∙ map-append (group_of (target_of system agent) far.shape) (taken_at far.port from) (taken_in far.port from size)
+          ∙ ap (λ l. groups l ++ groups (taken_in far.port from size)) (sym piped.joins)
+          ∙ ap (λ l. l ++ groups (taken_in far.port from size)) (map-append (group_of (target_of system agent) far.shape) (taken_at near.port from) piped.rest)
+          ∙ append_assoc (groups (taken_at near.port from)) (groups piped.rest) (groups (taken_in far.port from size)))
+
+      standing : length piped.rest ≤ 2 * system.stages
+      standing =
+          let all = ap length piped.joins in
+          let split = length-append (taken_at near.port from) piped.rest in
+          let x = taken_length far.port from in
+          let y = taken_length near.port from in
+          let held = pipe from (omega (arith, low, fit)) in
+          omega (arith, all, split, x, y, held)
+
+  -- ---- a waiting command
+
+  module _ (from last k : ℕ) (low : from ≤ last) (fit : last < end) (waiting : IsWaiting system run agent host (suc k) from) (unbegun : IsFalse (has_begun system run agent host (suc k) (suc last))) where
+    -- the operations of the commands before it
+    abbrev earlier : ℕ
+    earlier = before_it system run host end legal agent there k from
+
+    quiet_there : length (of_host host (taken system run agent (suc last))) ≤ earlier
+    quiet_there =
+        let for_it = still_any system run host end legal (λ (t : Transfer). is_place (Some agent) (place_of system host t)) (suc k) from last low fit waiting.presented in
+        let counted = still_any system run host end legal (may_be_counted system host agent) (suc k) from last low fit waiting.counted in
+        let some = some_own system run host end legal agent there k last fit for_it counted in
+        let few = quiet system run host end legal agent there k last fit some unbegun in
+        let same = same_before_it system run host end legal agent there k from (omega (arith, low, fit)) waiting.earlier last low fit in
+        omega (arith, few, same)
+
+    enough : (c : ℕ) → from ≤ c → c ≤ end → earlier ≤ asked c
+    enough c least high =
+        let all = enough_taken system run host end legal agent there k from (omega (arith, low, fit)) waiting.earlier in
+        let grown = prefix_length (prefix_map (λ (t : Tagged). t.operation) (prefix_filter (has_tag host) (taken_prefix system run agent from c least))) in
+        let near_is = its_near c high in
+        let less = its_front (begins.pipe c high) in
+        let far_is = its_far c high in
+        omega (arith, all, grown, near_is, less, far_is)
+
+    -- while nothing of it was taken at the arbiter it asks there
+    asks_so : (c : ℕ) → from ≤ c → c ≤ last → asked c ≤ earlier → ShowsOperation (target_of system agent) (up host) c
+    asks_so c least high untaken =
+        asks host (suc k) c is_host (omega (arith, fit, high)) (record {
+          presented = still_any system run host end legal (λ (t : Transfer). is_place (Some agent) (place_of system host t)) (suc k) from c least (omega (arith, fit, high)) waiting.presented;
+          counted = still_any system run host end legal (may_be_counted system host agent) (suc k) from c least (omega (arith, fit, high)) waiting.counted;
+          earlier = all_stay_finished system run host end legal from c least (omega (arith, fit, high)) (suc k) waiting.earlier;
+          untaken = let same = same_before system run host end legal agent there k from (omega (arith, low, fit)) waiting.earlier c least (omega (arith, fit, high)) in omega (arith, untaken, same);
+        })
+
+    -- and isn't taken while nothing is
+    not_taken : (c : ℕ) → from ≤ c → c ≤ last → asked c ≤ earlier → asked (suc c) ≤ earlier → far.port.commands.tag c ≡ host → IsFalse (takes far.port c)
+    not_taken c least high now next tag = by_take (takes far.port c) refl
+      where
+        by_take : (b : Bool) → takes far.port c ≡ b → IsFalse b
+        by_take false e = refl
+        by_take true e =
+            let own_takes = arbiter.taken host c is_host (omega (arith, fit, high)) tag ∙ e in
+            let split = ap (λ l. length (operations_among (target_of system agent) (up host).shape l)) (one_taken (up host) c own_takes) ∙ ops_append (target_of system agent) (up host).shape (taken_at (up host) c) (marked_at (up host) c) in
+            let some = some_long (operations_in (target_of system agent) (up host).shape (marked_at (up host) c)) (asks_so c least high now).1 in
+            let enough_there = enough c least (omega (arith, fit, high)) in
+            absurd (omega (arith, split, some, enough_there, next))
+
+    -- the cycle up to which nothing of it is taken at the arbiter
+    record Stop : Type 0 where
+      size : ℕ
+      early : from + size ≤ suc last
+      untaken : (c : ℕ) → from ≤ c → c < from + size → (asked c ≤ earlier) × (asked (suc c) ≤ earlier)
+      short : length (taken_at near.port (suc last)) ≤ length (taken_at far.port (from + size))
+
+    -- what has come through by then
+    through_short : (e : ℕ) → e ≤ suc last → earlier < asked e → length (taken_at near.port (suc last)) < length (taken_at far.port e)
+    through_short e high more = by_long (nat_lt (length (taken_at near.port (suc last))) (length (taken_at far.port e))) refl
+      where
+        by_long : (b : Bool) → nat_lt (length (taken_at near.port (suc last))) (length (taken_at far.port e)) ≡ b → length (taken_at near.port (suc last)) < length (taken_at far.port e)
+        by_long true b = grind (arith, tests, b)
+        by_long false b =
+            let long : length (taken_at far.port e) ≤ length (taken_at near.port (suc last)) = grind (arith, tests, b) in
+            let all = begins.pipe (suc last) fit in
+            let front : IsPrefix (taken_at far.port e) (taken_at far.port (suc last)) = before_prefix _ e (suc last) high in
+            let less = its_front (shorter_front (taken_at far.port e) (taken_at near.port (suc last)) front.rest all.rest (front.joins ∙ sym all.joins) long) in
+            let far_is = its_far e (omega (arith, high, fit)) in
+            let near_is = its_near (suc last) fit in
+            let quiet_is = quiet_there in
+            absurd (omega (arith, less, far_is, near_is, quiet_is, more))
+
+    one_more_taken : (c : ℕ) → length (taken_at far.port (suc c)) ≤ suc (length (taken_at far.port c))
+    one_more_taken c = let split = length-append (taken_at far.port c) (only_if (takes far.port c) (marked_at far.port c)) in let one = by_take (takes far.port c) in omega (arith, split, one)
+      where
+        by_take : (b : Bool) → length (only_if b (marked_at far.port c)) ≤ 1
+        by_take true = omega arith
+        by_take false = omega arith
+
+    search_stop : (left size : ℕ) → (from + size) + left ≡ suc last → ((c : ℕ) → from ≤ c → c < from + size → (asked c ≤ earlier) × (asked (suc c) ≤ earlier)) → asked (from + size) ≤ earlier → Stop
+    search_stop zero size at all here = record {
+      size = size;
+      early = omega (arith, at);
+      untaken = all;
+      short =
+          let same : suc last ≡ from + size = omega (arith, at) in
+          subst (λ e. length (taken_at near.port (suc last)) ≤ length (taken_at far.port e)) same (prefix_length (begins.pipe (suc last) fit));
+    }
+    search_stop (suc left) size at all here =
+        by_next (λ next. let long : from + suc size ≡ suc (from + size) = omega arith in
+        search_stop left (suc size) (omega (arith, at)) (λ c least less. by_last c least (nat_eq c (from + size)) refl less next) (subst (λ n. asked n ≤ earlier) (sym long) next))
+        (nat_le (asked (suc (from + size))) earlier) refl
+      where
+        by_last : (c : ℕ) → from ≤ c → (b : Bool) → nat_eq c (from + size) ≡ b → c < from + suc size → asked (suc (from + size)) ≤ earlier → (asked c ≤ earlier) × (asked (suc c) ≤ earlier)
+        by_last c least true e less next = let same : from + size ≡ c = grind (arith, tests, e) in (subst (λ n. asked n ≤ earlier) same here, subst (λ n. asked (suc n) ≤ earlier) same next)
+        by_last c least false e less next = let before : c < from + size = grind (arith, tests, e, less) in all c least before
+
+        by_next : (asked (suc (from + size)) ≤ earlier → Stop) → (b : Bool) → nat_le (asked (suc (from + size))) earlier ≡ b → Stop
+        by_next go true e = go (grind (arith, tests, e))
+        by_next go false e = record {
+          size = size;
+          early = omega (arith, at);
+          untaken = all;
+          short =
+              let more : earlier < asked (suc (from + size)) = grind (arith, tests, e) in
+              let less = through_short (suc (from + size)) (omega (arith, at)) more in
+              let one = one_more_taken (from + size) in
+              omega (arith, less, one);
+        }
+
+    pub passed_few : begun_by_others system run agent host (suc last) ≤ begun_by_others system run agent host from + most + (2 * system.stages + 2)
+    passed_few = by_first (nat_le (asked from) earlier) refl
+      where
+        by_stop : Stop → begun_by_others system run agent host (suc last) ≤ begun_by_others system run agent host from + most + (2 * system.stages + 2)
+        by_stop stop =
+            passed_by from (suc last) stop.size (omega (arith, low)) fit (let early = stop.early in omega (arith, early, fit)) stop.short stop.early
+            (passed_while_asking laws system agent up far end arbiter host most few from stop.size (let early = stop.early in omega (arith, early, fit))
+            (λ c least less. (asks_so c least (let early = stop.early in omega (arith, early, less)) (stop.untaken c least less).0).0)
+            (λ c least less tag. not_taken c least (let early = stop.early in omega (arith, early, less)) (stop.untaken c least less).0 (stop.untaken c least less).1 tag))
+
+        by_first : (b : Bool) → nat_le (asked from) earlier ≡ b → begun_by_others system run agent host (suc last) ≤ begun_by_others system run agent host from + most + (2 * system.stages + 2)
+        by_first true e =
+            let same : from ≡ from + zero = omega arith in
+            by_stop (search_stop (suc last - from) zero (omega (arith, low)) (λ c least less. absurd (omega (arith, least, less))) (subst (λ n. asked n ≤ earlier) same (grind (arith, tests, e))))
+        by_first false e =
+            let more : earlier < asked from = grind (arith, tests, e) in
+            let same : from ≡ from + zero = omega arith in
+            by_stop (record { size = zero; early = omega (arith, low); untaken = λ c least less. absurd (omega (arith, least, less)); short = subst (λ n. length (taken_at near.port (suc last)) ≤ length (taken_at far.port n)) same (let less = through_short from (omega (arith, low)) more in omega (arith, less)) })
