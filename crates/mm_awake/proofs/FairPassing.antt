@@ -10,7 +10,7 @@ use Rattle.mm_runs.specs.Commands.{Transfer, shows}
 use Rattle.mm_runs.specs.Legal.{IsLegalHost}
 use Rattle.mm_runs.specs.Laws.{taken_prefix}
 use Rattle.mm_runs.specs.Order.{Owner, Tagged, has_tag, of_host, taken, place_of}
-use Rattle.mm_runs.specs.Awake.{IsWaiting, has_begun, begun, begun_by_others, is_place, may_be_counted}
+use Rattle.mm_runs.specs.Awake.{IsWaiting, IsPassedByFew, has_begun, begun, begun_by_others, shares_of_others, is_for, is_place, may_be_counted}
 use Rattle.mm_machines.specs.Link.{Port, Marked, takes, marked_at, taken_at, operations_in, operations_among, is_nonempty}
 use Rattle.mm_machines.specs.Lines.{Group, TaggedPort, groups_of, group_of, target_of, with_tag, tagged_operations}
 use Rattle.mm_machines.specs.Begun.{groups_whole}
@@ -20,7 +20,8 @@ use Rattle.mm_awake.specs.Fair.{BeginsByTurns, AsksWhileWaiting, ShowsOperation,
 use Rattle.mm_awake.specs.Ways.{count_in}
 use Rattle.mm_awake.proofs.Arbiter.{TurnLaws}
 use Rattle.mm_awake.proofs.Beats.{ops_append}
-use Rattle.mm_awake.proofs.Bits.{one_taken}
+use Rattle.mm_awake.proofs.Bits.{no_true, one_taken}
+use Rattle.mm_awake.proofs.Numbers.{of_is, none_above, whole}
 use Rattle.mm_awake.proofs.Wanted.{own_taken, tagged_of_host}
 use Rattle.mm_awake.proofs.FairAgent.{front_whole}
 use Rattle.mm_awake.proofs.FairOthers.{others, others_among, others_by_tags, endings, endings_append, few_endings, few_more}
@@ -259,3 +260,33 @@ module _ (laws : TurnLaws) (system : System) (run : Run) (agent : ℕ) (up : ℕ
             let more : earlier < asked from = grind (arith, tests, e) in
             let same : from ≡ from + zero = omega arith in
             by_stop (record { size = zero; early = omega (arith, low); untaken = λ c least less. absurd (omega (arith, least, less)); short = subst (λ n. length (taken_at near.port (suc last)) ≤ length (taken_at far.port n)) same (let less = through_short from (omega (arith, low)) more in omega (arith, less)) })
+
+-- ---- the bound
+
+module _ (laws : TurnLaws) (system : System) (run : Run) (agent : ℕ) (up : ℕ → Port) (near far : TaggedPort) (end : ℕ) (there : agent < system.agents) (begins : BeginsByTurns system run agent near far end)
+    (arbiter : IsArbiterPart system agent up far end) (words : (h : ℕ) → h < system.hosts → (up h).shape.word_bytes ≡ far.shape.word_bytes)
+    (pipe : (c : ℕ) → c ≤ end → count_in (takes far.port) 0 c ≤ count_in (takes near.port) 0 c + 2 * system.stages) (asks : AsksWhileWaiting system run up agent end)
+    (legal : (h : ℕ) → h < system.hosts → IsLegalHost (system.host h) (run.at_host h) end)
+    (few : (host from size : ℕ) → from + size ≤ end → IsKeptAsking (seats_of system agent) up far.port host from size → others_begun (seats_of system agent) up far.port host from size ≤ shares_of_others system agent host) where
+  pub is_passed_by_few : IsPassedByFew (4 * system.stages + 32) system run agent end
+  is_passed_by_few from later host number low high is_host waiting unbegun = by_same (nat_eq from later) refl
+    where
+      Passed : ℕ → Type 0
+      Passed c = begun_by_others system run agent host c ≤ begun_by_others system run agent host from + shares_of_others system agent host + (4 * system.stages + 32)
+
+      by_number : (n : ℕ) → n ≡ number → (last : ℕ) → suc last ≡ later → from ≤ last → Passed (suc last)
+      by_number zero e last same least =
+          let none = of_is system run host end (legal host is_host) from 0 (omega (arith, least, same, high)) ∙ none_above system host (λ i. nat_eq i 0) 1 (whole system run host end (legal host is_host) from) (λ i above. grind (arith, tests, above)) in
+          absurd (no_true (subst (λ l. IsTrue (list_any (λ (t : Transfer). is_place (Some agent) (place_of system host t)) l)) none (subst (λ n. IsTrue (is_for system run host (Some agent) n (suc from))) (sym e) waiting.presented)))
+      by_number (suc k) e last same least =
+          let most = passed_few laws system run agent up near far end there begins arbiter words pipe asks host is_host (legal host is_host) (shares_of_others system agent host) (few host) from last k least (omega (arith, same, high))
+          (subst (λ n. IsWaiting system run agent host n from) (sym e) waiting) (subst (λ n. IsFalse (has_begun system run agent host n (suc last))) (sym e) (subst (λ c. IsFalse (has_begun system run agent host number c)) (sym same) unbegun)) in
+          omega (arith, most)
+
+      by_later : (c : ℕ) → c ≡ later → from < later → Passed later
+      by_later zero e less = absurd (omega (arith, e, less))
+      by_later (suc last) e less = subst Passed e (by_number number refl last e (omega (arith, e, less)))
+
+      by_same : (b : Bool) → nat_eq from later ≡ b → Passed later
+      by_same true e = let same : from ≡ later = grind (arith, tests, e) in subst Passed same (omega arith)
+      by_same false e = by_later later refl (grind (arith, tests, e, low))

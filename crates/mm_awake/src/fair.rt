@@ -9,14 +9,14 @@ ghost use Rattle.mm_runs.specs.Whole.{IsLegalRun};
 ghost use Rattle.mm_runs.specs.Commands.{agent_accepts, shows};
 ghost use Rattle.mm_runs.specs.Legal.{IsLegalHost};
 ghost use Rattle.mm_runs.specs.Order.{Owner, ServesInGrantedOrder, is_joined, issued};
-ghost use Rattle.mm_runs.specs.Awake.{are_finished_before, asks_only, begun, commands_begun, HasFullTurns, TakesTurns, turns_of, shows_plain_write, shares_of_others, Throughout};
+ghost use Rattle.mm_runs.specs.Awake.{are_finished_before, asks_only, begun, commands_begun, HasFullTurns, IsFair, IsPassedByFew, TakesTurns, turns_of, shows_plain_write, shares_of_others, Throughout};
 ghost use Rattle.mm_machines.specs.Link.{Port, Target, takes, taken_at, operations_among};
 ghost use Rattle.mm_machines.specs.Lines.{TaggedPort, target_of};
 ghost use Rattle.mm_machines.specs.Turns.{seats_of, others_begun, IsKeptAsking};
 ghost use Rattle.mm_parts.specs.Steps.{IsArbiterPart, IsHostPart, IsRoutePart, has_room};
 ghost use Rattle.mm_awake.specs.Ways.{count_in};
 ghost use Rattle.mm_awake.specs.Theorem.{Boundaries, States, LinkRanks, IsBuilt};
-ghost use Rattle.mm_awake.specs.Fair.{are_apart, AllAskPlainly, AreAmong, BeginsByTurns, IsPlainAt, HandsWritesOn, HandsPlainWrites, AreParts, WaitsAlone, WaitsBefore};
+ghost use Rattle.mm_awake.specs.Fair.{are_apart, AllAskPlainly, AreAmong, AsksWhileWaiting, BeginsByTurns, IsPlainAt, HandsWritesOn, HandsPlainWrites, AreParts, WaitsAlone, WaitsBefore};
 
 /// In a system of machines whose links hand plain writes on, where each host that is joined to an agent shows a plain write for it in every cycle of a window, the commands that are taken behind its arbiter stand in full turns.
 pub fn plain_writers_take_full_turns()
@@ -29,6 +29,31 @@ pub fn plain_writers_take_full_turns()
     asking_hosts_take_full_turns();
     plain_writes_go_on();
     machines_are_parts()
+}
+
+/// A system of machines is fair, where its links hand plain writes on in their cycle and show a waiting host's operation at its arbiter: few others pass a waiting command, and hosts that write without gaps take turns by their shares.
+pub fn machines_are_fair()
+    ensures { (responses : Responses) (system : System) (run : Run) (inside : Boundaries) (states : States) (ranks : LinkRanks) (end : ℕ)
+        → IsBuilt responses system run inside states ranks end → IsLegalRun system run end
+        → ((agent : ℕ) → agent < system.agents → HandsPlainWrites system inside agent end)
+        → ((agent : ℕ) → agent < system.agents → AsksWhileWaiting system run (λ h. inside.upper h agent 0) agent end)
+        → IsFair system run end }
+{
+    commands_take_turns();
+    waiting_commands_are_passed_by_few()
+}
+
+/// In a system of machines, where a waiting host's operation stands before its arbiter, at most as many commands of others begin at the agent before its own as they have shares, and as stand in the pipe.
+pub fn waiting_commands_are_passed_by_few()
+    ensures { (responses : Responses) (system : System) (run : Run) (inside : Boundaries) (states : States) (ranks : LinkRanks) (end agent : ℕ)
+        → IsBuilt responses system run inside states ranks end → IsLegalRun system run end → agent < system.agents
+        → AsksWhileWaiting system run (λ h. inside.upper h agent 0) agent end
+        → IsPassedByFew (4 * system.stages + 32) system run agent end }
+{
+    askers_are_passed_by_few();
+    commands_begin_by_turns();
+    machines_are_parts();
+    ranks::turns_keep_seats()
 }
 
 /// In a system of machines whose links hand plain writes on, hosts that write without gaps take turns at their agent by their shares: a turn between others is of exactly its host's shares, and the next host in the order follows.
