@@ -44,10 +44,10 @@ module _ (system : System) (run : Run) (host end : ℕ) (legal : IsLegalHost (sy
     abbrev pub own : ℕ → ℕ → ℕ
     own k c = ops_for system host agent (chosen (λ i. nat_eq i (suc k)) 1 (shown_to c))
 
-    count_up : (k c : ℕ) → c < end → count_for system host agent (up_to k (host_transfers system run host (suc c))) ≡ before_it k c
+    pub count_up : (k c : ℕ) → c < end → count_for system host agent (up_to k (host_transfers system run host (suc c))) ≡ before_it k c
     count_up k c fit = ops_count system host agent (up_to k (host_transfers system run host (suc c))) ∙ ap (ops_for system host agent) (up_is system run host end legal c k fit)
 
-    count_own : (k c : ℕ) → c < end → count_for system host agent (of_command (suc k) (host_transfers system run host (suc c))) ≡ own k c
+    pub count_own : (k c : ℕ) → c < end → count_for system host agent (of_command (suc k) (host_transfers system run host (suc c))) ≡ own k c
     count_own k c fit = ops_count system host agent (of_command (suc k) (host_transfers system run host (suc c))) ∙ ap (ops_for system host agent) (of_is system run host end legal c (suc k) fit)
 
     -- a presented command that may be counted has operations

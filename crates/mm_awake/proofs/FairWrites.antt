@@ -56,7 +56,7 @@ ends_alone true true a b = absurd cc
 ends_alone true false a b = refl
 ends_alone false m a b = absurd cc
 
-some_there : {A : Type 0} (xs : List A) → 0 < length xs → IsTrue (is_nonempty xs)
+pub some_there : {A : Type 0} (xs : List A) → 0 < length xs → IsTrue (is_nonempty xs)
 some_there {A} [] some = absurd (omega (arith, some))
 some_there {A} (x ∷ xs) some = refl
 

@@ -44,3 +44,4 @@ pub mod FairCounts
 pub mod FairWaiting
 pub mod FairQuiet
 pub mod FairPassing
+pub mod FairWired

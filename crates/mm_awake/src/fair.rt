@@ -43,6 +43,17 @@ pub fn machines_are_fair()
     waiting_commands_are_passed_by_few()
 }
 
+/// In a system of machines a host that is wired to an agent's arbiter shows an operation there while it waits.
+pub fn wired_hosts_ask_while_waiting()
+    ensures { (responses : Responses) (system : System) (run : Run) (inside : Boundaries) (states : States) (ranks : LinkRanks) (end agent : ℕ)
+        → IsBuilt responses system run inside states ranks end → IsLegalRun system run end → agent < system.agents
+        → ((host : ℕ) → host < system.hosts → inside.upper host agent 0 ≡ inside.upper host agent (inside.links host agent))
+        → AsksWhileWaiting system run (λ h. inside.upper h agent 0) agent end }
+{
+    waiting_hosts_ask();
+    machines_are_parts()
+}
+
 /// In a system of machines, where a waiting host's operation stands before its arbiter, at most as many commands of others begin at the agent before its own as they have shares, and as stand in the pipe.
 pub fn waiting_commands_are_passed_by_few()
     ensures { (responses : Responses) (system : System) (run : Run) (inside : Boundaries) (states : States) (ranks : LinkRanks) (end agent : ℕ)
