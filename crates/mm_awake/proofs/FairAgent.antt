@@ -1,18 +1,16 @@
 -- The hosts of the commands that have begun at an agent are those of the first owners of what is taken before it.
-use Rattle.std.proofs.Common.{ℕ, zero, suc, ◌<◌, ◌≤◌, ◌≡◌, ◌+◌, ◌-◌, Bool, true, false, ◌&&◌, ◌||◌, List, [], ◌∷◌, ◌++◌, length, map, replicate, nat_eq, nat_lt, arith, refl, sym, ap, ap₂, subst, ◌∙◌, append_assoc, length-append, tests, IsTrue, None}
+use Rattle.std.proofs.Common.{ℕ, zero, suc, ◌<◌, ◌≤◌, ◌≡◌, ◌-◌, Bool, true, false, ◌&&◌, ◌||◌, List, [], ◌∷◌, ◌++◌, length, map, replicate, nat_eq, nat_lt, arith, refl, sym, ap, ap₂, subst, ◌∙◌, append_assoc, length-append, tests, IsTrue, None}
 use Rattle.std.specs.Prelude.{slice_index}
-use Rattle.std.specs.List.{list_any}
 use Rattle.std.proofs.lemmas.List.{length-replicate, length-map}
 use Rattle.std.proofs.lemmas.Bool.{and_parts}
-use Rattle.histories.specs.History.{IsPrefix}
 use Rattle.histories.specs.Laws.{prefix_trans, prefix_map, prefix_length, before_prefix}
 use Rattle.mm_runs.specs.Views.{System, Run, Shape}
 use Rattle.mm_runs.specs.Operations.{Operation}
 use Rattle.mm_runs.specs.Legal.{IsLegalHost}
 use Rattle.mm_runs.specs.Laws.{issued_prefix}
-use Rattle.mm_runs.specs.Order.{Owner, Tagged, owners, owners_from, owners_taken, of_host, taken, issued, is_joined, is_same_owner, host_transfers, ServesInGrantedOrder}
+use Rattle.mm_runs.specs.Order.{Owner, Tagged, owners, owners_from, owners_taken, of_host, taken, is_joined, is_same_owner, host_transfers, ServesInGrantedOrder}
 use Rattle.mm_runs.specs.Awake.{begun, first_owners}
-use Rattle.mm_machines.specs.Link.{AreLegalAt, shown_at, taken_at}
+use Rattle.mm_machines.specs.Link.{AreLegalAt, taken_at}
 use Rattle.mm_machines.specs.Lines.{Group, BearsTags, TaggedPort, Inside, groups_of, group_of, tagged_operations, target_of}
 use Rattle.mm_machines.specs.SideLaws.{taken_is_shown}
 use Rattle.mm_machines.specs.Begun.{owners_of_groups, turn_after, acts_after, groups_whole, by_turn, turn_at, IsMatched}
@@ -41,10 +39,11 @@ all_own : (issuers : ℕ → List ℕ) (Fits : ℕ → Type 0) (earlier xs : Lis
 all_own issuers Fits earlier [] few fits = tt
 all_own issuers Fits earlier (t ∷ later) few fits =
     let here = own_here t earlier later in
-    let all = few t.tag in
-    ((fits t.tag (omega (arith, here)), at_index (issuers t.tag) (length (of_host t.tag earlier)) (omega (arith, here, all))),
+    let all = few t.tag in (
+      (fits t.tag (omega (arith, here)), at_index (issuers t.tag) (length (of_host t.tag earlier)) (omega (arith, here, all))),
       all_own issuers Fits (earlier ++ t ∷ []) later (λ h. subst (λ l. length (of_host h l) ≤ length (issuers h)) (sym (append_assoc earlier (t ∷ []) later)) (few h))
-      (λ h some. fits h (subst (λ l. 0 < length (of_host h l)) (append_assoc earlier (t ∷ []) later) some)))
+          (λ h some. fits h (subst (λ l. 0 < length (of_host h l)) (append_assoc earlier (t ∷ []) later) some)),
+    )
 
 -- ---- their turns tell them apart
 

@@ -1,14 +1,9 @@
 -- The operations of a host's commands by their numbers.
-use Rattle.std.proofs.Common.{ℕ, zero, suc, ◌<◌, ◌≤◌, ◌≡◌, ◌+◌, ◌-◌, Bool, true, false, not, ◌&&◌, ◌||◌, List, [], ◌∷◌, ◌++◌, length, map, replicate, nat_eq, nat_le, nat_lt, if◌then◌else◌, arith, refl, sym, ap, ap₂, subst, ◌∙◌, length-append, tests, IsTrue, IsFalse, Option, Some, None}
+use Rattle.std.proofs.Common.{ℕ, zero, suc, ◌<◌, ◌≤◌, ◌≡◌, ◌+◌, Bool, true, false, List, [], ◌∷◌, ◌++◌, length, replicate, nat_eq, nat_le, if◌then◌else◌, arith, refl, sym, ap, ◌∙◌, tests, IsFalse}
 use Rattle.std.specs.Prelude.{slice_index}
-use Rattle.std.specs.List.{list_any, list_all}
-use Rattle.std.proofs.lemmas.Bool.{and_parts}
 use Rattle.mm_runs.specs.Views.{System}
 use Rattle.mm_runs.specs.Commands.{Transfer}
 use Rattle.mm_runs.specs.Order.{is_agent, place_of, transfer_operations}
-use Rattle.mm_runs.specs.Awake.{is_place}
-use Rattle.mm_awake.proofs.Bits.{no_true}
-use Rattle.mm_awake.proofs.Beats.{same_place}
 use Rattle.mm_awake.proofs.Numbers.{chosen, ends_in, none_above, next_least, next_number, ops_for, ops_append}
 use Rattle.mm_awake.proofs.FairBegun.{owners_among}
 

@@ -1,7 +1,6 @@
 -- Commands of a host that have operations at an agent have different turns there.
-use Rattle.std.proofs.Common.{ℕ, zero, suc, ◌<◌, ◌≤◌, ◌≡◌, ◌+◌, Bool, true, false, not, ◌&&◌, ◌||◌, List, [], ◌∷◌, ◌++◌, length, replicate, nat_eq, nat_le, if◌then◌else◌, arith, refl, sym, ap, subst, ◌∙◌, tests, IsTrue, IsFalse, Option, Some, None}
+use Rattle.std.proofs.Common.{ℕ, zero, suc, ◌<◌, ◌≤◌, ◌≡◌, ◌+◌, Bool, true, false, not, ◌&&◌, ◌||◌, List, [], ◌∷◌, ◌++◌, length, replicate, nat_eq, nat_le, if◌then◌else◌, arith, refl, sym, ap, subst, ◌∙◌, tests, IsTrue, Option, Some, None}
 use Rattle.std.specs.List.{list_any}
-use Rattle.std.proofs.lemmas.Bool.{both_ways}
 use Rattle.mm_runs.specs.Views.{System, Run}
 use Rattle.mm_runs.specs.Operations.{Operation}
 use Rattle.mm_runs.specs.Commands.{Transfer}
@@ -11,7 +10,7 @@ use Rattle.mm_machines.specs.Link.{is_nonempty}
 use Rattle.mm_machines.specs.Begun.{turn_of}
 use Rattle.mm_awake.proofs.Bits.{no_true}
 use Rattle.mm_awake.proofs.Beats.{is_the_place}
-use Rattle.mm_awake.proofs.Numbers.{Steady, after_one, presented_is, whole, whole_steady}
+use Rattle.mm_awake.proofs.Numbers.{Steady, after_one, presented_is, whole_steady}
 use Rattle.mm_awake.proofs.FairRoom.{rest_is}
 use Rattle.mm_awake.proofs.FairBegun.{owners_among}
 

@@ -1,15 +1,14 @@
 -- No more commands of other hosts begin at an agent than end behind its arbiter, and one.
-use Rattle.std.proofs.Common.{ℕ, zero, suc, ◌<◌, ◌≤◌, ◌≡◌, ◌+◌, ◌-◌, ◌*◌, Bool, true, false, not, ◌&&◌, ◌||◌, List, [], ◌∷◌, ◌++◌, length, map, replicate, nat_eq, if◌then◌else◌, arith, refl, sym, ap, ap₂, subst, ◌∙◌, length-append, tests}
+use Rattle.std.proofs.Common.{ℕ, zero, suc, ◌≤◌, ◌≡◌, ◌+◌, Bool, true, false, not, ◌&&◌, ◌||◌, List, [], ◌∷◌, ◌++◌, length, map, replicate, nat_eq, if◌then◌else◌, arith, refl, sym, ap, ap₂, subst, ◌∙◌, tests}
 use Rattle.std.specs.Prelude.{filter}
 use Rattle.std.specs.List.{list_any}
 use Rattle.std.proofs.lemmas.Bool.{and_parts}
 use Rattle.histories.specs.History.{one_if}
 use Rattle.mm_runs.specs.Order.{Owner, is_same_owner}
 use Rattle.mm_runs.specs.Awake.{first_owners}
-use Rattle.mm_machines.specs.Link.{is_nonempty}
 use Rattle.mm_machines.specs.Lines.{Group}
-use Rattle.mm_machines.specs.Begun.{is_ended, turn_after, acts_after, owners_of_groups, groups_whole}
-use Rattle.mm_awake.proofs.FairOwners.{seen_copies, new_copies, self_same, seen_after, turns_after, acted_after, first_append, owners_append}
+use Rattle.mm_machines.specs.Begun.{turn_after, acts_after, owners_of_groups, groups_whole}
+use Rattle.mm_awake.proofs.FairOwners.{seen_copies, new_copies, self_same, seen_after, turns_after, acted_after}
 use Rattle.mm_awake.proofs.FairSkips.{firsts, firsts_split}
 
 -- how many of these are of other hosts

@@ -1,5 +1,5 @@
 -- How many commands of others end behind an arbiter, and begin there while a host asks.
-use Rattle.std.proofs.Common.{ℕ, zero, suc, ◌<◌, ◌≤◌, ◌≡◌, ◌+◌, Bool, true, false, not, ◌&&◌, ◌||◌, List, [], ◌∷◌, ◌++◌, map, nat_eq, if◌then◌else◌, arith, refl, sym, ap, ap₂, subst, ◌∙◌, tests, IsTrue, IsFalse, Option, Some, None}
+use Rattle.std.proofs.Common.{ℕ, zero, suc, ◌<◌, ◌≤◌, ◌≡◌, ◌+◌, Bool, true, false, not, ◌&&◌, List, ◌++◌, nat_eq, if◌then◌else◌, arith, refl, sym, ap, subst, ◌∙◌, tests, IsTrue, IsFalse, Option, Some, None}
 use Rattle.std.specs.Prelude.{MatchOption, is_none}
 use Rattle.std.proofs.lemmas.Bool.{and_parts, both_ways}
 use Rattle.histories.specs.History.{only_if, one_if}
@@ -7,10 +7,10 @@ use Rattle.ranks.specs.Turns.{Round}
 use Rattle.mm_runs.specs.Views.{System}
 use Rattle.mm_runs.specs.Commands.{shows}
 use Rattle.mm_machines.specs.Link.{Port, takes, marked_at, closes}
-use Rattle.mm_machines.specs.Lines.{TaggedPort, Group, groups_of, group_of, target_of}
-use Rattle.mm_machines.specs.Turns.{Choice, choice_of, chosen, Grant, grant_before, grant_after, open_after, asks_at, ends_at, seats_of, begins_at, others_begun, IsKeptAsking}
+use Rattle.mm_machines.specs.Lines.{TaggedPort, Group, groups_of, target_of}
+use Rattle.mm_machines.specs.Turns.{choice_of, chosen, Grant, grant_before, open_after, asks_at, ends_at, seats_of, begins_at, others_begun, IsKeptAsking}
 use Rattle.mm_parts.specs.Steps.{IsArbiterPart}
-use Rattle.mm_awake.proofs.Bits.{no_true, takes_shows, not_shown}
+use Rattle.mm_awake.proofs.Bits.{no_true, takes_shows}
 use Rattle.mm_awake.proofs.Arbiter.{TurnLaws, chosen_asks}
 use Rattle.mm_awake.proofs.FairOthers.{endings}
 use Rattle.mm_awake.proofs.FairWindow.{taken_in}
@@ -141,7 +141,7 @@ module _ (laws : TurnLaws) (system : System) (agent : ℕ) (up : ℕ → Port) (
 
   -- ---- while a host asks and isn't taken
 
-  begun_split : (c one two : ℕ) → others_begun (seats_of system agent) up down.port host c (one + two) ≡ others_begun (seats_of system agent) up down.port host c one + others_begun (seats_of system agent) up down.port host (c + one) two
+  pub begun_split : (c one two : ℕ) → others_begun (seats_of system agent) up down.port host c (one + two) ≡ others_begun (seats_of system agent) up down.port host c one + others_begun (seats_of system agent) up down.port host (c + one) two
   begun_split c zero two =
       let none : zero + two ≡ two = omega arith in
       let same : c ≡ c + zero = omega arith in
@@ -153,6 +153,14 @@ module _ (laws : TurnLaws) (system : System) (agent : ℕ) (up : ℕ → Port) (
       let moved = ap (λ n. others_begun (seats_of system agent) up down.port host n two) same in
       let whole = ap (others_begun (seats_of system agent) up down.port host c) long in
       omega (arith, more, moved, whole)
+
+  pub one_a_cycle : (c size : ℕ) → others_begun (seats_of system agent) up down.port host c size ≤ size
+  one_a_cycle c zero = omega arith
+  one_a_cycle c (suc size) = let more = one_a_cycle (suc c) size in let one = at_most (begins_at (seats_of system agent) up down.port (λ tag. not (nat_eq tag host)) c) in omega (arith, more, one)
+    where
+      at_most : (b : Bool) → one_if b ≤ 1
+      at_most true = omega arith
+      at_most false = omega arith
 
   -- its open command stays open, and no other begins
   none_begins : (c size : ℕ) → c + size ≤ end → (grant_at c).open_host ≡ Some host → ((k : ℕ) → c ≤ k → k < c + size → down.port.commands.tag k ≡ host → IsFalse (takes down.port k)) →
@@ -183,10 +191,11 @@ module _ (laws : TurnLaws) (system : System) (agent : ℕ) (up : ℕ → Port) (
           ((grant_at (suc c)).open_host ≡ Some host) × (nat_eq (down.port.commands.tag c) host ≡ true)
       by_open (Some k) e own parts = absurd (no_true (sym (ap is_none e) ∙ parts.0))
       by_open None e own parts =
-          let tag : down.port.commands.tag c ≡ host = grind (arith, tests, own) in
-          (subst (λ o. open_after o (choice_of o (asks_at up c) (grant_at c).round).host (ends_at up down.port c) ≡ Some host) (sym e)
-            (by_choice parts.1 tag (choice_of None (asks_at up c) (grant_at c).round).host (subst (λ o. MatchOption (choice_of o (asks_at up c) (grant_at c).round).host (IsFalse (shows down.port.commands.signals c)) (λ k. IsTrue (shows down.port.commands.signals c) × (down.port.commands.tag c ≡ k) × (k < system.hosts))) e (turn_at c low))),
-            grind (arith, tests, tag))
+          let tag : down.port.commands.tag c ≡ host = grind (arith, tests, own) in (
+            subst (λ o. open_after o (choice_of o (asks_at up c) (grant_at c).round).host (ends_at up down.port c) ≡ Some host) (sym e)
+                (by_choice parts.1 tag (choice_of None (asks_at up c) (grant_at c).round).host (subst (λ o. MatchOption (choice_of o (asks_at up c) (grant_at c).round).host (IsFalse (shows down.port.commands.signals c)) (λ k. IsTrue (shows down.port.commands.signals c) × (down.port.commands.tag c ≡ k) × (k < system.hosts))) e (turn_at c low))),
+            grind (arith, tests, tag),
+          )
         where
           by_choice : IsTrue (shows down.port.commands.signals c) → down.port.commands.tag c ≡ host → (choice : Option ℕ) →
               MatchOption choice (IsFalse (shows down.port.commands.signals c)) (λ k. IsTrue (shows down.port.commands.signals c) × (down.port.commands.tag c ≡ k) × (k < system.hosts)) → open_after None choice (ends_at up down.port c) ≡ Some host

@@ -1,32 +1,32 @@
 -- A waiting command is passed by few others: those that stand in the pipe, and those that begin at the arbiter before it.
-use Rattle.std.proofs.Common.{ℕ, zero, suc, ◌<◌, ◌≤◌, ◌≡◌, ◌+◌, ◌-◌, ◌*◌, Bool, true, false, not, ◌&&◌, ◌||◌, List, [], ◌∷◌, ◌++◌, length, map, nat_eq, nat_le, nat_lt, arith, refl, sym, ap, ap₂, subst, ◌∙◌, append_assoc, length-append, tests, IsTrue, IsFalse, Some}
+use Rattle.std.proofs.Common.{ℕ, zero, suc, ◌<◌, ◌≤◌, ◌≡◌, ◌+◌, ◌-◌, ◌*◌, Bool, true, false, List, [], ◌∷◌, ◌++◌, length, nat_eq, nat_le, nat_lt, arith, refl, sym, ap, ap₂, subst, ◌∙◌, append_assoc, length-append, tests, IsTrue, IsFalse, Some}
 use Rattle.std.specs.List.{list_any}
 use Rattle.std.proofs.lemmas.List.{map-append, length-map}
-use Rattle.std.proofs.lemmas.Bool.{both_ways}
 use Rattle.histories.specs.History.{IsPrefix, only_if}
 use Rattle.histories.specs.Laws.{prefix_map, prefix_filter, prefix_flat_map, prefix_length, before_prefix}
 use Rattle.mm_runs.specs.Views.{System, Run}
 use Rattle.mm_runs.specs.Commands.{Transfer, shows}
 use Rattle.mm_runs.specs.Legal.{IsLegalHost}
 use Rattle.mm_runs.specs.Laws.{taken_prefix}
-use Rattle.mm_runs.specs.Order.{Owner, Tagged, has_tag, of_host, taken, place_of}
-use Rattle.mm_runs.specs.Awake.{IsWaiting, IsPassedByFew, has_begun, begun, begun_by_others, shares_of_others, is_for, is_place, may_be_counted}
+use Rattle.mm_runs.specs.Order.{Tagged, has_tag, of_host, taken, place_of}
+use Rattle.mm_runs.specs.Awake.{Sometime, IsWaiting, IsPassedByFew, has_begun, begun, begun_by_others, shares_of_others, is_for, is_place, may_be_counted}
 use Rattle.mm_machines.specs.Link.{Port, Marked, takes, marked_at, taken_at, operations_in, operations_among, is_nonempty}
-use Rattle.mm_machines.specs.Lines.{Group, TaggedPort, groups_of, group_of, target_of, with_tag, tagged_operations}
+use Rattle.mm_machines.specs.Lines.{Group, TaggedPort, groups_of, group_of, target_of, with_tag}
 use Rattle.mm_machines.specs.Begun.{groups_whole}
-use Rattle.mm_machines.specs.Turns.{seats_of, others_begun, IsKeptAsking, asks_at}
+use Rattle.mm_machines.specs.SideLaws.{marked_keeps}
+use Rattle.mm_machines.specs.Turns.{seats_of, others_begun, IsKeptAsking}
 use Rattle.mm_parts.specs.Steps.{IsArbiterPart}
-use Rattle.mm_awake.specs.Fair.{BeginsByTurns, AsksWhileWaiting, ShowsOperation, WaitsThere}
+use Rattle.mm_awake.specs.Fair.{BeginsByTurns, AsksWithin, ShowsOperation, WaitsThere}
 use Rattle.mm_awake.specs.Ways.{count_in}
 use Rattle.mm_awake.proofs.Arbiter.{TurnLaws}
 use Rattle.mm_awake.proofs.Beats.{ops_append}
-use Rattle.mm_awake.proofs.Bits.{no_true, one_taken}
+use Rattle.mm_awake.proofs.Bits.{no_true, one_taken, holds}
 use Rattle.mm_awake.proofs.Numbers.{of_is, none_above, whole}
 use Rattle.mm_awake.proofs.Wanted.{own_taken, tagged_of_host}
 use Rattle.mm_awake.proofs.FairAgent.{front_whole}
 use Rattle.mm_awake.proofs.FairOthers.{others, others_among, others_by_tags, endings, endings_append, few_endings, few_more}
-use Rattle.mm_awake.proofs.FairPassed.{ended_few, passed_while_asking}
-use Rattle.mm_awake.proofs.FairQuiet.{before_it, own, still_any, some_own, quiet, same_before, same_before_it, enough_taken}
+use Rattle.mm_awake.proofs.FairPassed.{ended_few, begun_split, one_a_cycle, passed_while_asking}
+use Rattle.mm_awake.proofs.FairQuiet.{before_it, still_any, some_own, quiet, same_before, same_before_it, enough_taken}
 use Rattle.mm_awake.proofs.FairSkips.{firsts}
 use Rattle.mm_awake.proofs.FairWaiting.{all_stay_finished}
 use Rattle.mm_awake.proofs.FairWindow.{taken_in, taken_split, taken_length}
@@ -51,7 +51,7 @@ some_long {A} (x ∷ xs) some = omega arith
 
 module _ (laws : TurnLaws) (system : System) (run : Run) (agent : ℕ) (up : ℕ → Port) (near far : TaggedPort) (end : ℕ) (there : agent < system.agents) (begins : BeginsByTurns system run agent near far end)
     (arbiter : IsArbiterPart system agent up far end) (words : (h : ℕ) → h < system.hosts → (up h).shape.word_bytes ≡ far.shape.word_bytes)
-    (pipe : (c : ℕ) → c ≤ end → count_in (takes far.port) 0 c ≤ count_in (takes near.port) 0 c + 2 * system.stages) (asks : AsksWhileWaiting system run up agent end)
+    (pipe : (c : ℕ) → c ≤ end → count_in (takes far.port) 0 c ≤ count_in (takes near.port) 0 c + 2 * system.stages) (late : ℕ) (asks : AsksWithin late system run up agent end)
     (host : ℕ) (is_host : host < system.hosts) (legal : IsLegalHost (system.host host) (run.at_host host) end) (most : ℕ)
     (few : (from size : ℕ) → from + size ≤ end → IsKeptAsking (seats_of system agent) up far.port host from size → others_begun (seats_of system agent) up far.port host from size ≤ most) where
   abbrev groups : List Marked → List Group
@@ -75,8 +75,8 @@ module _ (laws : TurnLaws) (system : System) (run : Run) (agent : ℕ) (up : ℕ
 
   -- where what the agent has taken is the front of what was taken behind the arbiter by a cycle, few others have begun since an earlier one
   passed_by : (from later size : ℕ) → from ≤ later → later ≤ end → from + size ≤ end → length (taken_at near.port later) ≤ length (taken_at far.port (from + size)) → from + size ≤ later →
-      others_begun (seats_of system agent) up far.port host from size ≤ most →
-      begun_by_others system run agent host later ≤ begun_by_others system run agent host from + most + (2 * system.stages + 2)
+      others_begun (seats_of system agent) up far.port host from size ≤ late + most →
+      begun_by_others system run agent host later ≤ begun_by_others system run agent host from + (late + most) + (2 * system.stages + 2)
   passed_by from later size low fit within short early few_begin =
       let ends = ended_few laws system agent up far end arbiter host from size within in
       let added = few_more host (groups (taken_at near.port from)) (groups new.rest) whole in
@@ -158,28 +158,40 @@ module _ (laws : TurnLaws) (system : System) (run : Run) (agent : ℕ) (up : ℕ
         let far_is = its_far c high in
         omega (arith, all, grown, near_is, less, far_is)
 
-    -- while nothing of it was taken at the arbiter it asks there
-    asks_so : (c : ℕ) → from ≤ c → c ≤ last → asked c ≤ earlier → ShowsOperation (target_of system agent) (up host) c
-    asks_so c least high untaken =
-        asks host (suc k) c is_host (omega (arith, fit, high)) (record {
-          presented = still_any system run host end legal (λ (t : Transfer). is_place (Some agent) (place_of system host t)) (suc k) from c least (omega (arith, fit, high)) waiting.presented;
-          counted = still_any system run host end legal (may_be_counted system host agent) (suc k) from c least (omega (arith, fit, high)) waiting.counted;
-          earlier = all_stay_finished system run host end legal from c least (omega (arith, fit, high)) (suc k) waiting.earlier;
-          untaken = let same = same_before system run host end legal agent there k from (omega (arith, low, fit)) waiting.earlier c least (omega (arith, fit, high)) in omega (arith, untaken, same);
-        })
+    -- it waits while nothing of it was taken at the arbiter
+    waits_so : (c : ℕ) → from ≤ c → c ≤ last → asked c ≤ earlier → WaitsThere system run agent (up host) host (suc k) c
+    waits_so c least high untaken = record {
+      presented = still_any system run host end legal (λ (t : Transfer). is_place (Some agent) (place_of system host t)) (suc k) from c least (omega (arith, fit, high)) waiting.presented;
+      counted = still_any system run host end legal (may_be_counted system host agent) (suc k) from c least (omega (arith, fit, high)) waiting.counted;
+      earlier = all_stay_finished system run host end legal from c least (omega (arith, fit, high)) (suc k) waiting.earlier;
+      untaken = let same = same_before system run host end legal agent there k from (omega (arith, low, fit)) waiting.earlier c least (omega (arith, fit, high)) in omega (arith, untaken, same);
+    }
 
-    -- and isn't taken while nothing is
-    not_taken : (c : ℕ) → from ≤ c → c ≤ last → asked c ≤ earlier → asked (suc c) ≤ earlier → far.port.commands.tag c ≡ host → IsFalse (takes far.port c)
-    not_taken c least high now next tag = by_take (takes far.port c) refl
+    -- and an operation that it shows isn't taken while nothing is
+    not_taken : (c : ℕ) → from ≤ c → c ≤ last → ShowsOperation (target_of system agent) (up host) c → asked (suc c) ≤ earlier → IsFalse (takes (up host) c)
+    not_taken c least high now next = by_take (takes (up host) c) refl
       where
-        by_take : (b : Bool) → takes far.port c ≡ b → IsFalse b
+        by_take : (b : Bool) → takes (up host) c ≡ b → IsFalse b
         by_take false e = refl
         by_take true e =
-            let own_takes = arbiter.taken host c is_host (omega (arith, fit, high)) tag ∙ e in
-            let split = ap (λ l. length (operations_among (target_of system agent) (up host).shape l)) (one_taken (up host) c own_takes) ∙ ops_append (target_of system agent) (up host).shape (taken_at (up host) c) (marked_at (up host) c) in
-            let some = some_long (operations_in (target_of system agent) (up host).shape (marked_at (up host) c)) (asks_so c least high now).1 in
+            let split = ap (λ l. length (operations_among (target_of system agent) (up host).shape l)) (one_taken (up host) c e) ∙ ops_append (target_of system agent) (up host).shape (taken_at (up host) c) (marked_at (up host) c) in
+            let some = some_long (operations_in (target_of system agent) (up host).shape (marked_at (up host) c)) now.1 in
             let enough_there = enough c least (omega (arith, fit, high)) in
             absurd (omega (arith, split, some, enough_there, next))
+
+    not_taken_below : (c : ℕ) → from ≤ c → c ≤ last → ShowsOperation (target_of system agent) (up host) c → asked (suc c) ≤ earlier → far.port.commands.tag c ≡ host → IsFalse (takes far.port c)
+    not_taken_below c least high now next tag = sym (arbiter.taken host c is_host (omega (arith, fit, high)) tag) ∙ not_taken c least high now next
+
+    -- so it stands on
+    stands_there : (first n : ℕ) → from ≤ first → first + n ≤ last → ((c : ℕ) → first ≤ c → c < first + n → asked (suc c) ≤ earlier) → ShowsOperation (target_of system agent) (up host) first → ShowsOperation (target_of system agent) (up host) (first + n)
+    stands_there first zero least high untaken now = let same : first ≡ first + zero = omega arith in subst (ShowsOperation (target_of system agent) (up host)) same now
+    stands_there first (suc n) least high untaken now =
+        let here = stands_there first n least (omega (arith, high)) (λ c low less. untaken c low (omega (arith, less))) now in
+        let open_one = not_taken (first + n) (omega (arith, least)) (omega (arith, high)) here (untaken (first + n) (omega arith) (omega arith)) in
+        let keeps = marked_keeps (up host) end (arbiter.legal host is_host) in
+        let held = keeps.held (first + n) (omega (arith, high, fit)) (holds (shows (up host).commands.signals (first + n)) (takes (up host) (first + n)) here.0 open_one) in
+        let next : suc (first + n) ≡ first + suc n = omega arith in
+        subst (ShowsOperation (target_of system agent) (up host)) next (held.0, subst (λ m. IsTrue (is_nonempty (operations_in (target_of system agent) (up host).shape m))) held.1 here.1)
 
     -- the cycle up to which nothing of it is taken at the arbiter
     record Stop : Type 0 where
@@ -242,17 +254,49 @@ module _ (laws : TurnLaws) (system : System) (run : Run) (agent : ℕ) (up : ℕ
               omega (arith, less, one);
         }
 
-    pub passed_few : begun_by_others system run agent host (suc last) ≤ begun_by_others system run agent host from + most + (2 * system.stages + 2)
+    -- few begin at the arbiter by then
+    few_begin : (stop : Stop) → others_begun (seats_of system agent) up far.port host from stop.size ≤ late + most
+    few_begin stop = by_size (nat_le stop.size late) refl
+      where
+        early_is : from + stop.size ≤ suc last
+        early_is = stop.early
+
+        by_size : (b : Bool) → nat_le stop.size late ≡ b → others_begun (seats_of system agent) up far.port host from stop.size ≤ late + most
+        by_size true e =
+            let short : stop.size ≤ late = grind (arith, tests, e) in
+            let count = one_a_cycle laws system agent up far end arbiter host from stop.size in
+            omega (arith, short, count)
+        by_size false e =
+            let long : late < stop.size = grind (arith, tests, e) in
+            by_found (asks host (suc k) from is_host (let early = stop.early in omega (arith, early, fit, long)) (λ c least less. waits_so c least (let early = stop.early in omega (arith, early, less, long)) (stop.untaken c least (omega (arith, less, long))).0)) long
+          where
+            by_found : Sometime from (suc late) (ShowsOperation (target_of system agent) (up host)) → late < stop.size → others_begun (seats_of system agent) up far.port host from stop.size ≤ late + most
+            by_found found long =
+                let first : ℕ = found.0 in
+                let least = found.1 in
+                let soon = found.2 in
+                let before : from + (first - from) ≡ first = omega (arith, least) in
+                let size : (first - from) + (stop.size - (first - from)) ≡ stop.size = omega (arith, least, soon, long) in
+                let split = begun_split laws system agent up far end arbiter host from (first - from) (stop.size - (first - from)) in
+                let whole = ap (others_begun (seats_of system agent) up far.port host from) size in
+                let moved = ap (λ c. others_begun (seats_of system agent) up far.port host c (stop.size - (first - from))) before in
+                let count = one_a_cycle laws system agent up far end arbiter host from (first - from) in
+                let early = stop.early in
+                let showing : (c : ℕ) → first ≤ c → c < first + (stop.size - (first - from)) → ShowsOperation (target_of system agent) (up host) c =
+                λ c low less. let there_is : first + (c - first) ≡ c = omega (arith, low) in
+                subst (ShowsOperation (target_of system agent) (up host)) there_is
+                (stands_there first (c - first) least (omega (arith, low, less, size, before, early)) (λ i down up_to. (stop.untaken i (omega (arith, least, down)) (omega (arith, up_to, low, less, size, before))).1) found.3) in
+                let passed = passed_while_asking laws system agent up far end arbiter host most few first (stop.size - (first - from)) (omega (arith, size, before, early, fit)) (λ c low less. (showing c low less).0)
+                (λ c low less tag. not_taken_below c (omega (arith, least, low)) (omega (arith, low, less, size, before, early)) (showing c low less) (stop.untaken c (omega (arith, least, low)) (omega (arith, less, size, before))).1 tag) in
+                omega (arith, split, whole, moved, count, passed, least, soon)
+
+    pub passed_few : begun_by_others system run agent host (suc last) ≤ begun_by_others system run agent host from + (late + most) + (2 * system.stages + 2)
     passed_few = by_first (nat_le (asked from) earlier) refl
       where
-        by_stop : Stop → begun_by_others system run agent host (suc last) ≤ begun_by_others system run agent host from + most + (2 * system.stages + 2)
-        by_stop stop =
-            passed_by from (suc last) stop.size (omega (arith, low)) fit (let early = stop.early in omega (arith, early, fit)) stop.short stop.early
-            (passed_while_asking laws system agent up far end arbiter host most few from stop.size (let early = stop.early in omega (arith, early, fit))
-            (λ c least less. (asks_so c least (let early = stop.early in omega (arith, early, less)) (stop.untaken c least less).0).0)
-            (λ c least less tag. not_taken c least (let early = stop.early in omega (arith, early, less)) (stop.untaken c least less).0 (stop.untaken c least less).1 tag))
+        by_stop : Stop → begun_by_others system run agent host (suc last) ≤ begun_by_others system run agent host from + (late + most) + (2 * system.stages + 2)
+        by_stop stop = passed_by from (suc last) stop.size (omega (arith, low)) fit (let early = stop.early in omega (arith, early, fit)) stop.short stop.early (few_begin stop)
 
-        by_first : (b : Bool) → nat_le (asked from) earlier ≡ b → begun_by_others system run agent host (suc last) ≤ begun_by_others system run agent host from + most + (2 * system.stages + 2)
+        by_first : (b : Bool) → nat_le (asked from) earlier ≡ b → begun_by_others system run agent host (suc last) ≤ begun_by_others system run agent host from + (late + most) + (2 * system.stages + 2)
         by_first true e =
             let same : from ≡ from + zero = omega arith in
             by_stop (search_stop (suc last - from) zero (omega (arith, low)) (λ c least less. absurd (omega (arith, least, less))) (subst (λ n. asked n ≤ earlier) same (grind (arith, tests, e))))
@@ -265,21 +309,21 @@ module _ (laws : TurnLaws) (system : System) (run : Run) (agent : ℕ) (up : ℕ
 
 module _ (laws : TurnLaws) (system : System) (run : Run) (agent : ℕ) (up : ℕ → Port) (near far : TaggedPort) (end : ℕ) (there : agent < system.agents) (begins : BeginsByTurns system run agent near far end)
     (arbiter : IsArbiterPart system agent up far end) (words : (h : ℕ) → h < system.hosts → (up h).shape.word_bytes ≡ far.shape.word_bytes)
-    (pipe : (c : ℕ) → c ≤ end → count_in (takes far.port) 0 c ≤ count_in (takes near.port) 0 c + 2 * system.stages) (asks : AsksWhileWaiting system run up agent end)
+    (pipe : (c : ℕ) → c ≤ end → count_in (takes far.port) 0 c ≤ count_in (takes near.port) 0 c + 2 * system.stages) (late : ℕ) (asks : AsksWithin late system run up agent end)
     (legal : (h : ℕ) → h < system.hosts → IsLegalHost (system.host h) (run.at_host h) end)
     (few : (host from size : ℕ) → from + size ≤ end → IsKeptAsking (seats_of system agent) up far.port host from size → others_begun (seats_of system agent) up far.port host from size ≤ shares_of_others system agent host) where
-  pub is_passed_by_few : IsPassedByFew (4 * system.stages + 32) system run agent end
+  pub is_passed_by_few : IsPassedByFew (late + (2 * system.stages + 2)) system run agent end
   is_passed_by_few from later host number low high is_host waiting unbegun = by_same (nat_eq from later) refl
     where
       Passed : ℕ → Type 0
-      Passed c = begun_by_others system run agent host c ≤ begun_by_others system run agent host from + shares_of_others system agent host + (4 * system.stages + 32)
+      Passed c = begun_by_others system run agent host c ≤ begun_by_others system run agent host from + shares_of_others system agent host + (late + (2 * system.stages + 2))
 
       by_number : (n : ℕ) → n ≡ number → (last : ℕ) → suc last ≡ later → from ≤ last → Passed (suc last)
       by_number zero e last same least =
           let none = of_is system run host end (legal host is_host) from 0 (omega (arith, least, same, high)) ∙ none_above system host (λ i. nat_eq i 0) 1 (whole system run host end (legal host is_host) from) (λ i above. grind (arith, tests, above)) in
           absurd (no_true (subst (λ l. IsTrue (list_any (λ (t : Transfer). is_place (Some agent) (place_of system host t)) l)) none (subst (λ n. IsTrue (is_for system run host (Some agent) n (suc from))) (sym e) waiting.presented)))
       by_number (suc k) e last same least =
-          let most = passed_few laws system run agent up near far end there begins arbiter words pipe asks host is_host (legal host is_host) (shares_of_others system agent host) (few host) from last k least (omega (arith, same, high))
+          let most = passed_few laws system run agent up near far end there begins arbiter words pipe late asks host is_host (legal host is_host) (shares_of_others system agent host) (few host) from last k least (omega (arith, same, high))
           (subst (λ n. IsWaiting system run agent host n from) (sym e) waiting) (subst (λ n. IsFalse (has_begun system run agent host n (suc last))) (sym e) (subst (λ c. IsFalse (has_begun system run agent host number c)) (sym same) unbegun)) in
           omega (arith, most)
 
@@ -290,3 +334,7 @@ module _ (laws : TurnLaws) (system : System) (run : Run) (agent : ℕ) (up : ℕ
       by_same : (b : Bool) → nat_eq from later ≡ b → Passed later
       by_same true e = let same : from ≡ later = grind (arith, tests, e) in subst Passed same (omega arith)
       by_same false e = by_later later refl (grind (arith, tests, e, low))
+
+pub more_may_pass : (few more : ℕ) (system : System) (run : Run) (agent end : ℕ) → few ≤ more → IsPassedByFew few system run agent end → IsPassedByFew more system run agent end
+more_may_pass few more system run agent end less passed from later host number low high is_host waiting unbegun =
+    let all = passed from later host number low high is_host waiting unbegun in omega (arith, all, less)

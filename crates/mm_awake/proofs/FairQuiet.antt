@@ -1,5 +1,5 @@
 -- While a command hasn't begun, the operations of its host that are taken are those of the commands before it.
-use Rattle.std.proofs.Common.{ℕ, zero, suc, ◌<◌, ◌≤◌, ◌≡◌, ◌+◌, ◌-◌, Bool, true, false, not, ◌&&◌, ◌||◌, List, [], ◌∷◌, ◌++◌, length, nat_eq, nat_le, nat_lt, arith, refl, sym, ap, ap₂, subst, ◌∙◌, append-nil, tests, IsTrue, IsFalse, Option, Some, None}
+use Rattle.std.proofs.Common.{ℕ, zero, suc, ◌<◌, ◌≤◌, ◌≡◌, ◌-◌, Bool, true, false, ◌&&◌, ◌||◌, List, [], ◌∷◌, ◌++◌, length, nat_eq, nat_le, nat_lt, arith, refl, sym, ap, subst, ◌∙◌, tests, IsTrue, IsFalse, Some, None}
 use Rattle.std.specs.Prelude.{slice_index}
 use Rattle.std.specs.List.{list_any, list_all}
 use Rattle.std.proofs.lemmas.Bool.{and_parts, both_ways}
@@ -8,13 +8,13 @@ use Rattle.histories.specs.Laws.{before_prefix}
 use Rattle.mm_runs.specs.Views.{System, Run}
 use Rattle.mm_runs.specs.Commands.{Transfer}
 use Rattle.mm_runs.specs.Legal.{IsLegalHost}
-use Rattle.mm_runs.specs.Order.{Owner, owners, owners_taken, is_same_owner, of_host, taken, place_of, host_transfers}
+use Rattle.mm_runs.specs.Order.{owners, owners_taken, of_host, taken, place_of, host_transfers}
 use Rattle.mm_runs.specs.Awake.{is_place, is_for, has_begun, may_be_counted, of_command, up_to, count_for, is_finished, are_taken, are_given, are_finished_before}
 use Rattle.mm_awake.proofs.Bits.{no_true}
 use Rattle.mm_awake.proofs.Numbers.{chosen, none_above, chosen_append, ops_for, ops_count, up_is, of_is, one_place, any_of_all, presented_is, whole, whole_steady, each_holds, all_at}
 use Rattle.mm_awake.proofs.FairBegun.{owners_among}
 use Rattle.mm_awake.proofs.FairCounts.{ops_step, first_of}
-use Rattle.mm_awake.proofs.FairWaiting.{some_counted, first_found, owner_found, same_up, all_ended, all_stay_finished}
+use Rattle.mm_awake.proofs.FairWaiting.{some_counted, first_found, owner_found, same_up, all_ended}
 
 any_front : {A : Type 0} (test : A → Bool) (xs ys : List A) → IsTrue (list_any test xs) → IsTrue (list_any test (xs ++ ys))
 any_front {A} test [] ys any = absurd (no_true any)

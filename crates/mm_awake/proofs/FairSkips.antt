@@ -1,5 +1,5 @@
 -- Past the first few commands that begin at an agent, each is one of those whose beats were taken behind its arbiter in the window.
-use Rattle.std.proofs.Common.{ℕ, zero, suc, ◌<◌, ◌≤◌, ◌≡◌, ◌+◌, ◌-◌, ◌*◌, Bool, true, false, List, [], ◌∷◌, ◌++◌, length, map, take, drop, nat_eq, if◌then◌else◌, arith, refl, sym, ap, ap₂, subst, ◌∙◌, append_assoc, append-nil, length-append, length-drop}
+use Rattle.std.proofs.Common.{ℕ, zero, suc, ◌<◌, ◌≤◌, ◌≡◌, ◌+◌, ◌-◌, Bool, true, false, List, [], ◌∷◌, ◌++◌, length, map, take, drop, if◌then◌else◌, arith, refl, sym, ap, subst, ◌∙◌, append_assoc, length-append, length-drop}
 use Rattle.std.proofs.lemmas.List.{map-append, drop-map, take-map, drop_all, take-append-drop, take-append-le, length-map}
 use Rattle.std.proofs.Math.Seq.{take-length}
 use Rattle.mm_runs.specs.Order.{Owner}

@@ -1,5 +1,5 @@
 -- A command that waits for its turn: what is known of it from then on, and when it has begun.
-use Rattle.std.proofs.Common.{ℕ, zero, suc, ◌<◌, ◌≤◌, ◌≡◌, ◌+◌, ◌-◌, ◌/◌, ◌*◌, min, Bool, true, false, not, ◌&&◌, ◌||◌, List, [], ◌∷◌, ◌++◌, length, map, filter, flat_map, take, nat_eq, nat_le, nat_lt, if◌then◌else◌, arith, refl, sym, ap, ap₂, subst, ◌∙◌, append_assoc, length-append, append-nil, tests, IsTrue, IsFalse, Option, Some, None}
+use Rattle.std.proofs.Common.{ℕ, zero, suc, ◌<◌, ◌≤◌, ◌≡◌, ◌+◌, ◌-◌, ◌/◌, ◌*◌, Bool, true, false, ◌&&◌, ◌||◌, List, [], ◌∷◌, ◌++◌, length, map, filter, flat_map, take, nat_eq, nat_le, nat_lt, if◌then◌else◌, arith, refl, sym, ap, ap₂, subst, ◌∙◌, append_assoc, length-append, append-nil, tests, IsTrue, IsFalse, Some}
 use Rattle.std.specs.Prelude.{slice_index}
 use Rattle.std.specs.List.{list_any, list_all}
 use Rattle.std.proofs.Math.Nat.{add-div_left}
@@ -8,18 +8,16 @@ use Rattle.std.proofs.lemmas.Bool.{and_parts, both_ways}
 use Rattle.histories.specs.History.{IsPrefix, numbers}
 use Rattle.histories.specs.Laws.{before_prefix, prefix_length, prefix_map, prefix_filter}
 use Rattle.mm_runs.specs.Views.{System, Run, Shape}
-use Rattle.mm_runs.specs.Operations.{Beat, filled_of_piece, filled_lanes, lanes_of_piece, piece_bytes, pieces, is_enabled}
+use Rattle.mm_runs.specs.Operations.{Beat, filled_of_piece, filled_lanes, piece_bytes, pieces, is_enabled}
 use Rattle.mm_runs.specs.Commands.{Transfer, accepted_in, read_beats}
 use Rattle.mm_runs.specs.Laws.{taken_prefix}
 use Rattle.mm_runs.specs.Legal.{IsLegalHost, host_accepts, given}
-use Rattle.mm_runs.specs.Order.{Owner, Tagged, has_tag, owners, owners_from, owners_taken, of_host, taken, is_agent, is_same_owner, place_of, host_transfers, transfer_operations, beat_operations}
-use Rattle.mm_runs.specs.Awake.{is_place, is_for, has_begun, begun, first_owners, has_first_word, may_be_counted, of_command, up_to, count_for, is_finished, are_taken, are_given, are_reached, are_finished_before}
+use Rattle.mm_runs.specs.Order.{Owner, Tagged, has_tag, owners_from, of_host, taken, is_agent, is_same_owner, place_of, host_transfers, transfer_operations, beat_operations}
+use Rattle.mm_runs.specs.Awake.{is_place, first_owners, has_first_word, may_be_counted, of_command, up_to, count_for, is_finished, are_taken, are_given, are_reached, are_finished_before}
 use Rattle.mm_machines.specs.Lines.{host_accepted}
 use Rattle.mm_awake.proofs.Bits.{no_true}
-use Rattle.mm_awake.proofs.Beats.{same_place}
-use Rattle.mm_awake.proofs.Numbers.{chosen, ends_in, none_above, chosen_append, ops_for, ops_append, ops_count, up_is, of_is, within, ends_length, one_place, any_of_all, presented_is, whole, whole_steady, each_holds, all_at}
+use Rattle.mm_awake.proofs.Numbers.{chosen, ends_in, none_above, chosen_append, ops_for, up_is, of_is, within, ends_length, whole, all_at}
 use Rattle.mm_awake.proofs.Wanted.{of_host_append}
-use Rattle.mm_awake.proofs.FairCounts.{ops_step, first_of}
 
 -- ---- a command that may be counted has an operation
 

@@ -1,9 +1,9 @@
 -- In a window in which all hosts show plain writes, each beat taken behind the arbiter is a whole command.
-use Rattle.std.proofs.Common.{ℕ, zero, suc, ◌<◌, ◌≤◌, ◌≡◌, ◌+◌, ◌-◌, ◌*◌, Bool, true, false, List, [], ◌∷◌, ◌++◌, length, map, take, drop, arith, refl, sym, ap, ap₂, subst, ◌∙◌, append_assoc, append-nil, length-append, IsTrue}
+use Rattle.std.proofs.Common.{ℕ, zero, suc, ◌<◌, ◌≤◌, ◌≡◌, ◌+◌, ◌-◌, ◌*◌, Bool, true, false, List, [], ◌∷◌, ◌++◌, length, map, take, drop, arith, refl, sym, ap, ap₂, ◌∙◌, append_assoc, append-nil, length-append, IsTrue}
 use Rattle.std.proofs.lemmas.List.{map-append, drop-map, length-map}
 use Rattle.histories.specs.History.{IsPrefix, only_if, one_if}
 use Rattle.histories.specs.Laws.{prefix_map, before_prefix}
-use Rattle.mm_runs.specs.Views.{System, Run, Shape}
+use Rattle.mm_runs.specs.Views.{System, Run}
 use Rattle.mm_runs.specs.Order.{Owner, is_joined}
 use Rattle.mm_runs.specs.Awake.{begun, begun_within}
 use Rattle.mm_machines.specs.Link.{Port, Marked, takes, marked_at, taken_at, closes, is_nonempty, operations_in}

@@ -1,20 +1,20 @@
 -- A host that is wired to an agent's arbiter shows an operation there while it waits.
-use Rattle.std.proofs.Common.{ℕ, zero, suc, ◌<◌, ◌≤◌, ◌≡◌, ◌+◌, ◌-◌, Bool, true, false, not, ◌&&◌, ◌||◌, List, [], ◌∷◌, ◌++◌, length, map, flat_map, nat_eq, nat_le, nat_lt, if◌then◌else◌, arith, refl, sym, ap, ap₂, subst, ◌∙◌, append-nil, length-append, tests, IsTrue, IsFalse, Option, Some, None, inl, inr, ◌⊎◌}
-use Rattle.std.specs.List.{list_any, list_all}
-use Rattle.std.proofs.lemmas.Bool.{and_parts, both_ways}
-use Rattle.histories.specs.History.{only_if, numbers}
-use Rattle.mm_runs.specs.Views.{System, Run, Shape}
+use Rattle.std.proofs.Common.{ℕ, zero, suc, ◌<◌, ◌≤◌, ◌≡◌, ◌+◌, ◌-◌, Bool, true, false, ◌&&◌, ◌||◌, List, [], ◌∷◌, ◌++◌, length, map, flat_map, nat_eq, nat_le, nat_lt, if◌then◌else◌, arith, refl, sym, ap, ap₂, subst, ◌∙◌, append-nil, tests, IsTrue, IsFalse, Some, None, inl, inr, ◌⊎◌}
+use Rattle.std.specs.List.{list_any}
+use Rattle.std.proofs.lemmas.Bool.{and_parts}
+use Rattle.histories.specs.History.{only_if}
+use Rattle.mm_runs.specs.Views.{System, Run, Shape, Kind}
 use Rattle.mm_runs.specs.Commands.{Transfer, shows, transfer_at}
 use Rattle.mm_runs.specs.Legal.{IsLegalHost, host_accepts}
-use Rattle.mm_runs.specs.Order.{is_agent, place_of, host_transfers, transfer_operations, issued, for_agent}
+use Rattle.mm_runs.specs.Order.{is_agent, is_joined, place_of, host_transfers, transfer_operations, issued}
 use Rattle.mm_runs.specs.Awake.{is_place, is_for, count_for, of_command, up_to, commands_begun, are_finished_before, has_no_operation}
 use Rattle.mm_machines.specs.Link.{Port, Marked, taken_at, marked_at, operations_among, operations_in, beat_operations, is_nonempty}
 use Rattle.mm_machines.specs.Lines.{target_of, host_accepted}
 use Rattle.mm_parts.specs.Steps.{IsHostPart, IsRoutePart, place_shown, is_open}
 use Rattle.mm_awake.specs.Fair.{WaitsAlone, WaitsThere, ShowsOperation}
 use Rattle.mm_awake.proofs.Bits.{no_true}
-use Rattle.mm_awake.proofs.Beats.{same_count}
-use Rattle.mm_awake.proofs.Numbers.{chosen, ends_in, begins_in, Steady, after, after_end, after_one, is_some, some_after_one, begins_and_ends, begins_length, none_above, chosen_append, ops_for, ops_append, ops_count, of_is, within, presented_is, whole, whole_steady, each_holds}
+use Rattle.mm_awake.proofs.Beats.{is_the_place, same_count}
+use Rattle.mm_awake.proofs.Numbers.{chosen, ends_in, begins_in, Steady, after, after_end, is_some, some_after_one, begins_and_ends, begins_length, none_above, chosen_append, ops_for, ops_append, ops_count, of_is, within, presented_is, whole, whole_steady, each_holds}
 use Rattle.mm_awake.proofs.Places.{all_taken}
 use Rattle.mm_awake.proofs.Standing.{IsAhead, stands}
 use Rattle.mm_awake.proofs.FairCounts.{ops_step, ops_chosen_front, none_later}
@@ -221,3 +221,17 @@ module _ (system : System) (run : Run) (host agent : ℕ) (middle : Port) (down 
       let none = of_is system run host end legal c 0 fit ∙ none_above system host (λ i. nat_eq i 0) 1 (whole system run host end legal c) (λ i above. grind (arith, tests, above)) in
       absurd (no_true (subst (λ l. IsTrue (list_any (λ (t : Transfer). is_place (Some agent) (place_of system host t)) l)) none waits.presented))
   asks_there (suc k) waits = shows_so k waits
+
+-- a host with a command for an agent is joined to it
+pub for_joined : (system : System) (run : Run) (host agent number c : ℕ) → ((kind : Kind) (address : ℕ) → system.place host kind address ≡ Some agent → IsTrue (is_joined system agent host)) →
+    IsTrue (is_for system run host (Some agent) number (suc c)) → IsTrue (is_joined system agent host)
+for_joined system run host agent number c joined for_it = found (of_command number (host_transfers system run host (suc c))) for_it
+  where
+    found : (ts : List Transfer) → IsTrue (list_any (λ (t : Transfer). is_place (Some agent) (place_of system host t)) ts) → IsTrue (is_joined system agent host)
+    found [] none = absurd (no_true none)
+    found (t ∷ ts) any = by_first (is_place (Some agent) (place_of system host t)) refl any (found ts)
+      where
+        by_first : (b : Bool) → is_place (Some agent) (place_of system host t) ≡ b → IsTrue (b || list_any (λ (t : Transfer). is_place (Some agent) (place_of system host t)) ts) →
+            (IsTrue (list_any (λ (t : Transfer). is_place (Some agent) (place_of system host t)) ts) → IsTrue (is_joined system agent host)) → IsTrue (is_joined system agent host)
+        by_first true e any more = joined t.kind t.first (is_the_place agent (place_of system host t) e)
+        by_first false e any more = more any

@@ -122,20 +122,20 @@ module _ (system : System) (run : Run) (host agent : ℕ) (middle : Port) (down 
   pub goes_on : IsTrue (shows_plain_write system run agent c host) → IsPlainAt (target_of system agent) (down agent) c
   goes_on h = plain_behind (plain_of system run agent host c h)
 
-handed_down : (target : Target) (port : ℕ → Port) (n end c : ℕ) → c < end → ((i : ℕ) → i < n → HandsWritesOn target (port (suc i)) (port i) end) → IsPlainAt target (port n) c → IsPlainAt target (port 0) c
+pub handed_down : (target : Target) (port : ℕ → Port) (n end c : ℕ) → c < end → ((i : ℕ) → i < n → HandsWritesOn target (port (suc i)) (port i) end) → IsPlainAt target (port n) c → IsPlainAt target (port 0) c
 handed_down target port zero end c fit hands at = at
 handed_down target port (suc n) end c fit hands at = handed_down target port n end c fit (λ i low. hands i (omega (arith, low))) (hands n (omega arith) c fit at)
 
 -- plain writers show plain writes at the arbiter throughout
 module _ (system : System) (run : Run) (agent : ℕ) (links : ℕ → ℕ) (upper : ℕ → ℕ → Port) (from size end : ℕ) (fit : from + size ≤ end)
-    (hands : (h i : ℕ) → IsTrue (is_joined system agent h) → i < links h → HandsWritesOn (target_of system agent) (upper h (suc i)) (upper h i) end)
+    (hands : (h : ℕ) → IsTrue (is_joined system agent h) → HandsWritesOn (target_of system agent) (upper h (links h)) (upper h 0) end)
     (goes : (h c : ℕ) → IsTrue (is_joined system agent h) → c < end → IsTrue (shows_plain_write system run agent c h) → IsPlainAt (target_of system agent) (upper h (links h)) c)
     (writes : Throughout from size (λ c. IsTrue (list_all (shows_plain_write system run agent c) (system.joined agent)))) where
   pub all_plain : (h c : ℕ) → IsTrue (is_joined system agent h) → from ≤ c → c < from + size → IsPlainAt (target_of system agent) (upper h 0) c
   all_plain h c joined low high =
       let inside : c < end = omega (arith, fit, high) in
       let shown = each_of (shows_plain_write system run agent c) (system.joined agent) h (writes c low high) joined in
-      handed_down (target_of system agent) (upper h) (links h) end c inside (λ i less. hands h i joined less) (goes h c joined inside shown)
+      hands h joined c inside (goes h c joined inside shown)
 
   pub all_ask : AllAskPlainly system agent (λ h. upper h 0) from size
   all_ask h c joined low high = let at = all_plain h c joined low high in (at.shown, at.ends)

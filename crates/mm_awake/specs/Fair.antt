@@ -5,7 +5,7 @@ use Rattle.histories.specs.History.{IsPrefix, only_if, is_raised}
 use Rattle.mm_runs.specs.Views.{System, Run}
 use Rattle.mm_runs.specs.Commands.{shows, agent_accepts}
 use Rattle.mm_runs.specs.Order.{Owner, taken, host_transfers, is_joined, issued}
-use Rattle.mm_runs.specs.Awake.{begun, first_owners, may_be_counted, of_command, up_to, count_for, commands_begun, is_for, are_finished_before, has_no_operation}
+use Rattle.mm_runs.specs.Awake.{Throughout, Sometime, begun, first_owners, may_be_counted, of_command, up_to, count_for, commands_begun, is_for, are_finished_before, has_no_operation}
 use Rattle.mm_machines.specs.Link.{Port, Target, takes, taken_at, marked_at, closes, is_nonempty, operations_in, operations_among}
 use Rattle.mm_machines.specs.Begun.{owners_of_groups, groups_whole}
 use Rattle.mm_machines.specs.Lines.{TaggedPort, groups_of, tagged_operations, target_of}
@@ -47,10 +47,10 @@ pub record IsPlainAt (target : Target) (port : Port) (c : ℕ) : Type 0 where
 abbrev pub HandsWritesOn : Target → Port → Port → ℕ → Type 0
 HandsWritesOn target up down end = (c : ℕ) → c < end → IsPlainAt target up c → IsPlainAt target down c
 
--- what turns ask beside `IsBuilt`: no host is joined to an agent twice, and the links hand plain writes on
+-- what turns ask beside `IsBuilt`: no host is joined to an agent twice, and what lies between its route and the arbiter hands plain writes on
 pub record HandsPlainWrites (system : System) (inside : Boundaries) (agent end : ℕ) : Type 0 where
   pub apart : IsTrue (are_apart (system.joined agent))
-  pub links : (h i : ℕ) → IsTrue (is_joined system agent h) → i < inside.links h agent → HandsWritesOn (target_of system agent) (inside.upper h agent (suc i)) (inside.upper h agent i) end
+  pub links : (h : ℕ) → IsTrue (is_joined system agent h) → HandsWritesOn (target_of system agent) (inside.upper h agent (inside.links h agent)) (inside.upper h agent 0) end
 
 -- next to the hosts, at the routes and at the arbiters each part keeps its record, each stage holds back two beats at most, and the part next to an agent none
 pub record AreParts (system : System) (run : Run) (inside : Boundaries) (end : ℕ) : Type 0 where
@@ -91,7 +91,8 @@ pub record WaitsThere (system : System) (run : Run) (agent : ℕ) (port : Port) 
   pub earlier : IsTrue (are_finished_before system run host number c)
   pub untaken : length (operations_among (target_of system agent) port.shape (taken_at port c)) ≤ count_for system host agent (up_to (number - 1) (host_transfers system run host (suc c)))
 
--- what `few` asks beside `IsBuilt`: while a host waits so, an operation stands before the arbiter
-abbrev pub AsksWhileWaiting : System → Run → (ℕ → Port) → ℕ → ℕ → Type 0
-AsksWhileWaiting system run up agent end =
-    (host number c : ℕ) → host < system.hosts → c < end → WaitsThere system run agent (up host) host number c → ShowsOperation (target_of system agent) (up host) c
+-- what `few` asks beside `IsBuilt`: where a host waits so for a few cycles and one more, an operation stands before the arbiter in one of them
+abbrev pub AsksWithin : ℕ → System → Run → (ℕ → Port) → ℕ → ℕ → Type 0
+AsksWithin late system run up agent end =
+    (host number from : ℕ) → host < system.hosts → from + suc late ≤ end → Throughout from (suc late) (WaitsThere system run agent (up host) host number) →
+    Sometime from (suc late) (ShowsOperation (target_of system agent) (up host))

@@ -16,7 +16,7 @@ ghost use Rattle.mm_machines.specs.Turns.{seats_of, others_begun, IsKeptAsking};
 ghost use Rattle.mm_parts.specs.Steps.{IsArbiterPart, IsHostPart, IsRoutePart, has_room};
 ghost use Rattle.mm_awake.specs.Ways.{count_in};
 ghost use Rattle.mm_awake.specs.Theorem.{Boundaries, States, LinkRanks, IsBuilt};
-ghost use Rattle.mm_awake.specs.Fair.{are_apart, AllAskPlainly, AreAmong, AsksWhileWaiting, BeginsByTurns, IsPlainAt, HandsWritesOn, HandsPlainWrites, AreParts, WaitsAlone, WaitsBefore};
+ghost use Rattle.mm_awake.specs.Fair.{are_apart, AllAskPlainly, AreAmong, AsksWithin, BeginsByTurns, IsPlainAt, HandsWritesOn, HandsPlainWrites, AreParts, WaitsAlone, WaitsBefore};
 
 /// In a system of machines whose links hand plain writes on, where each host that is joined to an agent shows a plain write for it in every cycle of a window, the commands that are taken behind its arbiter stand in full turns.
 pub fn plain_writers_take_full_turns()
@@ -31,35 +31,49 @@ pub fn plain_writers_take_full_turns()
     machines_are_parts()
 }
 
-/// A system of machines is fair, where its links hand plain writes on in their cycle and show a waiting host's operation at its arbiter: few others pass a waiting command, and hosts that write without gaps take turns by their shares.
+/// A system of machines is fair, where its links hand plain writes on in their cycle and show a waiting host's operation at its arbiter within 30 cycles: few others pass a waiting command, and hosts that write without gaps take turns by their shares.
 pub fn machines_are_fair()
     ensures { (responses : Responses) (system : System) (run : Run) (inside : Boundaries) (states : States) (ranks : LinkRanks) (end : ℕ)
         → IsBuilt responses system run inside states ranks end → IsLegalRun system run end
         → ((agent : ℕ) → agent < system.agents → HandsPlainWrites system inside agent end)
-        → ((agent : ℕ) → agent < system.agents → AsksWhileWaiting system run (λ h. inside.upper h agent 0) agent end)
+        → ((agent : ℕ) → agent < system.agents → AsksWithin 30 system run (λ h. inside.upper h agent 0) agent end)
         → IsFair system run end }
 {
     commands_take_turns();
     waiting_commands_are_passed_by_few()
 }
 
-/// In a system of machines a host that is wired to an agent's arbiter shows an operation there while it waits.
+/// A system of machines is fair where each host is wired to the arbiters of its agents, and is joined to none twice.
+pub fn wired_machines_are_fair()
+    ensures { (responses : Responses) (system : System) (run : Run) (inside : Boundaries) (states : States) (ranks : LinkRanks) (end : ℕ)
+        → IsBuilt responses system run inside states ranks end → IsLegalRun system run end
+        → ((agent : ℕ) → agent < system.agents → IsTrue (are_apart (system.joined agent)))
+        → ((agent host : ℕ) → agent < system.agents → IsTrue (is_joined system agent host) → inside.upper host agent 0 ≡ inside.upper host agent (inside.links host agent))
+        → IsFair system run end }
+{
+    machines_are_fair();
+    wired_hosts_ask_while_waiting()
+}
+
+/// In a system of machines a host that is wired to an agent's arbiter shows an operation there in each cycle in which it waits.
 pub fn wired_hosts_ask_while_waiting()
-    ensures { (responses : Responses) (system : System) (run : Run) (inside : Boundaries) (states : States) (ranks : LinkRanks) (end agent : ℕ)
+    ensures wired { (responses : Responses) (system : System) (run : Run) (inside : Boundaries) (states : States) (ranks : LinkRanks) (end agent : ℕ)
         → IsBuilt responses system run inside states ranks end → IsLegalRun system run end → agent < system.agents
-        → ((host : ℕ) → host < system.hosts → inside.upper host agent 0 ≡ inside.upper host agent (inside.links host agent))
-        → AsksWhileWaiting system run (λ h. inside.upper h agent 0) agent end }
+        → ((host : ℕ) → IsTrue (is_joined system agent host) → inside.upper host agent 0 ≡ inside.upper host agent (inside.links host agent))
+        → AsksWithin 0 system run (λ h. inside.upper h agent 0) agent end }
+    ensures later { (late more : ℕ) (system : System) (run : Run) (up : ℕ → Port) (agent end : ℕ) → late ≤ more
+        → AsksWithin late system run up agent end → AsksWithin more system run up agent end }
 {
     waiting_hosts_ask();
     machines_are_parts()
 }
 
-/// In a system of machines, where a waiting host's operation stands before its arbiter, at most as many commands of others begin at the agent before its own as they have shares, and as stand in the pipe.
+/// In a system of machines, where a waiting host's operation stands before its arbiter within a few cycles, at most as many commands of others begin at the agent before its own as they have shares, as there are such cycles, and as stand in the pipe.
 pub fn waiting_commands_are_passed_by_few()
-    ensures { (responses : Responses) (system : System) (run : Run) (inside : Boundaries) (states : States) (ranks : LinkRanks) (end agent : ℕ)
+    ensures { (responses : Responses) (system : System) (run : Run) (inside : Boundaries) (states : States) (ranks : LinkRanks) (end agent late : ℕ)
         → IsBuilt responses system run inside states ranks end → IsLegalRun system run end → agent < system.agents
-        → AsksWhileWaiting system run (λ h. inside.upper h agent 0) agent end
-        → IsPassedByFew (4 * system.stages + 32) system run agent end }
+        → AsksWithin late system run (λ h. inside.upper h agent 0) agent end
+        → IsPassedByFew (late + (2 * system.stages + 2)) system run agent end }
 {
     askers_are_passed_by_few();
     commands_begin_by_turns();
@@ -150,12 +164,14 @@ pub fn machines_are_parts()
     crate::host_and_route_serve_default()
 }
 
-/// A plain write that a host shows for an agent stands behind its route in the same cycle, with an operation, and ends its command there. A wire hands it on.
+/// A plain write that a host shows for an agent stands behind its route in the same cycle, with an operation, and ends its command there. A wire hands it on, and so do links in a row that do.
 pub fn plain_writes_go_on()
     ensures route { (system : System) (run : Run) (host agent : ℕ) (middle : Port) (down : ℕ → Port) (end : ℕ) → agent < system.agents
         → IsHostPart system run host middle end → IsRoutePart system host middle down end
         → (c : ℕ) → c < end → IsTrue (shows_plain_write system run agent c host) → IsPlainAt (target_of system agent) (down agent) c }
     ensures wire { (target : Target) (port : Port) (end : ℕ) → HandsWritesOn target port port end }
+    ensures row { (target : Target) (port : ℕ → Port) (links end : ℕ) → ((i : ℕ) → i < links → HandsWritesOn target (port (suc i)) (port i) end)
+        → HandsWritesOn target (port links) (port 0) end }
 {}
 
 /// Where each host that is joined to an agent asks at its arbiter in every cycle of a window, with beats that end their commands, the commands that are taken there stand in full turns, wherever a row of them begins and ends: a turn between others is of exactly its host's shares, and the next host in the order follows.

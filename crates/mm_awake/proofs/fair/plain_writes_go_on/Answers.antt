@@ -1,4 +1,4 @@
-use Rattle.mm_awake.proofs.FairWrites.{goes_on}
+use Rattle.mm_awake.proofs.FairWrites.{goes_on, handed_down}
 use Rattle.mm_awake.proofs.fair.plain_writes_go_on.Goals as goal
 
 pub returns-clause-route : goal.returns-clause-route
@@ -6,3 +6,6 @@ returns-clause-route c = λ system run host agent middle down end there part rou
 
 pub returns-clause-wire : goal.returns-clause-wire
 returns-clause-wire c = λ target port end c fit at. at
+
+pub returns-clause-row : goal.returns-clause-row
+returns-clause-row c = λ target port links end hands k fit at. handed_down target port links end k fit hands at

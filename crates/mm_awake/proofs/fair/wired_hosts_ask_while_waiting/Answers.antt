@@ -1,14 +1,25 @@
-use Rattle.std.proofs.Common.{sym, subst}
+use Rattle.std.proofs.Common.{arith, sym, subst}
 use Rattle.mm_machines.specs.Link.{Port}
 use Rattle.mm_machines.specs.Lines.{target_of}
 use Rattle.mm_awake.specs.Fair.{WaitsThere, ShowsOperation}
-use Rattle.mm_awake.proofs.FairWired.{asks_there}
+use Rattle.mm_awake.proofs.FairWired.{asks_there, for_joined}
 use Rattle.mm_awake.proofs.fair.wired_hosts_ask_while_waiting.Goals as goal
 
-pub returns : goal.returns
-returns c = λ responses system run inside states ranks end agent built legal there wired host number k here fit waits.
+pub returns-clause-wired : goal.returns-clause-wired
+returns-clause-wired c = λ responses system run inside states ranks end agent built legal there wired host number from here fit waits.
     let parts = c.machines_are_parts.ensures responses system run inside states ranks end built legal in
-    subst (λ (p : Port). ShowsOperation (target_of system agent) p k) (sym (wired host here))
-    (asks_there system run host agent (inside.after_host host) (λ a. inside.upper host a (inside.links host a)) end there (parts.host host here) (parts.route host here) k fit
-    (λ alone quiet. c.waiting_hosts_ask.ensures.asks responses system run inside states ranks end agent host k built legal there here fit alone quiet)
-    number (subst (λ (p : Port). WaitsThere system run agent p host number k) (wired host here) waits))
+    let now = waits from (omega arith) (omega arith) in
+    let its = wired host (for_joined system run host agent number from (λ kind address place. (built.plan.places host here).joined kind address agent place) now.presented) in (
+      from,
+      omega arith,
+      omega arith,
+      subst (λ (p : Port). ShowsOperation (target_of system agent) p from) (sym its)
+          (asks_there system run host agent (inside.after_host host) (λ a. inside.upper host a (inside.links host a)) end there (parts.host host here) (parts.route host here) from (omega (arith, fit))
+          (λ alone quiet. c.waiting_hosts_ask.ensures.asks responses system run inside states ranks end agent host from built legal there here (omega (arith, fit)) alone quiet)
+          number (subst (λ (p : Port). WaitsThere system run agent p host number from) its now)),
+    )
+
+pub returns-clause-later : goal.returns-clause-later
+returns-clause-later c = λ late more system run up agent end less asks host number from here fit waits.
+    let found = asks host number from here (omega (arith, fit, less)) (λ k low high. waits k low (omega (arith, high, less))) in
+    (found.0, found.1, (let high = found.2 in omega (arith, high, less)), found.3)
