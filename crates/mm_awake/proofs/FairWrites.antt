@@ -6,12 +6,13 @@ use Rattle.mm_runs.specs.Operations.{Beat}
 use Rattle.mm_runs.specs.Commands.{Transfer, shows, transfer_at}
 use Rattle.mm_runs.specs.Legal.{host_accepts}
 use Rattle.mm_runs.specs.Order.{place_of, is_agent, is_joined, transfer_operations}
-use Rattle.mm_runs.specs.Awake.{shows_plain_write, Throughout}
+use Rattle.mm_runs.specs.Awake.{shows_plain_write, are_finished_before, commands_begun, Throughout}
 use Rattle.std.specs.List.{list_all}
 use Rattle.mm_machines.specs.Link.{Port, Target, marked_at, closes, is_nonempty, operations_in, beat_operations}
 use Rattle.mm_machines.specs.Lines.{target_of}
 use Rattle.mm_parts.specs.Steps.{IsHostPart, IsRoutePart, may_read, place_shown}
-use Rattle.mm_awake.specs.Fair.{IsPlainAt, HandsWritesOn, AllAskPlainly}
+use Rattle.mm_awake.specs.Fair.{IsPlainAt, HandsWritesOn, HandsPlainWrites, AllAskPlainly}
+use Rattle.mm_awake.specs.Theorem.{Boundaries}
 use Rattle.mm_awake.proofs.Ahead.{each_of}
 use Rattle.mm_awake.proofs.Beats.{same_count}
 
@@ -127,15 +128,16 @@ handed_down target port zero end c fit hands at = at
 handed_down target port (suc n) end c fit hands at = handed_down target port n end c fit (λ i low. hands i (omega (arith, low))) (hands n (omega arith) c fit at)
 
 -- plain writers show plain writes at the arbiter throughout
-module _ (system : System) (run : Run) (agent : ℕ) (links : ℕ → ℕ) (upper : ℕ → ℕ → Port) (from size end : ℕ) (fit : from + size ≤ end)
-    (hands : (h : ℕ) → IsTrue (is_joined system agent h) → HandsWritesOn (target_of system agent) (upper h (links h)) (upper h 0) end)
-    (goes : (h c : ℕ) → IsTrue (is_joined system agent h) → c < end → IsTrue (shows_plain_write system run agent c h) → IsPlainAt (target_of system agent) (upper h (links h)) c)
-    (writes : Throughout from size (λ c. IsTrue (list_all (shows_plain_write system run agent c) (system.joined agent)))) where
-  pub all_plain : (h c : ℕ) → IsTrue (is_joined system agent h) → from ≤ c → c < from + size → IsPlainAt (target_of system agent) (upper h 0) c
+module _ (system : System) (run : Run) (inside : Boundaries) (agent from size end : ℕ) (fit : from + size ≤ end) (hands : HandsPlainWrites system run inside agent end)
+    (goes : (h c : ℕ) → IsTrue (is_joined system agent h) → c < end → IsTrue (shows_plain_write system run agent c h) → IsPlainAt (target_of system agent) (inside.upper h agent (inside.links h agent)) c)
+    (writes : Throughout from size (λ c. IsTrue (list_all (shows_plain_write system run agent c) (system.joined agent))))
+    (finished : IsTrue (list_all (λ host. are_finished_before system run host (commands_begun system run host (suc from)) from) (system.joined agent))) where
+  pub all_plain : (h c : ℕ) → IsTrue (is_joined system agent h) → from ≤ c → c < from + size → IsPlainAt (target_of system agent) (inside.upper h agent 0) c
   all_plain h c joined low high =
-      let inside : c < end = omega (arith, fit, high) in
-      let shown = each_of (shows_plain_write system run agent c) (system.joined agent) h (writes c low high) joined in
-      hands h joined c inside (goes h c joined inside shown)
+      let shown : (k : ℕ) → from ≤ k → k ≤ c → IsTrue (shows_plain_write system run agent k h) = λ k least most. each_of (shows_plain_write system run agent k) (system.joined agent) h (writes k least (omega (arith, most, high))) joined in
+      hands.links h from c joined (omega (arith, fit, high))
+      (record { earlier = each_of (λ host. are_finished_before system run host (commands_begun system run host (suc from)) from) (system.joined agent) h finished joined; starts = low; writes = shown })
+      (goes h c joined (omega (arith, fit, high)) (shown c low (omega arith)))
 
-  pub all_ask : AllAskPlainly system agent (λ h. upper h 0) from size
+  pub all_ask : AllAskPlainly system agent (λ h. inside.upper h agent 0) from size
   all_ask h c joined low high = let at = all_plain h c joined low high in (at.shown, at.ends)

@@ -5,7 +5,7 @@ use Rattle.histories.specs.History.{IsPrefix, only_if, is_raised}
 use Rattle.mm_runs.specs.Views.{System, Run}
 use Rattle.mm_runs.specs.Commands.{shows, agent_accepts}
 use Rattle.mm_runs.specs.Order.{Owner, taken, host_transfers, is_joined, issued}
-use Rattle.mm_runs.specs.Awake.{Throughout, Sometime, begun, first_owners, may_be_counted, of_command, up_to, count_for, commands_begun, is_for, are_finished_before, has_no_operation}
+use Rattle.mm_runs.specs.Awake.{Throughout, Sometime, shows_plain_write, begun, first_owners, may_be_counted, of_command, up_to, count_for, commands_begun, is_for, are_finished_before, has_no_operation}
 use Rattle.mm_machines.specs.Link.{Port, Target, takes, taken_at, marked_at, closes, is_nonempty, operations_in, operations_among}
 use Rattle.mm_machines.specs.Begun.{owners_of_groups, groups_whole}
 use Rattle.mm_machines.specs.Lines.{TaggedPort, groups_of, tagged_operations, target_of}
@@ -47,10 +47,17 @@ pub record IsPlainAt (target : Target) (port : Port) (c : ℕ) : Type 0 where
 abbrev pub HandsWritesOn : Target → Port → Port → ℕ → Type 0
 HandsWritesOn target up down end = (c : ℕ) → c < end → IsPlainAt target up c → IsPlainAt target down c
 
--- what turns ask beside `IsBuilt`: no host is joined to an agent twice, and what lies between its route and the arbiter hands plain writes on
-pub record HandsPlainWrites (system : System) (inside : Boundaries) (agent end : ℕ) : Type 0 where
+-- from a cycle on up to another a host shows plain writes for an agent, and as the first one begins all earlier commands are finished
+pub record WritesPlainly (system : System) (run : Run) (agent host from c : ℕ) : Type 0 where
+  pub earlier : IsTrue (are_finished_before system run host (commands_begun system run host (suc from)) from)
+  pub starts : from ≤ c
+  pub writes : (k : ℕ) → from ≤ k → k ≤ c → IsTrue (shows_plain_write system run agent k host)
+
+-- what turns ask beside `IsBuilt`: no host is joined to an agent twice, and while a host writes plainly what lies between its route and the arbiter hands each write on in its cycle
+pub record HandsPlainWrites (system : System) (run : Run) (inside : Boundaries) (agent end : ℕ) : Type 0 where
   pub apart : IsTrue (are_apart (system.joined agent))
-  pub links : (h : ℕ) → IsTrue (is_joined system agent h) → HandsWritesOn (target_of system agent) (inside.upper h agent (inside.links h agent)) (inside.upper h agent 0) end
+  pub links : (h from c : ℕ) → IsTrue (is_joined system agent h) → c < end → WritesPlainly system run agent h from c →
+      IsPlainAt (target_of system agent) (inside.upper h agent (inside.links h agent)) c → IsPlainAt (target_of system agent) (inside.upper h agent 0) c
 
 -- next to the hosts, at the routes and at the arbiters each part keeps its record, each stage holds back two beats at most, and the part next to an agent none
 pub record AreParts (system : System) (run : Run) (inside : Boundaries) (end : ℕ) : Type 0 where

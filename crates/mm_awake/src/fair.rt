@@ -18,11 +18,12 @@ ghost use Rattle.mm_awake.specs.Ways.{count_in};
 ghost use Rattle.mm_awake.specs.Theorem.{Boundaries, States, LinkRanks, IsBuilt};
 ghost use Rattle.mm_awake.specs.Fair.{are_apart, AllAskPlainly, AreAmong, AsksWithin, BeginsByTurns, IsPlainAt, HandsWritesOn, HandsPlainWrites, AreParts, WaitsAlone, WaitsBefore};
 
-/// In a system of machines whose links hand plain writes on, where each host that is joined to an agent shows a plain write for it in every cycle of a window, the commands that are taken behind its arbiter stand in full turns.
+/// In a system of machines whose links hand plain writes on, where each host that is joined to an agent shows a plain write for it in every cycle of a window, and has finished its earlier commands as the window begins, the commands that are taken behind its arbiter stand in full turns.
 pub fn plain_writers_take_full_turns()
     ensures { (responses : Responses) (system : System) (run : Run) (inside : Boundaries) (states : States) (ranks : LinkRanks) (end agent from size : ℕ) (owners : List Owner)
-        → IsBuilt responses system run inside states ranks end → IsLegalRun system run end → agent < system.agents → HandsPlainWrites system inside agent end
+        → IsBuilt responses system run inside states ranks end → IsLegalRun system run end → agent < system.agents → HandsPlainWrites system run inside agent end
         → from + size ≤ end → Throughout from size (λ c. IsTrue (list_all (shows_plain_write system run agent c) (system.joined agent)))
+        → IsTrue (list_all (λ host. are_finished_before system run host (commands_begun system run host (suc from)) from) (system.joined agent))
         → AreAmong owners (inside.lower agent system.stages).port from size
         → HasFullTurns system agent (turns_of owners) }
 {
@@ -35,7 +36,7 @@ pub fn plain_writers_take_full_turns()
 pub fn machines_are_fair()
     ensures { (responses : Responses) (system : System) (run : Run) (inside : Boundaries) (states : States) (ranks : LinkRanks) (end : ℕ)
         → IsBuilt responses system run inside states ranks end → IsLegalRun system run end
-        → ((agent : ℕ) → agent < system.agents → HandsPlainWrites system inside agent end)
+        → ((agent : ℕ) → agent < system.agents → HandsPlainWrites system run inside agent end)
         → ((agent : ℕ) → agent < system.agents → AsksWithin 30 system run (λ h. inside.upper h agent 0) agent end)
         → IsFair system run end }
 {
@@ -84,7 +85,7 @@ pub fn waiting_commands_are_passed_by_few()
 /// In a system of machines whose links hand plain writes on, hosts that write without gaps take turns at their agent by their shares: a turn between others is of exactly its host's shares, and the next host in the order follows.
 pub fn commands_take_turns()
     ensures { (responses : Responses) (system : System) (run : Run) (inside : Boundaries) (states : States) (ranks : LinkRanks) (end agent : ℕ)
-        → IsBuilt responses system run inside states ranks end → IsLegalRun system run end → agent < system.agents → HandsPlainWrites system inside agent end
+        → IsBuilt responses system run inside states ranks end → IsLegalRun system run end → agent < system.agents → HandsPlainWrites system run inside agent end
         → TakesTurns system run agent end }
 {
     plain_writers_take_full_turns();
