@@ -45,3 +45,4 @@ pub mod FairWaiting
 pub mod FairQuiet
 pub mod FairPassing
 pub mod FairWired
+pub mod FairSplit
