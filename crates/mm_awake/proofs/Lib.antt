@@ -46,3 +46,4 @@ pub mod FairQuiet
 pub mod FairPassing
 pub mod FairWired
 pub mod FairSplit
+pub mod FairPrompt

@@ -1,0 +1,168 @@
+-- Links that show first beats promptly show a waiting host's operation before the arbiter within a few cycles.
+use Rattle.std.proofs.Common.{ℕ, zero, suc, ◌<◌, ◌≤◌, ◌≡◌, ◌+◌, ◌-◌, ◌*◌, min, Bool, true, false, not, ◌&&◌, ◌||◌, List, [], ◌∷◌, ◌++◌, length, map, filter, flat_map, take, drop, nat_eq, nat_le, nat_lt, if◌then◌else◌, arith, refl, sym, ap, ap₂, subst, ◌∙◌, append_assoc, append-nil, length-append, tests, IsTrue, IsFalse, Option, Some, None, inl, inr, ◌⊎◌, zip, slice_get}
+use Rattle.std.specs.List.{list_any, list_all}
+use Rattle.std.proofs.lemmas.List.{length-map}
+use Rattle.std.proofs.lemmas.List.Elements.{filter-append}
+use Rattle.std.proofs.lemmas.Bool.{and_parts, both_ways}
+use Rattle.histories.specs.History.{IsPrefix, only_if, numbers, is_raised, standing, stands_on}
+use Rattle.histories.specs.Laws.{shown_is_accepted_and_standing}
+use Rattle.mm_runs.specs.Views.{System, Run, Shape}
+use Rattle.mm_runs.specs.Operations.{Beat, filled_of_piece, filled_lanes, lanes_of_piece, piece_bytes, is_enabled, pieces}
+use Rattle.mm_runs.specs.Commands.{Transfer, shows, transfer_at, is_of_reads, read_beats as reads_in}
+use Rattle.mm_runs.specs.Legal.{IsLegalHost, host_accepts}
+use Rattle.mm_runs.specs.Order.{Asked, is_agent, place_of, host_transfers, transfer_operations, for_agent}
+use Rattle.mm_runs.specs.Awake.{is_place, count_for, may_be_counted, has_first_word, of_command, up_to, are_finished_before}
+use Rattle.mm_machines.specs.Link.{Target, Port, Marked, takes, taken_at, shown_at, marked_at, closes, is_last_joined, operations_in, operations_among, beat_operations, is_nonempty, read_beats, words_at, AreLegalAt}
+use Rattle.mm_machines.specs.Lines.{target_of, host_accepted, asked_among}
+use Rattle.mm_machines.specs.SideLaws.{marked_keeps}
+use Rattle.mm_machines.specs.Straight.{begins_alone, may_be_prompt, has_first_lane, are_taken_below, are_answered, shows_after}
+use Rattle.mm_parts.specs.Steps.{IsHostPart, IsRoutePart, place_shown, is_open}
+use Rattle.mm_awake.specs.Fair.{ShowsOperation}
+use Rattle.mm_awake.proofs.Bits.{no_true, one_taken, none_taken, takes_shows}
+use Rattle.mm_awake.proofs.Beats.{same_count, ops_append, asked_append}
+use Rattle.mm_awake.proofs.Places.{taken_end, cnt}
+use Rattle.mm_awake.proofs.FairOwners.{Every}
+use Rattle.mm_awake.proofs.FairSplit.{last_open, last_joined_is}
+use Rattle.mm_awake.proofs.FairWrites.{some_there}
+
+-- ---- lists
+
+record MapSplit (T : List Marked) (xs : List Transfer) (y : Transfer) : Type 0 where
+  front : List Marked
+  one : Marked
+  rest : List Marked
+  joins : front ++ one ∷ rest ≡ T
+  same : map (λ (m : Marked). m.transfer) front ≡ xs
+  first : one.transfer ≡ y
+
+map_split : (T : List Marked) (xs : List Transfer) (y : Transfer) (ys : List Transfer) → map (λ (m : Marked). m.transfer) T ≡ xs ++ y ∷ ys → MapSplit T xs y
+map_split [] [] y ys e = absurd cc
+map_split [] (x ∷ xs) y ys e = absurd cc
+map_split (m ∷ T) [] y ys e = let head : m.transfer ≡ y = cc in record { front = []; one = m; rest = T; joins = refl; same = refl; first = head }
+map_split (m ∷ T) (x ∷ xs) y ys e =
+    let head : m.transfer ≡ x = cc in
+    let tail : map (λ (m : Marked). m.transfer) T ≡ xs ++ y ∷ ys = cc in
+    let more = map_split T xs y ys tail in
+    record { front = m ∷ more.front; one = more.one; rest = more.rest; joins = ap (λ l. m ∷ l) more.joins; same = ap₂ (λ a l. a ∷ l) head more.same; first = more.first }
+
+every_front : {A : Type 0} (P : A → Type 0) (xs ys : List A) → Every P (xs ++ ys) → Every P xs
+every_front {A} P [] ys all = tt
+every_front {A} P (x ∷ xs) ys all = (all.0, every_front P xs ys all.1)
+
+every_end : {A : Type 0} (P : A → Type 0) (xs : List A) (x : A) → Every P xs → P x → Every P (xs ++ x ∷ [])
+every_end {A} P [] x all one = (one, tt)
+every_end {A} P (y ∷ xs) x all one = (all.0, every_end P xs x all.1 one)
+
+every_at : {A : Type 0} (P : A → Type 0) (xs : List A) (x : A) (ys : List A) → Every P (xs ++ x ∷ ys) → P x
+every_at {A} P [] x ys all = all.0
+every_at {A} P (y ∷ xs) x ys all = every_at P xs x ys all.1
+
+get_there : (xs ys : List Marked) (y : Marked) → slice_get (xs ++ y ∷ ys) (length xs) ≡ Some y
+get_there [] ys y = refl
+get_there (x ∷ xs) ys y = get_there xs ys y
+
+take_there : (xs ys : List Marked) → take (length xs) (xs ++ ys) ≡ xs
+take_there [] ys = refl
+take_there (x ∷ xs) ys = ap (λ l. x ∷ l) (take_there xs ys)
+
+-- ---- what a side shows in a cycle
+
+shown_now : (port : Port) (end c : ℕ) → AreLegalAt port end → c < end → shown_at port (suc c) ≡ taken_at port c ++ only_if (shows port.commands.signals c) (marked_at port c)
+shown_now port end c legal fit =
+    shown_is_accepted_and_standing (shows port.commands.signals) (takes port) (marked_at port) end (suc c) (marked_keeps port end legal) fit
+    ∙ by_take (takes port c) refl (shows port.commands.signals c) refl
+  where
+    by_take : (a : Bool) → takes port c ≡ a → (s : Bool) → shows port.commands.signals c ≡ s →
+        (taken_at port c ++ only_if (takes port c) (marked_at port c)) ++ only_if (shows port.commands.signals c && not (takes port c)) (marked_at port c) ≡ taken_at port c ++ only_if (shows port.commands.signals c) (marked_at port c)
+    by_take true e true f = rw (e, f) (append-nil (taken_at port c ++ marked_at port c ∷ []))
+    by_take true e false f = absurd (both_ways (shows port.commands.signals c) f (takes_shows port c e))
+    by_take false e true f = rw (e, f) (ap (λ l. l ++ marked_at port c ∷ []) (append-nil (taken_at port c)))
+    by_take false e false f = rw (e, f) (append-nil (taken_at port c ++ []))
+
+-- an operation more is shown below than was taken there, so it stands there
+pub stands_below : (target : Target) (port : Port) (end c n : ℕ) → AreLegalAt port end → c < end → length (operations_among target port.shape (taken_at port c)) ≤ n →
+    n < length (operations_among target port.shape (shown_at port (suc c))) → ShowsOperation target port c
+stands_below target port end c n legal fit few more = by_shown (shows port.commands.signals c) refl
+  where
+    by_shown : (s : Bool) → shows port.commands.signals c ≡ s → ShowsOperation target port c
+    by_shown false e =
+        let same = ap (λ l. length (operations_among target port.shape l)) (shown_now port end c legal fit ∙ ap (λ s. taken_at port c ++ only_if s (marked_at port c)) e ∙ append-nil (taken_at port c)) in
+        absurd (omega (arith, same, few, more))
+    by_shown true e =
+        let split = ap (λ l. length (operations_among target port.shape l)) (shown_now port end c legal fit ∙ ap (λ s. taken_at port c ++ only_if s (marked_at port c)) e) ∙ ops_append target port.shape (taken_at port c) (marked_at port c) in
+        (e, some_there (operations_in target port.shape (marked_at port c)) (omega (arith, split, few, more)))
+
+-- ---- behind the route
+
+module _ (system : System) (run : Run) (host agent : ℕ) (middle : Port) (down : ℕ → Port) (end : ℕ) (there : agent < system.agents) (part : IsHostPart system run host middle end) (route : IsRoutePart system host middle down end) where
+  abbrev top : Port
+  top = down agent
+
+  seen_above : (c : ℕ) → c < end → IsTrue (shows top.commands.signals c) → IsTrue (shows middle.commands.signals c) × IsTrue (is_agent agent (place_shown system host middle c))
+  seen_above c fit shown =
+      and_parts (shows middle.commands.signals c) (is_agent agent (place_shown system host middle c))
+      (and_parts (shows middle.commands.signals c && is_agent agent (place_shown system host middle c)) (is_open system host middle (Some agent) c) (sym (route.shown agent c there fit) ∙ shown)).0
+
+  pub same_now : (c : ℕ) → c < end → IsTrue (shows top.commands.signals c) → (marked_at top c).transfer ≡ transfer_at (system.host host).shape (run.at_host host).signals (host_accepts (run.at_host host)) c
+  same_now c fit shown = route.same agent c there fit shown ∙ part.same c fit (seen_above c fit shown).0
+
+  pub more_now : (c : ℕ) → c < end → IsTrue (shows top.commands.signals c) → (marked_at top c).more ≡ not (marked_at top c).transfer.ends
+  more_now c fit shown = route.more agent c there fit shown ∙ part.more c fit (seen_above c fit shown).0 ∙ ap (λ (t : Transfer). not t.ends) (sym (route.same agent c there fit shown))
+
+  filter_end : (xs : List Transfer) (t : Transfer) → for_agent system host agent (xs ++ t ∷ []) ≡ for_agent system host agent xs ++ (if is_agent agent (place_of system host t) then t ∷ [] else [])
+  filter_end xs t = filter-append (λ (t : Transfer). is_agent agent (place_of system host t)) xs (t ∷ [])
+
+  -- what is taken behind the route for an agent is what is taken above it for that agent
+  pub its_transfers : (c : ℕ) → c ≤ end → map (λ (m : Marked). m.transfer) (taken_at top c) ≡ for_agent system host agent (map (λ (m : Marked). m.transfer) (taken_at middle c))
+  its_transfers zero fit = refl
+  its_transfers (suc c) fit = by_take (takes middle c) refl (takes top c) refl (its_transfers c (omega (arith, fit)))
+    where
+      inside : c < end
+      inside = omega (arith, fit)
+
+      Same : ℕ → Type 0
+      Same c = map (λ (m : Marked). m.transfer) (taken_at top c) ≡ for_agent system host agent (map (λ (m : Marked). m.transfer) (taken_at middle c))
+
+      placed : IsTrue (takes top c) → IsTrue (is_agent agent (place_shown system host middle c))
+      placed taken = (seen_above c inside (takes_shows top c taken)).1
+
+      by_place : (b : Bool) → is_agent agent (place_shown system host middle c) ≡ b → takes top c ≡ false → takes middle c ≡ true → Same c → Same (suc c)
+      by_place true e none some more = let same = route.accepts agent c there inside e in let bad : true ≡ false = sym some ∙ same ∙ none in absurd cc
+      by_place false e none some more =
+          ap (map (λ (m : Marked). m.transfer)) (none_taken top c none) ∙ more
+          ∙ sym (ap (for_agent system host agent) (taken_end middle c some) ∙ filter_end (map (λ (m : Marked). m.transfer) (taken_at middle c)) (marked_at middle c).transfer
+          ∙ ap (λ b. for_agent system host agent (map (λ (m : Marked). m.transfer) (taken_at middle c)) ++ (if b then (marked_at middle c).transfer ∷ [] else [])) e
+          ∙ append-nil (for_agent system host agent (map (λ (m : Marked). m.transfer) (taken_at middle c))))
+
+      by_take : (a : Bool) → takes middle c ≡ a → (b : Bool) → takes top c ≡ b → Same c → Same (suc c)
+      by_take false e false f more = ap (map (λ (m : Marked). m.transfer)) (none_taken top c f) ∙ more ∙ ap (λ l. for_agent system host agent (map (λ (m : Marked). m.transfer) l)) (sym (none_taken middle c e))
+      by_take false e true f more = let same = route.accepts agent c there inside (placed f) in let bad : false ≡ true = sym e ∙ same ∙ f in absurd cc
+      by_take true e false f more = by_place (is_agent agent (place_shown system host middle c)) refl f e more
+      by_take true e true f more =
+          taken_end top c f ∙ ap₂ (λ l t. l ++ t ∷ []) more (route.same agent c there inside (takes_shows top c f))
+          ∙ sym (ap (for_agent system host agent) (taken_end middle c e) ∙ filter_end (map (λ (m : Marked). m.transfer) (taken_at middle c)) (marked_at middle c).transfer
+          ∙ ap (λ b. for_agent system host agent (map (λ (m : Marked). m.transfer) (taken_at middle c)) ++ (if b then (marked_at middle c).transfer ∷ [] else [])) (placed f))
+
+  pub all_more : (c : ℕ) → c ≤ end → Every (λ m. m.more ≡ not m.transfer.ends) (taken_at top c)
+  all_more zero fit = tt
+  all_more (suc c) fit = by_take (takes top c) refl (all_more c (omega (arith, fit)))
+    where
+      by_take : (b : Bool) → takes top c ≡ b → Every (λ m. m.more ≡ not m.transfer.ends) (taken_at top c) → Every (λ m. m.more ≡ not m.transfer.ends) (taken_at top (suc c))
+      by_take false e more = subst (Every (λ m. m.more ≡ not m.transfer.ends)) (sym (none_taken top c e)) more
+      by_take true e more = subst (Every (λ m. m.more ≡ not m.transfer.ends)) (sym (one_taken top c e)) (every_end (λ m. m.more ≡ not m.transfer.ends) (taken_at top c) (marked_at top c) more (more_now c (omega (arith, fit)) (takes_shows top c e)))
+
+  -- their operations and read beats
+  pub ops_of : (ms : List Marked) (ts : List Transfer) → map (λ (m : Marked). m.transfer) ms ≡ for_agent system host agent ts → length (operations_among (target_of system agent) top.shape ms) ≡ count_for system host agent ts
+  ops_of ms ts same = counted ms ∙ ap (λ l. length (flat_map (transfer_operations system host agent) l)) same
+    where
+      bytes : (system.host host).word_bytes ≡ top.shape.word_bytes
+      bytes = sym part.bytes ∙ sym (ap (λ (s : Shape). s.word_bytes) (route.shape agent there))
+
+      counted : (ms : List Marked) → length (operations_among (target_of system agent) top.shape ms) ≡ length (flat_map (transfer_operations system host agent) (map (λ (m : Marked). m.transfer) ms))
+      counted [] = refl
+      counted (m ∷ ms) =
+          let more = counted ms in
+          let one = length-append (operations_in (target_of system agent) top.shape m) (operations_among (target_of system agent) top.shape ms) in
+          let two = length-append (transfer_operations system host agent m.transfer) (flat_map (transfer_operations system host agent) (map (λ (m : Marked). m.transfer) ms)) in
+          let same = same_count system host agent top.shape m.transfer.beats bytes in
+          omega (arith, more, one, two, same)
