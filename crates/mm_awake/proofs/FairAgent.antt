@@ -101,7 +101,7 @@ groups_length turn acted (g ∷ groups) =
     tagged : ℕ → Operation → Tagged
     tagged tag operation = record { tag = tag; operation = operation }
 
-same_front : {A : Type 0} (xs ys us vs : List A) → xs ++ us ≡ ys ++ vs → length xs ≡ length ys → xs ≡ ys
+pub same_front : {A : Type 0} (xs ys us vs : List A) → xs ++ us ≡ ys ++ vs → length xs ≡ length ys → xs ≡ ys
 same_front {A} [] [] us vs e n = refl
 same_front {A} [] (y ∷ ys) us vs e n = absurd (omega (arith, n))
 same_front {A} (x ∷ xs) [] us vs e n = absurd (omega (arith, n))

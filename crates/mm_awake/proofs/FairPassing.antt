@@ -32,7 +32,7 @@ use Rattle.mm_awake.proofs.FairWaiting.{all_stay_finished}
 use Rattle.mm_awake.proofs.FairWindow.{taken_in, taken_split, taken_length}
 
 -- of two fronts of a list the shorter one is a front of the other
-shorter_front : {A : Type 0} (xs ys us vs : List A) → xs ++ us ≡ ys ++ vs → length xs ≤ length ys → IsPrefix xs ys
+pub shorter_front : {A : Type 0} (xs ys us vs : List A) → xs ++ us ≡ ys ++ vs → length xs ≤ length ys → IsPrefix xs ys
 shorter_front {A} [] ys us vs e less = record { rest = ys; joins = refl }
 shorter_front {A} (x ∷ xs) [] us vs e less = absurd (omega (arith, less))
 shorter_front {A} (x ∷ xs) (y ∷ ys) us vs e less =

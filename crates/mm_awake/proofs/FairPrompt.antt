@@ -8,7 +8,7 @@ use Rattle.histories.specs.History.{IsPrefix, only_if, numbers, is_raised, stand
 use Rattle.histories.specs.Laws.{shown_is_accepted_and_standing}
 use Rattle.mm_runs.specs.Views.{System, Run, Shape}
 use Rattle.mm_runs.specs.Operations.{Beat, filled_of_piece, filled_lanes, lanes_of_piece, piece_bytes, is_enabled, pieces}
-use Rattle.mm_runs.specs.Commands.{Transfer, shows, transfer_at, is_of_reads, read_beats as reads_in}
+use Rattle.mm_runs.specs.Commands.{Transfer, shows, transfer_at, is_of_reads, reads_among, read_beats as reads_in}
 use Rattle.mm_runs.specs.Legal.{IsLegalHost, host_accepts}
 use Rattle.mm_runs.specs.Order.{Asked, is_agent, place_of, host_transfers, transfer_operations, for_agent}
 use Rattle.mm_runs.specs.Awake.{is_place, count_for, may_be_counted, has_first_word, of_command, up_to, are_finished_before}
@@ -20,9 +20,10 @@ use Rattle.mm_parts.specs.Steps.{IsHostPart, IsRoutePart, place_shown, is_open}
 use Rattle.mm_awake.specs.Fair.{ShowsOperation}
 use Rattle.mm_awake.proofs.Bits.{no_true, one_taken, none_taken, takes_shows}
 use Rattle.mm_awake.proofs.Beats.{same_count, ops_append, asked_append}
-use Rattle.mm_awake.proofs.Places.{taken_end, cnt}
+use Rattle.mm_awake.proofs.Places.{taken_end, cnt, cnt_none, cnt_append, one_transfer}
 use Rattle.mm_awake.proofs.FairOwners.{Every}
 use Rattle.mm_awake.proofs.FairSplit.{last_open, last_joined_is}
+use Rattle.mm_awake.proofs.FairWaiting.{some_piece, some_pieces}
 use Rattle.mm_awake.proofs.FairWrites.{some_there}
 
 -- ---- lists
@@ -64,6 +65,58 @@ get_there (x ∷ xs) ys y = get_there xs ys y
 take_there : (xs ys : List Marked) → take (length xs) (xs ++ ys) ≡ xs
 take_there [] ys = refl
 take_there (x ∷ xs) ys = ap (λ l. x ∷ l) (take_there xs ys)
+
+reads_one_more : (t : Transfer) (ts : List Transfer) → length (reads_in (t ∷ ts)) ≡ length (reads_in (t ∷ [])) + length (reads_in ts)
+reads_one_more t ts = by_kind (is_of_reads t.kind)
+  where
+    by_kind : (b : Bool) → length (flat_map (λ (t : Transfer). t.beats) (if b then t ∷ reads_among ts else reads_among ts)) ≡ length (flat_map (λ (t : Transfer). t.beats) (if b then t ∷ [] else [])) + length (reads_in ts)
+    by_kind true =
+        let one = length-append t.beats (reads_in ts) in
+        let two = ap length (append-nil t.beats) in
+        omega (arith, one, two)
+    by_kind false = omega arith
+
+-- ---- the lanes of a first word
+
+all_below : (most first count : ℕ) → first + count ≤ most → IsTrue (list_all (λ lane. nat_lt lane most) (numbers first count))
+all_below most first zero fit = refl
+all_below most first (suc count) fit =
+    let here : nat_lt first most ≡ true = grind (arith, tests, fit) in
+    rw (here, all_below most (suc first) count (omega (arith, fit))) refl
+
+kept_below : (test keep : ℕ → Bool) (xs : List ℕ) → IsTrue (list_all test xs) → IsTrue (list_all test (filter keep xs))
+kept_below test keep [] all = refl
+kept_below test keep (x ∷ xs) all = by_keep (keep x) (kept_below test keep xs parts.1)
+  where
+    parts : IsTrue (test x) × IsTrue (list_all test xs)
+    parts = and_parts (test x) (list_all test xs) all
+
+    by_keep : (b : Bool) → IsTrue (list_all test (filter keep xs)) → IsTrue (list_all test (if b then x ∷ filter keep xs else filter keep xs))
+    by_keep true more = rw (parts.0, more) refl
+    by_keep false more = more
+
+some_of_all : (test : ℕ → Bool) (xs ys : List ℕ) → 0 < length xs → IsTrue (list_all test xs) → IsTrue (list_any test (xs ++ ys))
+some_of_all test [] ys some all = absurd (omega (arith, some))
+some_of_all test (x ∷ xs) ys some all = let here = (and_parts (test x) (list_all test xs) all).0 in rw here refl
+
+first_lane : (from to : Shape) (enables : ℕ) → 0 < length (filled_of_piece from to enables 0) → IsTrue (list_any (λ lane. nat_lt lane (piece_bytes from to)) (filled_lanes from to enables))
+first_lane from to enables some = by_pieces (pieces from to) (some_pieces from to (some_piece from to enables some))
+  where
+    zeroth : 0 * piece_bytes from to + piece_bytes from to ≤ piece_bytes from to
+    zeroth = omega arith
+
+    all : IsTrue (list_all (λ lane. nat_lt lane (piece_bytes from to)) (filled_of_piece from to enables 0))
+    all = by_enables to.has_enables (all_below (piece_bytes from to) (0 * piece_bytes from to) (piece_bytes from to) zeroth) (list_any (is_enabled enables) (lanes_of_piece from to 0))
+      where
+        by_enables : (b : Bool) → IsTrue (list_all (λ lane. nat_lt lane (piece_bytes from to)) (lanes_of_piece from to 0)) → (x : Bool) →
+            IsTrue (list_all (λ lane. nat_lt lane (piece_bytes from to)) (if b then filter (is_enabled enables) (lanes_of_piece from to 0) else if x then lanes_of_piece from to 0 else []))
+        by_enables true low x = kept_below (λ lane. nat_lt lane (piece_bytes from to)) (is_enabled enables) (lanes_of_piece from to 0) low
+        by_enables false low true = low
+        by_enables false low false = refl
+
+    by_pieces : (n : ℕ) → 0 < n → IsTrue (list_any (λ lane. nat_lt lane (piece_bytes from to)) (flat_map (filled_of_piece from to enables) (numbers 0 n)))
+    by_pieces zero none = absurd (omega (arith, none))
+    by_pieces (suc n) more = some_of_all (λ lane. nat_lt lane (piece_bytes from to)) (filled_of_piece from to enables 0) (flat_map (filled_of_piece from to enables) (numbers 1 n)) some all
 
 -- ---- what a side shows in a cycle
 
@@ -166,3 +219,31 @@ module _ (system : System) (run : Run) (host agent : ℕ) (middle : Port) (down 
           let two = length-append (transfer_operations system host agent m.transfer) (flat_map (transfer_operations system host agent) (map (λ (m : Marked). m.transfer) ms)) in
           let same = same_count system host agent top.shape m.transfer.beats bytes in
           omega (arith, more, one, two, same)
+
+  pub reads_of : (ms : List Marked) (ts : List Transfer) → map (λ (m : Marked). m.transfer) ms ≡ for_agent system host agent ts → length (read_beats ms) ≡ cnt agent (asked_among system host ts)
+  reads_of ms ts same = own ms ∙ ap (λ l. length (reads_in l)) same ∙ sym (placed ts)
+    where
+      own : (ms : List Marked) → length (read_beats ms) ≡ length (reads_in (map (λ (m : Marked). m.transfer) ms))
+      own [] = refl
+      own (m ∷ ms) = by_kind (is_of_reads m.transfer.kind) (own ms)
+        where
+          by_kind : (b : Bool) → length (read_beats ms) ≡ length (reads_in (map (λ (m : Marked). m.transfer) ms)) →
+              length (flat_map (λ (m : Marked). m.transfer.beats) (if b then m ∷ filter (λ (m : Marked). is_of_reads m.transfer.kind) ms else filter (λ (m : Marked). is_of_reads m.transfer.kind) ms))
+              ≡ length (flat_map (λ (t : Transfer). t.beats) (if b then m.transfer ∷ reads_among (map (λ (m : Marked). m.transfer) ms) else reads_among (map (λ (m : Marked). m.transfer) ms)))
+          by_kind true more =
+              let one = length-append m.transfer.beats (read_beats ms) in
+              let two = length-append m.transfer.beats (reads_in (map (λ (m : Marked). m.transfer) ms)) in
+              omega (arith, one, two, more)
+          by_kind false more = more
+
+      placed : (ts : List Transfer) → cnt agent (asked_among system host ts) ≡ length (reads_in (for_agent system host agent ts))
+      placed [] = cnt_none agent
+      placed (t ∷ ts) =
+          let split = ap (cnt agent) (asked_append system host (t ∷ []) ts) ∙ cnt_append agent (asked_among system host (t ∷ [])) (asked_among system host ts) in
+          let one = one_transfer system host agent t in
+          by_place (is_agent agent (place_of system host t)) (omega (arith, split, one, placed ts))
+        where
+          by_place : (b : Bool) → cnt agent (asked_among system host (t ∷ ts)) ≡ (if b then length (reads_in (t ∷ [])) else 0) + length (reads_in (for_agent system host agent ts)) →
+              cnt agent (asked_among system host (t ∷ ts)) ≡ length (reads_in (if b then t ∷ for_agent system host agent ts else for_agent system host agent ts))
+          by_place false e = omega (arith, e)
+          by_place true e = let more = reads_one_more t (for_agent system host agent ts) in omega (arith, e, more)

@@ -31,7 +31,7 @@ nothing_filled to enables = by_enables to.has_enables
     by_enables true = refl
     by_enables false = refl
 
-some_piece : (from to : Shape) (enables : ℕ) → 0 < length (filled_of_piece from to enables 0) → 0 < piece_bytes from to
+pub some_piece : (from to : Shape) (enables : ℕ) → 0 < length (filled_of_piece from to enables 0) → 0 < piece_bytes from to
 some_piece from to enables some = by_size (piece_bytes from to) refl
   where
     by_size : (n : ℕ) → piece_bytes from to ≡ n → 0 < n
@@ -42,7 +42,7 @@ some_piece from to enables some = by_size (piece_bytes from to) refl
         let same : length (filled_of_piece from to enables 0) ≡ length (filled_by to enables (numbers (0 * piece_bytes from to) (piece_bytes from to))) = refl in
         absurd (omega (arith, some, none, zeroth, same))
 
-some_pieces : (from to : Shape) → 0 < piece_bytes from to → 0 < pieces from to
+pub some_pieces : (from to : Shape) → 0 < piece_bytes from to → 0 < pieces from to
 some_pieces from to some =
     let p : ℕ = piece_bytes from to in
     let few : p ≤ from.word_bytes = omega arith in

@@ -32,7 +32,7 @@ cnt_head : (a : ℕ) (q : Asked) (later : List Asked) → IsTrue (is_place (Some
 unfolding cnt
 cnt_head a q later h = let one : (if is_agent a q.place then 1 else 0) ≡ suc zero = rw h refl in omega (arith, one)
 
-cnt_append : (a : ℕ) (xs ys : List Asked) → cnt a (xs ++ ys) ≡ cnt a xs + cnt a ys
+pub cnt_append : (a : ℕ) (xs ys : List Asked) → cnt a (xs ++ ys) ≡ cnt a xs + cnt a ys
 unfolding cnt
 cnt_append a [] ys = omega arith
 cnt_append a (x ∷ xs) ys = let more = cnt_append a xs ys in omega (arith, more)
@@ -87,7 +87,7 @@ cnt_asked_of a place (b ∷ beats) = by_same (is_agent a place) (cnt_asked_of a 
     by_same false m = omega (arith, m)
 
 -- the read beats of one transfer, by place
-one_transfer : (system : System) (host a : ℕ) (t : Transfer) → cnt a (asked_among system host (t ∷ [])) ≡ (if is_agent a (place_of system host t) then length (reads_in (t ∷ [])) else 0)
+pub one_transfer : (system : System) (host a : ℕ) (t : Transfer) → cnt a (asked_among system host (t ∷ [])) ≡ (if is_agent a (place_of system host t) then length (reads_in (t ∷ [])) else 0)
 unfolding cnt
 one_transfer system host a t = by_kind (is_of_reads t.kind)
   where
