@@ -28,15 +28,15 @@ use Rattle.mm_awake.proofs.FairWrites.{some_there}
 
 -- ---- lists
 
-record MapSplit (T : List Marked) (xs : List Transfer) (y : Transfer) : Type 0 where
-  front : List Marked
-  one : Marked
-  rest : List Marked
-  joins : front ++ one ∷ rest ≡ T
-  same : map (λ (m : Marked). m.transfer) front ≡ xs
-  first : one.transfer ≡ y
+pub record MapSplit (T : List Marked) (xs : List Transfer) (y : Transfer) : Type 0 where
+  pub front : List Marked
+  pub one : Marked
+  pub rest : List Marked
+  pub joins : front ++ one ∷ rest ≡ T
+  pub same : map (λ (m : Marked). m.transfer) front ≡ xs
+  pub first : one.transfer ≡ y
 
-map_split : (T : List Marked) (xs : List Transfer) (y : Transfer) (ys : List Transfer) → map (λ (m : Marked). m.transfer) T ≡ xs ++ y ∷ ys → MapSplit T xs y
+pub map_split : (T : List Marked) (xs : List Transfer) (y : Transfer) (ys : List Transfer) → map (λ (m : Marked). m.transfer) T ≡ xs ++ y ∷ ys → MapSplit T xs y
 map_split [] [] y ys e = absurd cc
 map_split [] (x ∷ xs) y ys e = absurd cc
 map_split (m ∷ T) [] y ys e = let head : m.transfer ≡ y = cc in record { front = []; one = m; rest = T; joins = refl; same = refl; first = head }
@@ -46,23 +46,23 @@ map_split (m ∷ T) (x ∷ xs) y ys e =
     let more = map_split T xs y ys tail in
     record { front = m ∷ more.front; one = more.one; rest = more.rest; joins = ap (λ l. m ∷ l) more.joins; same = ap₂ (λ a l. a ∷ l) head more.same; first = more.first }
 
-every_front : {A : Type 0} (P : A → Type 0) (xs ys : List A) → Every P (xs ++ ys) → Every P xs
+pub every_front : {A : Type 0} (P : A → Type 0) (xs ys : List A) → Every P (xs ++ ys) → Every P xs
 every_front {A} P [] ys all = tt
 every_front {A} P (x ∷ xs) ys all = (all.0, every_front P xs ys all.1)
 
-every_end : {A : Type 0} (P : A → Type 0) (xs : List A) (x : A) → Every P xs → P x → Every P (xs ++ x ∷ [])
+pub every_end : {A : Type 0} (P : A → Type 0) (xs : List A) (x : A) → Every P xs → P x → Every P (xs ++ x ∷ [])
 every_end {A} P [] x all one = (one, tt)
 every_end {A} P (y ∷ xs) x all one = (all.0, every_end P xs x all.1 one)
 
-every_at : {A : Type 0} (P : A → Type 0) (xs : List A) (x : A) (ys : List A) → Every P (xs ++ x ∷ ys) → P x
+pub every_at : {A : Type 0} (P : A → Type 0) (xs : List A) (x : A) (ys : List A) → Every P (xs ++ x ∷ ys) → P x
 every_at {A} P [] x ys all = all.0
 every_at {A} P (y ∷ xs) x ys all = every_at P xs x ys all.1
 
-get_there : (xs ys : List Marked) (y : Marked) → slice_get (xs ++ y ∷ ys) (length xs) ≡ Some y
+pub get_there : (xs ys : List Marked) (y : Marked) → slice_get (xs ++ y ∷ ys) (length xs) ≡ Some y
 get_there [] ys y = refl
 get_there (x ∷ xs) ys y = get_there xs ys y
 
-take_there : (xs ys : List Marked) → take (length xs) (xs ++ ys) ≡ xs
+pub take_there : (xs ys : List Marked) → take (length xs) (xs ++ ys) ≡ xs
 take_there [] ys = refl
 take_there (x ∷ xs) ys = ap (λ l. x ∷ l) (take_there xs ys)
 
@@ -99,7 +99,7 @@ some_of_all : (test : ℕ → Bool) (xs ys : List ℕ) → 0 < length xs → IsT
 some_of_all test [] ys some all = absurd (omega (arith, some))
 some_of_all test (x ∷ xs) ys some all = let here = (and_parts (test x) (list_all test xs) all).0 in rw here refl
 
-first_lane : (from to : Shape) (enables : ℕ) → 0 < length (filled_of_piece from to enables 0) → IsTrue (list_any (λ lane. nat_lt lane (piece_bytes from to)) (filled_lanes from to enables))
+pub first_lane : (from to : Shape) (enables : ℕ) → 0 < length (filled_of_piece from to enables 0) → IsTrue (list_any (λ lane. nat_lt lane (piece_bytes from to)) (filled_lanes from to enables))
 first_lane from to enables some = by_pieces (pieces from to) (some_pieces from to (some_piece from to enables some))
   where
     zeroth : 0 * piece_bytes from to + piece_bytes from to ≤ piece_bytes from to
@@ -120,7 +120,7 @@ first_lane from to enables some = by_pieces (pieces from to) (some_pieces from t
 
 -- ---- what a side shows in a cycle
 
-shown_now : (port : Port) (end c : ℕ) → AreLegalAt port end → c < end → shown_at port (suc c) ≡ taken_at port c ++ only_if (shows port.commands.signals c) (marked_at port c)
+pub shown_now : (port : Port) (end c : ℕ) → AreLegalAt port end → c < end → shown_at port (suc c) ≡ taken_at port c ++ only_if (shows port.commands.signals c) (marked_at port c)
 shown_now port end c legal fit =
     shown_is_accepted_and_standing (shows port.commands.signals) (takes port) (marked_at port) end (suc c) (marked_keeps port end legal) fit
     ∙ by_take (takes port c) refl (shows port.commands.signals c) refl

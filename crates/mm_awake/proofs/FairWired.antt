@@ -30,7 +30,7 @@ ends_one : (t : Transfer) → ends_in (t ∷ []) ≡ (if t.ends then 1 else 0)
 unfolding ends_in
 ends_one t = omega arith
 
-none_open : (system : System) (host : ℕ) → is_some system host None ≡ 0
+pub none_open : (system : System) (host : ℕ) → is_some system host None ≡ 0
 unfolding is_some
 none_open system host = refl
 

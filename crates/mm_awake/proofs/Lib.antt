@@ -47,3 +47,4 @@ pub mod FairPassing
 pub mod FairWired
 pub mod FairSplit
 pub mod FairPrompt
+pub mod FairRow
