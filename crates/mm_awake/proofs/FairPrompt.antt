@@ -1,28 +1,25 @@
 -- Links that show first beats promptly show a waiting host's operation before the arbiter within a few cycles.
-use Rattle.std.proofs.Common.{ℕ, zero, suc, ◌<◌, ◌≤◌, ◌≡◌, ◌+◌, ◌-◌, ◌*◌, min, Bool, true, false, not, ◌&&◌, ◌||◌, List, [], ◌∷◌, ◌++◌, length, map, filter, flat_map, take, drop, nat_eq, nat_le, nat_lt, if◌then◌else◌, arith, refl, sym, ap, ap₂, subst, ◌∙◌, append_assoc, append-nil, length-append, tests, IsTrue, IsFalse, Option, Some, None, inl, inr, ◌⊎◌, zip, slice_get}
+use Rattle.std.proofs.Common.{ℕ, zero, suc, ◌<◌, ◌≤◌, ◌≡◌, ◌+◌, ◌*◌, Bool, true, false, not, ◌&&◌, List, [], ◌∷◌, ◌++◌, length, map, filter, flat_map, take, nat_lt, if◌then◌else◌, arith, refl, sym, ap, ap₂, subst, ◌∙◌, append-nil, length-append, tests, IsTrue, Some, slice_get}
 use Rattle.std.specs.List.{list_any, list_all}
-use Rattle.std.proofs.lemmas.List.{length-map}
 use Rattle.std.proofs.lemmas.List.Elements.{filter-append}
 use Rattle.std.proofs.lemmas.Bool.{and_parts, both_ways}
-use Rattle.histories.specs.History.{IsPrefix, only_if, numbers, is_raised, standing, stands_on}
+use Rattle.histories.specs.History.{only_if, numbers}
 use Rattle.histories.specs.Laws.{shown_is_accepted_and_standing}
 use Rattle.mm_runs.specs.Views.{System, Run, Shape}
-use Rattle.mm_runs.specs.Operations.{Beat, filled_of_piece, filled_lanes, lanes_of_piece, piece_bytes, is_enabled, pieces}
+use Rattle.mm_runs.specs.Operations.{filled_of_piece, filled_lanes, lanes_of_piece, piece_bytes, is_enabled, pieces}
 use Rattle.mm_runs.specs.Commands.{Transfer, shows, transfer_at, is_of_reads, reads_among, read_beats as reads_in}
-use Rattle.mm_runs.specs.Legal.{IsLegalHost, host_accepts}
-use Rattle.mm_runs.specs.Order.{Asked, is_agent, place_of, host_transfers, transfer_operations, for_agent}
-use Rattle.mm_runs.specs.Awake.{is_place, count_for, may_be_counted, has_first_word, of_command, up_to, are_finished_before}
-use Rattle.mm_machines.specs.Link.{Target, Port, Marked, takes, taken_at, shown_at, marked_at, closes, is_last_joined, operations_in, operations_among, beat_operations, is_nonempty, read_beats, words_at, AreLegalAt}
-use Rattle.mm_machines.specs.Lines.{target_of, host_accepted, asked_among}
+use Rattle.mm_runs.specs.Legal.{host_accepts}
+use Rattle.mm_runs.specs.Order.{is_agent, place_of, transfer_operations, for_agent}
+use Rattle.mm_runs.specs.Awake.{count_for}
+use Rattle.mm_machines.specs.Link.{Target, Port, Marked, takes, taken_at, shown_at, marked_at, operations_in, operations_among, read_beats, AreLegalAt}
+use Rattle.mm_machines.specs.Lines.{target_of, asked_among}
 use Rattle.mm_machines.specs.SideLaws.{marked_keeps}
-use Rattle.mm_machines.specs.Straight.{begins_alone, may_be_prompt, has_first_lane, are_taken_below, are_answered, shows_after}
 use Rattle.mm_parts.specs.Steps.{IsHostPart, IsRoutePart, place_shown, is_open}
 use Rattle.mm_awake.specs.Fair.{ShowsOperation}
-use Rattle.mm_awake.proofs.Bits.{no_true, one_taken, none_taken, takes_shows}
+use Rattle.mm_awake.proofs.Bits.{one_taken, none_taken, takes_shows}
 use Rattle.mm_awake.proofs.Beats.{same_count, ops_append, asked_append}
 use Rattle.mm_awake.proofs.Places.{taken_end, cnt, cnt_none, cnt_append, one_transfer}
 use Rattle.mm_awake.proofs.FairOwners.{Every}
-use Rattle.mm_awake.proofs.FairSplit.{last_open, last_joined_is}
 use Rattle.mm_awake.proofs.FairWaiting.{some_piece, some_pieces}
 use Rattle.mm_awake.proofs.FairWrites.{some_there}
 

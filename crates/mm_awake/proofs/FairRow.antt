@@ -1,26 +1,28 @@
 -- A row of links that shows first beats promptly shows an operation of a waiting command before the arbiter within a few cycles.
-use Rattle.std.proofs.Common.{ℕ, zero, suc, ◌<◌, ◌≤◌, ◌≡◌, ◌+◌, ◌-◌, min, Bool, true, false, not, ◌&&◌, ◌||◌, List, [], ◌∷◌, ◌++◌, length, map, take, drop, nat_eq, nat_le, nat_lt, if◌then◌else◌, arith, refl, sym, ap, ap₂, subst, ◌∙◌, append_assoc, append-nil, length-append, tests, IsTrue, IsFalse, Option, Some, None, inl, inr, ◌⊎◌, slice_get}
-use Rattle.std.specs.List.{list_any, list_all}
-use Rattle.std.proofs.lemmas.Bool.{and_parts, both_ways}
+use Rattle.std.proofs.Common.{ℕ, zero, suc, ◌<◌, ◌≤◌, ◌≡◌, ◌+◌, ◌-◌, min, Bool, true, false, not, ◌&&◌, ◌||◌, List, [], ◌∷◌, ◌++◌, length, map, take, nat_eq, nat_lt, if◌then◌else◌, arith, refl, sym, ap, ap₂, subst, ◌∙◌, append_assoc, append-nil, length-append, tests, IsTrue, IsFalse, Option, Some, None, inl, inr, ◌⊎◌, slice_get}
+use Rattle.std.specs.List.{list_any}
+use Rattle.std.proofs.lemmas.Bool.{and_parts}
 use Rattle.std.proofs.lemmas.List.Elements.{filter-append}
 use Rattle.std.proofs.Math.Seq.{take-append-add}
 use Rattle.histories.specs.History.{IsPrefix, only_if, is_raised}
+use Rattle.histories.specs.Laws.{prefix_length, prefix_flat_map, prefix_filter}
 use Rattle.mm_runs.specs.Views.{System, Run, Shape}
 use Rattle.mm_runs.specs.Operations.{Beat, filled_of_piece, filled_lanes, piece_bytes}
 use Rattle.mm_runs.specs.Commands.{Transfer, shows, transfer_at, is_of_reads}
 use Rattle.mm_runs.specs.Legal.{IsLegalHost, host_accepts}
 use Rattle.mm_runs.specs.Order.{Asked, is_agent, place_of, host_transfers, for_agent, of_host, taken, issued}
-use Rattle.mm_runs.specs.Awake.{is_place, is_for, count_for, may_be_counted, has_first_word, of_command, up_to, are_finished_before, is_finished}
-use Rattle.mm_machines.specs.Link.{Target, Port, Marked, takes, taken_at, shown_at, marked_at, closes, is_last_joined, operations_among, read_beats, words_at, AreLegalAt}
-use Rattle.mm_machines.specs.Lines.{target_of, host_accepted, asked_among}
+use Rattle.mm_runs.specs.Awake.{is_place, count_for, may_be_counted, has_first_word, up_to, is_finished}
+use Rattle.mm_machines.specs.Link.{Port, Marked, taken_at, shown_at, marked_at, is_last_joined, operations_in, operations_among, read_beats, words_at, AreLegalAt}
+use Rattle.mm_machines.specs.Lines.{TaggedPort, target_of, host_accepted, asked_among}
 use Rattle.mm_machines.specs.Straight.{begins_alone, may_be_prompt, has_first_lane, are_taken_below, are_answered, shows_after, IsShownPromptly}
-use Rattle.mm_parts.specs.Steps.{IsHostPart, IsRoutePart, given_before}
-use Rattle.mm_awake.specs.Fair.{WaitsAlone, WaitsThere, ShowsOperation}
+use Rattle.mm_parts.specs.Steps.{IsHostPart, IsRoutePart, IsArbiterPart}
+use Rattle.mm_awake.specs.Fair.{BeginsByTurns, WaitsAlone, WaitsThere, ShowsOperation}
 use Rattle.mm_awake.proofs.Bits.{no_true}
-use Rattle.mm_awake.proofs.Beats.{asked_append, asked_length, same_place}
-use Rattle.mm_awake.proofs.Numbers.{chosen, none_above, reads_in, ends_in, Steady, after, is_some, all_at, ops_for, ops_count, of_is, one_place, any_of_all, presented_is, whole, whole_steady, each_holds, earlier_given, reads_length}
+use Rattle.mm_awake.proofs.Beats.{asked_append, asked_length}
+use Rattle.mm_awake.proofs.Numbers.{chosen, none_above, reads_in, all_at, ops_for, ops_count, of_is, one_place, any_of_all, whole, whole_steady, each_holds, earlier_given, reads_length}
 use Rattle.mm_awake.proofs.Places.{counts, cnt, cnt_append}
 use Rattle.mm_awake.proofs.Standing.{IsAhead, same_words, stands}
+use Rattle.mm_awake.proofs.Wanted.{own_taken, tagged_of_host}
 use Rattle.mm_awake.proofs.FairAgent.{same_front}
 use Rattle.mm_awake.proofs.FairOwners.{Every}
 use Rattle.mm_awake.proofs.FairPassing.{shorter_front}
@@ -316,3 +318,12 @@ module _ (system : System) (run : Run) (host agent : ℕ) (middle : Port) (down 
       let none = of_is system run host end legal c 0 inside ∙ none_above system host (λ i. nat_eq i 0) 1 all (λ i above. grind (arith, tests, above)) in
       absurd (no_true (subst (λ l. IsTrue (list_any (λ (t : Transfer). is_place (Some agent) (place_of system host t)) l)) none waits.presented))
   asks_soon (suc k) waits later = shows_soon k waits later
+
+-- what an agent has taken of a host was taken before its arbiter
+pub taken_at_arbiter : (system : System) (run : Run) (agent : ℕ) (up : ℕ → Port) (near far : TaggedPort) (end : ℕ) → BeginsByTurns system run agent near far end → IsArbiterPart system agent up far end → (host : ℕ) → host < system.hosts →
+    (up host).shape.word_bytes ≡ far.shape.word_bytes → (c : ℕ) → c ≤ end → length (of_host host (taken system run agent c)) ≤ length (operations_among (target_of system agent) (up host).shape (taken_at (up host) c))
+taken_at_arbiter system run agent up near far end begins arbiter host is_host words c fit =
+    let near_is = ap (λ l. length (of_host host l)) (begins.operations c fit) ∙ tagged_of_host (target_of system agent) far.shape (taken_at near.port c) host in
+    let less = prefix_length (prefix_flat_map (operations_in (target_of system agent) far.shape) (prefix_filter (λ (m : Marked). nat_eq m.tag host) (begins.pipe c fit))) in
+    let far_is = own_taken system agent up far end arbiter (target_of system agent) host is_host words c fit in
+    omega (arith, near_is, less, far_is)

@@ -1,5 +1,5 @@
 -- Where a command begins among the transfers of its host, and among those of them that are for one agent.
-use Rattle.std.proofs.Common.{ℕ, zero, suc, ◌<◌, ◌≤◌, ◌≡◌, ◌+◌, Bool, true, false, not, ◌&&◌, ◌||◌, List, [], ◌∷◌, ◌++◌, length, map, filter, nat_eq, nat_le, if◌then◌else◌, arith, refl, sym, ap, ap₂, subst, ◌∙◌, tests, IsTrue, IsFalse, Option, Some, None}
+use Rattle.std.proofs.Common.{ℕ, suc, ◌<◌, ◌≤◌, ◌≡◌, ◌+◌, Bool, true, false, not, ◌||◌, List, [], ◌∷◌, ◌++◌, length, map, nat_eq, nat_le, if◌then◌else◌, arith, refl, sym, ap, subst, ◌∙◌, tests, IsTrue, IsFalse, Option, Some, None}
 use Rattle.std.specs.List.{list_any}
 use Rattle.std.proofs.lemmas.Bool.{both_ways}
 use Rattle.mm_runs.specs.Views.{System}
@@ -8,7 +8,7 @@ use Rattle.mm_runs.specs.Order.{is_agent, place_of, for_agent}
 use Rattle.mm_machines.specs.Link.{Marked, is_last_joined}
 use Rattle.mm_awake.proofs.Bits.{no_true}
 use Rattle.mm_awake.proofs.Beats.{is_the_place}
-use Rattle.mm_awake.proofs.Numbers.{chosen, none_above, next_least, Steady, after, after_one, is_some, some_after_one}
+use Rattle.mm_awake.proofs.Numbers.{chosen, none_above, Steady, after, after_one, is_some, some_after_one}
 use Rattle.mm_awake.proofs.FairOwners.{Every}
 use Rattle.mm_awake.proofs.FairRoom.{rest_is}
 

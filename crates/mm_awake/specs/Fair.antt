@@ -1,5 +1,5 @@
 -- Full turns: what is asked of the hosts at an arbiter, and whose beats are taken behind it.
-use Rattle.std.specs.Prelude.{◌≡◌, ℕ, zero, suc, ◌+◌, ◌-◌, ◌<◌, ◌≤◌, Bool, true, false, not, ◌&&◌, List, [], ◌∷◌, ◌++◌, map, take, drop, nat_eq, IsTrue, IsFalse, Some, length}
+use Rattle.std.specs.Prelude.{◌≡◌, ℕ, zero, suc, ◌+◌, ◌-◌, ◌<◌, ◌≤◌, Bool, true, false, not, ◌&&◌, ◌||◌, List, [], ◌∷◌, ◌++◌, map, take, drop, nat_eq, IsTrue, IsFalse, Some, length}
 use Rattle.std.specs.List.{list_any}
 use Rattle.histories.specs.History.{IsPrefix, only_if, is_raised}
 use Rattle.mm_runs.specs.Views.{System, Run}
@@ -103,3 +103,7 @@ abbrev pub AsksWithin : ℕ → System → Run → (ℕ → Port) → ℕ → �
 AsksWithin late system run up agent end =
     (host number from : ℕ) → host < system.hosts → from + suc late ≤ end → Throughout from (suc late) (WaitsThere system run agent (up host) host number) →
     Sometime from (suc late) (ShowsOperation (target_of system agent) (up host))
+
+-- write bursts of a host may be counted at an agent, and so are to be shown promptly
+abbrev pub may_burst_to : System → ℕ → ℕ → Bool
+may_burst_to system host agent = not (system.host host).has_enables || (system.agent agent).has_enables

@@ -12,11 +12,12 @@ ghost use Rattle.mm_runs.specs.Order.{Owner, ServesInGrantedOrder, is_joined, is
 ghost use Rattle.mm_runs.specs.Awake.{are_finished_before, asks_only, begun, commands_begun, HasFullTurns, IsFair, IsPassedByFew, TakesTurns, turns_of, shows_plain_write, shares_of_others, Throughout};
 ghost use Rattle.mm_machines.specs.Link.{Port, Target, takes, taken_at, operations_among};
 ghost use Rattle.mm_machines.specs.Lines.{TaggedPort, target_of};
+ghost use Rattle.mm_machines.specs.Straight.{IsShownPromptly};
 ghost use Rattle.mm_machines.specs.Turns.{seats_of, others_begun, IsKeptAsking};
 ghost use Rattle.mm_parts.specs.Steps.{IsArbiterPart, IsHostPart, IsRoutePart, has_room};
 ghost use Rattle.mm_awake.specs.Ways.{count_in};
 ghost use Rattle.mm_awake.specs.Theorem.{Boundaries, States, LinkRanks, IsBuilt};
-ghost use Rattle.mm_awake.specs.Fair.{are_apart, AllAskPlainly, AreAmong, AsksWithin, BeginsByTurns, IsPlainAt, HandsWritesOn, HandsPlainWrites, AreParts, WaitsAlone, WaitsBefore};
+ghost use Rattle.mm_awake.specs.Fair.{are_apart, AllAskPlainly, AreAmong, AsksWithin, BeginsByTurns, IsPlainAt, HandsWritesOn, HandsPlainWrites, may_burst_to, AreParts, WaitsAlone, WaitsBefore};
 
 /// In a system of machines whose links hand plain writes on, where each host that is joined to an agent shows a plain write for it in every cycle of a window, and has finished its earlier commands as the window begins, the commands that are taken behind its arbiter stand in full turns.
 pub fn plain_writers_take_full_turns()
@@ -65,6 +66,18 @@ pub fn wired_hosts_ask_while_waiting()
     ensures later { (late more : ℕ) (system : System) (run : Run) (up : ℕ → Port) (agent end : ℕ) → late ≤ more
         → AsksWithin late system run up agent end → AsksWithin more system run up agent end }
 {
+    waiting_hosts_ask();
+    machines_are_parts()
+}
+
+/// In a system of machines, where the links of each host that is joined to an agent show first beats promptly, an operation of a host that waits stands before the arbiter within a few cycles.
+pub fn prompt_links_ask_within()
+    ensures { (responses : Responses) (system : System) (run : Run) (inside : Boundaries) (states : States) (ranks : LinkRanks) (end agent few : ℕ)
+        → IsBuilt responses system run inside states ranks end → IsLegalRun system run end → agent < system.agents
+        → ((host : ℕ) → IsTrue (is_joined system agent host) → IsShownPromptly few (may_burst_to system host agent) (target_of system agent) (inside.upper host agent (inside.links host agent)) (inside.upper host agent 0) end)
+        → AsksWithin few system run (λ h. inside.upper h agent 0) agent end }
+{
+    commands_begin_by_turns();
     waiting_hosts_ask();
     machines_are_parts()
 }
