@@ -10,7 +10,7 @@ use Rattle.mm_machines.specs.Link.{Port, Marked, takes, marked_at, taken_at, clo
 use Rattle.mm_machines.specs.Begun.{groups_whole}
 use Rattle.mm_machines.specs.Lines.{Group, TaggedPort, groups_of, group_of, target_of}
 use Rattle.mm_parts.specs.Steps.{IsArbiterPart}
-use Rattle.mm_awake.specs.Fair.{AreAmong, BeginsByTurns, IsPlainAt, hosts_taken}
+use Rattle.mm_awake.specs.Fair.{AreAmong, BeginsByTurns, EndsThere, hosts_taken}
 use Rattle.mm_awake.specs.Ways.{count_in}
 use Rattle.mm_awake.proofs.Wanted.{same_operations}
 use Rattle.mm_awake.proofs.FairOwners.{Every, IsWholeCommand}
@@ -44,7 +44,7 @@ taken_length port (suc c) =
 module _ (system : System) (run : Run) (agent : ℕ) (up : ℕ → Port) (near far : TaggedPort) (from size end : ℕ) (fit : from + size ≤ end) (begins : BeginsByTurns system run agent near far end)
     (arbiter : IsArbiterPart system agent up far end) (joined : (h : ℕ) → IsTrue (is_joined system agent h) → h < system.hosts)
     (words : (h : ℕ) → h < system.hosts → (up h).shape.word_bytes ≡ far.shape.word_bytes)
-    (plain : (h c : ℕ) → IsTrue (is_joined system agent h) → from ≤ c → c < from + size → IsPlainAt (target_of system agent) (up h) c)
+    (plain : (h c : ℕ) → IsTrue (is_joined system agent h) → from ≤ c → c < from + size → EndsThere (target_of system agent) (up h) c)
     (few : count_in (takes far.port) 0 from ≤ count_in (takes near.port) 0 from + 2 * system.stages) where
   abbrev groups : List Marked → List Group
   groups ms = groups_of (target_of system agent) far.shape ms

@@ -46,6 +46,21 @@ chosen_one : (test : ℕ → Bool) (n : ℕ) (t : Transfer) → IsFalse (test n)
 unfolding chosen
 chosen_one test n t none = rw none refl
 
+-- where a beat is shown its command is the last one
+pub last_number : (system : System) (run : Run) (host end c : ℕ) (legal : IsLegalHost (system.host host) (run.at_host host) end) → c < end → IsTrue (shows (run.at_host host).signals c) → commands_begun system run host (suc c) ≡ 1 + ends_in (host_accepted system run host c)
+last_number system run host end c legal fit shown =
+    let now = transfer_at (system.host host).shape (run.at_host host).signals (host_accepts (run.at_host host)) c in
+    let all : List Transfer = host_accepted system run host c in
+    let whole_is : whole system run host end legal c ≡ all ++ now ∷ [] = ap (λ b. all ++ only_if b now) shown in
+    let count = begins_length (host_transfers system run host (suc c)) ∙ ap begins_in (presented_is system run host end legal c fit ∙ whole_is) in
+    let balance = begins_and_ends system host None (all ++ now ∷ []) (subst (Steady system host None) whole_is (whole_steady system run host end legal c fit)) in
+    let left = ap (is_some system host) (after_end system host None all now) in
+    let one = some_after_one system host (after system host None all) now in
+    let ends = ends_append all (now ∷ []) in
+    let last = ends_one now in
+    let zeroth = none_open system host in
+    omega (arith, count, balance, left, one, ends, last, zeroth)
+
 module _ (system : System) (run : Run) (host agent : ℕ) (middle : Port) (down : ℕ → Port) (end : ℕ) (there : agent < system.agents) (part : IsHostPart system run host middle end) (route : IsRoutePart system host middle down end) (c : ℕ) (fit : c < end)
     (waits_ask : WaitsAlone system run agent host c → IsFalse (shows (down agent).commands.signals c) → length (issued system run host agent (suc c)) ≤ length (operations_among (target_of system agent) (down agent).shape (taken_at (down agent) c))) where
   abbrev legal : IsLegalHost (system.host host) (run.at_host host) end
@@ -154,17 +169,7 @@ module _ (system : System) (run : Run) (host agent : ℕ) (middle : Port) (down 
         by_low false ea false eb = grind (arith, tests, ea, eb)
 
     last_is : commands_begun system run host (suc c) ≡ suc k
-    last_is =
-        let count = begins_length (host_transfers system run host (suc c)) ∙ ap begins_in (presented_is system run host end legal c fit ∙ whole_is) in
-        let steady = subst (Steady system host None) whole_is (whole_steady system run host end legal c fit) in
-        let balance = begins_and_ends system host None (accepted_by ++ now ∷ []) steady in
-        let left = ap (is_some system host) (after_end system host None accepted_by now) in
-        let one = some_after_one system host (after system host None accepted_by) now in
-        let ends = ends_append accepted_by (now ∷ []) in
-        let last = ends_one now in
-        let number = number_is in
-        let zeroth = none_open system host in
-        omega (arith, count, balance, left, one, ends, last, number, zeroth)
+    last_is = last_number system run host end c legal fit shown_here ∙ number_is
 
     alone : WaitsAlone system run agent host c
     alone = record {

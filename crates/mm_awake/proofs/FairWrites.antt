@@ -11,7 +11,7 @@ use Rattle.std.specs.List.{list_all}
 use Rattle.mm_machines.specs.Link.{Port, Target, marked_at, closes, is_nonempty, operations_in, beat_operations}
 use Rattle.mm_machines.specs.Lines.{target_of}
 use Rattle.mm_parts.specs.Steps.{IsHostPart, IsRoutePart, may_read, place_shown}
-use Rattle.mm_awake.specs.Fair.{IsPlainAt, HandsWritesOn, HandsPlainWrites, AllAskPlainly}
+use Rattle.mm_awake.specs.Fair.{EndsThere, IsPlainAt, HandsWritesOn, HandsPlainWrites, AllAskPlainly}
 use Rattle.mm_awake.specs.Theorem.{Boundaries}
 use Rattle.mm_awake.proofs.Ahead.{each_of}
 use Rattle.mm_awake.proofs.Beats.{same_count}
@@ -132,7 +132,7 @@ module _ (system : System) (run : Run) (inside : Boundaries) (agent from size en
     (goes : (h c : ℕ) → IsTrue (is_joined system agent h) → c < end → IsTrue (shows_plain_write system run agent c h) → IsPlainAt (target_of system agent) (inside.upper h agent (inside.links h agent)) c)
     (writes : Throughout from size (λ c. IsTrue (list_all (shows_plain_write system run agent c) (system.joined agent))))
     (finished : IsTrue (list_all (λ host. are_finished_before system run host (commands_begun system run host (suc from)) from) (system.joined agent))) where
-  pub all_plain : (h c : ℕ) → IsTrue (is_joined system agent h) → from ≤ c → c < from + size → IsPlainAt (target_of system agent) (inside.upper h agent 0) c
+  pub all_plain : (h c : ℕ) → IsTrue (is_joined system agent h) → from ≤ c → c < from + size → EndsThere (target_of system agent) (inside.upper h agent 0) c
   all_plain h c joined low high =
       let shown : (k : ℕ) → from ≤ k → k ≤ c → IsTrue (shows_plain_write system run agent k h) = λ k least most. each_of (shows_plain_write system run agent k) (system.joined agent) h (writes k least (omega (arith, most, high))) joined in
       hands.links h from c joined (omega (arith, fit, high))

@@ -53,11 +53,17 @@ pub record WritesPlainly (system : System) (run : Run) (agent host from c : ℕ)
   pub starts : from ≤ c
   pub writes : (k : ℕ) → from ≤ k → k ≤ c → IsTrue (shows_plain_write system run agent k host)
 
+-- a beat with an operation that ends its command stands at a port
+pub record EndsThere (target : Target) (port : Port) (c : ℕ) : Type 0 where
+  pub shown : IsTrue (shows port.commands.signals c)
+  pub ends : IsTrue (closes (marked_at port c))
+  pub acts : IsTrue (is_nonempty (operations_in target port.shape (marked_at port c)))
+
 -- what turns ask beside `IsBuilt`: no host is joined to an agent twice, and while a host writes plainly what lies between its route and the arbiter hands each write on in its cycle
 pub record HandsPlainWrites (system : System) (run : Run) (inside : Boundaries) (agent end : ℕ) : Type 0 where
   pub apart : IsTrue (are_apart (system.joined agent))
   pub links : (h from c : ℕ) → IsTrue (is_joined system agent h) → c < end → WritesPlainly system run agent h from c →
-      IsPlainAt (target_of system agent) (inside.upper h agent (inside.links h agent)) c → IsPlainAt (target_of system agent) (inside.upper h agent 0) c
+      IsPlainAt (target_of system agent) (inside.upper h agent (inside.links h agent)) c → EndsThere (target_of system agent) (inside.upper h agent 0) c
 
 -- next to the hosts, at the routes and at the arbiters each part keeps its record, each stage holds back two beats at most, and the part next to an agent none
 pub record AreParts (system : System) (run : Run) (inside : Boundaries) (end : ℕ) : Type 0 where
