@@ -55,7 +55,7 @@ two true false a b = absurd cc
 two false y a b = absurd cc
 
 -- a front within what is taken
-taken_front : (a w : ℕ) (xs ys : List Asked) → length xs ≤ w → cnt a xs ≤ cnt a (take w (xs ++ ys))
+pub taken_front : (a w : ℕ) (xs ys : List Asked) → length xs ≤ w → cnt a xs ≤ cnt a (take w (xs ++ ys))
 taken_front a w xs ys long =
     let split : length xs + (w - length xs) ≡ w = omega (arith, long) in
     let same = ap (cnt a) (ap (λ n. take n (xs ++ ys)) (sym split) ∙ take-append-add xs ys (w - length xs)) ∙ cnt_append a xs (take (w - length xs) ys) in

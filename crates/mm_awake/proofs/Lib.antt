@@ -48,3 +48,4 @@ pub mod FairWired
 pub mod FairSplit
 pub mod FairPrompt
 pub mod FairRow
+pub mod FairStraight
