@@ -9,7 +9,9 @@ use Rattle.mm_runs.specs.Awake.{Throughout, Sometime, shows_plain_write, begun, 
 use Rattle.mm_machines.specs.Link.{Port, Target, takes, taken_at, marked_at, closes, is_nonempty, operations_in, operations_among}
 use Rattle.mm_machines.specs.Begun.{owners_of_groups, groups_whole}
 use Rattle.mm_machines.specs.Lines.{TaggedPort, groups_of, tagged_operations, target_of}
+use Rattle.mm_machines.specs.Straight.{GoesStraightThrough, IsShownPromptly}
 use Rattle.mm_machines.specs.Turns.{begins_at, seats_of}
+use Rattle.mm_links.specs.InStep.{GoesInStep}
 use Rattle.mm_parts.specs.Steps.{IsHostPart, IsRoutePart, IsArbiterPart}
 use Rattle.mm_awake.specs.Slack.{PassesOn}
 use Rattle.mm_awake.specs.Theorem.{Boundaries}
@@ -113,3 +115,9 @@ AsksWithin late system run up agent end =
 -- write bursts of a host may be counted at an agent, and so are to be shown promptly
 abbrev pub may_burst_to : System → ℕ → ℕ → Bool
 may_burst_to system host agent = not (system.host host).has_enables || (system.agent agent).has_enables
+
+-- what lies between the routes and an agent's arbiter: plain commands go straight through it, in step, and first beats are shown promptly
+pub record LeadsFairly (system : System) (inside : Boundaries) (ahead : Bool) (agent host end : ℕ) : Type 0 where
+  pub straight : GoesStraightThrough (λ _. ahead) (target_of system agent) (inside.upper host agent (inside.links host agent)) (inside.upper host agent 0) end
+  pub step : GoesInStep ahead (target_of system agent) (inside.upper host agent (inside.links host agent)) (inside.upper host agent 0) end
+  pub prompt : IsShownPromptly 30 (may_burst_to system host agent) (target_of system agent) (inside.upper host agent (inside.links host agent)) (inside.upper host agent 0) end

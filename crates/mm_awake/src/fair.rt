@@ -1,6 +1,6 @@
 //! Fairness of whole systems: the turns that hosts take at an agent.
 
-ghost use Rattle.std.specs.Prelude.{◌≡◌, ℕ, suc, List, length, ◌≤◌, ◌<◌, ◌+◌, ◌*◌, IsTrue, IsFalse};
+ghost use Rattle.std.specs.Prelude.{◌≡◌, ℕ, Bool, suc, List, length, ◌≤◌, ◌<◌, ◌+◌, ◌*◌, IsTrue, IsFalse};
 ghost use Rattle.std.specs.List.{list_all};
 ghost use Rattle.histories.specs.History.{IsPrefix};
 ghost use Rattle.ranks.specs.Turns.{AllShare};
@@ -17,7 +17,7 @@ ghost use Rattle.mm_machines.specs.Turns.{seats_of, others_begun, IsKeptAsking};
 ghost use Rattle.mm_parts.specs.Steps.{IsArbiterPart, IsHostPart, IsRoutePart, has_room};
 ghost use Rattle.mm_awake.specs.Ways.{count_in};
 ghost use Rattle.mm_awake.specs.Theorem.{Boundaries, States, LinkRanks, IsBuilt};
-ghost use Rattle.mm_awake.specs.Fair.{are_apart, AllAskPlainly, AreAmong, AsksWithin, BeginsByTurns, IsPlainAt, HandsWritesOn, HandsPlainWrites, may_burst_to, AreParts, WaitsAlone, WaitsBefore};
+ghost use Rattle.mm_awake.specs.Fair.{are_apart, AllAskPlainly, AreAmong, AsksWithin, BeginsByTurns, IsPlainAt, HandsWritesOn, HandsPlainWrites, may_burst_to, LeadsFairly, AreParts, WaitsAlone, WaitsBefore};
 
 /// In a system of machines whose links hand plain writes on, where each host that is joined to an agent shows a plain write for it in every cycle of a window, and has finished its earlier commands as the window begins, the commands that are taken behind its arbiter stand in full turns.
 pub fn plain_writers_take_full_turns()
@@ -43,6 +43,31 @@ pub fn machines_are_fair()
 {
     commands_take_turns();
     waiting_commands_are_passed_by_few()
+}
+
+/// A system of machines is fair where plain commands go straight through its links, in step, and first beats are shown promptly, and no host is joined to an agent twice.
+pub fn straight_machines_are_fair()
+    ensures { (responses : Responses) (system : System) (run : Run) (inside : Boundaries) (states : States) (ranks : LinkRanks) (end : ℕ) (ahead : ℕ → ℕ → Bool)
+        → IsBuilt responses system run inside states ranks end → IsLegalRun system run end
+        → ((agent : ℕ) → agent < system.agents → IsTrue (are_apart (system.joined agent)))
+        → ((agent host : ℕ) → agent < system.agents → IsTrue (is_joined system agent host) → LeadsFairly system inside (ahead agent host) agent host end)
+        → IsFair system run end }
+{
+    machines_are_fair();
+    prompt_links_ask_within();
+    straight_links_hand_on()
+}
+
+/// In a system of machines links through which plain commands go straight, in step, hand on the writes of hosts that write plainly.
+pub fn straight_links_hand_on()
+    ensures { (responses : Responses) (system : System) (run : Run) (inside : Boundaries) (states : States) (ranks : LinkRanks) (end agent : ℕ) (ahead : ℕ → Bool)
+        → IsBuilt responses system run inside states ranks end → IsLegalRun system run end → agent < system.agents → IsTrue (are_apart (system.joined agent))
+        → ((host : ℕ) → IsTrue (is_joined system agent host) → LeadsFairly system inside (ahead host) agent host end)
+        → HandsPlainWrites system run inside agent end }
+{
+    commands_begin_by_turns();
+    plain_writes_go_on();
+    machines_are_parts()
 }
 
 /// A system of machines is fair where each host is wired to the arbiters of its agents, and is joined to none twice.
