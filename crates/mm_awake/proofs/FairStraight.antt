@@ -1,32 +1,32 @@
 -- A row of links through which plain commands go straight, in step, hands on the writes of a host that writes plainly.
-use Rattle.std.proofs.Common.{ℕ, zero, suc, ◌<◌, ◌≤◌, ◌≡◌, ◌+◌, ◌-◌, ◌*◌, ◌/◌, min, Bool, true, false, not, ◌&&◌, ◌||◌, List, [], ◌∷◌, ◌++◌, length, map, filter, flat_map, take, drop, nat_eq, nat_le, nat_lt, if◌then◌else◌, arith, refl, sym, ap, ap₂, subst, ◌∙◌, append-nil, length-append, tests, IsTrue, IsFalse, Option, Some, None, inl, inr, ◌⊎◌}
+use Rattle.std.proofs.Common.{ℕ, zero, suc, ◌<◌, ◌≤◌, ◌≡◌, ◌+◌, ◌-◌, ◌*◌, ◌/◌, min, Bool, true, false, not, ◌&&◌, ◌||◌, List, [], ◌∷◌, ◌++◌, length, map, filter, flat_map, take, nat_eq, nat_le, nat_lt, if◌then◌else◌, arith, refl, sym, ap, ap₂, subst, ◌∙◌, append-nil, length-append, tests, IsTrue, IsFalse, Option, Some, None, inl, inr, ◌⊎◌}
 use Rattle.std.specs.List.{list_any, list_all}
 use Rattle.std.proofs.Math.Nat.{div-le_self}
 use Rattle.std.proofs.lemmas.List.{length-map}
-use Rattle.std.proofs.lemmas.Bool.{and_parts, both_ways}
-use Rattle.histories.specs.History.{IsPrefix, only_if, is_raised, numbers, standing, stands_on}
+use Rattle.std.proofs.lemmas.Bool.{and_parts}
+use Rattle.histories.specs.History.{only_if, is_raised, numbers, standing, stands_on}
 use Rattle.histories.specs.Laws.{before_prefix, prefix_length}
-use Rattle.mm_runs.specs.Views.{System, Run, Shape, levels_at}
+use Rattle.mm_runs.specs.Views.{System, Run, Shape}
 use Rattle.mm_runs.specs.Views.Kind.{Writes}
 use Rattle.mm_runs.specs.Operations.{Beat, filled_of_piece, filled_lanes, lanes_of_piece, piece_bytes, is_enabled, pieces}
-use Rattle.mm_runs.specs.Commands.{Transfer, shows, transfer_at, is_of_reads, burst_before, reads_among, read_beats as reads_of_transfers}
+use Rattle.mm_runs.specs.Commands.{Transfer, shows, transfer_at, is_of_reads, burst_before, read_beats as reads_of_transfers}
 use Rattle.mm_runs.specs.Laws.{same_pieces}
 use Rattle.mm_runs.specs.Legal.{IsLegalHost, host_accepts}
-use Rattle.mm_runs.specs.Order.{is_agent, place_of, host_transfers, transfer_operations, for_agent, of_host, taken}
+use Rattle.mm_runs.specs.Order.{is_agent, place_of, transfer_operations, for_agent, of_host, taken}
 use Rattle.mm_runs.specs.Awake.{commands_begun, are_finished_before, is_finished, shows_plain_write}
-use Rattle.mm_machines.specs.Link.{Target, Port, Marked, takes, taken_at, shown_at, marked_at, closes, is_last_joined, is_nonempty, operations_in, operations_among, beat_operations, read_beats, words_at, AreLegalAt}
+use Rattle.mm_machines.specs.Link.{Target, Port, Marked, takes, taken_at, marked_at, closes, is_last_joined, is_nonempty, operations_in, operations_among, beat_operations, read_beats, words_at, AreLegalAt}
 use Rattle.mm_machines.specs.Lines.{target_of, host_accepted, asked_among}
 use Rattle.mm_machines.specs.SideLaws.{marked_keeps}
 use Rattle.mm_machines.specs.Straight.{earlier_shown, has_lane, begins_alone, is_plain, shows_plain, are_answered, are_just_taken, GoesStraightThrough}
 use Rattle.mm_links.specs.InStep.{is_next, GoesInStep}
-use Rattle.mm_parts.specs.Steps.{IsHostPart, IsRoutePart, given_before}
+use Rattle.mm_parts.specs.Steps.{IsHostPart, IsRoutePart}
 use Rattle.mm_awake.specs.Fair.{IsPlainAt, EndsThere}
-use Rattle.mm_awake.proofs.Bits.{no_true, one_taken, none_taken, last_joined_end}
+use Rattle.mm_awake.proofs.Bits.{one_taken, none_taken, last_joined_end}
 use Rattle.mm_awake.proofs.Beats.{ops_append, asked_length, read_beats_append}
-use Rattle.mm_awake.proofs.Numbers.{chosen, ends_in, Steady, after, after_one, ops_for, ops_count, whole, each_holds, earlier_given, reads_in, reads_length, within, stands as stands_by_number}
+use Rattle.mm_awake.proofs.Numbers.{chosen, ends_in, after, after_one, ops_for, ops_count, whole, each_holds, earlier_given, reads_in, reads_length, within, stands as stands_by_number}
 use Rattle.mm_awake.proofs.Places.{counts, cnt}
 use Rattle.mm_awake.proofs.Standing.{IsAhead, same_words, stands}
-use Rattle.mm_awake.proofs.FairPrompt.{shown_now, take_there, same_now, more_now, its_transfers, all_more, ops_of, reads_of}
+use Rattle.mm_awake.proofs.FairPrompt.{shown_now, take_there, same_now, its_transfers, all_more, ops_of, reads_of}
 use Rattle.mm_awake.proofs.FairQuiet.{earlier_taken}
 use Rattle.mm_awake.proofs.FairRow.{taken_front}
 use Rattle.mm_awake.proofs.FairSplit.{last_open, last_ends, last_joined_is}

@@ -70,6 +70,18 @@ pub fn straight_links_hand_on()
     machines_are_parts()
 }
 
+/// In a system of machines plain commands of a host that is wired to an arbiter go straight there, in step, and its first beats are shown at once.
+pub fn wires_lead_fairly()
+    ensures { (responses : Responses) (system : System) (run : Run) (inside : Boundaries) (states : States) (ranks : LinkRanks) (end agent host : ℕ) (ahead : Bool)
+        → IsBuilt responses system run inside states ranks end → IsLegalRun system run end → agent < system.agents → host < system.hosts
+        → inside.upper host agent 0 ≡ inside.upper host agent (inside.links host agent)
+        → LeadsFairly system inside ahead agent host end }
+{
+    mm_links::rows::pass_is_a_link();
+    mm_links::rows::pass_goes_in_step();
+    machines_are_parts()
+}
+
 /// A system of machines is fair where each host is wired to the arbiters of its agents, and is joined to none twice.
 pub fn wired_machines_are_fair()
     ensures { (responses : Responses) (system : System) (run : Run) (inside : Boundaries) (states : States) (ranks : LinkRanks) (end : ℕ)

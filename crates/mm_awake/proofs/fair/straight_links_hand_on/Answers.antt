@@ -1,4 +1,4 @@
-use Rattle.std.proofs.Common.{◌+◌, ◌≤◌, arith, sym, ap, ◌∙◌}
+use Rattle.std.proofs.Common.{arith, ap, ◌∙◌}
 use Rattle.mm_runs.specs.Views.{Shape}
 use Rattle.mm_awake.proofs.FairRow.{taken_at_arbiter}
 use Rattle.mm_awake.proofs.FairStraight.{ends_there}
