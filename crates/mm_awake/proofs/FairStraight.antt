@@ -137,7 +137,7 @@ or_there true b h = refl
 or_there false b h = h
 
 module _ (system : System) (run : Run) (host agent : ℕ) (middle : Port) (down : ℕ → Port) (end : ℕ) (there : agent < system.agents) (part : IsHostPart system run host middle end) (route : IsRoutePart system host middle down end)
-    (low : Port) (legal_low : AreLegalAt low end) (ahead : Bool) (straight : GoesStraightThrough (λ _. ahead) (target_of system agent) (down agent) low end) (step : GoesInStep ahead (target_of system agent) (down agent) low end)
+    (low : Port) (legal_low : AreLegalAt low end) (ahead : Bool) (straight : GoesStraightThrough (λ _. ahead) (target_of system agent) (down agent) low end) (step : (down agent).shape.word_bytes ≡ low.shape.word_bytes → GoesInStep ahead (target_of system agent) (down agent) low end)
     (words : low.shape.word_bytes ≡ (system.agent agent).shape.word_bytes)
     (there_taken : (c : ℕ) → c ≤ end → length (of_host host (taken system run agent c)) ≤ length (operations_among (target_of system agent) low.shape (taken_at low c)))
     (from last : ℕ) (fit : last < end) (starts : from ≤ last) (done : IsTrue (are_finished_before system run host (commands_begun system run host (suc from)) from))
@@ -235,12 +235,12 @@ module _ (system : System) (run : Run) (host agent : ℕ) (middle : Port) (down 
   stands_low : (c : ℕ) → from ≤ c → c ≤ last → InStep c → EndsThere target low c
   stands_low c least most in_step =
       let next = next_there c least most in_step in
-      let plain = step.plain c (omega (arith, most, fit)) next in
+      let plain = (step same_word).plain c (omega (arith, most, fit)) next in
       let seen = and_parts (shows low.commands.signals c) (is_plain low.shape (earlier_shown low c) (marked_at low c)) plain in
       record {
         shown = seen.0;
         ends = closes_of (begins_alone (earlier_shown low c) (marked_at low c)) (closes (marked_at low c)) (nat_eq (length (marked_at low c).transfer.beats) 1) (has_lane low.shape (marked_at low c)) seen.1;
-        acts = step.full c (omega (arith, most, fit)) next seen.0;
+        acts = (step same_word).full c (omega (arith, most, fit)) next seen.0;
       }
     where
       closes_of : (a b c d : Bool) → IsTrue (a && b && c && d) → IsTrue b
@@ -354,7 +354,7 @@ module _ (system : System) (run : Run) (host agent : ℕ) (middle : Port) (down 
             let earlier = earlier_taken system run host end legal agent there from (ends_in all) inside each_done in
             let is = ap (ops_for system host agent) all_earlier in
             let more = there_taken from (omega (arith, inside)) in
-            let few = step.accepts from (omega (arith, inside)) in
+            let few = (step same_word).accepts from (omega (arith, inside)) in
             omega (arith, ops, earlier, is, more, few);
         answered =
             let reads = reads_of system run host agent middle down end there part route (taken_at top from) all own in

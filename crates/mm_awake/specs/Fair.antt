@@ -116,8 +116,8 @@ AsksWithin late system run up agent end =
 abbrev pub may_burst_to : System → ℕ → ℕ → Bool
 may_burst_to system host agent = not (system.host host).has_enables || (system.agent agent).has_enables
 
--- what lies between the routes and an agent's arbiter: plain commands go straight through it, in step, and first beats are shown promptly
+-- what lies between the routes and an agent's arbiter: plain commands go straight through it, between equal words in step, and first beats are shown promptly
 pub record LeadsFairly (system : System) (inside : Boundaries) (ahead : Bool) (agent host end : ℕ) : Type 0 where
   pub straight : GoesStraightThrough (λ _. ahead) (target_of system agent) (inside.upper host agent (inside.links host agent)) (inside.upper host agent 0) end
-  pub step : GoesInStep ahead (target_of system agent) (inside.upper host agent (inside.links host agent)) (inside.upper host agent 0) end
+  pub step : (inside.upper host agent (inside.links host agent)).shape.word_bytes ≡ (inside.upper host agent 0).shape.word_bytes → GoesInStep ahead (target_of system agent) (inside.upper host agent (inside.links host agent)) (inside.upper host agent 0) end
   pub prompt : IsShownPromptly 30 (may_burst_to system host agent) (target_of system agent) (inside.upper host agent (inside.links host agent)) (inside.upper host agent 0) end
