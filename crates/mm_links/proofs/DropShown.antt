@@ -72,22 +72,22 @@ kept_writes s false a m h t r e = no_keep (accepted (stands_so s false a m h r) 
 
 -- ---- a lane is an operation
 
-lanes_act : (target lower : Shape) (enables : ℕ) → 0 < lower.word_bytes → target.word_bytes ≡ lower.word_bytes → target.has_enables ≡ false → any_lane lower enables ≡ true → is_nonempty (filled_lanes lower target enables) ≡ true
-lanes_act target lower enables some same none acts =
+pub lanes_are : (target lower : Shape) (enables : ℕ) → 0 < lower.word_bytes → target.word_bytes ≡ lower.word_bytes → target.has_enables ≡ false → is_nonempty (filled_lanes lower target enables) ≡ any_lane lower enables
+lanes_are target lower enables some same none =
     let one : pieces lower target ≡ 1 = ap (λ n. lower.word_bytes / min lower.word_bytes n) same ∙ same_pieces lower some in
     let start = zero-mul (min lower.word_bytes target.word_bytes) in
     let size : min lower.word_bytes target.word_bytes ≡ lower.word_bytes = omega arith in
     ap (λ n. is_nonempty (flat_map (filled_of_piece lower target enables) (numbers 0 n))) one
     ∙ ap (λ b. body b (0 * min lower.word_bytes target.word_bytes) (min lower.word_bytes target.word_bytes)) none
-    ∙ ap₂ (λ from n. body false from n) start size ∙ by_any (list_any (is_enabled enables) (numbers 0 lower.word_bytes)) lower.word_bytes some acts
+    ∙ ap₂ (λ from n. body false from n) start size ∙ by_any (any_lane lower enables) lower.word_bytes some
   where
     body : Bool → ℕ → ℕ → Bool
     body h from n = is_nonempty ((if h then filter (is_enabled enables) (numbers from n) else if list_any (is_enabled enables) (numbers from n) then numbers from n else []) ++ [])
 
-    by_any : (b : Bool) (n : ℕ) → 0 < n → b ≡ true → is_nonempty ((if b then numbers 0 n else []) ++ []) ≡ true
-    by_any b zero h e = absurd (omega (arith, h))
-    by_any true (suc n) h e = refl
-    by_any false (suc n) h e = cc
+    by_any : (b : Bool) (n : ℕ) → 0 < n → is_nonempty ((if b then numbers 0 n else []) ++ []) ≡ b
+    by_any b zero h = absurd (omega (arith, h))
+    by_any true (suc n) h = refl
+    by_any false (suc n) h = refl
 
 module _ (target : Target) (room : ℕ) (up down : Port) (state : DropState) (end : ℕ) (plan : IsDropPlan target up.shape down.shape) (run : RunsAsDrop room up down state) (legal : AreLegalAt up end) where
   abbrev pub now : ℕ → Standing
@@ -209,7 +209,7 @@ module _ (target : Target) (room : ℕ) (up down : Port) (state : DropState) (en
           let same = plan.same in
           let some = plan.some in
           some_mapped (operation_at target.span (beat_of_raw raw)) (filled_lanes down.shape target.shape raw.levels.enables)
-          (lanes_act target.shape down.shape raw.levels.enables (omega (arith, same, some)) (plan.agent ∙ sym plan.same) plan.enables (ap (λ n. list_any (is_enabled raw.levels.enables) (numbers 0 n)) plan.same ∙ here.lane))
+          (lanes_are target.shape down.shape raw.levels.enables (omega (arith, same, some)) (plan.agent ∙ sym plan.same) plan.enables ∙ ap (λ n. list_any (is_enabled raw.levels.enables) (numbers 0 n)) plan.same ∙ here.lane)
 
   pub drop_lanes : HasLanes target down end
   drop_lanes c h =

@@ -19,7 +19,7 @@ size_if : {A : Type 0} (b : Bool) (x : A) → length (only_if b x) ≡ one_if b
 size_if true x = refl
 size_if false x = refl
 
-words_step : (valid : ℕ → ℕ) (c : ℕ) → words_before valid (suc c) ≡ words_before valid c + one_if (is_raised (valid c))
+pub words_step : (valid : ℕ → ℕ) (c : ℕ) → words_before valid (suc c) ≡ words_before valid c + one_if (is_raised (valid c))
 words_step valid c = length-append _ _ ∙ ap (λ n. words_before valid c + n) (size_if (is_raised (valid c)) c)
 
 -- each read that is taken asks one word
@@ -76,7 +76,7 @@ reads_kept true false true m t r = refl
 reads_kept true false false m t r = refl
 
 -- a read is swallowed only where no words are owed
-swallowed_free : (s w a m h t : Bool) (r : ℕ) → owes_itself (stands_so s w a m h r) t ≡ true → r ≡ 0
+pub swallowed_free : (s w a m h t : Bool) (r : ℕ) → owes_itself (stands_so s w a m h r) t ≡ true → r ≡ 0
 swallowed_free false w a m h t r e = cc
 swallowed_free true true a m h t r e = no_more (accepted (stands_so true true a m h r) t) e
   where
@@ -93,16 +93,16 @@ swallowed_free true false false m h t r e =
     eqb-true r 0 (and_parts (nat_eq r 0) (not (h && not m) || t) parts.0).0
 
 module _ (target : Target) (room : ℕ) (up down : Port) (state : DropState) (end : ℕ) (plan : IsDropPlan target up.shape down.shape) (run : RunsAsDrop room up down state) (legal : AreLegalAt up end) (owed : AnswersAreOwed down end) where
-  abbrev swallowed : ℕ → Bool
+  abbrev pub swallowed : ℕ → Bool
   swallowed c = owes_itself (so target room up down state end plan run legal (raw_at up c) (state.kept c) (state.reads c)) (takes down c)
 
   shown_down : (c : ℕ) → takes down c ≡ true → shows down.commands.signals c ≡ true
   shown_down c t = (and_parts (shows down.commands.signals c) (not (is_raised (down.commands.waitrequest c))) t).0
 
-  asked_up : (c : ℕ) → c < end → words_owed up (suc c) ≡ words_owed up c + one_if (takes_read up c)
+  pub asked_up : (c : ℕ) → c < end → words_owed up (suc c) ≡ words_owed up c + one_if (takes_read up c)
   asked_up c h = asked_step up end (λ k low t. count_is_one up end plan.one_beat legal k low (and_parts (shows up.commands.signals k) (not (is_raised (up.commands.waitrequest k))) t).0) c h
 
-  asked_down : (c : ℕ) → c < end → words_owed down (suc c) ≡ words_owed down c + one_if (takes_read down c)
+  pub asked_down : (c : ℕ) → c < end → words_owed down (suc c) ≡ words_owed down c + one_if (takes_read down c)
   asked_down c h = asked_step down end (λ k low t. one_shown target room up down state end plan run legal k low (shown_down k t)) c h
 
   -- where these beats are kept
@@ -111,7 +111,7 @@ module _ (target : Target) (room : ℕ) (up down : Port) (state : DropState) (en
       ≡ one_if (owes_itself (so target room up down state end plan run legal (raw_at up c) q (state.reads c)) (takes down c)) + one_if (takes_read down c)
 
   -- a read that is accepted is swallowed, or is taken below
-  reads_split : (c : ℕ) → one_if (takes_read up c) ≡ one_if (swallowed c) + one_if (takes_read down c)
+  pub reads_split : (c : ℕ) → one_if (takes_read up c) ≡ one_if (swallowed c) + one_if (takes_read down c)
   reads_split c = ap (λ t. one_if (t && not (is_raised (up.commands.write c)))) (run.accepts c) ∙ by_kept (state.kept c) refl
     where
       by_kept : (q : List Raw) → state.kept c ≡ q → splits_so c (state.kept c)
@@ -140,7 +140,7 @@ module _ (target : Target) (room : ℕ) (up down : Port) (state : DropState) (en
               add_none n b none = let zero_more : one_if b ≡ 0 = ap one_if none in omega (arith, zero_more)
 
   -- the count is that of the words owed below
-  reads_are : (c : ℕ) → c ≤ end → words_owed down c ≡ state.reads c + words_before down.answers.valid c
+  pub reads_are : (c : ℕ) → c ≤ end → words_owed down c ≡ state.reads c + words_before down.answers.valid c
   reads_are zero h = let none = run.reads_begin in omega (arith, none)
   reads_are (suc c) h =
       let so_far = reads_are c (omega (arith, h)) in
@@ -177,10 +177,10 @@ module _ (target : Target) (room : ℕ) (up down : Port) (state : DropState) (en
           at_most_one false = omega arith
 
   -- its own words are those of the reads that were swallowed before
-  abbrev own_before : ℕ → ℕ
+  abbrev pub own_before : ℕ → ℕ
   own_before c = words_before (λ k. one_if (state.own k)) c
 
-  record Counts (c : ℕ) : Type 0 where
+  pub record Counts (c : ℕ) : Type 0 where
     pub words : words_before up.answers.valid (suc c) ≡ own_before (suc c) + words_before down.answers.valid (suc c)
     pub asked : words_owed up c ≡ own_before (suc c) + words_owed down c
 
@@ -198,7 +198,7 @@ module _ (target : Target) (room : ℕ) (up down : Port) (state : DropState) (en
       by_own true e = let none = words_apart c h e in ap₂ (λ o v. one_if (o || v)) e none ∙ sym (ap₂ (λ o v. one_if o + one_if v) e none)
       by_own false e = ap (λ o. one_if (o || is_raised (down.answers.valid c))) e ∙ none_more (one_if (is_raised (down.answers.valid c))) ∙ sym (ap (λ o. one_if o + one_if (is_raised (down.answers.valid c))) e)
 
-  counts : (c : ℕ) → c < end → Counts c
+  pub counts : (c : ℕ) → c < end → Counts c
   counts zero h =
       let one = one_word 0 h in
       let none : one_if (is_raised (one_if (state.own 0))) ≡ 0 = ap (λ b. one_if (is_raised (one_if b))) run.own_begins in
@@ -255,7 +255,7 @@ module _ (target : Target) (room : ℕ) (up down : Port) (state : DropState) (en
               let none : one_if (not (is_raised (down.commands.write c))) ≡ 0 = ap (λ (raw : Raw). one_if (not (is_raised raw.levels.write))) (beat (kept ∷ later) k) in
               omega (arith, none)
 
-  counted : (port : Port) (c : ℕ) → length (words_at port c) ≡ words_before port.answers.valid c
+  pub counted : (port : Port) (c : ℕ) → length (words_at port c) ≡ words_before port.answers.valid c
   counted port c = sym (same_counts (λ k. is_raised (port.answers.valid k)) (λ k. k) (λ k. record { word = port.answers.word k; code = port.answers.code k }) c)
 
   pub quiet_below : (c : ℕ) → c ≤ end → IsTrue (are_answered up (shown_at up c) c) → IsTrue (are_answered down (shown_at down c) c)

@@ -16,20 +16,24 @@ use Rattle.mm_links.specs.InStep.{is_next, GoesInStep, AreInStep, HandOnFirstBea
 use Rattle.mm_links.proofs.Chain.{middle_legal, middle_owed}
 use Rattle.mm_links.proofs.SplitPrompt.{take_front_of}
 
--- what stands before the beat that is shown was accepted before
-pub earlier_is : (port : Port) (end : ℕ) → AreLegalAt port end → (c : ℕ) → c < end → shows port.commands.signals c ≡ true → earlier_shown port c ≡ taken_at port c
-earlier_is port end legal c h shown =
-    let whole : shown_at port (suc c) ≡ taken_at port c ++ marked_at port c ∷ [] =
-    shown_is_accepted_and_standing (shows port.commands.signals) (takes port) (marked_at port) end (suc c) (marked_keeps port end legal) h ∙ by_take (takes port c) refl in
-    let size = ap length whole ∙ length-append (taken_at port c) (marked_at port c ∷ []) in
-    let back : length (shown_at port (suc c)) - 1 ≡ length (taken_at port c) = omega (arith, size) in
-    ap₂ (λ n l. take n l) back whole ∙ take_front_of (taken_at port c) (marked_at port c ∷ [])
+-- what a side has shown, with the beat that it shows
+pub shown_with : (port : Port) (end : ℕ) → AreLegalAt port end → (c : ℕ) → c < end → shows port.commands.signals c ≡ true → shown_at port (suc c) ≡ taken_at port c ++ marked_at port c ∷ []
+shown_with port end legal c h shown =
+    shown_is_accepted_and_standing (shows port.commands.signals) (takes port) (marked_at port) end (suc c) (marked_keeps port end legal) h ∙ by_take (takes port c) refl
   where
     by_take : (t : Bool) → takes port c ≡ t → taken_at port (suc c) ++ only_if (is_held port.commands.signals (takes port) c) (marked_at port c) ≡ taken_at port c ++ marked_at port c ∷ []
     by_take true t =
         ap₂ (λ b s. (taken_at port c ++ only_if b (marked_at port c)) ++ only_if (s && not b) (marked_at port c)) t shown ∙ append-nil (taken_at port c ++ marked_at port c ∷ [])
     by_take false t =
         ap₂ (λ b s. (taken_at port c ++ only_if b (marked_at port c)) ++ only_if (s && not b) (marked_at port c)) t shown ∙ ap (λ l. l ++ marked_at port c ∷ []) (append-nil (taken_at port c))
+
+-- what stands before the beat that is shown was accepted before
+pub earlier_is : (port : Port) (end : ℕ) → AreLegalAt port end → (c : ℕ) → c < end → shows port.commands.signals c ≡ true → earlier_shown port c ≡ taken_at port c
+earlier_is port end legal c h shown =
+    let whole = shown_with port end legal c h shown in
+    let size = ap length whole ∙ length-append (taken_at port c) (marked_at port c ∷ []) in
+    let back : length (shown_at port (suc c)) - 1 ≡ length (taken_at port c) = omega (arith, size) in
+    ap₂ (λ n l. take n l) back whole ∙ take_front_of (taken_at port c) (marked_at port c ∷ [])
 
 pub both : {a b : Bool} → IsTrue a → IsTrue b → IsTrue (a && b)
 both p q = ap₂ (λ a b. a && b) p q

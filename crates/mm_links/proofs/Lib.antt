@@ -29,5 +29,12 @@ pub mod BurstLists
 pub mod BurstLink
 pub mod BurstStraight
 pub mod BurstInStep
+pub mod DropLists
+pub mod DropJoins
 pub mod DropShown
+pub mod DropTaken
 pub mod DropWords
+pub mod DropAnswers
+pub mod DropLink
+pub mod DropGoing
+pub mod DropWhole

@@ -8,6 +8,7 @@ use Rattle.mm_runs.specs.Commands.{shows}
 use Rattle.mm_machines.specs.Link.{Target, Port, takes, is_nonempty}
 use Rattle.mm_machines.specs.Machines.{Raw, raw_at}
 use Rattle.mm_links.specs.Selects.{takes_read}
+use Rattle.mm_links.specs.Links.{LinkForm}
 
 abbrev pub any_lane : Shape → ℕ → Bool
 any_lane shape enables = list_any (is_enabled enables) (numbers 0 shape.word_bytes)
@@ -94,10 +95,15 @@ pub record RunsAsDrop (room : ℕ) (up down : Port) (state : DropState) : Type 0
   pub word : (c : ℕ) → up.answers.word c ≡ (if state.own c then 0 else down.answers.word c)
   pub code : (c : ℕ) → up.answers.code c ≡ (if state.own c then 0 else down.answers.code c)
 
--- words are those of the agent, which has no byte enables. Commands have one beat on both sides
+-- words are those of the agent, which has no byte enables, and addresses are the same below. Commands have one beat on both sides
 pub record IsDropPlan (target : Target) (up down : Shape) : Type 0 where
   pub some : 0 < up.word_bytes
   pub same : down.word_bytes ≡ up.word_bytes
+  pub units : down.unit_bytes ≡ up.unit_bytes
   pub agent : target.shape.word_bytes ≡ up.word_bytes
   pub enables : target.shape.has_enables ≡ false
   pub one_beat : up.burst_bits ≡ 1
+
+-- it holds a write, its rank is 1 while a word is owed below, and each word that holds an answer is a word from below
+abbrev pub drop_form : Target → LinkForm
+drop_form target = record { target = target; hold = 1; paces = record { largest = 1; hold = 1 } ∷ []; word_for_word = true; makes_lanes = true }

@@ -4,8 +4,9 @@ ghost use Rattle.std.specs.Prelude.{◌<◌, ◌≡◌, ℕ, true, false};
 ghost use Rattle.histories.specs.History.{is_raised};
 ghost use Rattle.mm_machines.specs.Link.{Target, Port, AreLegalAt, AnswersAreOwed};
 ghost use Rattle.mm_machines.specs.Lines.{HasLanes, HandsOn};
-ghost use Rattle.mm_links.specs.Links.{OwesNothingBelow};
-ghost use Rattle.mm_links.specs.Drops.{DropState, RunsAsDrop, IsDropPlan};
+ghost use Rattle.mm_machines.specs.PartRanks.{JoinsAlike};
+ghost use Rattle.mm_links.specs.Links.{IsLink, OwesNothingBelow};
+ghost use Rattle.mm_links.specs.Drops.{DropState, RunsAsDrop, IsDropPlan, drop_form};
 
 /// Below it the commands are legal, each beat has an operation, and no tags and no kinds are made.
 pub fn drop_brings_lanes()
@@ -27,3 +28,11 @@ pub fn drop_owes_its_words()
     ensures quiet { (target : Target) (room : ℕ) (up down : Port) (state : DropState) (end : ℕ) → IsDropPlan target up.shape down.shape
         → RunsAsDrop room up down state → OwesNothingBelow up down end }
 {}
+
+/// It keeps all that a link promises where joined commands above are alike, as they are behind a route. At least one read may be under way.
+pub fn drop_is_a_link()
+    ensures { (target : Target) (room : ℕ) (up down : Port) (state : DropState) (end : ℕ) → IsDropPlan target up.shape down.shape
+        → 0 < room → RunsAsDrop room up down state → JoinsAlike target up end → IsLink (drop_form target) up down end }
+{
+    mm_machines::wires::wire_is_a_row()
+}
