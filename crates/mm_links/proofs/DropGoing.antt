@@ -87,7 +87,7 @@ module _ (target : Target) (room : ℕ) (up down : Port) (state : DropState) (en
   -- ---- what is left open
 
   -- what is left open below is left open above
-  left_open : (c : ℕ) (h : c ≤ end) → IsLevel target room up down state end plan run legal alike c → is_last_joined (taken_at down c) ≡ true → (is_last_joined (taken_at up c) ≡ true) × (is_last_write (taken_at up c) ≡ is_last_write (taken_at down c))
+  pub left_open : (c : ℕ) (h : c ≤ end) → IsLevel target room up down state end plan run legal alike c → is_last_joined (taken_at down c) ≡ true → (is_last_joined (taken_at up c) ≡ true) × (is_last_write (taken_at up c) ≡ is_last_write (taken_at down c))
   left_open c h level left =
       let list = all_alike target room up down state end plan run legal alike (raws down c) in
       let joined : is_last_joined (sent target room up down state end plan run legal alike c) ≡ true =
@@ -122,7 +122,7 @@ module _ (target : Target) (room : ℕ) (up down : Port) (state : DropState) (en
       by_so_far (inr ahead) = kept_is_open target up (dropped_taken target room up down state end plan run legal alike c h) ahead.some
 
   -- behind an open write stands no read
-  no_read : (c : ℕ) → c < end → shows up.commands.signals c ≡ true → is_raised (up.commands.write c) ≡ false → EndsInWrite target up (taken_at up c) → ⊥
+  pub no_read : (c : ℕ) → c < end → shows up.commands.signals c ≡ true → is_raised (up.commands.write c) ≡ false → EndsInWrite target up (taken_at up c) → ⊥
   no_read c h shown w left =
       let kind : is_of_reads (marked_at up c).transfer.kind ≡ true =
       ap (λ (m : Marked). is_of_reads m.transfer.kind) (flat_at up end legal (up_one target room up down state end plan run legal alike) c h shown) ∙ ap (λ w. is_of_reads (if w then Writes else Reads)) w in

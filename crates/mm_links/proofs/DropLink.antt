@@ -39,7 +39,7 @@ module _ (target : Target) (room : ℕ) (up down : Port) (state : DropState) (en
   pub legal_below : AreLegalAt down end
   legal_below = drop_legal target room up down state end plan run legal
 
-  one_alike : (raw : Raw) → IsAlike target up.shape down.shape (high raw) (low raw)
+  pub one_alike : (raw : Raw) → IsAlike target up.shape down.shape (high raw) (low raw)
   one_alike raw = record {
     tag = refl;
     more = refl;
@@ -70,7 +70,7 @@ module _ (target : Target) (room : ℕ) (up down : Port) (state : DropState) (en
       ap (λ l. length (operations_among target down.shape l)) (down_taken c h) ∙ ap length (alike_operations target up.shape down.shape (map high (raws down c)) (map low (raws down c)) (all_alike (raws down c)))
       ∙ sym (total_sizes target up.shape (map high (raws down c)))
 
-  sum_append : (xs ys : List Marked) → sum target up.shape (xs ++ ys) ≡ sum target up.shape xs + sum target up.shape ys
+  pub sum_append : (xs ys : List Marked) → sum target up.shape (xs ++ ys) ≡ sum target up.shape xs + sum target up.shape ys
   sum_append xs ys = ap total (map-append (λ (m : Marked). length (operations_in target up.shape m)) xs ys) ∙ total_append (sizes target up.shape xs) (sizes target up.shape ys)
 
   abbrev pub IsLevel : ℕ → Type 0

@@ -94,7 +94,7 @@ module _ (target : Target) (room : ℕ) (up down : Port) (state : DropState) (en
   now c = standing_at up state c
 
   -- a beat with a lane that counts as one
-  record IsKept (raw : Raw) : Type 0 where
+  pub record IsKept (raw : Raw) : Type 0 where
     pub lane : any_lane up.shape raw.levels.enables ≡ true
     pub one : raw.levels.count ≡ 1
 
@@ -125,7 +125,7 @@ module _ (target : Target) (room : ℕ) (up down : Port) (state : DropState) (en
   pub above : (c : ℕ) → shows down.commands.signals c ≡ true → shows up.commands.signals c ≡ true
   above c shown = (and_parts (shows up.commands.signals c) _ (sends_at c shown)).0
 
-  shown_is : (c : ℕ) → c < end → shows down.commands.signals c ≡ true → IsKept (raw_at down c)
+  pub shown_is : (c : ℕ) → c < end → shows down.commands.signals c ≡ true → IsKept (raw_at down c)
   shown_is c h shown = subst IsKept (sym (run.beat c shown)) (by_kept (state.kept c) refl (kept_at c (omega (arith, h))))
     where
       by_kept : (q : List Raw) → state.kept c ≡ q → AllKept q → IsKept (sent_beat q (raw_at up c) (now c).acts)

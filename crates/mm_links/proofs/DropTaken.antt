@@ -23,14 +23,14 @@ use Rattle.mm_links.proofs.OneBeat.{raw_by, beat_by, count_is_one, flat_mark, fl
 use Rattle.mm_links.proofs.Stages.{alike_prefix}
 
 -- a cycle in which no beat is kept: what stands, what is taken below and accepted above, and whether it is kept then
-data Alone : Bool → Bool → Bool → Bool → Bool → Bool → Bool → Type 0 where
+pub data Alone : Bool → Bool → Bool → Bool → Bool → Bool → Bool → Type 0 where
   idle : (s w a m : Bool) → Alone s w a m false false false
   swallow : (w m : Bool) → Alone true w false m false true false
   keep : Alone true true true true false true true
   pass_read : (m : Bool) → Alone true false true m true true false
   pass_write : Alone true true true false true true false
 
-alone : (room : ℕ) (s w a m t : Bool) (r : ℕ) → (t ≡ true → sends room (stands_so s w a m false r) ≡ true) → Alone s w a m t (accepted (stands_so s w a m false r) t) (keeps (stands_so s w a m false r) t)
+pub alone : (room : ℕ) (s w a m t : Bool) (r : ℕ) → (t ≡ true → sends room (stands_so s w a m false r) ≡ true) → Alone s w a m t (accepted (stands_so s w a m false r) t) (keeps (stands_so s w a m false r) t)
 alone room false w a m true r f = let e = f refl in cc
 alone room true w false m true r f = let e = f refl in cc
 alone room true true true true true r f = let e = f refl in cc
@@ -71,7 +71,7 @@ behind room true true false true false r g f = swallow
 behind room true true false false true r g f = finish
 behind room true true false false false r g f = rest true true false false
 
-alone_sends : (room : ℕ) (s w a m : Bool) (r : ℕ) → sends room (stands_so s w a m false r) ≡ true → (a ≡ true) × ((w && m) ≡ false)
+pub alone_sends : (room : ℕ) (s w a m : Bool) (r : ℕ) → sends room (stands_so s w a m false r) ≡ true → (a ≡ true) × ((w && m) ≡ false)
 alone_sends room false w a m r e = cc
 alone_sends room true w false m r e = cc
 alone_sends room true true true true r e = cc
@@ -130,7 +130,7 @@ module _ (target : Target) (room : ℕ) (up down : Port) (state : DropState) (en
       by_write true = refl
       by_write false = refl
 
-  all_end : (rs : List Raw) → AllEnd (map u rs)
+  pub all_end : (rs : List Raw) → AllEnd (map u rs)
   all_end [] = tt
   all_end (r ∷ rs) = (refl, all_end rs)
 
@@ -140,7 +140,7 @@ module _ (target : Target) (room : ℕ) (up down : Port) (state : DropState) (en
   pub joined_taken : (c : ℕ) → c ≤ end → IsTrue (are_joined_alike target up (taken_at up c))
   joined_taken c h = alike_prefix target up (taken_is_shown up end c legal h) (alike c h)
 
-  dropped_from : (c : ℕ) (ms : List Marked) → AllEnd ms → IsTrue (are_joined_alike target up ms) → Drops target up.shape [] false ms (sent_after target up.shape [] ms) (kept_after target up.shape [] ms)
+  pub dropped_from : (c : ℕ) (ms : List Marked) → AllEnd ms → IsTrue (are_joined_alike target up ms) → Drops target up.shape [] false ms (sent_after target up.shape [] ms) (kept_after target up.shape [] ms)
   dropped_from c ms ends joined = dropped target up nobody [] false ms (free refl) ends (after_closed target up nobody ms refl joined)
 
   pub dropped_taken : (c : ℕ) → c ≤ end → Drops target up.shape [] false (taken_at up c) (sent_above c) (kept_above c)
@@ -154,7 +154,7 @@ module _ (target : Target) (room : ℕ) (up down : Port) (state : DropState) (en
   abbrev keeps_at : ℕ → Bool
   keeps_at c = keeps (standing_at up state c) (takes down c)
 
-  kept_next : (c : ℕ) (k t : Bool) → keeps_at c ≡ k → takes down c ≡ t → state.kept (suc c) ≡ (if k then raw_at up c ∷ [] else if t then [] else state.kept c)
+  pub kept_next : (c : ℕ) (k t : Bool) → keeps_at c ≡ k → takes down c ≡ t → state.kept (suc c) ≡ (if k then raw_at up c ∷ [] else if t then [] else state.kept c)
   kept_next c k t e f = run.kept_next c ∙ ap₂ (λ k t. if k then raw_at up c ∷ [] else if t then [] else state.kept c) e f
 
   abbrev pub OneOf : List Raw → Type 0
@@ -204,11 +204,11 @@ module _ (target : Target) (room : ℕ) (up down : Port) (state : DropState) (en
   one_more : (c : ℕ) → c < end → takes up c ≡ true → taken_at up (suc c) ≡ taken_at up c ++ u (raw_at up c) ∷ []
   one_more c h t = ap (λ b. taken_at up c ++ only_if b (marked_at up c)) t ∙ ap (λ m. taken_at up c ++ m ∷ []) (flat_at up end legal up_one c h (shows_taken c t))
 
-  sent_next : (c : ℕ) → c < end → takes up c ≡ true → (a w m : Bool) → lane c ≡ a → now_writes c ≡ w → now_more c ≡ m → sent_above (suc c) ≡ sent_above c ++ sent_by a w (not m) (kept_above c) (u (raw_at up c))
+  pub sent_next : (c : ℕ) → c < end → takes up c ≡ true → (a w m : Bool) → lane c ≡ a → now_writes c ≡ w → now_more c ≡ m → sent_above (suc c) ≡ sent_above c ++ sent_by a w (not m) (kept_above c) (u (raw_at up c))
   sent_next c h t a w m ea ew em =
       ap (sent_after target up.shape []) (one_more c h t) ∙ sent_push target up.shape [] (taken_at up c) (u (raw_at up c)) ∙ ap (λ l. sent_above c ++ l) (sent_is (kept_above c) (raw_at up c) a w m ea ew em)
 
-  keeps_next : (c : ℕ) → c < end → takes up c ≡ true → (a w m : Bool) → lane c ≡ a → now_writes c ≡ w → now_more c ≡ m → kept_above (suc c) ≡ kept_by a w (not m) (kept_above c) (u (raw_at up c))
+  pub keeps_next : (c : ℕ) → c < end → takes up c ≡ true → (a w m : Bool) → lane c ≡ a → now_writes c ≡ w → now_more c ≡ m → kept_above (suc c) ≡ kept_by a w (not m) (kept_above c) (u (raw_at up c))
   keeps_next c h t a w m ea ew em =
       ap (kept_after target up.shape []) (one_more c h t) ∙ kept_push target up.shape [] (taken_at up c) (u (raw_at up c)) ∙ kept_is (kept_above c) (raw_at up c) a w m ea ew em
 
@@ -245,7 +245,7 @@ module _ (target : Target) (room : ℕ) (up down : Port) (state : DropState) (en
   pub beat_with : (c : ℕ) (q : List Raw) → state.kept c ≡ q → shows down.commands.signals c ≡ true → raw_at down c ≡ sent_beat q (raw_at up c) (lane c)
   beat_with c q e shown = run.beat c shown ∙ ap (λ q. sent_beat q (raw_at up c) (lane c)) e
 
-  alone_at : (c : ℕ) → state.kept c ≡ [] → Alone (shows up.commands.signals c) (now_writes c) (lane c) (now_more c) (takes down c) (takes up c) (keeps_at c)
+  pub alone_at : (c : ℕ) → state.kept c ≡ [] → Alone (shows up.commands.signals c) (now_writes c) (lane c) (now_more c) (takes down c) (takes up c) (keeps_at c)
   alone_at c e =
       subst (λ b. Alone (shows up.commands.signals c) (now_writes c) (lane c) (now_more c) (takes down c) b (keeps_at c)) (sym (run.accepts c))
       (subst (λ q. Alone (shows up.commands.signals c) (now_writes c) (lane c) (now_more c) (takes down c) (accepted (standing_with c q) (takes down c)) (keeps (standing_with c q) (takes down c))) (sym e)

@@ -198,27 +198,35 @@ module _ (target : Target) (room : ℕ) (up down : Port) (state : DropState) (en
       by_own true e = let none = words_apart c h e in ap₂ (λ o v. one_if (o || v)) e none ∙ sym (ap₂ (λ o v. one_if o + one_if v) e none)
       by_own false e = ap (λ o. one_if (o || is_raised (down.answers.valid c))) e ∙ none_more (one_if (is_raised (down.answers.valid c))) ∙ sym (ap (λ o. one_if o + one_if (is_raised (down.answers.valid c))) e)
 
-  pub counts : (c : ℕ) → c < end → Counts c
-  counts zero h =
-      let one = one_word 0 h in
+  -- words are asked above for those owed below, and for the reads that were swallowed
+  pub asked_is : (c : ℕ) → c ≤ end → words_owed up c ≡ own_before (suc c) + words_owed down c
+  asked_is zero h =
       let none : one_if (is_raised (one_if (state.own 0))) ≡ 0 = ap (λ b. one_if (is_raised (one_if b))) run.own_begins in
-      let up_words = words_step up.answers.valid 0 in
-      let down_words = words_step down.answers.valid 0 in
       let own_words = words_step (λ k. one_if (state.own k)) 0 in
-      record { words = omega (arith, one, none, up_words, down_words, own_words); asked = omega (arith, none, own_words) }
-  counts (suc c) h =
-      let before = counts c (omega (arith, h)) in
-      let one = one_word (suc c) h in
-      let up_words = words_step up.answers.valid (suc c) in
-      let down_words = words_step down.answers.valid (suc c) in
+      omega (arith, none, own_words)
+  asked_is (suc c) h =
+      let asked = asked_is c (omega (arith, h)) in
       let own_words = words_step (λ k. one_if (state.own k)) (suc c) in
-      let words = before.words in
-      let asked = before.asked in
       let above = asked_up c (omega (arith, h)) in
       let below = asked_down c (omega (arith, h)) in
       let split = reads_split c in
       let own : one_if (is_raised (one_if (state.own (suc c)))) ≡ one_if (swallowed c) = ap one_if (raised_one (state.own (suc c)) ∙ run.own_next c) in
-      record { words = omega (arith, words, one, up_words, down_words, own_words); asked = omega (arith, asked, above, below, split, own, own_words) }
+      omega (arith, asked, above, below, split, own, own_words)
+
+  pub counts : (c : ℕ) → c < end → Counts c
+  counts zero h =
+      let one = one_word 0 h in
+      let up_words = words_step up.answers.valid 0 in
+      let down_words = words_step down.answers.valid 0 in
+      let own_words = words_step (λ k. one_if (state.own k)) 0 in
+      record { words = omega (arith, one, up_words, down_words, own_words); asked = asked_is 0 (omega (arith, h)) }
+  counts (suc c) h =
+      let words = (counts c (omega (arith, h))).words in
+      let one = one_word (suc c) h in
+      let up_words = words_step up.answers.valid (suc c) in
+      let down_words = words_step down.answers.valid (suc c) in
+      let own_words = words_step (λ k. one_if (state.own k)) (suc c) in
+      record { words = omega (arith, words, one, up_words, down_words, own_words); asked = asked_is (suc c) (omega (arith, h)) }
 
   pub words_are_owed : AnswersAreOwed up end
   words_are_owed c h =

@@ -38,3 +38,5 @@ pub mod DropAnswers
 pub mod DropLink
 pub mod DropGoing
 pub mod DropWhole
+pub mod DropStraight
+pub mod DropPrompt

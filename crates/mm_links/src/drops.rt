@@ -5,7 +5,8 @@ ghost use Rattle.histories.specs.History.{is_raised};
 ghost use Rattle.mm_machines.specs.Link.{Target, Port, AreLegalAt, AnswersAreOwed};
 ghost use Rattle.mm_machines.specs.Lines.{HasLanes, HandsOn};
 ghost use Rattle.mm_machines.specs.PartRanks.{JoinsAlike};
-ghost use Rattle.mm_links.specs.Links.{IsLink, OwesNothingBelow};
+ghost use Rattle.mm_links.specs.Links.{IsLink, IsStraightLink, OwesNothingBelow};
+ghost use Rattle.mm_links.specs.InStep.{GoesInStep};
 ghost use Rattle.mm_links.specs.Drops.{DropState, RunsAsDrop, IsDropPlan, drop_form};
 
 /// Below it the commands are legal, each beat has an operation, and no tags and no kinds are made.
@@ -36,3 +37,13 @@ pub fn drop_is_a_link()
 {
     mm_machines::wires::wire_is_a_row()
 }
+
+/// There it is straight and goes in step, and it shows a read, and a write of one beat, in its own cycle once all earlier ones are taken and answered.
+/// A write that another may follow is kept, so of joined writes nothing is said.
+pub fn drop_is_straight()
+    ensures straight { (target : Target) (room : ℕ) (up down : Port) (state : DropState) (end : ℕ) → IsDropPlan target up.shape down.shape
+        → 0 < room → RunsAsDrop room up down state → JoinsAlike target up end → (few : ℕ) → IsStraightLink few false false target up down end }
+    ensures step { (target : Target) (room : ℕ) (up down : Port) (state : DropState) (end : ℕ) → IsDropPlan target up.shape down.shape
+        → 0 < room → RunsAsDrop room up down state → JoinsAlike target up end → AreLegalAt up end → AnswersAreOwed down end
+        → GoesInStep false target up down end }
+{}
