@@ -117,6 +117,21 @@ gathering = record {
   };
 }
 
+-- joined writes of four bytes without a lane, one in each cycle
+abbrev pub empty_writes : SplitInputs
+empty_writes = record {
+  wide = lane_shape 4;
+  narrow = lane_shape 1;
+  room = 16;
+  inputs = record {
+    signals = record { read = always 0; write = always 1; address = always 4; word = always 7; enables = always 0; count = always 1 };
+    more = always 1;
+    tag = always 0;
+    waitrequest = always 0;
+    answers = record { valid = always 0; word = always 0; code = always 0 };
+  };
+}
+
 -- the two byte reads, and the read above whose bytes are swapped
 abbrev pub byte_reads : Port
 byte_reads = record {
@@ -275,5 +290,20 @@ mixed_reads = record {
     tag = always 0;
     waitrequest = always 0;
     answers = record { valid = signal (0 ∷ 1 ∷ []); word = always 9; code = always 0 };
+  };
+}
+
+-- reads without a lane, one in each cycle
+abbrev pub empty_reads : DropInputs
+empty_reads = record {
+  shape = lane_shape 1;
+  below = lane_shape 1;
+  room = 16;
+  inputs = record {
+    signals = record { read = always 1; write = always 0; address = always 2; word = always 0; enables = always 0; count = always 1 };
+    more = always 0;
+    tag = always 0;
+    waitrequest = always 0;
+    answers = record { valid = always 0; word = always 0; code = always 0 };
   };
 }

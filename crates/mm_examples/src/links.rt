@@ -7,10 +7,11 @@ ghost use Rattle.mm_machines.specs.Link.{CarriesCommands, takes, words_at, taken
 ghost use Rattle.mm_machines.specs.Lines.{BringsBack, PipeCarriesCommands, AreDelayed};
 ghost use Rattle.mm_links.specs.Driven.{select_above, select_below, split_above, split_below, burst_above, burst_below, drop_above, drop_below, pipe_run};
 ghost use Rattle.mm_links.specs.Pipes.{side_of};
-ghost use Rattle.mm_examples.specs.LinkRuns.{two_writes, hides_wait, shows_twice, selecting, lane_target, read_port, three_writes, stalled_writes, tagged_port, stage_top, newer_first, answered_at_once, accepts_early, gathering, byte_lanes, byte_reads, swaps_bytes};
+ghost use Rattle.mm_examples.specs.LinkRuns.{two_writes, hides_wait, shows_twice, selecting, lane_target, read_port, three_writes, stalled_writes, tagged_port, stage_top, newer_first, answered_at_once, accepts_early, gathering, empty_writes, byte_lanes, byte_reads, swaps_bytes};
 ghost use Rattle.mm_examples.specs.PartRows.{levels};
 ghost use Rattle.mm_examples.specs.LinkRuns.{cutting, two_bytes, two_beats, behind_empty};
-ghost use Rattle.mm_examples.specs.LinkRuns.{dropping, ends_without_lane, stays_joined, own_word_first, one_word, mixed_reads};
+ghost use Rattle.mm_examples.specs.LinkRuns.{dropping, ends_without_lane, stays_joined, own_word_first, one_word, mixed_reads, empty_reads};
+ghost use Rattle.mm_awake.specs.Slack.{PassesOn};
 ghost use Rattle.mm_machines.specs.Straight.{GoesStraightThrough};
 ghost use Rattle.mm_examples.specs.MoreExamples.{byte_target, byte_side};
 ghost use Rattle.mm_examples.specs.WireRows.{one_read_system};
@@ -56,12 +57,14 @@ pub fn long_pipes()
 
 /// A read with two enabled lanes is sent as two bytes, joined, and its word is gathered with the greater code.
 /// A splitter that accepts a beat with its first piece holds one, and one that swaps what it gathers has the wrong bytes.
+/// It swallows joined writes without a lane, as many as a host shows.
 pub fn splitters()
     ensures asked { map (λ m. m.more) (taken_at (split_below gathering) 2) ≡ true ∷ false ∷ [] }
     ensures waits { shows (split_below gathering).commands.signals 2 ≡ false }
     ensures words { words_at (split_above gathering) 3 ≡ (record { word = 0x00bbcc00; code = 2 }) ∷ [] }
     ensures early { CarriesCommands byte_target 0 accepts_early byte_side 2 → ⊥ }
     ensures swapped { BringsBack byte_lanes swaps_bytes byte_reads 3 → ⊥ }
+    ensures swallows { PassesOn (record { hold = 1; kept = 9 }) (split_above empty_writes) (split_below empty_writes) 4 → ⊥ }
 {}
 
 /// A read of three words and a write of two are sent beat by beat, joined by `more`; the read is accepted with its first beat, and the write waits.
@@ -81,6 +84,7 @@ pub fn bursts()
 /// owed, and is given 0 in the next cycle.
 /// What leaves `more` as it is joins two commands; what answers such a read before an earlier one brings wrong bytes. Where a read with a
 /// lane is joined to one without, the machine itself joins it to the next command, so it needs joined commands that are alike.
+/// It accepts reads without a lane, and gives their words, as often as a host asks them, so no number bounds what it doesn't hand on.
 pub fn drops()
     ensures places { map (λ m. m.transfer.first) (taken_at (drop_below dropping) 10) ≡ 8 ∷ 16 ∷ 8 ∷ 16 ∷ [] }
     ensures joined { map (λ m. m.more) (taken_at (drop_below dropping) 10) ≡ true ∷ false ∷ false ∷ false ∷ [] }
@@ -90,4 +94,6 @@ pub fn drops()
     ensures loose { CarriesCommands byte_target 1 ends_without_lane stays_joined 3 → ⊥ }
     ensures early { BringsBack byte_target own_word_first one_word 4 → ⊥ }
     ensures mixed { CarriesCommands byte_target 1 (drop_above mixed_reads) (drop_below mixed_reads) 4 → ⊥ }
+    ensures swallows { PassesOn (record { hold = 1; kept = 9 }) (drop_above empty_reads) (drop_below empty_reads) 4 → ⊥ }
+    ensures gives { PassesOn (record { hold = 9; kept = 1 }) (drop_above empty_reads) (drop_below empty_reads) 4 → ⊥ }
 {}

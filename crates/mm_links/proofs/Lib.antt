@@ -40,3 +40,4 @@ pub mod DropGoing
 pub mod DropWhole
 pub mod DropStraight
 pub mod DropPrompt
+pub mod Handing

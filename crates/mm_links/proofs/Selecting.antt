@@ -160,7 +160,7 @@ module _ (law : SelectsBeats) (target : Target) (up down : Port) (many room : �
   waits_by true false w = refl
   waits_by false x w = refl
 
-  takes_same : (c : ℕ) → takes down c ≡ takes up c
+  pub takes_same : (c : ℕ) → takes down c ≡ takes up c
   takes_same c =
       ap (λ s. s && not (is_raised (down.commands.waitrequest c))) (shows_same c) ∙ waits_by (shows up.commands.signals c) (is_shut room up offsets c) (is_raised (down.commands.waitrequest c))
       ∙ ap (λ w. shows up.commands.signals c && not w) (sym (run.waitrequest c))

@@ -52,7 +52,7 @@ module _ (law : HasPieces) (target : Target) (wide narrow : Shape) (count : ℕ)
       ∙ ap₂ (λ a b. a + b) (one_size _ lanes ∙ sym (length-map lanes (λ lane. p * narrow.word_bytes + lane))) rest
       ∙ sym (length-append (map (λ lane. p * narrow.word_bytes + lane) lanes) _)
 
-  parts_sizes : (raw : Raw) → length (operations_among target narrow (map (flat_mark narrow) (parts_of wide narrow raw))) ≡ length (operations_in target wide (flat_mark wide raw))
+  pub parts_sizes : (raw : Raw) → length (operations_among target narrow (map (flat_mark narrow) (parts_of wide narrow raw))) ≡ length (operations_in target wide (flat_mark wide raw))
   parts_sizes raw =
       ap (λ l. length (operations_among target narrow (map (flat_mark narrow) l))) (parts_are wide narrow raw)
       ∙ joined_sizes raw raw.tag raw.more (sent_pieces wide narrow raw)

@@ -6,5 +6,6 @@ pub mod Selects
 pub mod Splits
 pub mod Bursts
 pub mod Drops
+pub mod Passes
 pub mod Driven
 pub mod Soon

@@ -3,6 +3,7 @@
 
 pub mod bursts;
 pub mod drops;
+pub mod passes;
 pub mod pipes;
 pub mod rows;
 pub mod runs;

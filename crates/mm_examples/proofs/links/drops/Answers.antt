@@ -1,4 +1,4 @@
-use Rattle.std.proofs.Common.{◌≡◌, arith, refl, ap}
+use Rattle.std.proofs.Common.{◌≤◌, ◌≡◌, ◌+◌, arith, refl, ap}
 use Rattle.mm_links.specs.Selects.{first_of}
 use Rattle.mm_examples.proofs.links.drops.Goals as goal
 
@@ -25,3 +25,9 @@ returns-clause-early c = λ back. (let same : 0 ≡ 9 = ap first_of (back.bytes 
 
 pub returns-clause-mixed : goal.returns-clause-mixed
 returns-clause-mixed c = λ carries. (let joins = (carries.in_order 4 (omega arith)).joins in cc)
+
+pub returns-clause-swallows : goal.returns-clause-swallows
+returns-clause-swallows c = λ passes. (let few : 2 ≤ 0 + 1 = passes.beats 0 2 (omega arith) in omega (arith, few))
+
+pub returns-clause-gives : goal.returns-clause-gives
+returns-clause-gives c = λ passes. (let few : 2 ≤ 0 + 1 = passes.words 0 2 (omega arith) in omega (arith, few))

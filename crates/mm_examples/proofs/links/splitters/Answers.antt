@@ -1,4 +1,4 @@
-use Rattle.std.proofs.Common.{◌≡◌, arith, refl, ap}
+use Rattle.std.proofs.Common.{◌≤◌, ◌≡◌, ◌+◌, arith, refl, ap}
 use Rattle.mm_links.specs.Selects.{first_of}
 use Rattle.std.proofs.Math.Nat.{not-suc-le-zero}
 use Rattle.mm_examples.proofs.links.splitters.Goals as goal
@@ -17,3 +17,6 @@ returns-clause-early c = λ carries. not-suc-le-zero (carries.held 1 (omega arit
 
 pub returns-clause-swapped : goal.returns-clause-swapped
 returns-clause-swapped c = λ back. (let same : 0xbb ≡ 0xcc = ap first_of (back.bytes 3 (omega arith)).joins in absurd (omega (arith, same)))
+
+pub returns-clause-swallows : goal.returns-clause-swallows
+returns-clause-swallows c = λ passes. (let few : 2 ≤ 0 + 1 = passes.beats 0 2 (omega arith) in omega (arith, few))

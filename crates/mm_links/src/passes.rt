@@ -1,0 +1,30 @@
+//! How few beats and words links keep back, and which of them they don't hand on.
+
+ghost use Rattle.std.specs.Prelude.{◌<◌, ℕ, List};
+ghost use Rattle.mm_machines.specs.Link.{Target, Port, AreLegalAt};
+ghost use Rattle.mm_machines.specs.Machines.{MaySplit};
+ghost use Rattle.mm_machines.specs.PartRanks.{JoinsAlike};
+ghost use Rattle.mm_links.specs.Bursts.{BurstState, RunsAsBurst};
+ghost use Rattle.mm_links.specs.Drops.{DropState, RunsAsDrop, IsDropPlan};
+ghost use Rattle.mm_links.specs.Passes.{PassesAtOnce, PassesActs, AcceptsActs};
+ghost use Rattle.mm_links.specs.Selects.{RunsAsSelect, IsSelectPlan};
+ghost use Rattle.mm_links.specs.Splits.{SplitState, RunsAsSplit};
+
+/// A lane selector and a cutter of bursts take a beat below with each one that they accept, and give only words that come from below.
+/// So does a splitter, where each beat that it accepts has an operation: it swallows empty write beats that are joined to others.
+pub fn links_pass_at_once()
+    ensures select { (target : Target) (up down : Port) (many room : ℕ) (offsets : ℕ → List ℕ) → IsSelectPlan target up.shape down.shape many
+        → 1 < room → RunsAsSelect room up down offsets → (end : ℕ) → PassesAtOnce up down end }
+    ensures burst { (up down : Port) (state : BurstState) → RunsAsBurst up down state → (end : ℕ) → PassesAtOnce up down end }
+    ensures split { (target : Target) (room count : ℕ) (up down : Port) (state : SplitState) → MaySplit target up.shape down.shape count
+        → RunsAsSplit room up down state → (end : ℕ) → AreLegalAt up end → AcceptsActs target up end → PassesAtOnce up down end }
+{
+    mm_machines::machines::beat_is_selected();
+    mm_machines::machines::beat_is_pieces()
+}
+
+/// What drops beats without a lane hands all others on but one that it may keep, and the words that it gives by itself are those of reads without a lane.
+pub fn drop_passes_others()
+    ensures { (target : Target) (room : ℕ) (up down : Port) (state : DropState) (end : ℕ) → IsDropPlan target up.shape down.shape
+        → RunsAsDrop room up down state → AreLegalAt up end → JoinsAlike target up end → PassesActs 1 target up down end }
+{}
