@@ -49,3 +49,4 @@ pub mod FairSplit
 pub mod FairPrompt
 pub mod FairRow
 pub mod FairStraight
+pub mod LinksPass
