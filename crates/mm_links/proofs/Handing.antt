@@ -1,16 +1,16 @@
 -- Links that hand each beat on at once, and what drops beats without an operation.
 use Rattle.std.proofs.Common.{ℕ, suc, ◌<◌, ◌≤◌, ◌≡◌, ◌+◌, ◌⊎◌, inl, inr, Bool, true, false, not, ◌&&◌, ◌||◌, List, [], ◌∷◌, if◌then◌else◌, arith, refl, sym, ap, ap₂, subst, ◌∙◌, length, map, filter, nat_eq, IsTrue, length-append}
-use Rattle.std.proofs.lemmas.Bool.{and_parts, or_left, or_right, eqb-true}
+use Rattle.std.proofs.lemmas.Bool.{and_parts, or_left, or_right, eqb-true, both_ways}
 use Rattle.std.proofs.lemmas.List.{length-map}
 use Rattle.histories.specs.History.{is_raised}
-use Rattle.mm_runs.specs.Commands.{shows}
-use Rattle.mm_machines.specs.Link.{Target, Port, Marked, AreLegalAt, takes, marked_at, taken_at, operations_among, operations_in, is_nonempty}
+use Rattle.mm_runs.specs.Commands.{shows, byte_address}
+use Rattle.mm_machines.specs.Link.{Target, Port, Marked, AreLegalAt, takes, marked_at, taken_at, closes, operations_among, operations_in, is_nonempty}
 use Rattle.mm_machines.specs.Machines.{Raw, raw_at, raws, MaySplit}
 use Rattle.mm_machines.specs.PartRanks.{JoinsAlike}
-use Rattle.mm_links.specs.Passes.{PassesAtOnce, PassesActs, AcceptsActs, has_operation, acting}
-use Rattle.mm_links.specs.Bursts.{BurstState, RunsAsBurst, is_sending}
+use Rattle.mm_links.specs.Passes.{ShowsWrite, PassesAtOnce, PassesActs, AcceptsActs, has_operation, acting}
+use Rattle.mm_links.specs.Bursts.{BurstState, RunsAsBurst, IsBurstPlan, is_sending, head_or, write_beat_of, reads_from}
 use Rattle.mm_links.specs.Drops.{DropState, RunsAsDrop, IsDropPlan, accepted, standing_at}
-use Rattle.mm_links.specs.Selects.{RunsAsSelect, IsSelectPlan, takes_read}
+use Rattle.mm_links.specs.Selects.{RunsAsSelect, IsSelectPlan, EnablesFit, is_shut, takes_read}
 use Rattle.mm_links.specs.Splits.{SplitState, RunsAsSplit, split_at, opens, completes}
 use Rattle.mm_links.proofs.DropLink.{so_far, down_taken, IsLevel, IsAhead, sent, kept}
 use Rattle.mm_links.proofs.DropLists.{Drops, few_left}
@@ -19,7 +19,9 @@ use Rattle.mm_links.proofs.DropTaken.{acts_is, dropped_taken, up_one}
 use Rattle.mm_links.proofs.Gather.{HasPieces}
 use Rattle.mm_links.proofs.Lanes.{SelectsBeats}
 use Rattle.mm_links.proofs.OneBeat.{flat_mark, flat_at, count_is_one}
-use Rattle.mm_links.proofs.Selecting.{takes_same}
+use Rattle.mm_links.proofs.Selecting.{takes_same, shows_same, shut_reads, writes_below, alike}
+use Rattle.mm_links.proofs.BurstParts.{shows_same as shows_same_beat, beat_first}
+use Rattle.mm_links.proofs.BurstLink.{legal_below, one_shown}
 use Rattle.mm_links.proofs.SplitPrompt.{parts_sizes, some_in}
 
 pub select_passes : (law : SelectsBeats) (target : Target) (up down : Port) (many room : ℕ) (offsets : ℕ → List ℕ) → IsSelectPlan target up.shape down.shape many → 1 < room → RunsAsSelect room up down offsets → (end : ℕ) → PassesAtOnce up down end
@@ -52,6 +54,34 @@ split_passes law target room count up down state may run end legal act = record 
         by_zero : (z : Bool) → nat_eq (suc (length ps)) 0 ≡ z → z || (t && l) ≡ true → t ≡ true
         by_zero true f e = let none = eqb-true (suc (length ps)) 0 f in absurd (omega (arith, none))
         by_zero false f e = (and_parts t l e).0
+
+-- ---- writes that end their commands
+
+pub select_shows_writes : (law : SelectsBeats) (target : Target) (up down : Port) (many room : ℕ) (offsets : ℕ → List ℕ) → IsSelectPlan target up.shape down.shape many → 1 < room → RunsAsSelect room up down offsets → (end : ℕ) → EnablesFit up end → AreLegalAt up end →
+    (c : ℕ) → c < end → ShowsWrite up down c
+select_shows_writes law target up down many room offsets plan deep run end fit legal c h shown write ends =
+    let open_now : is_shut room up offsets c ≡ false = by_shut (is_shut room up offsets c) refl in
+    let same = alike law target up down many room offsets plan deep run end fit legal c h shown in (
+      shows_same law target up down many room offsets plan deep run c ∙ ap₂ (λ s x. s && not x) shown open_now,
+      ap is_raised (writes_below law target up down many room offsets plan deep run c) ∙ write,
+      ap₂ (λ e m. e && not m) same.ends same.more ∙ ends,
+    )
+  where
+    by_shut : (b : Bool) → is_shut room up offsets c ≡ b → is_shut room up offsets c ≡ false
+    by_shut false e = e
+    by_shut true e = absurd (both_ways (is_raised (up.commands.write c)) (shut_reads law target up down many room offsets plan deep run c e) write)
+
+pub burst_shows_writes : (target : Target) (up down : Port) (state : BurstState) → IsBurstPlan up.shape down.shape → RunsAsBurst up down state → (end : ℕ) → AreLegalAt up end → (c : ℕ) → c < end → is_sending state c ≡ false → ShowsWrite up down c
+burst_shows_writes target up down state plan run end legal c h idle shown write ends =
+    let there = shows_same_beat up down state run c idle ∙ shown in
+    let beat = beat_first up down state run c idle there
+    ∙ ap (λ w. head_or (raw_at up c) (if w then write_beat_of up.shape (state.burst c) (raw_at up c) ∷ [] else reads_from up.shape.word_bytes (raw_at up c) (byte_address up.shape (up.commands.address c)) (up.commands.count c))) write in
+    let flat = flat_at down end (legal_below target up down state plan run end legal) (one_shown target up down state plan run end legal) c h there in
+    let closed = (and_parts (marked_at up c).transfer.ends (not (is_raised (up.commands.more c))) ends).1 in (
+      there,
+      ap (λ (r : Raw). is_raised r.levels.write) beat,
+      ap closes flat ∙ ap (λ (r : Raw). not (is_raised r.more)) beat ∙ closed,
+    )
 
 -- ---- what drops beats
 

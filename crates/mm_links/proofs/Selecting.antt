@@ -134,7 +134,7 @@ module _ (law : SelectsBeats) (target : Target) (up down : Port) (many room : �
   reads_below : (c : ℕ) → down.commands.read c ≡ (if is_shut room up offsets c then 0 else up.commands.read c)
   reads_below c = ap (λ (l : Levels). l.read) (run.levels c)
 
-  writes_below : (c : ℕ) → down.commands.write c ≡ up.commands.write c
+  pub writes_below : (c : ℕ) → down.commands.write c ≡ up.commands.write c
   writes_below c = ap (λ (l : Levels). l.write) (run.levels c)
 
   shows_by : (x : Bool) (r w : ℕ) → (x ≡ true → is_raised w ≡ false) → (is_raised (if x then 0 else r) || is_raised w) ≡ (is_raised r || is_raised w) && not x
@@ -149,10 +149,10 @@ module _ (law : SelectsBeats) (target : Target) (up down : Port) (many room : �
       all_true true = refl
       all_true false = refl
 
-  shut_reads : (c : ℕ) → is_shut room up offsets c ≡ true → is_raised (up.commands.write c) ≡ false
+  pub shut_reads : (c : ℕ) → is_shut room up offsets c ≡ true → is_raised (up.commands.write c) ≡ false
   shut_reads c e = not-true (is_raised (up.commands.write c)) (and_parts (not (is_raised (up.commands.write c))) (not (nat_lt (length (offsets c)) room)) e).0
 
-  shows_same : (c : ℕ) → shows down.commands.signals c ≡ shows up.commands.signals c && not (is_shut room up offsets c)
+  pub shows_same : (c : ℕ) → shows down.commands.signals c ≡ shows up.commands.signals c && not (is_shut room up offsets c)
   shows_same c = ap₂ (λ r w. is_raised r || is_raised w) (reads_below c) (writes_below c) ∙ shows_by (is_shut room up offsets c) (up.commands.read c) (up.commands.write c) (shut_reads c)
 
   waits_by : (s x w : Bool) → (s && not x) && not w ≡ s && not (x || w)
