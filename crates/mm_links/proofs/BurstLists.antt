@@ -12,39 +12,12 @@ use Rattle.mm_machines.specs.Machines.{Raw}
 use Rattle.mm_machines.specs.PartRanks.{Accepted, held_back, behind, are_joined_alike, goes_on_alike, is_same}
 use Rattle.mm_machines.specs.Rank.{is_last_write}
 use Rattle.mm_links.proofs.Alike.{have_operations}
+use Rattle.mm_links.proofs.Last.{last_is, last_behind, has_more, is_write, joined_is, written_is}
 use Rattle.mm_links.proofs.OneBeat.{flat_mark}
 use Rattle.mm_links.proofs.Stages.{all_append, tail_alike}
 use Rattle.mm_links.proofs.BurstParts.{Step, parts_in, above_of}
 use Rattle.mm_links.proofs.BurstSteps.{IsBeatOf, Sent, AllSent, or_nil, same_operations}
 use Rattle.mm_links.proofs.BurstSteps.Sent.{last_beat, more_beats}
-
--- ---- the last of some transfers
-
-abbrev pub last_is : (Marked → Bool) → List Marked → Bool
-last_is test [] = false
-last_is test (m ∷ []) = test m
-last_is test (m ∷ next ∷ later) = last_is test (next ∷ later)
-
-abbrev pub has_more : Marked → Bool
-has_more m = m.more
-
-abbrev pub is_write : Marked → Bool
-is_write m = not (is_of_reads m.transfer.kind)
-
-pub joined_is : (ms : List Marked) → is_last_joined ms ≡ last_is has_more ms
-joined_is [] = refl
-joined_is (m ∷ []) = refl
-joined_is (m ∷ n ∷ later) = joined_is (n ∷ later)
-
-pub written_is : (ms : List Marked) → is_last_write ms ≡ last_is is_write ms
-written_is [] = refl
-written_is (m ∷ []) = refl
-written_is (m ∷ n ∷ later) = written_is (n ∷ later)
-
-last_behind : (test : Marked → Bool) (xs : List Marked) (y : Marked) (ys : List Marked) → last_is test (xs ++ y ∷ ys) ≡ last_is test (y ∷ ys)
-last_behind test [] y ys = refl
-last_behind test (x ∷ []) y ys = refl
-last_behind test (x ∷ z ∷ xs) y ys = last_behind test (z ∷ xs) y ys
 
 -- ---- what is reached
 

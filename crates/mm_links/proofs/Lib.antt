@@ -14,6 +14,7 @@ pub mod Splitting
 pub mod DrivenRuns
 pub mod SplitTags
 pub mod Gather
+pub mod Last
 pub mod OneBeat
 pub mod Groups
 pub mod SplitParts

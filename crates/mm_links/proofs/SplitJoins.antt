@@ -14,6 +14,7 @@ use Rattle.mm_machines.specs.PartRanks.{are_joined_alike, goes_on_alike, is_same
 use Rattle.mm_machines.specs.Rank.{is_last_write}
 use Rattle.mm_links.proofs.Alike.{have_operations}
 use Rattle.mm_links.proofs.Gather.{HasPieces}
+use Rattle.mm_links.proofs.Last.{last_is, last_behind, last_of_map, has_more, is_write, joined_is, written_is}
 use Rattle.mm_links.proofs.OneBeat.{flat_mark}
 use Rattle.mm_links.proofs.Stages.{all_append, tail_alike}
 use Rattle.mm_links.proofs.SplitParts.{parts_of, reads_among}
@@ -22,21 +23,14 @@ use Rattle.mm_links.proofs.SplitShown.ArePartsOf.{last_part, more_parts, no_part
 
 -- ---- the last beat
 
-abbrev pub last_raw : (Raw → Bool) → List Raw → Bool
-last_raw test [] = false
-last_raw test (r ∷ []) = test r
-last_raw test (r ∷ s ∷ later) = last_raw test (s ∷ later)
-
 abbrev pub goes_on_with : Raw → Bool
 goes_on_with raw = is_raised raw.more
 
 abbrev pub writes : Raw → Bool
 writes raw = is_raised raw.levels.write
 
-pub joined_last : (shape : Shape) (rs : List Raw) → is_last_joined (map (flat_mark shape) rs) ≡ last_raw goes_on_with rs
-joined_last shape [] = refl
-joined_last shape (r ∷ []) = refl
-joined_last shape (r ∷ s ∷ later) = joined_last shape (s ∷ later)
+pub joined_last : (shape : Shape) (rs : List Raw) → is_last_joined (map (flat_mark shape) rs) ≡ last_is goes_on_with rs
+joined_last shape rs = joined_is (map (flat_mark shape) rs) ∙ last_of_map (flat_mark shape) has_more goes_on_with (λ r. refl) rs
 
 kind_of : (w : Bool) → is_of_reads (if w then Writes else Reads) ≡ not w
 kind_of true = refl
@@ -46,15 +40,8 @@ twice : (b : Bool) → not (not b) ≡ b
 twice true = refl
 twice false = refl
 
-pub written_last : (shape : Shape) (rs : List Raw) → is_last_write (map (flat_mark shape) rs) ≡ last_raw writes rs
-written_last shape [] = refl
-written_last shape (r ∷ []) = ap not (kind_of (is_raised r.levels.write)) ∙ twice (is_raised r.levels.write)
-written_last shape (r ∷ s ∷ later) = written_last shape (s ∷ later)
-
-last_behind : (test : Raw → Bool) (xs : List Raw) (y : Raw) (ys : List Raw) → last_raw test (xs ++ y ∷ ys) ≡ last_raw test (y ∷ ys)
-last_behind test [] y ys = refl
-last_behind test (x ∷ []) y ys = refl
-last_behind test (x ∷ z ∷ xs) y ys = last_behind test (z ∷ xs) y ys
+pub written_last : (shape : Shape) (rs : List Raw) → is_last_write (map (flat_mark shape) rs) ≡ last_is writes rs
+written_last shape rs = written_is (map (flat_mark shape) rs) ∙ last_of_map (flat_mark shape) is_write writes (λ r. ap not (kind_of (is_raised r.levels.write)) ∙ twice (is_raised r.levels.write)) rs
 
 -- ---- reads
 
@@ -224,13 +211,13 @@ module _ (law : HasPieces) (target : Target) (up down : Port) (count : ℕ) (may
   -- ---- the last of all
 
   module _ (test : Raw → Bool) (same : (raw part : Raw) → Part raw part → part.more ≡ raw.more → test part ≡ test raw) (out : (raw : Raw) → LeftOut raw → test raw ≡ true) where
-    last_of_parts : (raw : Raw) (ps : List Raw) → AreParts raw ps → last_raw test ps ≡ true → test raw ≡ true
+    last_of_parts : (raw : Raw) (ps : List Raw) → AreParts raw ps → last_is test ps ≡ true → test raw ≡ true
     last_of_parts raw ps (last_part part is more) e = sym (same raw part is more) ∙ e
     last_of_parts raw ps (more_parts part next later is more rest) e = last_of_parts raw (next ∷ later) rest e
     last_of_parts raw ps (no_parts left) e = cc
 
     -- where nothing is sent, all are left out
-    none_sent : (r : Raw) (rs : List Raw) → flat_map parts (r ∷ rs) ≡ [] → last_raw test (r ∷ rs) ≡ true
+    none_sent : (r : Raw) (rs : List Raw) → flat_map parts (r ∷ rs) ≡ [] → last_is test (r ∷ rs) ≡ true
     none_sent r [] e = only (parts r) (are_parts law target up.shape down.shape count may r) e
       where
         only : (ps : List Raw) → AreParts r ps → ps ++ [] ≡ [] → test r ≡ true
@@ -239,22 +226,22 @@ module _ (law : HasPieces) (target : Target) (up down : Port) (count : ℕ) (may
         only ps (no_parts left) e = out r left
     none_sent r (s ∷ rs) e = past (parts r) (are_parts law target up.shape down.shape count may r) e (none_sent s rs)
       where
-        past : (ps : List Raw) → AreParts r ps → ps ++ flat_map parts (s ∷ rs) ≡ [] → (flat_map parts (s ∷ rs) ≡ [] → last_raw test (s ∷ rs) ≡ true) → last_raw test (s ∷ rs) ≡ true
+        past : (ps : List Raw) → AreParts r ps → ps ++ flat_map parts (s ∷ rs) ≡ [] → (flat_map parts (s ∷ rs) ≡ [] → last_is test (s ∷ rs) ≡ true) → last_is test (s ∷ rs) ≡ true
         past ps (last_part part is more) e later = cc
         past ps (more_parts part next tail is more rest) e later = cc
         past ps (no_parts left) e later = later e
 
-    pub last_down : (rs : List Raw) → last_raw test (flat_map parts rs) ≡ true → last_raw test rs ≡ true
+    pub last_down : (rs : List Raw) → last_is test (flat_map parts rs) ≡ true → last_is test rs ≡ true
     last_down [] e = e
-    last_down (r ∷ []) e = last_of_parts r (parts r) (are_parts law target up.shape down.shape count may r) (ap (last_raw test) (sym (append-nil (parts r))) ∙ e)
+    last_down (r ∷ []) e = last_of_parts r (parts r) (are_parts law target up.shape down.shape count may r) (ap (last_is test) (sym (append-nil (parts r))) ∙ e)
     last_down (r ∷ s ∷ rs) e = by_list (flat_map parts (s ∷ rs)) refl (last_down (s ∷ rs))
       where
-        by_list : (l : List Raw) → flat_map parts (s ∷ rs) ≡ l → (last_raw test (flat_map parts (s ∷ rs)) ≡ true → last_raw test (s ∷ rs) ≡ true) → last_raw test (s ∷ rs) ≡ true
+        by_list : (l : List Raw) → flat_map parts (s ∷ rs) ≡ l → (last_is test (flat_map parts (s ∷ rs)) ≡ true → last_is test (s ∷ rs) ≡ true) → last_is test (s ∷ rs) ≡ true
         by_list [] f rest = none_sent s rs f
-        by_list (y ∷ ys) f rest = rest (ap (last_raw test) f ∙ sym (last_behind test (parts r) y ys) ∙ ap (λ l. last_raw test (parts r ++ l)) (sym f) ∙ e)
+        by_list (y ∷ ys) f rest = rest (ap (last_is test) f ∙ sym (last_behind test (parts r) y ys) ∙ ap (λ l. last_is test (parts r ++ l)) (sym f) ∙ e)
 
-  pub more_down : (rs : List Raw) → last_raw goes_on_with (flat_map parts rs) ≡ true → last_raw goes_on_with rs ≡ true
+  pub more_down : (rs : List Raw) → last_is goes_on_with (flat_map parts rs) ≡ true → last_is goes_on_with rs ≡ true
   more_down = last_down goes_on_with (λ raw part is more. ap is_raised more) (λ raw out. out.more)
 
-  pub write_down : (rs : List Raw) → last_raw writes (flat_map parts rs) ≡ true → last_raw writes rs ≡ true
+  pub write_down : (rs : List Raw) → last_is writes (flat_map parts rs) ≡ true → last_is writes rs ≡ true
   write_down = last_down writes (λ raw part is more. is.writes) (λ raw out. out.writes)
