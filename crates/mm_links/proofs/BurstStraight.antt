@@ -1,23 +1,23 @@
 -- A cutter of bursts is prompt, and lets a plain command straight through once all earlier words are given.
-use Rattle.std.proofs.Common.{ℕ, zero, suc, ◌<◌, ◌≤◌, ◌≡◌, ◌+◌, ◌-◌, Bool, true, false, not, ◌&&◌, ◌||◌, List, [], ◌∷◌, ◌++◌, if◌then◌else◌, arith, refl, sym, ap, ap₂, subst, ◌∙◌, length, map, flat_map, take, nat_lt, nat_eq, IsTrue, Some, slice_get, append-nil, length-append, ltb-true, ltb-false, lt-ltb, le-leb, leb-true, le_of_eq}
-use Rattle.std.specs.List.{list_all}
-use Rattle.std.proofs.lemmas.Bool.{and_parts, both_ways, not-true, eqb-true}
+use Rattle.std.proofs.Common.{ℕ, zero, suc, ◌<◌, ◌≤◌, ◌≡◌, ◌+◌, ◌-◌, Bool, true, false, not, ◌&&◌, ◌||◌, List, [], ◌∷◌, ◌++◌, if◌then◌else◌, arith, refl, sym, ap, ap₂, subst, ◌∙◌, length, map, flat_map, take, nat_lt, nat_eq, IsTrue, Some, slice_get, append-nil, length-append, ltb-true, ltb-false, le-leb, leb-true, le_of_eq}
+use Rattle.std.proofs.lemmas.Bool.{and_parts, both_ways, eqb-true}
 use Rattle.std.proofs.lemmas.List.{map-append, length-map, take-append-le}
 use Rattle.std.proofs.lemmas.Grind.{flat_map-append}
-use Rattle.histories.specs.History.{is_raised, only_if, is_first, IsPrefix}
-use Rattle.histories.specs.Laws.{shown_is_accepted_and_standing, before_prefix, prefix_flat_map, prefix_length, prefix_map}
+use Rattle.histories.specs.History.{is_raised, only_if, IsPrefix}
+use Rattle.histories.specs.Laws.{shown_is_accepted_and_standing, prefix_flat_map, prefix_length, prefix_map}
 use Rattle.mm_runs.specs.Views.Kind.{Reads, Writes}
 use Rattle.mm_runs.specs.Operations.{Beat}
 use Rattle.mm_runs.specs.Commands.{shows, is_held, is_of_reads}
 use Rattle.mm_machines.specs.Link.{Target, Port, Marked, AreLegalAt, AnswersAreOwed, takes, marked_at, taken_at, shown_at, operations_among, operations_in, beat_operations, is_nonempty, closes, words_at, words_owed, read_beats}
 use Rattle.mm_machines.specs.Machines.{Raw, raw_at, raws}
-use Rattle.mm_machines.specs.SideLaws.{marked_keeps, taken_is_shown, prefix_take}
-use Rattle.mm_machines.specs.Straight.{GoesStraightThrough, IsShownPromptly, has_first_lane, begins_alone, may_be_prompt, has_lane, last_command, are_answered, are_taken_below, are_just_taken, earlier_shown, shows_plain, is_plain}
+use Rattle.mm_machines.specs.SideLaws.{marked_keeps}
+use Rattle.mm_machines.specs.Straight.{GoesStraightThrough, IsShownPromptly, begins_alone, has_lane, are_answered, are_taken_below, are_just_taken, earlier_shown, shows_plain, is_plain}
 use Rattle.mm_links.specs.Links.{IsStraightLink}
 use Rattle.mm_links.specs.Bursts.{BurstState, RunsAsBurst, IsBurstPlan, Rest, is_sending, head_or, reads_from}
 use Rattle.mm_links.proofs.OneBeat.{flat_mark, flat_at, reads_append}
-use Rattle.mm_links.proofs.Prompt.{some_operation, within, front_get, only_then}
-use Rattle.mm_links.proofs.SplitPrompt.{get_low, get_end, take_front_of, some_in, is_some}
+use Rattle.mm_links.proofs.Prompt.{within, front_get, only_then, prompt_when}
+use Rattle.mm_links.proofs.SplitPrompt.{some_in, is_some}
+use Rattle.mm_links.proofs.Reached.{get_low, get_end, take_front_of, reached_below}
 use Rattle.mm_links.proofs.InStep.{earlier_is}
 use Rattle.mm_links.proofs.BurstParts.{Step, parts_in, above_of, steps, left_at, gone, up_steps, shows_same, waits_sending, takes_same, beat_first, beat_sending, rest_first, parts_step}
 use Rattle.mm_links.proofs.BurstSteps.{Sent, AllSent, sent_at, all_operations, all_reads, same_operations}
@@ -27,9 +27,6 @@ use Rattle.mm_links.proofs.BurstLink.{Holds, holds, one_shown, legal_below, all_
 module _ (target : Target) (up down : Port) (state : BurstState) (plan : IsBurstPlan up.shape down.shape) (run : RunsAsBurst up down state) (end : ℕ) (legal : AreLegalAt up end) (owed : AnswersAreOwed down end) where
   abbrev low : Raw → Marked
   low raw = flat_mark down.shape raw
-
-  up_side : (c : ℕ) → c < end → shown_at up (suc c) ≡ taken_at up (suc c) ++ only_if (is_held up.commands.signals (takes up) c) (marked_at up c)
-  up_side c h = shown_is_accepted_and_standing (shows up.commands.signals) (takes up) (marked_at up) end (suc c) (marked_keeps up end legal) h
 
   -- the beats that are left ask one word each
   left_reads : (bytes : ℕ) (raw : Raw) (address n : ℕ) → length (read_beats (map low (reads_from bytes raw address n))) ≡ n
@@ -220,9 +217,9 @@ module _ (target : Target) (up down : Port) (state : BurstState) (plan : IsBurst
                   omega (arith, first, size)
 
   -- the first beat of a transfer that stands is shown, once all earlier words are given
-  stands_below : (c : ℕ) → c < end → shows up.commands.signals c ≡ true → takes up c ≡ false → words_owed up c ≤ length (words_at up c) → 0 < length (operations_in target up.shape (marked_at up c)) →
-      length (operations_among target up.shape (taken_at up (suc c))) < length (operations_among target down.shape (shown_at down (suc c)))
-  stands_below c h shown not_taken given some =
+  stands_below : (c : ℕ) → c < end → shows up.commands.signals c ≡ true → takes up c ≡ false → Unit {0} → words_owed up c ≤ length (words_at up c) → 0 < length (operations_in target up.shape (marked_at up c)) →
+      length (operations_among target up.shape (taken_at up c)) < length (operations_among target down.shape (shown_at down (suc c)))
+  stands_below c h shown not_taken may given some =
       let idle = idle_when_given c (omega (arith, h)) given in
       let there : shows down.commands.signals c ≡ true = shows_same up down state run c idle ∙ shown in
       let not_down : takes down c ≡ false = sym (takes_same up down state run c idle) ∙ not_taken in
@@ -242,66 +239,16 @@ module _ (target : Target) (up down : Port) (state : BurstState) (plan : IsBurst
       let parts = parts_step up down state run end legal c h shown (is_raised (up.commands.write c)) refl in
       let first = acts_first (marked_at up c) _ _ (sent_at target up down state plan run end legal c h shown).sent some _ _ parts in
       let mine = ap (λ m. length (operations_in target down.shape m)) (beat ∙ ap low (beat_first up down state run c idle there)) in
-      omega (arith, ops, last, same, first, mine)
-
-  reached : (c number : ℕ) (m : Marked) → c < end → slice_get (shown_at up (suc c)) number ≡ Some m → 0 < length (operations_in target up.shape m) → IsTrue (are_answered up (take number (shown_at up (suc c))) c) →
-      length (operations_among target up.shape (take number (shown_at up (suc c)))) < length (operations_among target down.shape (shown_at down (suc c)))
-  reached c number m h got some answered = by_place (nat_lt number (length (taken_at up (suc c)))) refl
-    where
-      front : IsPrefix (taken_at up (suc c)) (shown_at up (suc c))
-      front = taken_is_shown up end (suc c) legal h
-
-      there_get : (xs : List Marked) → IsPrefix xs (shown_at up (suc c)) → number < length xs → slice_get xs number ≡ Some m
-      there_get xs p few = front_get xs p.rest number m few (subst (λ l. slice_get l number ≡ Some m) (sym p.joins) got)
-
-      size_is : (b : Bool) → is_held up.commands.signals (takes up) c ≡ b → length (shown_at up (suc c)) ≡ length (taken_at up (suc c)) + length (only_if b (marked_at up c))
-      size_is b f = ap length (up_side c h ∙ ap (λ b. taken_at up (suc c) ++ only_if b (marked_at up c)) f) ∙ length-append (taken_at up (suc c)) (only_if b (marked_at up c))
-
-      by_held : length (taken_at up (suc c)) ≤ number → (b : Bool) → is_held up.commands.signals (takes up) c ≡ b → length (operations_among target up.shape (take number (shown_at up (suc c)))) < length (operations_among target down.shape (shown_at down (suc c)))
-      by_held high false f =
-          let few = get_low (shown_at up (suc c)) number m got in
-          let size = size_is false f in
-          absurd (omega (arith, few, size, high))
-      by_held high true f =
-          let few = get_low (shown_at up (suc c)) number m got in
-          let size = size_is true f in
-          let place : number ≡ length (taken_at up (suc c)) = omega (arith, few, size, high) in
-          let whole : shown_at up (suc c) ≡ taken_at up (suc c) ++ marked_at up c ∷ [] = up_side c h ∙ ap (λ b. taken_at up (suc c) ++ only_if b (marked_at up c)) f in
-          let before : take number (shown_at up (suc c)) ≡ taken_at up (suc c) = ap₂ (λ n l. take n l) place whole ∙ take_front_of (taken_at up (suc c)) (marked_at up c ∷ []) in
-          let is : marked_at up c ≡ m = get_end (taken_at up (suc c)) (marked_at up c) m (ap₂ (λ n l. slice_get l n) (sym place) (sym whole) ∙ got) in
-          let parts = and_parts (shows up.commands.signals c) (not (takes up c)) f in
-          let not_taken = not-true (takes up c) parts.1 in
-          let same : taken_at up (suc c) ≡ taken_at up c = ap (λ b. taken_at up c ++ only_if b (marked_at up c)) not_taken ∙ append-nil (taken_at up c) in
-          let given = leb-true (length (read_beats (take number (shown_at up (suc c))))) (length (words_at up c)) answered in
-          let reads = ap (λ l. length (read_beats l)) (before ∙ same) in
-          subst (λ l. length (operations_among target up.shape l) < length (operations_among target down.shape (shown_at down (suc c)))) (sym before)
-          (stands_below c h parts.0 not_taken (omega (arith, given, reads)) (subst (λ m. 0 < length (operations_in target up.shape m)) (sym is) some))
-
-      by_place : (b : Bool) → nat_lt number (length (taken_at up (suc c))) ≡ b → length (operations_among target up.shape (take number (shown_at up (suc c)))) < length (operations_among target down.shape (shown_at down (suc c)))
-      by_place true e =
-          let few = ltb-true number (length (taken_at up (suc c))) e in
-          let same = ap (λ l. length (operations_among target up.shape l)) (prefix_take front number (omega (arith, few))) in
-          let here = taken_past (suc c) h number m (there_get (taken_at up (suc c)) front few) some in
-          let more = prefix_length (prefix_flat_map (operations_in target down.shape) (taken_is_shown down end (suc c) (legal_below target up down state plan run end legal) h)) in
-          omega (arith, same, here, more)
-      by_place false e = by_held (ltb-false number (length (taken_at up (suc c))) e) (is_held up.commands.signals (takes up) c) refl
+      let still = ap (λ b. length (operations_among target up.shape (taken_at up c ++ only_if b (marked_at up c)))) not_taken ∙ ap (λ l. length (operations_among target up.shape l)) (append-nil (taken_at up c)) in
+      omega (arith, ops, last, same, first, mine, still)
 
   prompt : (few : ℕ) (may_burst : Bool) → IsShownPromptly few may_burst target up down end
-  prompt few may_burst = record {
-    shown = λ c number m bound got begins done.
-        let first = (and_parts (begins_alone (take number (shown_at up (suc c))) m && may_be_prompt may_burst m) (has_first_lane target up.shape down.shape m) begins).1 in
-        let some = some_operation target up.shape down.shape m first in
-        let answered = (and_parts (are_taken_below target up down (take number (shown_at up (suc c))) c) (are_answered up (take number (shown_at up (suc c))) c) done).1 in
-        let here = reached c number m (omega (arith, bound)) got some answered in
-        let more = prefix_length (prefix_flat_map (operations_in target down.shape) (before_prefix (λ k. only_if (is_first (shows down.commands.signals) (takes down) k) (marked_at down k)) (suc c) (suc (c + few)) (omega arith))) in
-        lt-ltb _ _ (omega (arith, here, more));
-    empty = λ c d order high empty same shown.
-        let takes_it = (and_parts (takes up c) (closes (marked_at up c)) (and_parts (takes up c && closes (marked_at up c)) (list_all (λ n. not (is_of_reads n.transfer.kind) && not (has_lane up.shape n)) (last_command (taken_at up (suc c)))) empty).0).0 in
-        let write = and_parts (shows down.commands.signals d) (not (is_of_reads (marked_at down d).transfer.kind)) (and_parts (shows down.commands.signals d && not (is_of_reads (marked_at down d).transfer.kind)) (not (is_nonempty (operations_in target down.shape (marked_at down d)))) shown).0 in
-        let idle = idle_at_write d high write.0 write.1 in
-        let now : d ≡ c = only_then up c d order takes_it same (sym (shows_same up down state run d idle) ∙ write.0) in
-        (now, sym (takes_same up down state run c (ap (is_sending state) (sym now) ∙ idle)) ∙ takes_it);
-  }
+  prompt few may_burst = prompt_when target up down end few may_burst
+      (λ c number m h got begins some answered. reached_below target up down end legal (legal_below target up down state plan run end legal) (λ before m. Unit {0}) (λ c h number m may got some. taken_past (suc c) h number m got some) stands_below c number m h got tt some answered)
+      (λ c d order high takes_it same shown write none. (
+      let idle = idle_at_write d high shown write in
+      let now : d ≡ c = only_then up c d order takes_it same (sym (shows_same up down state run d idle) ∙ shown) in
+      (now, sym (takes_same up down state run c (ap (is_sending state) (sym now) ∙ idle)) ∙ takes_it)))
     where
       idle_at_write : (d : ℕ) → d < end → shows down.commands.signals d ≡ true → not (is_of_reads (marked_at down d).transfer.kind) ≡ true → is_sending state d ≡ false
       idle_at_write d h shown write = by_sends (is_sending state d) refl

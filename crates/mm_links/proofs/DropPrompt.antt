@@ -1,15 +1,13 @@
 -- A machine that drops beats without a lane shows the first beat of a read or of a write of one beat in its own cycle, once all earlier ones are taken and answered.
-use Rattle.std.proofs.Common.{ℕ, zero, suc, ◌<◌, ◌≤◌, ◌≡◌, ◌+◌, ◌⊎◌, inl, inr, Bool, true, false, not, ◌&&◌, ◌||◌, List, [], ◌∷◌, ◌++◌, if◌then◌else◌, arith, refl, sym, ap, ap₂, subst, ◌∙◌, length, take, nat_lt, IsTrue, Some, slice_get, append-nil, length-append, ltb-true, ltb-false, lt-ltb, leb-true}
+use Rattle.std.proofs.Common.{ℕ, zero, suc, ◌<◌, ◌≤◌, ◌≡◌, ◌+◌, ◌⊎◌, inl, inr, Bool, true, false, not, ◌&&◌, ◌||◌, List, [], ◌∷◌, ◌++◌, if◌then◌else◌, arith, refl, sym, ap, ap₂, subst, ◌∙◌, length, take, IsTrue, Some, slice_get, length-append}
 use Rattle.std.proofs.lemmas.Bool.{and_parts, both_ways, not-true}
 use Rattle.std.proofs.lemmas.Grind.{flat_map-append}
-use Rattle.histories.specs.History.{is_raised, only_if, is_first, IsPrefix}
-use Rattle.histories.specs.Laws.{shown_is_accepted_and_standing, before_prefix, prefix_flat_map, prefix_length}
-use Rattle.mm_runs.specs.Commands.{shows, is_held, is_of_reads}
-use Rattle.mm_machines.specs.Link.{Target, Port, Marked, AreLegalAt, AnswersAreOwed, takes, marked_at, taken_at, shown_at, operations_among, operations_in, is_nonempty, closes, words_at, words_owed, read_beats, is_last_joined}
+use Rattle.histories.specs.History.{is_raised, IsPrefix}
+use Rattle.mm_runs.specs.Commands.{shows, is_of_reads}
+use Rattle.mm_machines.specs.Link.{Target, Port, Marked, AreLegalAt, AnswersAreOwed, takes, marked_at, taken_at, shown_at, operations_among, operations_in, is_nonempty, closes, words_at, words_owed, is_last_joined}
 use Rattle.mm_machines.specs.Machines.{raw_at}
 use Rattle.mm_machines.specs.PartRanks.{JoinsAlike, are_joined_alike}
-use Rattle.mm_machines.specs.SideLaws.{marked_keeps, taken_is_shown, prefix_take}
-use Rattle.mm_machines.specs.Straight.{IsShownPromptly, has_first_lane, begins_alone, may_be_prompt, are_answered, are_taken_below}
+use Rattle.mm_machines.specs.Straight.{IsShownPromptly, begins_alone, may_be_prompt}
 use Rattle.mm_links.specs.Drops.{DropState, RunsAsDrop, IsDropPlan}
 use Rattle.mm_links.specs.Links.{IsStraightLink}
 use Rattle.mm_links.proofs.DropJoins.{AllEnd, kept_is_open}
@@ -21,8 +19,9 @@ use Rattle.mm_links.proofs.DropTaken.{acts_is, writes_is, dropped_taken, dropped
 use Rattle.mm_links.proofs.Gated.{total_sizes}
 use Rattle.mm_links.proofs.InStep.{shown_with}
 use Rattle.mm_links.proofs.OneBeat.{flat_at, flat_shown, shown_raws}
-use Rattle.mm_links.proofs.Prompt.{some_operation, front_get}
-use Rattle.mm_links.proofs.SplitPrompt.{get_low, get_end, take_front_of, is_some}
+use Rattle.mm_links.proofs.Prompt.{prompt_when}
+use Rattle.mm_links.proofs.SplitPrompt.{is_some}
+use Rattle.mm_links.proofs.Reached.{reached_below}
 use Rattle.mm_links.proofs.Stages.{alike_prefix}
 
 -- a list from one of its members on
@@ -128,50 +127,19 @@ module _ (target : Target) (room : ℕ) (up down : Port) (state : DropState) (en
       ends_so true false e = refl
       ends_so false m e = refl
 
-  reached : (c number : ℕ) (m : Marked) → c < end → slice_get (shown_at up (suc c)) number ≡ Some m → 0 < size m → is_last_joined (take number (shown_at up (suc c))) ≡ false → writes m && not (closes m) ≡ false →
-      IsTrue (are_answered up (take number (shown_at up (suc c))) c) → length (operations_among target up.shape (take number (shown_at up (suc c)))) < length (operations_among target down.shape (shown_at down (suc c)))
-  reached c number m h got acts closed last answered = by_place (nat_lt number (length (taken_at up (suc c)))) refl
-    where
-      front : IsPrefix (taken_at up (suc c)) (shown_at up (suc c))
-      front = taken_is_shown up end (suc c) legal h
+  accepted : (c : ℕ) → c < end → (number : ℕ) (m : Marked) → IsSentAlone (take number (taken_at up (suc c))) m → slice_get (taken_at up (suc c)) number ≡ Some m → 0 < size m →
+      length (operations_among target up.shape (take number (taken_at up (suc c)))) < length (operations_among target down.shape (taken_at down (suc c)))
+  accepted c h number m alone got acts =
+      let there = gone_by c h number m alone got in
+      let sums = total_sizes target up.shape (take number (taken_at up (suc c))) in
+      omega (arith, there, sums, acts)
 
-      alone : IsSentAlone (take number (shown_at up (suc c))) m
-      alone = alone_behind (take number (shown_at up (suc c))) m (front_ends number (shown_at up (suc c)) (taken_ends (suc c) h)) (alike_prefix target up (front_of number (shown_at up (suc c))) (alike (suc c) h)) closed acts last
-
-      up_side : (b : Bool) → is_held up.commands.signals (takes up) c ≡ b → shown_at up (suc c) ≡ taken_at up (suc c) ++ only_if b (marked_at up c)
-      up_side b f = shown_is_accepted_and_standing (shows up.commands.signals) (takes up) (marked_at up) end (suc c) (marked_keeps up end legal) h ∙ ap (λ b. taken_at up (suc c) ++ only_if b (marked_at up c)) f
-
-      by_held : length (taken_at up (suc c)) ≤ number → (b : Bool) → is_held up.commands.signals (takes up) c ≡ b → length (operations_among target up.shape (take number (shown_at up (suc c)))) < length (operations_among target down.shape (shown_at down (suc c)))
-      by_held high false f =
-          let few = get_low (shown_at up (suc c)) number m got in
-          let all = ap length (up_side false f) ∙ length-append (taken_at up (suc c)) [] in
-          absurd (omega (arith, few, all, high))
-      by_held high true f =
-          let few = get_low (shown_at up (suc c)) number m got in
-          let all = ap length (up_side true f) ∙ length-append (taken_at up (suc c)) (marked_at up c ∷ []) in
-          let place : number ≡ length (taken_at up (suc c)) = omega (arith, few, all, high) in
-          let parts = and_parts (shows up.commands.signals c) (not (takes up c)) f in
-          let same : taken_at up (suc c) ≡ taken_at up c = ap (λ b. taken_at up c ++ only_if b (marked_at up c)) (not-true (takes up c) parts.1) ∙ append-nil (taken_at up c) in
-          let before : take number (shown_at up (suc c)) ≡ taken_at up c = ap₂ (λ n l. take n l) place (up_side true f) ∙ take_front_of (taken_at up (suc c)) (marked_at up c ∷ []) ∙ same in
-          let is : m ≡ marked_at up c = sym (get_end (taken_at up (suc c)) (marked_at up c) m (ap₂ (λ n l. slice_get l n) (sym place) (sym (up_side true f)) ∙ got)) in
-          let given = leb-true (length (read_beats (take number (shown_at up (suc c))))) (length (words_at up c)) answered in
-          let reads = ap (λ l. length (read_beats l)) before in
-          let there = shown_by c h parts.0 (subst (λ x. IsSentAlone (taken_at up c) x) is (subst (λ l. IsSentAlone l m) before alone)) (omega (arith, given, reads)) in
-          let sums = total_sizes target up.shape (taken_at up c) in
-          let mine = ap size is in
-          let ops = ap (λ l. length (operations_among target up.shape l)) before in
-          omega (arith, there, sums, mine, ops, acts)
-
-      by_place : (b : Bool) → nat_lt number (length (taken_at up (suc c))) ≡ b → length (operations_among target up.shape (take number (shown_at up (suc c)))) < length (operations_among target down.shape (shown_at down (suc c)))
-      by_place true e =
-          let few = ltb-true number (length (taken_at up (suc c))) e in
-          let same = prefix_take front number (omega (arith, few)) in
-          let there = gone_by c h number m (subst (λ l. IsSentAlone l m) same alone) (front_get (taken_at up (suc c)) front.rest number m few (subst (λ l. slice_get l number ≡ Some m) (sym front.joins) got)) in
-          let more = prefix_length (prefix_flat_map (operations_in target down.shape) (taken_is_shown down end (suc c) (legal_below target room up down state end plan run legal alike) h)) in
-          let sums = total_sizes target up.shape (take number (taken_at up (suc c))) in
-          let ops = ap (λ l. length (operations_among target up.shape l)) same in
-          omega (arith, there, more, sums, ops, acts)
-      by_place false e = by_held (ltb-false number (length (taken_at up (suc c))) e) (is_held up.commands.signals (takes up) c) refl
+  stands : (c : ℕ) → c < end → shows up.commands.signals c ≡ true → takes up c ≡ false → IsSentAlone (taken_at up c) (marked_at up c) → words_owed up c ≤ length (words_at up c) → 0 < size (marked_at up c) →
+      length (operations_among target up.shape (taken_at up c)) < length (operations_among target down.shape (shown_at down (suc c)))
+  stands c h shown waits alone given acts =
+      let there = shown_by c h shown alone given in
+      let sums = total_sizes target up.shape (taken_at up c) in
+      omega (arith, there, sums, acts)
 
   -- no empty write is shown below
   none_empty : (d : ℕ) → d < end → shows down.commands.signals d ≡ true → is_nonempty (operations_in target down.shape (marked_at down d)) ≡ true
@@ -181,20 +149,14 @@ module _ (target : Target) (room : ℕ) (up down : Port) (state : DropState) (en
       ∙ acts_is target room up down state end plan run legal alike (raw_at down d) ∙ (shown_is target room up down state end plan run legal d h shown).lane
 
   prompt : (few : ℕ) → IsShownPromptly few false target up down end
-  prompt few = record {
-    shown = λ c number m bound got begins done.
-        let outer = and_parts (begins_alone (take number (shown_at up (suc c))) m && may_be_prompt false m) (has_first_lane target up.shape down.shape m) begins in
-        let inner = and_parts (begins_alone (take number (shown_at up (suc c))) m) (may_be_prompt false m) outer.0 in
-        let closed = not-true (is_last_joined (take number (shown_at up (suc c)))) (and_parts m.transfer.begins (not (is_last_joined (take number (shown_at up (suc c))))) inner.0).1 in
-        let answered = (and_parts (are_taken_below target up down (take number (shown_at up (suc c))) c) (are_answered up (take number (shown_at up (suc c))) c) done).1 in
-        let here = reached c number m (omega (arith, bound)) got (some_operation target up.shape down.shape m outer.1) closed (read_or_last (is_of_reads m.transfer.kind) (closes m) inner.1) answered in
-        let more = prefix_length (prefix_flat_map (operations_in target down.shape) (before_prefix (λ k. only_if (is_first (shows down.commands.signals) (takes down) k) (marked_at down k)) (suc c) (suc (c + few)) (omega arith))) in
-        lt-ltb _ _ (omega (arith, here, more));
-    empty = λ c d order high empty same shown.
-        let outer = and_parts (shows down.commands.signals d && not (is_of_reads (marked_at down d).transfer.kind)) (not (is_nonempty (operations_in target down.shape (marked_at down d)))) shown in
-        let there = (and_parts (shows down.commands.signals d) (not (is_of_reads (marked_at down d).transfer.kind)) outer.0).0 in
-        absurd (both_ways (is_nonempty (operations_in target down.shape (marked_at down d))) (not-true _ outer.1) (none_empty d high there));
-  }
+  prompt few = prompt_when target up down end few false
+      (λ c number m h got begins acts answered. (
+      let earlier = take number (shown_at up (suc c)) in
+      let halves = and_parts (begins_alone earlier m) (may_be_prompt false m) begins in
+      let closed = not-true (is_last_joined earlier) (and_parts m.transfer.begins (not (is_last_joined earlier)) halves.0).1 in
+      let alone = alone_behind earlier m (front_ends number (shown_at up (suc c)) (taken_ends (suc c) h)) (alike_prefix target up (front_of number (shown_at up (suc c))) (alike (suc c) h)) closed acts (read_or_last (is_of_reads m.transfer.kind) (closes m) halves.1) in
+      reached_below target up down end legal (legal_below target room up down state end plan run legal alike) IsSentAlone accepted stands c number m h got alone acts answered))
+      (λ c d order high takes_it same shown write none. absurd (both_ways (is_nonempty (operations_in target down.shape (marked_at down d))) (not-true (is_nonempty (operations_in target down.shape (marked_at down d))) none) (none_empty d high shown)))
     where
       read_or_last : (r c : Bool) → IsTrue (r || c || false) → not r && not c ≡ false
       read_or_last true c e = refl

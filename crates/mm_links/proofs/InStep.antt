@@ -14,7 +14,7 @@ use Rattle.mm_machines.specs.Straight.{GoesStraightThrough, IsShownPromptly, sho
 use Rattle.mm_links.specs.Links.{LinkForm, IsLink, IsStraightLink}
 use Rattle.mm_links.specs.InStep.{is_next, GoesInStep, AreInStep, HandOnFirstBeats, is_awaited}
 use Rattle.mm_links.proofs.Chain.{middle_legal, middle_owed}
-use Rattle.mm_links.proofs.SplitPrompt.{take_front_of}
+use Rattle.mm_links.proofs.Reached.{take_front_of}
 
 -- what a side has shown, with the beat that it shows
 pub shown_with : (port : Port) (end : ℕ) → AreLegalAt port end → (c : ℕ) → c < end → shows port.commands.signals c ≡ true → shown_at port (suc c) ≡ taken_at port c ++ marked_at port c ∷ []

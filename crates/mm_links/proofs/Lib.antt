@@ -9,6 +9,7 @@ pub mod Alike
 pub mod Gated
 pub mod Lanes
 pub mod Prompt
+pub mod Reached
 pub mod Selecting
 pub mod Splitting
 pub mod DrivenRuns

@@ -97,6 +97,27 @@ only_then port c d low takes_it same shows_it =
       | inr less ↦ let more = shown_later (shows port.commands.signals) (takes port) (marked_at port) c d takes_it less shows_it in absurd (omega (arith, more, same))
     ]
 
+-- a link is prompt where each transfer that has an operation, behind others that are answered, is begun below in the cycle in which it stands
+pub prompt_when : (target : Target) (up down : Port) (end few : ℕ) (may_burst : Bool) →
+    ((c number : ℕ) (m : Marked) → c < end → slice_get (shown_at up (suc c)) number ≡ Some m → IsTrue (begins_alone (take number (shown_at up (suc c))) m && may_be_prompt may_burst m) → 0 < length (operations_in target up.shape m) →
+    IsTrue (are_answered up (take number (shown_at up (suc c))) c) → length (operations_among target up.shape (take number (shown_at up (suc c)))) < length (operations_among target down.shape (shown_at down (suc c)))) →
+    ((c d : ℕ) → c ≤ d → d < end → takes up c ≡ true → length (shown_at up (suc d)) ≡ length (shown_at up (suc c)) → shows down.commands.signals d ≡ true → not (is_of_reads (marked_at down d).transfer.kind) ≡ true →
+    not (is_nonempty (operations_in target down.shape (marked_at down d))) ≡ true → (d ≡ c) × IsTrue (takes down c)) →
+    IsShownPromptly few may_burst target up down end
+prompt_when target up down end few may_burst reached empty_write = record {
+  shown = λ c number m bound got begins done.
+      let halves = and_parts (begins_alone (take number (shown_at up (suc c))) m && may_be_prompt may_burst m) (has_first_lane target up.shape down.shape m) begins in
+      let answered = (and_parts (are_taken_below target up down (take number (shown_at up (suc c))) c) (are_answered up (take number (shown_at up (suc c))) c) done).1 in
+      let here = reached c number m (omega (arith, bound)) got halves.0 (some_operation target up.shape down.shape m halves.1) answered in
+      let more = prefix_length (prefix_flat_map (operations_in target down.shape) (before_prefix (λ k. only_if (is_first (shows down.commands.signals) (takes down) k) (marked_at down k)) (suc c) (suc (c + few)) (omega arith))) in
+      lt-ltb _ _ (omega (arith, here, more));
+  empty = λ c d order high empty same shown.
+      let takes_it = (and_parts (takes up c) (closes (marked_at up c)) (and_parts (takes up c && closes (marked_at up c)) (list_all (λ n. not (is_of_reads n.transfer.kind) && not (has_lane up.shape n)) (last_command (taken_at up (suc c)))) empty).0).0 in
+      let outer = and_parts (shows down.commands.signals d && not (is_of_reads (marked_at down d).transfer.kind)) (not (is_nonempty (operations_in target down.shape (marked_at down d)))) shown in
+      let inner = and_parts (shows down.commands.signals d) (not (is_of_reads (marked_at down d).transfer.kind)) outer.0 in
+      empty_write c d order high takes_it same inner.0 inner.1 outer.1;
+}
+
 module _ (target : Target) (up down : Port) (lets : ℕ → Bool) (shows_same : (c : ℕ) → shows down.commands.signals c ≡ shows up.commands.signals c && lets c)
     (takes_same : (c : ℕ) → takes down c ≡ takes up c) (end : ℕ) (alike : (c : ℕ) → c < end → shows up.commands.signals c ≡ true → IsAlike target up.shape down.shape (marked_at up c) (marked_at down c))
     (legal_up : AreLegalAt up end) (legal_down : AreLegalAt down end)
@@ -169,17 +190,8 @@ module _ (target : Target) (up down : Port) (lets : ℕ → Bool) (shows_same : 
               earlier_front = prefix_trans (before_extends (λ k. only_if (takes up k) (marked_at up k)) c) front
 
   pub gate_is_prompt : (few : ℕ) (may_burst : Bool) → IsShownPromptly few may_burst target up down end
-  gate_is_prompt few may_burst = record {
-    shown = λ c number m low got begins done.
-        let first = (and_parts (begins_alone (take number (shown_at up (suc c))) m && may_be_prompt may_burst m) (has_first_lane target up.shape down.shape m) begins).1 in
-        let some = some_operation target up.shape down.shape m first in
-        let answered = (and_parts (are_taken_below target up down (take number (shown_at up (suc c))) c) (are_answered up (take number (shown_at up (suc c))) c) done).1 in
-        let here = reached c number m (omega (arith, low)) got some answered in
-        let more = prefix_length (prefix_flat_map (operations_in target down.shape) (before_prefix (λ k. only_if (is_first (shows down.commands.signals) (takes down) k) (marked_at down k)) (suc c) (suc (c + few)) (omega arith))) in
-        lt-ltb _ _ (omega (arith, here, more));
-    empty = λ c d low high empty same shown.
-        let takes_it = (and_parts (takes up c) (closes (marked_at up c)) (and_parts (takes up c && closes (marked_at up c)) (list_all (λ n. not (is_of_reads n.transfer.kind) && not (has_lane up.shape n)) (last_command (taken_at up (suc c)))) empty).0).0 in
-        let shows_it = (and_parts (shows down.commands.signals d) (not (is_of_reads (marked_at down d).transfer.kind)) (and_parts (shows down.commands.signals d && not (is_of_reads (marked_at down d).transfer.kind)) (not (is_nonempty (operations_in target down.shape (marked_at down d)))) shown).0).0 in
-        let above = (and_parts (shows up.commands.signals d) (lets d) (sym (shows_same d) ∙ shows_it)).0 in
-        (only_then up c d low takes_it same above, takes_same c ∙ takes_it);
-  }
+  gate_is_prompt few may_burst = prompt_when target up down end few may_burst
+      (λ c number m h got begins some answered. reached c number m h got some answered)
+      (λ c d low high takes_it same shows_it write none. (
+      let above = (and_parts (shows up.commands.signals d) (lets d) (sym (shows_same d) ∙ shows_it)).0 in
+      (only_then up c d low takes_it same above, takes_same c ∙ takes_it)))

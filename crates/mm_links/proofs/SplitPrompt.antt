@@ -1,24 +1,22 @@
 -- A splitter shows a first beat in its own cycle, once all earlier ones are taken and answered.
-use Rattle.std.proofs.Common.{ℕ, zero, suc, ◌<◌, ◌≤◌, ◌≡◌, ◌+◌, ◌*◌, Bool, true, false, not, ◌&&◌, ◌||◌, List, [], ◌∷◌, ◌++◌, if◌then◌else◌, arith, refl, sym, ap, ap₂, subst, ◌∙◌, length, map, filter, flat_map, take, nat_lt, nat_eq, IsTrue, Some, slice_get, append-nil, append_assoc, length-append, ltb-true, ltb-false, lt-ltb, leb-true, mul-le-mul_right}
-use Rattle.std.specs.List.{list_all}
-use Rattle.std.proofs.lemmas.Bool.{and_parts, not-true}
+use Rattle.std.proofs.Common.{ℕ, suc, ◌<◌, ◌≤◌, ◌≡◌, ◌+◌, ◌*◌, Bool, true, false, not, ◌&&◌, ◌||◌, List, [], ◌∷◌, ◌++◌, if◌then◌else◌, arith, refl, sym, ap, ap₂, subst, ◌∙◌, length, map, filter, flat_map, take, nat_lt, nat_eq, Some, slice_get, append-nil, append_assoc, length-append, ltb-true, mul-le-mul_right}
+use Rattle.std.proofs.lemmas.Bool.{and_parts}
 use Rattle.std.proofs.lemmas.List.{map-append, length-map}
 use Rattle.std.proofs.lemmas.Grind.{flat_map-append}
-use Rattle.histories.specs.History.{is_raised, only_if, is_first, numbers, IsPrefix}
-use Rattle.histories.specs.Laws.{shown_is_accepted_and_standing, before_prefix, prefix_flat_map, prefix_length}
+use Rattle.histories.specs.History.{is_raised, only_if, numbers, IsPrefix}
 use Rattle.mm_runs.specs.Views.{Shape}
 use Rattle.mm_runs.specs.Operations.{filled_lanes, pieces}
-use Rattle.mm_runs.specs.Commands.{shows, is_held, is_of_reads}
-use Rattle.mm_machines.specs.Link.{Target, Port, Marked, AreLegalAt, AnswersAreOwed, CarriesCommands, takes, marked_at, taken_at, shown_at, operations_among, operations_in, is_nonempty, closes, sizes, words_at, words_owed, read_beats}
+use Rattle.mm_runs.specs.Commands.{shows, is_held}
+use Rattle.mm_machines.specs.Link.{Target, Port, Marked, AreLegalAt, AnswersAreOwed, CarriesCommands, takes, marked_at, taken_at, shown_at, operations_among, operations_in, is_nonempty, sizes, words_at, words_owed}
 use Rattle.mm_machines.specs.Machines.{Raw, raw_at, raws, parts_sent, single, joined, piece_of, beat_of, MaySplit}
-use Rattle.mm_machines.specs.SideLaws.{marked_keeps, taken_is_shown, prefix_take}
-use Rattle.mm_machines.specs.Straight.{IsShownPromptly, has_first_lane, begins_alone, may_be_prompt, has_lane, last_command, are_answered, are_taken_below}
+use Rattle.mm_machines.specs.Straight.{IsShownPromptly}
 use Rattle.mm_links.specs.Links.{IsStraightLink}
 use Rattle.mm_links.specs.Splits.{SplitState, RunsAsSplit, split_at, opens, or_first_piece}
 use Rattle.mm_links.proofs.Gated.{total_sizes}
 use Rattle.mm_links.proofs.Gather.{HasPieces, cut_of, has_lane_in, spread, wide_lanes}
 use Rattle.mm_links.proofs.OneBeat.{flat_mark, flat_shown, flat_at, shown_raws}
-use Rattle.mm_links.proofs.Prompt.{some_operation, within, front_get, only_then}
+use Rattle.mm_links.proofs.Prompt.{within, only_then, prompt_when}
+use Rattle.mm_links.proofs.Reached.{reached_below}
 use Rattle.mm_links.proofs.Splitting.{shown_above, either_of, same_true}
 use Rattle.mm_links.proofs.SplitParts.{parts_of, parts_are, sent_pieces, chosen, raws_below}
 use Rattle.mm_links.proofs.SplitWords.{none_owed}
@@ -108,31 +106,17 @@ module _ (law : HasPieces) (target : Target) (wide narrow : Shape) (count : ℕ)
       let same : part ≡ x = cc in
       first_acts x l (ap (λ (r : Raw). is_nonempty (operations_in target narrow (flat_mark narrow r))) (sym same) ∙ is.acts_so ∙ e)
 
-pub get_low : {A : Type 0} (xs : List A) (n : ℕ) (x : A) → slice_get xs n ≡ Some x → n < length xs
-get_low [] n x h = cc
-get_low (y ∷ ys) zero x h = omega arith
-get_low (y ∷ ys) (suc n) x h = let rest = get_low ys n x h in omega (arith, rest)
-
-pub get_end : {A : Type 0} (xs : List A) (y x : A) → slice_get (xs ++ y ∷ []) (length xs) ≡ Some x → y ≡ x
-get_end [] y x h = cc
-get_end (z ∷ zs) y x h = get_end zs y x h
-
-pub take_front_of : {A : Type 0} (xs ys : List A) → take (length xs) (xs ++ ys) ≡ xs
-take_front_of [] ys = refl
-take_front_of (x ∷ xs) ys = ap (λ l. x ∷ l) (take_front_of xs ys)
-
 module _ (law : HasPieces) (carries : Carries) (target : Target) (count room : ℕ) (up down : Port) (state : SplitState) (may : MaySplit target up.shape down.shape count) (some_room : 0 < room) (run : RunsAsSplit room up down state)
     (end : ℕ) (legal : AreLegalAt up end) (owed : AnswersAreOwed down end) where
   abbrev carry : CarriesCommands target 0 up down end
   carry = carried law carries target count room up down state may some_room run end legal
 
-  up_side : (c : ℕ) → c < end → shown_at up (suc c) ≡ taken_at up (suc c) ++ only_if (is_held up.commands.signals (takes up) c) (marked_at up c)
-  up_side c h = shown_is_accepted_and_standing (shows up.commands.signals) (takes up) (marked_at up) end (suc c) (marked_keeps up end legal) h
-
   -- the beat that stands is shown below, behind all earlier ones
-  stands_below : (c : ℕ) → c < end → shows up.commands.signals c ≡ true → takes up c ≡ false → words_owed up c ≤ length (words_at up c) → 0 < length (operations_in target up.shape (marked_at up c)) →
-      length (operations_among target up.shape (taken_at up (suc c))) < length (operations_among target down.shape (shown_at down (suc c)))
-  stands_below c h shown not_taken answered some = by_below (shows down.commands.signals c) refl
+  stands_below : (c : ℕ) → c < end → shows up.commands.signals c ≡ true → takes up c ≡ false → Unit {0} → words_owed up c ≤ length (words_at up c) → 0 < length (operations_in target up.shape (marked_at up c)) →
+      length (operations_among target up.shape (taken_at up c)) < length (operations_among target down.shape (shown_at down (suc c)))
+  stands_below c h shown not_taken may_be answered some =
+      let same : taken_at up (suc c) ≡ taken_at up c = ap (λ b. taken_at up c ++ only_if b (marked_at up c)) not_taken ∙ append-nil (taken_at up c) in
+      subst (λ l. length (operations_among target up.shape l) < length (operations_among target down.shape (shown_at down (suc c)))) same (by_below (shows down.commands.signals c) refl)
     where
       by_below : (d : Bool) → shows down.commands.signals c ≡ d → length (operations_among target up.shape (taken_at up (suc c))) < length (operations_among target down.shape (shown_at down (suc c)))
       by_below false d =
@@ -171,55 +155,13 @@ module _ (law : HasPieces) (carries : Carries) (target : Target) (count room : �
               let all = length-append (parts_sent up down (suc c)) (only_if (is_held down.commands.signals (takes down) c) (raw_at down c)) in
               omega (arith, one, all)
 
-  reached : (c number : ℕ) (m : Marked) → c < end → slice_get (shown_at up (suc c)) number ≡ Some m → 0 < length (operations_in target up.shape m) → IsTrue (are_answered up (take number (shown_at up (suc c))) c) →
-      length (operations_among target up.shape (take number (shown_at up (suc c)))) < length (operations_among target down.shape (shown_at down (suc c)))
-  reached c number m h got some answered = by_place (nat_lt number (length (taken_at up (suc c)))) refl
-    where
-      front : IsPrefix (taken_at up (suc c)) (shown_at up (suc c))
-      front = taken_is_shown up end (suc c) legal h
-
-      there_get : (xs : List Marked) → IsPrefix xs (shown_at up (suc c)) → number < length xs → slice_get xs number ≡ Some m
-      there_get xs p low = front_get xs p.rest number m low (subst (λ l. slice_get l number ≡ Some m) (sym p.joins) got)
-
-      by_place : (b : Bool) → nat_lt number (length (taken_at up (suc c))) ≡ b → length (operations_among target up.shape (take number (shown_at up (suc c)))) < length (operations_among target down.shape (shown_at down (suc c)))
-      by_place true e =
-          let low = ltb-true number (length (taken_at up (suc c))) e in
-          let same_front : take number (shown_at up (suc c)) ≡ take number (taken_at up (suc c)) = prefix_take front number (omega (arith, low)) in
-          let here = within target up.shape (taken_at up (suc c)) number m (there_get (taken_at up (suc c)) front low) in
-          let size = ap (λ xs. length (operations_among target up.shape xs)) same_front in
-          let all = reached_all (sizes target up.shape (taken_at up (suc c))) (length (operations_among target down.shape (taken_at down (suc c)))) (carry.held (suc c) h) in
-          let sum = total_sizes target up.shape (taken_at up (suc c)) in
-          let more = prefix_length (prefix_flat_map (operations_in target down.shape) (taken_is_shown down end (suc c) carry.legal h)) in
-          omega (arith, here, size, all, sum, more, some)
-      by_place false e = by_held (is_held up.commands.signals (takes up) c) refl
-        where
-          high : length (taken_at up (suc c)) ≤ number
-          high = ltb-false number (length (taken_at up (suc c))) e
-
-          size_is : (b : Bool) → is_held up.commands.signals (takes up) c ≡ b → length (shown_at up (suc c)) ≡ length (taken_at up (suc c)) + length (only_if b (marked_at up c))
-          size_is b f = ap length (up_side c h ∙ ap (λ b. taken_at up (suc c) ++ only_if b (marked_at up c)) f) ∙ length-append (taken_at up (suc c)) (only_if b (marked_at up c))
-
-          by_held : (b : Bool) → is_held up.commands.signals (takes up) c ≡ b → length (operations_among target up.shape (take number (shown_at up (suc c)))) < length (operations_among target down.shape (shown_at down (suc c)))
-          by_held false f =
-              let low = get_low (shown_at up (suc c)) number m got in
-              let size = size_is false f in
-              let most = high in
-              absurd (omega (arith, low, size, most))
-          by_held true f =
-              let low = get_low (shown_at up (suc c)) number m got in
-              let size = size_is true f in
-              let most = high in
-              let place : number ≡ length (taken_at up (suc c)) = omega (arith, low, size, most) in
-              let whole : shown_at up (suc c) ≡ taken_at up (suc c) ++ marked_at up c ∷ [] = up_side c h ∙ ap (λ b. taken_at up (suc c) ++ only_if b (marked_at up c)) f in
-              let before : take number (shown_at up (suc c)) ≡ taken_at up (suc c) = ap₂ (λ n l. take n l) place whole ∙ take_front_of (taken_at up (suc c)) (marked_at up c ∷ []) in
-              let is : marked_at up c ≡ m = get_end (taken_at up (suc c)) (marked_at up c) m (ap₂ (λ n l. slice_get l n) (sym place) (sym whole) ∙ got) in
-              let parts = and_parts (shows up.commands.signals c) (not (takes up c)) f in
-              let not_taken = not-true (takes up c) parts.1 in
-              let same : taken_at up (suc c) ≡ taken_at up c = ap (λ b. taken_at up c ++ only_if b (marked_at up c)) not_taken ∙ append-nil (taken_at up c) in
-              let given = leb-true (length (read_beats (take number (shown_at up (suc c))))) (length (words_at up c)) answered in
-              let reads = ap (λ l. length (read_beats l)) (before ∙ same) in
-              subst (λ l. length (operations_among target up.shape l) < length (operations_among target down.shape (shown_at down (suc c)))) (sym before)
-              (stands_below c h parts.0 not_taken (omega (arith, given, reads)) (subst (λ m. 0 < length (operations_in target up.shape m)) (sym is) some))
+  accepted : (c : ℕ) → c < end → (number : ℕ) (m : Marked) → Unit {0} → slice_get (taken_at up (suc c)) number ≡ Some m → 0 < length (operations_in target up.shape m) →
+      length (operations_among target up.shape (take number (taken_at up (suc c)))) < length (operations_among target down.shape (taken_at down (suc c)))
+  accepted c h number m may got some =
+      let here = within target up.shape (taken_at up (suc c)) number m got in
+      let all = reached_all (sizes target up.shape (taken_at up (suc c))) (length (operations_among target down.shape (taken_at down (suc c)))) (carry.held (suc c) h) in
+      let sum = total_sizes target up.shape (taken_at up (suc c)) in
+      omega (arith, here, all, sum, some)
 
   -- a beat that is accepted is shown below in its last part alone
   taken_with : (c : ℕ) → takes up c ≡ true → shows down.commands.signals c ≡ true → takes down c ≡ true
@@ -231,21 +173,12 @@ module _ (law : HasPieces) (carries : Carries) (target : Target) (count room : �
       (λ last. (and_parts (takes down c) (nat_eq (suc (state.place c)) (length (split_at up down c))) last).0)
 
   pub split_prompt : (few : ℕ) (may_burst : Bool) → IsShownPromptly few may_burst target up down end
-  split_prompt few may_burst = record {
-    shown = λ c number m low got begins done.
-        let first = (and_parts (begins_alone (take number (shown_at up (suc c))) m && may_be_prompt may_burst m) (has_first_lane target up.shape down.shape m) begins).1 in
-        let some = some_operation target up.shape down.shape m first in
-        let answered = (and_parts (are_taken_below target up down (take number (shown_at up (suc c))) c) (are_answered up (take number (shown_at up (suc c))) c) done).1 in
-        let here = reached c number m (omega (arith, low)) got some answered in
-        let more = prefix_length (prefix_flat_map (operations_in target down.shape) (before_prefix (λ k. only_if (is_first (shows down.commands.signals) (takes down) k) (marked_at down k)) (suc c) (suc (c + few)) (omega arith))) in
-        lt-ltb _ _ (omega (arith, here, more));
-    empty = λ c d low high empty same shown.
-        let takes_it = (and_parts (takes up c) (closes (marked_at up c)) (and_parts (takes up c && closes (marked_at up c)) (list_all (λ n. not (is_of_reads n.transfer.kind) && not (has_lane up.shape n)) (last_command (taken_at up (suc c)))) empty).0).0 in
-        let shows_it = (and_parts (shows down.commands.signals d) (not (is_of_reads (marked_at down d).transfer.kind)) (and_parts (shows down.commands.signals d && not (is_of_reads (marked_at down d).transfer.kind)) (not (is_nonempty (operations_in target down.shape (marked_at down d)))) shown).0).0 in
-        let above = (shown_above room up down state run end legal d shows_it).0 in
-        let now : d ≡ c = only_then up c d low takes_it same above in
-        (now, taken_with c takes_it (subst (λ k. shows down.commands.signals k ≡ true) now shows_it));
-  }
+  split_prompt few may_burst = prompt_when target up down end few may_burst
+      (λ c number m h got begins some answered. reached_below target up down end legal carry.legal (λ before m. Unit {0}) accepted stands_below c number m h got tt some answered)
+      (λ c d low high takes_it same shows_it write none. (
+      let above = (shown_above room up down state run end legal d shows_it).0 in
+      let now : d ≡ c = only_then up c d low takes_it same above in
+      (now, taken_with c takes_it (subst (λ k. shows down.commands.signals k ≡ true) now shows_it))))
 
 module _ (law : HasPieces) (carries : Carries) (target : Target) (count room : ℕ) (up down : Port) (state : SplitState) (may : MaySplit target up.shape down.shape count) (some_room : 0 < room) (run : RunsAsSplit room up down state)
     (end : ℕ) (many : 1 < count) where
