@@ -3,7 +3,7 @@ use Rattle.std.specs.Prelude.{ℕ, true, List, [], ◌∷◌}
 use Rattle.mm_runs.specs.Views.{Shape}
 use Rattle.mm_machines.specs.Link.{Port, Target}
 use Rattle.mm_machines.specs.Lines.{TaggedPort}
-use Rattle.mm_links.specs.Driven.{Inputs, SelectInputs, PipeInputs, SplitInputs, BurstInputs, DropInputs}
+use Rattle.mm_links.specs.Driven.{Inputs, SelectInputs, PipeInputs, SplitInputs, BurstInputs, CutInputs, DropInputs}
 use Rattle.mm_examples.specs.Examples.{signal, always}
 use Rattle.mm_examples.specs.MoreExamples.{write_port}
 
@@ -225,6 +225,58 @@ behind_empty = record {
     answers = record { valid = always 0; word = always 0; code = always 0 };
   };
 }
+
+-- ---- a cutter into bursts of two
+
+abbrev pub pair_shape : ℕ → Shape
+pair_shape bytes = record { word_bytes = bytes; unit_bytes = 1; burst_bits = 2; has_enables = true }
+
+-- a read of five words at address 8, then a write of three words at address 32, which waits until the read has gone
+abbrev pub pairing : CutInputs
+pairing = record {
+  longest = 2;
+  bursts = record {
+    shape = record (burst_shape 4) { burst_bits = 4 };
+    below = pair_shape 4;
+    inputs = record {
+      signals = record {
+        read = signal (1 ∷ []);
+        write = signal (0 ∷ 1 ∷ 1 ∷ 1 ∷ 1 ∷ 1 ∷ []);
+        address = signal (8 ∷ 32 ∷ 32 ∷ 32 ∷ 0 ∷ 0 ∷ []);
+        word = signal (0 ∷ 0xaa ∷ 0xaa ∷ 0xaa ∷ 0xbb ∷ 0xcc ∷ []);
+        enables = always 15;
+        count = signal (5 ∷ 3 ∷ 3 ∷ 3 ∷ 0 ∷ 0 ∷ []);
+      };
+      more = signal (0 ∷ 1 ∷ 1 ∷ 1 ∷ 1 ∷ 0 ∷ []);
+      tag = always 0;
+      waitrequest = always 0;
+      answers = record { valid = always 0; word = always 0; code = always 0 };
+    };
+  };
+}
+
+-- a read of bytes at address 2, in one burst or in two
+abbrev pub byte_bursts : Shape → List ℕ → List ℕ → Port
+byte_bursts shape reads counts = record {
+  shape = shape;
+  commands = record {
+    signals = record { read = signal reads; write = always 0; address = signal (2 ∷ 4 ∷ []); word = always 0; enables = always 1; count = signal counts };
+    more = always 0;
+    tag = always 0;
+    waitrequest = always 0;
+  };
+  answers = record { valid = always 0; word = always 0; code = always 0 };
+}
+
+abbrev pub four_bytes : Port
+four_bytes = byte_bursts (burst_shape 1) (1 ∷ []) (4 ∷ [])
+
+-- two bursts that aren't joined, and one that is too long
+abbrev pub two_pairs : Port
+two_pairs = byte_bursts (pair_shape 1) (1 ∷ 1 ∷ []) (2 ∷ 2 ∷ [])
+
+abbrev pub uncut : Port
+uncut = byte_bursts (pair_shape 1) (1 ∷ []) (4 ∷ [])
 
 -- ---- what keeps beats without a lane from an agent
 

@@ -1,15 +1,17 @@
 //! Small runs of links, right and wrong.
 
-ghost use Rattle.std.specs.Prelude.{◌≡◌, ◌∷◌, [], true, false, map};
+ghost use Rattle.std.specs.Prelude.{◌≡◌, ◌∷◌, [], true, false, map, length};
 ghost use Rattle.mm_runs.specs.Views.{levels_at};
 ghost use Rattle.mm_runs.specs.Commands.{shows};
-ghost use Rattle.mm_machines.specs.Link.{CarriesCommands, takes, words_at, taken_at};
+ghost use Rattle.mm_machines.specs.Link.{AreLegalAt, CarriesCommands, takes, words_at, taken_at};
 ghost use Rattle.mm_machines.specs.Lines.{BringsBack, PipeCarriesCommands, AreDelayed};
 ghost use Rattle.mm_links.specs.Driven.{select_above, select_below, split_above, split_below, burst_above, burst_below, drop_above, drop_below, pipe_run};
+ghost use Rattle.mm_links.specs.Driven.{cut_above, cut_below};
 ghost use Rattle.mm_links.specs.Pipes.{side_of};
 ghost use Rattle.mm_examples.specs.LinkRuns.{two_writes, hides_wait, shows_twice, selecting, lane_target, read_port, three_writes, stalled_writes, tagged_port, stage_top, newer_first, answered_at_once, accepts_early, gathering, empty_writes, byte_lanes, byte_reads, swaps_bytes};
 ghost use Rattle.mm_examples.specs.PartRows.{levels};
 ghost use Rattle.mm_examples.specs.LinkRuns.{cutting, two_bytes, two_beats, behind_empty};
+ghost use Rattle.mm_examples.specs.LinkRuns.{pairing, four_bytes, two_pairs, uncut};
 ghost use Rattle.mm_examples.specs.LinkRuns.{dropping, ends_without_lane, stays_joined, own_word_first, one_word, mixed_reads, empty_reads};
 ghost use Rattle.mm_awake.specs.Slack.{PassesOn};
 ghost use Rattle.mm_machines.specs.Straight.{GoesStraightThrough};
@@ -78,6 +80,18 @@ pub fn bursts()
     ensures loose { CarriesCommands byte_lanes 1 (two_bytes []) (two_beats 0) 2 → ⊥ }
     ensures late { BringsBack byte_lanes (two_bytes (1 ∷ [])) (two_beats 1) 2 → ⊥ }
     ensures behind { GoesStraightThrough (λ c. true) byte_lanes (burst_above behind_empty) (burst_below behind_empty) 2 → ⊥ }
+{}
+
+/// A read of five words and a write of three are sent in bursts of two words and of one, joined by `more`; the read is accepted with its first burst.
+/// A cutter that doesn't join its bursts ends a command too early, and one that shows a burst as it is shows one that is too long.
+pub fn cuts()
+    ensures places { map (λ m. m.transfer.first) (taken_at (cut_below pairing) 6) ≡ 8 ∷ 16 ∷ 24 ∷ 32 ∷ 32 ∷ 40 ∷ [] }
+    ensures sizes { map (λ m. length m.transfer.beats) (taken_at (cut_below pairing) 6) ≡ 2 ∷ 2 ∷ 1 ∷ 1 ∷ 1 ∷ 1 ∷ [] }
+    ensures joined { map (λ m. m.more) (taken_at (cut_below pairing) 6) ≡ true ∷ true ∷ false ∷ true ∷ true ∷ false ∷ [] }
+    ensures accepts { takes (cut_above pairing) 0 ≡ true }
+    ensures waits { takes (cut_above pairing) 2 ≡ false }
+    ensures loose { CarriesCommands byte_lanes 1 four_bytes two_pairs 2 → ⊥ }
+    ensures long { AreLegalAt uncut 1 → ⊥ }
 {}
 
 /// Of a joined write those beats go on that have a lane, the last of them with `more` low. A read without a lane waits until nothing is

@@ -9,6 +9,8 @@ use Rattle.mm_links.specs.Pipes.{RunsAsPipe, side_of}
 use Rattle.mm_links.specs.Selects.{RunsAsSelect}
 use Rattle.mm_links.specs.Splits.{RunsAsSplit}
 use Rattle.mm_links.specs.Bursts.{RunsAsBurst, reads_from, write_beat_of, cut_parts, head_or}
+use Rattle.mm_links.specs.Cuts.{RunsAsCut, read_burst_of, first_burst, write_of_burst, whole_read}
+use Rattle.mm_links.specs.Driven.{CutInputs, cut_part, cut_registers, cut_state, cut_above, cut_below}
 use Rattle.mm_links.specs.Driven.{BurstInputs, BurstRegisters, burst_raw, burst_sends, burst_beat, burst_shows, burst_part, burst_takes_below, burst_takes, burst_registers, burst_state, burst_above, burst_below}
 use Rattle.mm_links.specs.Driven.{SelectInputs, PipeInputs, select_above, select_below, select_queue, shuts, pipe_run, pipe_queues, raw_there, waits_there, takes_there, shows_raw, head_of, late_by, SplitInputs, split_registers, split_above, split_below, split_state, split_list, split_shows, split_part, split_opens, split_completes, part_at, silent_raw}
 use Rattle.mm_links.specs.Drops.{RunsAsDrop, sends, sent_beat}
@@ -202,6 +204,17 @@ module _ (given : BurstInputs) where
       by_shown true e = beat_shows now c e
       by_shown false e = refl
 
+  -- what stands above is accepted with the first beat below
+  accepts_first : (now : BurstRegisters) (c : ℕ) → burst_takes given now c ≡ not (burst_sends now) && (burst_shows given now c && not (is_raised (given.inputs.waitrequest c)))
+  accepts_first now c =
+      ap (λ b. shows given.inputs.signals c && not b) (raised_one (burst_sends now || is_raised (given.inputs.waitrequest c)))
+      ∙ by_sends (burst_sends now) (shows given.inputs.signals c) (is_raised (given.inputs.waitrequest c))
+    where
+      by_sends : (b s w : Bool) → s && not (b || w) ≡ not b && ((if b then true else s) && not w)
+      by_sends true true w = refl
+      by_sends true false w = refl
+      by_sends false s w = refl
+
   pub burst_runs : RunsAsBurst (burst_above given) (burst_below given) (burst_state given)
   burst_runs = record {
     shown = λ c. part_shown (burst_registers given c) c;
@@ -217,15 +230,40 @@ module _ (given : BurstInputs) where
   }
     where
       accepts_so : (now : BurstRegisters) (c : ℕ) → burst_takes given now c ≡ not (burst_sends now) && burst_takes_below given now c
-      accepts_so now c =
-          ap (λ b. shows given.inputs.signals c && not b) (raised_one (burst_sends now || is_raised (given.inputs.waitrequest c)))
-          ∙ by_sends (burst_sends now) (shows given.inputs.signals c) (is_raised (given.inputs.waitrequest c))
-          ∙ ap (λ b. not (burst_sends now) && (b && not (is_raised (given.inputs.waitrequest c)))) (sym (part_shown now c))
-        where
-          by_sends : (b s w : Bool) → s && not (b || w) ≡ not b && ((if b then true else s) && not w)
-          by_sends true true w = refl
-          by_sends true false w = refl
-          by_sends false s w = refl
+      accepts_so now c = accepts_first now c ∙ ap (λ b. not (burst_sends now) && (b && not (is_raised (given.inputs.waitrequest c)))) (sym (part_shown now c))
+
+-- ---- one that cuts them into the bursts that an agent takes
+
+module _ (given : CutInputs) where
+  cut_part_shown : (now : BurstRegisters) (c : ℕ) → shows_raw (cut_part given now c) ≡ burst_shows given.bursts now c
+  cut_part_shown now c = by_shown (burst_shows given.bursts now c)
+    where
+      by_write : (w : Bool) → shows_raw (if w then write_of_burst given.longest given.shape now.burst (burst_raw given.bursts c) else read_burst_of given.longest (whole_read given.shape (burst_raw given.bursts c))) ≡ true
+      by_write true = refl
+      by_write false = refl
+
+      by_sends : (s : Bool) → shows_raw (if s then read_burst_of given.longest now.rest else first_burst given.longest given.shape now.burst (burst_raw given.bursts c)) ≡ true
+      by_sends true = refl
+      by_sends false = by_write (is_raised (given.inputs.signals.write c))
+
+      by_shown : (b : Bool) → shows_raw (if b then (if burst_sends now then read_burst_of given.longest now.rest else first_burst given.longest given.shape now.burst (burst_raw given.bursts c)) else silent_raw) ≡ b
+      by_shown true = by_sends (burst_sends now)
+      by_shown false = refl
+
+  pub cut_runs : RunsAsCut given.longest (cut_above given) (cut_below given) (cut_state given)
+  cut_runs = record {
+    shown = λ c. cut_part_shown (cut_registers given c) c;
+    beat = λ c shown. ap (λ b. if b then (if burst_sends (cut_registers given c) then read_burst_of given.longest (cut_registers given c).rest else first_burst given.longest given.shape (cut_registers given c).burst (burst_raw given.bursts c)) else silent_raw)
+        (sym (cut_part_shown (cut_registers given c) c) ∙ shown);
+    accepts = λ c. (let now = cut_registers given c in accepts_first given.bursts now c ∙ ap (λ b. not (burst_sends now) && (b && not (is_raised (given.inputs.waitrequest c)))) (sym (cut_part_shown now c)));
+    burst_begins = refl;
+    burst_next = λ c. refl;
+    rest_begins = refl;
+    rest_next = λ c. refl;
+    valid = λ c. refl;
+    word = λ c. refl;
+    code = λ c. refl;
+  }
 
 -- ---- what keeps beats without a lane from an agent
 

@@ -31,6 +31,7 @@ pub mod BurstLists
 pub mod BurstLink
 pub mod BurstStraight
 pub mod BurstInStep
+pub mod CutShown
 pub mod DropLists
 pub mod DropJoins
 pub mod DropShown

@@ -11,6 +11,7 @@ use Rattle.mm_links.specs.Pipes.{PipeSides}
 use Rattle.mm_links.specs.Selects.{offset_in, selected, silenced, first_of}
 use Rattle.mm_links.specs.Splits.{SplitState, pieces_asked, are_same, nothing}
 use Rattle.mm_links.specs.Bursts.{BurstState, Rest, reads_from, cut_parts, head_or, after_beat, behind_first}
+use Rattle.mm_links.specs.Cuts.{read_burst_of, first_burst, behind_burst, whole_read}
 use Rattle.mm_links.specs.Drops.{DropState, Standing, any_lane, sends, accepted, keeps, owes_itself, sent_beat}
 
 -- what is shown to a link: commands from above, wait and answers from below
@@ -308,6 +309,53 @@ burst_below given = record {
     signals = signals_of (λ c. (burst_part given (burst_registers given c) c).levels);
     more = λ c. (burst_part given (burst_registers given c) c).more;
     tag = λ c. (burst_part given (burst_registers given c) c).tag;
+    waitrequest = given.inputs.waitrequest;
+  };
+  answers = given.inputs.answers;
+}
+
+-- ---- one that cuts them into the bursts that an agent takes
+
+pub record CutInputs : Type 0 where
+  pub longest : ℕ
+  pub bursts : BurstInputs
+  pub open bursts use *
+
+abbrev pub cut_part : CutInputs → BurstRegisters → ℕ → Raw
+cut_part given now c =
+    if burst_shows given.bursts now c then (if burst_sends now then read_burst_of given.longest now.rest else first_burst given.longest given.shape now.burst (burst_raw given.bursts c))
+    else silent_raw
+
+abbrev pub cut_takes_below : CutInputs → BurstRegisters → ℕ → Bool
+cut_takes_below given now c = shows_raw (cut_part given now c) && not (is_raised (given.inputs.waitrequest c))
+
+abbrev pub cut_registers : CutInputs → ℕ → BurstRegisters
+cut_registers given zero = record { burst = idle; rest = record { left = 0; address = 0; command = silent_raw } }
+cut_registers given (suc c) =
+    let now = cut_registers given c in
+    record {
+      burst = burst_after given.shape (levels_at given.inputs.signals c) (burst_takes given.bursts now c) now.burst;
+      rest = if burst_sends now then (if cut_takes_below given now c then behind_burst given.longest given.shape.word_bytes now.rest else now.rest)
+          else if burst_takes given.bursts now c && not (is_raised (given.inputs.signals.write c)) then behind_burst given.longest given.shape.word_bytes (whole_read given.shape (burst_raw given.bursts c)) else now.rest;
+    }
+
+abbrev pub cut_state : CutInputs → BurstState
+cut_state given = record { burst = λ c. (cut_registers given c).burst; rest = λ c. (cut_registers given c).rest }
+
+abbrev pub cut_above : CutInputs → Port
+cut_above given = record {
+  shape = given.shape;
+  commands = record { signals = given.inputs.signals; more = given.inputs.more; tag = given.inputs.tag; waitrequest = λ c. burst_waits given.bursts (cut_registers given c) c };
+  answers = given.inputs.answers;
+}
+
+abbrev pub cut_below : CutInputs → Port
+cut_below given = record {
+  shape = given.below;
+  commands = record {
+    signals = signals_of (λ c. (cut_part given (cut_registers given c) c).levels);
+    more = λ c. (cut_part given (cut_registers given c) c).more;
+    tag = λ c. (cut_part given (cut_registers given c) c).tag;
     waitrequest = given.inputs.waitrequest;
   };
   answers = given.inputs.answers;

@@ -5,6 +5,7 @@ pub mod Pipes
 pub mod Selects
 pub mod Splits
 pub mod Bursts
+pub mod Cuts
 pub mod Drops
 pub mod Passes
 pub mod Driven

@@ -4,6 +4,7 @@ ghost use Rattle.std.specs.Prelude.{ℕ, Bool, false};
 ghost use Rattle.mm_machines.specs.Link.{Target, Port, AreLegalAt, AnswersAreOwed};
 ghost use Rattle.mm_links.specs.Links.{IsLink, IsStraightLink};
 ghost use Rattle.mm_links.specs.InStep.{GoesInStep};
+ghost use Rattle.mm_links.specs.Cuts.{RunsAsCut, IsCutPlan};
 ghost use Rattle.mm_links.specs.Bursts.{BurstState, RunsAsBurst, IsBurstPlan, burst_form};
 
 /// A cutter of bursts keeps all that a link promises.
@@ -24,4 +25,10 @@ pub fn burst_is_straight()
 pub fn burst_goes_in_step()
     ensures { (target : Target) (up down : Port) (state : BurstState) (end : ℕ) → IsBurstPlan up.shape down.shape → RunsAsBurst up down state
         → AreLegalAt up end → AnswersAreOwed down end → GoesInStep false target up down end }
+{}
+
+/// Below what cuts bursts into those that an agent takes the commands are legal: no burst is longer than may be, and none is cut off.
+pub fn cut_brings_bursts()
+    ensures { (longest : ℕ) (up down : Port) (state : BurstState) (end : ℕ) → IsCutPlan longest up.shape down.shape → RunsAsCut longest up down state
+        → AreLegalAt up end → AreLegalAt down end }
 {}

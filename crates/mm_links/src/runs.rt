@@ -2,8 +2,10 @@
 
 ghost use Rattle.mm_links.specs.Driven.{SelectInputs, PipeInputs, SplitInputs, select_above, select_below, select_queue, pipe_run, split_above, split_below, split_state};
 ghost use Rattle.mm_links.specs.Driven.{BurstInputs, burst_above, burst_below, burst_state};
+ghost use Rattle.mm_links.specs.Driven.{CutInputs, cut_above, cut_below, cut_state};
 ghost use Rattle.mm_links.specs.Driven.{DropInputs, drop_above, drop_below, drop_state};
 ghost use Rattle.mm_links.specs.Bursts.{RunsAsBurst};
+ghost use Rattle.mm_links.specs.Cuts.{RunsAsCut};
 ghost use Rattle.mm_links.specs.Drops.{RunsAsDrop};
 ghost use Rattle.mm_links.specs.Pipes.{RunsAsPipe};
 ghost use Rattle.mm_links.specs.Selects.{RunsAsSelect};
@@ -32,4 +34,9 @@ pub fn burst_runs()
 /// There is a run of what keeps beats without a lane from an agent, for all commands, waits and answers.
 pub fn drop_runs()
     ensures { (given : DropInputs) → RunsAsDrop given.room (drop_above given) (drop_below given) (drop_state given) }
+{}
+
+/// There is a run of what cuts bursts into those that an agent takes, for all commands, waits and answers.
+pub fn cut_runs()
+    ensures { (given : CutInputs) → RunsAsCut given.longest (cut_above given) (cut_below given) (cut_state given) }
 {}
