@@ -1,15 +1,18 @@
 -- What is shown below a machine that cuts bursts is legal: no burst is under way there but of the one above, and none is longer than may be.
+-- It has the tags and kinds of what is shown above.
 use Rattle.std.proofs.Common.{ℕ, zero, suc, ◌<◌, ◌≤◌, ◌≡◌, ◌+◌, ◌-◌, min, Bool, true, false, not, ◌&&◌, ◌||◌, if◌then◌else◌, arith, refl, sym, ap, ap₂, subst, ◌∙◌, nat_eq, nat_lt, IsTrue, ltb-true, ltb-false}
 use Rattle.std.proofs.lemmas.Bool.{and_parts, not-true, both_ways, le-ltb, eqb-true, eq-eqb, or_left, or_right}
 use Rattle.histories.specs.History.{is_raised}
 use Rattle.mm_runs.specs.Views.{Shape, Levels, levels_at}
 use Rattle.mm_runs.specs.Commands.{Burst, shows, is_held, burst_before, burst_after, next_burst, byte_address, Transfer, write_transfer, read_transfer}
 use Rattle.mm_machines.specs.Link.{Port, AreLegalAt, takes}
+use Rattle.mm_machines.specs.Lines.{HandsOn}
 use Rattle.mm_machines.specs.Machines.{Raw, raw_at, IsFitBeat}
 use Rattle.mm_machines.specs.SideLaws.{fit_when_shown, legal_when_shown}
 use Rattle.mm_links.specs.Bursts.{BurstState, Rest, is_sending}
 use Rattle.mm_links.specs.Cuts.{RunsAsCut, IsCutPlan, read_burst_of, behind_burst, whole_read, write_of_burst, first_burst}
 use Rattle.mm_links.specs.Selects.{takes_read}
+use Rattle.mm_links.proofs.HandOn.{IsShownFor, hands_on_shown}
 use Rattle.mm_links.proofs.OneBeat.{raw_by}
 
 -- a count that is cut has a beat at least, and no more than may be
@@ -284,3 +287,97 @@ module _ (longest : ℕ) (up down : Port) (state : BurstState) (plan : IsCutPlan
 
   pub cut_legal : AreLegalAt down end
   cut_legal = legal_when_shown down.shape down.commands down.answers end fit_below held_on
+
+  -- ---- each burst below stems from a beat above
+
+  record IsOf (c k : ℕ) : Type 0 where
+    pub before : k < c
+    pub command : (state.rest c).command ≡ raw_at up k
+    pub shown : shows up.commands.signals k ≡ true
+    pub read : is_raised (up.commands.write k) ≡ false
+
+  -- the read that is sent was accepted before
+  sent_for : (c : ℕ) → is_sending state c ≡ true → (k : ℕ) × IsOf c k
+  sent_for zero on = let none = run.rest_begins in let some = ltb-true 0 (state.rest 0).left on in absurd (omega (arith, none, some))
+  sent_for (suc c) on = by_sends (is_sending state c) refl (sent_for c)
+    where
+      command_of : Rest → Raw
+      command_of r = r.command
+
+      next_with : (b t : Bool) → is_sending state c ≡ b → takes_read up c ≡ t → (state.rest (suc c)).command ≡ (if b then (state.rest c).command else if t then raw_at up c else (state.rest c).command)
+      next_with b t e f =
+          ap command_of (run.rest_next c ∙ ap₂ (λ b t. if b then (if takes down c then behind_burst longest up.shape.word_bytes (state.rest c) else state.rest c)
+          else if t then behind_burst longest up.shape.word_bytes (whole_read up.shape (raw_at up c)) else state.rest c) e f) ∙ by_case b t (takes down c)
+        where
+          by_case : (b t d : Bool) → command_of (if b then (if d then behind_burst longest up.shape.word_bytes (state.rest c) else state.rest c) else if t then behind_burst longest up.shape.word_bytes (whole_read up.shape (raw_at up c)) else state.rest c)
+              ≡ (if b then (state.rest c).command else if t then raw_at up c else (state.rest c).command)
+          by_case true t true = refl
+          by_case true t false = refl
+          by_case false true d = refl
+          by_case false false d = refl
+
+      by_sends : (b : Bool) → is_sending state c ≡ b → (is_sending state c ≡ true → (k : ℕ) × IsOf c k) → (k : ℕ) × IsOf (suc c) k
+      by_sends true e earlier =
+          let there = earlier e in
+          let is = there.1 in
+          let low = is.before in
+          (there.0, record { before = omega (arith, low); command = next_with true (takes_read up c) e refl ∙ is.command; shown = is.shown; read = is.read })
+      by_sends false e earlier = by_read (takes_read up c) refl
+        where
+          by_read : (t : Bool) → takes_read up c ≡ t → (k : ℕ) × IsOf (suc c) k
+          by_read false f = absurd (both_ways (is_sending state (suc c)) (rest_still c e f) on)
+          by_read true f =
+              let parts = and_parts (takes up c) (not (is_raised (up.commands.write c))) f in
+              (c, record { before = omega arith; command = next_with false true e f; shown = shown_taken up c parts.0; read = not-true (is_raised (up.commands.write c)) parts.1 })
+
+  one_kind : (k : ℕ) → k < end → shows up.commands.signals k ≡ true → is_raised (up.commands.read k) ≡ not (is_raised (up.commands.write k))
+  one_kind k h shown = by_kinds (is_raised (up.commands.read k)) (is_raised (up.commands.write k)) shown (legal.legal.one_kind k h)
+    where
+      by_kinds : (r w : Bool) → r || w ≡ true → IsTrue (not (r && w)) → r ≡ not w
+      by_kinds true true s o = cc
+      by_kinds true false s o = refl
+      by_kinds false true s o = refl
+      by_kinds false false s o = cc
+
+  pub cut_hands_on : HandsOn up down end
+  cut_hands_on = hands_on_shown up down end (λ c low shown. from c low shown (is_sending state c) refl)
+    where
+      from : (c : ℕ) → c < end → shows down.commands.signals c ≡ true → (b : Bool) → is_sending state c ≡ b → (k : ℕ) × IsShownFor up down c k
+      from c low shown true e =
+          let there = sent_for c e in
+          let is = there.1 in
+          let before = is.before in
+          let beat = sent_beat c e shown in (
+            there.0,
+            record {
+              by_then = omega (arith, before);
+              shown = is.shown;
+              tag = ap (λ (r : Raw). r.tag) beat ∙ ap (λ (r : Raw). r.tag) is.command;
+              reads = ap (λ (r : Raw). is_raised r.levels.read) beat ∙ ap not (sym is.read) ∙ sym (one_kind there.0 (omega (arith, before, low)) is.shown);
+              writes = ap (λ (r : Raw). is_raised r.levels.write) beat ∙ sym is.read;
+            },
+          )
+      from c low shown false e = (c, by_write (is_raised (up.commands.write c)) refl)
+        where
+          there : shows up.commands.signals c ≡ true
+          there = sym (shows_first c e) ∙ shown
+
+          by_write : (w : Bool) → is_raised (up.commands.write c) ≡ w → IsShownFor up down c c
+          by_write true f =
+              let beat = first_beat c e shown true f in
+              record {
+                by_then = omega arith;
+                shown = there;
+                tag = ap (λ (r : Raw). r.tag) beat;
+                reads = ap (λ (r : Raw). is_raised r.levels.read) beat ∙ ap not (sym f) ∙ sym (one_kind c low there);
+                writes = ap (λ (r : Raw). is_raised r.levels.write) beat ∙ sym f;
+              }
+          by_write false f =
+              let beat = first_beat c e shown false f in
+              record {
+                by_then = omega arith;
+                shown = there;
+                tag = ap (λ (r : Raw). r.tag) beat;
+                reads = ap (λ (r : Raw). is_raised r.levels.read) beat ∙ ap not (sym f) ∙ sym (one_kind c low there);
+                writes = ap (λ (r : Raw). is_raised r.levels.write) beat ∙ sym f;
+              }

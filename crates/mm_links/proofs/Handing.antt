@@ -9,6 +9,7 @@ use Rattle.mm_machines.specs.Machines.{Raw, raw_at, raws, MaySplit}
 use Rattle.mm_machines.specs.PartRanks.{JoinsAlike}
 use Rattle.mm_links.specs.Passes.{ShowsWrite, PassesAtOnce, PassesActs, AcceptsActs, has_operation, acting}
 use Rattle.mm_links.specs.Bursts.{BurstState, RunsAsBurst, IsBurstPlan, is_sending, head_or, write_beat_of, reads_from}
+use Rattle.mm_links.specs.Cuts.{RunsAsCut}
 use Rattle.mm_links.specs.Drops.{DropState, RunsAsDrop, IsDropPlan, accepted, standing_at}
 use Rattle.mm_links.specs.Selects.{RunsAsSelect, IsSelectPlan, EnablesFit, is_shut, takes_read}
 use Rattle.mm_links.specs.Splits.{SplitState, RunsAsSplit, split_at, opens, completes}
@@ -32,6 +33,12 @@ select_passes law target up down many room offsets plan deep run end = record {
 
 pub burst_passes : (up down : Port) (state : BurstState) → RunsAsBurst up down state → (end : ℕ) → PassesAtOnce up down end
 burst_passes up down state run end = record {
+  beats = λ c h taken. (and_parts (not (is_sending state c)) (takes down c) (sym (run.accepts c) ∙ taken)).1;
+  words = λ c h given. ap is_raised (sym (run.valid c)) ∙ given;
+}
+
+pub cut_passes : (longest : ℕ) (up down : Port) (state : BurstState) → RunsAsCut longest up down state → (end : ℕ) → PassesAtOnce up down end
+cut_passes longest up down state run end = record {
   beats = λ c h taken. (and_parts (not (is_sending state c)) (takes down c) (sym (run.accepts c) ∙ taken)).1;
   words = λ c h given. ap is_raised (sym (run.valid c)) ∙ given;
 }

@@ -2,6 +2,7 @@
 
 ghost use Rattle.std.specs.Prelude.{ℕ, Bool, false};
 ghost use Rattle.mm_machines.specs.Link.{Target, Port, AreLegalAt, AnswersAreOwed};
+ghost use Rattle.mm_machines.specs.Lines.{HandsOn};
 ghost use Rattle.mm_links.specs.Links.{IsLink, IsStraightLink};
 ghost use Rattle.mm_links.specs.InStep.{GoesInStep};
 ghost use Rattle.mm_links.specs.Cuts.{RunsAsCut, IsCutPlan};
@@ -27,8 +28,10 @@ pub fn burst_goes_in_step()
         → AreLegalAt up end → AnswersAreOwed down end → GoesInStep false target up down end }
 {}
 
-/// Below what cuts bursts into those that an agent takes the commands are legal: no burst is longer than may be, and none is cut off.
+/// Below what cuts bursts into those that an agent takes the commands are legal: no burst is longer than may be, and none is cut off. No tags and no kinds are made.
 pub fn cut_brings_bursts()
-    ensures { (longest : ℕ) (up down : Port) (state : BurstState) (end : ℕ) → IsCutPlan longest up.shape down.shape → RunsAsCut longest up down state
+    ensures legal { (longest : ℕ) (up down : Port) (state : BurstState) (end : ℕ) → IsCutPlan longest up.shape down.shape → RunsAsCut longest up down state
         → AreLegalAt up end → AreLegalAt down end }
+    ensures tags { (longest : ℕ) (up down : Port) (state : BurstState) (end : ℕ) → IsCutPlan longest up.shape down.shape → RunsAsCut longest up down state
+        → AreLegalAt up end → HandsOn up down end }
 {}

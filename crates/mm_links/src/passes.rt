@@ -5,17 +5,19 @@ ghost use Rattle.mm_machines.specs.Link.{Target, Port, AreLegalAt};
 ghost use Rattle.mm_machines.specs.Machines.{MaySplit};
 ghost use Rattle.mm_machines.specs.PartRanks.{JoinsAlike};
 ghost use Rattle.mm_links.specs.Bursts.{BurstState, RunsAsBurst, IsBurstPlan, is_sending};
+ghost use Rattle.mm_links.specs.Cuts.{RunsAsCut};
 ghost use Rattle.mm_links.specs.Drops.{DropState, RunsAsDrop, IsDropPlan};
 ghost use Rattle.mm_links.specs.Passes.{ShowsWrite, PassesAtOnce, PassesActs, AcceptsActs};
 ghost use Rattle.mm_links.specs.Selects.{RunsAsSelect, IsSelectPlan, EnablesFit};
 ghost use Rattle.mm_links.specs.Splits.{SplitState, RunsAsSplit};
 
-/// A lane selector and a cutter of bursts take a beat below with each one that they accept, and give only words that come from below.
+/// A lane selector and the cutters of bursts take a beat below with each one that they accept, and give only words that come from below.
 /// So does a splitter, where each beat that it accepts has an operation: it swallows empty write beats that are joined to others.
 pub fn links_pass_at_once()
     ensures select { (target : Target) (up down : Port) (many room : ℕ) (offsets : ℕ → List ℕ) → IsSelectPlan target up.shape down.shape many
         → 1 < room → RunsAsSelect room up down offsets → (end : ℕ) → PassesAtOnce up down end }
     ensures burst { (up down : Port) (state : BurstState) → RunsAsBurst up down state → (end : ℕ) → PassesAtOnce up down end }
+    ensures cut { (longest : ℕ) (up down : Port) (state : BurstState) → RunsAsCut longest up down state → (end : ℕ) → PassesAtOnce up down end }
     ensures split { (target : Target) (room count : ℕ) (up down : Port) (state : SplitState) → MaySplit target up.shape down.shape count
         → RunsAsSplit room up down state → (end : ℕ) → AreLegalAt up end → AcceptsActs target up end → PassesAtOnce up down end }
 {

@@ -1,4 +1,4 @@
-use Rattle.mm_links.proofs.Handing.{select_passes, burst_passes, split_passes}
+use Rattle.mm_links.proofs.Handing.{select_passes, burst_passes, cut_passes, split_passes}
 use Rattle.mm_links.proofs.passes.links_pass_at_once.Goals as goal
 
 pub returns-clause-select : goal.returns-clause-select
@@ -7,6 +7,9 @@ returns-clause-select c = λ target up down many room offsets plan deep run end.
 
 pub returns-clause-burst : goal.returns-clause-burst
 returns-clause-burst c = burst_passes
+
+pub returns-clause-cut : goal.returns-clause-cut
+returns-clause-cut c = cut_passes
 
 pub returns-clause-split : goal.returns-clause-split
 returns-clause-split c = λ target room count up down state may run end legal act. split_passes c.beat_is_pieces.ensures target room count up down state may run end legal act
