@@ -20,3 +20,4 @@ pub mod EmptyRead
 pub mod LineRuns
 pub mod PartTwins
 mod AheadKept
+pub mod Swallows

@@ -1,6 +1,6 @@
 //! Small runs of links, right and wrong.
 
-ghost use Rattle.std.specs.Prelude.{◌≡◌, ◌∷◌, [], true, false, map, length};
+ghost use Rattle.std.specs.Prelude.{◌≡◌, ◌+◌, ◌∷◌, [], ℕ, true, false, map, length};
 ghost use Rattle.mm_runs.specs.Views.{levels_at};
 ghost use Rattle.mm_runs.specs.Commands.{shows};
 ghost use Rattle.mm_machines.specs.Link.{AreLegalAt, CarriesCommands, takes, words_at, taken_at};
@@ -66,8 +66,10 @@ pub fn splitters()
     ensures words { words_at (split_above gathering) 3 ≡ (record { word = 0x00bbcc00; code = 2 }) ∷ [] }
     ensures early { CarriesCommands byte_target 0 accepts_early byte_side 2 → ⊥ }
     ensures swapped { BringsBack byte_lanes swaps_bytes byte_reads 3 → ⊥ }
-    ensures swallows { PassesOn (record { hold = 1; kept = 9 }) (split_above empty_writes) (split_below empty_writes) 4 → ⊥ }
-{}
+    ensures swallows { (hold kept : ℕ) → PassesOn (record { hold = hold; kept = kept }) (split_above empty_writes) (split_below empty_writes) (hold + 1) → ⊥ }
+{
+    mm_links::runs::split_runs()
+}
 
 /// A read of three words and a write of two are sent beat by beat, joined by `more`; the read is accepted with its first beat, and the write waits.
 /// A cutter that leaves `more` low ends a command too early. One that accepts a read with its last beat gives a word that isn't owed.
@@ -108,6 +110,8 @@ pub fn drops()
     ensures loose { CarriesCommands byte_target 1 ends_without_lane stays_joined 3 → ⊥ }
     ensures early { BringsBack byte_target own_word_first one_word 4 → ⊥ }
     ensures mixed { CarriesCommands byte_target 1 (drop_above mixed_reads) (drop_below mixed_reads) 4 → ⊥ }
-    ensures swallows { PassesOn (record { hold = 1; kept = 9 }) (drop_above empty_reads) (drop_below empty_reads) 4 → ⊥ }
-    ensures gives { PassesOn (record { hold = 9; kept = 1 }) (drop_above empty_reads) (drop_below empty_reads) 4 → ⊥ }
-{}
+    ensures swallows { (hold kept : ℕ) → PassesOn (record { hold = hold; kept = kept }) (drop_above empty_reads) (drop_below empty_reads) (hold + 1) → ⊥ }
+    ensures gives { (hold kept : ℕ) → PassesOn (record { hold = hold; kept = kept }) (drop_above empty_reads) (drop_below empty_reads) (kept + 2) → ⊥ }
+{
+    mm_links::runs::drop_runs()
+}

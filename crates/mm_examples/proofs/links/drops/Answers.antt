@@ -1,5 +1,7 @@
-use Rattle.std.proofs.Common.{◌≤◌, ◌≡◌, ◌+◌, arith, refl, ap}
+use Rattle.std.proofs.Common.{◌≡◌, arith, refl, ap}
 use Rattle.mm_links.specs.Selects.{first_of}
+use Rattle.mm_examples.specs.LinkRuns.{empty_reads}
+use Rattle.mm_examples.proofs.Swallows.{drop_swallows, drop_gives}
 use Rattle.mm_examples.proofs.links.drops.Goals as goal
 
 pub returns-clause-places : goal.returns-clause-places
@@ -27,7 +29,7 @@ pub returns-clause-mixed : goal.returns-clause-mixed
 returns-clause-mixed c = λ carries. (let joins = (carries.in_order 4 (omega arith)).joins in cc)
 
 pub returns-clause-swallows : goal.returns-clause-swallows
-returns-clause-swallows c = λ passes. (let few : 2 ≤ 0 + 1 = passes.beats 0 2 (omega arith) in omega (arith, few))
+returns-clause-swallows c = drop_swallows (c.drop_runs.ensures empty_reads)
 
 pub returns-clause-gives : goal.returns-clause-gives
-returns-clause-gives c = λ passes. (let few : 2 ≤ 0 + 1 = passes.words 0 2 (omega arith) in omega (arith, few))
+returns-clause-gives c = drop_gives (c.drop_runs.ensures empty_reads)

@@ -1,5 +1,7 @@
-use Rattle.std.proofs.Common.{◌≤◌, ◌≡◌, ◌+◌, arith, refl, ap}
+use Rattle.std.proofs.Common.{◌≡◌, arith, refl, ap}
 use Rattle.mm_links.specs.Selects.{first_of}
+use Rattle.mm_examples.specs.LinkRuns.{empty_writes}
+use Rattle.mm_examples.proofs.Swallows.{splitter_swallows}
 use Rattle.std.proofs.Math.Nat.{not-suc-le-zero}
 use Rattle.mm_examples.proofs.links.splitters.Goals as goal
 
@@ -19,4 +21,4 @@ pub returns-clause-swapped : goal.returns-clause-swapped
 returns-clause-swapped c = λ back. (let same : 0xbb ≡ 0xcc = ap first_of (back.bytes 3 (omega arith)).joins in absurd (omega (arith, same)))
 
 pub returns-clause-swallows : goal.returns-clause-swallows
-returns-clause-swallows c = λ passes. (let few : 2 ≤ 0 + 1 = passes.beats 0 2 (omega arith) in omega (arith, few))
+returns-clause-swallows c = splitter_swallows (c.split_runs.ensures empty_writes)
