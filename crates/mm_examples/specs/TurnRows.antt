@@ -6,6 +6,8 @@ use Rattle.mm_machines.specs.Link.{Port}
 use Rattle.mm_examples.specs.Examples.{signal, always, shape_of}
 use Rattle.ranks.specs.Turns as turns
 use Rattle.mm_machines.specs.Turns.{seats_of}
+use Rattle.mm_machines.specs.Lines.{Group}
+use Rattle.mm_runs.specs.Operations.Operation.{Write}
 use Rattle.mm_examples.specs.MoreExamples.{shared_system}
 
 abbrev pub seats : List Seat
@@ -50,3 +52,13 @@ twice_system = record shared_system { joined = λ a. 0 ∷ 1 ∷ 0 ∷ []; share
 -- whose commands begin where both ask in each of six cycles
 abbrev pub twice_tags : List ℕ
 twice_tags = turns.begun (record { left = 0; ring = seats_of twice_system 0 }) (replicate 6 turns.both_ask)
+
+-- two hosts with one share each take turns at an arbiter; the second command of host 1 is a write without an enabled lane
+abbrev pub one_each_system : System
+one_each_system = record shared_system { joined = λ a. 0 ∷ 1 ∷ []; shares = λ h a. 1 }
+
+abbrev pub write_of : ℕ → Group
+write_of host = record { tag = host; operations = Write 0 7 ∷ []; closes = true; beats = 1 }
+
+abbrev pub with_empty_write : List Group
+with_empty_write = write_of 0 ∷ write_of 1 ∷ write_of 0 ∷ record { tag = 1; operations = []; closes = true; beats = 1 } ∷ write_of 0 ∷ write_of 1 ∷ write_of 0 ∷ []

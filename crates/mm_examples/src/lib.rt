@@ -8,13 +8,14 @@ pub mod parts;
 ghost use Rattle.std.specs.Prelude.{◌≡◌, ◌-◌, ◌∷◌, ◌++◌, [], true, false, ℕ, None, map, length, replicate};
 ghost use Rattle.histories.specs.History.{before, numbers};
 ghost use Rattle.mm_runs.specs.Commands.{agent_accepts, longest_burst};
-ghost use Rattle.mm_runs.specs.Awake.{turns_of, begun_within, HasFullTurns, TakesTurns, ServesWithin, ServesDefaultWithin, ReadsAheadWithin, IsPassedByFew, serves};
+ghost use Rattle.mm_runs.specs.Awake.{turns_of, first_owners, begun_within, HasFullTurns, TakesTurns, ServesWithin, ServesDefaultWithin, ReadsAheadWithin, IsPassedByFew, serves};
 ghost use Rattle.mm_machines.specs.Turns.{TakesTurnsByRule, others_begun};
 ghost use Rattle.ranks.specs.Turns.{shares_of_others};
 ghost use Rattle.mm_examples.specs.DefaultRows.{odd_word_run, strayed_read_run, behind_default_run, past_default_run, default_first_run, around_default_run};
 ghost use Rattle.mm_examples.specs.WidthRows.{short_agent, short_system, bursts_read, parts_run};
 ghost use Rattle.mm_examples.specs.WireRows.{one_read, one_read_system, held_back_host, held_back_agent, held_back_count, held_back_run, let_through_host, let_through_agent};
-ghost use Rattle.mm_examples.specs.TurnRows.{seats, askers, granted, by_shares, one_share_each, first_host_first, twice_system, twice_tags};
+ghost use Rattle.mm_examples.specs.TurnRows.{seats, askers, granted, by_shares, one_share_each, first_host_first, twice_system, twice_tags, one_each_system, with_empty_write};
+ghost use Rattle.mm_machines.specs.Begun.{owners_of_groups};
 ghost use Rattle.mm_runs.specs.Packed.{operations_touched, beats_between, ReadsEachTouchedWordOnce};
 ghost use Rattle.mm_machines.specs.Link.Item.{Acts, Ends};
 ghost use Rattle.mm_examples.specs.MoreExamples.{waiting_agent, held_writes, late_read, two_reads, agent_with_bound, two_agents, limited_run};
@@ -174,6 +175,13 @@ pub fn turns()
 pub fn host_joined_twice()
     ensures tags { twice_tags ≡ 0 ∷ 1 ∷ 0 ∷ 0 ∷ 1 ∷ 0 ∷ [] }
     ensures broken { HasFullTurns twice_system 0 (turns_of (owners_by twice_tags)) → ⊥ }
+{}
+
+/// A write without an operation takes a turn at an arbiter that its agent doesn't see: turns that are full behind the arbiter aren't full there.
+pub fn empty_write_takes_a_turn()
+    ensures taken { HasFullTurns one_each_system 0 (turns_of (owners_by (map (λ g. g.tag) with_empty_write))) }
+    ensures begun { map (λ o. o.tag) (first_owners [] (owners_of_groups (λ _. 0) (λ _. false) with_empty_write)) ≡ 0 ∷ 1 ∷ 0 ∷ 0 ∷ 1 ∷ 0 ∷ [] }
+    ensures broken { HasFullTurns one_each_system 0 (turns_of (owners_by (0 ∷ 1 ∷ 0 ∷ 0 ∷ 1 ∷ 0 ∷ []))) → ⊥ }
 {}
 
 /// A write in two pieces is one command: `more` is high on the first piece.
