@@ -42,6 +42,7 @@ impl Catalog {
     ghost use Rattle.component_types.specs.Tables.{ComponentTable};
     ghost use Rattle.component_types.specs.Catalog.{is_refused, IsAddFault, type_place};
 
+    /// No component.
     pub fn new(alloc: Global) -> Catalog
         ensures { result ≡ [] }
     {

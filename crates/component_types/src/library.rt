@@ -43,6 +43,7 @@ impl<'a> Model for Library<'a> {
 }
 
 impl<'a> Library<'a> {
+    /// The components of a catalog, and the clock source.
     pub fn new(alloc: Global, catalog: &'a Catalog) -> Result<Library<'a>, NoMemory>
         ensures { IfOk result (λ library. library ≡ catalog.now ++ clock_source_table ∷ []) }
     {

@@ -29,6 +29,7 @@ impl Model for Names {
 }
 
 impl Names {
+    /// No name.
     pub fn new(alloc: Global) -> Names
         ensures { result ≡ [] }
     {

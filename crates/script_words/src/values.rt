@@ -81,6 +81,7 @@ pub fn kind_named(text: &str) -> Option<Kind>
     }
 }
 
+/// Whether the kinds are one.
 pub fn same_kind(a: Kind, b: Kind) -> bool
     ensures { result ≡ same_kind a b }
 {

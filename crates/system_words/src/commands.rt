@@ -168,12 +168,14 @@ fn exceeds(value: &str, kind: Kind, parameter: Parameter) -> bool
         }
 }
 
+/// Whether an interface of the system is set to that of an instance (`EXPORT_OF`).
 pub fn exports(words: &[Word]) -> bool
     ensures { result ≡ exports words.now }
 {
     same_name("EXPORT_OF", text(words, 2))
 }
 
+/// Whether the pipeline stages of all agents are set (`$system qsys_mm.maxAdditionalLatency`).
 pub fn sets_stages(words: &[Word]) -> bool
     ensures { result ≡ sets_stages words.now }
 {
@@ -181,12 +183,14 @@ pub fn sets_stages(words: &[Word]) -> bool
         && same_text(text(words, 2), "qsys_mm.maxAdditionalLatency")
 }
 
+/// Whether a connection of the kind leads from a start to an end that are judged here.
 pub fn has_sides(kind: Kind) -> bool
     ensures { result ≡ has_sides kind }
 {
     matches!(kind, Kind::Clock | Kind::Mm | Kind::Stream)
 }
 
+/// Whether both ends stand in one word, `start/end`.
 pub fn in_one_word(words: &[Word]) -> bool
     ensures { result ≡ in_one_word words.now }
 {
@@ -237,18 +241,21 @@ pub fn second_word(words: &[Word]) -> usize
     if in_one_word(words) { 1 } else { 2 }
 }
 
+/// Whether the first end is spelled `instance.interface`.
 pub fn names_first(words: &[Word]) -> bool
     ensures { result ≡ is_some (first_named words.now) }
 {
     first_named(words).is_some()
 }
 
+/// Whether the second end is spelled so.
 pub fn names_second(words: &[Word]) -> bool
     ensures { result ≡ is_some (second_named words.now) }
 {
     second_named(words).is_some()
 }
 
+/// Whether the word is spelled so.
 pub fn names_an_end(word: &str) -> bool
     ensures { result ≡ is_some (end_named word.now) }
 {
@@ -288,12 +295,14 @@ pub fn is_no_joint(named: bool, kind: Option<Kind>) -> bool
     named && kind.is_none()
 }
 
+/// Whether the word spells two ends with `/` between them.
 pub fn names_pair(text: &str) -> bool
     ensures { result ≡ is_some (pair_named text.now) }
 {
     pair_named(text).is_some()
 }
 
+/// Whether the connection and its parameter are there, and the value isn't a number as the parameter asks for it.
 pub fn any_misread(value: &str, kind: Option<Kind>, parameter: Option<Parameter>) -> bool
     ensures { result ≡ of_both kind parameter (misreads value.now) }
 {
@@ -303,6 +312,7 @@ pub fn any_misread(value: &str, kind: Option<Kind>, parameter: Option<Parameter>
     }
 }
 
+/// Whether they are there, and the number is outside the parameter's range.
 pub fn any_exceeds(value: &str, kind: Option<Kind>, parameter: Option<Parameter>) -> bool
     ensures { result ≡ of_both kind parameter (exceeds value.now) }
 {
@@ -312,6 +322,7 @@ pub fn any_exceeds(value: &str, kind: Option<Kind>, parameter: Option<Parameter>
     }
 }
 
+/// Whether they are there, and the parameter stands on a wrong kind of connection.
 pub fn any_misplaced(kind: Option<Kind>, parameter: Option<Parameter>) -> bool
     ensures { result ≡ of_both kind parameter is_misplaced }
 {
@@ -321,6 +332,7 @@ pub fn any_misplaced(kind: Option<Kind>, parameter: Option<Parameter>) -> bool
     }
 }
 
+/// Whether they are there, and a default connection of a host is asked for.
 pub fn any_default(value: &str, kind: Option<Kind>, parameter: Option<Parameter>) -> bool
     ensures { result ≡ of_both kind parameter (λ k p. asks_default k p value.now) }
 {

@@ -31,6 +31,7 @@ impl Model for Links {
 }
 
 impl Links {
+    /// No connection.
     pub fn new(alloc: Global) -> Links
         ensures { result ≡ [] }
     {
@@ -69,6 +70,7 @@ impl Model for Ends {
 }
 
 impl Ends {
+    /// No end.
     pub fn new(alloc: Global) -> Ends
         ensures { result ≡ [] }
     {
@@ -77,6 +79,7 @@ impl Ends {
         }
     }
 
+    /// Whether the end is taken.
     pub fn contains(&self, end: Terminal) -> bool
         ensures { result ≡ list_any (same_end end) self.now }
     {
