@@ -1,45 +1,47 @@
 -- What is shown below a machine that cuts bursts is legal: no burst is under way there but of the one above, and none is longer than may be.
 -- It has the tags and kinds of what is shown above.
-use Rattle.std.proofs.Common.{ℕ, zero, suc, ◌<◌, ◌≤◌, ◌≡◌, ◌+◌, ◌-◌, min, Bool, true, false, not, ◌&&◌, ◌||◌, if◌then◌else◌, arith, refl, sym, ap, ap₂, subst, ◌∙◌, nat_eq, nat_lt, IsTrue, ltb-true, ltb-false}
-use Rattle.std.proofs.lemmas.Bool.{and_parts, not-true, both_ways, le-ltb, eqb-true, eq-eqb, or_left, or_right}
+use Rattle.std.proofs.Common.{ℕ, zero, suc, ◌<◌, ◌≤◌, ◌≡◌, ◌+◌, ◌-◌, ◌*◌, ◌%◌, min, Bool, true, false, not, ◌&&◌, ◌||◌, if◌then◌else◌, arith, refl, sym, ap, ap₂, subst, ◌∙◌, nat_eq, nat_lt, IsTrue, ltb-true, one-mul, add-mul, zero-mul}
+use Rattle.std.proofs.Math.Nat.{add-mul-mod_self_right, zero-mod}
+use Rattle.std.proofs.lemmas.Bool.{and_parts, not-true, both_ways, eqb-true, eq-eqb, or_left, or_right}
 use Rattle.histories.specs.History.{is_raised}
 use Rattle.mm_runs.specs.Views.{Shape, Levels, levels_at}
 use Rattle.mm_runs.specs.Commands.{Burst, shows, is_held, burst_before, burst_after, next_burst, byte_address, Transfer, write_transfer, read_transfer}
 use Rattle.mm_machines.specs.Link.{Port, AreLegalAt, takes}
 use Rattle.mm_machines.specs.Lines.{HandsOn}
 use Rattle.mm_machines.specs.Machines.{Raw, raw_at, IsFitBeat}
-use Rattle.mm_machines.specs.SideLaws.{fit_when_shown, legal_when_shown}
+use Rattle.mm_machines.specs.SideLaws.{legal_when_shown}
 use Rattle.mm_links.specs.Bursts.{BurstState, Rest, is_sending}
-use Rattle.mm_links.specs.Cuts.{RunsAsCut, IsCutPlan, read_burst_of, behind_burst, whole_read, write_of_burst, first_burst}
+use Rattle.mm_links.specs.Cuts.{IsCutPlan, read_burst_of, behind_burst, whole_read, write_of_burst, first_burst}
 use Rattle.mm_links.specs.Selects.{takes_read}
 use Rattle.mm_links.proofs.HandOn.{IsShownFor, hands_on_shown}
-use Rattle.mm_links.proofs.OneBeat.{raw_by}
+use Rattle.mm_links.proofs.OneBeat.{raw_by, aligned, whole_address}
+use Rattle.mm_links.proofs.CutRuns.{Cuts, not_zero, fit_shown, free_at_read, some_left, some_read}
 
 -- a count that is cut has a beat at least, and no more than may be
 cut_least : (longest n : ℕ) → 0 < longest → 0 < n → 1 ≤ min longest n
 cut_least longest n a b = omega arith
 
-module _ (longest : ℕ) (up down : Port) (state : BurstState) (plan : IsCutPlan longest up.shape down.shape) (run : RunsAsCut longest up down state) (end : ℕ) (legal : AreLegalAt up end) where
+module _ (longest : ℕ) (up down : Port) (state : BurstState) (plan : IsCutPlan longest up.shape down.shape) (end : ℕ) (run : Cuts longest up down state end) (legal : AreLegalAt up end) where
   abbrev above : ℕ → Burst
   above c = burst_before up.shape up.commands.signals (takes up) c
 
   abbrev below : ℕ → Burst
   below c = burst_before down.shape down.commands.signals (takes down) c
 
-  burst_is : (c : ℕ) → state.burst c ≡ above c
+  pub burst_is : (c : ℕ) → state.burst c ≡ above c
   burst_is zero = run.burst_begins
   burst_is (suc c) = run.burst_next c ∙ ap (burst_after up.shape (levels_at up.commands.signals c) (takes up c)) (burst_is c)
 
   pub shows_first : (c : ℕ) → is_sending state c ≡ false → shows down.commands.signals c ≡ shows up.commands.signals c
   shows_first c e = run.shown c ∙ ap (λ b. if b then true else shows up.commands.signals c) e
 
-  pub sent_beat : (c : ℕ) → is_sending state c ≡ true → shows down.commands.signals c ≡ true → raw_at down c ≡ read_burst_of longest (state.rest c)
-  sent_beat c e shown = run.beat c shown ∙ ap (λ b. if b then read_burst_of longest (state.rest c) else first_burst longest up.shape (state.burst c) (raw_at up c)) e
+  pub sent_beat : (c : ℕ) → c < end → is_sending state c ≡ true → shows down.commands.signals c ≡ true → raw_at down c ≡ read_burst_of longest (state.rest c)
+  sent_beat c h e shown = run.beat c h shown ∙ ap (λ b. if b then read_burst_of longest (state.rest c) else first_burst longest up.shape (state.burst c) (raw_at up c)) e
 
-  pub first_beat : (c : ℕ) → is_sending state c ≡ false → shows down.commands.signals c ≡ true → (w : Bool) → is_raised (up.commands.write c) ≡ w →
+  pub first_beat : (c : ℕ) → c < end → is_sending state c ≡ false → shows down.commands.signals c ≡ true → (w : Bool) → is_raised (up.commands.write c) ≡ w →
       raw_at down c ≡ (if w then write_of_burst longest up.shape (state.burst c) (raw_at up c) else read_burst_of longest (whole_read up.shape (raw_at up c)))
-  first_beat c e shown w f =
-      run.beat c shown ∙ ap₂ (λ b w. if b then read_burst_of longest (state.rest c) else if w then write_of_burst longest up.shape (state.burst c) (raw_at up c) else read_burst_of longest (whole_read up.shape (raw_at up c))) e f
+  first_beat c h e shown w f =
+      run.beat c h shown ∙ ap₂ (λ b w. if b then read_burst_of longest (state.rest c) else if w then write_of_burst longest up.shape (state.burst c) (raw_at up c) else read_burst_of longest (whole_read up.shape (raw_at up c))) e f
 
   pub takes_first : (c : ℕ) → is_sending state c ≡ false → takes up c ≡ takes down c
   takes_first c e = run.accepts c ∙ ap (λ b. not b && takes down c) e
@@ -50,26 +52,66 @@ module _ (longest : ℕ) (up down : Port) (state : BurstState) (plan : IsCutPlan
   shown_taken : (port : Port) (c : ℕ) → takes port c ≡ true → shows port.commands.signals c ≡ true
   shown_taken port c t = (and_parts (shows port.commands.signals c) (not (is_raised (port.commands.waitrequest c))) t).0
 
-  fit_above : (c : ℕ) → c < end → shows up.commands.signals c ≡ true → IsFitBeat up.shape (above c) (raw_at up c)
-  fit_above c h shown = fit_when_shown up end c legal h shown
+  -- ---- where the next beat of a burst goes
 
-  -- behind a read no write burst is under way above
-  free_at_read : (c : ℕ) → c < end → shows up.commands.signals c ≡ true → is_raised (up.commands.write c) ≡ false → (above c).left ≡ 0
-  free_at_read c h shown w = by_left (nat_lt 0 (above c).left) refl
+  abbrev pub spot : Burst → ℕ
+  spot burst = burst.first + burst.done * up.shape.word_bytes
+
+  first_aligned : (c : ℕ) → (above c).first % up.shape.word_bytes ≡ 0
+  first_aligned zero = zero-mod up.shape.word_bytes
+  first_aligned (suc c) = step (takes up c && is_raised (up.commands.write c)) (nat_eq (above c).left 0) (first_aligned c)
     where
-      reads : (r w : Bool) → r || w ≡ true → w ≡ false → r ≡ true
-      reads true w s e = refl
-      reads false true s e = cc
-      reads false false s e = cc
+      step : (b z : Bool) → (above c).first % up.shape.word_bytes ≡ 0 →
+          (if b then (if z then record { left = up.commands.count c - 1; done = 1; first = byte_address up.shape (up.commands.address c) } else record { left = (above c).left - 1; done = (above c).done + 1; first = (above c).first }) else above c).first % up.shape.word_bytes ≡ 0
+      step false z e = e
+      step true true e = aligned (up.commands.address c * up.shape.unit_bytes) up.shape.word_bytes
+      step true false e = e
 
-      by_left : (b : Bool) → nat_lt 0 (above c).left ≡ b → (above c).left ≡ 0
-      by_left false e = let most = ltb-false 0 (above c).left e in omega (arith, most)
-      by_left true e = absurd (both_ways (is_raised (up.commands.read c)) ((fit_above c h shown).finished e) (reads (is_raised (up.commands.read c)) (is_raised (up.commands.write c)) shown w))
+  -- the address of a whole word is a byte address below
+  pub below_address : (a : ℕ) → a % up.shape.word_bytes ≡ 0 → byte_address down.shape a ≡ a
+  below_address a low =
+      let whole = whole_address a down.shape.unit_bytes down.shape.word_bytes plan.bytes (ap (λ n. a % n) plan.same ∙ low) in
+      let none = zero-mul down.shape.word_bytes in
+      omega (arith, whole, none)
 
-  -- a burst below lies within the one above, and none is under way while a read is sent
-  record Within (c : ℕ) : Type 0 where
+  -- the address of a write beat below
+  abbrev pub address_of : ℕ → ℕ
+  address_of c = if nat_eq (above c).left 0 then byte_address up.shape (up.commands.address c) else (above c).first + (above c).done * up.shape.word_bytes
+
+  pub address_is : (c : ℕ) → byte_address down.shape (address_of c) ≡ address_of c
+  address_is c = below_address (address_of c) (by_free (nat_eq (above c).left 0))
+    where
+      by_free : (b : Bool) → (if b then byte_address up.shape (up.commands.address c) else (above c).first + (above c).done * up.shape.word_bytes) % up.shape.word_bytes ≡ 0
+      by_free true = aligned (up.commands.address c * up.shape.unit_bytes) up.shape.word_bytes
+      by_free false = add-mul-mod_self_right (above c).first (above c).done up.shape.word_bytes ∙ first_aligned c
+
+  after_spot : (shape : Shape) (levels : Levels) (burst : Burst) → spot (next_burst shape levels burst) ≡ (if nat_eq burst.left 0 then byte_address shape levels.address else spot burst) + up.shape.word_bytes
+  after_spot shape levels burst = by_free (nat_eq burst.left 0)
+    where
+      by_free : (b : Bool) → spot (if b then record { left = levels.count - 1; done = 1; first = byte_address shape levels.address } else record { left = burst.left - 1; done = burst.done + 1; first = burst.first })
+          ≡ (if b then byte_address shape levels.address else spot burst) + up.shape.word_bytes
+      by_free true = ap (λ n. byte_address shape levels.address + n) (one-mul up.shape.word_bytes)
+      by_free false =
+          let more = add-mul burst.done 1 up.shape.word_bytes in
+          let one = one-mul up.shape.word_bytes in
+          omega (arith, more, one)
+
+  -- a burst below lies within the one above, at the same place, and none is under way while a read is sent
+  pub record Within (c : ℕ) : Type 0 where
     pub left : (below c).left ≤ (above c).left
+    pub place : nat_eq (below c).left 0 ≡ false → spot (below c) ≡ spot (above c)
     pub free : is_sending state c ≡ true → (above c).left ≡ 0
+
+  pub busy_above : (c : ℕ) → Within c → nat_eq (below c).left 0 ≡ false → nat_eq (above c).left 0 ≡ false
+  busy_above c now k = by_zero (nat_eq (above c).left 0) refl
+    where
+      by_zero : (b : Bool) → nat_eq (above c).left 0 ≡ b → nat_eq (above c).left 0 ≡ false
+      by_zero false g = g
+      by_zero true g =
+          let none = eqb-true (above c).left 0 g in
+          let low = now.left in
+          let some = not_zero (below c).left k in
+          absurd (omega (arith, none, low, some))
 
   -- what is left of a burst after one more of its beats
   after_one : (shape : Shape) (levels : Levels) (burst : Burst) → (next_burst shape levels burst).left ≡ (if nat_eq burst.left 0 then levels.count - 1 else burst.left - 1)
@@ -99,8 +141,8 @@ module _ (longest : ℕ) (up down : Port) (state : BurstState) (plan : IsCutPlan
       ap (λ (r : Rest). nat_lt 0 r.left) (run.rest_next c ∙ ap₂ (λ b t. if b then (if takes down c then behind_burst longest up.shape.word_bytes (state.rest c) else state.rest c)
       else if t then behind_burst longest up.shape.word_bytes (whole_read up.shape (raw_at up c)) else state.rest c) e f) ∙ e
 
-  within : (c : ℕ) → c ≤ end → Within c
-  within zero h = record { left = omega arith; free = λ e. refl }
+  pub within : (c : ℕ) → c ≤ end → Within c
+  within zero h = record { left = omega arith; place = λ e. refl; free = λ e. refl }
   within (suc c) h = by_sends (within c (omega (arith, h))) (is_sending state c) refl
     where
       same_above : takes up c && is_raised (up.commands.write c) ≡ false → above (suc c) ≡ above c
@@ -117,12 +159,13 @@ module _ (longest : ℕ) (up down : Port) (state : BurstState) (plan : IsCutPlan
           let left = now.left in
           record {
             left = subst (λ (l : Burst). l.left ≤ (above (suc c)).left) (sym low_same) (subst (λ (a : Burst). (below c).left ≤ a.left) (sym up_same) left);
+            place = λ on. ap spot low_same ∙ now.place (sym (ap (λ (l : Burst). nat_eq l.left 0) low_same) ∙ on) ∙ ap spot (sym up_same);
             free = λ on. ap (λ (b : Burst). b.left) up_same ∙ free;
           }
         where
           by_take : (t : Bool) → takes down c ≡ t → takes down c && is_raised (down.commands.write c) ≡ false
           by_take false t = ap (λ b. b && is_raised (down.commands.write c)) t
-          by_take true t = ap₂ (λ b w. b && w) t (ap (λ (r : Raw). is_raised r.levels.write) (sent_beat c e (shown_taken down c t)))
+          by_take true t = ap₂ (λ b w. b && w) t (ap (λ (r : Raw). is_raised r.levels.write) (sent_beat c h e (shown_taken down c t)))
       by_sends now false e = by_take (takes up c) refl (is_raised (up.commands.write c)) refl
         where
           by_take : (t : Bool) → takes up c ≡ t → (w : Bool) → is_raised (up.commands.write c) ≡ w → Within (suc c)
@@ -132,33 +175,46 @@ module _ (longest : ℕ) (up down : Port) (state : BurstState) (plan : IsCutPlan
               let left = now.left in
               record {
                 left = subst (λ (l : Burst). l.left ≤ (above (suc c)).left) (sym low_same) (subst (λ (a : Burst). (below c).left ≤ a.left) (sym up_same) left);
+                place = λ on. ap spot low_same ∙ now.place (sym (ap (λ (l : Burst). nat_eq l.left 0) low_same) ∙ on) ∙ ap spot (sym up_same);
                 free = λ on. absurd (both_ways (is_sending state (suc c)) (rest_still c e (ap (λ b. b && not (is_raised (up.commands.write c))) t)) on);
               }
           by_take true t false f =
               let low = sym (takes_first c e) ∙ t in
               let up_same = same_above (ap₂ (λ b w. b && w) t f) in
-              let low_same = same_below (ap₂ (λ b w. b && w) low (ap (λ (r : Raw). is_raised r.levels.write) (first_beat c e (shown_taken down c low) false f))) in
-              let none = free_at_read c h (shown_taken up c t) f in
+              let low_same = same_below (ap₂ (λ b w. b && w) low (ap (λ (r : Raw). is_raised r.levels.write) (first_beat c h e (shown_taken down c low) false f))) in
+              let none = free_at_read up end legal c h (shown_taken up c t) f in
               let left = now.left in
               record {
                 left = subst (λ (l : Burst). l.left ≤ (above (suc c)).left) (sym low_same) (subst (λ (a : Burst). (below c).left ≤ a.left) (sym up_same) left);
+                place = λ on. ap spot low_same ∙ now.place (sym (ap (λ (l : Burst). nat_eq l.left 0) low_same) ∙ on) ∙ ap spot (sym up_same);
                 free = λ on. ap (λ (b : Burst). b.left) up_same ∙ none;
               }
           by_take true t true f =
               let low = sym (takes_first c e) ∙ t in
-              let beat = first_beat c e (shown_taken down c low) true f in
+              let beat = first_beat c h e (shown_taken down c low) true f in
+              let up_is : above (suc c) ≡ next_burst up.shape (levels_at up.commands.signals c) (above c) = ap (λ b. if b then next_burst up.shape (levels_at up.commands.signals c) (above c) else above c) (ap₂ (λ b w. b && w) t f) in
+              let low_is : below (suc c) ≡ next_burst down.shape (levels_at down.commands.signals c) (below c) =
+              ap (λ b. if b then next_burst down.shape (levels_at down.commands.signals c) (below c) else below c) (ap₂ (λ b w. b && w) low (ap (λ (r : Raw). is_raised r.levels.write) beat)) in
               let up_next : (above (suc c)).left ≡ (if nat_eq (above c).left 0 then up.commands.count c - 1 else (above c).left - 1) =
-              ap (λ (b : Burst). b.left) (ap (λ b. if b then next_burst up.shape (levels_at up.commands.signals c) (above c) else above c) (ap₂ (λ b w. b && w) t f)) ∙ after_one up.shape (levels_at up.commands.signals c) (above c) in
+              ap (λ (b : Burst). b.left) up_is ∙ after_one up.shape (levels_at up.commands.signals c) (above c) in
               let count : down.commands.count c ≡ min longest (if nat_eq (above c).left 0 then up.commands.count c else (above c).left) =
               ap (λ (r : Raw). r.levels.count) beat ∙ ap (λ (b : Burst). min longest (if nat_eq b.left 0 then up.commands.count c else b.left)) (burst_is c) in
               let low_next : (below (suc c)).left ≡ (if nat_eq (below c).left 0 then down.commands.count c - 1 else (below c).left - 1) =
-              ap (λ (b : Burst). b.left) (ap (λ b. if b then next_burst down.shape (levels_at down.commands.signals c) (below c) else below c) (ap₂ (λ b w. b && w) low (ap (λ (r : Raw). is_raised r.levels.write) beat))) ∙ after_one down.shape (levels_at down.commands.signals c) (below c) in
+              ap (λ (b : Burst). b.left) low_is ∙ after_one down.shape (levels_at down.commands.signals c) (below c) in
               let few = fewer_left (up.commands.count c) (above c).left (below c).left now.left in
               let low_count = low_next ∙ ap (λ n. if nat_eq (below c).left 0 then n - 1 else (below c).left - 1) count in
               record {
                 left = omega (arith, few, low_count, up_next);
+                place = λ on. ap spot low_is ∙ after_spot down.shape (levels_at down.commands.signals c) (below c) ∙ ap (λ n. n + up.shape.word_bytes) (here (nat_eq (below c).left 0) refl (ap (λ (r : Raw). r.levels.address) beat)) ∙ sym (after_spot up.shape (levels_at up.commands.signals c) (above c)) ∙ ap spot (sym up_is);
                 free = λ on. absurd (both_ways (is_sending state (suc c)) (rest_still c e (ap₂ (λ b w. b && not w) t f)) on);
               }
+            where
+              here : (b : Bool) → nat_eq (below c).left 0 ≡ b → down.commands.address c ≡ (if nat_eq (state.burst c).left 0 then byte_address up.shape (up.commands.address c) else (state.burst c).first + (state.burst c).done * up.shape.word_bytes) →
+                  (if nat_eq (below c).left 0 then byte_address down.shape (down.commands.address c) else spot (below c)) ≡ (if nat_eq (above c).left 0 then byte_address up.shape (up.commands.address c) else spot (above c))
+              here true k shown =
+                  ap (λ b. if b then byte_address down.shape (down.commands.address c) else spot (below c)) k
+                  ∙ ap (byte_address down.shape) (shown ∙ ap (λ (b : Burst). if nat_eq b.left 0 then byte_address up.shape (up.commands.address c) else b.first + b.done * up.shape.word_bytes) (burst_is c)) ∙ address_is c
+              here false k shown = ap (λ b. if b then byte_address down.shape (down.commands.address c) else spot (below c)) k ∙ now.place k ∙ ap (λ b. if b then byte_address up.shape (up.commands.address c) else spot (above c)) (sym (busy_above c now k))
 
   -- ---- each beat is fit
 
@@ -172,14 +228,33 @@ module _ (longest : ℕ) (up down : Port) (state : BurstState) (plan : IsCutPlan
           let one = eqb-true u 1 g in
           let more : 0 < l = not_zero l f in
           eq-eqb l 1 (omega (arith, one, more, low))
-        where
-          not_zero : (n : ℕ) → nat_eq n 0 ≡ false → 0 < n
-          not_zero zero k = cc
-          not_zero (suc n) k = omega arith
       by_zero true e false f g =
           let none = eqb-true u 0 e in
           let zero_too : l ≡ 0 = omega (arith, none, low) in
           absurd (both_ways (nat_eq l 0) f (eq-eqb l 0 zero_too))
+
+  -- a write beat below ends its burst, or `more` joins it to the next
+  pub ends_or_joined : (c : ℕ) → c < end → shows up.commands.signals c ≡ true → is_raised (up.commands.write c) ≡ true →
+      (write_transfer down.shape (write_of_burst longest up.shape (state.burst c) (raw_at up c)).levels (below c)).ends || is_raised (up.commands.more c) ≡ true
+  ends_or_joined c h shown f =
+      ap (λ (b : Burst). (write_transfer down.shape (write_of_burst longest up.shape b (raw_at up c)).levels (below c)).ends || is_raised (up.commands.more c)) (burst_is c)
+      ∙ by_ends (if nat_eq (above c).left 0 then nat_eq (up.commands.count c) 1 else nat_eq (above c).left 1) refl upper
+    where
+      now : Within c
+      now = within c (omega (arith, h))
+
+      ends_in : Transfer → Bool
+      ends_in t = t.ends
+
+      upper : (if nat_eq (above c).left 0 then nat_eq (up.commands.count c) 1 else nat_eq (above c).left 1) || is_raised (up.commands.more c) ≡ true
+      upper =
+          ap (λ w. ends_in (if w then write_transfer up.shape (levels_at up.commands.signals c) (above c) else read_transfer up.shape (levels_at up.commands.signals c)) || is_raised (up.commands.more c)) (sym f)
+          ∙ (fit_shown up end legal c h shown).joined
+
+      by_ends : (b : Bool) → (if nat_eq (above c).left 0 then nat_eq (up.commands.count c) 1 else nat_eq (above c).left 1) ≡ b → b || is_raised (up.commands.more c) ≡ true →
+          (if nat_eq (below c).left 0 then nat_eq (min longest (if nat_eq (above c).left 0 then up.commands.count c else (above c).left)) 1 else nat_eq (below c).left 1) || is_raised (up.commands.more c) ≡ true
+      by_ends true g k = or_left _ (is_raised (up.commands.more c)) (ends_too (up.commands.count c) (above c).left (below c).left now.left g)
+      by_ends false g k = or_right _ (is_raised (up.commands.more c)) k
 
   no_busy : (c : ℕ) → Within c → (above c).left ≡ 0 → IsTrue (nat_lt 0 (below c).left) → ⊥
   no_busy c now none busy = let some = ltb-true 0 (below c).left busy in let left = now.left in omega (arith, some, left, none)
@@ -200,55 +275,25 @@ module _ (longest : ℕ) (up down : Port) (state : BurstState) (plan : IsCutPlan
       now = within c (omega (arith, h))
 
       by_sends : (b : Bool) → is_sending state c ≡ b → IsFitBeat down.shape (below c) (raw_at down c)
-      by_sends true e = subst (IsFitBeat down.shape (below c)) (sym (sent_beat c e shown)) (fit_read c (state.rest c) (ltb-true 0 (state.rest c).left e) now (now.free e))
+      by_sends true e = subst (IsFitBeat down.shape (below c)) (sym (sent_beat c h e shown)) (fit_read c (state.rest c) (ltb-true 0 (state.rest c).left e) now (now.free e))
       by_sends false e = by_write (is_raised (up.commands.write c)) refl
         where
           there : shows up.commands.signals c ≡ true
           there = sym (shows_first c e) ∙ shown
 
-          fit : IsFitBeat up.shape (above c) (raw_at up c)
-          fit = fit_above c h there
-
-          some_left : 0 < (if nat_eq (above c).left 0 then up.commands.count c else (above c).left)
-          some_left = by_zero (nat_eq (above c).left 0) refl
-            where
-              by_zero : (z : Bool) → nat_eq (above c).left 0 ≡ z → 0 < (if z then up.commands.count c else (above c).left)
-              by_zero true f = let none = eqb-true (above c).left 0 f in let least = fit.least (le-ltb 0 (above c).left (omega (arith, none))) in omega (arith, least)
-              by_zero false f = not_zero (above c).left f
-                where
-                  not_zero : (n : ℕ) → nat_eq n 0 ≡ false → 0 < n
-                  not_zero zero k = cc
-                  not_zero (suc n) k = omega arith
-
           by_write : (w : Bool) → is_raised (up.commands.write c) ≡ w → IsFitBeat down.shape (below c) (raw_at down c)
           by_write false f =
-              let none = free_at_read c h there f in
-              let some : 0 < up.commands.count c = (let least = fit.least (le-ltb 0 (above c).left (omega (arith, none))) in omega (arith, least)) in
-              subst (IsFitBeat down.shape (below c)) (sym (first_beat c e shown false f)) (fit_read c (whole_read up.shape (raw_at up c)) some now none)
+              let none = free_at_read up end legal c h there f in
+              let some = some_read up end legal c h there f in
+              subst (IsFitBeat down.shape (below c)) (sym (first_beat c h e shown false f)) (fit_read c (whole_read up.shape (raw_at up c)) some now none)
           by_write true f =
-              subst (IsFitBeat down.shape (below c)) (sym (first_beat c e shown true f ∙ ap (λ b. write_of_burst longest up.shape b (raw_at up c)) (burst_is c))) (record {
+              subst (IsFitBeat down.shape (below c)) (sym (first_beat c h e shown true f ∙ ap (λ b. write_of_burst longest up.shape b (raw_at up c)) (burst_is c))) (record {
                 one_kind = refl;
-                least = λ free. cut_least longest (if nat_eq (above c).left 0 then up.commands.count c else (above c).left) plan.least some_left;
+                least = λ free. cut_least longest (if nat_eq (above c).left 0 then up.commands.count c else (above c).left) plan.least (some_left up end legal c h there);
                 most = λ free. (let most = plan.most in omega (arith, most));
                 finished = λ busy. refl;
-                joined = joined;
+                joined = subst (λ b. (write_transfer down.shape (write_of_burst longest up.shape b (raw_at up c)).levels (below c)).ends || is_raised (up.commands.more c) ≡ true) (burst_is c) (ends_or_joined c h there f);
               })
-            where
-              ends_in : Transfer → Bool
-              ends_in t = t.ends
-
-              upper : (if nat_eq (above c).left 0 then nat_eq (up.commands.count c) 1 else nat_eq (above c).left 1) || is_raised (up.commands.more c) ≡ true
-              upper =
-                  ap (λ w. ends_in (if w then write_transfer up.shape (levels_at up.commands.signals c) (above c) else read_transfer up.shape (levels_at up.commands.signals c)) || is_raised (up.commands.more c)) (sym f)
-                  ∙ fit.joined
-
-              joined : (if nat_eq (below c).left 0 then nat_eq (min longest (if nat_eq (above c).left 0 then up.commands.count c else (above c).left)) 1 else nat_eq (below c).left 1) || is_raised (up.commands.more c) ≡ true
-              joined = by_ends (if nat_eq (above c).left 0 then nat_eq (up.commands.count c) 1 else nat_eq (above c).left 1) refl upper
-                where
-                  by_ends : (b : Bool) → (if nat_eq (above c).left 0 then nat_eq (up.commands.count c) 1 else nat_eq (above c).left 1) ≡ b → b || is_raised (up.commands.more c) ≡ true →
-                      (if nat_eq (below c).left 0 then nat_eq (min longest (if nat_eq (above c).left 0 then up.commands.count c else (above c).left)) 1 else nat_eq (below c).left 1) || is_raised (up.commands.more c) ≡ true
-                  by_ends true g k = or_left _ (is_raised (up.commands.more c)) (ends_too (up.commands.count c) (above c).left (below c).left now.left g)
-                  by_ends false g k = or_right _ (is_raised (up.commands.more c)) k
 
   held_on : (c : ℕ) → suc c < end → is_held down.commands.signals (takes down) c ≡ true → raw_at down c ≡ raw_at down (suc c)
   held_on c h held = by_sends (is_sending state c) refl
@@ -272,7 +317,7 @@ module _ (longest : ℕ) (up down : Port) (state : BurstState) (plan : IsCutPlan
       by_sends true e =
           let rest = rest_same true e (ap (λ t. t && not (is_raised (up.commands.write c))) (waits_sending c e)) in
           let next : is_sending state (suc c) ≡ true = ap (λ (r : Rest). nat_lt 0 r.left) rest ∙ e in
-          sent_beat c e parts.0 ∙ ap (read_burst_of longest) (sym rest) ∙ sym (sent_beat (suc c) next (run.shown (suc c) ∙ ap (λ b. if b then true else shows up.commands.signals (suc c)) next))
+          sent_beat c (omega (arith, h)) e parts.0 ∙ ap (read_burst_of longest) (sym rest) ∙ sym (sent_beat (suc c) h next (run.shown (suc c) ∙ ap (λ b. if b then true else shows up.commands.signals (suc c)) next))
       by_sends false e =
           let above_shown = sym (shows_first c e) ∙ parts.0 in
           let not_up = takes_first c e ∙ not_taken in
@@ -283,7 +328,7 @@ module _ (longest : ℕ) (up down : Port) (state : BurstState) (plan : IsCutPlan
           let next = rest_still c e (ap (λ t. t && not (is_raised (up.commands.write c))) not_up) in
           let burst : state.burst (suc c) ≡ state.burst c = run.burst_next c ∙ ap (λ t. burst_after up.shape (levels_at up.commands.signals c) t (state.burst c)) not_up in
           let later : shows down.commands.signals (suc c) ≡ true = shows_first (suc c) next ∙ ap (λ (l : Levels). is_raised l.read || is_raised l.write) (sym levels) ∙ above_shown in
-          first_beat c e parts.0 (is_raised (up.commands.write c)) refl ∙ ap₂ (λ b r. first_burst longest up.shape b r) (sym burst) same ∙ sym (first_beat (suc c) next later (is_raised (up.commands.write (suc c))) refl)
+          first_beat c (omega (arith, h)) e parts.0 (is_raised (up.commands.write c)) refl ∙ ap₂ (λ b r. first_burst longest up.shape b r) (sym burst) same ∙ sym (first_beat (suc c) h next later (is_raised (up.commands.write (suc c))) refl)
 
   pub cut_legal : AreLegalAt down end
   cut_legal = legal_when_shown down.shape down.commands down.answers end fit_below held_on
@@ -347,7 +392,7 @@ module _ (longest : ℕ) (up down : Port) (state : BurstState) (plan : IsCutPlan
           let there = sent_for c e in
           let is = there.1 in
           let before = is.before in
-          let beat = sent_beat c e shown in (
+          let beat = sent_beat c low e shown in (
             there.0,
             record {
               by_then = omega (arith, before);
@@ -364,7 +409,7 @@ module _ (longest : ℕ) (up down : Port) (state : BurstState) (plan : IsCutPlan
 
           by_write : (w : Bool) → is_raised (up.commands.write c) ≡ w → IsShownFor up down c c
           by_write true f =
-              let beat = first_beat c e shown true f in
+              let beat = first_beat c low e shown true f in
               record {
                 by_then = omega arith;
                 shown = there;
@@ -373,7 +418,7 @@ module _ (longest : ℕ) (up down : Port) (state : BurstState) (plan : IsCutPlan
                 writes = ap (λ (r : Raw). is_raised r.levels.write) beat ∙ sym f;
               }
           by_write false f =
-              let beat = first_beat c e shown false f in
+              let beat = first_beat c low e shown false f in
               record {
                 by_then = omega arith;
                 shown = there;

@@ -11,7 +11,7 @@ use Rattle.mm_machines.specs.PartRanks.{JoinsAlike, HoldsBack, held_back, are_jo
 use Rattle.mm_machines.specs.SideLaws.{all_reached, total_append}
 use Rattle.mm_links.specs.Drops.{DropState, RunsAsDrop, IsDropPlan}
 use Rattle.mm_links.proofs.Alike.{IsAlike, AllAlike, have_operations, alike_operations, alike_items, alike_sizes, alike_tagged, alike_joins}
-use Rattle.mm_links.proofs.BurstLists.{within_front}
+use Rattle.mm_links.proofs.CutLists.{within_front}
 use Rattle.mm_links.proofs.DropJoins.{alike_below, after_closed}
 use Rattle.mm_links.proofs.DropLists.{sum, acts_of, same_sum, all_within, fewer_tagged, same_items, few_left, few_unreached, few_held, sent_after, kept_after}
 use Rattle.mm_links.proofs.DropShown.{drop_legal, one_shown}

@@ -12,7 +12,7 @@ use Rattle.mm_machines.specs.Machines.{Raw, raw_at, raws}
 use Rattle.mm_machines.specs.PartRanks.{JoinsAlike, are_joined_alike}
 use Rattle.mm_machines.specs.SideLaws.{taken_is_shown}
 use Rattle.mm_links.specs.Drops.{DropState, RunsAsDrop, IsDropPlan, Standing, standing_at, any_lane, sends, accepted, keeps, released, sent_beat}
-use Rattle.mm_links.proofs.BurstSteps.{or_nil}
+use Rattle.mm_links.proofs.CutLists.{or_nil}
 use Rattle.mm_links.proofs.DropJoins.{AllEnd, after_closed, dropped, kept_is_open}
 use Rattle.mm_links.proofs.DropJoins.Stands.{free}
 use Rattle.mm_links.proofs.DropLists.{acts, writes, last_one, kept_by, sent_by, kept_past, sent_past, kept_after, sent_after, kept_push, sent_push, sent_append, Drops, AllKept, still_kept}

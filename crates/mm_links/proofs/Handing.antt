@@ -3,13 +3,11 @@ use Rattle.std.proofs.Common.{ℕ, suc, ◌<◌, ◌≤◌, ◌≡◌, ◌+◌, 
 use Rattle.std.proofs.lemmas.Bool.{and_parts, or_left, or_right, eqb-true, both_ways}
 use Rattle.std.proofs.lemmas.List.{length-map}
 use Rattle.histories.specs.History.{is_raised}
-use Rattle.mm_runs.specs.Commands.{shows, byte_address}
-use Rattle.mm_machines.specs.Link.{Target, Port, Marked, AreLegalAt, takes, marked_at, taken_at, closes, operations_among, operations_in, is_nonempty}
+use Rattle.mm_runs.specs.Commands.{shows}
+use Rattle.mm_machines.specs.Link.{Target, Port, Marked, AreLegalAt, takes, marked_at, taken_at, operations_among, operations_in, is_nonempty}
 use Rattle.mm_machines.specs.Machines.{Raw, raw_at, raws, MaySplit}
 use Rattle.mm_machines.specs.PartRanks.{JoinsAlike}
 use Rattle.mm_links.specs.Passes.{ShowsWrite, PassesAtOnce, PassesActs, AcceptsActs, has_operation, acting}
-use Rattle.mm_links.specs.Bursts.{BurstState, RunsAsBurst, IsBurstPlan, is_sending, head_or, write_beat_of, reads_from}
-use Rattle.mm_links.specs.Cuts.{RunsAsCut}
 use Rattle.mm_links.specs.Drops.{DropState, RunsAsDrop, IsDropPlan, accepted, standing_at}
 use Rattle.mm_links.specs.Selects.{RunsAsSelect, IsSelectPlan, EnablesFit, is_shut, takes_read}
 use Rattle.mm_links.specs.Splits.{SplitState, RunsAsSplit, split_at, opens, completes}
@@ -21,8 +19,6 @@ use Rattle.mm_links.proofs.Gather.{HasPieces}
 use Rattle.mm_links.proofs.Lanes.{SelectsBeats}
 use Rattle.mm_links.proofs.OneBeat.{flat_mark, flat_at, count_is_one}
 use Rattle.mm_links.proofs.Selecting.{takes_same, shows_same, shut_reads, writes_below, alike}
-use Rattle.mm_links.proofs.BurstParts.{shows_same as shows_same_beat, beat_first}
-use Rattle.mm_links.proofs.BurstLink.{legal_below, one_shown}
 use Rattle.mm_links.proofs.SplitPrompt.{parts_sizes, some_in}
 
 pub select_passes : (law : SelectsBeats) (target : Target) (up down : Port) (many room : ℕ) (offsets : ℕ → List ℕ) → IsSelectPlan target up.shape down.shape many → 1 < room → RunsAsSelect room up down offsets → (end : ℕ) → PassesAtOnce up down end
@@ -31,16 +27,11 @@ select_passes law target up down many room offsets plan deep run end = record {
   words = λ c h given. ap is_raised (sym (run.valid c)) ∙ given;
 }
 
-pub burst_passes : (up down : Port) (state : BurstState) → RunsAsBurst up down state → (end : ℕ) → PassesAtOnce up down end
-burst_passes up down state run end = record {
-  beats = λ c h taken. (and_parts (not (is_sending state c)) (takes down c) (sym (run.accepts c) ∙ taken)).1;
-  words = λ c h given. ap is_raised (sym (run.valid c)) ∙ given;
-}
-
-pub cut_passes : (longest : ℕ) (up down : Port) (state : BurstState) → RunsAsCut longest up down state → (end : ℕ) → PassesAtOnce up down end
-cut_passes longest up down state run end = record {
-  beats = λ c h taken. (and_parts (not (is_sending state c)) (takes down c) (sym (run.accepts c) ∙ taken)).1;
-  words = λ c h given. ap is_raised (sym (run.valid c)) ∙ given;
+-- a cutter of bursts accepts while it sends no read by itself, and its answers are wires
+pub cutter_passes : (up down : Port) (sends : ℕ → Bool) → ((c : ℕ) → takes up c ≡ not (sends c) && takes down c) → ((c : ℕ) → up.answers.valid c ≡ down.answers.valid c) → (end : ℕ) → PassesAtOnce up down end
+cutter_passes up down sends accepts valid end = record {
+  beats = λ c h taken. (and_parts (not (sends c)) (takes down c) (sym (accepts c) ∙ taken)).1;
+  words = λ c h given. sym (ap is_raised (valid c)) ∙ given;
 }
 
 pub split_passes : (law : HasPieces) (target : Target) (room count : ℕ) (up down : Port) (state : SplitState) → MaySplit target up.shape down.shape count → RunsAsSplit room up down state → (end : ℕ) → AreLegalAt up end → AcceptsActs target up end → PassesAtOnce up down end
@@ -77,18 +68,6 @@ select_shows_writes law target up down many room offsets plan deep run end fit l
     by_shut : (b : Bool) → is_shut room up offsets c ≡ b → is_shut room up offsets c ≡ false
     by_shut false e = e
     by_shut true e = absurd (both_ways (is_raised (up.commands.write c)) (shut_reads law target up down many room offsets plan deep run c e) write)
-
-pub burst_shows_writes : (target : Target) (up down : Port) (state : BurstState) → IsBurstPlan up.shape down.shape → RunsAsBurst up down state → (end : ℕ) → AreLegalAt up end → (c : ℕ) → c < end → is_sending state c ≡ false → ShowsWrite up down c
-burst_shows_writes target up down state plan run end legal c h idle shown write ends =
-    let there = shows_same_beat up down state run c idle ∙ shown in
-    let beat = beat_first up down state run c idle there
-    ∙ ap (λ w. head_or (raw_at up c) (if w then write_beat_of up.shape (state.burst c) (raw_at up c) ∷ [] else reads_from up.shape.word_bytes (raw_at up c) (byte_address up.shape (up.commands.address c)) (up.commands.count c))) write in
-    let flat = flat_at down end (legal_below target up down state plan run end legal) (one_shown target up down state plan run end legal) c h there in
-    let closed = (and_parts (marked_at up c).transfer.ends (not (is_raised (up.commands.more c))) ends).1 in (
-      there,
-      ap (λ (r : Raw). is_raised r.levels.write) beat,
-      ap closes flat ∙ ap (λ (r : Raw). not (is_raised r.more)) beat ∙ closed,
-    )
 
 -- ---- what drops beats
 

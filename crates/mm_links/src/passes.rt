@@ -5,7 +5,7 @@ ghost use Rattle.mm_machines.specs.Link.{Target, Port, AreLegalAt};
 ghost use Rattle.mm_machines.specs.Machines.{MaySplit};
 ghost use Rattle.mm_machines.specs.PartRanks.{JoinsAlike};
 ghost use Rattle.mm_links.specs.Bursts.{BurstState, RunsAsBurst, IsBurstPlan, is_sending};
-ghost use Rattle.mm_links.specs.Cuts.{RunsAsCut};
+ghost use Rattle.mm_links.specs.Cuts.{RunsAsCut, IsCutPlan};
 ghost use Rattle.mm_links.specs.Drops.{DropState, RunsAsDrop, IsDropPlan};
 ghost use Rattle.mm_links.specs.Passes.{ShowsWrite, PassesAtOnce, PassesActs, AcceptsActs};
 ghost use Rattle.mm_links.specs.Selects.{RunsAsSelect, IsSelectPlan, EnablesFit};
@@ -31,11 +31,13 @@ pub fn drop_passes_others()
         → RunsAsDrop room up down state → AreLegalAt up end → JoinsAlike target up end → PassesActs 1 target up down end }
 {}
 
-/// A lane selector shows each write beat that ends its command below as such a beat. A cutter of bursts does while it sends no read by itself.
+/// A lane selector shows each write beat that ends its command below as such a beat. The cutters of bursts do while they send no read by themselves.
 pub fn links_show_writes()
     ensures select { (target : Target) (up down : Port) (many room : ℕ) (offsets : ℕ → List ℕ) → IsSelectPlan target up.shape down.shape many
         → 1 < room → RunsAsSelect room up down offsets → (end : ℕ) → EnablesFit up end → AreLegalAt up end → (c : ℕ) → c < end → ShowsWrite up down c }
     ensures burst { (target : Target) (up down : Port) (state : BurstState) → IsBurstPlan up.shape down.shape → RunsAsBurst up down state
+        → (end : ℕ) → AreLegalAt up end → (c : ℕ) → c < end → is_sending state c ≡ false → ShowsWrite up down c }
+    ensures cut { (target : Target) (longest : ℕ) (up down : Port) (state : BurstState) → IsCutPlan longest up.shape down.shape → RunsAsCut longest up down state
         → (end : ℕ) → AreLegalAt up end → (c : ℕ) → c < end → is_sending state c ≡ false → ShowsWrite up down c }
 {
     mm_machines::machines::beat_is_selected()

@@ -1,4 +1,5 @@
-use Rattle.mm_links.proofs.Handing.{select_passes, burst_passes, cut_passes, split_passes}
+use Rattle.mm_links.specs.Bursts.{is_sending}
+use Rattle.mm_links.proofs.Handing.{select_passes, cutter_passes, split_passes}
 use Rattle.mm_links.proofs.passes.links_pass_at_once.Goals as goal
 
 pub returns-clause-select : goal.returns-clause-select
@@ -6,10 +7,10 @@ returns-clause-select c = λ target up down many room offsets plan deep run end.
     select_passes (λ narrow wide target span may beat lies. c.beat_is_selected.ensures narrow wide target span may beat lies) target up down many room offsets plan deep run end
 
 pub returns-clause-burst : goal.returns-clause-burst
-returns-clause-burst c = burst_passes
+returns-clause-burst c = λ up down state run end. cutter_passes up down (is_sending state) run.accepts run.valid end
 
 pub returns-clause-cut : goal.returns-clause-cut
-returns-clause-cut c = cut_passes
+returns-clause-cut c = λ longest up down state run end. cutter_passes up down (is_sending state) run.accepts run.valid end
 
 pub returns-clause-split : goal.returns-clause-split
 returns-clause-split c = λ target room count up down state may run end legal act. split_passes c.beat_is_pieces.ensures target room count up down state may run end legal act

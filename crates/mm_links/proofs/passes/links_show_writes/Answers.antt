@@ -1,4 +1,5 @@
-use Rattle.mm_links.proofs.Handing.{select_shows_writes, burst_shows_writes}
+use Rattle.mm_links.proofs.CutParts.{burst_shows_writes, cut_shows_writes}
+use Rattle.mm_links.proofs.Handing.{select_shows_writes}
 use Rattle.mm_links.proofs.passes.links_show_writes.Goals as goal
 
 pub returns-clause-select : goal.returns-clause-select
@@ -7,3 +8,6 @@ returns-clause-select c = λ target up down many room offsets plan deep run end 
 
 pub returns-clause-burst : goal.returns-clause-burst
 returns-clause-burst c = burst_shows_writes
+
+pub returns-clause-cut : goal.returns-clause-cut
+returns-clause-cut c = cut_shows_writes

@@ -1,0 +1,102 @@
+-- A cutter of bursts goes in step with the links beside it.
+use Rattle.std.proofs.Common.{ℕ, ◌<◌, ◌≤◌, ◌≡◌, Bool, true, false, not, ◌&&◌, List, arith, refl, sym, ap, ap₂, ◌∙◌, length, nat_eq, IsTrue, le-leb, leb-true}
+use Rattle.std.specs.List.{list_any}
+use Rattle.std.proofs.lemmas.Bool.{and_parts, both_ways}
+use Rattle.histories.specs.History.{numbers}
+use Rattle.histories.specs.Laws.{prefix_flat_map, prefix_length}
+use Rattle.mm_runs.specs.Operations.{Beat, is_enabled}
+use Rattle.mm_runs.specs.Commands.{shows}
+use Rattle.mm_machines.specs.Link.{Target, Port, AnswersAreOwed, takes, marked_at, taken_at, operations_among, operations_in, is_nonempty, closes, words_at, read_beats, is_last_joined}
+use Rattle.mm_machines.specs.Straight.{begins_alone, has_lane, earlier_shown, shows_plain, is_plain}
+use Rattle.mm_links.specs.InStep.{GoesInStep, is_next}
+use Rattle.mm_links.proofs.CutLists.{IsPartOf, all_operations, more_below}
+use Rattle.mm_links.proofs.CutLink.{Cutting, IsOnePart, one_part, first_is, steps, taken_front, up_steps, all_sent, shows_same, waits_sending, takes_same, all_gone, words_same, reads_front, same_taken}
+use Rattle.mm_links.proofs.InStep.{earlier_is, both, of_next}
+use Rattle.mm_links.proofs.CutStraight.{IsPlainAt, plain_at, idle_when_given, goes_through}
+
+module _ (target : Target) (up down : Port) (end : ℕ) (cut : Cutting target up down end) (owed : AnswersAreOwed down end) where
+  after : (c : ℕ) → c ≤ end → length (operations_among target down.shape (taken_at down c)) ≤ length (operations_among target up.shape (taken_at up c))
+  after c h =
+      let fewer = prefix_length (prefix_flat_map (operations_in target up.shape) (taken_front target up down end cut c h)) in
+      let taken = ap length (same_taken target up down end cut c) in
+      let whole = ap length (all_operations target up.shape (steps target up down end cut c) (all_sent target up down end cut c h)) in
+      let above = ap (λ l. length (operations_among target up.shape l)) (up_steps target up down end cut c) in
+      omega (arith, fewer, taken, whole, above)
+
+  plain_below : (c : ℕ) → c < end → IsTrue (shows_plain up c) → cut.sends c ≡ false → IsTrue (shows_plain down c)
+  plain_below c h plain idle = both there (both (both (both alone closed) single) lanes)
+    where
+      p : IsPlainAt target up down end cut owed c
+      p = plain_at target up down end cut owed c plain
+
+      there : shows down.commands.signals c ≡ true
+      there = shows_same target up down end cut c idle ∙ p.shown
+
+      one : IsOnePart (marked_at up c) (marked_at down c) (cut.behind c)
+      one = one_part target up down end cut c h idle p.shown p.one
+
+      part : IsPartOf target up.shape (marked_at up c) (marked_at down c)
+      part = first_is target up down end cut c h idle p.shown
+
+      is_up : IsTrue (is_plain up.shape (earlier_shown up c) (marked_at up c))
+      is_up = (and_parts (shows up.commands.signals c) (is_plain up.shape (earlier_shown up c) (marked_at up c)) plain).1
+
+      fronts : IsTrue (begins_alone (earlier_shown up c) (marked_at up c) && closes (marked_at up c) && nat_eq (length (marked_at up c).transfer.beats) 1) × IsTrue (has_lane up.shape (marked_at up c))
+      fronts = and_parts (begins_alone (earlier_shown up c) (marked_at up c) && closes (marked_at up c) && nat_eq (length (marked_at up c).transfer.beats) 1) (has_lane up.shape (marked_at up c)) is_up
+
+      three : IsTrue (begins_alone (earlier_shown up c) (marked_at up c) && closes (marked_at up c)) × IsTrue (nat_eq (length (marked_at up c).transfer.beats) 1)
+      three = and_parts (begins_alone (earlier_shown up c) (marked_at up c) && closes (marked_at up c)) (nat_eq (length (marked_at up c).transfer.beats) 1) fronts.0
+
+      two : IsTrue (begins_alone (earlier_shown up c) (marked_at up c)) × IsTrue (closes (marked_at up c))
+      two = and_parts (begins_alone (earlier_shown up c) (marked_at up c)) (closes (marked_at up c)) three.0
+
+      begins : IsTrue (marked_at up c).transfer.begins × IsTrue (not (is_last_joined (earlier_shown up c)))
+      begins = and_parts (marked_at up c).transfer.begins (not (is_last_joined (earlier_shown up c))) two.0
+
+      joined : is_last_joined (earlier_shown down c) ≡ is_last_joined (earlier_shown up c)
+      joined =
+          ap is_last_joined (earlier_is down end cut.legal_below c h there ∙ all_gone target up down end cut c (omega (arith, h)) idle)
+          ∙ more_below target up.shape (steps target up down end cut c) (all_sent target up down end cut c (omega (arith, h)))
+          ∙ ap is_last_joined (sym (up_steps target up down end cut c) ∙ sym (earlier_is up end cut.legal c h p.shown))
+
+      alone : IsTrue (begins_alone (earlier_shown down c) (marked_at down c))
+      alone = both (cut.alone c h idle p.shown begins.0) (ap not joined ∙ begins.1)
+
+      closed : IsTrue (closes (marked_at down c))
+      closed = part.closes_so ∙ ap not one.more ∙ (and_parts (marked_at up c).transfer.ends (not (marked_at up c).more) two.1).1
+
+      single : IsTrue (nat_eq (length (marked_at down c).transfer.beats) 1)
+      single = ap (λ (l : List Beat). nat_eq (length l) 1) one.beats ∙ three.1
+
+      lanes : IsTrue (has_lane down.shape (marked_at down c))
+      lanes = ap₂ (λ (l : List Beat) n. list_any (λ (b : Beat). list_any (is_enabled b.enables) (numbers 0 n)) l) one.beats cut.same ∙ fronts.1
+
+  idle_next : (c : ℕ) → c < end → IsTrue (is_next false target up down c) → cut.sends c ≡ false
+  idle_next c h next =
+      let is = of_next false target up down c next in
+      let p = plain_at target up down end cut owed c is.plain in
+      let given = leb-true (length (read_beats (earlier_shown up c))) (length (words_at up c)) is.given in
+      let same = ap (λ l. length (read_beats l)) (earlier_is up end cut.legal c h p.shown) in
+      idle_when_given target up down end cut owed c h (omega (arith, given, same))
+
+  idle_taken : (c : ℕ) → takes up c ≡ true → cut.sends c ≡ false
+  idle_taken c taken = by_sends (cut.sends c) refl
+    where
+      by_sends : (b : Bool) → cut.sends c ≡ b → cut.sends c ≡ false
+      by_sends false e = e
+      by_sends true e = absurd (both_ways (takes up c) (waits_sending target up down end cut c e) taken)
+
+  pub cut_in_step : GoesInStep false target up down end
+  cut_in_step = record {
+    accepts = after;
+    full = λ c h next shown.
+        let is = of_next false target up down c next in
+        ap is_nonempty (goes_through target up down end cut owed c h (plain_at target up down end cut owed c is.plain) (idle_next c h next)).1 ∙ is.acts;
+    plain = λ c h next. plain_below c h (of_next false target up down c next).plain (idle_next c h next);
+    at_once = λ c h plain taken. (let idle = idle_taken c taken in (plain_below c h plain idle, sym (takes_same target up down end cut c idle) ∙ taken));
+    quiet = λ c h answered.
+        let fewer = prefix_length (reads_front target up down end cut c h) in
+        let words = ap length (words_same target up down end cut c) in
+        let given = leb-true (length (read_beats (taken_at up c))) (length (words_at up c)) answered in
+        le-leb (length (read_beats (taken_at down c))) (length (words_at down c)) (omega (arith, fewer, words, given));
+  }
