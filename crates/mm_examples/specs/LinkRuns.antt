@@ -278,6 +278,43 @@ two_pairs = byte_bursts (pair_shape 1) (1 ∷ 1 ∷ []) (2 ∷ 2 ∷ [])
 abbrev pub uncut : Port
 uncut = byte_bursts (pair_shape 1) (1 ∷ []) (4 ∷ [])
 
+-- the read is accepted with its last burst, but its first word comes before
+abbrev pub slow_bytes : Port
+slow_bytes = record {
+  shape = four_bytes.shape;
+  commands = record {
+    signals = record four_bytes.commands.signals { read = signal (1 ∷ 1 ∷ []) };
+    more = always 0;
+    tag = always 0;
+    waitrequest = signal (1 ∷ []);
+  };
+  answers = record { valid = signal (0 ∷ 1 ∷ []); word = always 9; code = always 0 };
+}
+
+-- two joined bursts, the second of which begins a word too early
+abbrev pub near_pairs : Port
+near_pairs = record {
+  shape = two_pairs.shape;
+  commands = record {
+    signals = record two_pairs.commands.signals { address = signal (2 ∷ 3 ∷ []) };
+    more = signal (1 ∷ []);
+    tag = always 0;
+    waitrequest = always 0;
+  };
+  answers = two_pairs.answers;
+}
+
+-- a read of four bytes without an enabled lane, and behind it a plain write, which comes while the second burst of the read is sent
+abbrev pub behind_pairs : CutInputs
+behind_pairs = record {
+  longest = 2;
+  bursts = record {
+    shape = behind_empty.shape;
+    below = pair_shape 1;
+    inputs = record behind_empty.inputs { signals = record behind_empty.inputs.signals { count = signal (4 ∷ 1 ∷ []) } };
+  };
+}
+
 -- ---- what keeps beats without a lane from an agent
 
 -- a joined write to 8, 12, 16 and 20, of which 12 and 20 have no lane; then reads of 8, 12 and 16, of which 12 has none.

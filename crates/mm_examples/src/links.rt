@@ -11,7 +11,7 @@ ghost use Rattle.mm_links.specs.Pipes.{side_of};
 ghost use Rattle.mm_examples.specs.LinkRuns.{two_writes, hides_wait, shows_twice, selecting, lane_target, read_port, three_writes, stalled_writes, tagged_port, stage_top, newer_first, answered_at_once, accepts_early, gathering, empty_writes, byte_lanes, byte_reads, swaps_bytes};
 ghost use Rattle.mm_examples.specs.PartRows.{levels};
 ghost use Rattle.mm_examples.specs.LinkRuns.{cutting, two_bytes, two_beats, behind_empty};
-ghost use Rattle.mm_examples.specs.LinkRuns.{pairing, four_bytes, two_pairs, uncut};
+ghost use Rattle.mm_examples.specs.LinkRuns.{pairing, four_bytes, two_pairs, uncut, slow_bytes, near_pairs, behind_pairs};
 ghost use Rattle.mm_examples.specs.LinkRuns.{dropping, ends_without_lane, stays_joined, own_word_first, one_word, mixed_reads, empty_reads};
 ghost use Rattle.mm_awake.specs.Slack.{PassesOn};
 ghost use Rattle.mm_machines.specs.Straight.{GoesStraightThrough};
@@ -86,6 +86,8 @@ pub fn bursts()
 
 /// A read of five words and a write of three are sent in bursts of two words and of one, joined by `more`; the read is accepted with its first burst.
 /// A cutter that doesn't join its bursts ends a command too early, and one that shows a burst as it is shows one that is too long.
+/// One whose next burst begins a word too early reads a byte twice. One that accepts a read with its last burst gives a word that isn't owed.
+/// While words of an earlier read without lanes are owed, a plain write doesn't go straight through this cutter either.
 pub fn cuts()
     ensures places { map (λ m. m.transfer.first) (taken_at (cut_below pairing) 6) ≡ 8 ∷ 16 ∷ 24 ∷ 32 ∷ 32 ∷ 40 ∷ [] }
     ensures sizes { map (λ m. length m.transfer.beats) (taken_at (cut_below pairing) 6) ≡ 2 ∷ 2 ∷ 1 ∷ 1 ∷ 1 ∷ 1 ∷ [] }
@@ -94,6 +96,9 @@ pub fn cuts()
     ensures waits { takes (cut_above pairing) 2 ≡ false }
     ensures loose { CarriesCommands byte_lanes 1 four_bytes two_pairs 2 → ⊥ }
     ensures long { AreLegalAt uncut 1 → ⊥ }
+    ensures near { CarriesCommands byte_lanes 1 four_bytes near_pairs 2 → ⊥ }
+    ensures late { BringsBack byte_lanes slow_bytes two_pairs 2 → ⊥ }
+    ensures behind { GoesStraightThrough (λ c. true) byte_lanes (cut_above behind_pairs) (cut_below behind_pairs) 2 → ⊥ }
 {}
 
 /// Of a joined write those beats go on that have a lane, the last of them with `more` low. A read without a lane waits until nothing is
