@@ -27,7 +27,7 @@ use Rattle.mm_links.specs.Bursts.{burst_form}
 use Rattle.mm_links.proofs.Alike.{have_operations}
 use Rattle.mm_links.proofs.Gated.{items_prefix, total_sizes, four_of, by_not, open_rests}
 use Rattle.mm_links.proofs.Stages.{all_front, alike_prefix, accepted_of, total_accepted}
-use Rattle.mm_links.proofs.CutLists.{Step, above_of, parts_in, parts_of, beats_in, beats_of, IsPartOf, AreParts, first_of, IsSent, AllSent, sent_push, sent_front, same_among, same_items, same_sizes, same_lanes, same_joined, all_operations, all_items, all_reads, all_tagged, lanes_below, joins_below, within_below, more_below, write_below, unreached_past, held_past, within_front}
+use Rattle.mm_links.proofs.CutLists.{Step, above_of, parts_in, parts_of, beats_in, beats_of, IsPartOf, AreParts, HasFirst, first_of, IsSent, AllSent, sent_push, sent_front, same_among, same_items, same_sizes, same_lanes, same_joined, all_operations, all_items, all_reads, all_tagged, lanes_below, joins_below, within_below, more_below, write_below, unreached_past, held_past, within_front}
 
 -- what the laws of a cutter rest on: the parts of each transfer, which ones are left, and when it shows them
 pub record Cutting (target : Target) (up down : Port) (end : ℕ) : Type 0 where
@@ -120,15 +120,17 @@ module _ (target : Target) (up down : Port) (end : ℕ) (cut : Cutting target up
       by_parts [] are beats = record { none = refl; more = are.1; beats = sym (append-nil p.transfer.beats) ∙ beats }
       by_parts (q ∷ qs) are beats =
           let here = are.0.some in
-          let next = (first_part_some q qs are.2) in
+          let next = head_some (first_of target up.shape s.above (q ∷ qs) are.2) in
           let size = ap length beats in
           let split = length-append p.transfer.beats (beats_of (q ∷ qs)) in
           let later = length-append q.transfer.beats (beats_of qs) in
           absurd (omega (arith, one, here, next, size, split, later))
         where
-          first_part_some : (q : Marked) (qs : List Marked) → AreParts target up.shape s.above (q ∷ qs) → 0 < length q.transfer.beats
-          first_part_some q [] are = are.0.some
-          first_part_some q (r ∷ rs) are = are.0.some
+          head_some : HasFirst target up.shape s.above (q ∷ qs) → 0 < length q.transfer.beats
+          head_some head =
+              let whole = head.whole in
+              let is : q ≡ head.first = cc in
+              subst (λ (x : Marked). 0 < length x.transfer.beats) (sym is) head.part.some
 
   pub one_part : (c : ℕ) → c < end → cut.sends c ≡ false → shows up.commands.signals c ≡ true → length (marked_at up c).transfer.beats ≡ 1 → IsOnePart (marked_at up c) (marked_at down c) (cut.behind c)
   one_part c h idle shown one = only_part (step c) (cut.is_sent c h shown) one (marked_at down c) (cut.behind c) (cut.first c h idle shown)
