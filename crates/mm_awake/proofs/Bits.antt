@@ -1,5 +1,5 @@
 -- Small facts on lists of transfers and on tests.
-use Rattle.std.proofs.Common.{ℕ, suc, ◌<◌, ◌≤◌, ◌≡◌, Bool, true, false, not, ◌||◌, ◌&&◌, List, [], ◌∷◌, ◌++◌, arith, refl, sym, ap, ◌∙◌, nat_lt, IsTrue, IsFalse, tests, append-nil}
+use Rattle.std.proofs.Common.{ℕ, suc, ◌<◌, ◌≤◌, ◌≡◌, ◌⊎◌, inl, inr, Bool, true, false, not, ◌||◌, ◌&&◌, List, [], ◌∷◌, ◌++◌, arith, refl, sym, ap, ◌∙◌, nat_lt, IsTrue, IsFalse, tests, append-nil}
 use Rattle.std.proofs.lemmas.Bool.{and_parts}
 use Rattle.histories.specs.History.{is_raised, IsPrefix}
 use Rattle.histories.specs.Laws.{before_extends}
@@ -58,3 +58,7 @@ not_by b h = grind (arith, tests)
 
 pub no_true : IsTrue false → ⊥
 no_true h = cc
+
+pub either_part : (a b : Bool) → IsTrue (a || b) → IsTrue a ⊎ IsTrue b
+either_part true b h = inl refl
+either_part false b h = inr h

@@ -19,6 +19,7 @@ use Rattle.mm_awake.specs.PlainSystem.{AreQuietPast, wire_ranks, wired_inside, w
 use Rattle.mm_awake.specs.Slack.{PassesOn}
 use Rattle.mm_awake.specs.Theorem.{ArePlanned, KeepRows, AreMachines, AreLinks, IsBuilt, inside_of}
 use Rattle.mm_awake.proofs.Building.{LineLaws, row_holds, machine_lines}
+use Rattle.mm_awake.proofs.LinksPass.{on_while_still}
 
 pub record Laws : Type 0 where
   pub line : LineLaws
@@ -86,7 +87,7 @@ module _ (laws : Laws) (responses : Responses) (plan : PlainPlan) (outside : Out
     links = record {
       some = λ h a low there. omega arith;
       going = λ h a i low there only. laws.going (target_of system a) (before_arbiter responses plan outside registers h a) end (settled.asks a there h low).legal;
-      pass = λ h a i low there only. laws.pass (before_arbiter responses plan outside registers h a) end;
+      pass = λ h a i low there only. on_while_still (before_arbiter responses plan outside registers h a) (laws.pass (before_arbiter responses plan outside registers h a) end);
       allow = λ h a low there. omega arith;
       toll = λ h a low there. omega arith;
       wired = λ h a low there is valid alike. refl;

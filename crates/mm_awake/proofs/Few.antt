@@ -1,12 +1,13 @@
 -- Where the parts hold back few beats and words, they move few times in a window in which nothing is served.
-use Rattle.std.proofs.Common.{ℕ, zero, suc, ◌<◌, ◌≤◌, ◌≡◌, ◌+◌, ◌-◌, ◌*◌, nat_le, Bool, true, false, ◌||◌, ◌&&◌, List, [], ◌∷◌, ◌++◌, arith, refl, sym, ap, subst, ◌∙◌, length, filter, map, flat_map, nat_eq, IsTrue, IsFalse, tests, if◌then◌else◌, append-nil, length-append}
-use Rattle.std.proofs.lemmas.Bool.{and_parts, ltb-false}
+use Rattle.std.proofs.Common.{ℕ, zero, suc, ◌<◌, ◌≤◌, ◌≡◌, ◌+◌, ◌-◌, ◌*◌, inl, inr, nat_le, Bool, true, false, ◌||◌, ◌&&◌, List, [], ◌∷◌, ◌++◌, arith, refl, sym, ap, subst, ◌∙◌, length, filter, map, flat_map, nat_eq, IsTrue, IsFalse, Some, tests, if◌then◌else◌, append-nil, length-append}
+use Rattle.std.proofs.lemmas.Bool.{and_parts, both_ways, ltb-false}
+use Rattle.std.specs.List.{list_any}
 use Rattle.std.proofs.Math.Nat.{mul-le-mul_left, mul-le-mul_right}
 use Rattle.histories.specs.History.{is_raised, one_if, only_if, before, numbers}
 use Rattle.mm_runs.specs.Views.{System, Run}
 use Rattle.mm_runs.specs.Commands.{Transfer, agent_accepts, transfer_at}
 use Rattle.mm_runs.specs.Order.{TaggedBeat, beats_taken, beats_taken_in, is_read_beat, words_given_in}
-use Rattle.mm_runs.specs.Awake.{owes}
+use Rattle.mm_runs.specs.Awake.{owes, serves, is_given_from, is_written_to}
 use Rattle.mm_runs.specs.Legal.{Word}
 use Rattle.mm_machines.specs.Link.{Port, takes, words_at}
 use Rattle.ranks.specs.Sizes.{sum_below}
@@ -16,8 +17,9 @@ use Rattle.mm_parts.specs.Steps.{words_from_agent}
 use Rattle.mm_awake.specs.Ways.{Ways, Standings, count_in, longest, window, agent_moves, moves_at}
 use Rattle.mm_awake.specs.Front.{KeepsWhole, IsUnserved}
 use Rattle.mm_awake.specs.Sizes.{allows}
-use Rattle.mm_awake.specs.Slack.{Slacks, AllPassOn, brings_next, lower_beats, lower_words, upper_beats, upper_words, stage_allows, link_allows, host_allows, toll, all_allow}
-use Rattle.mm_awake.proofs.Wanted.{three_parts}
+use Rattle.mm_awake.specs.Slack.{Slacks, AllPassOn, IsStill, stirs, brings_next, lower_beats, lower_words, upper_beats, upper_words, stage_allows, link_allows, host_allows, toll, all_allow}
+use Rattle.mm_awake.proofs.Bits.{either_part}
+use Rattle.mm_awake.proofs.Wanted.{three_parts, listed}
 
 -- ---- counts
 
@@ -158,9 +160,9 @@ words_grow port from (suc size) =
     one_more {A} x false xs = let none = ap length (append-nil xs) in omega (arith, none)
 
 module _ (system : System) (run : Run) (agent : ℕ) (ways : Ways) (standings : Standings) (slacks : Slacks) (from size end : ℕ) (fits : from + size + 2 ≤ end) (keeps : KeepsWhole system run agent ways standings end)
-    (pass : AllPassOn system ways slacks end) (none : IsUnserved system run agent from size) where
+    (pass : AllPassOn system ways slacks end) (none : IsUnserved system run agent from (suc size)) where
   no_accept : (c : ℕ) → c < size → IsFalse (agent_accepts (system.agent agent) (run.at_agent agent) (from + c))
-  no_accept c h = (three_parts (agent_accepts (system.agent agent) (run.at_agent agent) (from + c)) _ _ (none.none c h)).0
+  no_accept c h = (three_parts (agent_accepts (system.agent agent) (run.at_agent agent) (from + c)) _ _ (none.none c (omega (arith, h)))).0
 
   no_take : (c : ℕ) → c < size → IsFalse (takes (ways.lower 0) (from + c))
   no_take c h = keeps.awake.agent_part.accepted (from + c) (omega (arith, h, fits)) ∙ no_accept c h
@@ -278,13 +280,36 @@ module _ (system : System) (run : Run) (agent : ℕ) (ways : Ways) (standings : 
       same_number : (n m : ℕ) → IsTrue (nat_eq n m) → n ≡ m
       same_number n m e = grind (arith, tests, e)
 
+  abbrev behind : ℕ → Port
+  behind h = ways.upper h (ways.above h)
+
+  -- what stirs the port behind a route serves its host
+  still : (h : ℕ) → h < system.hosts → IsStill (ways.upper h (ways.above h)) from size
+  still h low c begins ends = by_stir (stirs (behind h) c) refl
+    where
+      serves_none : (k : ℕ) → from ≤ k → k < from + suc size → IsFalse (agent_accepts (system.agent agent) (run.at_agent agent) k) × IsFalse (list_any (is_given_from system run (Some agent) k) (numbers 0 system.hosts)) × IsFalse (list_any (is_written_to system run (Some agent) k) (numbers 0 system.hosts))
+      serves_none k low' high = three_parts (agent_accepts (system.agent agent) (run.at_agent agent) k) _ _ (subst (λ x. IsFalse (serves system run agent x)) same (none.none (k - from) (omega (arith, low', high))))
+        where
+          same : from + (k - from) ≡ k
+          same = omega (arith, low')
+
+      by_stir : (b : Bool) → stirs (behind h) c ≡ b → IsFalse b
+      by_stir false e = refl
+      by_stir true e = elim (either_part (takes (behind h) c && is_raised ((behind h).commands.write c)) (brings_next (behind h) c) e) [
+        | inl writes ↦
+            let both = and_parts (takes (behind h) c) (is_raised ((behind h).commands.write c)) writes in
+            absurd (both_ways _ (serves_none c begins (omega (arith, ends))).2 (listed (is_written_to system run (Some agent) c) 0 system.hosts h (omega arith) (omega (arith, low)) ((keeps.front h low).writes c (omega (arith, ends, fits)) both.0 both.1)))
+        | inr comes ↦
+            absurd (both_ways _ (serves_none (suc c) (omega (arith, begins)) (omega (arith, ends))).1 (listed (is_given_from system run (Some agent) (suc c)) 0 system.hosts h (omega arith) (omega (arith, low)) (keeps.gives h low (suc c) (omega (arith, ends, fits)) comes)))
+      ]
+
   upper_taken : (h i : ℕ) → h < system.hosts → i ≤ ways.above h → count_in (takes (ways.upper h i)) from size ≤ beats_of h + upper_beats slacks h i
   upper_taken h zero low fit = omega arith
-  upper_taken h (suc i) low fit = let more = upper_taken h i low (omega (arith, fit)) in let law = (pass.upper h i low fit).beats from size (omega (arith, fits)) in omega (arith, more, law)
+  upper_taken h (suc i) low fit = let more = upper_taken h i low (omega (arith, fit)) in let law = (pass.upper h i low fit).beats from size (omega (arith, fits)) (still h low) in omega (arith, more, law)
 
   upper_given : (h i : ℕ) → h < system.hosts → i ≤ ways.above h → count_in (brings_next (ways.upper h i)) from size ≤ words_of h + upper_words slacks h i
   upper_given h zero low fit = omega arith
-  upper_given h (suc i) low fit = let more = upper_given h i low (omega (arith, fit)) in let law = (pass.upper h i low fit).words from size (omega (arith, fits)) in omega (arith, more, law)
+  upper_given h (suc i) low fit = let more = upper_given h i low (omega (arith, fit)) in let law = (pass.upper h i low fit).words from size (omega (arith, fits)) (still h low) in omega (arith, more, law)
 
   abbrev burden : ℕ → ℕ
   burden h = 2 * beats_of h + words_of h

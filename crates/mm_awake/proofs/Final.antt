@@ -43,17 +43,20 @@ wants_of system run agent host c (a_word owing) none = wants_word owing
 wants_of system run agent host c (a_given given) none = absurd (none given)
 
 pub served_within : Laws → (system : System) (run : Run) (agent : ℕ) (ways : Ways) (standings : Standings) (size end longer : ℕ) → end + 2 ≤ longer → AllShare (seats_of system agent) → KeepsWhole system run agent ways standings longer →
-    ((h : ℕ) → h < system.hosts → IsLegalHost (system.host h) (run.at_host h) longer) → AllowLessThan size system run agent ways standings end → ServesWithin size system run agent end
+    ((h : ℕ) → h < system.hosts → IsLegalHost (system.host h) (run.at_host h) longer) → AllowLessThan size system run agent ways standings end → ServesWithin (suc size) system run agent end
 served_within laws system run agent ways standings size end longer fits share keeps legal short from host number inside host_is wanted =
-    elim (some_or_none (λ c. serves system run agent (from + c)) size) [
+    elim (some_or_none (λ c. serves system run agent (from + c)) (suc size)) [
       | inl found ↦ (from + found.0, omega arith, omega (arith, found.1), found.2)
-      | inr none ↦ laws.served system run agent ways standings host from size longer (omega (arith, inside, fits)) host_is share keeps (short from inside (record { none = none; answered = λ c h. (wanted (from + c) (omega arith) (omega (arith, h))).answered })) (λ c low high. now none c low high)
+      | inr none ↦ one_later (laws.served system run agent ways standings host from size longer (omega (arith, inside, fits)) host_is share keeps (short from inside (record { none = none; answered = λ c h. (wanted (from + c) (omega arith) (omega (arith, h))).answered })) (λ c low high. now none c low (omega (arith, high))))
     ]
   where
-    is_none : ((c : ℕ) → c < size → IsFalse (serves system run agent (from + c))) → (c : ℕ) → from ≤ c → c < from + size → IsFalse (serves system run agent c)
+    one_later : Sometime from size (λ c. IsTrue (serves system run agent c)) → Sometime from (suc size) (λ c. IsTrue (serves system run agent c))
+    one_later found = (found.0, found.1, omega (arith, found.2), found.3)
+
+    is_none : ((c : ℕ) → c < suc size → IsFalse (serves system run agent (from + c))) → (c : ℕ) → from ≤ c → c < from + suc size → IsFalse (serves system run agent c)
     is_none none c low high = let same : from + (c - from) ≡ c = omega (arith, low) in subst (λ x. IsFalse (serves system run agent x)) same (none (c - from) (omega (arith, low, high)))
 
-    now : ((c : ℕ) → c < size → IsFalse (serves system run agent (from + c))) → (c : ℕ) → from ≤ c → c < from + size → IsWantedAt system run agent host c
+    now : ((c : ℕ) → c < suc size → IsFalse (serves system run agent (from + c))) → (c : ℕ) → from ≤ c → c < from + suc size → IsWantedAt system run agent host c
     now none c low high = record {
       wants = wants_of system run agent host c
           (outcome_of system run host longer (legal host host_is) c number (Some agent) (omega (arith, high, inside, fits)) (wanted c low high).oldest (wanted c low high).for_agent

@@ -46,7 +46,7 @@ module _ (system : System) (agent : ℕ) (ways : Ways) (standings : Standings) (
       let most = two_ranks ((lower_beats slacks i + lower_beats slacks (suc i)) + lower_words slacks (suc i)) (standings.lower i).largest (modest.lower i h).rank in
       omega (arith, below, above, words, most)
 
-  pub fits : all_allow system ways standings slacks 5 < agent_window system agent
+  pub fits : all_allow system ways standings slacks 5 + 1 < agent_window system agent
   fits =
       let same = modest.stages in
       let few = modest.few_stages in

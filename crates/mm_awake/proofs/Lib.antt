@@ -50,3 +50,7 @@ pub mod FairPrompt
 pub mod FairRow
 pub mod FairStraight
 pub mod LinksPass
+pub mod Swallowed
+pub mod Stirred
+pub mod Pieces
+pub mod SplitCounts

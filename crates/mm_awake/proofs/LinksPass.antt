@@ -1,18 +1,18 @@
 -- A link that hands each beat and word on in its cycle passes on all, and a row of one link goes on as the link does: what `AreLinks` asks.
-use Rattle.std.proofs.Common.{ℕ, zero, suc, ◌<◌, ◌≤◌, ◌≡◌, ◌+◌, Bool, true, false, [], ◌∷◌, arith, refl, ap, IsTrue}
+use Rattle.std.proofs.Common.{ℕ, zero, suc, ◌<◌, ◌≤◌, ◌+◌, Bool, true, false, [], ◌∷◌, arith, refl, ap, IsTrue}
 use Rattle.histories.specs.History.{one_if}
 use Rattle.mm_machines.specs.Link.{Target, Port, takes}
 use Rattle.mm_links.specs.Going.{Pace, GoesOn, RowGoesOn}
 use Rattle.mm_links.specs.Going.RowGoesOn.{at_end, further}
 use Rattle.mm_links.specs.Passes.{PassesAtOnce}
-use Rattle.mm_awake.specs.Slack.{PassesOn, brings_next}
+use Rattle.mm_awake.specs.Slack.{Slack, PassesOn, PassesWhileStill, brings_next}
 use Rattle.mm_awake.specs.Ways.{count_in}
 
-fewer_in : (f g : ℕ → Bool) (from size : ℕ) → ((c : ℕ) → c < from + size → IsTrue (f c) → IsTrue (g c)) → count_in f from size ≤ count_in g from size
+pub fewer_in : (f g : ℕ → Bool) (from size : ℕ) → ((c : ℕ) → from ≤ c → c < from + size → IsTrue (f c) → IsTrue (g c)) → count_in f from size ≤ count_in g from size
 fewer_in f g from zero so = omega arith
 fewer_in f g from (suc size) so =
-    let more = fewer_in f g from size (λ c h. so c (omega (arith, h))) in
-    let last = one_fewer (f (from + size)) (g (from + size)) (so (from + size) (omega arith)) in
+    let more = fewer_in f g from size (λ c low h. so c low (omega (arith, h))) in
+    let last = one_fewer (f (from + size)) (g (from + size)) (so (from + size) (omega arith) (omega arith)) in
     omega (arith, more, last)
   where
     one_fewer : (a b : Bool) → (IsTrue a → IsTrue b) → one_if a ≤ one_if b
@@ -21,9 +21,12 @@ fewer_in f g from (suc size) so =
 
 pub at_once_passes : (up down : Port) (end : ℕ) → PassesAtOnce up down end → PassesOn (record { hold = 0; kept = 0 }) up down end
 at_once_passes up down end passes = record {
-  beats = λ from size h. (let fewer = fewer_in (takes up) (takes down) from size (λ c low. passes.beats c (omega (arith, h, low))) in omega (arith, fewer));
-  words = λ from size h. (let fewer = fewer_in (brings_next up) (brings_next down) from size (λ c low. passes.words (suc c) (omega (arith, h, low))) in omega (arith, fewer));
+  beats = λ from size h. (let fewer = fewer_in (takes up) (takes down) from size (λ c begins low. passes.beats c (omega (arith, h, low))) in omega (arith, fewer));
+  words = λ from size h. (let fewer = fewer_in (brings_next up) (brings_next down) from size (λ c begins low. passes.words (suc c) (omega (arith, h, low))) in omega (arith, fewer));
 }
+
+pub on_while_still : {slack : Slack} {up down : Port} {end : ℕ} (top : Port) → PassesOn slack up down end → PassesWhileStill slack top up down end
+on_while_still top passes = record { beats = λ from size h still. passes.beats from size h; words = λ from size h still. passes.words from size h }
 
 pub one_goes_on : {target : Target} {end : ℕ} {pace : Pace} {up down : Port} → RowGoesOn target end (pace ∷ []) up down → GoesOn target pace up down end
 one_goes_on (further goes at_end) = goes

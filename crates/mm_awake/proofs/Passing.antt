@@ -12,7 +12,7 @@ use Rattle.mm_awake.proofs.Bits.{no_true}
 pub wire_passes : (port : Port) (end : ℕ) → PassesOn (record { hold = 0; kept = 0 }) port port end
 wire_passes port end = record { beats = λ from size h. omega arith; words = λ from size h. omega arith }
 
-one_or_none : (b : Bool) → one_if b ≤ 1
+pub one_or_none : (b : Bool) → one_if b ≤ 1
 one_or_none true = omega arith
 one_or_none false = omega arith
 

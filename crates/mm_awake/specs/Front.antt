@@ -112,7 +112,7 @@ pub record IsUnserved (system : System) (run : Run) (agent from size : ℕ) : Ty
   pub none : (c : ℕ) → c < size → IsFalse (serves system run agent (from + c))
   pub answered : (c : ℕ) → c < size → IsFalse (owes system run agent (from + c))
 
--- in each window of this size in which nothing is served, the ranks and moves of the parts allow less
+-- in each window of this size, in which and in whose next cycle nothing is served, the ranks and moves of the parts allow less
 abbrev pub AllowLessThan : ℕ → System → Run → ℕ → Ways → Standings → ℕ → Type 0
 AllowLessThan size system run agent ways standings end =
-    (from : ℕ) → from + size ≤ end → IsUnserved system run agent from size → longest system run agent ways standings from size < size
+    (from : ℕ) → from + suc size ≤ end → IsUnserved system run agent from (suc size) → longest system run agent ways standings from size < size

@@ -7,3 +7,4 @@ pub mod Theorem
 pub mod Ahead
 pub mod Fair
 pub mod PlainSystem
+pub mod Still

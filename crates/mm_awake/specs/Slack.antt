@@ -1,8 +1,8 @@
 -- How few beats and words the parts hold back, and how long they may keep a window unserved because of it.
-use Rattle.std.specs.Prelude.{◌≡◌, ℕ, suc, ◌+◌, ◌*◌, ◌<◌, ◌≤◌, Bool}
+use Rattle.std.specs.Prelude.{◌≡◌, ℕ, suc, ◌+◌, ◌*◌, ◌<◌, ◌≤◌, Bool, ◌&&◌, ◌||◌, IsFalse}
 use Rattle.histories.specs.History.{is_raised}
 use Rattle.mm_runs.specs.Views.{System}
-use Rattle.mm_runs.specs.Awake.{longest_wait}
+use Rattle.mm_runs.specs.Awake.{longest_wait, Throughout}
 use Rattle.mm_machines.specs.Link.{Port, takes}
 use Rattle.ranks.specs.Sizes.{sum_below}
 use Rattle.mm_awake.specs.Ways.{Ways, Standing, Standings, count_in}
@@ -21,15 +21,28 @@ pub record Slacks : Type 0 where
 abbrev pub brings_next : Port → ℕ → Bool
 brings_next port c = is_raised (port.answers.valid (suc c))
 
--- in each stretch of cycles a link takes few beats more above than below, and gives few words more above than come below
+-- in each stretch of cycles a part takes few beats more above than below, and gives few words more above than come below
 pub record PassesOn (slack : Slack) (up down : Port) (end : ℕ) : Type 0 where
   pub beats : (from size : ℕ) → from + size ≤ end → count_in (takes up) from size ≤ count_in (takes down) from size + slack.hold
   pub words : (from size : ℕ) → from + size < end → count_in (brings_next up) from size ≤ count_in (brings_next down) from size + slack.kept
 
--- every link and stage that leads to an agent does so
+-- a write is taken at a port, or a word comes up there in the next cycle
+abbrev pub stirs : Port → ℕ → Bool
+stirs port c = (takes port c && is_raised (port.commands.write c)) || brings_next port c
+
+-- in no cycle of a stretch
+abbrev pub IsStill : Port → ℕ → ℕ → Type 0
+IsStill port from size = Throughout from size (λ c. IsFalse (stirs port c))
+
+-- it does so in each stretch in which the port behind its route, `top`, is still: each beat that a link swallows stirs that port, by its write or by its word
+pub record PassesWhileStill (slack : Slack) (top up down : Port) (end : ℕ) : Type 0 where
+  pub beats : (from size : ℕ) → from + size ≤ end → IsStill top from size → count_in (takes up) from size ≤ count_in (takes down) from size + slack.hold
+  pub words : (from size : ℕ) → from + size < end → IsStill top from size → count_in (brings_next up) from size ≤ count_in (brings_next down) from size + slack.kept
+
+-- every stage that leads to an agent does so, and every link while the port behind its route is still
 pub record AllPassOn (system : System) (ways : Ways) (slacks : Slacks) (end : ℕ) : Type 0 where
   pub lower : (i : ℕ) → i < ways.stages → PassesOn (slacks.lower i) (ways.lower (suc i)) (ways.lower i) end
-  pub upper : (h i : ℕ) → h < system.hosts → i < ways.above h → PassesOn (slacks.upper h i) (ways.upper h (suc i)) (ways.upper h i) end
+  pub upper : (h i : ℕ) → h < system.hosts → i < ways.above h → PassesWhileStill (slacks.upper h i) (ways.upper h (ways.above h)) (ways.upper h (suc i)) (ways.upper h i) end
 
 -- the beats that are taken at a lower port while nothing is served, and the words that come up there
 abbrev pub lower_beats : Slacks → ℕ → ℕ

@@ -16,7 +16,7 @@ use Rattle.mm_parts.specs.Host.{HostState, IsHostMachine, ReadsWords}
 use Rattle.mm_parts.specs.Route.{RouteState, IsRouteMachine, IsRoutePlan}
 use Rattle.mm_parts.specs.Steps.{AreSilentPast, agent_rank}
 use Rattle.mm_links.specs.Going.{KeepsGoing}
-use Rattle.mm_awake.specs.Slack.{Slack, Slacks, PassesOn, host_allows, toll}
+use Rattle.mm_awake.specs.Slack.{Slack, Slacks, PassesWhileStill, host_allows, toll}
 use Rattle.mm_awake.specs.Approach.{Approach}
 use Rattle.mm_awake.specs.Ways.{Ways, Standing, Standings}
 
@@ -78,12 +78,13 @@ slacks_of states ranks a = record { lower = λ i. record { hold = (states.stage 
 abbrev pub approach_of : System → Run → Boundaries → States → LinkRanks → ℕ → Approach
 approach_of system run inside states ranks a = record { ways = ways_of system inside a; standings = standings_of system run states ranks a; slacks = slacks_of states ranks a }
 
--- every link keeps going and holds little back. A wire counts as a link
+-- every link keeps going, and holds little back while the port behind its route is still. A wire counts as a link
 pub record AreLinks (system : System) (run : Run) (inside : Boundaries) (states : States) (ranks : LinkRanks) (end : ℕ) : Type 0 where
   pub some : (h a : ℕ) → h < system.hosts → a < system.agents → 0 < inside.links h a
   pub going : (h a i : ℕ) → h < system.hosts → a < system.agents → i < inside.links h a →
       KeepsGoing (target_of system a) (inside.upper h a (suc i)) (inside.upper h a i) (ranks.standing h a i).rank (ranks.standing h a i).largest end
-  pub pass : (h a i : ℕ) → h < system.hosts → a < system.agents → i < inside.links h a → PassesOn (ranks.slack h a i) (inside.upper h a (suc i)) (inside.upper h a i) end
+  pub pass : (h a i : ℕ) → h < system.hosts → a < system.agents → i < inside.links h a →
+      PassesWhileStill (ranks.slack h a i) (inside.upper h a (inside.links h a)) (inside.upper h a (suc i)) (inside.upper h a i) end
   pub allow : (h a : ℕ) → h < system.hosts → a < system.agents → host_allows system (ways_of system inside a) (standings_of system run states ranks a) (slacks_of states ranks a) h ≤ 15
   pub toll : (h a : ℕ) → h < system.hosts → a < system.agents → toll (ways_of system inside a) (standings_of system run states ranks a) h ≤ 5
   -- a host whose plain commands reach an agent with readdatavalid one for one is wired to its arbiter

@@ -2,9 +2,10 @@
 #![tactic(auto)]
 
 pub mod fair;
+pub mod links;
 pub mod plain;
 
-ghost use Rattle.std.specs.Prelude.{◌≡◌, ℕ, ◌≤◌, ◌<◌, ◌+◌, ◌-◌, IsTrue, Some};
+ghost use Rattle.std.specs.Prelude.{◌≡◌, ℕ, suc, ◌≤◌, ◌<◌, ◌+◌, ◌-◌, IsTrue, Some};
 ghost use Rattle.histories.specs.History.{IsPrefix};
 ghost use Rattle.ranks.specs.Turns.{AllShare};
 ghost use Rattle.mm_runs.specs.Views.{System, Run, Responses, Kind};
@@ -23,7 +24,7 @@ ghost use Rattle.mm_awake.specs.Theorem.{Boundaries, States, LinkRanks, IsBuilt}
 ghost use Rattle.mm_awake.specs.Front.{KeepsWhole, IsWantedAt, IsServedIn, IsFront, IsDefaultFront, WantsDefault, IsDefaultServedIn};
 ghost use Rattle.mm_awake.specs.Front.{owes_alone, GivesAtOnce, AreLegalHosts, AllowLessThan, IsUnserved};
 ghost use Rattle.mm_links.specs.Going.{GivesWhatHasCome, KeepsGoing};
-ghost use Rattle.mm_awake.specs.Slack.{Slack, Slacks, PassesOn, AllPassOn, CostsAtMost, AreModest, HasModestLinks, host_allows, toll, all_allow};
+ghost use Rattle.mm_awake.specs.Slack.{Slack, Slacks, PassesOn, PassesWhileStill, AllPassOn, CostsAtMost, AreModest, HasModestLinks, host_allows, toll, all_allow};
 ghost use Rattle.mm_awake.specs.Approach.{Approach, IsAwake, ServesWanted};
 ghost use Rattle.mm_awake.specs.Ahead.{KeepsNothingBack, LeavesNothingOpen, LeadsAhead, CanTakeMore};
 ghost use Rattle.mm_awake.specs.Ways.{Ways, Standings, KeepsAwake, IsAtWork, longest};
@@ -72,12 +73,12 @@ pub fn systems_are_awake()
     modest_parts_fit()
 }
 
-/// Where every part keeps its record and the hosts are legal, a wanted agent is served within each number of cycles that ranks and moves can't fill.
+/// Where every part keeps its record and the hosts are legal, a wanted agent is served within one more than each number of cycles that ranks and moves can't fill.
 pub fn agents_are_served()
     ensures { (system : System) (run : Run) (agent : ℕ) (ways : Ways) (standings : Standings) (size end longer : ℕ)
         → end + 2 ≤ longer → AllShare (seats_of system agent) → KeepsWhole system run agent ways standings longer
         → AreLegalHosts system run longer → AllowLessThan size system run agent ways standings end
-        → ServesWithin size system run agent end }
+        → ServesWithin (suc size) system run agent end }
 {
     wanted_agent_is_served()
 }
@@ -104,18 +105,18 @@ pub fn work_is_short()
     mm_machines::progress::link_keeps_rank()
 }
 
-/// Where the links and stages hold back few beats and words, the parts allow in a window in which nothing is served no more than their sum.
+/// Where the links and stages hold back few beats and words, the parts allow in a window, in which and in whose next cycle nothing is served, no more than their sum.
 pub fn moves_are_few()
     ensures { (system : System) (run : Run) (agent : ℕ) (ways : Ways) (standings : Standings) (slacks : Slacks) (from size most end : ℕ)
         → from + size + 2 ≤ end → KeepsWhole system run agent ways standings end → AllPassOn system ways slacks end
-        → CostsAtMost most system ways standings → IsUnserved system run agent from size
+        → CostsAtMost most system ways standings → IsUnserved system run agent from (suc size)
         → longest system run agent ways standings from size ≤ all_allow system ways standings slacks most }
 {}
 
 /// Modest ranks and slacks fit in an agent's window.
 pub fn modest_parts_fit()
     ensures { (system : System) (agent : ℕ) (ways : Ways) (standings : Standings) (slacks : Slacks)
-        → AreModest system agent ways standings slacks → all_allow system ways standings slacks 5 < agent_window system agent }
+        → AreModest system agent ways standings slacks → all_allow system ways standings slacks 5 + 1 < agent_window system agent }
 {}
 
 /// Three links fit, of which the lowest holds a beat, gives a word of its own and has a rank of 1, and the next has a rank of 1.

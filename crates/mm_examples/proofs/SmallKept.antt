@@ -17,7 +17,7 @@ use Rattle.mm_examples.specs.SmallSystem.{small_system, small_run, middle, down,
 use Rattle.mm_runs.specs.Order.{taken, beats_taken, is_read_beat}
 use Rattle.mm_machines.specs.PartRanks.{has_agent_work, moves_at_agent}
 use Rattle.mm_awake.specs.Ways.{tagged, KeepsAwake}
-use Rattle.mm_awake.specs.Slack.{PassesOn}
+use Rattle.mm_awake.specs.Slack.{PassesWhileStill}
 use Rattle.mm_awake.specs.Approach.{IsAwake}
 use Rattle.mm_awake.specs.Front.{IsFront, KeepsWhole, IsDefaultFront, GivesAtOnce}
 
@@ -255,7 +255,7 @@ awake a low = record {
 
 pub record Laws : Type 0 where
   pub front : (system : System) (run : Run) (host agent : ℕ) (middle : Port) (down : ℕ → Port) (end : ℕ) → agent < system.agents → IsHostPart system run host middle end → IsRoutePart system host middle down end → IsFront system run host agent (down agent) end
-  pub wire : (port : Port) (end : ℕ) → PassesOn (record { hold = 0; kept = 0 }) port port end
+  pub wire : (top port : Port) (end : ℕ) → PassesWhileStill (record { hold = 0; kept = 0 }) top port port end
 
 pub keeps_whole : Laws → (a : ℕ) → a < 2 → KeepsWhole small_system small_run a (small_ways a) small_standings 4
 keeps_whole laws a low = record {
@@ -296,7 +296,7 @@ is_awake laws = record {
   agents = λ a low. record {
     shares = (omega arith, (omega arith, tt));
     parts = keeps_whole laws a low;
-    pass = record { lower = λ i h. absurd (omega (arith, h)); upper = λ h i low' fit. laws.wire (down h a) 4 };
+    pass = record { lower = λ i h. absurd (omega (arith, h)); upper = λ h i low' fit. laws.wire (down h a) (down h a) 4 };
     modest = record {
       stages = refl;
       few_stages = omega arith;

@@ -13,7 +13,7 @@ use Rattle.mm_machines.specs.PartRanks.{has_agent_work, moves_at_agent}
 use Rattle.mm_parts.specs.Steps.{words_from_agent, IsArbiterPart, IsAgentPart, IsHostPart, IsRoutePart, place_shown, is_open}
 use Rattle.mm_links.specs.Going.{KeepsGoing}
 use Rattle.mm_awake.specs.Ways.{tagged}
-use Rattle.mm_awake.specs.Slack.{PassesOn}
+use Rattle.mm_awake.specs.Slack.{PassesWhileStill}
 use Rattle.mm_awake.specs.Approach.{IsApproach, IsAwake}
 use Rattle.mm_awake.specs.Front.{IsFront, KeepsWhole, IsDefaultFront, GivesAtOnce}
 use Rattle.mm_examples.specs.SmallSystem.{small_standings}
@@ -127,7 +127,7 @@ pub record Laws : Type 0 where
   pub gives : (system : System) (run : Run) (host agent : ℕ) (middle : Port) (down : ℕ → Port) (end : ℕ) → agent < system.agents → IsHostPart system run host middle end → IsRoutePart system host middle down end → GivesAtOnce system run host agent (down agent) end
   pub default : (system : System) (run : Run) (host : ℕ) (middle : Port) (down : ℕ → Port) (end : ℕ) → IsHostPart system run host middle end → IsRoutePart system host middle down end → IsDefaultFront system run host end
   pub going : (target : Target) (port : Port) (end : ℕ) → AreLegalAt port end → KeepsGoing target port port (λ c. 0) 0 end
-  pub pass : (port : Port) (end : ℕ) → PassesOn (record { hold = 0; kept = 0 }) port port end
+  pub pass : (top port : Port) (end : ℕ) → PassesWhileStill (record { hold = 0; kept = 0 }) top port port end
 
 pub keeps_whole : Laws → KeepsWhole waiting_small waiting_run 0 waiting_ways small_standings 5
 keeps_whole laws = record {
@@ -158,7 +158,7 @@ is_awake laws = record {
       (record {
         shares = (omega arith, tt);
         parts = keeps_whole laws;
-        pass = record { lower = λ i h. absurd (omega (arith, h)); upper = λ h i low fit. laws.pass (read_behind h) 5 };
+        pass = record { lower = λ i h. absurd (omega (arith, h)); upper = λ h i low fit. laws.pass (read_behind h) (read_behind h) 5 };
         modest = record {
           stages = refl;
           few_stages = omega arith;

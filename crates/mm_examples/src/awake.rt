@@ -66,7 +66,8 @@ pub fn small_system_keeps_all()
     ensures awake { IsAwake small_system small_run small_approach 4 }
 {
     mm_awake::host_and_route_are_a_front();
-    mm_awake::stages_pass_on()
+    mm_awake::stages_pass_on();
+    mm_awake::links::links_pass_while_still()
 }
 
 /// A host without readdatavalid that reads an agent and the default agent keeps every record. The machine next to it gives these waits and shows each read once.
@@ -80,7 +81,8 @@ pub fn waiting_host_keeps_all()
     mm_awake::words_reach_the_host();
     mm_awake::host_and_route_serve_default();
     mm_awake::wires_keep_going();
-    mm_awake::stages_pass_on()
+    mm_awake::stages_pass_on();
+    mm_awake::links::links_pass_while_still()
 }
 
 /// A read that is accepted as soon as it is taken below, before its word comes.
