@@ -53,4 +53,6 @@ pub mod LinksPass
 pub mod Swallowed
 pub mod Stirred
 pub mod Pieces
+pub mod RowOfThree
+pub mod ModestRow
 pub mod SplitCounts

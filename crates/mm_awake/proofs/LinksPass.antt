@@ -2,7 +2,7 @@
 use Rattle.std.proofs.Common.{ℕ, zero, suc, ◌<◌, ◌≤◌, ◌+◌, Bool, true, false, [], ◌∷◌, arith, refl, ap, IsTrue}
 use Rattle.histories.specs.History.{one_if}
 use Rattle.mm_machines.specs.Link.{Target, Port, takes}
-use Rattle.mm_links.specs.Going.{Pace, GoesOn, RowGoesOn}
+use Rattle.mm_links.specs.Going.{Pace, KeepsGoing, GoesOn, RowGoesOn}
 use Rattle.mm_links.specs.Going.RowGoesOn.{at_end, further}
 use Rattle.mm_links.specs.Passes.{PassesAtOnce}
 use Rattle.mm_awake.specs.Slack.{Slack, PassesOn, PassesWhileStill, brings_next}
@@ -30,3 +30,6 @@ on_while_still top passes = record { beats = λ from size h still. passes.beats 
 
 pub one_goes_on : {target : Target} {end : ℕ} {pace : Pace} {up down : Port} → RowGoesOn target end (pace ∷ []) up down → GoesOn target pace up down end
 one_goes_on (further goes at_end) = goes
+
+pub going_alone : {target : Target} {end : ℕ} {pace : Pace} {up down : Port} → RowGoesOn target end (pace ∷ []) up down → (rank : ℕ → ℕ) × KeepsGoing target up down rank pace.largest end
+going_alone row = let goes = one_goes_on row in (goes.rank, goes.going)

@@ -8,3 +8,4 @@ pub mod Ahead
 pub mod Fair
 pub mod PlainSystem
 pub mod Still
+pub mod Rows

@@ -1,13 +1,19 @@
 //! How little the links of a row keep back while the port behind their route is still.
 
-ghost use Rattle.std.specs.Prelude.{ℕ, ◌<◌, List};
+ghost use Rattle.std.specs.Prelude.{ℕ, ◌<◌, ◌≤◌, List};
 ghost use Rattle.mm_machines.specs.Link.{Target, Port, AreLegalAt, AnswersAreOwed};
-ghost use Rattle.mm_links.specs.Bursts.{BurstState, RunsAsBurst};
-ghost use Rattle.mm_links.specs.Cuts.{RunsAsCut};
-ghost use Rattle.mm_links.specs.Drops.{DropState, RunsAsDrop};
-ghost use Rattle.mm_links.specs.Selects.{RunsAsSelect, IsSelectPlan};
+ghost use Rattle.mm_machines.specs.Machines.{MaySplit};
+ghost use Rattle.mm_machines.specs.PartRanks.{JoinsAlike};
+ghost use Rattle.mm_links.specs.Bursts.{BurstState, RunsAsBurst, IsBurstPlan};
+ghost use Rattle.mm_links.specs.Cuts.{RunsAsCut, IsCutPlan};
+ghost use Rattle.mm_links.specs.Drops.{DropState, RunsAsDrop, IsDropPlan};
+ghost use Rattle.mm_links.specs.Going.{KeepsGoing};
+ghost use Rattle.mm_links.specs.Selects.{RunsAsSelect, IsSelectPlan, EnablesFit};
 ghost use Rattle.mm_links.specs.Splits.{SplitState, RunsAsSplit};
-ghost use Rattle.mm_awake.specs.Slack.{Slack, PassesOn, PassesWhileStill};
+ghost use Rattle.mm_runs.specs.Views.{System};
+ghost use Rattle.mm_awake.specs.Rows.{IsModestRow, CutsBursts, FitsWords, DropsBeats, ports_of_three, one_beat_lowest};
+ghost use Rattle.mm_awake.specs.Slack.{Slack, Slacks, PassesOn, PassesWhileStill, host_allows, toll};
+ghost use Rattle.mm_awake.specs.Ways.{Ways, Standing, Standings};
 ghost use Rattle.mm_awake.specs.Still.{StirsAbove, SpentStirs};
 
 /// What passes on in each stretch of cycles does so while any port is still. A lane selector and the cutters of bursts keep nothing back, wherever they stand.
@@ -39,3 +45,50 @@ pub fn what_is_swallowed_stirs()
     ensures above { (up down : Port) (end : ℕ) → StirsAbove up down end → SpentStirs up down end }
     ensures further { (top up down : Port) (end : ℕ) → StirsAbove top up end → SpentStirs up down end → SpentStirs top down end }
 {}
+
+/// Each of these links keeps going, with a rank of at most 1, or that is always 0, where its commands are legal, its answers are owed and joined commands are alike.
+pub fn links_keep_going()
+    ensures select { (target : Target) (up down : Port) (many room : ℕ) (offsets : ℕ → List ℕ) (end : ℕ) → IsSelectPlan target up.shape down.shape many
+        → 1 < room → RunsAsSelect room up down offsets → EnablesFit up end → AreLegalAt up end → AnswersAreOwed down end → JoinsAlike target up end
+        → (rank : ℕ → ℕ) × KeepsGoing target up down rank 0 end }
+    ensures burst { (target : Target) (up down : Port) (state : BurstState) (end : ℕ) → IsBurstPlan up.shape down.shape
+        → RunsAsBurst up down state → AreLegalAt up end → AnswersAreOwed down end → JoinsAlike target up end
+        → (rank : ℕ → ℕ) × KeepsGoing target up down rank 0 end }
+    ensures cut { (target : Target) (longest : ℕ) (up down : Port) (state : BurstState) (end : ℕ) → IsCutPlan longest up.shape down.shape
+        → RunsAsCut longest up down state → AreLegalAt up end → AnswersAreOwed down end → JoinsAlike target up end
+        → (rank : ℕ → ℕ) × KeepsGoing target up down rank 0 end }
+    ensures split { (target : Target) (room count : ℕ) (up down : Port) (state : SplitState) (end : ℕ) → MaySplit target up.shape down.shape count
+        → 0 < room → RunsAsSplit room up down state → AreLegalAt up end → AnswersAreOwed down end → JoinsAlike target up end
+        → (rank : ℕ → ℕ) × KeepsGoing target up down rank 1 end }
+    ensures drop { (target : Target) (room : ℕ) (up down : Port) (state : DropState) (end : ℕ) → IsDropPlan target up.shape down.shape
+        → 0 < room → RunsAsDrop room up down state → AreLegalAt up end → AnswersAreOwed down end → JoinsAlike target up end
+        → (rank : ℕ → ℕ) × KeepsGoing target up down rank 1 end }
+{
+    mm_links::widths::select_is_a_link();
+    mm_links::bursts::burst_is_a_link();
+    mm_links::bursts::cut_is_a_link();
+    mm_links::widths::split_is_a_link();
+    mm_links::drops::drop_is_a_link()
+}
+
+/// A row that cuts bursts, or doesn't, fits words to those of the agent, or doesn't, and drops beats without a lane, or doesn't, keeps going and holds little back, as `AreLinks` asks, where commands are legal and joined ones alike behind the route, and answers are owed before the arbiter. Such rows fit in the windows.
+pub fn rows_are_modest()
+    ensures rows { (target : Target) (top middle low down : Port) (end : ℕ) → CutsBursts top middle → FitsWords target middle low end → DropsBeats target low down
+        → AreLegalAt top end → AnswersAreOwed down end → JoinsAlike target top end
+        → (standing : ℕ → Standing) × IsModestRow target 3 (ports_of_three down low middle top) standing one_beat_lowest end }
+    ensures fit { (system : System) (ways : Ways) (standings : Standings) (slacks : Slacks) (target : Target) (h end : ℕ)
+        → IsModestRow target (ways.above h) (ways.upper h) (standings.upper h) (slacks.upper h) end
+        → (host_allows system ways standings slacks h ≤ 15) × (toll ways standings h ≤ 5) }
+{
+    links_pass_while_still();
+    what_is_swallowed_stirs();
+    links_keep_going();
+    crate::wires_keep_going();
+    crate::modest_links_fit();
+    mm_links::rows::pass_is_a_link();
+    mm_links::bursts::burst_is_a_link();
+    mm_links::bursts::cut_is_a_link();
+    mm_links::widths::select_is_a_link();
+    mm_links::widths::split_is_a_link();
+    mm_links::drops::drop_is_a_link()
+}

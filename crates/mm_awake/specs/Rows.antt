@@ -1,0 +1,58 @@
+-- How the links in a row between a host's route and an agent's arbiter keep going and hold little back, and the rows that do.
+use Rattle.std.specs.Prelude.{◌≡◌, ℕ, zero, suc, ◌<◌, ◌≤◌, List}
+use Rattle.mm_machines.specs.Link.{Target, Port}
+use Rattle.mm_machines.specs.Machines.{MaySplit}
+use Rattle.mm_links.specs.Bursts.{BurstState, RunsAsBurst, IsBurstPlan}
+use Rattle.mm_links.specs.Cuts.{RunsAsCut, IsCutPlan}
+use Rattle.mm_links.specs.Drops.{DropState, RunsAsDrop, IsDropPlan}
+use Rattle.mm_links.specs.Going.{KeepsGoing}
+use Rattle.mm_links.specs.Selects.{RunsAsSelect, IsSelectPlan, EnablesFit}
+use Rattle.mm_links.specs.Splits.{SplitState, RunsAsSplit}
+use Rattle.mm_awake.specs.Slack.{Slack, PassesWhileStill, IsModestLink}
+use Rattle.mm_awake.specs.Ways.{Standing}
+
+-- at most three links, of which number 0 is the lowest: each keeps going, and holds little back while the highest port is still
+pub record IsModestRow (target : Target) (links : ℕ) (port : ℕ → Port) (standing : ℕ → Standing) (slack : ℕ → Slack) (end : ℕ) : Type 0 where
+  pub going : (i : ℕ) → i < links → KeepsGoing target (port (suc i)) (port i) (standing i).rank (standing i).largest end
+  pub pass : (i : ℕ) → i < links → PassesWhileStill (slack i) (port links) (port (suc i)) (port i) end
+  pub few : links ≤ 3
+  pub first : 0 < links → IsModestLink (slack 0) (standing 0) 1 1 1
+  pub second : 1 < links → IsModestLink (slack 1) (standing 1) 0 0 1
+  pub third : 2 < links → IsModestLink (slack 2) (standing 2) 0 0 0
+
+-- a wire, whose words aren't empty
+pub record IsWired (up down : Port) : Type 0 where
+  pub same : up ≡ down
+  pub some : 0 < up.shape.word_bytes
+
+-- below the route bursts are cut into single beats, or into those that the agent takes, or stay
+pub data CutsBursts (up down : Port) : Type 0 where
+  cutter : (state : BurstState) → IsBurstPlan up.shape down.shape → RunsAsBurst up down state → CutsBursts up down
+  shorter : (longest : ℕ) (state : BurstState) → IsCutPlan longest up.shape down.shape → RunsAsCut longest up down state → CutsBursts up down
+  no_cutter : IsWired up down → CutsBursts up down
+
+-- below that words are made those of the agent
+pub data FitsWords (target : Target) (up down : Port) (end : ℕ) : Type 0 where
+  selector : (many room : ℕ) (offsets : ℕ → List ℕ) → IsSelectPlan target up.shape down.shape many → 1 < room → RunsAsSelect room up down offsets → EnablesFit up end → FitsWords target up down end
+  splitter : (count room : ℕ) (state : SplitState) → MaySplit target up.shape down.shape count → 0 < room → RunsAsSplit room up down state → FitsWords target up down end
+  no_width : IsWired up down → FitsWords target up down end
+
+-- and before the arbiter beats without a lane are dropped, or stay
+pub data DropsBeats (target : Target) (up down : Port) : Type 0 where
+  dropper : (room : ℕ) (state : DropState) → IsDropPlan target up.shape down.shape → 0 < room → RunsAsDrop room up down state → DropsBeats target up down
+  no_dropper : IsWired up down → DropsBeats target up down
+
+-- of three links in a row by number: what the lowest has, the one over it, and the highest
+abbrev pub by_number : {A : Type 0} → A → A → A → ℕ → A
+by_number {A} low middle high zero = low
+by_number {A} low middle high (suc zero) = middle
+by_number {A} low middle high (suc (suc i)) = high
+
+-- their ports, the lowest first
+abbrev pub ports_of_three : Port → Port → Port → Port → ℕ → Port
+ports_of_three lowest low middle top zero = lowest
+ports_of_three lowest low middle top (suc i) = by_number low middle top i
+
+-- the lowest holds back a beat, the others nothing
+abbrev pub one_beat_lowest : ℕ → Slack
+one_beat_lowest = by_number (record { hold = 1; kept = 0 }) (record { hold = 0; kept = 0 }) (record { hold = 0; kept = 0 })
