@@ -7,9 +7,9 @@ use Rattle.mm_machines.specs.Machines.{raw_at}
 use Rattle.mm_links.specs.Driven.{split_above, split_below, split_state, drop_above, drop_below, drop_state}
 use Rattle.mm_links.specs.Drops.{RunsAsDrop, Standing, sends, accepted, keeps, owes_itself}
 use Rattle.mm_links.specs.Splits.{RunsAsSplit}
-use Rattle.mm_awake.specs.Slack.{PassesOn, brings_next}
+use Rattle.mm_awake.specs.Slack.{PassesOn, PassesWhileStill, brings_next}
 use Rattle.mm_awake.specs.Ways.{count_in}
-use Rattle.mm_examples.specs.LinkRuns.{empty_writes, empty_reads}
+use Rattle.mm_examples.specs.LinkRuns.{empty_writes, empty_reads, lost_reads, shows_nothing}
 
 all_in : (test : ℕ → Bool) → ((c : ℕ) → test c ≡ true) → (size : ℕ) → count_in test 0 size ≡ size
 all_in test each zero = refl
@@ -80,3 +80,10 @@ module _ (run : RunsAsDrop 16 (drop_above empty_reads) (drop_below empty_reads) 
       let above = all_in (brings_next (drop_above empty_reads)) word_given (kept + 1) in
       let below = none_in (brings_next (drop_below empty_reads)) (λ c. refl) (kept + 1) in
       omega (arith, few, above, below)
+
+pub reads_are_lost : (hold kept : ℕ) → PassesWhileStill (record { hold = hold; kept = kept }) lost_reads lost_reads shows_nothing (hold + 1) → ⊥
+reads_are_lost hold kept passes =
+    let few = passes.beats 0 (hold + 1) (omega arith) (λ c low high. refl) in
+    let above = all_in (takes lost_reads) (λ c. refl) (hold + 1) in
+    let below = none_in (takes shows_nothing) (λ c. refl) (hold + 1) in
+    omega (arith, few, above, below)

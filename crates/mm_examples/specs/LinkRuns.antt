@@ -396,3 +396,28 @@ empty_reads = record {
     answers = record { valid = always 0; word = always 0; code = always 0 };
   };
 }
+
+-- reads that are accepted in each cycle and get no word
+abbrev pub lost_reads : Port
+lost_reads = record {
+  shape = lane_shape 1;
+  commands = record {
+    signals = record { read = always 1; write = always 0; address = always 2; word = always 0; enables = always 1; count = always 1 };
+    more = always 0;
+    tag = always 0;
+    waitrequest = always 0;
+  };
+  answers = record { valid = always 0; word = always 0; code = always 0 };
+}
+
+abbrev pub shows_nothing : Port
+shows_nothing = record {
+  shape = lane_shape 1;
+  commands = record {
+    signals = record { read = always 0; write = always 0; address = always 0; word = always 0; enables = always 0; count = always 1 };
+    more = always 0;
+    tag = always 0;
+    waitrequest = always 0;
+  };
+  answers = record { valid = always 0; word = always 0; code = always 0 };
+}

@@ -1,6 +1,6 @@
 //! Runs in which a part lets a wanted agent wait for ever, each refused by the record of that part, and right runs that keep the records.
 
-ghost use Rattle.std.specs.Prelude.{◌≡◌, ◌<◌, ◌∷◌, [], ℕ, true};
+ghost use Rattle.std.specs.Prelude.{◌≡◌, ◌<◌, ◌+◌, ◌∷◌, [], ℕ, true};
 ghost use Rattle.mm_runs.specs.Awake.{ServesWithin, ServesDefaultWithin, IsAsked, owes};
 ghost use Rattle.mm_runs.specs.Commands.{agent_accepts};
 ghost use Rattle.mm_machines.specs.Lines.{TaggedPort, target_of};
@@ -8,12 +8,15 @@ ghost use Rattle.mm_machines.specs.Rank.{AnswersPromptly, LinkRankFalls};
 ghost use Rattle.mm_parts.specs.Steps.{IsHostPart, IsRoutePart, IsArbiterPart};
 ghost use Rattle.mm_awake.specs.Approach.{IsAwake};
 ghost use Rattle.mm_awake.specs.Front.{IsFront, IsDefaultFront, KeepsWhole};
+ghost use Rattle.mm_awake.specs.Slack.{PassesOn, PassesWhileStill};
 ghost use Rattle.mm_awake.specs.Ahead.{LeadsAhead, KeepsNothingBack};
 ghost use Rattle.mm_parts.specs.Ahead.{AcceptsAhead};
+ghost use Rattle.mm_links.specs.Driven.{split_above, split_below, drop_above, drop_below};
 ghost use Rattle.mm_links.specs.Going.{GivesWhatHasCome};
 ghost use Rattle.mm_examples.specs.AheadRows.{second_stands, second_held, travel_system, travel_run, travel_ways};
 ghost use Rattle.mm_examples.specs.IdleRows.{pair_system, held_run, held_below, read_port, swallow_run, stray_system, stray_run, two_places};
 ghost use Rattle.mm_examples.specs.IdleRows.{passing_run, passing_down, mistagged, limited_top, limited_down, sets_top, sets_down};
+ghost use Rattle.mm_examples.specs.LinkRuns.{empty_writes, empty_reads, lost_reads, shows_nothing};
 ghost use Rattle.mm_examples.specs.MoreExamples.{byte_target, plain_system, one_by_one_run, plain_pair, held_read_run};
 ghost use Rattle.mm_examples.specs.PartRows.{levels, at_host, below_host};
 ghost use Rattle.mm_examples.specs.WaitingSystem.{waiting_side, waiting_small, waiting_run, early_run, reads_below, waiting_in, waiting_ways, waiting_approach};
@@ -83,6 +86,23 @@ pub fn waiting_host_keeps_all()
     mm_awake::wires_keep_going();
     mm_awake::stages_pass_on();
     mm_awake::links::links_pass_while_still()
+}
+
+/// A splitter that swallows a joined write without a lane in each cycle, and what drops a read without a lane in each cycle and gives its word, keep back no more than their numbers while the port above them is still, for in these cycles it isn't. No numbers bound what they swallow.
+/// A link that accepts a read in each cycle, hands none on and gives no word leaves that port still, and keeps more back than any numbers.
+pub fn swallowing_links()
+    ensures split { (end : ℕ) → PassesWhileStill (record { hold = 0; kept = 0 }) (split_above empty_writes) (split_above empty_writes) (split_below empty_writes) end }
+    ensures split_swallows { (hold kept : ℕ) → PassesOn (record { hold = hold; kept = kept }) (split_above empty_writes) (split_below empty_writes) (hold + 1) → ⊥ }
+    ensures drop { (end : ℕ) → PassesWhileStill (record { hold = 1; kept = 0 }) (drop_above empty_reads) (drop_above empty_reads) (drop_below empty_reads) end }
+    ensures drop_swallows { (hold kept : ℕ) → PassesOn (record { hold = hold; kept = kept }) (drop_above empty_reads) (drop_below empty_reads) (hold + 1) → ⊥ }
+    ensures lost { (hold kept : ℕ) → PassesWhileStill (record { hold = hold; kept = kept }) lost_reads lost_reads shows_nothing (hold + 1) → ⊥ }
+{
+    crate::links::splitters();
+    crate::links::drops();
+    mm_links::runs::split_runs();
+    mm_links::runs::drop_runs();
+    mm_awake::links::links_pass_while_still();
+    mm_awake::links::what_is_swallowed_stirs()
 }
 
 /// A read that is accepted as soon as it is taken below, before its word comes.
