@@ -54,5 +54,7 @@ pub mod Swallowed
 pub mod Stirred
 pub mod Pieces
 pub mod RowOfThree
+pub mod RowLine
+pub mod LoneLink
 pub mod ModestRow
 pub mod SplitCounts

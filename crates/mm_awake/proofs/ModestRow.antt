@@ -3,19 +3,19 @@ use Rattle.std.proofs.Common.{ℕ, zero, suc, ◌<◌, ◌≤◌, List, arith, s
 use Rattle.mm_machines.specs.Link.{Target, Port, AreLegalAt, AnswersAreOwed}
 use Rattle.mm_machines.specs.Machines.{MaySplit}
 use Rattle.mm_machines.specs.PartRanks.{JoinsAlike}
-use Rattle.mm_links.specs.Bursts.{BurstState, RunsAsBurst, IsBurstPlan, burst_form}
+use Rattle.mm_links.specs.Bursts.{BurstState, RunsAsBurst, IsBurstPlan}
 use Rattle.mm_links.specs.Cuts.{RunsAsCut, IsCutPlan}
-use Rattle.mm_links.specs.Drops.{DropState, RunsAsDrop, IsDropPlan, drop_form}
+use Rattle.mm_links.specs.Drops.{DropState, RunsAsDrop, IsDropPlan}
 use Rattle.mm_links.specs.Going.{KeepsGoing}
-use Rattle.mm_links.specs.Links.{LinkForm, IsLink, pass_form}
-use Rattle.mm_links.specs.Selects.{RunsAsSelect, IsSelectPlan, EnablesFit, select_form}
-use Rattle.mm_links.specs.Splits.{SplitState, RunsAsSplit, split_form}
+use Rattle.mm_links.specs.Selects.{RunsAsSelect, IsSelectPlan, EnablesFit}
+use Rattle.mm_links.specs.Splits.{SplitState, RunsAsSplit}
 use Rattle.mm_awake.specs.Rows.{IsModestRow, IsWired, CutsBursts, CutsBursts.cutter, CutsBursts.shorter, CutsBursts.no_cutter, FitsWords, FitsWords.selector, FitsWords.splitter, FitsWords.no_width, DropsBeats, DropsBeats.dropper, DropsBeats.no_dropper, by_number, ports_of_three, one_beat_lowest}
 use Rattle.mm_awake.specs.Slack.{PassesWhileStill}
 use Rattle.mm_awake.specs.Still.{StirsAbove, SpentStirs}
 use Rattle.mm_awake.specs.Ways.{Standing}
 use Rattle.mm_awake.proofs.LinksPass.{on_while_still}
 use Rattle.mm_awake.proofs.Passing.{wire_passes}
+use Rattle.mm_awake.proofs.RowLine.{LinkLaws, carries_of}
 use Rattle.mm_awake.proofs.RowOfThree.{Carries, settled}
 
 -- a rank that is at most so large
@@ -29,44 +29,36 @@ WhenSettled target up down end Kept = AreLegalAt up end → AnswersAreOwed down 
 
 -- the laws of links that are used here
 pub record Laws : Type 0 where
-  pub wire_link : (target : Target) (port : Port) (end : ℕ) → 0 < port.shape.word_bytes → IsLink (pass_form target) port port end
+  pub links : LinkLaws
   pub wire_goes : (target : Target) (port : Port) (end : ℕ) → AreLegalAt port end → KeepsGoing target port port (λ c. 0) 0 end
-  pub burst_link : (target : Target) (up down : Port) (state : BurstState) (end : ℕ) → IsBurstPlan up.shape down.shape → RunsAsBurst up down state → IsLink (burst_form target) up down end
   pub burst_goes : (target : Target) (up down : Port) (state : BurstState) (end : ℕ) → IsBurstPlan up.shape down.shape → RunsAsBurst up down state → WhenSettled target up down end ((rank : ℕ → ℕ) × KeepsGoing target up down rank 0 end)
   pub burst_stirs : (up down : Port) (state : BurstState) → RunsAsBurst up down state → (end : ℕ) → StirsAbove up down end
   pub burst_passes : (top up down : Port) (state : BurstState) → RunsAsBurst up down state → (end : ℕ) → PassesWhileStill (record { hold = 0; kept = 0 }) top up down end
-  pub cut_link : (target : Target) (longest : ℕ) (up down : Port) (state : BurstState) (end : ℕ) → IsCutPlan longest up.shape down.shape → RunsAsCut longest up down state → IsLink (burst_form target) up down end
   pub cut_goes : (target : Target) (longest : ℕ) (up down : Port) (state : BurstState) (end : ℕ) → IsCutPlan longest up.shape down.shape → RunsAsCut longest up down state →
       WhenSettled target up down end ((rank : ℕ → ℕ) × KeepsGoing target up down rank 0 end)
   pub cut_stirs : (longest : ℕ) (up down : Port) (state : BurstState) → RunsAsCut longest up down state → (end : ℕ) → StirsAbove up down end
   pub cut_passes : (longest : ℕ) (top up down : Port) (state : BurstState) → RunsAsCut longest up down state → (end : ℕ) → PassesWhileStill (record { hold = 0; kept = 0 }) top up down end
-  pub select_link : (target : Target) (up down : Port) (many room : ℕ) (offsets : ℕ → List ℕ) (end : ℕ) → IsSelectPlan target up.shape down.shape many → 1 < room → RunsAsSelect room up down offsets → EnablesFit up end → IsLink (select_form target) up down end
   pub select_goes : (target : Target) (up down : Port) (many room : ℕ) (offsets : ℕ → List ℕ) (end : ℕ) → IsSelectPlan target up.shape down.shape many → 1 < room → RunsAsSelect room up down offsets → EnablesFit up end →
       WhenSettled target up down end ((rank : ℕ → ℕ) × KeepsGoing target up down rank 0 end)
   pub select_stirs : (room : ℕ) (up down : Port) (offsets : ℕ → List ℕ) → RunsAsSelect room up down offsets → (end : ℕ) → StirsAbove up down end
   pub select_passes : (target : Target) (top up down : Port) (many room : ℕ) (offsets : ℕ → List ℕ) → IsSelectPlan target up.shape down.shape many → 1 < room → RunsAsSelect room up down offsets → (end : ℕ) →
       PassesWhileStill (record { hold = 0; kept = 0 }) top up down end
-  pub split_link : (target : Target) (room count : ℕ) (up down : Port) (state : SplitState) (end : ℕ) → MaySplit target up.shape down.shape count → 0 < room → RunsAsSplit room up down state → IsLink (split_form target) up down end
   pub split_goes : (target : Target) (room count : ℕ) (up down : Port) (state : SplitState) (end : ℕ) → MaySplit target up.shape down.shape count → 0 < room → RunsAsSplit room up down state →
       WhenSettled target up down end ((rank : ℕ → ℕ) × KeepsGoing target up down rank 1 end)
   pub split_spent : (room : ℕ) (up down : Port) (state : SplitState) → RunsAsSplit room up down state → (end : ℕ) → AreLegalAt up end → AnswersAreOwed down end → SpentStirs up down end
   pub split_passes : (room : ℕ) (top up down : Port) (state : SplitState) → RunsAsSplit room up down state → (end : ℕ) → StirsAbove top up end → PassesWhileStill (record { hold = 0; kept = 0 }) top up down end
-  pub drop_link : (target : Target) (room : ℕ) (up down : Port) (state : DropState) (end : ℕ) → IsDropPlan target up.shape down.shape → 0 < room → RunsAsDrop room up down state → JoinsAlike target up end → IsLink (drop_form target) up down end
   pub drop_goes : (target : Target) (room : ℕ) (up down : Port) (state : DropState) (end : ℕ) → IsDropPlan target up.shape down.shape → 0 < room → RunsAsDrop room up down state →
       WhenSettled target up down end ((rank : ℕ → ℕ) × KeepsGoing target up down rank 1 end)
   pub drop_passes : (room : ℕ) (top up down : Port) (state : DropState) → RunsAsDrop room up down state → (end : ℕ) → SpentStirs top up end → PassesWhileStill (record { hold = 1; kept = 0 }) top up down end
   pub above : (up down : Port) (end : ℕ) → StirsAbove up down end → SpentStirs up down end
   pub further : (top up down : Port) (end : ℕ) → StirsAbove top up end → SpentStirs up down end → SpentStirs top down end
 
-carries_of : {form : LinkForm} {up down : Port} {end : ℕ} → IsLink form up down end → Carries form.target up down end
-carries_of link = record { hold = _; carries = link.row.carries; joins = link.joins }
-
 ranked : {target : Target} {up down : Port} {end : ℕ} (largest : ℕ) → (rank : ℕ → ℕ) × KeepsGoing target up down rank largest end → Goes largest target up down end
 ranked largest goes = record { standing = record { rank = goes.0; largest = largest }; few = le_refl largest; going = goes.1 }
 
 module _ (laws : Laws) (target : Target) (end : ℕ) where
   wire_carries : (up down : Port) → IsWired up down → Carries target up down end
-  wire_carries up down wired = subst (λ p. Carries target up p end) wired.same (carries_of (laws.wire_link target up end wired.some))
+  wire_carries up down wired = subst (λ p. Carries target up p end) wired.same (carries_of (laws.links.wire target up end wired.some))
 
   wire_goes : (largest : ℕ) (up down : Port) → IsWired up down → AreLegalAt up end → Goes largest target up down end
   wire_goes largest up down wired legal =
@@ -87,13 +79,13 @@ module _ (laws : Laws) (target : Target) (end : ℕ) where
 
   high_of : (top middle : Port) → CutsBursts top middle → High top middle
   high_of top middle (cutter state plan run) = record {
-    carries = carries_of (laws.burst_link target top middle state end plan run);
+    carries = carries_of (laws.links.burst target top middle state end plan run);
     goes = λ legal owed alike. ranked 0 (laws.burst_goes target top middle state end plan run legal owed alike);
     stirs_so = laws.burst_stirs top middle state run end;
     passes = laws.burst_passes top top middle state run end;
   }
   high_of top middle (shorter longest state plan run) = record {
-    carries = carries_of (laws.cut_link target longest top middle state end plan run);
+    carries = carries_of (laws.links.cut target longest top middle state end plan run);
     goes = λ legal owed alike. ranked 0 (laws.cut_goes target longest top middle state end plan run legal owed alike);
     stirs_so = laws.cut_stirs longest top middle state run end;
     passes = laws.cut_passes longest top top middle state run end;
@@ -117,13 +109,13 @@ module _ (laws : Laws) (target : Target) (end : ℕ) where
 
   mid_of : (top middle low : Port) → FitsWords target middle low end → Mid top middle low
   mid_of top middle low (selector many room offsets plan deep run fit) = record {
-    carries = carries_of (laws.select_link target middle low many room offsets end plan deep run fit);
+    carries = carries_of (laws.links.select target middle low many room offsets end plan deep run fit);
     goes = λ legal owed alike. larger (ranked 0 (laws.select_goes target middle low many room offsets end plan deep run fit legal owed alike));
     spent = λ legal owed. laws.above middle low end (laws.select_stirs room middle low offsets run end);
     passes = λ above. laws.select_passes target top middle low many room offsets plan deep run end;
   }
   mid_of top middle low (splitter count room state may some run) = record {
-    carries = carries_of (laws.split_link target room count middle low state end may some run);
+    carries = carries_of (laws.links.split target room count middle low state end may some run);
     goes = λ legal owed alike. ranked 1 (laws.split_goes target room count middle low state end may some run legal owed alike);
     spent = λ legal owed. laws.split_spent room middle low state run end legal owed;
     passes = λ above. laws.split_passes room top middle low state run end above;
@@ -178,7 +170,7 @@ module _ (laws : Laws) (target : Target) (end : ℕ) where
         passes (suc (suc (suc i))) h = absurd (omega (arith, h))
 
 low_carries : (laws : Laws) (target : Target) (low down : Port) → DropsBeats target low down → (c : ℕ) → JoinsAlike target low c → Carries target low down c
-low_carries laws target low down (dropper room state plan some run) c alike = carries_of (laws.drop_link target room low down state c plan some run alike)
+low_carries laws target low down (dropper room state plan some run) c alike = carries_of (laws.links.drop target room low down state c plan some run alike)
 low_carries laws target low down (no_dropper wired) c alike = wire_carries laws target c low down wired
 
 pub row_is_modest : Laws → (target : Target) (top middle low down : Port) (end : ℕ) → CutsBursts top middle → FitsWords target middle low end → DropsBeats target low down →

@@ -1,6 +1,8 @@
 //! How little the links of a row keep back while the port behind their route is still.
 
-ghost use Rattle.std.specs.Prelude.{ℕ, ◌<◌, ◌≤◌, List};
+ghost use Rattle.std.specs.Prelude.{◌≡◌, ℕ, ◌<◌, ◌≤◌, Bool, List, IsTrue, IsFalse, false};
+ghost use Rattle.mm_machines.specs.Lines.{KeepsRow, BringsLanes, HavePlacedLanes, sent_by, target_of};
+ghost use Rattle.mm_runs.specs.Order.{host_transfers};
 ghost use Rattle.mm_machines.specs.Link.{Target, Port, AreLegalAt, AnswersAreOwed};
 ghost use Rattle.mm_machines.specs.Machines.{MaySplit};
 ghost use Rattle.mm_machines.specs.PartRanks.{JoinsAlike};
@@ -8,10 +10,12 @@ ghost use Rattle.mm_links.specs.Bursts.{BurstState, RunsAsBurst, IsBurstPlan};
 ghost use Rattle.mm_links.specs.Cuts.{RunsAsCut, IsCutPlan};
 ghost use Rattle.mm_links.specs.Drops.{DropState, RunsAsDrop, IsDropPlan};
 ghost use Rattle.mm_links.specs.Going.{KeepsGoing};
+ghost use Rattle.mm_links.specs.InStep.{GoesInStep};
+ghost use Rattle.mm_links.specs.Links.{IsStraightLink};
 ghost use Rattle.mm_links.specs.Selects.{RunsAsSelect, IsSelectPlan, EnablesFit};
 ghost use Rattle.mm_links.specs.Splits.{SplitState, RunsAsSplit};
-ghost use Rattle.mm_runs.specs.Views.{System};
-ghost use Rattle.mm_awake.specs.Rows.{IsModestRow, CutsBursts, FitsWords, DropsBeats, ports_of_three, one_beat_lowest};
+ghost use Rattle.mm_runs.specs.Views.{System, Run};
+ghost use Rattle.mm_awake.specs.Rows.{IsModestRow, CutsBursts, FitsWords, DropsBeats, HasOneLink, drops_some, drops_in, ports_of_three, one_beat_lowest};
 ghost use Rattle.mm_awake.specs.Slack.{Slack, Slacks, PassesOn, PassesWhileStill, host_allows, toll};
 ghost use Rattle.mm_awake.specs.Ways.{Ways, Standing, Standings};
 ghost use Rattle.mm_awake.specs.Still.{StirsAbove, SpentStirs};
@@ -91,4 +95,42 @@ pub fn rows_are_modest()
     mm_links::widths::select_is_a_link();
     mm_links::widths::split_is_a_link();
     mm_links::drops::drop_is_a_link()
+}
+
+/// Such a row keeps its line, and holds two transfers at most, where joined commands are alike behind the route. It brings lanes where it drops beats, or the host shows none without a lane for an agent without byte enables.
+pub fn rows_keep_their_lines()
+    ensures row { (target : Target) (top middle low down : Port) (end : ℕ) → CutsBursts top middle → FitsWords target middle low end → DropsBeats target low down
+        → JoinsAlike target top end → KeepsRow target 2 top down end }
+    ensures lanes { (system : System) (run : Run) (host agent : ℕ) (top middle low down : Port) (end : ℕ)
+        → CutsBursts top middle → FitsWords (target_of system agent) middle low end → (drops : DropsBeats (target_of system agent) low down) → JoinsAlike (target_of system agent) top end
+        → (IsFalse (drops_some drops) → (c : ℕ) → c ≤ end → HavePlacedLanes system host agent (sent_by (host_transfers system run host c)))
+        → BringsLanes system run host agent top down end }
+{
+    mm_machines::links::rows_compose();
+    mm_links::rows::pass_is_a_link();
+    mm_links::rows::chain_is_a_link();
+    mm_links::bursts::burst_is_a_link();
+    mm_links::bursts::cut_is_a_link();
+    mm_links::widths::select_is_a_link();
+    mm_links::widths::split_is_a_link();
+    mm_links::drops::drop_is_a_link()
+}
+
+/// A row of which all links but one are wires is straight and prompt, and goes in step between equal words, as that link does. What drops beats keeps a write that another may follow, so there the first beats of joined writes aren't to be shown promptly.
+pub fn lone_links_are_straight()
+    ensures straight { (few : ℕ) (may_burst : Bool) (target : Target) (top middle low down : Port) (end : ℕ) → (one : HasOneLink target top middle low down end)
+        → (IsTrue (drops_in one) → IsFalse may_burst) → JoinsAlike target top end → IsStraightLink few false may_burst target top down end }
+    ensures step { (target : Target) (top middle low down : Port) (end : ℕ) → HasOneLink target top middle low down end
+        → AreLegalAt top end → AnswersAreOwed down end → JoinsAlike target top end
+        → top.shape.word_bytes ≡ down.shape.word_bytes → GoesInStep false target top down end }
+{
+    mm_links::rows::pass_is_a_link();
+    mm_links::rows::pass_goes_in_step();
+    mm_links::bursts::burst_is_straight();
+    mm_links::bursts::burst_goes_in_step();
+    mm_links::bursts::cut_is_straight();
+    mm_links::bursts::cut_goes_in_step();
+    mm_links::widths::select_is_prompt();
+    mm_links::widths::split_is_prompt();
+    mm_links::drops::drop_is_straight()
 }

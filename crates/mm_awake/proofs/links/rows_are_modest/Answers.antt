@@ -3,25 +3,27 @@ use Rattle.mm_awake.proofs.links.rows_are_modest.Goals as goal
 
 pub returns-clause-rows : goal.returns-clause-rows
 returns-clause-rows c = row_is_modest (record {
-  wire_link = c.pass_is_a_link.ensures.link;
+  links = record {
+    wire = c.pass_is_a_link.ensures.link;
+    burst = c.burst_is_a_link.ensures;
+    cut = c.cut_is_a_link.ensures;
+    select = c.select_is_a_link.ensures;
+    split = c.split_is_a_link.ensures;
+    drop = c.drop_is_a_link.ensures;
+  };
   wire_goes = c.wires_keep_going.ensures;
-  burst_link = c.burst_is_a_link.ensures;
   burst_goes = c.links_keep_going.ensures.burst;
   burst_stirs = c.what_is_swallowed_stirs.ensures.burst;
   burst_passes = c.links_pass_while_still.ensures.burst;
-  cut_link = c.cut_is_a_link.ensures;
   cut_goes = c.links_keep_going.ensures.cut;
   cut_stirs = c.what_is_swallowed_stirs.ensures.cut;
   cut_passes = c.links_pass_while_still.ensures.cut;
-  select_link = c.select_is_a_link.ensures;
   select_goes = c.links_keep_going.ensures.select;
   select_stirs = c.what_is_swallowed_stirs.ensures.select;
   select_passes = c.links_pass_while_still.ensures.select;
-  split_link = c.split_is_a_link.ensures;
   split_goes = c.links_keep_going.ensures.split;
   split_spent = c.what_is_swallowed_stirs.ensures.split;
   split_passes = c.links_pass_while_still.ensures.split;
-  drop_link = c.drop_is_a_link.ensures;
   drop_goes = c.links_keep_going.ensures.drop;
   drop_passes = c.links_pass_while_still.ensures.drop;
   above = c.what_is_swallowed_stirs.ensures.above;
