@@ -56,5 +56,8 @@ pub mod Pieces
 pub mod RowOfThree
 pub mod RowLine
 pub mod LoneLink
+pub mod SilentRoute
+pub mod StageLine
+pub mod RowBuilt
 pub mod ModestRow
 pub mod SplitCounts

@@ -9,3 +9,4 @@ pub mod Fair
 pub mod PlainSystem
 pub mod Still
 pub mod Rows
+pub mod RowSystem

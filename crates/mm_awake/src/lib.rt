@@ -4,6 +4,7 @@
 pub mod fair;
 pub mod links;
 pub mod plain;
+pub mod rows;
 
 ghost use Rattle.std.specs.Prelude.{◌≡◌, ℕ, suc, ◌≤◌, ◌<◌, ◌+◌, ◌-◌, IsTrue, Some};
 ghost use Rattle.histories.specs.History.{IsPrefix};

@@ -1,0 +1,208 @@
+-- A system of machines whose links are machines too is built: by steps in time, joined commands are alike behind its routes, so each row of links keeps its line.
+use Rattle.std.proofs.Common.{ℕ, zero, suc, ◌≡◌, ◌<◌, ◌≤◌, ◌-◌, ◌/◌, min, Bool, true, false, arith, refl, ap, ap₂, ◌∙◌, le_refl, nat_lt, IsFalse}
+use Rattle.std.proofs.lemmas.Bool.{ltb-true, ltb-false}
+use Rattle.mm_runs.specs.Views.{System, Run, Responses}
+use Rattle.mm_runs.specs.Order.{host_transfers}
+use Rattle.mm_runs.specs.Shorter.{legal_run_before}
+use Rattle.mm_runs.specs.Whole.{IsLegalRun}
+use Rattle.mm_machines.specs.Link.{Port, Target, AreLegalAt, AnswersAreOwed}
+use Rattle.mm_machines.specs.Lines.{TaggedPort, Holds, Wired, IsHostLine, IsRouteLine, IsArbiterLine, IsAgentLine, IsPipeLine, KeepsRow, BringsLanes, HavePlacedLanes, AreSingle, OwesBelow, AreTaggedInOrder, AreOwedByTag, sent_by, target_of}
+use Rattle.mm_machines.specs.PartRanks.{JoinsAlike}
+use Rattle.mm_machines.specs.Settled.{IsSettled}
+use Rattle.mm_awake.specs.RowSystem.{RowPorts, AreRows, boundaries_of}
+use Rattle.mm_awake.specs.Rows.{IsModestRow, CutsBursts, FitsWords, FitsWords.selector, FitsWords.splitter, FitsWords.no_width, DropsBeats, drops_some, ports_of_three, one_beat_lowest}
+use Rattle.mm_awake.specs.Slack.{Slacks, host_allows, toll}
+use Rattle.mm_awake.specs.Theorem.{Boundaries, States, LinkRanks, ArePlanned, KeepRows, AreMachines, AreLinks, IsBuilt, inside_of, ways_of, standings_of, slacks_of}
+use Rattle.mm_awake.specs.Ways.{Ways, Standing, Standings}
+use Rattle.mm_awake.proofs.Building.{Laws as PartLaws}
+use Rattle.mm_awake.proofs.Piped.{tagged_at}
+use Rattle.mm_awake.proofs.SilentRoute.{single_behind}
+use Rattle.mm_awake.proofs.StageLine.{PipeLaws, hold_of, hold_is, pipe_line}
+
+pub record Laws : Type 0 where
+  pub parts : PartLaws
+  pub row : (target : Target) (top middle low down : Port) (end : ℕ) → CutsBursts top middle → FitsWords target middle low end → DropsBeats target low down → JoinsAlike target top end → KeepsRow target 2 top down end
+  pub lanes : (system : System) (run : Run) (host agent : ℕ) (top middle low down : Port) (end : ℕ) → CutsBursts top middle → FitsWords (target_of system agent) middle low end → (drops : DropsBeats (target_of system agent) low down) → JoinsAlike (target_of system agent) top end →
+      (IsFalse (drops_some drops) → (c : ℕ) → c ≤ end → HavePlacedLanes system host agent (sent_by (host_transfers system run host c))) → BringsLanes system run host agent top down end
+  pub modest : (target : Target) (top middle low down : Port) (end : ℕ) → CutsBursts top middle → FitsWords target middle low end → DropsBeats target low down → AreLegalAt top end → AnswersAreOwed down end → JoinsAlike target top end →
+      (standing : ℕ → Standing) × IsModestRow target 3 (ports_of_three down low middle top) standing one_beat_lowest end
+  pub fit : (system : System) (ways : Ways) (standings : Standings) (slacks : Slacks) (target : Target) (h end : ℕ) → IsModestRow target (ways.above h) (ways.upper h) (standings.upper h) (slacks.upper h) end →
+      (host_allows system ways standings slacks h ≤ 15) × (toll ways standings h ≤ 5)
+  pub alike : (target : Target) (port : Port) (tag end : ℕ) → AreLegalAt port end → AreSingle port end → ((c : ℕ) → c < end → port.commands.tag c ≡ tag) → JoinsAlike target port end
+  pub pipes : PipeLaws
+  pub owed_tags : (system : System) (tagged : TaggedPort) (end : ℕ) → AreTaggedInOrder tagged end → AreOwedByTag system tagged end
+
+-- lines hold up to each earlier cycle
+fits_before : {target : Target} {up down : Port} {end : ℕ} (c : ℕ) → c ≤ end → FitsWords target up down end → FitsWords target up down c
+fits_before c h (selector many room offsets plan deep run fit) = selector many room offsets plan deep run (λ k less. fit k (omega (arith, less, h)))
+fits_before c h (splitter count room state may some run) = splitter count room state may some run
+fits_before c h (no_width wired) = no_width wired
+
+module _ (responses : Responses) (system : System) (run : Run) (c end : ℕ) (h : c ≤ end) where
+  host_before : (host hold room : ℕ) (down : Port) → IsHostLine responses system run host hold room down end → IsHostLine responses system run host hold room down c
+  host_before host hold room down line = record {
+    commands = λ k fit. line.commands k (omega (arith, fit, h));
+    single = λ k fit. line.single k (omega (arith, fit, h));
+    debt = λ k fit. line.debt k (omega (arith, fit, h));
+    answers = λ k fit. line.answers k (omega (arith, fit, h));
+  }
+
+  route_before : (host hold room : ℕ) (up : Port) (down : ℕ → Port) → IsRouteLine responses system host hold room up down end → IsRouteLine responses system host hold room up down c
+  route_before host hold room up down line = record { commands = λ k fit. line.commands k (omega (arith, fit, h)); answers = λ k fit. line.answers k (omega (arith, fit, h)) }
+
+  arbiter_before : (agent hold : ℕ) (up : ℕ → Port) (down : TaggedPort) → IsArbiterLine responses system agent hold up down end → IsArbiterLine responses system agent hold up down c
+  arbiter_before agent hold up down line = record { commands = λ k fit. line.commands k (omega (arith, fit, h)); answers = λ k fit. line.answers k (omega (arith, fit, h)) }
+
+  pipe_before : (agent hold stages : ℕ) (up down : TaggedPort) → IsPipeLine system agent hold stages up down end → IsPipeLine system agent hold stages up down c
+  pipe_before agent hold stages up down line = record { same = line.same; commands = λ k fit. line.commands k (omega (arith, fit, h)); answers = λ k fit. line.answers k (omega (arith, fit, h)) }
+
+  agent_before : (agent hold : ℕ) (up : TaggedPort) → IsAgentLine responses system run agent hold up end → IsAgentLine responses system run agent hold up c
+  agent_before agent hold up line = record { commands = λ k fit. line.commands k (omega (arith, fit, h)); answers = λ k fit. line.answers k (omega (arith, fit, h)) }
+
+module _ (laws : Laws) (responses : Responses) (system : System) (run : Run) (ports : RowPorts) (states : States) (end : ℕ) (plan : ArePlanned system (boundaries_of ports) states)
+    (machines : AreMachines responses system run (boundaries_of ports) states end) (rows : AreRows system run ports states end) (legal : IsLegalRun system run end) where
+  abbrev inside : Boundaries
+  inside = boundaries_of ports
+
+  host_line : (h : ℕ) → h < system.hosts → IsHostLine responses system run h 0 (states.room h) (ports.after_host h) end
+  host_line h low = laws.parts.line.host responses system run h (states.room h) (ports.after_host h) (states.host h) end (plan.rooms h low) (machines.one_word h low) (machines.host h low)
+
+  route_line : (h : ℕ) → h < system.hosts → IsRouteLine responses system h 0 (states.room h) (ports.after_host h) (ports.after_route h) end
+  route_line h low = laws.parts.line.route responses system h (states.room h) (ports.after_host h) (ports.after_route h) (states.route h) end (plan.places h low) (machines.route h low)
+
+  arbiter_line : (a : ℕ) → a < system.agents → IsArbiterLine responses system a 0 (λ h. ports.before_arbiter h a) (ports.lower a system.stages) end
+  arbiter_line a there = laws.parts.line.arbiter responses system a (λ h. ports.before_arbiter h a) (ports.lower a system.stages) (states.grant a) end (plan.joined a) (machines.arbiter a there)
+
+  agent_line : (a : ℕ) → a < system.agents → IsAgentLine responses system run a 0 (ports.lower a 0) end
+  agent_line a there = laws.parts.line.agent responses system run a (ports.lower a 0) (states.agent a) end (plan.agents a there) (machines.agent a there)
+
+  some_word : (a : ℕ) → a < system.agents → 0 < (ports.lower a 0).shape.word_bytes
+  some_word a there = let same = (machines.agent a there).commands.words in let some = (plan.agents a there).word in omega (arith, same, some)
+
+  pipe_of : (a : ℕ) → a < system.agents → IsPipeLine system a (hold_of system.stages) system.stages (ports.lower a system.stages) (ports.lower a 0) end
+  pipe_of a there = pipe_line laws.pipes system a end (ports.lower a) (states.stage a) system.stages (λ i low. machines.stage a i there low) (λ i low. rows.places a i there low) (some_word a there)
+
+  abbrev Alike : ℕ → Type 0
+  Alike c = (h a : ℕ) → h < system.hosts → a < system.agents → JoinsAlike (target_of system a) (ports.after_route h a) c
+
+  row_line : (c : ℕ) → c ≤ end → Alike c → (h a : ℕ) → h < system.hosts → a < system.agents → KeepsRow (target_of system a) 2 (ports.after_route h a) (ports.before_arbiter h a) c
+  row_line c fit alike h a low there =
+      laws.row (target_of system a) (ports.after_route h a) (ports.below_cutter h a) (ports.above_dropper h a) (ports.before_arbiter h a) c (rows.cuts h a low there) (fits_before c fit (rows.fits h a low there)) (rows.drops h a low there) (alike h a low there)
+
+  row_lanes : (c : ℕ) → c ≤ end → Alike c → (h a : ℕ) → h < system.hosts → a < system.agents → BringsLanes system run h a (ports.after_route h a) (ports.before_arbiter h a) c
+  row_lanes c fit alike h a low there =
+      laws.lanes system run h a (ports.after_route h a) (ports.below_cutter h a) (ports.above_dropper h a) (ports.before_arbiter h a) c (rows.cuts h a low there) (fits_before c fit (rows.fits h a low there)) (rows.drops h a low there) (alike h a low there)
+      (λ none k less. rows.lanes h a low there none k (omega (arith, less, fit)))
+
+  kept : (c : ℕ) → c ≤ end → Alike c → KeepRows system run inside states c
+  kept c fit alike = record {
+    link_hold = 2;
+    pipe_hold = hold_of system.stages;
+    few = (let few = hold_is system.stages in omega (arith, few));
+    links = row_line c fit alike;
+    lanes = row_lanes c fit alike;
+    words = λ h a low there.
+        let top : (ports.after_route h a).shape.word_bytes ≡ (system.host h).shape.word_bytes = ap (λ s. s.word_bytes) ((machines.route h low).shapes a there) ∙ (plan.places h low).words in
+        let bottom : (ports.before_arbiter h a).shape.word_bytes ≡ (system.agent a).shape.word_bytes = plan.words h a low there ∙ ap (λ s. s.word_bytes) (pipe_of a there).same ∙ (machines.agent a there).commands.words in
+        let same = ap₂ {C = ℕ} (λ m n. m / min m n) top bottom in
+        omega (arith, same);
+    pipe = λ a there. pipe_before responses system run c end fit a (hold_of system.stages) system.stages (ports.lower a system.stages) (ports.lower a 0) (pipe_of a there);
+  }
+
+  abbrev holds : Holds
+  holds = record { host = 0; route = 0; links = 2; arbiter = 0; pipe = hold_of system.stages; agent = 0 }
+
+  wired_at : (c : ℕ) → c ≤ end → Alike c → Wired responses system run (inside_of system inside) holds c
+  unfolding kept
+  wired_at c fit alike =
+      let keeps = kept c fit alike in record {
+        room = states.room;
+        placed = λ h t a low place. (plan.places h low).agents _ _ a place;
+        joined = plan.joined;
+        words = keeps.words;
+        few = (let few = hold_is system.stages in omega (arith, few));
+        host = λ h low. host_before responses system run c end fit h 0 (states.room h) (ports.after_host h) (host_line h low);
+        route = λ h low. route_before responses system run c end fit h 0 (states.room h) (ports.after_host h) (ports.after_route h) (route_line h low);
+        links = keeps.links;
+        lanes = keeps.lanes;
+        arbiter = λ a there. arbiter_before responses system run c end fit a 0 (λ h. ports.before_arbiter h a) (ports.lower a system.stages) (arbiter_line a there);
+        pipe = keeps.pipe;
+        agent = λ a there. agent_before responses system run c end fit a 0 (ports.lower a 0) (agent_line a there);
+      }
+
+  settled_at : (c : ℕ) → c ≤ end → Alike c → IsSettled system run (inside_of system inside) states.room c
+  unfolding wired_at
+  settled_at c fit alike = laws.parts.settle responses system run (inside_of system inside) holds c (wired_at c fit alike) (legal_run_before c end fit system run legal)
+
+  alike_by : (c : ℕ) → c ≤ end → ((h : ℕ) → h < system.hosts → AnswersAreOwed (ports.after_host h) (c - 1)) → ((h a : ℕ) → h < system.hosts → a < system.agents → AnswersAreOwed (ports.after_route h a) (c - 1)) →
+      ((h a : ℕ) → h < system.hosts → a < system.agents → AreLegalAt (ports.after_host h) c → AreSingle (ports.after_host h) c → OwesBelow (states.room h) (ports.after_host h) c → AreSingle (ports.after_route h a) c) → Alike c
+  alike_by c fit owed_host owed_route single h a low there =
+      let host_legal = (legal_run_before c end fit system run legal).hosts h low in
+      let up_legal = ((host_line h low).commands c fit host_legal (owed_host h low)).legal in
+      let up_single = (host_line h low).single c fit host_legal (owed_host h low) in
+      let up_below = (host_line h low).debt c fit host_legal (owed_host h low) in
+      let carried = (route_line h low).commands c fit up_legal up_single up_below (λ b here. owed_route h b low here) in
+      laws.alike (target_of system a) (ports.after_route h a) h c (carried.legal a there) (single h a low there up_legal up_single up_below) (λ k less. carried.tag a k there less)
+
+  alike_at : (c : ℕ) → c ≤ end → Alike c
+  alike_at zero fit = alike_by zero fit (λ h low k less. absurd (omega (arith, less))) (λ h a low there k less. absurd (omega (arith, less))) (λ h a low there legal_up single_up below_up k less shown. absurd (omega (arith, less)))
+  alike_at (suc c) fit =
+      let settled = settled_at c (omega (arith, fit)) (alike_at c (omega (arith, fit))) in
+      alike_by (suc c) fit (λ h low k less. settled.owed h low k (omega (arith, less))) (λ h a low there k less. settled.owed_after_route h a low there k (omega (arith, less)))
+      (λ h a low there legal_up single_up below_up.
+      single_behind laws.parts.route responses system h (states.room h) (ports.after_host h) (ports.after_route h) (states.route h) end (plan.places h low) (machines.route h low) c fit legal_up single_up below_up
+      (λ b here. settled.owed_after_route h b low here) a there)
+
+  pub alike : Alike end
+  alike = alike_at end (le_refl end)
+
+  settled : IsSettled system run (inside_of system inside) states.room end
+  settled = settled_at end (le_refl end) alike
+
+  pub legal_top : (h a : ℕ) → h < system.hosts → a < system.agents → AreLegalAt (ports.after_route h a) end
+  legal_top h a low there =
+      ((route_line h low).commands end (le_refl end) (settled.legal h low) (settled.single h low) (settled.debt h low) (λ b here k less. settled.owed_after_route h b low here k (omega (arith, less)))).legal a there
+
+  -- answers are owed before the arbiters
+  pub owed_down : (h a : ℕ) → h < system.hosts → a < system.agents → AnswersAreOwed (ports.before_arbiter h a) end
+  owed_down h a low there = ((arbiter_line a there).answers end (le_refl end) (settled.asks a there) (laws.owed_tags system (ports.lower a system.stages) end tagged)).owed h low
+    where
+      bottom : AreTaggedInOrder (ports.lower a 0) end
+      bottom = laws.parts.tags responses system run a (ports.lower a 0) (states.agent a) end (plan.agents a there) (settled.before_agent a there) (legal.agents a there) (machines.agent a there)
+
+      tagged : AreTaggedInOrder (ports.lower a system.stages) end
+      tagged = tagged_at laws.parts.stages (target_of system a) (ports.lower a) (states.stage a) system.stages end (λ i less. machines.stage a i there less) (some_word a there) (settled.after_arbiter a there).legal bottom system.stages (le_refl system.stages)
+
+  -- a row that holds little back, where there is one
+  pub record Row (h a : ℕ) : Type 0 where
+    pub standing : ℕ → Standing
+    pub modest : h < system.hosts → a < system.agents → IsModestRow (target_of system a) 3 (ports_of_three (ports.before_arbiter h a) (ports.above_dropper h a) (ports.below_cutter h a) (ports.after_route h a)) standing one_beat_lowest end
+
+  row_of : (h a : ℕ) → Row h a
+  row_of h a = by_place (nat_lt h system.hosts) (nat_lt a system.agents) refl refl
+    where
+      by_place : (x y : Bool) → nat_lt h system.hosts ≡ x → nat_lt a system.agents ≡ y → Row h a
+      by_place true true e f =
+          let low = ltb-true h system.hosts e in
+          let there = ltb-true a system.agents f in
+          let found = laws.modest (target_of system a) (ports.after_route h a) (ports.below_cutter h a) (ports.above_dropper h a) (ports.before_arbiter h a) end (rows.cuts h a low there) (rows.fits h a low there) (rows.drops h a low there)
+          (legal_top h a low there) (owed_down h a low there) (alike h a low there) in
+          record { standing = found.0; modest = λ low there. found.1 }
+      by_place true false e f = let past = ltb-false a system.agents f in record { standing = λ i. record { rank = λ c. 0; largest = 0 }; modest = λ low there. absurd (omega (arith, there, past)) }
+      by_place false y e f = let past = ltb-false h system.hosts e in record { standing = λ i. record { rank = λ c. 0; largest = 0 }; modest = λ low there. absurd (omega (arith, low, past)) }
+
+  abbrev ranks : LinkRanks
+  ranks = record { standing = λ h a. (row_of h a).standing; slack = λ h a. one_beat_lowest }
+
+  links : AreLinks system run inside states ranks end
+  links = record {
+    some = λ h a low there. omega arith;
+    going = λ h a i low there fit. ((row_of h a).modest low there).going i fit;
+    pass = λ h a i low there fit. ((row_of h a).modest low there).pass i fit;
+    allow = λ h a low there. (laws.fit system (ways_of system inside a) (standings_of system run states ranks a) (slacks_of states ranks a) (target_of system a) h end ((row_of h a).modest low there)).0;
+    toll = λ h a low there. (laws.fit system (ways_of system inside a) (standings_of system run states ranks a) (slacks_of states ranks a) (target_of system a) h end ((row_of h a).modest low there)).1;
+    wired = rows.wired;
+  }
+
+  pub rows_built : (ranks : LinkRanks) × IsBuilt responses system run inside states ranks end
+  rows_built = (ranks, record { plan = plan; rows = kept end (le_refl end) alike; machines = machines; links = links })

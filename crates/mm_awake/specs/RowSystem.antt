@@ -1,0 +1,45 @@
+-- Systems of machines whose links are machines too: three in a row between a host's route and an agent's arbiter, each of which may be a wire.
+use Rattle.std.specs.Prelude.{◌≡◌, ℕ, ◌<◌, ◌≤◌, IsTrue, IsFalse}
+use Rattle.mm_runs.specs.Views.{System, Run}
+use Rattle.mm_runs.specs.Awake.{is_alike}
+use Rattle.mm_runs.specs.Order.{host_transfers, is_joined}
+use Rattle.mm_machines.specs.Link.{Port}
+use Rattle.mm_machines.specs.Lines.{TaggedPort, HavePlacedLanes, sent_by, target_of}
+use Rattle.mm_awake.specs.Fair.{may_burst_to}
+use Rattle.mm_awake.specs.Rows.{CutsBursts, FitsWords, DropsBeats, HasOneLink, drops_some, drops_in, ports_of_three}
+use Rattle.mm_awake.specs.Theorem.{Boundaries, States}
+
+-- the boundaries inside, of a host and an agent from the route down
+pub record RowPorts : Type 0 where
+  pub after_host : ℕ → Port
+  pub after_route : ℕ → ℕ → Port
+  pub below_cutter : ℕ → ℕ → Port
+  pub above_dropper : ℕ → ℕ → Port
+  pub before_arbiter : ℕ → ℕ → Port
+  pub lower : ℕ → ℕ → TaggedPort
+
+abbrev pub boundaries_of : RowPorts → Boundaries
+boundaries_of ports = record {
+  after_host = ports.after_host;
+  links = λ h a. 3;
+  upper = λ h a. ports_of_three (ports.before_arbiter h a) (ports.above_dropper h a) (ports.below_cutter h a) (ports.after_route h a);
+  lower = ports.lower;
+}
+
+-- every link is its machine or a wire, and every pipe is one of stages
+pub record AreRows (system : System) (run : Run) (ports : RowPorts) (states : States) (end : ℕ) : Type 0 where
+  pub cuts : (h a : ℕ) → h < system.hosts → a < system.agents → CutsBursts (ports.after_route h a) (ports.below_cutter h a)
+  pub fits : (h a : ℕ) → h < system.hosts → a < system.agents → FitsWords (target_of system a) (ports.below_cutter h a) (ports.above_dropper h a) end
+  pub drops : (h a : ℕ) → h < system.hosts → a < system.agents → DropsBeats (target_of system a) (ports.above_dropper h a) (ports.before_arbiter h a)
+  -- where no beats are dropped, the agent has byte enables or the host shows it no beat without a lane
+  pub lanes : (h a : ℕ) (low : h < system.hosts) (there : a < system.agents) → IsFalse (drops_some (drops h a low there)) → (c : ℕ) → c ≤ end → HavePlacedLanes system h a (sent_by (host_transfers system run h c))
+  -- a host whose plain commands reach an agent with readdatavalid one for one is wired to its arbiter
+  pub wired : (h a : ℕ) → h < system.hosts → a < system.agents → IsTrue (is_joined system a h) → IsTrue (system.agent a).has_readdatavalid → IsTrue (is_alike (system.host h) (system.agent a)) →
+      ports.before_arbiter h a ≡ ports.after_route h a
+  -- each stage of a pipe has two places
+  pub places : (a i : ℕ) → a < system.agents → i < system.stages → (states.stage a i).depth ≡ 2
+
+-- all links of such a row but one are wires, and where beats are dropped the host has byte enables
+pub record IsFairRow (system : System) (ports : RowPorts) (agent host end : ℕ) : Type 0 where
+  pub one : HasOneLink (target_of system agent) (ports.after_route host agent) (ports.below_cutter host agent) (ports.above_dropper host agent) (ports.before_arbiter host agent) end
+  pub single : IsTrue (drops_in one) → IsFalse (may_burst_to system host agent)

@@ -1,0 +1,73 @@
+//! Systems of machines whose links are machines too: where to start. They are safe, never idle, and are fair where one link alone of each row isn't a wire.
+
+ghost use Rattle.std.specs.Prelude.{ℕ, ◌<◌, ◌+◌, IsTrue, IsFalse};
+ghost use Rattle.mm_runs.specs.Views.{Responses, System, Run};
+ghost use Rattle.mm_runs.specs.Whole.{IsLegalRun, IsSafe};
+ghost use Rattle.mm_runs.specs.Awake.{NeverIdles, IsFair};
+ghost use Rattle.mm_runs.specs.Order.{is_joined};
+ghost use Rattle.mm_machines.specs.Link.{AreLegalAt, AnswersAreOwed};
+ghost use Rattle.mm_machines.specs.Lines.{target_of};
+ghost use Rattle.mm_machines.specs.PartRanks.{JoinsAlike};
+ghost use Rattle.mm_awake.specs.Fair.{are_apart};
+ghost use Rattle.mm_awake.specs.RowSystem.{RowPorts, AreRows, IsFairRow, boundaries_of};
+ghost use Rattle.mm_awake.specs.Theorem.{States, LinkRanks, ArePlanned, AreMachines, IsBuilt};
+
+/// Where every part and every link is its machine and the components are legal, the links keep their lines, keep going and hold little back: the system is built as `IsBuilt` asks. Behind the routes commands are legal and joined ones alike, and before the arbiters answers are owed.
+pub fn machines_with_links_are_built()
+    ensures built { (responses : Responses) (system : System) (run : Run) (ports : RowPorts) (states : States) (end : ℕ)
+        → ArePlanned system (boundaries_of ports) states → AreMachines responses system run (boundaries_of ports) states end → AreRows system run ports states end → IsLegalRun system run end
+        → (ranks : LinkRanks) × IsBuilt responses system run (boundaries_of ports) states ranks end }
+    ensures settled { (responses : Responses) (system : System) (run : Run) (ports : RowPorts) (states : States) (end : ℕ)
+        → ArePlanned system (boundaries_of ports) states → AreMachines responses system run (boundaries_of ports) states end → AreRows system run ports states end → IsLegalRun system run end
+        → (h a : ℕ) → h < system.hosts → a < system.agents
+        → AreLegalAt (ports.after_route h a) end × AnswersAreOwed (ports.before_arbiter h a) end × JoinsAlike (target_of system a) (ports.after_route h a) end }
+{
+    crate::links::rows_keep_their_lines();
+    crate::links::rows_are_modest();
+    mm_machines::progress::joins_are_alike();
+    mm_machines::lines::tags_in_order();
+    mm_machines::lines::registers_are_a_pipe();
+    mm_machines::settled::lines_settle();
+    mm_machines::machines::stage_is_a_link();
+    mm_machines::machines::stage_is_later();
+    mm_parts::lines::host_machine_keeps_its_line();
+    mm_parts::lines::route_machine_keeps_its_line();
+    mm_parts::lines::arbiter_machine_keeps_its_line();
+    mm_parts::lines::agent_machine_keeps_its_line();
+    mm_parts::steps::host_machine_is_a_part();
+    mm_parts::steps::route_machine_is_a_part();
+    mm_parts::steps::arbiter_machine_is_a_part();
+    mm_parts::steps::agent_machine_is_a_part();
+    mm_links::pipes::stage_keeps_going();
+    mm_links::pipes::pipe_keeps_its_line();
+    crate::stages_pass_on();
+    crate::host_and_route_are_a_front();
+    crate::words_reach_the_host();
+    crate::host_and_route_serve_default()
+}
+
+/// So such a system is safe and never idles.
+pub fn machines_with_links_are_awake()
+    ensures safe { (responses : Responses) (system : System) (run : Run) (ports : RowPorts) (states : States) (end : ℕ)
+        → ArePlanned system (boundaries_of ports) states → AreMachines responses system run (boundaries_of ports) states end → AreRows system run ports states end → IsLegalRun system run end
+        → IsSafe responses system run end }
+    ensures awake { (responses : Responses) (system : System) (run : Run) (ports : RowPorts) (states : States) (end : ℕ)
+        → ArePlanned system (boundaries_of ports) states → AreMachines responses system run (boundaries_of ports) states (end + 2) → AreRows system run ports states (end + 2) → IsLegalRun system run (end + 2)
+        → NeverIdles system run end }
+{
+    machines_with_links_are_built();
+    crate::machines_are_awake()
+}
+
+/// And it is fair where no host is joined to an agent twice, and in each row of a host that is joined all links but one are wires.
+pub fn machines_with_links_are_fair()
+    ensures { (responses : Responses) (system : System) (run : Run) (ports : RowPorts) (states : States) (end : ℕ)
+        → ArePlanned system (boundaries_of ports) states → AreMachines responses system run (boundaries_of ports) states end → AreRows system run ports states end → IsLegalRun system run end
+        → ((agent : ℕ) → agent < system.agents → IsTrue (are_apart (system.joined agent)))
+        → ((agent host : ℕ) → agent < system.agents → IsTrue (is_joined system agent host) → IsFairRow system ports agent host end)
+        → IsFair system run end }
+{
+    machines_with_links_are_built();
+    crate::links::lone_links_are_straight();
+    crate::fair::straight_machines_are_fair()
+}
