@@ -59,5 +59,6 @@ pub mod LoneLink
 pub mod SilentRoute
 pub mod StageLine
 pub mod RowBuilt
+pub mod RowFair
 pub mod ModestRow
 pub mod SplitCounts

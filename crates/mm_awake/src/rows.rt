@@ -64,7 +64,7 @@ pub fn machines_with_links_are_fair()
     ensures { (responses : Responses) (system : System) (run : Run) (ports : RowPorts) (states : States) (end : ℕ)
         → ArePlanned system (boundaries_of ports) states → AreMachines responses system run (boundaries_of ports) states end → AreRows system run ports states end → IsLegalRun system run end
         → ((agent : ℕ) → agent < system.agents → IsTrue (are_apart (system.joined agent)))
-        → ((agent host : ℕ) → agent < system.agents → IsTrue (is_joined system agent host) → IsFairRow system ports agent host end)
+        → ((agent host : ℕ) → agent < system.agents → IsTrue (is_joined system agent host) → IsFairRow system ports agent host)
         → IsFair system run end }
 {
     machines_with_links_are_built();
