@@ -60,5 +60,6 @@ pub mod SilentRoute
 pub mod StageLine
 pub mod RowBuilt
 pub mod RowFair
+pub mod PlainRows
 pub mod ModestRow
 pub mod SplitCounts

@@ -2,8 +2,10 @@
 use Rattle.std.specs.Prelude.{ℕ, ◌≤◌, [], IsFalse}
 use Rattle.mm_runs.specs.Views.{Responses}
 use Rattle.mm_runs.specs.Commands.{shows}
+use Rattle.mm_machines.specs.Link.{Port}
 use Rattle.mm_machines.specs.Machines.{Stage}
 use Rattle.mm_parts.specs.SystemRun.{PlainPlan, Outside, Registers, after_host, before_arbiter, before_agent, states_run}
+use Rattle.mm_awake.specs.RowSystem.{RowPorts}
 use Rattle.mm_awake.specs.Theorem.{Boundaries, States, LinkRanks}
 
 -- hosts beyond those of the plan show nothing
@@ -34,3 +36,9 @@ module _ (responses : Responses) (plan : PlainPlan) (outside : Outside) (registe
   wired_states room =
       let states = states_run responses plan outside registers in
       record { host = states.host; route = states.route; room = room; grant = states.arbiter; stage = λ a i. no_stage a; agent = states.agent }
+
+  -- the same wires as rows of three
+  abbrev pub wired_ports : RowPorts
+  wired_ports =
+      let wire : ℕ → ℕ → Port = before_arbiter responses plan outside registers in
+      record { after_host = after_host responses plan outside registers; after_route = wire; below_cutter = wire; above_dropper = wire; before_arbiter = wire; lower = λ a i. before_agent responses plan outside registers a }

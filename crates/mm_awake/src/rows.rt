@@ -2,6 +2,7 @@
 
 ghost use Rattle.std.specs.Prelude.{ℕ, ◌<◌, ◌+◌, IsTrue, IsFalse};
 ghost use Rattle.mm_runs.specs.Views.{Responses, System, Run};
+ghost use Rattle.mm_runs.specs.Plan.{IsMemoryPlan, AreViews};
 ghost use Rattle.mm_runs.specs.Whole.{IsLegalRun, IsSafe};
 ghost use Rattle.mm_runs.specs.Awake.{NeverIdles, IsFair};
 ghost use Rattle.mm_runs.specs.Order.{is_joined};
@@ -9,6 +10,8 @@ ghost use Rattle.mm_machines.specs.Link.{AreLegalAt, AnswersAreOwed};
 ghost use Rattle.mm_machines.specs.Lines.{target_of};
 ghost use Rattle.mm_machines.specs.PartRanks.{JoinsAlike};
 ghost use Rattle.mm_awake.specs.Fair.{are_apart};
+ghost use Rattle.mm_awake.specs.PlainSystem.{AreQuietPast, wired_ports, wired_states};
+ghost use Rattle.mm_parts.specs.SystemRun.{PlainPlan, HaveOneShape, Outside, plain_system, registers_of, ports_run};
 ghost use Rattle.mm_awake.specs.RowSystem.{RowPorts, AreRows, IsFairRow, boundaries_of};
 ghost use Rattle.mm_awake.specs.Theorem.{States, LinkRanks, ArePlanned, AreMachines, IsBuilt};
 
@@ -70,4 +73,19 @@ pub fn machines_with_links_are_fair()
     machines_with_links_are_built();
     crate::links::lone_links_are_straight();
     crate::fair::straight_machines_are_fair()
+}
+
+/// Such systems exist: a plain system of machines is one, with wires for links, whatever its hosts and agents give, as long as they are legal.
+pub fn plain_systems_have_rows()
+    ensures { (responses : Responses) (plan : PlainPlan) (outside : Outside) (end : ℕ)
+        → let registers = registers_of responses plan outside in
+        let run = ports_run responses plan outside registers in
+        let ports = wired_ports responses plan outside registers in
+        IsMemoryPlan (plain_system plan) → HaveOneShape plan → AreViews (plain_system plan) run end → AreQuietPast plan outside → IsLegalRun (plain_system plan) run end
+        → (room : ℕ → ℕ)
+        × ArePlanned (plain_system plan) (boundaries_of ports) (wired_states responses plan outside registers room)
+        × AreMachines responses (plain_system plan) run (boundaries_of ports) (wired_states responses plan outside registers room) end
+        × AreRows (plain_system plan) run ports (wired_states responses plan outside registers room) end }
+{
+    crate::plain::plain_systems_are_built()
 }
