@@ -208,22 +208,22 @@ module _ (law : SelectsBeats) (target : Target) (up down : Port) (many room : �
         by_write true e = e
         by_write false e = zero-mul (256 ^ offset c)
 
-    same_operations : (c : ℕ) → c < end → operations_of down.shape target.shape target.span (beat_by (if is_raised (up.commands.write c) then Writes else Reads) (byte_address down.shape (down.commands.address c) + 0 * down.shape.word_bytes) (if is_raised (up.commands.write c) then down.commands.word c else 0) (down.commands.enables c))
+    same_operations : (c : ℕ) → c < end → shows up.commands.signals c ≡ true → operations_of down.shape target.shape target.span (beat_by (if is_raised (up.commands.write c) then Writes else Reads) (byte_address down.shape (down.commands.address c) + 0 * down.shape.word_bytes) (if is_raised (up.commands.write c) then down.commands.word c else 0) (down.commands.enables c))
         ≡ operations_of up.shape target.shape target.span (beat_by (if is_raised (up.commands.write c) then Writes else Reads) (byte_address up.shape (up.commands.address c) + 0 * up.shape.word_bytes) (if is_raised (up.commands.write c) then up.commands.word c else 0) (up.commands.enables c))
-    same_operations c h =
+    same_operations c h shown =
         let none = zero-mul up.shape.word_bytes in
         let here : byte_address up.shape (up.commands.address c) + 0 * up.shape.word_bytes ≡ byte_address up.shape (up.commands.address c) = omega (arith, none) in
         let there : (byte_address up.shape (up.commands.address c) + 0 * up.shape.word_bytes) % target.shape.word_bytes ≡ offset c = ap₂ (λ x y. x % y) here (sym plan.same) in
         let fits = fits_there c in
         let lies : LiesInOneWord up.shape target.shape (byte_address up.shape (up.commands.address c) + 0 * up.shape.word_bytes) (up.commands.enables c) =
-        record { lanes = (let same = plan.same in omega (arith, there, fits, same)); few = fit c h } in
+        record { lanes = (let same = plan.same in omega (arith, there, fits, same)); few = fit c h shown } in
         ap (operations_of down.shape target.shape target.span) (sym (below_beat c)) ∙ sym (law up.shape down.shape target.shape target.span may _ lies)
 
     pub alike : (c : ℕ) → c < end → shows up.commands.signals c ≡ true → IsAlike target up.shape down.shape (marked_at up c) (marked_at down c)
     alike c h shown =
         let above = above_is c h shown in
         let below = below_is c in
-        let ops = same_operations c h in
+        let ops = same_operations c h shown in
         record {
           tag = run.tag c;
           more = ap is_raised (run.more c);
@@ -327,7 +327,7 @@ module _ (law : SelectsBeats) (target : Target) (up down : Port) (many room : �
             pushed true so_far = rw (append-nil (read_beats (taken_at up c)), append-nil (read_beats (taken_at down c)), append-nil (asked c)) so_far
             pushed false so_far = moved_push up.shape target.shape (read_beats (taken_at up c)) (read_beats (taken_at down c)) (asked c) _ _ (offset c) so_far (record {
               enables = ap (λ (l : Levels). l.enables) (run.levels c);
-              few = fit c (omega arith);
+              few = fit c (omega arith) (and_parts (shows up.commands.signals c) (not (is_raised (up.commands.waitrequest c))) t).0;
               fits = (let there = fits_there c in let same = plan.same in omega (arith, there, same));
             })
 

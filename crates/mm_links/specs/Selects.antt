@@ -1,8 +1,8 @@
 -- The machine of a lane selector: commands of one beat go from narrow words to the wide words that hold them.
-use Rattle.std.specs.Prelude.{◌≡◌, ℕ, suc, ◌-◌, ◌*◌, ◌/◌, ◌%◌, ◌^◌, ◌<◌, Bool, true, false, not, ◌&&◌, ◌||◌, List, [], ◌∷◌, ◌++◌, length, drop, if◌then◌else◌, nat_lt}
+use Rattle.std.specs.Prelude.{◌≡◌, ℕ, suc, ◌-◌, ◌*◌, ◌/◌, ◌%◌, ◌^◌, ◌<◌, Bool, true, false, not, ◌&&◌, ◌||◌, List, [], ◌∷◌, ◌++◌, length, drop, if◌then◌else◌, nat_lt, IsTrue}
 use Rattle.histories.specs.History.{is_raised, only_if}
 use Rattle.mm_runs.specs.Views.{Shape, Levels, levels_at}
-use Rattle.mm_runs.specs.Commands.{byte_address}
+use Rattle.mm_runs.specs.Commands.{byte_address, shows}
 use Rattle.mm_machines.specs.Link.{Target, Port, takes}
 use Rattle.mm_links.specs.Links.{LinkForm}
 
@@ -58,9 +58,9 @@ pub record IsSelectPlan (target : Target) (narrow wide : Shape) (many : ℕ) : T
   pub one_beat : narrow.burst_bits ≡ 1
   pub one_beat_below : wide.burst_bits ≡ 1
 
--- the byte enables that are shown fit their port
+-- the byte enables of what is shown fit their port
 abbrev pub EnablesFit : Port → ℕ → Type 0
-EnablesFit port end = (c : ℕ) → c < end → port.commands.enables c < 2 ^ port.shape.word_bytes
+EnablesFit port end = (c : ℕ) → c < end → IsTrue (shows port.commands.signals c) → port.commands.enables c < 2 ^ port.shape.word_bytes
 
 -- it holds nothing, and its rank is always 0, where at least two reads may be under way
 abbrev pub select_form : Target → LinkForm
