@@ -51,7 +51,7 @@ some_pieces from to some =
     let same : (p + (from.word_bytes - p)) / p ≡ pieces from to = ap (λ n. n / p) split in
     omega (arith, one, same)
 
-some_lanes : (from to : Shape) (enables : ℕ) → 0 < length (filled_of_piece from to enables 0) → 0 < length (filled_lanes from to enables)
+pub some_lanes : (from to : Shape) (enables : ℕ) → 0 < length (filled_of_piece from to enables 0) → 0 < length (filled_lanes from to enables)
 some_lanes from to enables some = by_pieces (pieces from to) (some_pieces from to (some_piece from to enables some))
   where
     by_pieces : (n : ℕ) → 0 < n → 0 < length (flat_map (filled_of_piece from to enables) (numbers 0 n))

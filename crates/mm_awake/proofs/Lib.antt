@@ -54,6 +54,7 @@ pub mod Swallowed
 pub mod Stirred
 pub mod Pieces
 pub mod RowOfThree
+pub mod Enables
 pub mod RowLine
 pub mod LoneLink
 pub mod SilentRoute

@@ -53,12 +53,12 @@ module _ (laws : StraightLaws) (few : ℕ) (may_burst : Bool) (target : Target) 
   cut_serves up down (shorter longest state plan run) = record { straight = laws.cut target longest up down state end plan run few may_burst; steps = λ same legal owed. laws.cut_steps target longest up down state end plan run legal owed }
   cut_serves up down (no_cutter wired) = wire_serves up down wired
 
-  fit_serves : (up down : Port) → FitsWords target up down end → (up.shape.word_bytes ≡ down.shape.word_bytes → IsWired up down) → Serves up down
-  fit_serves up down (selector many room offsets plan deep run fit) equal = record {
+  fit_serves : (up down : Port) → FitsWords target up down → EnablesFit up end → (up.shape.word_bytes ≡ down.shape.word_bytes → IsWired up down) → Serves up down
+  fit_serves up down (selector many room offsets plan deep run) fit equal = record {
     straight = laws.select target up down many room offsets end plan deep run fit few false may_burst;
     steps = λ same legal owed. absurd (many_more many up.shape.word_bytes plan.more plan.some (sym (same ∙ plan.whole)));
   }
-  fit_serves up down (splitter count room state may some run) equal = by_count (nat_lt 1 count) refl
+  fit_serves up down (splitter count room state may some run) fit equal = by_count (nat_lt 1 count) refl
     where
       by_count : (b : Bool) → nat_lt 1 count ≡ b → Serves up down
       by_count true is =
@@ -70,7 +70,7 @@ module _ (laws : StraightLaws) (few : ℕ) (may_burst : Bool) (target : Target) 
           let one : count ≡ 1 = (let least = may.one in let most = ltb-false 1 count is in omega (arith, least, most)) in
           let once : 1 * down.shape.word_bytes ≡ down.shape.word_bytes = omega arith in
           wire_serves up down (equal (may.whole ∙ ap (λ n. n * down.shape.word_bytes) one ∙ once))
-  fit_serves up down (no_width wired) equal = wire_serves up down wired
+  fit_serves up down (no_width wired) fit equal = wire_serves up down wired
 
   drop_serves : (up down : Port) (drops : DropsBeats target up down) → (IsTrue (drops_some drops) → IsFalse may_burst) → JoinsAlike target up end → Serves up down
   drop_serves up down (dropper room state plan some run) single alike = record {
@@ -79,9 +79,9 @@ module _ (laws : StraightLaws) (few : ℕ) (may_burst : Bool) (target : Target) 
   }
   drop_serves up down (no_dropper wired) single alike = wire_serves up down wired
 
-  pub one_serves : (top middle low down : Port) (one : HasOneLink target top middle low down end) → (IsTrue (drops_in one) → IsFalse may_burst) → JoinsAlike target top end → Serves top down
-  one_serves top middle low down (cuts_alone cuts second third) single alike = subst (λ p. Serves top p) (second.same ∙ third.same) (cut_serves top middle cuts)
-  one_serves top middle low down (fits_alone first fits same third) single alike = subst (λ p. Serves p down) (sym first.same) (subst (λ p. Serves middle p) third.same (fit_serves middle low fits same))
-  one_serves top middle low down (drops_alone first second drops) single alike =
+  pub one_serves : (top middle low down : Port) (one : HasOneLink target top middle low down) → (IsTrue (drops_in one) → IsFalse may_burst) → EnablesFit top end → JoinsAlike target top end → Serves top down
+  one_serves top middle low down (cuts_alone cuts second third) single fit alike = subst (λ p. Serves top p) (second.same ∙ third.same) (cut_serves top middle cuts)
+  one_serves top middle low down (fits_alone first fits same third) single fit alike = subst (λ p. Serves p down) (sym first.same) (subst (λ p. Serves middle p) third.same (fit_serves middle low fits (subst (λ p. EnablesFit p end) first.same fit) same))
+  one_serves top middle low down (drops_alone first second drops) single fit alike =
       let above = first.same ∙ second.same in
       subst (λ p. Serves p down) (sym above) (drop_serves low down drops single (subst (λ p. JoinsAlike target p end) above alike))

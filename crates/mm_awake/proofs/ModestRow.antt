@@ -13,6 +13,7 @@ use Rattle.mm_awake.specs.Rows.{IsModestRow, IsWired, CutsBursts, CutsBursts.cut
 use Rattle.mm_awake.specs.Slack.{PassesWhileStill}
 use Rattle.mm_awake.specs.Still.{StirsAbove, SpentStirs}
 use Rattle.mm_awake.specs.Ways.{Standing}
+use Rattle.mm_awake.proofs.Enables.{enables_below}
 use Rattle.mm_awake.proofs.LinksPass.{on_while_still}
 use Rattle.mm_awake.proofs.Passing.{wire_passes}
 use Rattle.mm_awake.proofs.RowLine.{LinkLaws, carries_of}
@@ -107,20 +108,20 @@ module _ (laws : Laws) (target : Target) (end : ℕ) where
   larger : {up down : Port} → Goes 0 target up down end → Goes 1 target up down end
   larger goes = record { standing = goes.standing; few = (let few = goes.few in omega (arith, few)); going = goes.going }
 
-  mid_of : (top middle low : Port) → FitsWords target middle low end → Mid top middle low
-  mid_of top middle low (selector many room offsets plan deep run fit) = record {
+  mid_of : (top middle low : Port) → FitsWords target middle low → EnablesFit middle end → Mid top middle low
+  mid_of top middle low (selector many room offsets plan deep run) fit = record {
     carries = carries_of (laws.links.select target middle low many room offsets end plan deep run fit);
     goes = λ legal owed alike. larger (ranked 0 (laws.select_goes target middle low many room offsets end plan deep run fit legal owed alike));
     spent = λ legal owed. laws.above middle low end (laws.select_stirs room middle low offsets run end);
     passes = λ above. laws.select_passes target top middle low many room offsets plan deep run end;
   }
-  mid_of top middle low (splitter count room state may some run) = record {
+  mid_of top middle low (splitter count room state may some run) fit = record {
     carries = carries_of (laws.links.split target room count middle low state end may some run);
     goes = λ legal owed alike. ranked 1 (laws.split_goes target room count middle low state end may some run legal owed alike);
     spent = λ legal owed. laws.split_spent room middle low state run end legal owed;
     passes = λ above. laws.split_passes room top middle low state run end above;
   }
-  mid_of top middle low (no_width wired) = record {
+  mid_of top middle low (no_width wired) fit = record {
     carries = wire_carries middle low wired;
     goes = λ legal owed alike. wire_goes 1 middle low wired legal;
     spent = λ legal owed. laws.above middle low end (wire_stirs middle low wired);
@@ -173,11 +174,11 @@ low_carries : (laws : Laws) (target : Target) (low down : Port) → DropsBeats t
 low_carries laws target low down (dropper room state plan some run) c alike = carries_of (laws.links.drop target room low down state c plan some run alike)
 low_carries laws target low down (no_dropper wired) c alike = wire_carries laws target c low down wired
 
-pub row_is_modest : Laws → (target : Target) (top middle low down : Port) (end : ℕ) → CutsBursts top middle → FitsWords target middle low end → DropsBeats target low down →
-    AreLegalAt top end → AnswersAreOwed down end → JoinsAlike target top end → (standing : ℕ → Standing) × IsModestRow target 3 (ports_of_three down low middle top) standing one_beat_lowest end
-row_is_modest laws target top middle low down end cuts fits drops legal owed alike =
+pub row_is_modest : Laws → (target : Target) (top middle low down : Port) (end : ℕ) → CutsBursts top middle → FitsWords target middle low → DropsBeats target low down →
+    EnablesFit top end → AreLegalAt top end → AnswersAreOwed down end → JoinsAlike target top end → (standing : ℕ → Standing) × IsModestRow target 3 (ports_of_three down low middle top) standing one_beat_lowest end
+row_is_modest laws target top middle low down end cuts fits drops enables legal owed alike =
     let high = high_of laws target end top middle cuts in
-    let mid = mid_of laws target end top middle low fits in
+    let mid = mid_of laws target end top middle low fits (enables_below end cuts enables) in
     let lowest = low_of laws target end top low down drops in
     let between = settled target top middle low down end legal owed alike high.carries mid.carries (low_carries laws target low down drops) end (le_refl end) in
     let high_goes = high.goes legal between.owed_middle alike in

@@ -1,6 +1,7 @@
 -- A plain system of machines has rows of wires.
 use Rattle.std.proofs.Common.{ℕ, ◌<◌, arith, refl}
 use Rattle.std.proofs.lemmas.Bool.{or_left}
+use Rattle.mm_runs.specs.Plan.{AreViews}
 use Rattle.mm_runs.specs.Views.{Run, Responses}
 use Rattle.mm_parts.specs.SystemRun.{PlainPlan, HaveOneShape, Outside, Registers, plain_system, registers_of, ports_run, before_arbiter}
 use Rattle.mm_awake.specs.PlainSystem.{wired_ports, wired_inside, wired_states}
@@ -48,12 +49,13 @@ module _ (responses : Responses) (plan : PlainPlan) (outside : Outside) (end : �
         let some = (planned.agents a there).word in
         record { same = refl; some = omega (arith, words, same, some) }
 
-    pub are_rows : HaveOneShape plan → AreRows (plain_system plan) run (wired_ports responses plan outside registers) (wired_states responses plan outside registers room) end
-    are_rows shape = record {
+    pub are_rows : HaveOneShape plan → AreViews (plain_system plan) run end → AreRows (plain_system plan) run (wired_ports responses plan outside registers) (wired_states responses plan outside registers room) end
+    are_rows shape views = record {
+      views = views.hosts;
       cuts = λ h a low there. no_cutter (wire h a low there);
       fits = λ h a low there. no_width (wire h a low there);
       drops = λ h a low there. no_dropper (wire h a low there);
-      lanes = λ h a low there none c fit. or_left plan.agent.has_enables _ shape.lanes;
+      lanes = λ h a low there none. or_left plan.agent.has_enables _ shape.lanes;
       wired = λ h a low there joined has alike. refl;
       places = λ a i there low. absurd (omega (arith, low));
     }

@@ -1,8 +1,9 @@
 -- A system of machines whose links are machines too is built: by steps in time, joined commands are alike behind its routes, so each row of links keeps its line.
-use Rattle.std.proofs.Common.{ℕ, zero, suc, ◌≡◌, ◌<◌, ◌≤◌, ◌-◌, ◌/◌, min, Bool, true, false, arith, refl, ap, ap₂, ◌∙◌, le_refl, nat_lt, IsFalse}
+use Rattle.std.proofs.Common.{ℕ, zero, suc, ◌≡◌, ◌<◌, ◌≤◌, ◌-◌, ◌/◌, ◌^◌, min, Bool, true, false, arith, refl, sym, ap, ap₂, subst, ◌∙◌, le_refl, nat_lt, IsFalse}
 use Rattle.std.proofs.lemmas.Bool.{ltb-true, ltb-false}
 use Rattle.mm_runs.specs.Views.{System, Run, Responses}
 use Rattle.mm_runs.specs.Order.{host_transfers}
+use Rattle.mm_runs.specs.Plan.{FitsPorts}
 use Rattle.mm_runs.specs.Shorter.{legal_run_before}
 use Rattle.mm_runs.specs.Whole.{IsLegalRun}
 use Rattle.mm_machines.specs.Link.{Port, Target, AreLegalAt, AnswersAreOwed}
@@ -10,21 +11,24 @@ use Rattle.mm_machines.specs.Lines.{TaggedPort, Holds, Wired, IsHostLine, IsRout
 use Rattle.mm_machines.specs.PartRanks.{JoinsAlike}
 use Rattle.mm_machines.specs.Settled.{IsSettled}
 use Rattle.mm_awake.specs.RowSystem.{RowPorts, AreRows, boundaries_of}
-use Rattle.mm_awake.specs.Rows.{IsModestRow, CutsBursts, FitsWords, FitsWords.selector, FitsWords.splitter, FitsWords.no_width, DropsBeats, drops_some, ports_of_three, one_beat_lowest}
+use Rattle.mm_links.specs.Selects.{EnablesFit}
+use Rattle.mm_awake.specs.Rows.{IsModestRow, CutsBursts, FitsWords, DropsBeats, drops_some, ports_of_three, one_beat_lowest}
 use Rattle.mm_awake.specs.Slack.{Slacks, host_allows, toll}
 use Rattle.mm_awake.specs.Theorem.{Boundaries, States, LinkRanks, ArePlanned, KeepRows, AreMachines, AreLinks, IsBuilt, inside_of, ways_of, standings_of, slacks_of}
 use Rattle.mm_awake.specs.Ways.{Ways, Standing, Standings}
 use Rattle.mm_awake.proofs.Building.{Laws as PartLaws}
+use Rattle.mm_awake.proofs.Enables.{lanes_placed}
 use Rattle.mm_awake.proofs.Piped.{tagged_at}
+use Rattle.mm_awake.proofs.RowLine.{cut_words}
 use Rattle.mm_awake.proofs.SilentRoute.{single_behind}
 use Rattle.mm_awake.proofs.StageLine.{PipeLaws, hold_of, hold_is, pipe_line}
 
 pub record Laws : Type 0 where
   pub parts : PartLaws
-  pub row : (target : Target) (top middle low down : Port) (end : ℕ) → CutsBursts top middle → FitsWords target middle low end → DropsBeats target low down → JoinsAlike target top end → KeepsRow target 2 top down end
-  pub lanes : (system : System) (run : Run) (host agent : ℕ) (top middle low down : Port) (end : ℕ) → CutsBursts top middle → FitsWords (target_of system agent) middle low end → (drops : DropsBeats (target_of system agent) low down) → JoinsAlike (target_of system agent) top end →
+  pub row : (target : Target) (top middle low down : Port) (end : ℕ) → CutsBursts top middle → FitsWords target middle low → DropsBeats target low down → EnablesFit top end → JoinsAlike target top end → KeepsRow target 2 top down end
+  pub lanes : (system : System) (run : Run) (host agent : ℕ) (top middle low down : Port) (end : ℕ) → CutsBursts top middle → FitsWords (target_of system agent) middle low → (drops : DropsBeats (target_of system agent) low down) → EnablesFit top end → JoinsAlike (target_of system agent) top end →
       (IsFalse (drops_some drops) → (c : ℕ) → c ≤ end → HavePlacedLanes system host agent (sent_by (host_transfers system run host c))) → BringsLanes system run host agent top down end
-  pub modest : (target : Target) (top middle low down : Port) (end : ℕ) → CutsBursts top middle → FitsWords target middle low end → DropsBeats target low down → AreLegalAt top end → AnswersAreOwed down end → JoinsAlike target top end →
+  pub modest : (target : Target) (top middle low down : Port) (end : ℕ) → CutsBursts top middle → FitsWords target middle low → DropsBeats target low down → EnablesFit top end → AreLegalAt top end → AnswersAreOwed down end → JoinsAlike target top end →
       (standing : ℕ → Standing) × IsModestRow target 3 (ports_of_three down low middle top) standing one_beat_lowest end
   pub fit : (system : System) (ways : Ways) (standings : Standings) (slacks : Slacks) (target : Target) (h end : ℕ) → IsModestRow target (ways.above h) (ways.upper h) (standings.upper h) (slacks.upper h) end →
       (host_allows system ways standings slacks h ≤ 15) × (toll ways standings h ≤ 5)
@@ -33,11 +37,6 @@ pub record Laws : Type 0 where
   pub owed_tags : (system : System) (tagged : TaggedPort) (end : ℕ) → AreTaggedInOrder tagged end → AreOwedByTag system tagged end
 
 -- lines hold up to each earlier cycle
-fits_before : {target : Target} {up down : Port} {end : ℕ} (c : ℕ) → c ≤ end → FitsWords target up down end → FitsWords target up down c
-fits_before c h (selector many room offsets plan deep run fit) = selector many room offsets plan deep run (λ k less. fit k (omega (arith, less, h)))
-fits_before c h (splitter count room state may some run) = splitter count room state may some run
-fits_before c h (no_width wired) = no_width wired
-
 module _ (responses : Responses) (system : System) (run : Run) (c end : ℕ) (h : c ≤ end) where
   host_before : (host hold room : ℕ) (down : Port) → IsHostLine responses system run host hold room down end → IsHostLine responses system run host hold room down c
   host_before host hold room down line = record {
@@ -79,6 +78,31 @@ module _ (laws : Laws) (responses : Responses) (system : System) (run : Run) (po
   some_word : (a : ℕ) → a < system.agents → 0 < (ports.lower a 0).shape.word_bytes
   some_word a there = let same = (machines.agent a there).commands.words in let some = (plan.agents a there).word in omega (arith, same, some)
 
+  top_words : (h a : ℕ) → h < system.hosts → a < system.agents → (ports.after_route h a).shape.word_bytes ≡ (system.host h).word_bytes
+  top_words h a low there = ap (λ s. s.word_bytes) ((machines.route h low).shapes a there) ∙ (plan.places h low).words
+
+  host_word : (h a : ℕ) → h < system.hosts → a < system.agents → 0 < (system.host h).word_bytes
+  host_word h a low there = let same = top_words h a low there in let some = (cut_words (rows.cuts h a low there)).some in omega (arith, same, some)
+
+  views_before : (c : ℕ) → c ≤ end → (h : ℕ) → h < system.hosts → FitsPorts (system.host h).shape (system.host h).has_burst (run.at_host h).signals c
+  views_before c fit h low = let views = rows.views h low in record {
+    enables = λ k less. views.enables k (omega (arith, less, fit));
+    all_lanes = λ none k less. views.all_lanes none k (omega (arith, less, fit));
+    word = λ k less. views.word k (omega (arith, less, fit));
+    one_beat = λ none k less. views.one_beat none k (omega (arith, less, fit));
+  }
+
+  -- byte enables fit behind the routes
+  pub enables_top : (h a : ℕ) → h < system.hosts → a < system.agents → EnablesFit (ports.after_route h a) end
+  enables_top h a low there c less shown =
+      let route = (machines.route h low).enables a c there less in
+      let host = (machines.host h low).enables c less in
+      let few = (rows.views h low).enables c less in
+      subst (λ n. (ports.after_route h a).commands.enables c < 2 ^ n) (sym (top_words h a low there)) (omega (arith, route, host, few))
+
+  enables_before : (c : ℕ) → c ≤ end → (h a : ℕ) → h < system.hosts → a < system.agents → EnablesFit (ports.after_route h a) c
+  enables_before c fit h a low there k less = enables_top h a low there k (omega (arith, less, fit))
+
   pipe_of : (a : ℕ) → a < system.agents → IsPipeLine system a (hold_of system.stages) system.stages (ports.lower a system.stages) (ports.lower a 0) end
   pipe_of a there = pipe_line laws.pipes system a end (ports.lower a) (states.stage a) system.stages (λ i low. machines.stage a i there low) (λ i low. rows.places a i there low) (some_word a there)
 
@@ -87,12 +111,12 @@ module _ (laws : Laws) (responses : Responses) (system : System) (run : Run) (po
 
   row_line : (c : ℕ) → c ≤ end → Alike c → (h a : ℕ) → h < system.hosts → a < system.agents → KeepsRow (target_of system a) 2 (ports.after_route h a) (ports.before_arbiter h a) c
   row_line c fit alike h a low there =
-      laws.row (target_of system a) (ports.after_route h a) (ports.below_cutter h a) (ports.above_dropper h a) (ports.before_arbiter h a) c (rows.cuts h a low there) (fits_before c fit (rows.fits h a low there)) (rows.drops h a low there) (alike h a low there)
+      laws.row (target_of system a) (ports.after_route h a) (ports.below_cutter h a) (ports.above_dropper h a) (ports.before_arbiter h a) c (rows.cuts h a low there) (rows.fits h a low there) (rows.drops h a low there) (enables_before c fit h a low there) (alike h a low there)
 
   row_lanes : (c : ℕ) → c ≤ end → Alike c → (h a : ℕ) → h < system.hosts → a < system.agents → BringsLanes system run h a (ports.after_route h a) (ports.before_arbiter h a) c
   row_lanes c fit alike h a low there =
-      laws.lanes system run h a (ports.after_route h a) (ports.below_cutter h a) (ports.above_dropper h a) (ports.before_arbiter h a) c (rows.cuts h a low there) (fits_before c fit (rows.fits h a low there)) (rows.drops h a low there) (alike h a low there)
-      (λ none k less. rows.lanes h a low there none k (omega (arith, less, fit)))
+      laws.lanes system run h a (ports.after_route h a) (ports.below_cutter h a) (ports.above_dropper h a) (ports.before_arbiter h a) c (rows.cuts h a low there) (rows.fits h a low there) (rows.drops h a low there) (enables_before c fit h a low there) (alike h a low there)
+      (λ none k less. lanes_placed system run h a c (host_word h a low there) (plan.agents a there).word (views_before c fit h low) (rows.lanes h a low there none) k less)
 
   kept : (c : ℕ) → c ≤ end → Alike c → KeepRows system run inside states c
   kept c fit alike = record {
@@ -102,7 +126,7 @@ module _ (laws : Laws) (responses : Responses) (system : System) (run : Run) (po
     links = row_line c fit alike;
     lanes = row_lanes c fit alike;
     words = λ h a low there.
-        let top : (ports.after_route h a).shape.word_bytes ≡ (system.host h).shape.word_bytes = ap (λ s. s.word_bytes) ((machines.route h low).shapes a there) ∙ (plan.places h low).words in
+        let top = top_words h a low there in
         let bottom : (ports.before_arbiter h a).shape.word_bytes ≡ (system.agent a).shape.word_bytes = plan.words h a low there ∙ ap (λ s. s.word_bytes) (pipe_of a there).same ∙ (machines.agent a there).commands.words in
         let same = ap₂ {C = ℕ} (λ m n. m / min m n) top bottom in
         omega (arith, same);
@@ -185,7 +209,7 @@ module _ (laws : Laws) (responses : Responses) (system : System) (run : Run) (po
       by_place true true e f =
           let low = ltb-true h system.hosts e in
           let there = ltb-true a system.agents f in
-          let found = laws.modest (target_of system a) (ports.after_route h a) (ports.below_cutter h a) (ports.above_dropper h a) (ports.before_arbiter h a) end (rows.cuts h a low there) (rows.fits h a low there) (rows.drops h a low there)
+          let found = laws.modest (target_of system a) (ports.after_route h a) (ports.below_cutter h a) (ports.above_dropper h a) (ports.before_arbiter h a) end (rows.cuts h a low there) (rows.fits h a low there) (rows.drops h a low there) (enables_top h a low there)
           (legal_top h a low there) (owed_down h a low there) (alike h a low there) in
           record { standing = found.0; modest = λ low there. found.1 }
       by_place true false e f = let past = ltb-false a system.agents f in record { standing = λ i. record { rank = λ c. 0; largest = 0 }; modest = λ low there. absurd (omega (arith, there, past)) }

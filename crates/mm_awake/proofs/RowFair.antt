@@ -10,7 +10,7 @@ use Rattle.mm_awake.proofs.Bits.{no_true}
 
 module _ (system : System) (run : Run) (ports : RowPorts) (states : States) (agent host end : ℕ) (rows : AreRows system run ports states end) (low : host < system.hosts) (there : agent < system.agents) where
   pub one_left : IsFairRow system ports agent host →
-      (one : HasOneLink (target_of system agent) (ports.after_route host agent) (ports.below_cutter host agent) (ports.above_dropper host agent) (ports.before_arbiter host agent) end) × (IsTrue (drops_in one) → IsFalse (may_burst_to system host agent))
+      (one : HasOneLink (target_of system agent) (ports.after_route host agent) (ports.below_cutter host agent) (ports.above_dropper host agent) (ports.before_arbiter host agent)) × (IsTrue (drops_in one) → IsFalse (may_burst_to system host agent))
   one_left (cutter_left second third) = (cuts_alone (rows.cuts host agent low there) second third, λ drops. absurd (no_true drops))
   one_left (width_left first equal third) = (fits_alone first (rows.fits host agent low there) equal third, λ drops. absurd (no_true drops))
   one_left (dropper_left first second single) = (drops_alone first second (rows.drops host agent low there), λ drops. single)

@@ -17,6 +17,7 @@ use Rattle.mm_links.specs.Links.{LinkForm, IsLink, FormsFit, BringsLanesDown, ch
 use Rattle.mm_links.specs.Selects.{RunsAsSelect, IsSelectPlan, EnablesFit, select_form}
 use Rattle.mm_links.specs.Splits.{SplitState, RunsAsSplit, split_form}
 use Rattle.mm_awake.specs.Rows.{IsWired, CutsBursts, CutsBursts.cutter, CutsBursts.shorter, CutsBursts.no_cutter, FitsWords, FitsWords.selector, FitsWords.splitter, FitsWords.no_width, DropsBeats, DropsBeats.dropper, DropsBeats.no_dropper, drops_some}
+use Rattle.mm_awake.proofs.Enables.{enables_below}
 use Rattle.mm_awake.proofs.RowOfThree.{Carries, settled}
 
 -- each machine is a link
@@ -88,17 +89,17 @@ module _ (laws : RowLaws) (target : Target) where
   cut_linked up down (shorter longest state plan run) end = record { form = burst_form target; for_target = refl; few = omega arith; lanes = refl; words = refl; link = laws.links.cut target longest up down state end plan run }
   cut_linked up down (no_cutter wired) end = wired_linked 1 false up down wired end
 
-  fit_linked : (up down : Port) (end : ℕ) → FitsWords target up down end → (c : ℕ) → c ≤ end → Linked target 0 false true up down c
-  fit_linked up down end (selector many room offsets plan deep run fit) c low = record {
+  fit_linked : (up down : Port) → FitsWords target up down → (end : ℕ) → EnablesFit up end → Linked target 0 false true up down end
+  fit_linked up down (selector many room offsets plan deep run) end fit = record {
     form = select_form target;
     for_target = refl;
     few = omega arith;
     lanes = refl;
     words = refl;
-    link = laws.links.select target up down many room offsets c plan deep run (λ k less. fit k (omega (arith, less, low)));
+    link = laws.links.select target up down many room offsets end plan deep run fit;
   }
-  fit_linked up down end (splitter count room state may some run) c low = record { form = split_form target; for_target = refl; few = omega arith; lanes = refl; words = refl; link = laws.links.split target room count up down state c may some run }
-  fit_linked up down end (no_width wired) c low = wired_linked 0 true up down wired c
+  fit_linked up down (splitter count room state may some run) end fit = record { form = split_form target; for_target = refl; few = omega arith; lanes = refl; words = refl; link = laws.links.split target room count up down state end may some run }
+  fit_linked up down (no_width wired) end fit = wired_linked 0 true up down wired end
 
   drop_linked : (up down : Port) (drops : DropsBeats target up down) (c : ℕ) → JoinsAlike target up c → Linked target 1 (drops_some drops) false up down c
   drop_linked up down (dropper room state plan some run) c alike = record { form = drop_form target; for_target = refl; few = omega arith; lanes = refl; words = refl; link = laws.links.drop target room up down state c plan some run alike }
@@ -117,11 +118,14 @@ module _ (laws : RowLaws) (target : Target) where
     link = laws.chain one.form two.form _ _ _ _ (record { target = one.for_target ∙ sym two.for_target; pieces = between; words = words }) one.link two.link;
   }
 
-  module _ (top middle low down : Port) (end : ℕ) (cuts : CutsBursts top middle) (fits : FitsWords target middle low end) (drops : DropsBeats target low down) where
+  module _ (top middle low down : Port) (end : ℕ) (cuts : CutsBursts top middle) (fits : FitsWords target middle low) (drops : DropsBeats target low down) (enables : EnablesFit top end) where
+    fit_middle : (c : ℕ) → c ≤ end → EnablesFit middle c
+    fit_middle c h = enables_below c cuts (λ k less. enables k (omega (arith, less, h)))
+
     row_linked : (c : ℕ) → c ≤ end → JoinsAlike target low c → Linked target 2 (drops_some drops) true top down c
     row_linked c h alike =
         let high = cut_linked top middle cuts c in
-        let mid = fit_linked middle low end fits c h in
+        let mid = fit_linked middle low fits c (fit_middle c h) in
         let last = drop_linked low down drops c alike in
         let upper = chained high mid (or_left high.form.word_for_word mid.form.word_for_word high.words) (same_above low (cut_words cuts)) in
         chained upper last (or_right upper.form.word_for_word last.form.word_for_word last.words) (same_below top (drop_words drops))
@@ -130,9 +134,9 @@ module _ (laws : RowLaws) (target : Target) where
     alike_low : (c : ℕ) → c ≤ end → JoinsAlike target top c → AreLegalAt top c → AnswersAreOwed down (c - 1) → JoinsAlike target low c
     alike_low c h alike legal owed =
         let before = settled target top middle low down (c - 1) (legal_at_before top (c - 1) c (omega arith) legal) owed (λ k less. alike k (omega (arith, less)))
-        (linked_carries (cut_linked top middle cuts (c - 1))) (linked_carries (fit_linked middle low end fits (c - 1) (omega (arith, h)))) (λ k there. linked_carries (drop_linked low down drops k there)) (c - 1) (le_refl (c - 1)) in
+        (linked_carries (cut_linked top middle cuts (c - 1))) (linked_carries (fit_linked middle low fits (c - 1) (fit_middle (c - 1) (omega (arith, h))))) (λ k there. linked_carries (drop_linked low down drops k there)) (c - 1) (le_refl (c - 1)) in
         let high = linked_carries (cut_linked top middle cuts c) in
-        let mid = linked_carries (fit_linked middle low end fits c h) in
+        let mid = linked_carries (fit_linked middle low fits c (fit_middle c h)) in
         mid.joins c (le_refl c) ((high.carries.commands c (le_refl c) legal before.owed_middle).legal) before.owed_low (high.joins c (le_refl c) legal before.owed_middle alike)
 
     module _ (alike : JoinsAlike target top end) where
@@ -164,10 +168,10 @@ module _ (laws : RowLaws) (target : Target) where
           (subst (λ t. BringsLanesDown (drops_some drops) t top down c) linked.for_target lanes) c (le_refl c) legal owed has
 
 pub row_brings_lanes : RowLaws → (system : System) (run : Run) (host agent : ℕ) (top middle low down : Port) (end : ℕ) →
-    CutsBursts top middle → FitsWords (target_of system agent) middle low end → (drops : DropsBeats (target_of system agent) low down) → JoinsAlike (target_of system agent) top end →
+    CutsBursts top middle → FitsWords (target_of system agent) middle low → (drops : DropsBeats (target_of system agent) low down) → EnablesFit top end → JoinsAlike (target_of system agent) top end →
     (IsFalse (drops_some drops) → (c : ℕ) → c ≤ end → HavePlacedLanes system host agent (sent_by (host_transfers system run host c))) → BringsLanes system run host agent top down end
-row_brings_lanes laws system run host agent top middle low down end cuts fits drops alike placed = by_drops (drops_some drops) refl
+row_brings_lanes laws system run host agent top middle low down end cuts fits drops enables alike placed = by_drops (drops_some drops) refl
   where
     by_drops : (b : Bool) → drops_some drops ≡ b → BringsLanes system run host agent top down end
-    by_drops true is = made (λ c h legal owed. lanes_brought laws (target_of system agent) top middle low down end cuts fits drops alike c h legal owed (λ none. absurd cc))
-    by_drops false is = kept (placed is) (λ c h legal owed has. lanes_brought laws (target_of system agent) top middle low down end cuts fits drops alike c h legal owed (λ none. has))
+    by_drops true is = made (λ c h legal owed. lanes_brought laws (target_of system agent) top middle low down end cuts fits drops enables alike c h legal owed (λ none. absurd cc))
+    by_drops false is = kept (placed is) (λ c h legal owed has. lanes_brought laws (target_of system agent) top middle low down end cuts fits drops enables alike c h legal owed (λ none. has))

@@ -1,10 +1,11 @@
 -- Systems of machines whose links are machines too: three in a row between a host's route and an agent's arbiter, each of which may be a wire.
-use Rattle.std.specs.Prelude.{◌≡◌, ℕ, ◌<◌, ◌≤◌, IsTrue, IsFalse}
+use Rattle.std.specs.Prelude.{◌≡◌, ℕ, ◌<◌, not, ◌||◌, IsTrue, IsFalse}
 use Rattle.mm_runs.specs.Views.{System, Run}
 use Rattle.mm_runs.specs.Awake.{is_alike}
-use Rattle.mm_runs.specs.Order.{host_transfers, is_joined}
+use Rattle.mm_runs.specs.Order.{is_joined}
+use Rattle.mm_runs.specs.Plan.{FitsPorts}
 use Rattle.mm_machines.specs.Link.{Port}
-use Rattle.mm_machines.specs.Lines.{TaggedPort, HavePlacedLanes, sent_by, target_of}
+use Rattle.mm_machines.specs.Lines.{TaggedPort, target_of}
 use Rattle.mm_awake.specs.Fair.{may_burst_to}
 use Rattle.mm_awake.specs.Rows.{IsWired, CutsBursts, FitsWords, DropsBeats, drops_some, ports_of_three}
 use Rattle.mm_awake.specs.Theorem.{Boundaries, States}
@@ -28,11 +29,13 @@ boundaries_of ports = record {
 
 -- every link is its machine or a wire, and every pipe is one of stages
 pub record AreRows (system : System) (run : Run) (ports : RowPorts) (states : States) (end : ℕ) : Type 0 where
+  -- what each host shows fits its ports, whose absent byteenable reads as all ones
+  pub views : (h : ℕ) → h < system.hosts → FitsPorts (system.host h).shape (system.host h).has_burst (run.at_host h).signals end
   pub cuts : (h a : ℕ) → h < system.hosts → a < system.agents → CutsBursts (ports.after_route h a) (ports.below_cutter h a)
-  pub fits : (h a : ℕ) → h < system.hosts → a < system.agents → FitsWords (target_of system a) (ports.below_cutter h a) (ports.above_dropper h a) end
+  pub fits : (h a : ℕ) → h < system.hosts → a < system.agents → FitsWords (target_of system a) (ports.below_cutter h a) (ports.above_dropper h a)
   pub drops : (h a : ℕ) → h < system.hosts → a < system.agents → DropsBeats (target_of system a) (ports.above_dropper h a) (ports.before_arbiter h a)
-  -- where no beats are dropped, the agent has byte enables or the host shows it no beat without a lane
-  pub lanes : (h a : ℕ) (low : h < system.hosts) (there : a < system.agents) → IsFalse (drops_some (drops h a low there)) → (c : ℕ) → c ≤ end → HavePlacedLanes system h a (sent_by (host_transfers system run h c))
+  -- where no beats are dropped, the agent has byte enables or the host has none
+  pub lanes : (h a : ℕ) (low : h < system.hosts) (there : a < system.agents) → IsFalse (drops_some (drops h a low there)) → IsTrue ((system.agent a).has_enables || not (system.host h).has_enables)
   -- a host whose plain commands reach an agent with readdatavalid one for one is wired to its arbiter
   pub wired : (h a : ℕ) → h < system.hosts → a < system.agents → IsTrue (is_joined system a h) → IsTrue (system.agent a).has_readdatavalid → IsTrue (is_alike (system.host h) (system.agent a)) →
       ports.before_arbiter h a ≡ ports.after_route h a

@@ -6,7 +6,7 @@ use Rattle.mm_links.specs.Bursts.{BurstState, RunsAsBurst, IsBurstPlan}
 use Rattle.mm_links.specs.Cuts.{RunsAsCut, IsCutPlan}
 use Rattle.mm_links.specs.Drops.{DropState, RunsAsDrop, IsDropPlan}
 use Rattle.mm_links.specs.Going.{KeepsGoing}
-use Rattle.mm_links.specs.Selects.{RunsAsSelect, IsSelectPlan, EnablesFit}
+use Rattle.mm_links.specs.Selects.{RunsAsSelect, IsSelectPlan}
 use Rattle.mm_links.specs.Splits.{SplitState, RunsAsSplit}
 use Rattle.mm_awake.specs.Slack.{Slack, PassesWhileStill, IsModestLink}
 use Rattle.mm_awake.specs.Ways.{Standing}
@@ -32,10 +32,10 @@ pub data CutsBursts (up down : Port) : Type 0 where
   no_cutter : IsWired up down → CutsBursts up down
 
 -- below that words are made those of the agent
-pub data FitsWords (target : Target) (up down : Port) (end : ℕ) : Type 0 where
-  selector : (many room : ℕ) (offsets : ℕ → List ℕ) → IsSelectPlan target up.shape down.shape many → 1 < room → RunsAsSelect room up down offsets → EnablesFit up end → FitsWords target up down end
-  splitter : (count room : ℕ) (state : SplitState) → MaySplit target up.shape down.shape count → 0 < room → RunsAsSplit room up down state → FitsWords target up down end
-  no_width : IsWired up down → FitsWords target up down end
+pub data FitsWords (target : Target) (up down : Port) : Type 0 where
+  selector : (many room : ℕ) (offsets : ℕ → List ℕ) → IsSelectPlan target up.shape down.shape many → 1 < room → RunsAsSelect room up down offsets → FitsWords target up down
+  splitter : (count room : ℕ) (state : SplitState) → MaySplit target up.shape down.shape count → 0 < room → RunsAsSplit room up down state → FitsWords target up down
+  no_width : IsWired up down → FitsWords target up down
 
 -- and before the arbiter beats without a lane are dropped, or stay
 pub data DropsBeats (target : Target) (up down : Port) : Type 0 where
@@ -47,13 +47,13 @@ drops_some (dropper room state plan some run) = true
 drops_some (no_dropper wired) = false
 
 -- all links of the row but one are wires, and a link between equal words is one
-pub data HasOneLink (target : Target) (top middle low down : Port) (end : ℕ) : Type 0 where
-  cuts_alone : CutsBursts top middle → IsWired middle low → IsWired low down → HasOneLink target top middle low down end
-  fits_alone : IsWired top middle → FitsWords target middle low end → (middle.shape.word_bytes ≡ low.shape.word_bytes → IsWired middle low) → IsWired low down → HasOneLink target top middle low down end
-  drops_alone : IsWired top middle → IsWired middle low → DropsBeats target low down → HasOneLink target top middle low down end
+pub data HasOneLink (target : Target) (top middle low down : Port) : Type 0 where
+  cuts_alone : CutsBursts top middle → IsWired middle low → IsWired low down → HasOneLink target top middle low down
+  fits_alone : IsWired top middle → FitsWords target middle low → (middle.shape.word_bytes ≡ low.shape.word_bytes → IsWired middle low) → IsWired low down → HasOneLink target top middle low down
+  drops_alone : IsWired top middle → IsWired middle low → DropsBeats target low down → HasOneLink target top middle low down
 
 -- beats are dropped there
-abbrev pub drops_in : {target : Target} {top middle low down : Port} {end : ℕ} → HasOneLink target top middle low down end → Bool
+abbrev pub drops_in : {target : Target} {top middle low down : Port} → HasOneLink target top middle low down → Bool
 drops_in (cuts_alone cuts second third) = false
 drops_in (fits_alone first fits same third) = false
 drops_in (drops_alone first second drops) = drops_some drops

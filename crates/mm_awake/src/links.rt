@@ -75,10 +75,10 @@ pub fn links_keep_going()
     mm_links::drops::drop_is_a_link()
 }
 
-/// A row that cuts bursts, or doesn't, fits words to those of the agent, or doesn't, and drops beats without a lane, or doesn't, keeps going and holds little back, as `AreLinks` asks, where commands are legal and joined ones alike behind the route, and answers are owed before the arbiter. Such rows fit in the windows.
+/// A row that cuts bursts, or doesn't, fits words to those of the agent, or doesn't, and drops beats without a lane, or doesn't, keeps going and holds little back, as `AreLinks` asks, where commands are legal, their byte enables fit and joined ones are alike behind the route, and answers are owed before the arbiter. Such rows fit in the windows.
 pub fn rows_are_modest()
-    ensures rows { (target : Target) (top middle low down : Port) (end : ℕ) → CutsBursts top middle → FitsWords target middle low end → DropsBeats target low down
-        → AreLegalAt top end → AnswersAreOwed down end → JoinsAlike target top end
+    ensures rows { (target : Target) (top middle low down : Port) (end : ℕ) → CutsBursts top middle → FitsWords target middle low → DropsBeats target low down
+        → EnablesFit top end → AreLegalAt top end → AnswersAreOwed down end → JoinsAlike target top end
         → (standing : ℕ → Standing) × IsModestRow target 3 (ports_of_three down low middle top) standing one_beat_lowest end }
     ensures fit { (system : System) (ways : Ways) (standings : Standings) (slacks : Slacks) (target : Target) (h end : ℕ)
         → IsModestRow target (ways.above h) (ways.upper h) (standings.upper h) (slacks.upper h) end
@@ -97,12 +97,12 @@ pub fn rows_are_modest()
     mm_links::drops::drop_is_a_link()
 }
 
-/// Such a row keeps its line, and holds two transfers at most, where joined commands are alike behind the route. It brings lanes where it drops beats, or the host shows none without a lane for an agent without byte enables.
+/// Such a row keeps its line, and holds two transfers at most, where byte enables fit and joined commands are alike behind the route. It brings lanes where it drops beats, or the host shows none without a lane for an agent without byte enables.
 pub fn rows_keep_their_lines()
-    ensures row { (target : Target) (top middle low down : Port) (end : ℕ) → CutsBursts top middle → FitsWords target middle low end → DropsBeats target low down
-        → JoinsAlike target top end → KeepsRow target 2 top down end }
+    ensures row { (target : Target) (top middle low down : Port) (end : ℕ) → CutsBursts top middle → FitsWords target middle low → DropsBeats target low down
+        → EnablesFit top end → JoinsAlike target top end → KeepsRow target 2 top down end }
     ensures lanes { (system : System) (run : Run) (host agent : ℕ) (top middle low down : Port) (end : ℕ)
-        → CutsBursts top middle → FitsWords (target_of system agent) middle low end → (drops : DropsBeats (target_of system agent) low down) → JoinsAlike (target_of system agent) top end
+        → CutsBursts top middle → FitsWords (target_of system agent) middle low → (drops : DropsBeats (target_of system agent) low down) → EnablesFit top end → JoinsAlike (target_of system agent) top end
         → (IsFalse (drops_some drops) → (c : ℕ) → c ≤ end → HavePlacedLanes system host agent (sent_by (host_transfers system run host c)))
         → BringsLanes system run host agent top down end }
 {
@@ -118,10 +118,10 @@ pub fn rows_keep_their_lines()
 
 /// A row of which all links but one are wires is straight and prompt, and goes in step between equal words, as that link does. What drops beats keeps a write that another may follow, so there the first beats of joined writes aren't to be shown promptly.
 pub fn lone_links_are_straight()
-    ensures straight { (few : ℕ) (may_burst : Bool) (target : Target) (top middle low down : Port) (end : ℕ) → (one : HasOneLink target top middle low down end)
-        → (IsTrue (drops_in one) → IsFalse may_burst) → JoinsAlike target top end → IsStraightLink few false may_burst target top down end }
-    ensures step { (target : Target) (top middle low down : Port) (end : ℕ) → HasOneLink target top middle low down end
-        → AreLegalAt top end → AnswersAreOwed down end → JoinsAlike target top end
+    ensures straight { (few : ℕ) (may_burst : Bool) (target : Target) (top middle low down : Port) (end : ℕ) → (one : HasOneLink target top middle low down)
+        → (IsTrue (drops_in one) → IsFalse may_burst) → EnablesFit top end → JoinsAlike target top end → IsStraightLink few false may_burst target top down end }
+    ensures step { (target : Target) (top middle low down : Port) (end : ℕ) → HasOneLink target top middle low down
+        → EnablesFit top end → AreLegalAt top end → AnswersAreOwed down end → JoinsAlike target top end
         → top.shape.word_bytes ≡ down.shape.word_bytes → GoesInStep false target top down end }
 {
     mm_links::rows::pass_is_a_link();

@@ -9,13 +9,14 @@ ghost use Rattle.mm_runs.specs.Order.{is_joined};
 ghost use Rattle.mm_machines.specs.Link.{AreLegalAt, AnswersAreOwed};
 ghost use Rattle.mm_machines.specs.Lines.{target_of};
 ghost use Rattle.mm_machines.specs.PartRanks.{JoinsAlike};
+ghost use Rattle.mm_links.specs.Selects.{EnablesFit};
 ghost use Rattle.mm_awake.specs.Fair.{are_apart};
 ghost use Rattle.mm_awake.specs.PlainSystem.{AreQuietPast, wired_ports, wired_states};
 ghost use Rattle.mm_parts.specs.SystemRun.{PlainPlan, HaveOneShape, Outside, plain_system, registers_of, ports_run};
 ghost use Rattle.mm_awake.specs.RowSystem.{RowPorts, AreRows, IsFairRow, boundaries_of};
 ghost use Rattle.mm_awake.specs.Theorem.{States, LinkRanks, ArePlanned, AreMachines, IsBuilt};
 
-/// Where every part and every link is its machine and the components are legal, the links keep their lines, keep going and hold little back: the system is built as `IsBuilt` asks. Behind the routes commands are legal and joined ones alike, and before the arbiters answers are owed.
+/// Where every part and every link is its machine and the components are legal, the links keep their lines, keep going and hold little back: the system is built as `IsBuilt` asks. Behind the routes commands are legal, joined ones are alike and byte enables fit, and before the arbiters answers are owed.
 pub fn machines_with_links_are_built()
     ensures built { (responses : Responses) (system : System) (run : Run) (ports : RowPorts) (states : States) (end : ℕ)
         → ArePlanned system (boundaries_of ports) states → AreMachines responses system run (boundaries_of ports) states end → AreRows system run ports states end → IsLegalRun system run end
@@ -23,7 +24,7 @@ pub fn machines_with_links_are_built()
     ensures settled { (responses : Responses) (system : System) (run : Run) (ports : RowPorts) (states : States) (end : ℕ)
         → ArePlanned system (boundaries_of ports) states → AreMachines responses system run (boundaries_of ports) states end → AreRows system run ports states end → IsLegalRun system run end
         → (h a : ℕ) → h < system.hosts → a < system.agents
-        → AreLegalAt (ports.after_route h a) end × AnswersAreOwed (ports.before_arbiter h a) end × JoinsAlike (target_of system a) (ports.after_route h a) end }
+        → AreLegalAt (ports.after_route h a) end × AnswersAreOwed (ports.before_arbiter h a) end × JoinsAlike (target_of system a) (ports.after_route h a) end × EnablesFit (ports.after_route h a) end }
 {
     crate::links::rows_keep_their_lines();
     crate::links::rows_are_modest();

@@ -1,4 +1,4 @@
-use Rattle.mm_awake.proofs.RowBuilt.{Laws, rows_built, legal_top, owed_down, alike}
+use Rattle.mm_awake.proofs.RowBuilt.{Laws, rows_built, legal_top, owed_down, alike, enables_top}
 use Rattle.mm_awake.proofs.rows.machines_with_links_are_built.Goals as goal
 
 pub returns-clause-built : goal.returns-clause-built
@@ -37,6 +37,7 @@ returns-clause-settled c = λ responses system run ports states end plan machine
   legal_top laws responses system run ports states end plan machines rows legal h a low there,
   owed_down laws responses system run ports states end plan machines rows legal h a low there,
   alike laws responses system run ports states end plan machines rows legal h a low there,
+  enables_top laws responses system run ports states end plan machines rows legal h a low there,
 )
   where
     laws : Laws

@@ -8,5 +8,5 @@ returns c = λ responses plan outside end is_plan shape views quiet legal.
       found.0,
       planned_rows responses plan outside end found.0 built.plan built.machines,
       machine_rows responses plan outside end found.0 built.plan built.machines,
-      are_rows responses plan outside end found.0 built.plan built.machines shape,
+      are_rows responses plan outside end found.0 built.plan built.machines shape views,
     )
