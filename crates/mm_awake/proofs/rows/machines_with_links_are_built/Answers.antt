@@ -1,8 +1,9 @@
 use Rattle.mm_awake.proofs.RowBuilt.{Laws, rows_built, legal_top, owed_down, alike, enables_top}
+use Rattle.mm_awake.proofs.rows.machines_with_links_are_built.Goals.{After-host_and_route_serve_default}
 use Rattle.mm_awake.proofs.rows.machines_with_links_are_built.Goals as goal
 
-pub returns-clause-built : goal.returns-clause-built
-returns-clause-built c = rows_built (record {
+laws : After-host_and_route_serve_default → Laws
+laws c = record {
   parts = record {
     line = record {
       host = c.host_machine_keeps_its_line.ensures;
@@ -30,43 +31,16 @@ returns-clause-built c = rows_built (record {
   alike = c.joins_are_alike.ensures.single;
   pipes = record { one = c.pipe_keeps_its_line.ensures.line; none = c.registers_are_a_pipe.ensures.none; two = c.registers_are_a_pipe.ensures.two };
   owed_tags = c.tags_in_order.ensures;
-})
+}
+
+pub returns-clause-built : goal.returns-clause-built
+returns-clause-built c = rows_built (laws (goal.at.returns-clause-built c).After-host_and_route_serve_default)
 
 pub returns-clause-settled : goal.returns-clause-settled
-returns-clause-settled c = λ responses system run ports states end plan machines rows legal h a low there. (
-  legal_top laws responses system run ports states end plan machines rows legal h a low there,
-  owed_down laws responses system run ports states end plan machines rows legal h a low there,
-  alike laws responses system run ports states end plan machines rows legal h a low there,
-  enables_top laws responses system run ports states end plan machines rows legal h a low there,
-)
-  where
-    laws : Laws
-    laws = record {
-      parts = record {
-        line = record {
-          host = c.host_machine_keeps_its_line.ensures;
-          route = c.route_machine_keeps_its_line.ensures;
-          arbiter = c.arbiter_machine_keeps_its_line.ensures;
-          agent = c.agent_machine_keeps_its_line.ensures;
-        };
-        host = c.host_machine_is_a_part.ensures;
-        route = c.route_machine_is_a_part.ensures;
-        arbiter = c.arbiter_machine_is_a_part.ensures;
-        agent = c.agent_machine_is_a_part.ensures.part;
-        tags = c.agent_machine_is_a_part.ensures.tags;
-        stages = record { link = c.stage_is_a_link.ensures; later = c.stage_is_later.ensures };
-        settle = c.lines_settle.ensures;
-        going = c.stage_keeps_going.ensures;
-        pass = c.stages_pass_on.ensures.stage;
-        front = c.host_and_route_are_a_front.ensures;
-        gives = c.words_reach_the_host.ensures;
-        default = c.host_and_route_serve_default.ensures;
-      };
-      row = c.rows_keep_their_lines.ensures.row;
-      lanes = c.rows_keep_their_lines.ensures.lanes;
-      modest = c.rows_are_modest.ensures.rows;
-      fit = c.rows_are_modest.ensures.fit;
-      alike = c.joins_are_alike.ensures.single;
-      pipes = record { one = c.pipe_keeps_its_line.ensures.line; none = c.registers_are_a_pipe.ensures.none; two = c.registers_are_a_pipe.ensures.two };
-      owed_tags = c.tags_in_order.ensures;
-    }
+returns-clause-settled c = λ responses system run ports states end plan machines rows legal h a low there.
+    let row = laws (goal.at.returns-clause-settled c).After-host_and_route_serve_default in (
+      legal_top row responses system run ports states end plan machines rows legal h a low there,
+      owed_down row responses system run ports states end plan machines rows legal h a low there,
+      alike row responses system run ports states end plan machines rows legal h a low there,
+      enables_top row responses system run ports states end plan machines rows legal h a low there,
+    )
