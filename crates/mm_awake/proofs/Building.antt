@@ -1,13 +1,13 @@
 -- A system of machines is awake.
-use Rattle.std.proofs.Common.{ℕ, suc, ◌≡◌, ◌<◌, ◌≤◌, ◌+◌, ◌-◌, ◌*◌, arith, refl, sym, subst, IsTrue, Some}
+use Rattle.std.proofs.Common.{ℕ, suc, ◌≡◌, ◌<◌, ◌≤◌, ◌+◌, ◌-◌, arith, refl, sym, subst, IsTrue, Some}
 use Rattle.mm_runs.specs.Views.{System, Run, Responses, Kind}
-use Rattle.mm_runs.specs.Commands.{longest_burst, shows}
+use Rattle.mm_runs.specs.Commands.{shows}
 use Rattle.mm_runs.specs.Whole.{IsLegalRun}
 use Rattle.mm_runs.specs.Awake.{longest_wait}
 use Rattle.mm_runs.specs.Legal.{IsLegalHost, IsLegalAgent}
 use Rattle.mm_runs.specs.Order.{is_joined}
 use Rattle.mm_machines.specs.Link.{Port, Target, AreLegalAt, AnswersAreOwed}
-use Rattle.mm_machines.specs.Lines.{TaggedPort, Inside, Holds, Wired, IsHostLine, IsRouteLine, IsArbiterLine, IsAgentLine, AreSingle, OwesBelow, AreFitToAsk, IsFit, AreTaggedInOrder, target_of}
+use Rattle.mm_machines.specs.Lines.{TaggedPort, Holds, Wired, AreSingle, OwesBelow, AreFitToAsk, IsFit, AreTaggedInOrder, target_of}
 use Rattle.mm_machines.specs.Machines.{Stage, above, below, RunsAsStage, WaitsOnlyWhenFull, owing_rank}
 use Rattle.mm_machines.specs.Settled.{IsSettled}
 use Rattle.mm_machines.specs.Turns.{Grant, seats_of}
@@ -16,7 +16,7 @@ use Rattle.mm_parts.specs.Arbiter.{IsArbiterMachine}
 use Rattle.mm_parts.specs.Host.{HostState, IsHostMachine, ReadsWords}
 use Rattle.mm_parts.specs.Route.{RouteState, IsRouteMachine, IsRoutePlan}
 use Rattle.mm_parts.specs.Steps.{AreSilentPast, IsHostPart, IsRoutePart, IsArbiterPart, IsAgentPart, agent_rank}
-use Rattle.mm_awake.specs.Theorem.{Boundaries, States, LinkRanks, ArePlanned, KeepRows, AreMachines, IsBuilt, inside_of, approach_of, ways_of, standings_of, slacks_of}
+use Rattle.mm_awake.specs.Theorem.{Boundaries, States, LinkRanks, ArePlanned, KeepLines, KeepRows, IsBuilt, inside_of, approach_of, ways_of, standings_of, slacks_of}
 use Rattle.mm_awake.specs.Front.{KeepsWhole, IsFront, GivesAtOnce, IsDefaultFront}
 use Rattle.mm_links.specs.Going.{KeepsGoing}
 use Rattle.mm_awake.specs.Slack.{PassesOn, AreModest}
@@ -25,18 +25,11 @@ use Rattle.mm_awake.specs.Ways.{KeepsAwake}
 use Rattle.mm_awake.specs.Ahead.{KeepsNothingBack, LeavesNothingOpen, LeadsAhead}
 use Rattle.mm_links.specs.Soon.{ShowsSoon}
 use Rattle.mm_parts.specs.Ahead.{AcceptsAhead}
+use Rattle.mm_awake.specs.Fair.{AreParts}
+use Rattle.mm_awake.proofs.FairPipe.{holds_two}
 use Rattle.mm_awake.proofs.Piped.{StageLaws, legal_at, tagged_at}
 
-pub record LineLaws : Type 0 where
-  pub host : (responses : Responses) (system : System) (run : Run) (host room : ℕ) (down : Port) (state : HostState) (end : ℕ) → 16 * longest_burst down.shape.burst_bits < room → ReadsWords (system.host host) (run.at_host host) end →
-      IsHostMachine responses (system.host host) (run.at_host host) down state end → IsHostLine responses system run host 0 room down end
-  pub route : (responses : Responses) (system : System) (host room : ℕ) (up : Port) (down : ℕ → Port) (state : RouteState) (end : ℕ) → IsRoutePlan system host up.shape → IsRouteMachine responses system host room up down state end → IsRouteLine responses system host 0 room up down end
-  pub arbiter : (responses : Responses) (system : System) (agent : ℕ) (up : ℕ → Port) (down : TaggedPort) (grant : ℕ → Grant) (end : ℕ) → ((h : ℕ) → IsTrue (is_joined system agent h) → h < system.hosts) →
-      IsArbiterMachine (seats_of system agent) system.hosts up down grant end → IsArbiterLine responses system agent 0 up down end
-  pub agent : (responses : Responses) (system : System) (run : Run) (agent : ℕ) (up : TaggedPort) (state : AgentState) (end : ℕ) → IsAgentPlan (system.agent agent) → IsAgentMachine responses (system.agent agent) (run.at_agent agent) up state end → IsAgentLine responses system run agent 0 up end
-
 pub record Laws : Type 0 where
-  pub line : LineLaws
   pub host : (responses : Responses) (system : System) (run : Run) (host : ℕ) (down : Port) (state : HostState) (end : ℕ) → ReadsWords (system.host host) (run.at_host host) end → IsLegalHost (system.host host) (run.at_host host) end → AnswersAreOwed down end →
       IsHostMachine responses (system.host host) (run.at_host host) down state end → IsHostPart system run host down end
   pub route : (responses : Responses) (system : System) (host room : ℕ) (up : Port) (down : ℕ → Port) (state : RouteState) (end : ℕ) → IsRoutePlan system host up.shape → AreLegalAt up end → AreSingle up end → OwesBelow room up end →
@@ -46,7 +39,6 @@ pub record Laws : Type 0 where
   pub tags : (responses : Responses) (system : System) (run : Run) (agent : ℕ) (up : TaggedPort) (state : AgentState) (end : ℕ) → IsAgentPlan (system.agent agent) → IsFit system agent up.port end → IsLegalAgent (system.agent agent) (run.at_agent agent) end →
       IsAgentMachine responses (system.agent agent) (run.at_agent agent) up state end → AreTaggedInOrder up end
   pub stages : StageLaws
-  pub settle : (responses : Responses) (system : System) (run : Run) (inside : Inside) (holds : Holds) (end : ℕ) (wired : Wired responses system run inside holds end) → IsLegalRun system run end → IsSettled system run inside wired.room end
   pub agent : (responses : Responses) (system : System) (run : Run) (agent : ℕ) (up : TaggedPort) (state : AgentState) (end : ℕ) → IsAgentPlan (system.agent agent) → IsFit system agent up.port end → IsLegalAgent (system.agent agent) (run.at_agent agent) end →
       IsAgentMachine responses (system.agent agent) (run.at_agent agent) up state end → IsAgentPart system run agent up (agent_rank system run agent) (longest_wait (system.agent agent) + 1) end
   pub going : (stage : Stage) → RunsAsStage stage → 0 < stage.depth → WaitsOnlyWhenFull stage → (target : Target) (end : ℕ) → AreLegalAt (above stage) end → AreLegalAt (below stage) end → KeepsGoing target (above stage) (below stage) (owing_rank (below stage)) 1 end
@@ -65,38 +57,28 @@ pub record AheadLaws : Type 0 where
   pub joined : (system : System) (run : Run) (host agent : ℕ) (middle : Port) (down : ℕ → Port) (end : ℕ) → agent < system.agents → IsHostPart system run host middle end → IsRoutePart system host middle down end →
       ((kind : Kind) (address : ℕ) → system.place host kind address ≡ Some agent → IsTrue (is_joined system agent host)) → (c : ℕ) → c < end → IsTrue (shows (down agent).commands.signals c) → IsTrue (is_joined system agent host)
 
-module _ (laws : LineLaws) (responses : Responses) (system : System) (run : Run) (inside : Boundaries) (states : States) (end : ℕ)
-    (plan : ArePlanned system inside states) (rows : KeepRows system run inside states end) (machines : AreMachines responses system run inside states end) where
-  abbrev pub row_holds : Holds
-  row_holds = record { host = 0; route = 0; links = rows.link_hold; arbiter = 0; pipe = rows.pipe_hold; agent = 0 }
+module _ (responses : Responses) (system : System) (run : Run) (inside : Boundaries) (states : States) (end : ℕ) (plan : ArePlanned system inside states) (rows : KeepRows system run inside states end) where
+  abbrev pub holds : Holds
+  holds = record { host = 0; route = 0; links = rows.link_hold; arbiter = 0; pipe = rows.pipe_hold; agent = 0 }
 
-  abbrev pub machine_lines : Wired responses system run (inside_of system inside) row_holds end
-  machine_lines = record {
+  abbrev pub lines : KeepLines responses system run inside states end → Wired responses system run (inside_of system inside) holds end
+  lines keep = record {
     room = states.room;
     placed = λ h t a low place. (plan.places h low).agents _ _ a place;
     joined = plan.joined;
     words = rows.words;
     few = let few = rows.few in omega (arith, few);
-    host = λ h low. laws.host responses system run h (states.room h) (inside.after_host h) (states.host h) end (plan.rooms h low) (machines.one_word h low) (machines.host h low);
-    route = λ h low. laws.route responses system h (states.room h) (inside.after_host h) (λ a. inside.upper h a (inside.links h a)) (states.route h) end (plan.places h low) (machines.route h low);
+    host = keep.host;
+    route = keep.route;
     links = rows.links;
     lanes = rows.lanes;
-    arbiter = λ a there. laws.arbiter responses system a (λ h. inside.upper h a 0) (inside.lower a system.stages) (states.grant a) end (plan.joined a) (machines.arbiter a there);
+    arbiter = keep.arbiter;
     pipe = rows.pipe;
-    agent = λ a there. laws.agent responses system run a (inside.lower a 0) (states.agent a) end (plan.agents a there) (machines.agent a there);
+    agent = keep.agent;
   }
 
-module _ (laws : LineLaws) (responses : Responses) (system : System) (run : Run) (inside : Boundaries) (states : States) (ranks : LinkRanks) (end : ℕ) (built : IsBuilt responses system run inside states ranks end) where
-  abbrev pub holds : Holds
-  holds = row_holds laws responses system run inside states end built.plan built.rows built.machines
-
-  abbrev pub lines : Wired responses system run (inside_of system inside) holds end
-  lines = machine_lines laws responses system run inside states end built.plan built.rows built.machines
-
-module _ (laws : Laws) (responses : Responses) (system : System) (run : Run) (inside : Boundaries) (states : States) (ranks : LinkRanks) (end : ℕ) (built : IsBuilt responses system run inside states ranks end) (legal : IsLegalRun system run end) where
-  abbrev settled : IsSettled system run (inside_of system inside) states.room end
-  settled = laws.settle responses system run (inside_of system inside) (holds laws.line responses system run inside states ranks end built) end (lines laws.line responses system run inside states ranks end built) legal
-
+module _ (laws : Laws) (responses : Responses) (system : System) (run : Run) (inside : Boundaries) (states : States) (ranks : LinkRanks) (end : ℕ) (built : IsBuilt responses system run inside states ranks end) (legal : IsLegalRun system run end)
+    (settled : IsSettled system run (inside_of system inside) states.room end) where
   lower_tags : (a : ℕ) → a < system.agents → AreTaggedInOrder (inside.lower a 0) end
   lower_tags a there = laws.tags responses system run a (inside.lower a 0) (states.agent a) end (built.plan.agents a there) (settled.before_agent a there) (legal.agents a there) (built.machines.agent a there)
 
@@ -109,13 +91,13 @@ module _ (laws : Laws) (responses : Responses) (system : System) (run : Run) (in
   lower_tagged : (a i : ℕ) → a < system.agents → i ≤ system.stages → AreTaggedInOrder (inside.lower a i) end
   lower_tagged a i there low = tagged_at laws.stages (target_of system a) (inside.lower a) (states.stage a) system.stages end (λ i low. built.machines.stage a i there low) (some_word a there) (settled.after_arbiter a there).legal (lower_tags a there) i low
 
-  pub host_part : (h : ℕ) → h < system.hosts → IsHostPart system run h (inside.after_host h) end
+  host_part : (h : ℕ) → h < system.hosts → IsHostPart system run h (inside.after_host h) end
   host_part h low = laws.host responses system run h (inside.after_host h) (states.host h) end (built.machines.one_word h low) (legal.hosts h low) (settled.owed h low) (built.machines.host h low)
 
   abbrev behind : ℕ → ℕ → Port
   behind h a = inside.upper h a (inside.links h a)
 
-  pub route_part : (h : ℕ) → h < system.hosts → IsRoutePart system h (inside.after_host h) (behind h) end
+  route_part : (h : ℕ) → h < system.hosts → IsRoutePart system h (inside.after_host h) (behind h) end
   route_part h low = laws.route responses system h (states.room h) (inside.after_host h) (behind h) (states.route h) end (built.plan.places h low) (settled.legal h low) (settled.single h low) (settled.debt h low)
       (λ a there. settled.owed_after_route h a low there) (built.machines.route h low)
 
@@ -128,13 +110,13 @@ module _ (laws : Laws) (responses : Responses) (system : System) (run : Run) (in
       let here = laws.going stage is.runs is.some is.ready (target_of system a) end (subst (λ p. AreLegalAt p end) (sym is.up_is) up_legal) (subst (λ p. AreLegalAt p end) (sym is.down_is) down_legal) in
       subst (λ p. KeepsGoing (target_of system a) p (inside.lower a i).port (owing_rank (below stage)) 1 end) is.up_is (subst (λ p. KeepsGoing (target_of system a) (above stage) p (owing_rank (below stage)) 1 end) is.down_is here)
 
-  pub stage_passes : (a i : ℕ) → a < system.agents → i < system.stages → PassesOn (record { hold = (states.stage a i).depth; kept = 1 }) (inside.lower a (suc i)).port (inside.lower a i).port end
+  stage_passes : (a i : ℕ) → a < system.agents → i < system.stages → PassesOn (record { hold = (states.stage a i).depth; kept = 1 }) (inside.lower a (suc i)).port (inside.lower a i).port end
   stage_passes a i there low =
       let stage = states.stage a i in
       let is = built.machines.stage a i there low in
       subst (λ p. PassesOn (record { hold = stage.depth; kept = 1 }) p (inside.lower a i).port end) is.up_is (subst (λ p. PassesOn (record { hold = stage.depth; kept = 1 }) (above stage) p end) is.down_is (laws.pass stage is.runs end))
 
-  pub awake_at : (a : ℕ) → a < system.agents → KeepsAwake system run a (ways_of system inside a) (standings_of system run states ranks a) end
+  awake_at : (a : ℕ) → a < system.agents → KeepsAwake system run a (ways_of system inside a) (standings_of system run states ranks a) end
   awake_at a there = record {
     agent_part = laws.agent responses system run a (inside.lower a 0) (states.agent a) end (built.plan.agents a there) (settled.before_agent a there) (legal.agents a there) (built.machines.agent a there);
     lower = λ i low. stage_goes a i there low;
@@ -173,6 +155,15 @@ module _ (laws : Laws) (responses : Responses) (system : System) (run : Run) (in
       modest = modest_at a there;
     };
     default = λ h low. laws.default system run h (inside.after_host h) (behind h) end (host_part h low) (route_part h low);
+  }
+
+  pub are_parts : AreParts system run inside end
+  are_parts = record {
+    host = host_part;
+    route = route_part;
+    arbiter = λ a there. (awake_at a there).arbiter;
+    stage = λ a i there low. holds_two _ _ _ _ end (built.machines.stage a i there low).few (stage_passes a i there low);
+    agent = λ a c there low. (awake_at a there).agent_part.accepted c low;
   }
 
   module _ (ahead : AheadLaws) where

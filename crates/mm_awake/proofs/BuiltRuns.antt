@@ -6,7 +6,7 @@ use Rattle.mm_runs.specs.Views.{System, Run, Responses, Shape}
 use Rattle.mm_runs.specs.Plan.{IsMemoryPlan, AreViews}
 use Rattle.mm_runs.specs.Whole.{IsLegalRun}
 use Rattle.mm_machines.specs.Link.{Port, Target, AreLegalAt}
-use Rattle.mm_machines.specs.Lines.{Inside, Holds, Wired, target_of}
+use Rattle.mm_machines.specs.Lines.{target_of}
 use Rattle.mm_machines.specs.Settled.{IsSettled}
 use Rattle.mm_links.specs.Going.{KeepsGoing}
 use Rattle.mm_parts.specs.Agent.{IsAgentPlan}
@@ -17,16 +17,15 @@ use Rattle.mm_parts.specs.System.{RunsAsMachines}
 use Rattle.mm_parts.specs.SystemRun.{PlainPlan, Outside, Registers, plain_system, registers_of, ports_run, inside_run, states_run, before_arbiter}
 use Rattle.mm_awake.specs.PlainSystem.{AreQuietPast, wire_ranks, wired_inside, wired_states}
 use Rattle.mm_awake.specs.Slack.{PassesOn}
-use Rattle.mm_awake.specs.Theorem.{ArePlanned, KeepRows, AreMachines, AreLinks, IsBuilt, inside_of}
-use Rattle.mm_awake.proofs.Building.{LineLaws, row_holds, machine_lines}
+use Rattle.mm_awake.specs.Theorem.{Boundaries, States, ArePlanned, KeepRows, AreMachines, AreLinks, IsBuilt, inside_of}
 use Rattle.mm_awake.proofs.LinksPass.{on_while_still}
 
 pub record Laws : Type 0 where
-  pub line : LineLaws
   pub agent_plan : (system : System) → IsMemoryPlan system → (a : ℕ) → a < system.agents → IsAgentPlan (system.agent a)
   pub route_plan : (system : System) → IsMemoryPlan system → (h : ℕ) (shape : Shape) → h < system.hosts → shape.word_bytes ≡ (system.host h).word_bytes → IsRoutePlan system h shape
   pub reads_words : (system : System) (run : Run) (h end : ℕ) → AreViews system run end → h < system.hosts → ReadsWords (system.host h) (run.at_host h) end
-  pub settle : (responses : Responses) (system : System) (run : Run) (inside : Inside) (holds : Holds) (end : ℕ) (wired : Wired responses system run inside holds end) → IsLegalRun system run end → IsSettled system run inside wired.room end
+  pub settle : (responses : Responses) (system : System) (run : Run) (inside : Boundaries) (states : States) (end : ℕ) → ArePlanned system inside states → KeepRows system run inside states end → AreMachines responses system run inside states end → IsLegalRun system run end →
+      IsSettled system run (inside_of system inside) states.room end
   pub going : (target : Target) (port : Port) (end : ℕ) → AreLegalAt port end → KeepsGoing target port port (λ c. 0) 0 end
   pub pass : (port : Port) (end : ℕ) → PassesOn (record { hold = 0; kept = 0 }) port port end
 
@@ -80,8 +79,7 @@ module _ (laws : Laws) (responses : Responses) (plan : PlainPlan) (outside : Out
     }
 
     settled : IsSettled system run (inside_of system (wired_inside responses plan outside registers)) machines.room end
-    settled = laws.settle responses system run (inside_of system (wired_inside responses plan outside registers)) (row_holds laws.line responses system run (wired_inside responses plan outside registers) (wired_states responses plan outside registers machines.room) end planned rows are_machines) end
-        (machine_lines laws.line responses system run (wired_inside responses plan outside registers) (wired_states responses plan outside registers machines.room) end planned rows are_machines) legal
+    settled = laws.settle responses system run (wired_inside responses plan outside registers) (wired_states responses plan outside registers machines.room) end planned rows are_machines legal
 
     links : AreLinks system run (wired_inside responses plan outside registers) (wired_states responses plan outside registers machines.room) wire_ranks end
     links = record {

@@ -2,29 +2,38 @@
 use Rattle.std.proofs.Common.{ℕ, zero, suc, ◌≡◌, ◌<◌, ◌≤◌, ◌-◌, ◌/◌, ◌^◌, min, Bool, true, false, arith, refl, sym, ap, ap₂, subst, ◌∙◌, le_refl, nat_lt, IsFalse}
 use Rattle.std.proofs.lemmas.Bool.{ltb-true, ltb-false}
 use Rattle.mm_runs.specs.Views.{System, Run, Responses}
+use Rattle.mm_runs.specs.Legal.{IsLegalAgent}
 use Rattle.mm_runs.specs.Order.{host_transfers}
 use Rattle.mm_runs.specs.Plan.{FitsPorts}
 use Rattle.mm_runs.specs.Shorter.{legal_run_before}
 use Rattle.mm_runs.specs.Whole.{IsLegalRun}
 use Rattle.mm_machines.specs.Link.{Port, Target, AreLegalAt, AnswersAreOwed}
-use Rattle.mm_machines.specs.Lines.{TaggedPort, Holds, Wired, IsHostLine, IsRouteLine, IsArbiterLine, IsAgentLine, IsPipeLine, KeepsRow, BringsLanes, HavePlacedLanes, AreSingle, OwesBelow, AreTaggedInOrder, AreOwedByTag, sent_by, target_of}
+use Rattle.mm_machines.specs.Lines.{TaggedPort, Holds, Wired, Inside, IsFit, IsHostLine, IsRouteLine, IsArbiterLine, IsAgentLine, IsPipeLine, KeepsRow, BringsLanes, HavePlacedLanes, AreSingle, OwesBelow, AreTaggedInOrder, AreOwedByTag, sent_by, target_of}
 use Rattle.mm_machines.specs.PartRanks.{JoinsAlike}
 use Rattle.mm_machines.specs.Settled.{IsSettled}
+use Rattle.mm_parts.specs.Agent.{AgentState, IsAgentMachine, IsAgentPlan}
+use Rattle.mm_parts.specs.Route.{RouteState, IsRouteMachine, IsRoutePlan}
+use Rattle.mm_parts.specs.Steps.{IsRoutePart}
 use Rattle.mm_awake.specs.RowSystem.{RowPorts, AreRows, boundaries_of}
 use Rattle.mm_links.specs.Selects.{EnablesFit}
 use Rattle.mm_awake.specs.Rows.{IsModestRow, CutsBursts, FitsWords, DropsBeats, drops_some, ports_of_three, one_beat_lowest}
 use Rattle.mm_awake.specs.Slack.{Slacks, host_allows, toll}
-use Rattle.mm_awake.specs.Theorem.{Boundaries, States, LinkRanks, ArePlanned, KeepRows, AreMachines, AreLinks, IsBuilt, inside_of, ways_of, standings_of, slacks_of}
+use Rattle.mm_awake.specs.Theorem.{Boundaries, States, LinkRanks, ArePlanned, KeepLines, KeepRows, AreMachines, AreLinks, IsBuilt, inside_of, ways_of, standings_of, slacks_of}
 use Rattle.mm_awake.specs.Ways.{Ways, Standing, Standings}
-use Rattle.mm_awake.proofs.Building.{Laws as PartLaws}
 use Rattle.mm_awake.proofs.Enables.{lanes_placed}
-use Rattle.mm_awake.proofs.Piped.{tagged_at}
+use Rattle.mm_awake.proofs.Piped.{StageLaws, tagged_at}
 use Rattle.mm_awake.proofs.RowLine.{cut_words}
 use Rattle.mm_awake.proofs.SilentRoute.{single_behind}
 use Rattle.mm_awake.proofs.StageLine.{PipeLaws, hold_of, hold_is, pipe_line}
 
 pub record Laws : Type 0 where
-  pub parts : PartLaws
+  pub lines : (responses : Responses) (system : System) (run : Run) (inside : Boundaries) (states : States) (end : ℕ) → ArePlanned system inside states → AreMachines responses system run inside states end → KeepLines responses system run inside states end
+  pub settle : (responses : Responses) (system : System) (run : Run) (inside : Inside) (holds : Holds) (end : ℕ) (wired : Wired responses system run inside holds end) → IsLegalRun system run end → IsSettled system run inside wired.room end
+  pub route : (responses : Responses) (system : System) (host room : ℕ) (up : Port) (down : ℕ → Port) (state : RouteState) (end : ℕ) → IsRoutePlan system host up.shape → AreLegalAt up end → AreSingle up end → OwesBelow room up end →
+      ((a : ℕ) → a < system.agents → AnswersAreOwed (down a) end) → IsRouteMachine responses system host room up down state end → IsRoutePart system host up down end
+  pub tags : (responses : Responses) (system : System) (run : Run) (agent : ℕ) (up : TaggedPort) (state : AgentState) (end : ℕ) → IsAgentPlan (system.agent agent) → IsFit system agent up.port end → IsLegalAgent (system.agent agent) (run.at_agent agent) end →
+      IsAgentMachine responses (system.agent agent) (run.at_agent agent) up state end → AreTaggedInOrder up end
+  pub stages : StageLaws
   pub row : (target : Target) (top middle low down : Port) (end : ℕ) → CutsBursts top middle → FitsWords target middle low → DropsBeats target low down → EnablesFit top end → JoinsAlike target top end → KeepsRow target 2 top down end
   pub lanes : (system : System) (run : Run) (host agent : ℕ) (top middle low down : Port) (end : ℕ) → CutsBursts top middle → FitsWords (target_of system agent) middle low → (drops : DropsBeats (target_of system agent) low down) → EnablesFit top end → JoinsAlike (target_of system agent) top end →
       (IsFalse (drops_some drops) → (c : ℕ) → c ≤ end → HavePlacedLanes system host agent (sent_by (host_transfers system run host c))) → BringsLanes system run host agent top down end
@@ -63,17 +72,20 @@ module _ (laws : Laws) (responses : Responses) (system : System) (run : Run) (po
   abbrev inside : Boundaries
   inside = boundaries_of ports
 
+  abbrev keep : KeepLines responses system run inside states end
+  keep = laws.lines responses system run inside states end plan machines
+
   host_line : (h : ℕ) → h < system.hosts → IsHostLine responses system run h 0 (states.room h) (ports.after_host h) end
-  host_line h low = laws.parts.line.host responses system run h (states.room h) (ports.after_host h) (states.host h) end (plan.rooms h low) (machines.one_word h low) (machines.host h low)
+  host_line = keep.host
 
   route_line : (h : ℕ) → h < system.hosts → IsRouteLine responses system h 0 (states.room h) (ports.after_host h) (ports.after_route h) end
-  route_line h low = laws.parts.line.route responses system h (states.room h) (ports.after_host h) (ports.after_route h) (states.route h) end (plan.places h low) (machines.route h low)
+  route_line = keep.route
 
   arbiter_line : (a : ℕ) → a < system.agents → IsArbiterLine responses system a 0 (λ h. ports.before_arbiter h a) (ports.lower a system.stages) end
-  arbiter_line a there = laws.parts.line.arbiter responses system a (λ h. ports.before_arbiter h a) (ports.lower a system.stages) (states.grant a) end (plan.joined a) (machines.arbiter a there)
+  arbiter_line = keep.arbiter
 
   agent_line : (a : ℕ) → a < system.agents → IsAgentLine responses system run a 0 (ports.lower a 0) end
-  agent_line a there = laws.parts.line.agent responses system run a (ports.lower a 0) (states.agent a) end (plan.agents a there) (machines.agent a there)
+  agent_line = keep.agent
 
   some_word : (a : ℕ) → a < system.agents → 0 < (ports.lower a 0).shape.word_bytes
   some_word a there = let same = (machines.agent a there).commands.words in let some = (plan.agents a there).word in omega (arith, same, some)
@@ -156,7 +168,7 @@ module _ (laws : Laws) (responses : Responses) (system : System) (run : Run) (po
 
   settled_at : (c : ℕ) → c ≤ end → Alike c → IsSettled system run (inside_of system inside) states.room c
   unfolding wired_at
-  settled_at c fit alike = laws.parts.settle responses system run (inside_of system inside) holds c (wired_at c fit alike) (legal_run_before c end fit system run legal)
+  settled_at c fit alike = laws.settle responses system run (inside_of system inside) holds c (wired_at c fit alike) (legal_run_before c end fit system run legal)
 
   alike_by : (c : ℕ) → c ≤ end → ((h : ℕ) → h < system.hosts → AnswersAreOwed (ports.after_host h) (c - 1)) → ((h a : ℕ) → h < system.hosts → a < system.agents → AnswersAreOwed (ports.after_route h a) (c - 1)) →
       ((h a : ℕ) → h < system.hosts → a < system.agents → AreLegalAt (ports.after_host h) c → AreSingle (ports.after_host h) c → OwesBelow (states.room h) (ports.after_host h) c → AreSingle (ports.after_route h a) c) → Alike c
@@ -174,7 +186,7 @@ module _ (laws : Laws) (responses : Responses) (system : System) (run : Run) (po
       let settled = settled_at c (omega (arith, fit)) (alike_at c (omega (arith, fit))) in
       alike_by (suc c) fit (λ h low k less. settled.owed h low k (omega (arith, less))) (λ h a low there k less. settled.owed_after_route h a low there k (omega (arith, less)))
       (λ h a low there legal_up single_up below_up.
-      single_behind laws.parts.route responses system h (states.room h) (ports.after_host h) (ports.after_route h) (states.route h) end (plan.places h low) (machines.route h low) c fit legal_up single_up below_up
+      single_behind laws.route responses system h (states.room h) (ports.after_host h) (ports.after_route h) (states.route h) end (plan.places h low) (machines.route h low) c fit legal_up single_up below_up
       (λ b here. settled.owed_after_route h b low here) a there)
 
   pub alike : Alike end
@@ -192,10 +204,10 @@ module _ (laws : Laws) (responses : Responses) (system : System) (run : Run) (po
   owed_down h a low there = ((arbiter_line a there).answers end (le_refl end) (settled.asks a there) (laws.owed_tags system (ports.lower a system.stages) end tagged)).owed h low
     where
       bottom : AreTaggedInOrder (ports.lower a 0) end
-      bottom = laws.parts.tags responses system run a (ports.lower a 0) (states.agent a) end (plan.agents a there) (settled.before_agent a there) (legal.agents a there) (machines.agent a there)
+      bottom = laws.tags responses system run a (ports.lower a 0) (states.agent a) end (plan.agents a there) (settled.before_agent a there) (legal.agents a there) (machines.agent a there)
 
       tagged : AreTaggedInOrder (ports.lower a system.stages) end
-      tagged = tagged_at laws.parts.stages (target_of system a) (ports.lower a) (states.stage a) system.stages end (λ i less. machines.stage a i there less) (some_word a there) (settled.after_arbiter a there).legal bottom system.stages (le_refl system.stages)
+      tagged = tagged_at laws.stages (target_of system a) (ports.lower a) (states.stage a) system.stages end (λ i less. machines.stage a i there less) (some_word a there) (settled.after_arbiter a there).legal bottom system.stages (le_refl system.stages)
 
   -- a row that holds little back, where there is one
   pub record Row (h a : ℕ) : Type 0 where

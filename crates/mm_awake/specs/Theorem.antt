@@ -7,7 +7,7 @@ use Rattle.mm_runs.specs.Operations.{pieces}
 use Rattle.mm_runs.specs.Commands.{longest_burst}
 use Rattle.mm_runs.specs.Awake.{longest_wait, is_alike}
 use Rattle.mm_machines.specs.Link.{Port}
-use Rattle.mm_machines.specs.Lines.{TaggedPort, Inside, KeepsRow, BringsLanes, IsPipeLine, target_of}
+use Rattle.mm_machines.specs.Lines.{TaggedPort, Inside, KeepsRow, BringsLanes, IsPipeLine, target_of, IsHostLine, IsRouteLine, IsArbiterLine, IsAgentLine}
 use Rattle.mm_machines.specs.Machines.{Stage, above, below, RunsAsStage, WaitsOnlyWhenFull, owing_rank}
 use Rattle.mm_machines.specs.Turns.{Grant, seats_of}
 use Rattle.mm_parts.specs.Agent.{AgentState, IsAgentMachine, IsAgentPlan}
@@ -113,6 +113,13 @@ inside_of system inside = record {
   after_arbiter = λ a. inside.lower a system.stages;
   before_agent = λ a. inside.lower a 0;
 }
+
+-- the parts that are told by their machines keep their lines
+pub record KeepLines (responses : Responses) (system : System) (run : Run) (inside : Boundaries) (states : States) (end : ℕ) : Type 0 where
+  pub host : (h : ℕ) → h < system.hosts → IsHostLine responses system run h 0 (states.room h) (inside.after_host h) end
+  pub route : (h : ℕ) → h < system.hosts → IsRouteLine responses system h 0 (states.room h) (inside.after_host h) (λ a. inside.upper h a (inside.links h a)) end
+  pub arbiter : (a : ℕ) → a < system.agents → IsArbiterLine responses system a 0 (λ h. inside.upper h a 0) (inside.lower a system.stages) end
+  pub agent : (a : ℕ) → a < system.agents → IsAgentLine responses system run a 0 (inside.lower a 0) end
 
 -- the links and the pipes keep their lines: what the others are made of is told by their machines
 pub record KeepRows (system : System) (run : Run) (inside : Boundaries) (states : States) (end : ℕ) : Type 0 where

@@ -197,22 +197,7 @@ pub fn machines_are_parts()
     ensures { (responses : Responses) (system : System) (run : Run) (inside : Boundaries) (states : States) (ranks : LinkRanks) (end : ℕ)
         → IsBuilt responses system run inside states ranks end → IsLegalRun system run end → AreParts system run inside end }
 {
-    mm_machines::settled::lines_settle();
-    mm_machines::machines::stage_is_a_link();
-    mm_machines::machines::stage_is_later();
-    mm_parts::lines::host_machine_keeps_its_line();
-    mm_parts::lines::route_machine_keeps_its_line();
-    mm_parts::lines::arbiter_machine_keeps_its_line();
-    mm_parts::lines::agent_machine_keeps_its_line();
-    mm_parts::steps::host_machine_is_a_part();
-    mm_parts::steps::route_machine_is_a_part();
-    mm_parts::steps::arbiter_machine_is_a_part();
-    mm_parts::steps::agent_machine_is_a_part();
-    mm_links::pipes::stage_keeps_going();
-    crate::stages_pass_on();
-    crate::host_and_route_are_a_front();
-    crate::words_reach_the_host();
-    crate::host_and_route_serve_default()
+    crate::built::machines_keep_their_records()
 }
 
 /// A plain write that a host shows for an agent stands behind its route in the same cycle, with an operation, and ends its command there. A wire hands it on, and so do links in a row that do.
@@ -251,11 +236,8 @@ pub fn commands_begin_by_turns()
         → BeginsByTurns system run agent (inside.lower agent 0) (inside.lower agent system.stages) end }
 {
     crate::machines_are_awake();
-    mm_machines::settled::lines_settle();
+    crate::built::machines_keep_their_lines();
+    crate::built::machines_settle();
     mm_machines::settled::agents_take_by_turns();
-    mm_parts::lines::host_machine_keeps_its_line();
-    mm_parts::lines::route_machine_keeps_its_line();
-    mm_parts::lines::arbiter_machine_keeps_its_line();
-    mm_parts::lines::agent_machine_keeps_its_line();
     mm_parts::steps::agent_machine_is_a_part()
 }

@@ -1,6 +1,7 @@
 //! Whole memory-mapped systems never idle: a wanted agent is served, from what each part promises of its ports.
 #![tactic(auto)]
 
+pub mod built;
 pub mod fair;
 pub mod links;
 pub mod plain;
@@ -42,25 +43,8 @@ pub fn machines_are_awake()
     systems_are_awake();
     systems_read_ahead();
     mm_machines::lines::the_lines_give_the_headline();
-    mm_machines::settled::lines_settle();
-    mm_machines::machines::stage_is_a_link();
-    mm_machines::machines::stage_is_later();
-    mm_parts::lines::host_machine_keeps_its_line();
-    mm_parts::lines::route_machine_keeps_its_line();
-    mm_parts::lines::arbiter_machine_keeps_its_line();
-    mm_parts::lines::agent_machine_keeps_its_line();
-    mm_parts::steps::host_machine_is_a_part();
-    mm_parts::steps::route_machine_is_a_part();
-    mm_parts::steps::arbiter_machine_is_a_part();
-    mm_parts::steps::agent_machine_is_a_part();
-    mm_links::pipes::stage_keeps_going();
-    stages_pass_on();
-    host_and_route_are_a_front();
-    words_reach_the_host();
-    host_and_route_serve_default();
-    mm_parts::steps::agent_machine_accepts_ahead();
-    mm_links::soon::stage_shows_soon();
-    host_and_route_keep_nothing_back()
+    built::machines_keep_their_lines();
+    built::machines_keep_their_records()
 }
 
 /// Where every part of a system keeps its record and the components are legal, a wanted agent, and the default agent, are served within their windows.

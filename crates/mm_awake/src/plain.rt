@@ -19,11 +19,7 @@ pub fn plain_systems_are_built()
 {
     mm_parts::system::systems_of_machines_run();
     mm_parts::plans::plans_suit_machines();
-    mm_machines::settled::lines_settle();
-    mm_parts::lines::host_machine_keeps_its_line();
-    mm_parts::lines::route_machine_keeps_its_line();
-    mm_parts::lines::arbiter_machine_keeps_its_line();
-    mm_parts::lines::agent_machine_keeps_its_line();
+    crate::built::machines_settle();
     crate::wires_keep_going();
     crate::stages_pass_on()
 }

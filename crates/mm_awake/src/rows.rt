@@ -31,23 +31,13 @@ pub fn machines_with_links_are_built()
     mm_machines::progress::joins_are_alike();
     mm_machines::lines::tags_in_order();
     mm_machines::lines::registers_are_a_pipe();
+    crate::built::machines_keep_their_lines();
     mm_machines::settled::lines_settle();
     mm_machines::machines::stage_is_a_link();
     mm_machines::machines::stage_is_later();
-    mm_parts::lines::host_machine_keeps_its_line();
-    mm_parts::lines::route_machine_keeps_its_line();
-    mm_parts::lines::arbiter_machine_keeps_its_line();
-    mm_parts::lines::agent_machine_keeps_its_line();
-    mm_parts::steps::host_machine_is_a_part();
     mm_parts::steps::route_machine_is_a_part();
-    mm_parts::steps::arbiter_machine_is_a_part();
     mm_parts::steps::agent_machine_is_a_part();
-    mm_links::pipes::stage_keeps_going();
-    mm_links::pipes::pipe_keeps_its_line();
-    crate::stages_pass_on();
-    crate::host_and_route_are_a_front();
-    crate::words_reach_the_host();
-    crate::host_and_route_serve_default()
+    mm_links::pipes::pipe_keeps_its_line()
 }
 
 /// So such a system is safe and never idles.

@@ -1,8 +1,9 @@
-use Rattle.mm_awake.proofs.RowLine.{row_kept, row_brings_lanes}
+use Rattle.mm_awake.proofs.RowLine.{RowLaws, row_kept, row_brings_lanes}
+use Rattle.mm_awake.proofs.links.rows_keep_their_lines.Goals.{After-drop_is_a_link}
 use Rattle.mm_awake.proofs.links.rows_keep_their_lines.Goals as goal
 
-pub returns-clause-row : goal.returns-clause-row
-returns-clause-row c = row_kept (record {
+laws : After-drop_is_a_link → RowLaws
+laws c = record {
   links = record {
     wire = c.pass_is_a_link.ensures.link;
     burst = c.burst_is_a_link.ensures;
@@ -13,18 +14,10 @@ returns-clause-row c = row_kept (record {
   };
   chain = c.chain_is_a_link.ensures;
   wider = c.rows_compose.ensures.wider;
-})
+}
+
+pub returns-clause-row : goal.returns-clause-row
+returns-clause-row c = row_kept (laws (goal.at.returns-clause-row c).After-drop_is_a_link)
 
 pub returns-clause-lanes : goal.returns-clause-lanes
-returns-clause-lanes c = row_brings_lanes (record {
-  links = record {
-    wire = c.pass_is_a_link.ensures.link;
-    burst = c.burst_is_a_link.ensures;
-    cut = c.cut_is_a_link.ensures;
-    select = c.select_is_a_link.ensures;
-    split = c.split_is_a_link.ensures;
-    drop = c.drop_is_a_link.ensures;
-  };
-  chain = c.chain_is_a_link.ensures;
-  wider = c.rows_compose.ensures.wider;
-})
+returns-clause-lanes c = row_brings_lanes (laws (goal.at.returns-clause-lanes c).After-drop_is_a_link)

@@ -7,16 +7,10 @@ returns c = λ responses plan outside end is_plan one views quiet legal.
   where
     laws : Laws
     laws = record {
-      line = record {
-        host = c.host_machine_keeps_its_line.ensures;
-        route = c.route_machine_keeps_its_line.ensures;
-        arbiter = c.arbiter_machine_keeps_its_line.ensures;
-        agent = c.agent_machine_keeps_its_line.ensures;
-      };
       agent_plan = c.plans_suit_machines.ensures.agents;
       route_plan = c.plans_suit_machines.ensures.routes;
       reads_words = c.plans_suit_machines.ensures.hosts;
-      settle = c.lines_settle.ensures;
+      settle = c.machines_settle.ensures;
       going = c.wires_keep_going.ensures;
       pass = c.stages_pass_on.ensures.wire;
     }

@@ -1,29 +1,14 @@
 use Rattle.mm_awake.proofs.RowBuilt.{Laws, rows_built, legal_top, owed_down, alike, enables_top}
-use Rattle.mm_awake.proofs.rows.machines_with_links_are_built.Goals.{After-host_and_route_serve_default}
+use Rattle.mm_awake.proofs.rows.machines_with_links_are_built.Goals.{After-pipe_keeps_its_line}
 use Rattle.mm_awake.proofs.rows.machines_with_links_are_built.Goals as goal
 
-laws : After-host_and_route_serve_default → Laws
+laws : After-pipe_keeps_its_line → Laws
 laws c = record {
-  parts = record {
-    line = record {
-      host = c.host_machine_keeps_its_line.ensures;
-      route = c.route_machine_keeps_its_line.ensures;
-      arbiter = c.arbiter_machine_keeps_its_line.ensures;
-      agent = c.agent_machine_keeps_its_line.ensures;
-    };
-    host = c.host_machine_is_a_part.ensures;
-    route = c.route_machine_is_a_part.ensures;
-    arbiter = c.arbiter_machine_is_a_part.ensures;
-    agent = c.agent_machine_is_a_part.ensures.part;
-    tags = c.agent_machine_is_a_part.ensures.tags;
-    stages = record { link = c.stage_is_a_link.ensures; later = c.stage_is_later.ensures };
-    settle = c.lines_settle.ensures;
-    going = c.stage_keeps_going.ensures;
-    pass = c.stages_pass_on.ensures.stage;
-    front = c.host_and_route_are_a_front.ensures;
-    gives = c.words_reach_the_host.ensures;
-    default = c.host_and_route_serve_default.ensures;
-  };
+  lines = c.machines_keep_their_lines.ensures;
+  settle = c.lines_settle.ensures;
+  route = c.route_machine_is_a_part.ensures;
+  tags = c.agent_machine_is_a_part.ensures.tags;
+  stages = record { link = c.stage_is_a_link.ensures; later = c.stage_is_later.ensures };
   row = c.rows_keep_their_lines.ensures.row;
   lanes = c.rows_keep_their_lines.ensures.lanes;
   modest = c.rows_are_modest.ensures.rows;
@@ -34,11 +19,11 @@ laws c = record {
 }
 
 pub returns-clause-built : goal.returns-clause-built
-returns-clause-built c = rows_built (laws (goal.at.returns-clause-built c).After-host_and_route_serve_default)
+returns-clause-built c = rows_built (laws (goal.at.returns-clause-built c).After-pipe_keeps_its_line)
 
 pub returns-clause-settled : goal.returns-clause-settled
 returns-clause-settled c = λ responses system run ports states end plan machines rows legal h a low there.
-    let row = laws (goal.at.returns-clause-settled c).After-host_and_route_serve_default in (
+    let row = laws (goal.at.returns-clause-settled c).After-pipe_keeps_its_line in (
       legal_top row responses system run ports states end plan machines rows legal h a low there,
       owed_down row responses system run ports states end plan machines rows legal h a low there,
       alike row responses system run ports states end plan machines rows legal h a low there,

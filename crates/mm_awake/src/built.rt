@@ -1,0 +1,58 @@
+//! What the parts of a system of machines keep.
+
+ghost use Rattle.std.specs.Prelude.{ℕ, ◌<◌, IsTrue};
+ghost use Rattle.mm_runs.specs.Views.{Responses, System, Run};
+ghost use Rattle.mm_runs.specs.Whole.{IsLegalRun};
+ghost use Rattle.mm_machines.specs.Settled.{IsSettled};
+ghost use Rattle.mm_awake.specs.Ahead.{LeadsAhead};
+ghost use Rattle.mm_awake.specs.Approach.{IsAwake};
+ghost use Rattle.mm_awake.specs.Fair.{AreParts};
+ghost use Rattle.mm_awake.specs.Theorem.{Boundaries, States, LinkRanks, ArePlanned, KeepLines, KeepRows, AreMachines, IsBuilt, approach_of, inside_of, ways_of};
+
+/// The machines next to the hosts, the routes, the arbiters and the machines next to the agents keep their lines.
+pub fn machines_keep_their_lines()
+    ensures { (responses : Responses) (system : System) (run : Run) (inside : Boundaries) (states : States) (end : ℕ)
+        → ArePlanned system inside states → AreMachines responses system run inside states end → KeepLines responses system run inside states end }
+{
+    mm_parts::lines::host_machine_keeps_its_line();
+    mm_parts::lines::route_machine_keeps_its_line();
+    mm_parts::lines::arbiter_machine_keeps_its_line();
+    mm_parts::lines::agent_machine_keeps_its_line()
+}
+
+/// So where the links and the pipes keep theirs and the components are legal, each boundary carries legal commands and owed answers.
+pub fn machines_settle()
+    ensures { (responses : Responses) (system : System) (run : Run) (inside : Boundaries) (states : States) (end : ℕ)
+        → ArePlanned system inside states → KeepRows system run inside states end → AreMachines responses system run inside states end → IsLegalRun system run end
+        → IsSettled system run (inside_of system inside) states.room end }
+{
+    machines_keep_their_lines();
+    mm_machines::settled::lines_settle()
+}
+
+/// In a system of machines each part keeps its record, what leads to each agent is as the theorem on wanted agents asks, and what leads to one with readdatavalid as reads that travel ahead ask.
+pub fn machines_keep_their_records()
+    ensures parts { (responses : Responses) (system : System) (run : Run) (inside : Boundaries) (states : States) (ranks : LinkRanks) (end : ℕ)
+        → IsBuilt responses system run inside states ranks end → IsLegalRun system run end → AreParts system run inside end }
+    ensures awake { (responses : Responses) (system : System) (run : Run) (inside : Boundaries) (states : States) (ranks : LinkRanks) (end : ℕ)
+        → IsBuilt responses system run inside states ranks end → IsLegalRun system run end → IsAwake system run (approach_of system run inside states ranks) end }
+    ensures ahead { (responses : Responses) (system : System) (run : Run) (inside : Boundaries) (states : States) (ranks : LinkRanks) (end : ℕ)
+        → IsBuilt responses system run inside states ranks end → IsLegalRun system run end
+        → (a : ℕ) → a < system.agents → IsTrue (system.agent a).has_readdatavalid → LeadsAhead system run a (ways_of system inside a) end }
+{
+    machines_settle();
+    mm_machines::machines::stage_is_a_link();
+    mm_machines::machines::stage_is_later();
+    mm_parts::steps::host_machine_is_a_part();
+    mm_parts::steps::route_machine_is_a_part();
+    mm_parts::steps::arbiter_machine_is_a_part();
+    mm_parts::steps::agent_machine_is_a_part();
+    mm_parts::steps::agent_machine_accepts_ahead();
+    mm_links::pipes::stage_keeps_going();
+    mm_links::soon::stage_shows_soon();
+    crate::stages_pass_on();
+    crate::host_and_route_are_a_front();
+    crate::words_reach_the_host();
+    crate::host_and_route_keep_nothing_back();
+    crate::host_and_route_serve_default()
+}
