@@ -421,3 +421,23 @@ shows_nothing = record {
   };
   answers = record { valid = always 0; word = always 0; code = always 0 };
 }
+
+-- ---- between words of one size, with room for one read
+
+-- reads of a byte, one in each cycle, that get no word
+abbrev pub unanswered_reads : Inputs
+unanswered_reads = record {
+  signals = record { read = always 1; write = always 0; address = always 2; word = always 0; enables = always 1; count = always 1 };
+  more = always 0;
+  tag = always 0;
+  waitrequest = always 0;
+  answers = record { valid = always 0; word = always 0; code = always 0 };
+}
+
+-- a splitter into one piece
+abbrev pub one_piece : SplitInputs
+one_piece = record { wide = lane_shape 1; narrow = lane_shape 1; room = 1; inputs = unanswered_reads }
+
+-- what has nothing to drop
+abbrev pub nothing_dropped : DropInputs
+nothing_dropped = record { shape = lane_shape 1; below = lane_shape 1; room = 1; inputs = unanswered_reads }

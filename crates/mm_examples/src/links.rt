@@ -1,9 +1,11 @@
 //! Small runs of links, right and wrong.
 
-ghost use Rattle.std.specs.Prelude.{◌≡◌, ◌+◌, ◌∷◌, [], ℕ, true, false, map, length};
+ghost use Rattle.std.specs.Prelude.{◌≡◌, ◌+◌, ◌∷◌, [], ℕ, suc, true, false, map, length};
 ghost use Rattle.mm_runs.specs.Views.{levels_at};
 ghost use Rattle.mm_runs.specs.Commands.{shows};
 ghost use Rattle.mm_machines.specs.Link.{AreLegalAt, CarriesCommands, takes, words_at, taken_at};
+ghost use Rattle.mm_machines.specs.Machines.{MaySplit};
+ghost use Rattle.mm_links.specs.Drops.{IsDropPlan};
 ghost use Rattle.mm_machines.specs.Lines.{BringsBack, PipeCarriesCommands, AreDelayed};
 ghost use Rattle.mm_links.specs.Driven.{select_above, select_below, split_above, split_below, burst_above, burst_below, drop_above, drop_below, pipe_run};
 ghost use Rattle.mm_links.specs.Driven.{cut_above, cut_below};
@@ -12,6 +14,7 @@ ghost use Rattle.mm_examples.specs.LinkRuns.{two_writes, hides_wait, shows_twice
 ghost use Rattle.mm_examples.specs.PartRows.{levels};
 ghost use Rattle.mm_examples.specs.LinkRuns.{cutting, two_bytes, two_beats, behind_empty};
 ghost use Rattle.mm_examples.specs.LinkRuns.{pairing, four_bytes, two_pairs, uncut, slow_bytes, near_pairs, behind_pairs};
+ghost use Rattle.mm_examples.specs.LinkRuns.{one_piece, nothing_dropped};
 ghost use Rattle.mm_examples.specs.LinkRuns.{dropping, ends_without_lane, stays_joined, own_word_first, one_word, mixed_reads, empty_reads};
 ghost use Rattle.mm_awake.specs.Slack.{PassesOn};
 ghost use Rattle.mm_machines.specs.Straight.{GoesStraightThrough};
@@ -69,6 +72,17 @@ pub fn splitters()
     ensures swallows { (hold kept : ℕ) → PassesOn (record { hold = hold; kept = kept }) (split_above empty_writes) (split_below empty_writes) (hold + 1) → ⊥ }
 {
     mm_links::runs::split_runs()
+}
+
+/// Between words of one size the plans of links allow a splitter into one piece, and what drops beats, with room for one read. Each holds all later reads back while the first is owed, though the port below doesn't wait.
+pub fn held_reads()
+    ensures may_split { MaySplit byte_target one_piece.wide one_piece.narrow 1 }
+    ensures may_drop { IsDropPlan byte_target nothing_dropped.shape nothing_dropped.below }
+    ensures split { (c : ℕ) → (shows (split_above one_piece).commands.signals c ≡ true) × (shows (split_below one_piece).commands.signals (suc c) ≡ false) }
+    ensures drop { (c : ℕ) → (shows (drop_above nothing_dropped).commands.signals c ≡ true) × (shows (drop_below nothing_dropped).commands.signals (suc c) ≡ false) }
+{
+    mm_links::runs::split_runs();
+    mm_links::runs::drop_runs()
 }
 
 /// A read of three words and a write of two are sent beat by beat, joined by `more`; the read is accepted with its first beat, and the write waits.
