@@ -49,7 +49,7 @@ module _ (responses : Responses) (plan : PlainPlan) (outside : Outside) (end : �
         let some = (planned.agents a there).word in
         record { same = refl; some = omega (arith, words, same, some) }
 
-    pub are_rows : HaveOneShape plan → AreViews (plain_system plan) run end → AreRows (plain_system plan) run (wired_ports responses plan outside registers) (wired_states responses plan outside registers room) end
+    pub are_rows : HaveOneShape plan → AreViews (plain_system plan) run end → AreRows (plain_system plan) run (wired_ports responses plan outside registers) end
     are_rows shape views = record {
       views = views.hosts;
       cuts = λ h a low there. no_cutter (wire h a low there);
@@ -57,5 +57,4 @@ module _ (responses : Responses) (plan : PlainPlan) (outside : Outside) (end : �
       drops = λ h a low there. no_dropper (wire h a low there);
       lanes = λ h a low there none. or_left plan.agent.has_enables _ shape.lanes;
       wired = λ h a low there joined has alike. refl;
-      places = λ a i there low. absurd (omega (arith, low));
     }

@@ -68,7 +68,7 @@ module _ (responses : Responses) (system : System) (run : Run) (c end : ℕ) (h 
   agent_before agent hold up line = record { commands = λ k fit. line.commands k (omega (arith, fit, h)); answers = λ k fit. line.answers k (omega (arith, fit, h)) }
 
 module _ (laws : Laws) (responses : Responses) (system : System) (run : Run) (ports : RowPorts) (states : States) (end : ℕ) (plan : ArePlanned system (boundaries_of ports) states)
-    (machines : AreMachines responses system run (boundaries_of ports) states end) (rows : AreRows system run ports states end) (legal : IsLegalRun system run end) where
+    (machines : AreMachines responses system run (boundaries_of ports) states end) (rows : AreRows system run ports end) (legal : IsLegalRun system run end) where
   abbrev inside : Boundaries
   inside = boundaries_of ports
 
@@ -116,7 +116,7 @@ module _ (laws : Laws) (responses : Responses) (system : System) (run : Run) (po
   enables_before c fit h a low there k less = enables_top h a low there k (omega (arith, less, fit))
 
   pipe_of : (a : ℕ) → a < system.agents → IsPipeLine system a (hold_of system.stages) system.stages (ports.lower a system.stages) (ports.lower a 0) end
-  pipe_of a there = pipe_line laws.pipes system a end (ports.lower a) (states.stage a) system.stages (λ i low. machines.stage a i there low) (λ i low. rows.places a i there low) (some_word a there)
+  pipe_of a there = pipe_line laws.pipes system a end (ports.lower a) (states.stage a) system.stages (λ i low. machines.stage a i there low) (some_word a there)
 
   abbrev Alike : ℕ → Type 0
   Alike c = (h a : ℕ) → h < system.hosts → a < system.agents → JoinsAlike (target_of system a) (ports.after_route h a) c

@@ -1,21 +1,29 @@
--- A pipe of stages of two places, one behind the other, keeps its line.
-use Rattle.std.proofs.Common.{ℕ, zero, suc, ◌≡◌, ◌<◌, ◌≤◌, ◌+◌, ◌*◌, false, arith, refl, sym, ap, subst, ◌∙◌, length}
-use Rattle.histories.specs.History.{is_raised}
+-- A pipe of stages of at most two places, one behind the other, keeps its line.
+use Rattle.std.proofs.Common.{ℕ, zero, suc, ◌≡◌, ◌<◌, ◌≤◌, ◌+◌, ◌*◌, arith, refl, sym, ap, subst, ◌∙◌}
 use Rattle.mm_runs.specs.Views.{System}
 use Rattle.mm_machines.specs.Link.{Port}
 use Rattle.mm_machines.specs.Lines.{TaggedPort, IsPipeLine, Pipe, KeepsPipeLine, joined_pipe}
-use Rattle.mm_machines.specs.Machines.{Stage, above, below, IsStageRun}
-use Rattle.mm_links.specs.Pipes.{PipeSides, RunsAsPipe, tagged_side}
+use Rattle.mm_machines.specs.Machines.{Stage, above, below, RunsAsStage}
 use Rattle.mm_awake.specs.Theorem.{IsStageBetween}
 
 pub record PipeLaws : Type 0 where
-  pub one : (stages : ℕ) (pipe : PipeSides) → RunsAsPipe stages pipe → 0 < pipe.shape.word_bytes → (system : System) (agent end : ℕ) → IsPipeLine system agent (2 * stages) stages (tagged_side pipe 0) (tagged_side pipe stages) end
+  pub one : (stage : Stage) (above_tag below_tag : ℕ → ℕ) → RunsAsStage stage → ((c : ℕ) → above_tag (suc c) ≡ below_tag c) → 0 < stage.shape.word_bytes → (system : System) (agent end : ℕ) →
+      IsPipeLine system agent stage.depth 1 (record { port = above stage; answer_tag = above_tag }) (record { port = below stage; answer_tag = below_tag }) end
   pub none : (system : System) (agent : ℕ) (port : TaggedPort) (end : ℕ) → IsPipeLine system agent 0 0 port port end
   pub two : (system : System) (agent : ℕ) (first second : Pipe) (up middle down : TaggedPort) (end : ℕ) → KeepsPipeLine system agent first up middle end → KeepsPipeLine system agent second middle down end → KeepsPipeLine system agent (joined_pipe first second) up down end
 
-abbrev of_two : {A : Type 0} → A → A → ℕ → A
-of_two {A} upper lower zero = upper
-of_two {A} upper lower (suc i) = lower
+more_room : (system : System) (agent hold more stages : ℕ) (up down : TaggedPort) (end : ℕ) → hold ≤ more → IsPipeLine system agent hold stages up down end → IsPipeLine system agent more stages up down end
+more_room system agent hold more stages up down end few line = record {
+  same = line.same;
+  commands = λ c h legal owed. let kept = line.commands c h legal owed in record {
+    shown = kept.shown;
+    taken = kept.taken;
+    held = λ h k low fit. (let held = kept.held h k low fit in omega (arith, held, few));
+    legal = kept.legal;
+    hands_on = kept.hands_on;
+  };
+  answers = line.answers;
+}
 
 -- two beats for each stage
 abbrev pub hold_of : ℕ → ℕ
@@ -27,47 +35,20 @@ hold_is zero = refl
 hold_is (suc n) = let more = hold_is n in omega (arith, more)
 
 module _ (laws : PipeLaws) (system : System) (agent end : ℕ) (lower : ℕ → TaggedPort) (stage : ℕ → Stage) (stages : ℕ) (between : (i : ℕ) → i < stages → IsStageBetween (stage i) (lower (suc i)) (lower i))
-    (two : (i : ℕ) → i < stages → (stage i).depth ≡ 2) (some : 0 < (lower 0).shape.word_bytes) where
+    (some : 0 < (lower 0).shape.word_bytes) where
   words_are : (i : ℕ) → i ≤ stages → (lower i).shape.word_bytes ≡ (lower 0).shape.word_bytes
   words_are zero low = refl
   words_are (suc i) low = ap (λ (p : Port). p.shape.word_bytes) (sym (between i low).up_is) ∙ ap (λ (p : Port). p.shape.word_bytes) (between i low).down_is ∙ words_are i (omega (arith, low))
 
-  module _ (i : ℕ) (low : i < stages) where
-    abbrev sides : PipeSides
-    sides = record {
-      shape = (stage i).shape;
-      commands = of_two (stage i).sides.commands_above (stage i).sides.commands_below;
-      answers = of_two (stage i).sides.answers_above (stage i).sides.answers_below;
-      answer_tag = of_two (lower (suc i)).answer_tag (lower i).answer_tag;
-      queue = λ k. (stage i).queue;
-    }
-
-    runs : RunsAsPipe 1 sides
-    runs = record {
-      stage = λ k fit. stage_at k fit;
-      opens = λ k c fit. opens_at k c fit;
-      answer_tag = λ k c fit. tag_at k c fit;
-    }
-      where
-        stage_at : (k : ℕ) → k < 1 → IsStageRun 2 (record { shape = (stage i).shape; commands = sides.commands k; answers = sides.answers k }) (record { shape = (stage i).shape; commands = sides.commands (suc k); answers = sides.answers (suc k) }) (stage i).queue
-        stage_at zero fit = subst (λ n. IsStageRun n (above (stage i)) (below (stage i)) (stage i).queue) (two i low) (between i low).runs
-        stage_at (suc k) fit = absurd (omega (arith, fit))
-
-        opens_at : (k c : ℕ) → k < 1 → length ((stage i).queue c) < 2 → is_raised ((sides.commands k).waitrequest c) ≡ false
-        opens_at zero c fit few = (between i low).ready c (subst (λ n. length ((stage i).queue c) < n) (sym (two i low)) few)
-        opens_at (suc k) c fit few = absurd (omega (arith, fit))
-
-        tag_at : (k c : ℕ) → k < 1 → sides.answer_tag k (suc c) ≡ sides.answer_tag (suc k) c
-        tag_at zero c fit = (between i low).tags c
-        tag_at (suc k) c fit = absurd (omega (arith, fit))
-
-    stage_line : IsPipeLine system agent 2 1 (lower (suc i)) (lower i) end
-    stage_line =
-        let size : (stage i).shape.word_bytes ≡ (lower i).shape.word_bytes = ap (λ (p : Port). p.shape.word_bytes) (between i low).down_is in
-        let same = words_are i (omega (arith, low)) in
-        let line = laws.one 1 sides runs (omega (arith, size, same, some)) system agent end in
-        subst (λ p. IsPipeLine system agent 2 1 (record { port = p; answer_tag = (lower (suc i)).answer_tag }) (lower i) end) (between i low).up_is
-        (subst (λ p. IsPipeLine system agent 2 1 (record { port = above (stage i); answer_tag = (lower (suc i)).answer_tag }) (record { port = p; answer_tag = (lower i).answer_tag }) end) (between i low).down_is line)
+  stage_line : (i : ℕ) → i < stages → IsPipeLine system agent 2 1 (lower (suc i)) (lower i) end
+  stage_line i low =
+      let is = between i low in
+      let size : (stage i).shape.word_bytes ≡ (lower i).shape.word_bytes = ap (λ (p : Port). p.shape.word_bytes) is.down_is in
+      let same = words_are i (omega (arith, low)) in
+      let line = laws.one (stage i) (lower (suc i)).answer_tag (lower i).answer_tag is.runs is.tags (omega (arith, size, same, some)) system agent end in
+      more_room system agent (stage i).depth 2 1 (lower (suc i)) (lower i) end is.few
+      (subst (λ p. IsPipeLine system agent (stage i).depth 1 (record { port = p; answer_tag = (lower (suc i)).answer_tag }) (lower i) end) is.up_is
+      (subst (λ p. IsPipeLine system agent (stage i).depth 1 (record { port = above (stage i); answer_tag = (lower (suc i)).answer_tag }) (record { port = p; answer_tag = (lower i).answer_tag }) end) is.down_is line))
 
   line_of : (n : ℕ) → n ≤ stages → IsPipeLine system agent (hold_of n) n (lower n) (lower 0) end
   line_of zero low = laws.none system agent (lower 0) end

@@ -8,7 +8,7 @@ use Rattle.mm_machines.specs.Link.{Port}
 use Rattle.mm_machines.specs.Lines.{TaggedPort, target_of}
 use Rattle.mm_awake.specs.Fair.{may_burst_to}
 use Rattle.mm_awake.specs.Rows.{IsWired, CutsBursts, FitsWords, DropsBeats, drops_some, ports_of_three}
-use Rattle.mm_awake.specs.Theorem.{Boundaries, States}
+use Rattle.mm_awake.specs.Theorem.{Boundaries}
 
 -- the boundaries inside, of a host and an agent from the route down
 pub record RowPorts : Type 0 where
@@ -27,8 +27,8 @@ boundaries_of ports = record {
   lower = ports.lower;
 }
 
--- every link is its machine or a wire, and every pipe is one of stages
-pub record AreRows (system : System) (run : Run) (ports : RowPorts) (states : States) (end : ℕ) : Type 0 where
+-- every link is its machine or a wire
+pub record AreRows (system : System) (run : Run) (ports : RowPorts) (end : ℕ) : Type 0 where
   -- what each host shows fits its ports, whose absent byteenable reads as all ones
   pub views : (h : ℕ) → h < system.hosts → FitsPorts (system.host h).shape (system.host h).has_burst (run.at_host h).signals end
   pub cuts : (h a : ℕ) → h < system.hosts → a < system.agents → CutsBursts (ports.after_route h a) (ports.below_cutter h a)
@@ -39,8 +39,6 @@ pub record AreRows (system : System) (run : Run) (ports : RowPorts) (states : St
   -- a host whose plain commands reach an agent with readdatavalid one for one is wired to its arbiter: a link with room for one read, which may stand there, would hold a second one back while the first is owed
   pub wired : (h a : ℕ) → h < system.hosts → a < system.agents → IsTrue (is_joined system a h) → IsTrue (system.agent a).has_readdatavalid → IsTrue (is_alike (system.host h) (system.agent a)) →
       ports.before_arbiter h a ≡ ports.after_route h a
-  -- each stage of a pipe has two places
-  pub places : (a i : ℕ) → a < system.agents → i < system.stages → (states.stage a i).depth ≡ 2
 
 -- all links of such a row but one are wires: the cutter is left, or what fits words, which between equal words is a wire, or what drops beats, and then the host has byte enables
 pub data IsFairRow (system : System) (ports : RowPorts) (agent host : ℕ) : Type 0 where

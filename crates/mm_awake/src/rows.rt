@@ -19,10 +19,10 @@ ghost use Rattle.mm_awake.specs.Theorem.{States, LinkRanks, ArePlanned, AreMachi
 /// Where every part and every link is its machine and the components are legal, the links keep their lines, keep going and hold little back: the system is built as `IsBuilt` asks. Behind the routes commands are legal, joined ones are alike and byte enables fit, and before the arbiters answers are owed.
 pub fn machines_with_links_are_built()
     ensures built { (responses : Responses) (system : System) (run : Run) (ports : RowPorts) (states : States) (end : ℕ)
-        → ArePlanned system (boundaries_of ports) states → AreMachines responses system run (boundaries_of ports) states end → AreRows system run ports states end → IsLegalRun system run end
+        → ArePlanned system (boundaries_of ports) states → AreMachines responses system run (boundaries_of ports) states end → AreRows system run ports end → IsLegalRun system run end
         → (ranks : LinkRanks) × IsBuilt responses system run (boundaries_of ports) states ranks end }
     ensures settled { (responses : Responses) (system : System) (run : Run) (ports : RowPorts) (states : States) (end : ℕ)
-        → ArePlanned system (boundaries_of ports) states → AreMachines responses system run (boundaries_of ports) states end → AreRows system run ports states end → IsLegalRun system run end
+        → ArePlanned system (boundaries_of ports) states → AreMachines responses system run (boundaries_of ports) states end → AreRows system run ports end → IsLegalRun system run end
         → (h a : ℕ) → h < system.hosts → a < system.agents
         → AreLegalAt (ports.after_route h a) end × AnswersAreOwed (ports.before_arbiter h a) end × JoinsAlike (target_of system a) (ports.after_route h a) end × EnablesFit (ports.after_route h a) end }
 {
@@ -37,16 +37,16 @@ pub fn machines_with_links_are_built()
     mm_machines::machines::stage_is_later();
     mm_parts::steps::route_machine_is_a_part();
     mm_parts::steps::agent_machine_is_a_part();
-    mm_links::pipes::pipe_keeps_its_line()
+    mm_links::pipes::stage_keeps_its_line()
 }
 
 /// So such a system is safe and never idles.
 pub fn machines_with_links_are_awake()
     ensures safe { (responses : Responses) (system : System) (run : Run) (ports : RowPorts) (states : States) (end : ℕ)
-        → ArePlanned system (boundaries_of ports) states → AreMachines responses system run (boundaries_of ports) states end → AreRows system run ports states end → IsLegalRun system run end
+        → ArePlanned system (boundaries_of ports) states → AreMachines responses system run (boundaries_of ports) states end → AreRows system run ports end → IsLegalRun system run end
         → IsSafe responses system run end }
     ensures awake { (responses : Responses) (system : System) (run : Run) (ports : RowPorts) (states : States) (end : ℕ)
-        → ArePlanned system (boundaries_of ports) states → AreMachines responses system run (boundaries_of ports) states (end + 2) → AreRows system run ports states (end + 2) → IsLegalRun system run (end + 2)
+        → ArePlanned system (boundaries_of ports) states → AreMachines responses system run (boundaries_of ports) states (end + 2) → AreRows system run ports (end + 2) → IsLegalRun system run (end + 2)
         → NeverIdles system run end }
 {
     machines_with_links_are_built();
@@ -56,7 +56,7 @@ pub fn machines_with_links_are_awake()
 /// And it is fair where no host is joined to an agent twice, and in each row of a host that is joined all links but one are wires.
 pub fn machines_with_links_are_fair()
     ensures { (responses : Responses) (system : System) (run : Run) (ports : RowPorts) (states : States) (end : ℕ)
-        → ArePlanned system (boundaries_of ports) states → AreMachines responses system run (boundaries_of ports) states end → AreRows system run ports states end → IsLegalRun system run end
+        → ArePlanned system (boundaries_of ports) states → AreMachines responses system run (boundaries_of ports) states end → AreRows system run ports end → IsLegalRun system run end
         → ((agent : ℕ) → agent < system.agents → IsTrue (are_apart (system.joined agent)))
         → ((agent host : ℕ) → agent < system.agents → IsTrue (is_joined system agent host) → IsFairRow system ports agent host)
         → IsFair system run end }
@@ -76,7 +76,7 @@ pub fn plain_systems_have_rows()
         → (room : ℕ → ℕ)
         × ArePlanned (plain_system plan) (boundaries_of ports) (wired_states responses plan outside registers room)
         × AreMachines responses (plain_system plan) run (boundaries_of ports) (wired_states responses plan outside registers room) end
-        × AreRows (plain_system plan) run ports (wired_states responses plan outside registers room) end }
+        × AreRows (plain_system plan) run ports end }
 {
     crate::plain::plain_systems_are_built()
 }

@@ -1,6 +1,6 @@
 //! A pipe of any number of stages.
 
-ghost use Rattle.std.specs.Prelude.{suc, ◌<◌, ◌*◌, ℕ, replicate};
+ghost use Rattle.std.specs.Prelude.{◌≡◌, suc, ◌<◌, ◌*◌, ℕ, replicate};
 ghost use Rattle.mm_runs.specs.Views.{System};
 ghost use Rattle.mm_machines.specs.Link.{Target, AreLegalAt};
 ghost use Rattle.mm_machines.specs.Lines.{IsPipeLine};
@@ -38,6 +38,17 @@ pub fn stage_is_a_link()
         → IsLink (stage_form target) (side_of pipe 0) (side_of pipe 1) end }
 {
     mm_machines::links::link_is_a_row();
+    mm_machines::machines::stage_is_a_link();
+    mm_machines::machines::stage_has_rank();
+    mm_machines::machines::stage_is_later();
+    mm_machines::machines::transfers_of_beats()
+}
+
+/// A stage of any depth keeps the line of a pipe of one stage, and holds as many beats as it has places.
+pub fn stage_keeps_its_line()
+    ensures { (stage : Stage) (above_tag below_tag : ℕ → ℕ) → RunsAsStage stage → ((c : ℕ) → above_tag (suc c) ≡ below_tag c) → 0 < stage.shape.word_bytes
+        → (system : System) (agent end : ℕ) → IsPipeLine system agent stage.depth 1 (record { port = above stage; answer_tag = above_tag }) (record { port = below stage; answer_tag = below_tag }) end }
+{
     mm_machines::machines::stage_is_a_link();
     mm_machines::machines::stage_has_rank();
     mm_machines::machines::stage_is_later();

@@ -1,8 +1,8 @@
 use Rattle.mm_awake.proofs.RowBuilt.{Laws, rows_built, legal_top, owed_down, alike, enables_top}
-use Rattle.mm_awake.proofs.rows.machines_with_links_are_built.Goals.{After-pipe_keeps_its_line}
+use Rattle.mm_awake.proofs.rows.machines_with_links_are_built.Goals.{After-stage_keeps_its_line}
 use Rattle.mm_awake.proofs.rows.machines_with_links_are_built.Goals as goal
 
-laws : After-pipe_keeps_its_line → Laws
+laws : After-stage_keeps_its_line → Laws
 laws c = record {
   lines = c.machines_keep_their_lines.ensures;
   settle = c.lines_settle.ensures;
@@ -14,16 +14,16 @@ laws c = record {
   modest = c.rows_are_modest.ensures.rows;
   fit = c.rows_are_modest.ensures.fit;
   alike = c.joins_are_alike.ensures.single;
-  pipes = record { one = c.pipe_keeps_its_line.ensures.line; none = c.registers_are_a_pipe.ensures.none; two = c.registers_are_a_pipe.ensures.two };
+  pipes = record { one = c.stage_keeps_its_line.ensures; none = c.registers_are_a_pipe.ensures.none; two = c.registers_are_a_pipe.ensures.two };
   owed_tags = c.tags_in_order.ensures;
 }
 
 pub returns-clause-built : goal.returns-clause-built
-returns-clause-built c = rows_built (laws (goal.at.returns-clause-built c).After-pipe_keeps_its_line)
+returns-clause-built c = rows_built (laws (goal.at.returns-clause-built c).After-stage_keeps_its_line)
 
 pub returns-clause-settled : goal.returns-clause-settled
 returns-clause-settled c = λ responses system run ports states end plan machines rows legal h a low there.
-    let row = laws (goal.at.returns-clause-settled c).After-pipe_keeps_its_line in (
+    let row = laws (goal.at.returns-clause-settled c).After-stage_keeps_its_line in (
       legal_top row responses system run ports states end plan machines rows legal h a low there,
       owed_down row responses system run ports states end plan machines rows legal h a low there,
       alike row responses system run ports states end plan machines rows legal h a low there,
