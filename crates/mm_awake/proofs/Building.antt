@@ -1,5 +1,5 @@
 -- A system of machines is awake.
-use Rattle.std.proofs.Common.{ℕ, suc, ◌≡◌, ◌<◌, ◌≤◌, ◌+◌, ◌-◌, arith, refl, sym, subst, IsTrue, Some}
+use Rattle.std.proofs.Common.{ℕ, suc, ◌≡◌, ◌<◌, ◌≤◌, ◌+◌, ◌-◌, arith, refl, sym, subst, IsTrue, Some, ap}
 use Rattle.mm_runs.specs.Views.{System, Run, Responses, Kind}
 use Rattle.mm_runs.specs.Commands.{shows}
 use Rattle.mm_runs.specs.Whole.{IsLegalRun}
@@ -16,7 +16,7 @@ use Rattle.mm_parts.specs.Arbiter.{IsArbiterMachine}
 use Rattle.mm_parts.specs.Host.{HostState, IsHostMachine, ReadsWords}
 use Rattle.mm_parts.specs.Route.{RouteState, IsRouteMachine, IsRoutePlan}
 use Rattle.mm_parts.specs.Steps.{AreSilentPast, IsHostPart, IsRoutePart, IsArbiterPart, IsAgentPart, agent_rank}
-use Rattle.mm_awake.specs.Theorem.{Boundaries, States, LinkRanks, ArePlanned, KeepLines, KeepRows, IsBuilt, inside_of, approach_of, ways_of, standings_of, slacks_of}
+use Rattle.mm_awake.specs.Theorem.{Boundaries, States, LinkRanks, ArePlanned, AreMachines, KeepLines, KeepRows, IsBuilt, inside_of, approach_of, ways_of, standings_of, slacks_of}
 use Rattle.mm_awake.specs.Front.{KeepsWhole, IsFront, GivesAtOnce, IsDefaultFront}
 use Rattle.mm_links.specs.Going.{KeepsGoing}
 use Rattle.mm_awake.specs.Slack.{PassesOn, AreModest}
@@ -56,6 +56,11 @@ pub record AheadLaws : Type 0 where
       LeavesNothingOpen (down agent) (end - 1)
   pub joined : (system : System) (run : Run) (host agent : ℕ) (middle : Port) (down : ℕ → Port) (end : ℕ) → agent < system.agents → IsHostPart system run host middle end → IsRoutePart system host middle down end →
       ((kind : Kind) (address : ℕ) → system.place host kind address ≡ Some agent → IsTrue (is_joined system agent host)) → (c : ℕ) → c < end → IsTrue (shows (down agent).commands.signals c) → IsTrue (is_joined system agent host)
+
+-- the links end at words of the agent, since an arbiter has one shape on all sides
+pub end_words : {responses : Responses} {system : System} {run : Run} {inside : Boundaries} {states : States} {end : ℕ} → AreMachines responses system run inside states end → (h a : ℕ) → h < system.hosts → a < system.agents →
+    (inside.upper h a 0).shape.word_bytes ≡ (inside.lower a system.stages).shape.word_bytes
+end_words machines h a low there = ap (λ s. s.word_bytes) ((machines.arbiter a there).shapes h low)
 
 module _ (responses : Responses) (system : System) (run : Run) (inside : Boundaries) (states : States) (end : ℕ) (plan : ArePlanned system inside states) (rows : KeepRows system run inside states end) where
   abbrev pub holds : Holds
@@ -131,7 +136,7 @@ module _ (laws : Laws) (responses : Responses) (system : System) (run : Run) (in
     gives = λ h low. laws.gives system run h a (inside.after_host h) (behind h) end there (host_part h low) (route_part h low);
     links = λ h low. built.links.some h a low there;
     in_order = λ c low. settled.in_order a c there low;
-    words = λ h low. built.plan.words h a low there;
+    words = λ h low. end_words built.machines h a low there;
   }
 
   modest_at : (a : ℕ) → a < system.agents → AreModest system a (ways_of system inside a) (standings_of system run states ranks a) (slacks_of states ranks a)

@@ -61,7 +61,6 @@ module _ (laws : Laws) (responses : Responses) (plan : PlainPlan) (outside : Out
       places = λ h low. laws.route_plan system is_plan h _ low refl;
       agents = laws.agent_plan system is_plan;
       rooms = machines.large;
-      words = λ h a low there. refl;
     }
 
     rows : KeepRows system run (wired_inside responses plan outside registers) (wired_states responses plan outside registers machines.room) end

@@ -8,6 +8,7 @@ use Rattle.mm_awake.specs.PlainSystem.{wired_ports, wired_inside, wired_states}
 use Rattle.mm_awake.specs.RowSystem.{AreRows, boundaries_of}
 use Rattle.mm_awake.specs.Rows.{IsWired, CutsBursts.no_cutter, FitsWords.no_width, DropsBeats.no_dropper}
 use Rattle.mm_awake.specs.Theorem.{ArePlanned, AreMachines}
+use Rattle.mm_awake.proofs.Building.{end_words}
 
 module _ (responses : Responses) (plan : PlainPlan) (outside : Outside) (end : ℕ) (room : ℕ → ℕ) where
   abbrev registers : ℕ → Registers
@@ -28,7 +29,6 @@ module _ (responses : Responses) (plan : PlainPlan) (outside : Outside) (end : �
       places = planned.places;
       agents = planned.agents;
       rooms = planned.rooms;
-      words = planned.words;
     }
 
     pub machine_rows : AreMachines responses (plain_system plan) run (boundaries_of (wired_ports responses plan outside registers)) (wired_states responses plan outside registers room) end
@@ -44,7 +44,7 @@ module _ (responses : Responses) (plan : PlainPlan) (outside : Outside) (end : �
 
     wire : (h a : ℕ) → h < plan.hosts → a < plan.agents → IsWired (before_arbiter responses plan outside registers h a) (before_arbiter responses plan outside registers h a)
     wire h a low there =
-        let words = planned.words h a low there in
+        let words = end_words machines h a low there in
         let same = (machines.agent a there).commands.words in
         let some = (planned.agents a there).word in
         record { same = refl; some = omega (arith, words, same, some) }

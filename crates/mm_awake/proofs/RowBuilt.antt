@@ -20,6 +20,7 @@ use Rattle.mm_awake.specs.Rows.{IsModestRow, CutsBursts, FitsWords, DropsBeats, 
 use Rattle.mm_awake.specs.Slack.{Slacks, host_allows, toll}
 use Rattle.mm_awake.specs.Theorem.{Boundaries, States, LinkRanks, ArePlanned, KeepLines, KeepRows, AreMachines, AreLinks, IsBuilt, inside_of, ways_of, standings_of, slacks_of}
 use Rattle.mm_awake.specs.Ways.{Ways, Standing, Standings}
+use Rattle.mm_awake.proofs.Building.{end_words}
 use Rattle.mm_awake.proofs.Enables.{lanes_placed}
 use Rattle.mm_awake.proofs.Piped.{StageLaws, tagged_at}
 use Rattle.mm_awake.proofs.RowLine.{cut_words}
@@ -139,7 +140,7 @@ module _ (laws : Laws) (responses : Responses) (system : System) (run : Run) (po
     lanes = row_lanes c fit alike;
     words = λ h a low there.
         let top = top_words h a low there in
-        let bottom : (ports.before_arbiter h a).shape.word_bytes ≡ (system.agent a).shape.word_bytes = plan.words h a low there ∙ ap (λ s. s.word_bytes) (pipe_of a there).same ∙ (machines.agent a there).commands.words in
+        let bottom : (ports.before_arbiter h a).shape.word_bytes ≡ (system.agent a).shape.word_bytes = end_words machines h a low there ∙ ap (λ s. s.word_bytes) (pipe_of a there).same ∙ (machines.agent a there).commands.words in
         let same = ap₂ {C = ℕ} (λ m n. m / min m n) top bottom in
         omega (arith, same);
     pipe = λ a there. pipe_before responses system run c end fit a (hold_of system.stages) system.stages (ports.lower a system.stages) (ports.lower a 0) (pipe_of a there);

@@ -101,8 +101,6 @@ pub record ArePlanned (system : System) (inside : Boundaries) (states : States) 
   pub places : (h : ℕ) → h < system.hosts → IsRoutePlan system h (inside.after_host h).shape
   pub agents : (a : ℕ) → a < system.agents → IsAgentPlan (system.agent a)
   pub rooms : (h : ℕ) → h < system.hosts → 16 * longest_burst (inside.after_host h).shape.burst_bits < states.room h
-  -- the links end at words of the agent
-  pub words : (h a : ℕ) → h < system.hosts → a < system.agents → (inside.upper h a 0).shape.word_bytes ≡ (inside.lower a system.stages).shape.word_bytes
 
 -- the boundaries of the parts' lines
 abbrev pub inside_of : System → Boundaries → Inside

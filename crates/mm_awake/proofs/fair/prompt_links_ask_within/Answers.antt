@@ -1,6 +1,7 @@
 use Rattle.std.proofs.Common.{◌+◌, arith, ap, ◌∙◌}
 use Rattle.mm_runs.specs.Views.{Shape}
 use Rattle.mm_awake.specs.Fair.{may_burst_to}
+use Rattle.mm_awake.proofs.Building.{end_words}
 use Rattle.mm_awake.proofs.FairRow.{asks_soon, taken_at_arbiter}
 use Rattle.mm_awake.proofs.FairWired.{for_joined}
 use Rattle.mm_awake.proofs.fair.prompt_links_ask_within.Goals as goal
@@ -11,7 +12,7 @@ returns c = λ responses system run inside states ranks end agent few built lega
     let now = waits from (omega arith) (omega arith) in
     let later = waits (from + few) (omega arith) (omega arith) in
     let is_joined = for_joined system run host agent number from (λ kind address place. (built.plan.places host here).joined kind address agent place) now.presented in
-    let words = built.plan.words host agent here there in
+    let words = end_words built.machines host agent here there in
     let whole = ap (λ (s : Shape). s.word_bytes) (built.rows.pipe agent there).same in (
       from + few,
       omega arith,

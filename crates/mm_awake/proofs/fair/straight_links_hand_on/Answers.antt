@@ -1,5 +1,6 @@
 use Rattle.std.proofs.Common.{arith, ap, ◌∙◌}
 use Rattle.mm_runs.specs.Views.{Shape}
+use Rattle.mm_awake.proofs.Building.{end_words}
 use Rattle.mm_awake.proofs.FairRow.{taken_at_arbiter}
 use Rattle.mm_awake.proofs.FairStraight.{ends_there}
 use Rattle.mm_awake.proofs.fair.straight_links_hand_on.Goals as goal
@@ -10,7 +11,7 @@ returns c = λ responses system run inside states ranks end agent ahead built le
   links = λ host from last is_joined fit plainly at.
       let parts = c.machines_are_parts.ensures responses system run inside states ranks end built legal in
       let here = built.plan.joined agent host is_joined in
-      let words = built.plan.words host agent here there in
+      let words = end_words built.machines host agent here there in
       let whole = ap (λ (s : Shape). s.word_bytes) (built.rows.pipe agent there).same in
       let lead = leads host is_joined in
       let starts = plainly.starts in
