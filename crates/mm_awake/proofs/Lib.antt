@@ -56,11 +56,10 @@ pub mod Pieces
 pub mod RowOfThree
 pub mod Enables
 pub mod RowLine
-pub mod LoneLink
+pub mod RowLeads
 pub mod SilentRoute
 pub mod StageLine
 pub mod RowBuilt
-pub mod RowFair
 pub mod PlainRows
 pub mod ModestRow
 pub mod SplitCounts

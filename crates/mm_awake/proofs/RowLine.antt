@@ -41,7 +41,7 @@ pub record Linked (target : Target) (hold : ℕ) (makes_lanes gathers : Bool) (u
 pub carries_of : {form : LinkForm} {up down : Port} {end : ℕ} → IsLink form up down end → Carries form.target up down end
 carries_of link = record { hold = _; carries = link.row.carries; joins = link.joins }
 
-linked_carries : {target : Target} {hold : ℕ} {makes_lanes gathers : Bool} {up down : Port} {end : ℕ} → Linked target hold makes_lanes gathers up down end → Carries target up down end
+pub linked_carries : {target : Target} {hold : ℕ} {makes_lanes gathers : Bool} {up down : Port} {end : ℕ} → Linked target hold makes_lanes gathers up down end → Carries target up down end
 linked_carries {target} {hold} {makes_lanes} {gathers} {up} {down} {end} linked = subst (λ t. Carries t up down end) linked.for_target (carries_of linked.link)
 
 -- words stay
@@ -84,12 +84,12 @@ module _ (laws : RowLaws) (target : Target) where
   wired_linked hold gathers up down wired end =
       subst (λ p. Linked target hold false gathers up p end) wired.same (record { form = pass_form target; for_target = refl; few = omega arith; lanes = refl; words = or_right gathers true refl; link = laws.links.wire target up end wired.some })
 
-  cut_linked : (up down : Port) → CutsBursts up down → (end : ℕ) → Linked target 1 false false up down end
+  pub cut_linked : (up down : Port) → CutsBursts up down → (end : ℕ) → Linked target 1 false false up down end
   cut_linked up down (cutter state plan run) end = record { form = burst_form target; for_target = refl; few = omega arith; lanes = refl; words = refl; link = laws.links.burst target up down state end plan run }
   cut_linked up down (shorter longest state plan run) end = record { form = burst_form target; for_target = refl; few = omega arith; lanes = refl; words = refl; link = laws.links.cut target longest up down state end plan run }
   cut_linked up down (no_cutter wired) end = wired_linked 1 false up down wired end
 
-  fit_linked : (up down : Port) → FitsWords target up down → (end : ℕ) → EnablesFit up end → Linked target 0 false true up down end
+  pub fit_linked : (up down : Port) → FitsWords target up down → (end : ℕ) → EnablesFit up end → Linked target 0 false true up down end
   fit_linked up down (selector many room offsets plan deep run) end fit = record {
     form = select_form target;
     for_target = refl;
@@ -101,7 +101,7 @@ module _ (laws : RowLaws) (target : Target) where
   fit_linked up down (splitter count room state may some run) end fit = record { form = split_form target; for_target = refl; few = omega arith; lanes = refl; words = refl; link = laws.links.split target room count up down state end may some run }
   fit_linked up down (no_width wired) end fit = wired_linked 0 true up down wired end
 
-  drop_linked : (up down : Port) (drops : DropsBeats target up down) (c : ℕ) → JoinsAlike target up c → Linked target 1 (drops_some drops) false up down c
+  pub drop_linked : (up down : Port) (drops : DropsBeats target up down) (c : ℕ) → JoinsAlike target up c → Linked target 1 (drops_some drops) false up down c
   drop_linked up down (dropper room state plan some run) c alike = record { form = drop_form target; for_target = refl; few = omega arith; lanes = refl; words = refl; link = laws.links.drop target room up down state c plan some run alike }
   drop_linked up down (no_dropper wired) c alike = wired_linked 1 false up down wired c
 

@@ -6,7 +6,6 @@ use Rattle.mm_runs.specs.Order.{is_joined}
 use Rattle.mm_runs.specs.Plan.{FitsPorts}
 use Rattle.mm_machines.specs.Link.{Port}
 use Rattle.mm_machines.specs.Lines.{TaggedPort, target_of}
-use Rattle.mm_awake.specs.Fair.{may_burst_to}
 use Rattle.mm_awake.specs.Rows.{IsWired, CutsBursts, FitsWords, DropsBeats, drops_some, ports_of_three}
 use Rattle.mm_awake.specs.Theorem.{Boundaries}
 
@@ -40,10 +39,7 @@ pub record AreRows (system : System) (run : Run) (ports : RowPorts) (end : ℕ) 
   pub wired : (h a : ℕ) → h < system.hosts → a < system.agents → IsTrue (is_joined system a h) → IsTrue (system.agent a).has_readdatavalid → IsTrue (is_alike (system.host h) (system.agent a)) →
       ports.before_arbiter h a ≡ ports.after_route h a
 
--- all links of such a row but one are wires: the cutter is left, or what fits words, which between equal words is a wire, or what drops beats, and then the host has byte enables
-pub data IsFairRow (system : System) (ports : RowPorts) (agent host : ℕ) : Type 0 where
-  cutter_left : IsWired (ports.below_cutter host agent) (ports.above_dropper host agent) → IsWired (ports.above_dropper host agent) (ports.before_arbiter host agent) → IsFairRow system ports agent host
-  width_left : IsWired (ports.after_route host agent) (ports.below_cutter host agent) →
-      ((ports.below_cutter host agent).shape.word_bytes ≡ (ports.above_dropper host agent).shape.word_bytes → IsWired (ports.below_cutter host agent) (ports.above_dropper host agent)) →
-      IsWired (ports.above_dropper host agent) (ports.before_arbiter host agent) → IsFairRow system ports agent host
-  dropper_left : IsWired (ports.after_route host agent) (ports.below_cutter host agent) → IsWired (ports.below_cutter host agent) (ports.above_dropper host agent) → IsFalse (may_burst_to system host agent) → IsFairRow system ports agent host
+-- between equal words only a wire stands for what fits words, and beats are dropped only below a host with byte enables: what drops beats keeps a write until the next beat comes, and a burst of a host without byte enables is counted from its first one
+pub record IsFairRow (system : System) (ports : RowPorts) (agent host : ℕ) : Type 0 where
+  pub words : (ports.below_cutter host agent).shape.word_bytes ≡ (ports.above_dropper host agent).shape.word_bytes → IsWired (ports.below_cutter host agent) (ports.above_dropper host agent)
+  pub enables : IsFalse (system.host host).has_enables → IsWired (ports.above_dropper host agent) (ports.before_arbiter host agent)

@@ -46,18 +46,6 @@ abbrev pub drops_some : {target : Target} {up down : Port} → DropsBeats target
 drops_some (dropper room state plan some run) = true
 drops_some (no_dropper wired) = false
 
--- all links of the row but one are wires, and a link between equal words is one
-pub data HasOneLink (target : Target) (top middle low down : Port) : Type 0 where
-  cuts_alone : CutsBursts top middle → IsWired middle low → IsWired low down → HasOneLink target top middle low down
-  fits_alone : IsWired top middle → FitsWords target middle low → (middle.shape.word_bytes ≡ low.shape.word_bytes → IsWired middle low) → IsWired low down → HasOneLink target top middle low down
-  drops_alone : IsWired top middle → IsWired middle low → DropsBeats target low down → HasOneLink target top middle low down
-
--- beats are dropped there
-abbrev pub drops_in : {target : Target} {top middle low down : Port} → HasOneLink target top middle low down → Bool
-drops_in (cuts_alone cuts second third) = false
-drops_in (fits_alone first fits same third) = false
-drops_in (drops_alone first second drops) = drops_some drops
-
 -- of three links in a row by number: what the lowest has, the one over it, and the highest
 abbrev pub by_number : {A : Type 0} → A → A → A → ℕ → A
 by_number {A} low middle high zero = low

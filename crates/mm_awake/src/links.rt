@@ -6,16 +6,16 @@ ghost use Rattle.mm_runs.specs.Order.{host_transfers};
 ghost use Rattle.mm_machines.specs.Link.{Target, Port, AreLegalAt, AnswersAreOwed};
 ghost use Rattle.mm_machines.specs.Machines.{MaySplit};
 ghost use Rattle.mm_machines.specs.PartRanks.{JoinsAlike};
+ghost use Rattle.mm_machines.specs.Straight.{GoesStraightThrough, IsShownPromptly};
 ghost use Rattle.mm_links.specs.Bursts.{BurstState, RunsAsBurst, IsBurstPlan};
 ghost use Rattle.mm_links.specs.Cuts.{RunsAsCut, IsCutPlan};
 ghost use Rattle.mm_links.specs.Drops.{DropState, RunsAsDrop, IsDropPlan};
 ghost use Rattle.mm_links.specs.Going.{KeepsGoing};
 ghost use Rattle.mm_links.specs.InStep.{GoesInStep};
-ghost use Rattle.mm_links.specs.Links.{IsStraightLink};
 ghost use Rattle.mm_links.specs.Selects.{RunsAsSelect, IsSelectPlan, EnablesFit};
 ghost use Rattle.mm_links.specs.Splits.{SplitState, RunsAsSplit};
 ghost use Rattle.mm_runs.specs.Views.{System, Run};
-ghost use Rattle.mm_awake.specs.Rows.{IsModestRow, CutsBursts, FitsWords, DropsBeats, HasOneLink, drops_some, drops_in, ports_of_three, one_beat_lowest};
+ghost use Rattle.mm_awake.specs.Rows.{IsModestRow, CutsBursts, FitsWords, DropsBeats, IsWired, drops_some, ports_of_three, one_beat_lowest};
 ghost use Rattle.mm_awake.specs.Slack.{Slack, Slacks, PassesOn, PassesWhileStill, host_allows, toll};
 ghost use Rattle.mm_awake.specs.Ways.{Ways, Standing, Standings};
 ghost use Rattle.mm_awake.specs.Still.{StirsAbove, SpentStirs};
@@ -116,21 +116,37 @@ pub fn rows_keep_their_lines()
     mm_links::drops::drop_is_a_link()
 }
 
-/// A row of which all links but one are wires is straight and prompt, and goes in step between equal words, as that link does. What drops beats keeps a write that another may follow, so there the first beats of joined writes aren't to be shown promptly.
-pub fn lone_links_are_straight()
-    ensures straight { (few : ℕ) (may_burst : Bool) (target : Target) (top middle low down : Port) (end : ℕ) → (one : HasOneLink target top middle low down)
-        → (IsTrue (drops_in one) → IsFalse may_burst) → EnablesFit top end → JoinsAlike target top end → IsStraightLink few false may_burst target top down end }
-    ensures step { (target : Target) (top middle low down : Port) (end : ℕ) → HasOneLink target top middle low down
-        → EnablesFit top end → AreLegalAt top end → AnswersAreOwed down end → JoinsAlike target top end
+/// Plain commands go straight through such a row, and it goes in step between equal words, where only a wire stands for what fits words.
+/// It shows first beats within a cycle: a first piece that is kept, where beats are dropped, goes on with the second one. There the first beats of joined writes aren't to be shown promptly.
+pub fn rows_are_straight()
+    ensures straight { (target : Target) (top middle low down : Port) (end : ℕ) → CutsBursts top middle → FitsWords target middle low → DropsBeats target low down
+        → EnablesFit top end → (middle.shape.word_bytes ≡ low.shape.word_bytes → IsWired middle low) → AreLegalAt top end → AnswersAreOwed down end → JoinsAlike target top end
+        → GoesStraightThrough (λ c. false) target top down end }
+    ensures step { (target : Target) (top middle low down : Port) (end : ℕ) → CutsBursts top middle → FitsWords target middle low → DropsBeats target low down
+        → EnablesFit top end → (middle.shape.word_bytes ≡ low.shape.word_bytes → IsWired middle low) → AreLegalAt top end → AnswersAreOwed down end → JoinsAlike target top end
         → top.shape.word_bytes ≡ down.shape.word_bytes → GoesInStep false target top down end }
+    ensures prompt { (few : ℕ) (may_burst : Bool) (target : Target) (top middle low down : Port) (end : ℕ) → 0 < few → CutsBursts top middle → FitsWords target middle low → DropsBeats target low down
+        → EnablesFit top end → (IsTrue may_burst → IsWired low down) → AreLegalAt top end → AnswersAreOwed down end → JoinsAlike target top end
+        → IsShownPromptly few may_burst target top down end }
 {
+    mm_machines::links::rows_compose();
     mm_links::rows::pass_is_a_link();
     mm_links::rows::pass_goes_in_step();
+    mm_links::rows::chain_is_a_link();
+    mm_links::rows::chain_is_straight();
+    mm_links::bursts::burst_is_a_link();
     mm_links::bursts::burst_is_straight();
     mm_links::bursts::burst_goes_in_step();
+    mm_links::bursts::cut_is_a_link();
     mm_links::bursts::cut_is_straight();
     mm_links::bursts::cut_goes_in_step();
-    mm_links::widths::select_is_prompt();
-    mm_links::widths::split_is_prompt();
-    mm_links::drops::drop_is_straight()
+    mm_links::widths::select_is_a_link();
+    mm_links::widths::split_is_a_link();
+    mm_links::drops::drop_is_a_link();
+    mm_links::drops::drop_is_straight();
+    mm_links::drops::plain_commands_act();
+    mm_links::begins::what_begins_is_prompt();
+    mm_links::begins::links_begin_below();
+    mm_links::begins::split_begins_over_drop();
+    mm_links::begins::cutters_begin_over_links()
 }

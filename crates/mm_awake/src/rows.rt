@@ -1,4 +1,4 @@
-//! Systems of machines whose links are machines too: where to start. They are safe, never idle, and are fair where one link alone of each row isn't a wire.
+//! Systems of machines whose links are machines too: where to start. They are safe, never idle, and are fair where beats are dropped only below hosts with byte enables.
 
 ghost use Rattle.std.specs.Prelude.{ℕ, ◌<◌, ◌+◌, IsTrue, IsFalse};
 ghost use Rattle.mm_runs.specs.Views.{Responses, System, Run};
@@ -53,7 +53,7 @@ pub fn machines_with_links_are_awake()
     crate::machines_are_awake()
 }
 
-/// And it is fair where no host is joined to an agent twice, and in each row of a host that is joined all links but one are wires.
+/// And it is fair where no host is joined to an agent twice, and in each row of a host that is joined only a wire stands for what fits equal words, and beats are dropped only below a host with byte enables.
 pub fn machines_with_links_are_fair()
     ensures { (responses : Responses) (system : System) (run : Run) (ports : RowPorts) (states : States) (end : ℕ)
         → ArePlanned system (boundaries_of ports) states → AreMachines responses system run (boundaries_of ports) states end → AreRows system run ports end → IsLegalRun system run end
@@ -62,7 +62,7 @@ pub fn machines_with_links_are_fair()
         → IsFair system run end }
 {
     machines_with_links_are_built();
-    crate::links::lone_links_are_straight();
+    crate::links::rows_are_straight();
     crate::fair::straight_machines_are_fair()
 }
 

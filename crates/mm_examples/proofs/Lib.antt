@@ -22,3 +22,4 @@ pub mod PartTwins
 mod AheadKept
 pub mod Swallows
 mod HeldReads
+pub mod HeldBurst

@@ -397,6 +397,21 @@ empty_reads = record {
   };
 }
 
+-- the first beat of a write burst, behind which the host holds the next one back for ever
+abbrev pub held_burst : DropInputs
+held_burst = record {
+  shape = lane_shape 1;
+  below = lane_shape 1;
+  room = 16;
+  inputs = record {
+    signals = record { read = always 0; write = signal (1 ∷ []); address = always 2; word = always 7; enables = always 1; count = always 1 };
+    more = signal (1 ∷ []);
+    tag = always 0;
+    waitrequest = always 0;
+    answers = record { valid = always 0; word = always 0; code = always 0 };
+  };
+}
+
 -- reads that are accepted in each cycle and get no word
 abbrev pub lost_reads : Port
 lost_reads = record {

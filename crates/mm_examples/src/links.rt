@@ -15,9 +15,9 @@ ghost use Rattle.mm_examples.specs.PartRows.{levels};
 ghost use Rattle.mm_examples.specs.LinkRuns.{cutting, two_bytes, two_beats, behind_empty};
 ghost use Rattle.mm_examples.specs.LinkRuns.{pairing, four_bytes, two_pairs, uncut, slow_bytes, near_pairs, behind_pairs};
 ghost use Rattle.mm_examples.specs.LinkRuns.{one_piece, nothing_dropped};
-ghost use Rattle.mm_examples.specs.LinkRuns.{dropping, ends_without_lane, stays_joined, own_word_first, one_word, mixed_reads, empty_reads};
+ghost use Rattle.mm_examples.specs.LinkRuns.{dropping, ends_without_lane, stays_joined, own_word_first, one_word, mixed_reads, empty_reads, held_burst};
 ghost use Rattle.mm_awake.specs.Slack.{PassesOn};
-ghost use Rattle.mm_machines.specs.Straight.{GoesStraightThrough};
+ghost use Rattle.mm_machines.specs.Straight.{GoesStraightThrough, IsShownPromptly};
 ghost use Rattle.mm_examples.specs.MoreExamples.{byte_target, byte_side};
 ghost use Rattle.mm_examples.specs.WireRows.{one_read_system};
 
@@ -120,6 +120,7 @@ pub fn cuts()
 /// What leaves `more` as it is joins two commands; what answers such a read before an earlier one brings wrong bytes. Where a read with a
 /// lane is joined to one without, the machine itself joins it to the next command, so it needs joined commands that are alike.
 /// It accepts reads without a lane, and gives their words, as often as a host asks them, so no number bounds what it doesn't hand on.
+/// A write burst whose next beat a host holds back isn't shown promptly, however many cycles that is: the first beat is kept as long.
 pub fn drops()
     ensures places { map (λ m. m.transfer.first) (taken_at (drop_below dropping) 10) ≡ 8 ∷ 16 ∷ 8 ∷ 16 ∷ [] }
     ensures joined { map (λ m. m.more) (taken_at (drop_below dropping) 10) ≡ true ∷ false ∷ false ∷ false ∷ [] }
@@ -131,6 +132,8 @@ pub fn drops()
     ensures mixed { CarriesCommands byte_target 1 (drop_above mixed_reads) (drop_below mixed_reads) 4 → ⊥ }
     ensures swallows { (hold kept : ℕ) → PassesOn (record { hold = hold; kept = kept }) (drop_above empty_reads) (drop_below empty_reads) (hold + 1) → ⊥ }
     ensures gives { (hold kept : ℕ) → PassesOn (record { hold = hold; kept = kept }) (drop_above empty_reads) (drop_below empty_reads) (kept + 2) → ⊥ }
+    ensures legal { (end : ℕ) → AreLegalAt (drop_above held_burst) end }
+    ensures keeps { (few : ℕ) → IsShownPromptly few true byte_target (drop_above held_burst) (drop_below held_burst) (few + 1) → ⊥ }
 {
     mm_links::runs::drop_runs()
 }

@@ -1,18 +1,18 @@
 -- A cutter of bursts goes in step with the links beside it.
-use Rattle.std.proofs.Common.{ℕ, ◌<◌, ◌≤◌, ◌≡◌, Bool, true, false, not, ◌&&◌, List, arith, refl, sym, ap, ap₂, ◌∙◌, length, nat_eq, IsTrue, le-leb, leb-true}
+use Rattle.std.proofs.Common.{ℕ, ◌<◌, ◌≤◌, ◌≡◌, true, false, not, ◌&&◌, List, arith, sym, ap, ap₂, ◌∙◌, length, nat_eq, IsTrue, le-leb, leb-true}
 use Rattle.std.specs.List.{list_any}
-use Rattle.std.proofs.lemmas.Bool.{and_parts, both_ways}
+use Rattle.std.proofs.lemmas.Bool.{and_parts}
 use Rattle.histories.specs.History.{numbers}
 use Rattle.histories.specs.Laws.{prefix_flat_map, prefix_length}
 use Rattle.mm_runs.specs.Operations.{Beat, is_enabled}
 use Rattle.mm_runs.specs.Commands.{shows}
-use Rattle.mm_machines.specs.Link.{Target, Port, AnswersAreOwed, takes, marked_at, taken_at, operations_among, operations_in, is_nonempty, closes, words_at, read_beats, is_last_joined}
+use Rattle.mm_machines.specs.Link.{Target, Port, AnswersAreOwed, marked_at, taken_at, operations_among, operations_in, is_nonempty, closes, words_at, read_beats, is_last_joined}
 use Rattle.mm_machines.specs.Straight.{begins_alone, has_lane, earlier_shown, shows_plain, is_plain}
 use Rattle.mm_links.specs.InStep.{GoesInStep, is_next}
 use Rattle.mm_links.proofs.CutLists.{IsPartOf, all_operations, more_below}
-use Rattle.mm_links.proofs.CutLink.{Cutting, IsOnePart, one_part, first_is, steps, taken_front, up_steps, all_sent, shows_same, waits_sending, takes_same, all_gone, words_same, reads_front, same_taken}
+use Rattle.mm_links.proofs.CutLink.{Cutting, IsOnePart, one_part, first_is, steps, taken_front, up_steps, all_sent, shows_same, takes_same, all_gone, words_same, reads_front, same_taken}
 use Rattle.mm_links.proofs.InStep.{earlier_is, both, of_next}
-use Rattle.mm_links.proofs.CutStraight.{IsPlainAt, plain_at, idle_when_given, goes_through}
+use Rattle.mm_links.proofs.CutStraight.{IsPlainAt, plain_at, idle_when_given, idle_taken, goes_through}
 
 module _ (target : Target) (up down : Port) (end : ℕ) (cut : Cutting target up down end) (owed : AnswersAreOwed down end) where
   after : (c : ℕ) → c ≤ end → length (operations_among target down.shape (taken_at down c)) ≤ length (operations_among target up.shape (taken_at up c))
@@ -79,13 +79,6 @@ module _ (target : Target) (up down : Port) (end : ℕ) (cut : Cutting target up
       let same = ap (λ l. length (read_beats l)) (earlier_is up end cut.legal c h p.shown) in
       idle_when_given target up down end cut owed c h (omega (arith, given, same))
 
-  idle_taken : (c : ℕ) → takes up c ≡ true → cut.sends c ≡ false
-  idle_taken c taken = by_sends (cut.sends c) refl
-    where
-      by_sends : (b : Bool) → cut.sends c ≡ b → cut.sends c ≡ false
-      by_sends false e = e
-      by_sends true e = absurd (both_ways (takes up c) (waits_sending target up down end cut c e) taken)
-
   pub cut_in_step : GoesInStep false target up down end
   cut_in_step = record {
     accepts = after;
@@ -93,7 +86,7 @@ module _ (target : Target) (up down : Port) (end : ℕ) (cut : Cutting target up
         let is = of_next false target up down c next in
         ap is_nonempty (goes_through target up down end cut owed c h (plain_at target up down end cut owed c is.plain) (idle_next c h next)).1 ∙ is.acts;
     plain = λ c h next. plain_below c h (of_next false target up down c next).plain (idle_next c h next);
-    at_once = λ c h plain taken. (let idle = idle_taken c taken in (plain_below c h plain idle, sym (takes_same target up down end cut c idle) ∙ taken));
+    at_once = λ c h plain taken. (let idle = idle_taken target up down end cut owed c taken in (plain_below c h plain idle, sym (takes_same target up down end cut c idle) ∙ taken));
     quiet = λ c h answered.
         let fewer = prefix_length (reads_front target up down end cut c h) in
         let words = ap length (words_same target up down end cut c) in

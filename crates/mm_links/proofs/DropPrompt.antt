@@ -1,170 +1,180 @@
--- A machine that drops beats without a lane shows the first beat of a read or of a write of one beat in its own cycle, once all earlier ones are taken and answered.
-use Rattle.std.proofs.Common.{ℕ, zero, suc, ◌<◌, ◌≤◌, ◌≡◌, ◌+◌, ◌⊎◌, inl, inr, Bool, true, false, not, ◌&&◌, ◌||◌, List, [], ◌∷◌, ◌++◌, if◌then◌else◌, arith, refl, sym, ap, ap₂, subst, ◌∙◌, length, take, IsTrue, Some, slice_get, length-append}
+-- A machine that drops beats without a lane begins below what waits above, but for a write that another may follow.
+use Rattle.std.proofs.Common.{ℕ, suc, ◌<◌, ◌≤◌, ◌≡◌, ◌+◌, ◌⊎◌, inl, inr, Bool, true, false, not, ◌&&◌, ◌||◌, List, [], ◌∷◌, ◌++◌, if◌then◌else◌, arith, refl, sym, ap, ap₂, ◌∙◌, length, map, flat_map, nat_eq, nat_lt, IsTrue, lt-ltb}
 use Rattle.std.proofs.lemmas.Bool.{and_parts, both_ways, not-true}
-use Rattle.std.proofs.lemmas.Grind.{flat_map-append}
-use Rattle.histories.specs.History.{is_raised, IsPrefix}
+use Rattle.std.specs.List.{list_any}
+use Rattle.histories.specs.History.{is_raised, numbers}
+use Rattle.mm_runs.specs.Operations.{Beat, filled_lanes, is_enabled, operation_at}
+use Rattle.mm_runs.specs.Views.{Shape}
+use Rattle.mm_runs.specs.Views.Kind.{Reads, Writes}
 use Rattle.mm_runs.specs.Commands.{shows, is_of_reads}
-use Rattle.mm_machines.specs.Link.{Target, Port, Marked, AreLegalAt, AnswersAreOwed, takes, marked_at, taken_at, shown_at, operations_among, operations_in, is_nonempty, closes, words_at, words_owed, is_last_joined}
-use Rattle.mm_machines.specs.Machines.{raw_at}
-use Rattle.mm_machines.specs.PartRanks.{JoinsAlike, are_joined_alike}
-use Rattle.mm_machines.specs.Straight.{IsShownPromptly, begins_alone, may_be_prompt}
-use Rattle.mm_links.specs.Drops.{DropState, RunsAsDrop, IsDropPlan}
+use Rattle.mm_machines.specs.Link.{Target, Port, AreLegalAt, AnswersAreOwed, takes, marked_at, taken_at, shown_at, operations_in, operations_among, is_nonempty, beat_operations, closes}
+use Rattle.mm_machines.specs.Machines.{Raw, raw_at}
+use Rattle.mm_machines.specs.PartRanks.{JoinsAlike}
+use Rattle.mm_machines.specs.Straight.{begins_alone, may_be_prompt, has_lane, earlier_shown, shows_plain, is_plain, shows_empty_write}
+use Rattle.mm_links.specs.Begins.{BeginsBelow, operations_taken}
+use Rattle.mm_links.specs.Drops.{DropState, RunsAsDrop, IsDropPlan, sends, accepted, keeps, standing_at}
 use Rattle.mm_links.specs.Links.{IsStraightLink}
-use Rattle.mm_links.proofs.DropJoins.{AllEnd, kept_is_open}
-use Rattle.mm_links.proofs.DropLink.{one_alike, sent, legal_below, so_far, level_sum, ahead_sum, sum_append, IsLevel, IsAhead}
-use Rattle.mm_links.proofs.DropLists.{acts, writes, sent_by, kept_past, sum, same_sum, kept_after, sent_after, sent_append, sent_past, Drops}
-use Rattle.mm_links.proofs.DropShown.{one_shown, shown_is}
-use Rattle.mm_links.proofs.DropStraight.{IsFirstAt, level_at, none_owed, first_shown_now, first_operations, above_is, straight}
-use Rattle.mm_links.proofs.DropTaken.{acts_is, writes_is, dropped_taken, dropped_from, all_end, up_one}
+use Rattle.mm_links.proofs.Beginning.{first_parts, taken_one, shown_beyond, begun_is_shown}
+use Rattle.mm_links.proofs.DropLink.{high, one_alike, legal_below, so_far, level_sum, ahead_sum, IsLevel, IsAhead}
+use Rattle.mm_links.proofs.DropLists.{acts, sum, same_sum}
+use Rattle.mm_links.proofs.DropShown.{stands_so, lanes_are, one_shown, shown_is}
+use Rattle.mm_links.proofs.DropStraight.{none_owed, above_is, straight}
+use Rattle.mm_links.proofs.DropTaken.{lane, now_writes, now_more, acts_is, dropped_taken, kept_next}
 use Rattle.mm_links.proofs.Gated.{total_sizes}
-use Rattle.mm_links.proofs.InStep.{shown_with}
-use Rattle.mm_links.proofs.OneBeat.{flat_at, flat_shown, shown_raws}
-use Rattle.mm_links.proofs.Prompt.{prompt_when}
-use Rattle.mm_links.proofs.SplitPrompt.{is_some}
-use Rattle.mm_links.proofs.Reached.{reached_below}
-use Rattle.mm_links.proofs.Stages.{alike_prefix}
+use Rattle.mm_links.proofs.OneBeat.{flat_mark, flat_at}
+use Rattle.mm_links.proofs.Prompt.{some_in}
 
--- a list from one of its members on
-split_there : (ts : List Marked) (n : ℕ) (m : Marked) → slice_get ts n ≡ Some m → (rest : List Marked) × (ts ≡ take n ts ++ m ∷ rest)
-split_there [] n m got = cc
-split_there (t ∷ ts) zero m got = let same : t ≡ m = cc in (ts, ap (λ x. x ∷ ts) same)
-split_there (t ∷ ts) (suc n) m got = let later = split_there ts n m got in (later.0, ap (λ l. t ∷ l) later.1)
+-- ---- one cycle, by its bits
 
-front_of : (n : ℕ) (ts : List Marked) → IsPrefix (take n ts) ts
-front_of zero ts = record { rest = ts; joins = refl }
-front_of (suc n) [] = record { rest = []; joins = refl }
-front_of (suc n) (t ∷ ts) = let later = front_of n ts in record { rest = later.rest; joins = ap (λ l. t ∷ l) later.joins }
+-- what has a lane and isn't kept is accepted as it is taken below, while no write is kept
+taken_alone : (s w a m h t : Bool) (r : ℕ) → accepted (stands_so s w a m h r) t ≡ true → a ≡ true → w && m ≡ false → (not h && t) ≡ true
+taken_alone false w a m h t r e lane last = cc
+taken_alone true w false m h t r e lane last = cc
+taken_alone true true true true h t r e lane last = cc
+taken_alone true true true false h t r e lane last = e
+taken_alone true false true m h t r e lane last = e
 
-front_ends : (n : ℕ) (ts : List Marked) → AllEnd ts → AllEnd (take n ts)
-front_ends zero ts all = tt
-front_ends (suc n) [] all = tt
-front_ends (suc n) (t ∷ ts) all = (all.0, front_ends n ts all.1)
+-- a write that another follows is kept, while none is
+pub kept_alone : (s w a m h t : Bool) (r : ℕ) → s ≡ true → a ≡ true → w && m ≡ true → h ≡ false → accepted (stands_so s w a m h r) t ≡ true
+kept_alone false w a m h t r shown lane more free = cc
+kept_alone true w false m h t r shown lane more free = cc
+kept_alone true false true m h t r shown lane more free = cc
+kept_alone true true true false h t r shown lane more free = cc
+kept_alone true true true true h t r shown lane more free = ap (λ h. not h || t) free
+
+-- what is kept is shown below with the next beat with a lane
+pub sends_kept : (room : ℕ) (s w a m : Bool) (r : ℕ) → s ≡ true → a ≡ true → sends room (stands_so s w a m true r) ≡ true
+sends_kept room s w a m r shown lane = ap₂ (λ s a. s && (a || not m)) shown lane
+
+-- it is shown below, or what is kept is
+sends_first : (room : ℕ) (s w a m h : Bool) (r : ℕ) → s ≡ true → a ≡ true → w && m ≡ false → (w ≡ false → r < room) → sends room (stands_so s w a m h r) ≡ true
+sends_first room s w a m true r shown lane last free = sends_kept room s w a m r shown lane
+sends_first room s true a true false r shown lane last free = cc
+sends_first room s true a false false r shown lane last free = ap₂ (λ s a. s && (a && true)) shown lane
+sends_first room s false a m false r shown lane last free = ap₂ (λ s a. s && (a && nat_lt r room)) shown lane ∙ lt-ltb r room (free refl)
+
+-- where words are those of the agent, a plain command has an operation
+pub plain_acts : (target : Target) (port : Port) (c : ℕ) → 0 < port.shape.word_bytes → target.shape.word_bytes ≡ port.shape.word_bytes → target.shape.has_enables ≡ false → IsTrue (shows_plain port c) →
+    is_nonempty (operations_in target port.shape (marked_at port c)) ≡ true
+plain_acts target port c some same none plain =
+    by_beats (marked_at port c).transfer.beats
+    (and_parts (begins_alone (earlier_shown port c) (marked_at port c) && closes (marked_at port c) && nat_eq (length (marked_at port c).transfer.beats) 1) (has_lane port.shape (marked_at port c))
+    (and_parts (shows port.commands.signals c) (is_plain port.shape (earlier_shown port c) (marked_at port c)) plain).1).1
+  where
+    front : {A B : Type 0} (f : A → B) (l : List A) (rest : List B) → is_nonempty l ≡ true → is_nonempty (map f l ++ rest) ≡ true
+    front f [] rest e = cc
+    front f (x ∷ l) rest e = refl
+
+    behind : {A : Type 0} (xs ys : List A) → is_nonempty ys ≡ true → is_nonempty (xs ++ ys) ≡ true
+    behind [] ys e = e
+    behind (x ∷ xs) ys e = refl
+
+    by_beats : (beats : List Beat) → list_any (λ (b : Beat). list_any (is_enabled b.enables) (numbers 0 port.shape.word_bytes)) beats ≡ true → is_nonempty (flat_map (beat_operations target port.shape) beats) ≡ true
+    by_beats [] e = cc
+    by_beats (b ∷ beats) e = by_lane (list_any (is_enabled b.enables) (numbers 0 port.shape.word_bytes)) refl e (by_beats beats)
+      where
+        by_lane : (x : Bool) → list_any (is_enabled b.enables) (numbers 0 port.shape.word_bytes) ≡ x → x || list_any (λ (b : Beat). list_any (is_enabled b.enables) (numbers 0 port.shape.word_bytes)) beats ≡ true →
+            (list_any (λ (b : Beat). list_any (is_enabled b.enables) (numbers 0 port.shape.word_bytes)) beats ≡ true → is_nonempty (flat_map (beat_operations target port.shape) beats) ≡ true) →
+            is_nonempty (beat_operations target port.shape b ++ flat_map (beat_operations target port.shape) beats) ≡ true
+        by_lane true has e rest = front (operation_at target.span b) (filled_lanes port.shape target.shape b.enables) (flat_map (beat_operations target port.shape) beats) (lanes_are target.shape port.shape b.enables some same none ∙ has)
+        by_lane false has e rest = behind (beat_operations target port.shape b) (flat_map (beat_operations target port.shape) beats) (rest e)
+
+-- a read, or a write that ends its command
+pub last_of : (shape : Shape) (raw : Raw) → may_be_prompt false (flat_mark shape raw) ≡ true → is_raised raw.levels.write && is_raised raw.more ≡ false
+last_of shape raw may = by_bits (is_raised raw.levels.write) (is_raised raw.more) may
+  where
+    by_bits : (w m : Bool) → is_of_reads (if w then Writes else Reads) || not m || false ≡ true → w && m ≡ false
+    by_bits true true e = cc
+    by_bits true false e = refl
+    by_bits false m e = refl
 
 module _ (target : Target) (room : ℕ) (up down : Port) (state : DropState) (end : ℕ) (plan : IsDropPlan target up.shape down.shape) (run : RunsAsDrop room up down state) (legal : AreLegalAt up end) (alike : JoinsAlike target up end) (owed : AnswersAreOwed down end) (some : 0 < room) where
-  abbrev size : Marked → ℕ
-  size m = length (operations_in target up.shape m)
+  -- ---- what stands above
 
-  -- what comes before a transfer, and that it is sent by itself
-  record IsSentAlone (before : List Marked) (m : Marked) : Type 0 where
-    pub none : kept_after target up.shape [] before ≡ []
-    pub all : sum target up.shape (sent_after target up.shape [] before) ≡ sum target up.shape before
-    pub acts : acts target up.shape m ≡ true
-    pub last : writes m && not (closes m) ≡ false
+  pub lane_at : (c : ℕ) → c < end → shows up.commands.signals c ≡ true → is_nonempty (operations_in target up.shape (marked_at up c)) ≡ true → lane target room up down state end plan run legal alike c ≡ true
+  lane_at c h shown act =
+      sym (acts_is target room up down state end plan run legal alike (raw_at up c))
+      ∙ ap (acts target up.shape) (sym (above_is target room up down state end plan run legal alike owed some c h shown)) ∙ act
 
-  alone_behind : (before : List Marked) (m : Marked) → AllEnd before → IsTrue (are_joined_alike target up before) → is_last_joined before ≡ false → 0 < size m → writes m && not (closes m) ≡ false → IsSentAlone before m
-  alone_behind before m ends joined closed acts last =
-      let none = by_kept (kept_after target up.shape [] before) refl in
-      let sums = same_sum target up.shape dropped in
-      let empty = ap (sum target up.shape) none in
-      record { none = none; all = omega (arith, sums, empty); acts = is_some (operations_in target up.shape m) acts; last = last }
+  pub last_at : (c : ℕ) → c < end → shows up.commands.signals c ≡ true → may_be_prompt false (marked_at up c) ≡ true → now_writes target room up down state end plan run legal alike c && now_more target room up down state end plan run legal alike c ≡ false
+  last_at c h shown may = last_of up.shape (raw_at up c) (ap (may_be_prompt false) (sym (above_is target room up down state end plan run legal alike owed some c h shown)) ∙ may)
+
+  -- ---- what is taken
+
+  -- where no beat is kept, all that was accepted is taken below
+  pub all_taken : (c : ℕ) → c ≤ end → state.kept c ≡ [] → operations_taken target down c ≡ operations_taken target up c
+  all_taken c h free = by_so_far (so_far target room up down state end plan run legal alike c h) ∙ total_sizes target up.shape (taken_at up c)
     where
-      dropped : Drops target up.shape [] false before (sent_after target up.shape [] before) (kept_after target up.shape [] before)
-      dropped = dropped_from target room up down state end plan run legal alike 0 before ends joined
-
-      by_kept : (ks : List Marked) → kept_after target up.shape [] before ≡ ks → kept_after target up.shape [] before ≡ []
-      by_kept [] e = e
-      by_kept (k ∷ ks) e = absurd (both_ways (is_last_joined before) closed (kept_is_open target up dropped (ap is_nonempty e)).joined)
-
-  -- the operations before it and its own are sent
-  sent_by_then : (before : List Marked) (m : Marked) (rest : List Marked) → IsSentAlone before m → sum target up.shape before + size m ≤ sum target up.shape (sent_after target up.shape [] (before ++ m ∷ rest))
-  sent_by_then before m rest alone =
-      let split = ap (sum target up.shape) (sent_append target up.shape [] before (m ∷ rest)) ∙ sum_append target room up down state end plan run legal alike (sent_after target up.shape [] before) (sent_after target up.shape (kept_after target up.shape [] before) (m ∷ rest)) in
-      let one : sent_past target up.shape (kept_after target up.shape [] before) m ≡ m ∷ [] =
-      ap (λ a. sent_by a (writes m) (closes m) (kept_after target up.shape [] before) m) alone.acts
-      ∙ ap₂ (λ q b. q ++ (if b then [] else m ∷ [])) alone.none alone.last in
-      let own = sum_append target room up down state end plan run legal alike (sent_past target up.shape (kept_after target up.shape [] before) m) (sent_after target up.shape (kept_past target up.shape (kept_after target up.shape [] before) m) rest) in
-      let mine = ap (sum target up.shape) one in
-      let all = alone.all in
-      omega (arith, split, own, mine, all)
-
-  taken_ends : (c : ℕ) → c ≤ end → AllEnd (shown_at up c)
-  taken_ends c h = subst AllEnd (sym (flat_shown up end legal (up_one target room up down state end plan run legal alike) c h)) (all_end target room up down state end plan run legal alike (shown_raws up c))
-
-  -- what was accepted has gone on
-  gone_by : (c : ℕ) → c < end → (number : ℕ) (m : Marked) → IsSentAlone (take number (taken_at up (suc c))) m → slice_get (taken_at up (suc c)) number ≡ Some m →
-      sum target up.shape (take number (taken_at up (suc c))) + size m ≤ length (operations_among target down.shape (taken_at down (suc c)))
-  gone_by c h number m alone got = by_so_far (so_far target room up down state end plan run legal alike (suc c) h)
-    where
-      there : sum target up.shape (take number (taken_at up (suc c))) + size m ≤ sum target up.shape (sent target room up down state end plan run legal alike (suc c))
-      there =
-          let split = split_there (taken_at up (suc c)) number m got in
-          subst (λ l. sum target up.shape (take number (taken_at up (suc c))) + size m ≤ sum target up.shape (sent_after target up.shape [] l)) (sym split.1) (sent_by_then (take number (taken_at up (suc c))) m split.0 alone)
-
-      by_so_far : IsLevel target room up down state end plan run legal alike (suc c) ⊎ IsAhead target room up down state end plan run legal alike (suc c) → sum target up.shape (take number (taken_at up (suc c))) + size m ≤ length (operations_among target down.shape (taken_at down (suc c)))
+      by_so_far : IsLevel target room up down state end plan run legal alike c ⊎ IsAhead target room up down state end plan run legal alike c → operations_taken target down c ≡ sum target up.shape (taken_at up c)
       by_so_far (inl level) =
-          let low = level_sum target room up down state end plan run legal alike (suc c) h level in
-          let all = there in
-          omega (arith, low, all)
-      by_so_far (inr ahead) =
-          let low = ahead_sum target room up down state end plan run legal alike (suc c) h ahead in
-          let sums = same_sum target up.shape (dropped_taken target room up down state end plan run legal alike (suc c) h) in
-          let all = there in
-          omega (arith, low, sums, all)
+          let none = ap (sum target up.shape) (sym level.kept ∙ ap (map (high target room up down state end plan run legal alike)) free) in
+          let sums = same_sum target up.shape (dropped_taken target room up down state end plan run legal alike c h) in
+          let all = level_sum target room up down state end plan run legal alike c h level in
+          omega (arith, none, sums, all)
+      by_so_far (inr ahead) = ahead_sum target room up down state end plan run legal alike c h ahead
 
-  -- what stands is shown
-  shown_by : (c : ℕ) → c < end → shows up.commands.signals c ≡ true → IsSentAlone (taken_at up c) (marked_at up c) → words_owed up c ≤ length (words_at up c) →
-      sum target up.shape (taken_at up c) + size (marked_at up c) ≤ length (operations_among target down.shape (shown_at down (suc c)))
-  shown_by c h shown alone given =
-      let above = above_is target room up down state end plan run legal alike owed some c h shown in
-      let none = none_owed target room up down state end plan run legal alike owed some c (omega (arith, h)) given in
-      let first : IsFirstAt target room up down state end plan run legal alike owed some c = record {
-        shown = shown;
-        acts = sym (acts_is target room up down state end plan run legal alike (raw_at up c)) ∙ ap (acts target up.shape) (sym above) ∙ alone.acts;
-        last = ends_so (is_raised (up.commands.write c)) (is_raised (up.commands.more c)) (ap₂ (λ w c. w && not c) (sym (writes_is target room up down state end plan run legal alike (raw_at up c)) ∙ ap writes (sym above)) (ap closes (sym above)) ∙ alone.last);
-        free = alone.none;
-      } in
-      let low = first_shown_now target room up down state end plan run legal alike owed some c h first (λ read. omega (arith, none, some)) in
-      let ops = ap length (first_operations target room up down state end plan run legal alike owed some c h first low) in
-      let whole = ap length (ap (operations_among target down.shape) (shown_with down end (legal_below target room up down state end plan run legal alike) c h low) ∙ flat_map-append (operations_in target down.shape) (taken_at down c) (marked_at down c ∷ []))
-      ∙ length-append (operations_among target down.shape (taken_at down c)) (operations_among target down.shape (marked_at down c ∷ [])) in
-      let one = length-append (operations_in target down.shape (marked_at down c)) [] in
-      let below = level_sum target room up down state end plan run legal alike c (omega (arith, h)) (level_at target room up down state end plan run legal alike owed some c (omega (arith, h)) alone.none) in
-      let all = alone.all in
-      omega (arith, ops, whole, one, below, all)
+  -- so it is by the end of a cycle in which a beat is accepted that has a lane and isn't kept
+  pub taken_level : (c : ℕ) → c < end → takes up c ≡ true → lane target room up down state end plan run legal alike c ≡ true → now_writes target room up down state end plan run legal alike c && now_more target room up down state end plan run legal alike c ≡ false →
+      operations_taken target down (suc c) ≡ operations_taken target up (suc c)
+  taken_level c h t has last = all_taken (suc c) h (kept_next target room up down state end plan run legal alike c false true not_kept alone.1)
     where
-      ends_so : (w m : Bool) → w && not (not m) ≡ false → w && m ≡ false
-      ends_so true true e = e
-      ends_so true false e = refl
-      ends_so false m e = refl
+      alone : (not (is_nonempty (state.kept c)) ≡ true) × (takes down c ≡ true)
+      alone =
+          and_parts (not (is_nonempty (state.kept c))) (takes down c)
+          (taken_alone (shows up.commands.signals c) (is_raised (up.commands.write c)) (lane target room up down state end plan run legal alike c) (is_raised (up.commands.more c)) (is_nonempty (state.kept c)) (takes down c) (state.reads c) (sym (run.accepts c) ∙ t) has last)
 
-  accepted : (c : ℕ) → c < end → (number : ℕ) (m : Marked) → IsSentAlone (take number (taken_at up (suc c))) m → slice_get (taken_at up (suc c)) number ≡ Some m → 0 < size m →
-      length (operations_among target up.shape (take number (taken_at up (suc c)))) < length (operations_among target down.shape (taken_at down (suc c)))
-  accepted c h number m alone got acts =
-      let there = gone_by c h number m alone got in
-      let sums = total_sizes target up.shape (take number (taken_at up (suc c))) in
-      omega (arith, there, sums, acts)
+      not_kept : keeps (standing_at up state c) (takes down c) ≡ false
+      not_kept = ap (λ b. accepted (standing_at up state c) (takes down c) && (b && lane target room up down state end plan run legal alike c)) last ∙ no_keep (accepted (standing_at up state c) (takes down c))
+        where
+          no_keep : (x : Bool) → x && false ≡ false
+          no_keep true = refl
+          no_keep false = refl
 
-  stands : (c : ℕ) → c < end → shows up.commands.signals c ≡ true → takes up c ≡ false → IsSentAlone (taken_at up c) (marked_at up c) → words_owed up c ≤ length (words_at up c) → 0 < size (marked_at up c) →
-      length (operations_among target up.shape (taken_at up c)) < length (operations_among target down.shape (shown_at down (suc c)))
-  stands c h shown waits alone given acts =
-      let there = shown_by c h shown alone given in
-      let sums = total_sizes target up.shape (taken_at up c) in
-      omega (arith, there, sums, acts)
+  -- ---- what is shown
 
-  -- no empty write is shown below
-  none_empty : (d : ℕ) → d < end → shows down.commands.signals d ≡ true → is_nonempty (operations_in target down.shape (marked_at down d)) ≡ true
-  none_empty d h shown =
-      ap (λ m. is_nonempty (operations_in target down.shape m)) (flat_at down end (legal_below target room up down state end plan run legal alike) (one_shown target room up down state end plan run legal) d h shown)
-      ∙ ap is_nonempty (one_alike target room up down state end plan run legal alike (raw_at down d)).operations
-      ∙ acts_is target room up down state end plan run legal alike (raw_at down d) ∙ (shown_is target room up down state end plan run legal d h shown).lane
+  -- each beat below has an operation
+  pub none_empty : (c : ℕ) → c < end → shows down.commands.signals c ≡ true → is_nonempty (operations_in target down.shape (marked_at down c)) ≡ true
+  none_empty c h shown =
+      ap (λ m. is_nonempty (operations_in target down.shape m)) (flat_at down end (legal_below target room up down state end plan run legal alike) (one_shown target room up down state end plan run legal) c h shown)
+      ∙ ap is_nonempty (one_alike target room up down state end plan run legal alike (raw_at down c)).operations
+      ∙ acts_is target room up down state end plan run legal alike (raw_at down c) ∙ (shown_is target room up down state end plan run legal c h shown).lane
 
-  prompt : (few : ℕ) → IsShownPromptly few false target up down end
-  prompt few = prompt_when target up down end few false
-      (λ c number m h got begins acts answered. (
-      let earlier = take number (shown_at up (suc c)) in
-      let halves = and_parts (begins_alone earlier m) (may_be_prompt false m) begins in
-      let closed = not-true (is_last_joined earlier) (and_parts m.transfer.begins (not (is_last_joined earlier)) halves.0).1 in
-      let alone = alone_behind earlier m (front_ends number (shown_at up (suc c)) (taken_ends (suc c) h)) (alike_prefix target up (front_of number (shown_at up (suc c))) (alike (suc c) h)) closed acts (read_or_last (is_of_reads m.transfer.kind) (closes m) halves.1) in
-      reached_below target up down end legal (legal_below target room up down state end plan run legal alike) IsSentAlone accepted stands c number m h got alone acts answered))
-      (λ c d order high takes_it same shown write none. absurd (both_ways (is_nonempty (operations_in target down.shape (marked_at down d))) (not-true (is_nonempty (operations_in target down.shape (marked_at down d))) none) (none_empty d high shown)))
-    where
-      read_or_last : (r c : Bool) → IsTrue (r || c || false) → not r && not c ≡ false
-      read_or_last true c e = refl
-      read_or_last false true e = refl
-      read_or_last false false e = cc
+  -- so one that is shown comes after all that was taken
+  pub goes_beyond : (c d : ℕ) → c ≤ d → c < end → shows down.commands.signals c ≡ true → operations_taken target down c < length (operations_among target down.shape (shown_at down (suc d)))
+  goes_beyond c d low h shown = shown_beyond target down end (legal_below target room up down state end plan run legal alike) c d low h shown (none_empty c h shown)
+
+  pub sends_at : (c : ℕ) → c < end → shows up.commands.signals c ≡ true → lane target room up down state end plan run legal alike c ≡ true → now_writes target room up down state end plan run legal alike c && now_more target room up down state end plan run legal alike c ≡ false →
+      (is_raised (up.commands.write c) ≡ false → state.reads c < room) → shows down.commands.signals c ≡ true
+  sends_at c h shown has last free =
+      run.shown c
+      ∙ sends_first room (shows up.commands.signals c) (is_raised (up.commands.write c)) (lane target room up down state end plan run legal alike c) (is_raised (up.commands.more c)) (is_nonempty (state.kept c)) (state.reads c) shown has last free
+
+  pub no_empty : (c : ℕ) → c < end → IsTrue (shows_empty_write target down c) → ⊥
+  no_empty c h empty =
+      let parts = and_parts (shows down.commands.signals c && not (is_of_reads (marked_at down c).transfer.kind)) (not (is_nonempty (operations_in target down.shape (marked_at down c)))) empty in
+      let shown = (and_parts (shows down.commands.signals c) (not (is_of_reads (marked_at down c).transfer.kind)) parts.0).0 in
+      both_ways (is_nonempty (operations_in target down.shape (marked_at down c))) (not-true (is_nonempty (operations_in target down.shape (marked_at down c))) parts.1) (none_empty c h shown)
+
+  pub drop_begins : (few : ℕ) → BeginsBelow few false target up down end
+  drop_begins few = record {
+    taken = λ c h first t.
+        let is = first_parts false target up c first in
+        let level = taken_level c h t (lane_at c h is.shown is.acts) (last_at c h is.shown is.may) in
+        let one = taken_one target up c t in
+        let act = some_in (operations_in target up.shape (marked_at up c)) is.acts in
+        omega (arith, level, one, act);
+    waits = λ c h first not_taken reached given.
+        let now : c < end = omega (arith, h) in
+        let is = first_parts false target up c first in
+        let none = none_owed target room up down state end plan run legal alike owed some c (omega (arith, h)) given in
+        let shown = sends_at c now is.shown (lane_at c now is.shown is.acts) (last_at c now is.shown is.may) (λ read. omega (arith, none, some)) in
+        let beyond = goes_beyond c (c + few) (omega arith) now shown in
+        omega (arith, beyond, reached);
+    empty = λ c h empty. absurd (no_empty c h empty);
+  }
 
 pub drop_is_straight : (target : Target) (room : ℕ) (up down : Port) (state : DropState) (end : ℕ) → IsDropPlan target up.shape down.shape → 0 < room → RunsAsDrop room up down state → JoinsAlike target up end → (few : ℕ) → IsStraightLink few false false target up down end
 drop_is_straight target room up down state end plan some run alike few = record {
   straight = λ legal owed. straight target room up down state end plan run legal alike owed some;
-  prompt = λ legal owed. prompt target room up down state end plan run legal alike owed some few;
+  prompt = λ legal owed. begun_is_shown few false target up down end legal (legal_below target room up down state end plan run legal alike) (drop_begins target room up down state end plan run legal alike owed some few);
 }

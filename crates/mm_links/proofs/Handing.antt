@@ -19,7 +19,8 @@ use Rattle.mm_links.proofs.Gather.{HasPieces}
 use Rattle.mm_links.proofs.Lanes.{SelectsBeats}
 use Rattle.mm_links.proofs.OneBeat.{flat_mark, flat_at, count_is_one}
 use Rattle.mm_links.proofs.Selecting.{takes_same, shows_same, shut_reads, writes_below, alike}
-use Rattle.mm_links.proofs.SplitPrompt.{parts_sizes, some_in}
+use Rattle.mm_links.proofs.Prompt.{some_in}
+use Rattle.mm_links.proofs.SplitPrompt.{parts_sizes}
 
 pub select_passes : (law : SelectsBeats) (target : Target) (up down : Port) (many room : ℕ) (offsets : ℕ → List ℕ) → IsSelectPlan target up.shape down.shape many → 1 < room → RunsAsSelect room up down offsets → (end : ℕ) → PassesAtOnce up down end
 select_passes law target up down many room offsets plan deep run end = record {

@@ -10,6 +10,7 @@ pub mod Gated
 pub mod Lanes
 pub mod Prompt
 pub mod Reached
+pub mod Beginning
 pub mod Selecting
 pub mod Splitting
 pub mod DrivenRuns
@@ -44,3 +45,4 @@ pub mod DropWhole
 pub mod DropStraight
 pub mod DropPrompt
 pub mod Handing
+pub mod SplitDrop

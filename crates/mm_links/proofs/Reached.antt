@@ -1,10 +1,10 @@
--- What a transfer has begun below by the end of the cycle in which it stands: it was accepted, or it stands still.
+-- By the end of a cycle a transfer was accepted, or it stands still.
 use Rattle.std.proofs.Common.{ℕ, zero, suc, ◌<◌, ◌≤◌, ◌≡◌, Bool, true, false, not, List, [], ◌∷◌, ◌++◌, arith, refl, sym, ap, ap₂, subst, ◌∙◌, length, take, nat_lt, IsTrue, Some, slice_get, append-nil, length-append, ltb-true, ltb-false, leb-true}
 use Rattle.std.proofs.lemmas.Bool.{and_parts, not-true}
 use Rattle.histories.specs.History.{only_if, IsPrefix}
-use Rattle.histories.specs.Laws.{shown_is_accepted_and_standing, prefix_flat_map, prefix_length}
+use Rattle.histories.specs.Laws.{shown_is_accepted_and_standing}
 use Rattle.mm_runs.specs.Commands.{shows, is_held}
-use Rattle.mm_machines.specs.Link.{Target, Port, Marked, AreLegalAt, takes, marked_at, taken_at, shown_at, operations_among, operations_in, words_at, words_owed, read_beats}
+use Rattle.mm_machines.specs.Link.{Port, Marked, AreLegalAt, takes, marked_at, taken_at, shown_at, words_at, words_owed, read_beats}
 use Rattle.mm_machines.specs.SideLaws.{marked_keeps, taken_is_shown, prefix_take}
 use Rattle.mm_machines.specs.Straight.{are_answered}
 use Rattle.mm_links.proofs.Prompt.{front_get}
@@ -22,15 +22,13 @@ pub take_front_of : {A : Type 0} (xs ys : List A) → take (length xs) (xs ++ ys
 take_front_of [] ys = refl
 take_front_of (x ∷ xs) ys = ap (λ l. x ∷ l) (take_front_of xs ys)
 
--- `May`: of which transfers this is said, by what stands before them
-module _ (target : Target) (up down : Port) (end : ℕ) (legal : AreLegalAt up end) (legal_down : AreLegalAt down end) (May : List Marked → Marked → Type 0)
-    (accepted : (c : ℕ) → c < end → (number : ℕ) (m : Marked) → May (take number (taken_at up (suc c))) m → slice_get (taken_at up (suc c)) number ≡ Some m → 0 < length (operations_in target up.shape m) →
-    length (operations_among target up.shape (take number (taken_at up (suc c)))) < length (operations_among target down.shape (taken_at down (suc c))))
-    (stands : (c : ℕ) → c < end → shows up.commands.signals c ≡ true → takes up c ≡ false → May (taken_at up c) (marked_at up c) → words_owed up c ≤ length (words_at up c) → 0 < length (operations_in target up.shape (marked_at up c)) →
-    length (operations_among target up.shape (taken_at up c)) < length (operations_among target down.shape (shown_at down (suc c)))) where
-  pub reached_below : (c number : ℕ) (m : Marked) → c < end → slice_get (shown_at up (suc c)) number ≡ Some m → May (take number (shown_at up (suc c))) m → 0 < length (operations_in target up.shape m) →
-      IsTrue (are_answered up (take number (shown_at up (suc c))) c) → length (operations_among target up.shape (take number (shown_at up (suc c)))) < length (operations_among target down.shape (shown_at down (suc c)))
-  reached_below c number m h got may some answered = by_place (nat_lt number (length (taken_at up (suc c)))) refl
+-- `May`: of which transfers this is said, by what stands before them. `Begun`: what is said of these by the end of a cycle
+module _ (up : Port) (end : ℕ) (legal : AreLegalAt up end) (May : List Marked → Marked → Type 0) (Begun : ℕ → List Marked → Type 0)
+    (accepted : (c : ℕ) → c < end → (number : ℕ) (m : Marked) → May (take number (taken_at up (suc c))) m → slice_get (taken_at up (suc c)) number ≡ Some m → Begun c (take number (taken_at up (suc c))))
+    (stands : (c : ℕ) → c < end → shows up.commands.signals c ≡ true → takes up c ≡ false → May (taken_at up c) (marked_at up c) → words_owed up c ≤ length (words_at up c) → Begun c (taken_at up c)) where
+  pub begun_by : (c number : ℕ) (m : Marked) → c < end → slice_get (shown_at up (suc c)) number ≡ Some m → May (take number (shown_at up (suc c))) m →
+      IsTrue (are_answered up (take number (shown_at up (suc c))) c) → Begun c (take number (shown_at up (suc c)))
+  begun_by c number m h got may answered = by_place (nat_lt number (length (taken_at up (suc c)))) refl
     where
       front : IsPrefix (taken_at up (suc c)) (shown_at up (suc c))
       front = taken_is_shown up end (suc c) legal h
@@ -38,7 +36,7 @@ module _ (target : Target) (up down : Port) (end : ℕ) (legal : AreLegalAt up e
       up_side : (b : Bool) → is_held up.commands.signals (takes up) c ≡ b → shown_at up (suc c) ≡ taken_at up (suc c) ++ only_if b (marked_at up c)
       up_side b f = shown_is_accepted_and_standing (shows up.commands.signals) (takes up) (marked_at up) end (suc c) (marked_keeps up end legal) h ∙ ap (λ b. taken_at up (suc c) ++ only_if b (marked_at up c)) f
 
-      by_held : length (taken_at up (suc c)) ≤ number → (b : Bool) → is_held up.commands.signals (takes up) c ≡ b → length (operations_among target up.shape (take number (shown_at up (suc c)))) < length (operations_among target down.shape (shown_at down (suc c)))
+      by_held : length (taken_at up (suc c)) ≤ number → (b : Bool) → is_held up.commands.signals (takes up) c ≡ b → Begun c (take number (shown_at up (suc c)))
       by_held high false f =
           let few = get_low (shown_at up (suc c)) number m got in
           let all = ap length (up_side false f) ∙ length-append (taken_at up (suc c)) [] in
@@ -54,15 +52,11 @@ module _ (target : Target) (up down : Port) (end : ℕ) (legal : AreLegalAt up e
           let is : m ≡ marked_at up c = sym (get_end (taken_at up (suc c)) (marked_at up c) m (ap₂ (λ n l. slice_get l n) (sym place) (sym (up_side true f)) ∙ got)) in
           let given = leb-true (length (read_beats (take number (shown_at up (suc c))))) (length (words_at up c)) answered in
           let reads = ap (λ l. length (read_beats l)) before in
-          subst (λ l. length (operations_among target up.shape l) < length (operations_among target down.shape (shown_at down (suc c)))) (sym before)
-          (stands c h parts.0 not_taken (subst (λ x. May (taken_at up c) x) is (subst (λ l. May l m) before may)) (omega (arith, given, reads)) (subst (λ x. 0 < length (operations_in target up.shape x)) is some))
+          subst (Begun c) (sym before) (stands c h parts.0 not_taken (subst (λ x. May (taken_at up c) x) is (subst (λ l. May l m) before may)) (omega (arith, given, reads)))
 
-      by_place : (b : Bool) → nat_lt number (length (taken_at up (suc c))) ≡ b → length (operations_among target up.shape (take number (shown_at up (suc c)))) < length (operations_among target down.shape (shown_at down (suc c)))
+      by_place : (b : Bool) → nat_lt number (length (taken_at up (suc c))) ≡ b → Begun c (take number (shown_at up (suc c)))
       by_place true e =
           let few = ltb-true number (length (taken_at up (suc c))) e in
           let same = prefix_take front number (omega (arith, few)) in
-          let there = accepted c h number m (subst (λ l. May l m) same may) (front_get (taken_at up (suc c)) front.rest number m few (subst (λ l. slice_get l number ≡ Some m) (sym front.joins) got)) some in
-          let more = prefix_length (prefix_flat_map (operations_in target down.shape) (taken_is_shown down end (suc c) legal_down h)) in
-          let ops = ap (λ l. length (operations_among target up.shape l)) same in
-          omega (arith, there, more, ops)
+          subst (Begun c) (sym same) (accepted c h number m (subst (λ l. May l m) same may) (front_get (taken_at up (suc c)) front.rest number m few (subst (λ l. slice_get l number ≡ Some m) (sym front.joins) got)))
       by_place false e = by_held (ltb-false number (length (taken_at up (suc c))) e) (is_held up.commands.signals (takes up) c) refl

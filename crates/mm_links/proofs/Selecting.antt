@@ -20,9 +20,10 @@ use Rattle.mm_machines.specs.Lines.{KeepsRow, IsWordForWord, HandsOn}
 use Rattle.mm_machines.specs.Machines.{raw_at, IsFitBeat, MaySelect, LiesInOneWord, select_of}
 use Rattle.mm_machines.specs.Rank.{is_owed}
 use Rattle.mm_machines.specs.SideLaws.{fit_when_shown, legal_when_shown, same_counts}
+use Rattle.mm_links.specs.Begins.{BeginsBelow}
 use Rattle.mm_links.specs.Going.RowGoesOn.{at_end, further}
 use Rattle.mm_links.specs.Links.{IsLink, IsStraightLink}
-use Rattle.mm_links.proofs.Prompt.{gate_is_prompt}
+use Rattle.mm_links.proofs.Beginning.{begun_is_shown, gate_begins}
 use Rattle.mm_links.proofs.HandOn.{hands_on_shown}
 use Rattle.mm_links.specs.Selects.{RunsAsSelect, IsSelectPlan, EnablesFit, select_form, selected, silenced, offset_in, takes_read, is_shut, first_of}
 use Rattle.mm_links.proofs.Alike.{IsAlike}
@@ -547,6 +548,10 @@ module _ (law : SelectsBeats) (wire : (target : Target) (port : Port) (end : ℕ
       twice true g = refl
       twice false g = sym g
 
+  pub select_begins : AreLegalAt up end → AnswersAreOwed down end → (few : ℕ) (may_burst : Bool) → BeginsBelow few may_burst target up down end
+  select_begins legal owed few may_burst =
+      gate_begins target up down lets shown_alike taken_at_once end (alike_before end (le_refl end) legal) legal (legal_before end (le_refl end) legal) (shut_while_owed legal owed) few may_burst
+
   pub select_is_straight : (few : ℕ) (ahead may_burst : Bool) → IsStraightLink few ahead may_burst target up down end
   select_is_straight few ahead may_burst = record {
     straight = λ legal owed. record {
@@ -554,6 +559,5 @@ module _ (law : SelectsBeats) (wire : (target : Target) (port : Port) (end : ℕ
       accepted = λ c h same. absurd (smaller same);
       kept = λ c h same. absurd (smaller same);
     };
-    prompt = λ legal owed.
-        gate_is_prompt target up down lets shown_alike taken_at_once end (alike_before end (le_refl end) legal) legal (legal_before end (le_refl end) legal) (shut_while_owed legal owed) few may_burst;
+    prompt = λ legal owed. begun_is_shown few may_burst target up down end legal (legal_before end (le_refl end) legal) (select_begins legal owed few may_burst);
   }

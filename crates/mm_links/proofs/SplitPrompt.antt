@@ -1,36 +1,29 @@
 -- A splitter shows a first beat in its own cycle, once all earlier ones are taken and answered.
-use Rattle.std.proofs.Common.{ℕ, suc, ◌<◌, ◌≤◌, ◌≡◌, ◌+◌, ◌*◌, Bool, true, false, not, ◌&&◌, ◌||◌, List, [], ◌∷◌, ◌++◌, if◌then◌else◌, arith, refl, sym, ap, ap₂, subst, ◌∙◌, length, map, filter, flat_map, take, nat_lt, nat_eq, Some, slice_get, append-nil, append_assoc, length-append, ltb-true, mul-le-mul_right}
+use Rattle.std.proofs.Common.{ℕ, suc, ◌<◌, ◌≤◌, ◌≡◌, ◌+◌, ◌*◌, Bool, true, false, not, ◌&&◌, ◌||◌, List, [], ◌∷◌, ◌++◌, if◌then◌else◌, arith, refl, sym, ap, ap₂, subst, ◌∙◌, length, map, filter, flat_map, nat_lt, nat_eq, append-nil, append_assoc, length-append, ltb-true, mul-le-mul_right}
 use Rattle.std.proofs.lemmas.Bool.{and_parts}
 use Rattle.std.proofs.lemmas.List.{map-append, length-map}
 use Rattle.std.proofs.lemmas.Grind.{flat_map-append}
 use Rattle.histories.specs.History.{is_raised, only_if, numbers, IsPrefix}
-use Rattle.mm_runs.specs.Views.{Shape}
 use Rattle.mm_runs.specs.Operations.{filled_lanes, pieces}
-use Rattle.mm_runs.specs.Commands.{shows, is_held}
+use Rattle.mm_runs.specs.Views.{Shape, levels_at}
+use Rattle.mm_runs.specs.Commands.{shows, is_held, is_of_reads, burst_before, write_transfer, read_transfer}
 use Rattle.mm_machines.specs.Link.{Target, Port, Marked, AreLegalAt, AnswersAreOwed, CarriesCommands, takes, marked_at, taken_at, shown_at, operations_among, operations_in, is_nonempty, sizes, words_at, words_owed}
 use Rattle.mm_machines.specs.Machines.{Raw, raw_at, raws, parts_sent, single, joined, piece_of, beat_of, MaySplit}
-use Rattle.mm_machines.specs.Straight.{IsShownPromptly}
+use Rattle.mm_links.specs.Begins.{BeginsBelow, operations_taken}
 use Rattle.mm_links.specs.Links.{IsStraightLink}
 use Rattle.mm_links.specs.Splits.{SplitState, RunsAsSplit, split_at, opens, or_first_piece}
 use Rattle.mm_links.proofs.Gated.{total_sizes}
 use Rattle.mm_links.proofs.Gather.{HasPieces, cut_of, has_lane_in, spread, wide_lanes}
 use Rattle.mm_links.proofs.OneBeat.{flat_mark, flat_shown, flat_at, shown_raws}
-use Rattle.mm_links.proofs.Prompt.{within, only_then, prompt_when}
-use Rattle.mm_links.proofs.Reached.{reached_below}
+use Rattle.mm_links.proofs.Beginning.{first_parts, taken_one, shown_later, begun_is_shown}
+use Rattle.mm_links.proofs.InStep.{both}
+use Rattle.mm_links.proofs.Prompt.{some_in, is_some}
 use Rattle.mm_links.proofs.Splitting.{shown_above, either_of, same_true}
-use Rattle.mm_links.proofs.SplitParts.{parts_of, parts_are, sent_pieces, chosen, raws_below}
+use Rattle.mm_links.proofs.SplitParts.{parts_of, parts_are, sent_pieces, chosen, raws_below, write_below}
 use Rattle.mm_links.proofs.SplitWords.{none_owed}
 use Rattle.mm_links.proofs.SplitShown.{going_front, upper_acts, acts, ArePartsOf, are_parts, no_lane}
 use Rattle.mm_links.proofs.SplitShown.ArePartsOf.{last_part, more_parts, no_parts}
 use Rattle.mm_links.proofs.SplitLink.{Carries, carried, one_up, one_down, up_taken, shut, reached_all}
-
-pub some_in : {A : Type 0} (xs : List A) → is_nonempty xs ≡ true → 0 < length xs
-some_in [] h = cc
-some_in (x ∷ xs) h = omega arith
-
-pub is_some : {A : Type 0} (xs : List A) → 0 < length xs → is_nonempty xs ≡ true
-is_some [] h = absurd (omega (arith, h))
-is_some (x ∷ xs) h = refl
 
 one_size : {A B : Type 0} (f : A → B) (xs : List A) → length (map f xs ++ []) ≡ length xs
 one_size f xs = ap length (append-nil (map f xs)) ∙ length-map xs f
@@ -108,13 +101,13 @@ module _ (law : HasPieces) (target : Target) (wide narrow : Shape) (count : ℕ)
 
 module _ (law : HasPieces) (carries : Carries) (target : Target) (count room : ℕ) (up down : Port) (state : SplitState) (may : MaySplit target up.shape down.shape count) (some_room : 0 < room) (run : RunsAsSplit room up down state)
     (end : ℕ) (legal : AreLegalAt up end) (owed : AnswersAreOwed down end) where
-  abbrev carry : CarriesCommands target 0 up down end
+  abbrev pub carry : CarriesCommands target 0 up down end
   carry = carried law carries target count room up down state may some_room run end legal
 
   -- the beat that stands is shown below, behind all earlier ones
-  stands_below : (c : ℕ) → c < end → shows up.commands.signals c ≡ true → takes up c ≡ false → Unit {0} → words_owed up c ≤ length (words_at up c) → 0 < length (operations_in target up.shape (marked_at up c)) →
+  pub stands_below : (c : ℕ) → c < end → shows up.commands.signals c ≡ true → takes up c ≡ false → words_owed up c ≤ length (words_at up c) → 0 < length (operations_in target up.shape (marked_at up c)) →
       length (operations_among target up.shape (taken_at up c)) < length (operations_among target down.shape (shown_at down (suc c)))
-  stands_below c h shown not_taken may_be answered some =
+  stands_below c h shown not_taken answered some =
       let same : taken_at up (suc c) ≡ taken_at up c = ap (λ b. taken_at up c ++ only_if b (marked_at up c)) not_taken ∙ append-nil (taken_at up c) in
       subst (λ l. length (operations_among target up.shape l) < length (operations_among target down.shape (shown_at down (suc c)))) same (by_below (shows down.commands.signals c) refl)
     where
@@ -155,16 +148,8 @@ module _ (law : HasPieces) (carries : Carries) (target : Target) (count room : �
               let all = length-append (parts_sent up down (suc c)) (only_if (is_held down.commands.signals (takes down) c) (raw_at down c)) in
               omega (arith, one, all)
 
-  accepted : (c : ℕ) → c < end → (number : ℕ) (m : Marked) → Unit {0} → slice_get (taken_at up (suc c)) number ≡ Some m → 0 < length (operations_in target up.shape m) →
-      length (operations_among target up.shape (take number (taken_at up (suc c)))) < length (operations_among target down.shape (taken_at down (suc c)))
-  accepted c h number m may got some =
-      let here = within target up.shape (taken_at up (suc c)) number m got in
-      let all = reached_all (sizes target up.shape (taken_at up (suc c))) (length (operations_among target down.shape (taken_at down (suc c)))) (carry.held (suc c) h) in
-      let sum = total_sizes target up.shape (taken_at up (suc c)) in
-      omega (arith, here, all, sum, some)
-
   -- a beat that is accepted is shown below in its last part alone
-  taken_with : (c : ℕ) → takes up c ≡ true → shows down.commands.signals c ≡ true → takes down c ≡ true
+  pub taken_with : (c : ℕ) → takes up c ≡ true → shows down.commands.signals c ≡ true → takes down c ≡ true
   taken_with c t shown =
       let parts = and_parts (shows up.commands.signals c && opens room up down state c) (nat_eq (length (split_at up down c)) 0 || (takes down c && nat_eq (suc (state.place c)) (length (split_at up down c)))) (sym (run.accepts c) ∙ t) in
       let room_left = ltb-true (state.place c) (length (split_at up down c)) (and_parts (shows up.commands.signals c && opens room up down state c) (nat_lt (state.place c) (length (split_at up down c))) (sym (run.shown c) ∙ shown)).1 in
@@ -172,13 +157,39 @@ module _ (law : HasPieces) (carries : Carries) (target : Target) (count room : �
       (λ empty. (let none = same_true (length (split_at up down c)) 0 empty in absurd (omega (arith, none, room_left))))
       (λ last. (and_parts (takes down c) (nat_eq (suc (state.place c)) (length (split_at up down c))) last).0)
 
-  pub split_prompt : (few : ℕ) (may_burst : Bool) → IsShownPromptly few may_burst target up down end
-  split_prompt few may_burst = prompt_when target up down end few may_burst
-      (λ c number m h got begins some answered. reached_below target up down end legal carry.legal (λ before m. Unit {0}) accepted stands_below c number m h got tt some answered)
-      (λ c d low high takes_it same shows_it write none. (
-      let above = (shown_above room up down state run end legal d shows_it).0 in
-      let now : d ≡ c = only_then up c d low takes_it same above in
-      (now, taken_with c takes_it (subst (λ k. shows down.commands.signals k ≡ true) now shows_it))))
+  -- all that was accepted is taken below
+  pub accepted : (c : ℕ) → c ≤ end → operations_taken target up c ≤ operations_taken target down c
+  accepted c h =
+      let all = reached_all (sizes target up.shape (taken_at up c)) (operations_taken target down c) (carry.held c h) in
+      let sum = total_sizes target up.shape (taken_at up c) in
+      omega (arith, all, sum)
+
+  pub split_begins : (few : ℕ) (may_burst : Bool) → BeginsBelow few may_burst target up down end
+  split_begins few may_burst = record {
+    taken = λ c h first t.
+        let one = taken_one target up c t in
+        let some = some_in (operations_in target up.shape (marked_at up c)) (first_parts may_burst target up c first).acts in
+        let all = accepted (suc c) h in
+        omega (arith, one, some, all);
+    waits = λ c h first not_taken reached given.
+        let is = first_parts may_burst target up c first in
+        let here = stands_below c (omega (arith, h)) is.shown not_taken given (some_in (operations_in target up.shape (marked_at up c)) is.acts) in
+        let more = shown_later target down (suc c) (suc (c + few)) (omega arith) in
+        omega (arith, here, more);
+    empty = λ c h empty.
+        let writes = and_parts (shows down.commands.signals c && not (is_of_reads (marked_at down c).transfer.kind)) _ empty in
+        let there = and_parts (shows down.commands.signals c) (not (is_of_reads (marked_at down c).transfer.kind)) writes.0 in
+        let above = (shown_above room up down state run end legal c there.0).0 in
+        (both above (ap not (kind_of up c _ refl ∙ ap not (sym (write_below room up down state run end legal c there.0)) ∙ sym (kind_of down c _ refl)) ∙ there.1), λ t. taken_with c t there.0);
+  }
+    where
+      kind_of : (port : Port) (c : ℕ) (w : Bool) → is_raised (port.commands.write c) ≡ w → is_of_reads (marked_at port c).transfer.kind ≡ not w
+      kind_of port c w e =
+          ap (λ w. is_of_reads (if w then write_transfer port.shape (levels_at port.commands.signals c) (burst_before port.shape port.commands.signals (takes port) c) else read_transfer port.shape (levels_at port.commands.signals c)).kind) e ∙ by_write w
+        where
+          by_write : (w : Bool) → is_of_reads (if w then write_transfer port.shape (levels_at port.commands.signals c) (burst_before port.shape port.commands.signals (takes port) c) else read_transfer port.shape (levels_at port.commands.signals c)).kind ≡ not w
+          by_write true = refl
+          by_write false = refl
 
 module _ (law : HasPieces) (carries : Carries) (target : Target) (count room : ℕ) (up down : Port) (state : SplitState) (may : MaySplit target up.shape down.shape count) (some_room : 0 < room) (run : RunsAsSplit room up down state)
     (end : ℕ) (many : 1 < count) where
@@ -196,5 +207,7 @@ module _ (law : HasPieces) (carries : Carries) (target : Target) (count room : �
       accepted = λ c h same. absurd (smaller same);
       kept = λ c h same. absurd (smaller same);
     };
-    prompt = λ legal owed. split_prompt law carries target count room up down state may some_room run end legal owed few may_burst;
+    prompt = λ legal owed.
+        begun_is_shown few may_burst target up down end legal (carried law carries target count room up down state may some_room run end legal).legal
+        (split_begins law carries target count room up down state may some_room run end legal owed few may_burst);
   }

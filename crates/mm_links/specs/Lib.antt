@@ -10,3 +10,4 @@ pub mod Drops
 pub mod Passes
 pub mod Driven
 pub mod Soon
+pub mod Begins

@@ -1,8 +1,9 @@
 //! What keeps beats without an enabled lane from an agent without byte enables.
 
-ghost use Rattle.std.specs.Prelude.{◌<◌, ◌≡◌, ℕ, true, false};
+ghost use Rattle.std.specs.Prelude.{◌<◌, ◌≡◌, ℕ, true, false, IsTrue, IsFalse};
 ghost use Rattle.histories.specs.History.{is_raised};
-ghost use Rattle.mm_machines.specs.Link.{Target, Port, AreLegalAt, AnswersAreOwed};
+ghost use Rattle.mm_machines.specs.Link.{Target, Port, AreLegalAt, AnswersAreOwed, marked_at, operations_in, is_nonempty};
+ghost use Rattle.mm_machines.specs.Straight.{shows_plain};
 ghost use Rattle.mm_machines.specs.Lines.{HasLanes, HandsOn};
 ghost use Rattle.mm_machines.specs.PartRanks.{JoinsAlike};
 ghost use Rattle.mm_links.specs.Links.{IsLink, IsStraightLink, OwesNothingBelow};
@@ -46,4 +47,10 @@ pub fn drop_is_straight()
     ensures step { (target : Target) (room : ℕ) (up down : Port) (state : DropState) (end : ℕ) → IsDropPlan target up.shape down.shape
         → 0 < room → RunsAsDrop room up down state → JoinsAlike target up end → AreLegalAt up end → AnswersAreOwed down end
         → GoesInStep false target up down end }
+{}
+
+/// Where the words are those of an agent without byte enables, as they are above it, each plain command has an operation.
+pub fn plain_commands_act()
+    ensures { (target : Target) (port : Port) (c : ℕ) → 0 < port.shape.word_bytes → target.shape.word_bytes ≡ port.shape.word_bytes → IsFalse target.shape.has_enables
+        → IsTrue (shows_plain port c) → IsTrue (is_nonempty (operations_in target port.shape (marked_at port c))) }
 {}

@@ -1,6 +1,7 @@
 //! Links as machines: each keeps the whole record of a link, and two in a row keep it as one.
 #![tactic(auto)]
 
+pub mod begins;
 pub mod bursts;
 pub mod drops;
 pub mod passes;

@@ -15,6 +15,6 @@ returns c = λ responses system run inside states ranks end agent host ahead bui
     let owed = (parts.route host here).owed agent there in
     record {
       straight = subst (λ (p : Port). GoesStraightThrough (λ _. ahead) (target_of system agent) top p end) (sym wired) (link.straight legal_top owed);
-      step = λ same. subst (λ (p : Port). GoesInStep ahead (target_of system agent) top p end) (sym wired) (c.pass_goes_in_step.ensures.step ahead (target_of system agent) top end);
+      step = λ same. subst (λ (p : Port). GoesInStep ahead (target_of system agent) top p end) (sym wired) (c.pass_goes_in_step.ensures ahead (target_of system agent) top end);
       prompt = subst (λ (p : Port). IsShownPromptly 30 (may_burst_to system host agent) (target_of system agent) top p end) (sym wired) (link.prompt legal_top owed);
     }

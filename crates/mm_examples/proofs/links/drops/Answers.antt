@@ -1,6 +1,7 @@
 use Rattle.std.proofs.Common.{◌≡◌, arith, refl, ap}
 use Rattle.mm_links.specs.Selects.{first_of}
-use Rattle.mm_examples.specs.LinkRuns.{empty_reads}
+use Rattle.mm_examples.specs.LinkRuns.{empty_reads, held_burst}
+use Rattle.mm_examples.proofs.HeldBurst.{burst_is_legal, burst_is_kept}
 use Rattle.mm_examples.proofs.Swallows.{drop_swallows, drop_gives}
 use Rattle.mm_examples.proofs.links.drops.Goals as goal
 
@@ -33,3 +34,9 @@ returns-clause-swallows c = drop_swallows (c.drop_runs.ensures empty_reads)
 
 pub returns-clause-gives : goal.returns-clause-gives
 returns-clause-gives c = drop_gives (c.drop_runs.ensures empty_reads)
+
+pub returns-clause-legal : goal.returns-clause-legal
+returns-clause-legal c = burst_is_legal
+
+pub returns-clause-keeps : goal.returns-clause-keeps
+returns-clause-keeps c = burst_is_kept (c.drop_runs.ensures held_burst)

@@ -1,0 +1,188 @@
+-- A row of link machines leads to the arbiter: plain commands go straight through it, in step, and first beats are shown promptly.
+use Rattle.std.proofs.Common.{ℕ, ◌<◌, ◌≡◌, Bool, true, false, not, ◌||◌, List, arith, refl, sym, subst, ◌∙◌, IsTrue, IsFalse, le_refl}
+use Rattle.std.proofs.lemmas.Bool.{both_ways}
+use Rattle.mm_machines.specs.Link.{Target, Port, AreLegalAt, AnswersAreOwed, marked_at, operations_in, is_nonempty}
+use Rattle.mm_machines.specs.Machines.{MaySplit}
+use Rattle.mm_machines.specs.PartRanks.{JoinsAlike}
+use Rattle.mm_machines.specs.Straight.{GoesStraightThrough, IsShownPromptly, shows_plain}
+use Rattle.mm_links.specs.Begins.{BeginsBelow}
+use Rattle.mm_links.specs.Bursts.{BurstState, RunsAsBurst, IsBurstPlan, burst_form}
+use Rattle.mm_links.specs.Cuts.{RunsAsCut, IsCutPlan}
+use Rattle.mm_links.specs.Drops.{DropState, RunsAsDrop, IsDropPlan, drop_form}
+use Rattle.mm_links.specs.InStep.{GoesInStep, AreInStep}
+use Rattle.mm_links.specs.Links.{LinkForm, IsLink, IsStraightLink}
+use Rattle.mm_links.specs.Selects.{RunsAsSelect, IsSelectPlan, EnablesFit}
+use Rattle.mm_links.specs.Splits.{SplitState, RunsAsSplit}
+use Rattle.mm_awake.specs.Rows.{IsWired, CutsBursts, CutsBursts.cutter, CutsBursts.shorter, CutsBursts.no_cutter, FitsWords, FitsWords.selector, FitsWords.splitter, FitsWords.no_width, DropsBeats, DropsBeats.dropper, DropsBeats.no_dropper}
+use Rattle.mm_awake.proofs.Enables.{enables_below}
+use Rattle.mm_awake.proofs.RowOfThree.{Carries, IsSettled, settled}
+use Rattle.mm_awake.proofs.RowLine.{RowLaws, cut_linked, fit_linked, drop_linked, linked_carries, cut_words, drop_words}
+
+-- the laws of single links
+pub record LeadLaws : Type 0 where
+  pub rows : RowLaws
+  -- straight and in step
+  pub wire : (target : Target) (port : Port) (end : ℕ) → IsStraightLink 0 false false target port port end
+  pub wire_steps : (ahead : Bool) (target : Target) (port : Port) (end : ℕ) → GoesInStep ahead target port port end
+  pub burst : (target : Target) (up down : Port) (state : BurstState) (end : ℕ) → IsBurstPlan up.shape down.shape → RunsAsBurst up down state → (few : ℕ) (may_burst : Bool) → IsStraightLink few false may_burst target up down end
+  pub burst_steps : (target : Target) (up down : Port) (state : BurstState) (end : ℕ) → IsBurstPlan up.shape down.shape → RunsAsBurst up down state → AreLegalAt up end → AnswersAreOwed down end → GoesInStep false target up down end
+  pub cut : (target : Target) (longest : ℕ) (up down : Port) (state : BurstState) (end : ℕ) → IsCutPlan longest up.shape down.shape → RunsAsCut longest up down state → (few : ℕ) (may_burst : Bool) → IsStraightLink few false may_burst target up down end
+  pub cut_steps : (target : Target) (longest : ℕ) (up down : Port) (state : BurstState) (end : ℕ) → IsCutPlan longest up.shape down.shape → RunsAsCut longest up down state → AreLegalAt up end → AnswersAreOwed down end → GoesInStep false target up down end
+  pub drop : (target : Target) (room : ℕ) (up down : Port) (state : DropState) (end : ℕ) → IsDropPlan target up.shape down.shape → 0 < room → RunsAsDrop room up down state → JoinsAlike target up end → (few : ℕ) → IsStraightLink few false false target up down end
+  pub drop_steps : (target : Target) (room : ℕ) (up down : Port) (state : DropState) (end : ℕ) → IsDropPlan target up.shape down.shape → 0 < room → RunsAsDrop room up down state → JoinsAlike target up end → AreLegalAt up end → AnswersAreOwed down end → GoesInStep false target up down end
+  pub acts : (target : Target) (port : Port) (c : ℕ) → 0 < port.shape.word_bytes → target.shape.word_bytes ≡ port.shape.word_bytes → IsFalse target.shape.has_enables → IsTrue (shows_plain port c) → IsTrue (is_nonempty (operations_in target port.shape (marked_at port c)))
+  pub chain : (ahead : Bool) (first second : LinkForm) (up middle down : Port) (end : ℕ) → first.target ≡ second.target → IsLink first up middle end → IsLink second middle down end → AreLegalAt up end → AnswersAreOwed down end → AreInStep ahead first.target up middle down end →
+      GoesStraightThrough (λ c. ahead) first.target up middle end → GoesStraightThrough (λ c. ahead) first.target middle down end → GoesStraightThrough (λ c. ahead) first.target up down end
+  pub chain_steps : (ahead : Bool) (first second : LinkForm) (up middle down : Port) (end : ℕ) → first.target ≡ second.target → IsLink first up middle end → IsLink second middle down end → AreLegalAt up end → AnswersAreOwed down end → AreInStep ahead first.target up middle down end →
+      GoesStraightThrough (λ c. ahead) first.target up middle end → up.shape.word_bytes ≡ middle.shape.word_bytes → GoesInStep ahead first.target up down end
+  -- prompt
+  pub prompt : (few : ℕ) (may_burst : Bool) (target : Target) (up down : Port) (end : ℕ) → AreLegalAt up end → AreLegalAt down end → BeginsBelow few may_burst target up down end → IsShownPromptly few may_burst target up down end
+  pub pass_begins : (few : ℕ) (may_burst : Bool) (target : Target) (port : Port) (end : ℕ) → AreLegalAt port end → BeginsBelow few may_burst target port port end
+  pub select_begins : (target : Target) (up down : Port) (many room : ℕ) (offsets : ℕ → List ℕ) (end : ℕ) → IsSelectPlan target up.shape down.shape many → 1 < room → RunsAsSelect room up down offsets → EnablesFit up end → AreLegalAt up end → AnswersAreOwed down end →
+      (few : ℕ) (may_burst : Bool) → BeginsBelow few may_burst target up down end
+  pub split_begins : (target : Target) (room count : ℕ) (up down : Port) (state : SplitState) (end : ℕ) → MaySplit target up.shape down.shape count → 0 < room → RunsAsSplit room up down state → AreLegalAt up end → AnswersAreOwed down end →
+      (few : ℕ) (may_burst : Bool) → BeginsBelow few may_burst target up down end
+  pub drop_begins : (target : Target) (room : ℕ) (up down : Port) (state : DropState) (end : ℕ) → IsDropPlan target up.shape down.shape → 0 < room → RunsAsDrop room up down state → JoinsAlike target up end → AreLegalAt up end → AnswersAreOwed down end → (few : ℕ) → BeginsBelow few false target up down end
+  pub split_over_drop : (target : Target) (deep room count : ℕ) (up middle down : Port) (splits : SplitState) (drops : DropState) (end : ℕ) → MaySplit target up.shape middle.shape count → 0 < deep → RunsAsSplit deep up middle splits → IsDropPlan target middle.shape down.shape → 0 < room →
+      RunsAsDrop room middle down drops → JoinsAlike target up end → AreLegalAt up end → AnswersAreOwed down end → (few : ℕ) → 0 < few → BeginsBelow few false target up down end
+  pub burst_over : (target : Target) (up middle down : Port) (state : BurstState) (end few : ℕ) (may_burst : Bool) → IsBurstPlan up.shape middle.shape → RunsAsBurst up middle state → AreLegalAt up end → AnswersAreOwed middle end →
+      BeginsBelow few may_burst target middle down end → BeginsBelow few may_burst target up down end
+  pub cut_over : (target : Target) (longest : ℕ) (up middle down : Port) (state : BurstState) (end few : ℕ) (may_burst : Bool) → IsCutPlan longest up.shape middle.shape → RunsAsCut longest up middle state → AreLegalAt up end → AnswersAreOwed middle end →
+      BeginsBelow few may_burst target middle down end → BeginsBelow few may_burst target up down end
+
+-- an agent before which beats are dropped has no byte enables, so where write bursts to it are counted the host has none either
+pub wired_for_bursts : (target : Target) (low down : Port) (host_has : Bool) → DropsBeats target low down → (IsFalse host_has → IsWired low down) → IsTrue (not host_has || target.shape.has_enables) → IsWired low down
+wired_for_bursts target low down false drops wired may = wired refl
+wired_for_bursts target low down true (no_dropper wired) enables may = wired
+wired_for_bursts target low down true (dropper room state plan some run) enables may = absurd (both_ways target.shape.has_enables plan.enables may)
+
+module _ (laws : LeadLaws) (target : Target) (end : ℕ) where
+  -- ---- straight and in step, between equal words
+
+  record Leads (up down : Port) : Type 0 where
+    pub straight : GoesStraightThrough (λ c. false) target up down end
+    pub step : GoesInStep false target up down end
+
+  -- a cutter of bursts, whichever it is
+  record CutLink (top middle : Port) : Type 0 where
+    pub link : IsLink (burst_form target) top middle end
+    pub some : 0 < top.shape.word_bytes
+    pub same : middle.shape.word_bytes ≡ top.shape.word_bytes
+    pub leads : AreLegalAt top end → AnswersAreOwed middle end → Leads top middle
+
+  drop_leads : (low down : Port) → DropsBeats target low down → AreLegalAt low end → AnswersAreOwed down end → JoinsAlike target low end → Leads low down
+  drop_leads low down (dropper room state plan some run) legal owed alike = record {
+    straight = (laws.drop target room low down state end plan some run alike 0).straight legal owed;
+    step = laws.drop_steps target room low down state end plan some run alike legal owed;
+  }
+  drop_leads low down (no_dropper wired) legal owed alike =
+      subst (λ p. Leads low p) wired.same (record { straight = (laws.wire target low end).straight legal (subst (λ p. AnswersAreOwed p end) (sym wired.same) owed); step = laws.wire_steps false target low end })
+
+  cut_over_drop : (top low down : Port) → CutLink top low → DropsBeats target low down → AreLegalAt top end → AnswersAreOwed down end → AreLegalAt low end → AnswersAreOwed low end → JoinsAlike target low end → Leads top down
+  cut_over_drop top low down cut (no_dropper wired) legal owed legal_low owed_low alike = subst (λ p. Leads top p) wired.same (cut.leads legal owed_low)
+  cut_over_drop top low down cut (dropper room state plan some run) legal owed legal_low owed_low alike = record {
+    straight = laws.chain false (burst_form target) (drop_form target) top low down end refl cut.link link legal owed steps above.straight below.straight;
+    step = laws.chain_steps false (burst_form target) (drop_form target) top low down end refl cut.link link legal owed steps above.straight (sym cut.same);
+  }
+    where
+      above : Leads top low
+      above = cut.leads legal owed_low
+
+      below : Leads low down
+      below = drop_leads low down (dropper room state plan some run) legal_low owed alike
+
+      link : IsLink (drop_form target) low down end
+      link = laws.rows.links.drop target room low down state end plan some run alike
+
+      steps : AreInStep false target top low down end
+      steps = record {
+        words = λ same. cut.same;
+        acts = λ c h plain. laws.acts target top c cut.some (plan.agent ∙ cut.same) plan.enables plain;
+        first = above.step;
+        second = below.step;
+      }
+
+  two_lead : (top low down : Port) → CutsBursts top low → DropsBeats target low down → AreLegalAt top end → AnswersAreOwed down end → AreLegalAt low end → AnswersAreOwed low end → JoinsAlike target low end → Leads top down
+  two_lead top low down (cutter state plan run) drops legal owed legal_low owed_low alike =
+      cut_over_drop top low down (record {
+        link = laws.rows.links.burst target top low state end plan run;
+        some = plan.some;
+        same = plan.same;
+        leads = λ legal owed. record { straight = (laws.burst target top low state end plan run 0 false).straight legal owed; step = laws.burst_steps target top low state end plan run legal owed };
+      }) drops legal owed legal_low owed_low alike
+  two_lead top low down (shorter longest state plan run) drops legal owed legal_low owed_low alike =
+      cut_over_drop top low down (record {
+        link = laws.rows.links.cut target longest top low state end plan run;
+        some = plan.some;
+        same = plan.same;
+        leads = λ legal owed. record { straight = (laws.cut target longest top low state end plan run 0 false).straight legal owed; step = laws.cut_steps target longest top low state end plan run legal owed };
+      }) drops legal owed legal_low owed_low alike
+  two_lead top low down (no_cutter wired) drops legal owed legal_low owed_low alike = subst (λ p. Leads p down) (sym wired.same) (drop_leads low down drops legal_low owed alike)
+
+  -- ---- the row
+
+  module _ (top middle low down : Port) (cuts : CutsBursts top middle) (fits : FitsWords target middle low) (drops : DropsBeats target low down) (enables : EnablesFit top end) (legal : AreLegalAt top end) (owed : AnswersAreOwed down end) (alike : JoinsAlike target top end) where
+    fit_middle : EnablesFit middle end
+    fit_middle = enables_below end cuts enables
+
+    high : Carries target top middle end
+    high = linked_carries (cut_linked laws.rows target top middle cuts end)
+
+    mid : Carries target middle low end
+    mid = linked_carries (fit_linked laws.rows target middle low fits end fit_middle)
+
+    last : (c : ℕ) → JoinsAlike target low c → Carries target low down c
+    last c there = linked_carries (drop_linked laws.rows target low down drops c there)
+
+    between : IsSettled target top middle low down end legal owed alike high mid last end
+    between = settled target top middle low down end legal owed alike high mid last end (le_refl end)
+
+    row_leads : (middle.shape.word_bytes ≡ low.shape.word_bytes → IsWired middle low) → top.shape.word_bytes ≡ down.shape.word_bytes → Leads top down
+    row_leads equal same =
+        let wired = equal ((cut_words cuts).same ∙ same ∙ (drop_words drops).same) in
+        two_lead top low down (subst (λ p. CutsBursts top p) wired.same cuts) drops legal owed between.legal_low between.owed_low between.alike_low
+
+    pub row_is_straight : (middle.shape.word_bytes ≡ low.shape.word_bytes → IsWired middle low) → GoesStraightThrough (λ c. false) target top down end
+    row_is_straight equal = record {
+      shown = λ c h same. (row_leads equal same).straight.shown c h same;
+      accepted = λ c h same. (row_leads equal same).straight.accepted c h same;
+      kept = λ c h same. (row_leads equal same).straight.kept c h same;
+    }
+
+    pub row_is_in_step : (middle.shape.word_bytes ≡ low.shape.word_bytes → IsWired middle low) → top.shape.word_bytes ≡ down.shape.word_bytes → GoesInStep false target top down end
+    row_is_in_step equal same = (row_leads equal same).step
+
+    module _ (few : ℕ) (may_burst : Bool) (later : 0 < few) where
+      fit_begins : FitsWords target middle low → BeginsBelow few may_burst target middle low end
+      fit_begins (selector many room offsets plan deep run) = laws.select_begins target middle low many room offsets end plan deep run fit_middle between.legal_middle between.owed_low few may_burst
+      fit_begins (splitter count room state may some run) = laws.split_begins target room count middle low state end may some run between.legal_middle between.owed_low few may_burst
+      fit_begins (no_width wired) = subst (λ p. BeginsBelow few may_burst target middle p end) wired.same (laws.pass_begins few may_burst target middle end between.legal_middle)
+
+      single_begins : FitsWords target middle low → (room : ℕ) (state : DropState) → IsDropPlan target low.shape down.shape → 0 < room → RunsAsDrop room low down state → BeginsBelow few false target middle down end
+      single_begins (selector many deep offsets above some_deep select) room state plan some run = absurd (both_ways target.shape.has_enables plan.enables above.enables)
+      single_begins (splitter count deep splits may some_deep split) room state plan some run =
+          laws.split_over_drop target deep room count middle low down splits state end may some_deep split plan some run between.alike_middle between.legal_middle owed few later
+      single_begins (no_width wired) room state plan some run =
+          subst (λ p. BeginsBelow few false target p down end) (sym wired.same) (laws.drop_begins target room low down state end plan some run between.alike_low between.legal_low owed few)
+
+      lower_begins : (IsTrue may_burst → IsWired low down) → BeginsBelow few may_burst target middle down end
+      lower_begins single = by_burst may_burst refl drops
+        where
+          wired_below : IsWired low down → BeginsBelow few may_burst target middle down end
+          wired_below wired = subst (λ p. BeginsBelow few may_burst target middle p end) wired.same (fit_begins fits)
+
+          by_burst : (b : Bool) → may_burst ≡ b → DropsBeats target low down → BeginsBelow few may_burst target middle down end
+          by_burst true e any = wired_below (single e)
+          by_burst false e (no_dropper wired) = wired_below wired
+          by_burst false e (dropper room state plan some run) = subst (λ b. BeginsBelow few b target middle down end) (sym e) (single_begins fits room state plan some run)
+
+      upper_begins : CutsBursts top middle → BeginsBelow few may_burst target middle down end → BeginsBelow few may_burst target top down end
+      upper_begins (cutter state plan run) below = laws.burst_over target top middle down state end few may_burst plan run legal between.owed_middle below
+      upper_begins (shorter longest state plan run) below = laws.cut_over target longest top middle down state end few may_burst plan run legal between.owed_middle below
+      upper_begins (no_cutter wired) below = subst (λ p. BeginsBelow few may_burst target p down end) (sym wired.same) below
+
+      legal_below : AreLegalAt down end
+      legal_below = ((last end between.alike_low).carries.commands end (le_refl end) between.legal_low (λ k less. owed k (omega (arith, less)))).legal
+
+      pub row_is_prompt : (IsTrue may_burst → IsWired low down) → IsShownPromptly few may_burst target top down end
+      row_is_prompt single = laws.prompt few may_burst target top down end legal legal_below (upper_begins cuts (lower_begins single))

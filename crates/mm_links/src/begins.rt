@@ -1,0 +1,54 @@
+//! How links begin below what waits above, so that rows of them are prompt.
+
+ghost use Rattle.std.specs.Prelude.{◌<◌, ℕ, Bool, List, false};
+ghost use Rattle.mm_machines.specs.Link.{Target, Port, AreLegalAt, AnswersAreOwed};
+ghost use Rattle.mm_machines.specs.Machines.{MaySplit};
+ghost use Rattle.mm_machines.specs.PartRanks.{JoinsAlike};
+ghost use Rattle.mm_machines.specs.Straight.{IsShownPromptly};
+ghost use Rattle.mm_links.specs.Begins.{BeginsBelow};
+ghost use Rattle.mm_links.specs.Bursts.{BurstState, RunsAsBurst, IsBurstPlan};
+ghost use Rattle.mm_links.specs.Cuts.{RunsAsCut, IsCutPlan};
+ghost use Rattle.mm_links.specs.Drops.{DropState, RunsAsDrop, IsDropPlan};
+ghost use Rattle.mm_links.specs.Selects.{RunsAsSelect, IsSelectPlan, EnablesFit};
+ghost use Rattle.mm_links.specs.Splits.{SplitState, RunsAsSplit};
+
+/// A link, or a row of links, that begins below what waits above shows first beats promptly.
+pub fn what_begins_is_prompt()
+    ensures { (few : ℕ) (may_burst : Bool) (target : Target) (up down : Port) (end : ℕ) → AreLegalAt up end → AreLegalAt down end
+        → BeginsBelow few may_burst target up down end → IsShownPromptly few may_burst target up down end }
+{}
+
+/// A wire, a lane selector and a splitter begin below what waits above, in its own cycle. So does what drops beats, but for a write that another may follow, which it keeps.
+pub fn links_begin_below()
+    ensures pass { (few : ℕ) (may_burst : Bool) (target : Target) (port : Port) (end : ℕ) → AreLegalAt port end → BeginsBelow few may_burst target port port end }
+    ensures select { (target : Target) (up down : Port) (many room : ℕ) (offsets : ℕ → List ℕ) (end : ℕ) → IsSelectPlan target up.shape down.shape many
+        → 1 < room → RunsAsSelect room up down offsets → EnablesFit up end → AreLegalAt up end → AnswersAreOwed down end → (few : ℕ) (may_burst : Bool) → BeginsBelow few may_burst target up down end }
+    ensures split { (target : Target) (room count : ℕ) (up down : Port) (state : SplitState) (end : ℕ) → MaySplit target up.shape down.shape count
+        → 0 < room → RunsAsSplit room up down state → AreLegalAt up end → AnswersAreOwed down end → (few : ℕ) (may_burst : Bool) → BeginsBelow few may_burst target up down end }
+    ensures drop { (target : Target) (room : ℕ) (up down : Port) (state : DropState) (end : ℕ) → IsDropPlan target up.shape down.shape
+        → 0 < room → RunsAsDrop room up down state → JoinsAlike target up end → AreLegalAt up end → AnswersAreOwed down end → (few : ℕ) → BeginsBelow few false target up down end }
+{
+    mm_machines::machines::beat_is_selected();
+    mm_machines::machines::split_carries();
+    mm_machines::machines::beat_is_pieces();
+    mm_machines::links::link_is_a_row();
+    mm_machines::wires::wire_is_a_link()
+}
+
+/// A splitter over what drops beats begins a transfer below one cycle later at the latest: a first piece that is kept goes on with the second one.
+pub fn split_begins_over_drop()
+    ensures { (target : Target) (deep room count : ℕ) (up middle down : Port) (splits : SplitState) (drops : DropState) (end : ℕ) → MaySplit target up.shape middle.shape count → 0 < deep → RunsAsSplit deep up middle splits
+        → IsDropPlan target middle.shape down.shape → 0 < room → RunsAsDrop room middle down drops → JoinsAlike target up end → AreLegalAt up end → AnswersAreOwed down end
+        → (few : ℕ) → 0 < few → BeginsBelow few false target up down end }
+{
+    mm_machines::machines::split_carries();
+    mm_machines::machines::beat_is_pieces()
+}
+
+/// A cutter of bursts over a link, or a row of links, that begins below what waits above does so with it, in as many cycles.
+pub fn cutters_begin_over_links()
+    ensures burst { (target : Target) (up middle down : Port) (state : BurstState) (end few : ℕ) (may_burst : Bool) → IsBurstPlan up.shape middle.shape → RunsAsBurst up middle state
+        → AreLegalAt up end → AnswersAreOwed middle end → BeginsBelow few may_burst target middle down end → BeginsBelow few may_burst target up down end }
+    ensures cut { (target : Target) (longest : ℕ) (up middle down : Port) (state : BurstState) (end few : ℕ) (may_burst : Bool) → IsCutPlan longest up.shape middle.shape → RunsAsCut longest up middle state
+        → AreLegalAt up end → AnswersAreOwed middle end → BeginsBelow few may_burst target middle down end → BeginsBelow few may_burst target up down end }
+{}
