@@ -21,3 +21,4 @@ pub mod LineRuns
 pub mod PartTwins
 mod AheadKept
 pub mod Swallows
+pub mod WidthKept

@@ -17,3 +17,4 @@ pub mod LineRows
 pub mod PartTwins
 pub mod LinkRuns
 pub mod AheadRows
+pub mod WidthSystem
