@@ -21,4 +21,6 @@ pub mod LineRuns
 pub mod PartTwins
 mod AheadKept
 pub mod Swallows
+pub mod TwoByTwo
+pub mod Tables
 pub mod WidthKept

@@ -1,6 +1,6 @@
 -- A right system with width changes: host 0 has words of four bytes and host 1 of two, agent 0 of four and agent 1 of two. A splitter leads from host 0 to agent 1, a lane selector from host 1 to agent 0; the other two pairs are wired.
 -- Host 0 writes to agent 1, reads it, reads no agent and writes to agent 0. Host 1 writes to agent 0, reads it, where it waits once, and writes to agent 1, where it waits for its turn.
-use Rattle.std.specs.Prelude.{◌≡◌, ℕ, zero, suc, ◌+◌, ◌*◌, true, false, List, [], ◌∷◌, Option, Some, None, nat_eq, nat_lt, if◌then◌else◌}
+use Rattle.std.specs.Prelude.{ℕ, zero, suc, true, false, List, [], ◌∷◌, Option, Some, None, nat_lt, if◌then◌else◌}
 use Rattle.mm_runs.specs.Views.{Signals, Shape, System, Run}
 use Rattle.mm_runs.specs.Commands.{byte_address}
 use Rattle.mm_machines.specs.Paths.{AnswerView}
@@ -8,49 +8,19 @@ use Rattle.mm_machines.specs.Link.{Port}
 use Rattle.mm_machines.specs.Lines.{TaggedPort}
 use Rattle.mm_machines.specs.Machines.{Stage}
 use Rattle.mm_machines.specs.Turns.{grant_before, seats_of}
-use Rattle.mm_parts.specs.Queue.{Entry, queue_after}
 use Rattle.mm_parts.specs.Route.{kind_at}
 use Rattle.mm_links.specs.Driven.{SelectInputs, SplitInputs, select_above, select_below, split_above, split_below}
 use Rattle.mm_awake.specs.RowSystem.{RowPorts}
 use Rattle.mm_awake.specs.Theorem.{States}
 use Rattle.mm_examples.specs.Examples.{signal, always, quiet}
 use Rattle.mm_examples.specs.PartRows.{answers_in}
-
--- by the number of a host or an agent
-abbrev pub first_or : {A : Type 0} → A → A → ℕ → A
-first_or {A} first second number = if nat_eq number 0 then first else second
+use Rattle.mm_examples.specs.TwoByTwo.{first_or, of_two, plain_shape, small_agent, two_by_two, gated, reads_queued}
 
 abbrev pub bytes_of : ℕ → ℕ
 bytes_of number = first_or 4 2 number
 
-abbrev pub plain_shape : ℕ → Shape
-plain_shape bytes = record { word_bytes = bytes; unit_bytes = 1; burst_bits = 1; has_enables = true }
-
 abbrev pub width_system : System
-width_system = record {
-  hosts = 2;
-  agents = 2;
-  host = λ h. record { shape = plain_shape (bytes_of h); has_burst = false; has_readdatavalid = true; has_response = false };
-  agent = λ a. record {
-    shape = record (plain_shape (bytes_of a)) { unit_bytes = bytes_of a };
-    has_read = true;
-    has_write = true;
-    has_burst = false;
-    has_waitrequest = true;
-    has_readdatavalid = true;
-    has_response = false;
-    read_latency = 0;
-    read_wait = 0;
-    write_wait = 0;
-    pending = 2;
-    span = 16;
-  };
-  place = λ h kind address. if nat_lt address 16 then Some 0 else if nat_lt address 32 then Some 1 else None;
-  base = λ h a. a * 16;
-  joined = λ a. 0 ∷ 1 ∷ [];
-  shares = λ h a. 1;
-  stages = 0;
-}
+width_system = two_by_two (λ h. record { shape = plain_shape (bytes_of h); has_burst = false; has_readdatavalid = true; has_response = false }) (λ a. small_agent (bytes_of a) true) 0
 
 -- ---- what the hosts show: a beat that waits stands on
 
@@ -64,7 +34,7 @@ abbrev pub second_host : Signals
 second_host = beats (0 ∷ 1 ∷ 1 ∷ []) (1 ∷ 0 ∷ 0 ∷ 1 ∷ 1 ∷ []) (2 ∷ 2 ∷ 2 ∷ 24 ∷ 24 ∷ []) (0xbbaa ∷ 0 ∷ 0 ∷ 0xddcc ∷ 0xddcc ∷ []) 3
 
 abbrev pub asked : ℕ → Signals
-asked h = if nat_eq h 0 then first_host else if nat_eq h 1 then second_host else quiet
+asked h = of_two first_host second_host quiet h
 
 -- ---- the boundaries
 
@@ -76,10 +46,6 @@ abbrev pub after_host : ℕ → Port
 after_host h = port_with (plain_shape (bytes_of h)) (asked h) (always 0)
     (signal (first_or (1 ∷ 0 ∷ 1 ∷ 0 ∷ 1 ∷ 0 ∷ 0 ∷ 1 ∷ []) (0 ∷ 1 ∷ 0 ∷ 1 ∷ 0 ∷ 1 ∷ 1 ∷ 1 ∷ []) h))
     (first_or (answers_in (0 ∷ 0 ∷ 0 ∷ 0 ∷ 1 ∷ 0 ∷ 1 ∷ []) (0 ∷ 0 ∷ 0 ∷ 0 ∷ 0x44332211 ∷ [])) (answers_in (0 ∷ 0 ∷ 0 ∷ 1 ∷ []) (0 ∷ 0 ∷ 0 ∷ 0xbbaa ∷ [])) h)
-
--- those of a host's beats that go to one agent
-abbrev pub gated : ℕ → List ℕ → List ℕ → Signals
-gated h read write = record (asked h) { read = signal read; write = signal write }
 
 -- the words of the agents
 abbrev pub given_by : ℕ → AnswerView
@@ -96,7 +62,7 @@ splitting = record {
   narrow = plain_shape 2;
   room = 2;
   inputs = record {
-    signals = gated 0 (0 ∷ 0 ∷ 1 ∷ 1 ∷ []) (1 ∷ 1 ∷ []);
+    signals = gated first_host (0 ∷ 0 ∷ 1 ∷ 1 ∷ []) (1 ∷ 1 ∷ []);
     more = always 0;
     tag = always 0;
     waitrequest = signal (0 ∷ 0 ∷ 0 ∷ 0 ∷ 1 ∷ 1 ∷ 1 ∷ 1 ∷ []);
@@ -111,7 +77,7 @@ selecting = record {
   wide = plain_shape 4;
   room = 2;
   inputs = record {
-    signals = gated 1 (0 ∷ 1 ∷ 1 ∷ []) (1 ∷ []);
+    signals = gated second_host (0 ∷ 1 ∷ 1 ∷ []) (1 ∷ []);
     more = always 0;
     tag = always 1;
     waitrequest = signal (0 ∷ 1 ∷ 0 ∷ 1 ∷ 1 ∷ 1 ∷ 1 ∷ 1 ∷ []);
@@ -120,26 +86,20 @@ selecting = record {
 }
 
 abbrev pub first_wire : Port
-first_wire = port_with (plain_shape 4) (gated 0 [] (0 ∷ 0 ∷ 0 ∷ 0 ∷ 0 ∷ 0 ∷ 1 ∷ [])) (always 0) (signal (1 ∷ 1 ∷ 1 ∷ 1 ∷ 1 ∷ 1 ∷ 0 ∷ 1 ∷ [])) (withheld (given_by 0))
+first_wire = port_with (plain_shape 4) (gated first_host [] (0 ∷ 0 ∷ 0 ∷ 0 ∷ 0 ∷ 0 ∷ 1 ∷ [])) (always 0) (signal (1 ∷ 1 ∷ 1 ∷ 1 ∷ 1 ∷ 1 ∷ 0 ∷ 1 ∷ [])) (withheld (given_by 0))
 
 abbrev pub second_wire : Port
-second_wire = port_with (plain_shape 2) (gated 1 [] (0 ∷ 0 ∷ 0 ∷ 1 ∷ 1 ∷ [])) (always 1) (signal (1 ∷ 1 ∷ 1 ∷ 1 ∷ 0 ∷ 1 ∷ 1 ∷ 1 ∷ [])) (withheld (given_by 1))
+second_wire = port_with (plain_shape 2) (gated second_host [] (0 ∷ 0 ∷ 0 ∷ 1 ∷ 1 ∷ [])) (always 1) (signal (1 ∷ 1 ∷ 1 ∷ 1 ∷ 0 ∷ 1 ∷ 1 ∷ 1 ∷ [])) (withheld (given_by 1))
 
 -- hosts past the second show nothing
 abbrev pub no_port : Port
 no_port = port_with (plain_shape 2) quiet (always 0) (always 0) (withheld (given_by 1))
 
 abbrev pub after_route : ℕ → ℕ → Port
-after_route h a =
-    if nat_eq h 0 then first_or first_wire (split_above splitting) a
-    else if nat_eq h 1 then first_or (select_above selecting) second_wire a
-    else no_port
+after_route h a = of_two (first_or first_wire (split_above splitting) a) (first_or (select_above selecting) second_wire a) no_port h
 
 abbrev pub before_arbiter : ℕ → ℕ → Port
-before_arbiter h a =
-    if nat_eq h 0 then first_or first_wire (split_below splitting) a
-    else if nat_eq h 1 then first_or (select_below selecting) second_wire a
-    else no_port
+before_arbiter h a = of_two (first_or first_wire (split_below splitting) a) (first_or (select_below selecting) second_wire a) no_port h
 
 -- before the agents: beats of four bytes at agent 0; at agent 1 those of host 0 in two pieces, and one of host 1
 abbrev pub before_agent : ℕ → TaggedPort
@@ -185,17 +145,13 @@ width_run = record {
 
 -- ---- the registers
 
-abbrev pub reads_queued : Port → ℕ → List Entry
-reads_queued port zero = []
-reads_queued port (suc c) = queue_after port port.answers.valid (reads_queued port c) c
-
 abbrev pub place_before : ℕ → ℕ → Option ℕ
 place_before h zero = None
 place_before h (suc c) = width_system.place h (kind_at (after_host h) c) (byte_address (plain_shape (bytes_of h)) ((asked h).address c))
 
 -- the place of the last read that was taken
 abbrev pub owing_by : ℕ → ℕ → Option ℕ
-owing_by h c = if nat_eq h 0 then (if nat_lt c 4 then None else if nat_lt c 6 then Some 1 else None) else if nat_lt c 3 then None else Some 0
+owing_by h c = first_or (if nat_lt c 4 then None else if nat_lt c 6 then Some 1 else None) (if nat_lt c 3 then None else Some 0) h
 
 -- there is no stage: this one is of no boundary
 abbrev pub no_stage : Stage
