@@ -24,3 +24,4 @@ pub mod Swallows
 pub mod TwoByTwo
 pub mod Tables
 pub mod WidthKept
+pub mod BurstKept

@@ -46,7 +46,7 @@ by_bound n test all i low = each_below (λ i. IsTrue (test i)) n i (all_below n 
 one : {n : ℕ} {test : ℕ → Bool} → EachOne n test → (i : ℕ) → i < n → IsTrue (test i)
 one {n} {test} all i low = by_bound n test all.holds i low
 
-each : {n end : ℕ} {test : ℕ → ℕ → Bool} → Each n end test → (i : ℕ) → i < n → (c : ℕ) → c < end → IsTrue (test i c)
+pub each : {n end : ℕ} {test : ℕ → ℕ → Bool} → Each n end test → (i : ℕ) → i < n → (c : ℕ) → c < end → IsTrue (test i c)
 each {n} {end} {test} all i low c fit = by_bound end (test i) (by_bound n (λ i. below end (test i)) all.holds i low) c fit
 
 each_pair : {n m end : ℕ} {test : ℕ → ℕ → ℕ → Bool} → EachPair n m end test → (i : ℕ) → i < n → (j c : ℕ) → j < m → c < end → IsTrue (test i j c)
