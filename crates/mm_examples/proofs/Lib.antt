@@ -23,3 +23,7 @@ mod AheadKept
 pub mod Swallows
 mod HeldReads
 pub mod HeldBurst
+pub mod TwoByTwo
+pub mod Tables
+pub mod WidthKept
+pub mod BurstKept

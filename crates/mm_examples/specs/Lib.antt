@@ -17,3 +17,6 @@ pub mod LineRows
 pub mod PartTwins
 pub mod LinkRuns
 pub mod AheadRows
+pub mod TwoByTwo
+pub mod WidthSystem
+pub mod BurstSystem

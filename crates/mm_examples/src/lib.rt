@@ -4,6 +4,7 @@
 pub mod awake;
 pub mod links;
 pub mod parts;
+pub mod rows;
 
 ghost use Rattle.std.specs.Prelude.{◌≡◌, ◌-◌, ◌∷◌, ◌++◌, [], true, false, ℕ, None, map, length, replicate};
 ghost use Rattle.histories.specs.History.{before, numbers};
