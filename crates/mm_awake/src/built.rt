@@ -1,13 +1,25 @@
 //! What the parts of a system of machines keep.
 
-ghost use Rattle.std.specs.Prelude.{ℕ, ◌<◌, IsTrue};
+ghost use Rattle.std.specs.Prelude.{◌≡◌, ℕ, ◌*◌, ◌<◌, IsTrue};
 ghost use Rattle.mm_runs.specs.Views.{Responses, System, Run};
+ghost use Rattle.mm_runs.specs.Commands.{longest_burst};
+ghost use Rattle.mm_runs.specs.Plan.{IsMemoryPlan};
 ghost use Rattle.mm_runs.specs.Whole.{IsLegalRun};
 ghost use Rattle.mm_machines.specs.Settled.{IsSettled};
 ghost use Rattle.mm_awake.specs.Ahead.{LeadsAhead};
 ghost use Rattle.mm_awake.specs.Approach.{IsAwake};
 ghost use Rattle.mm_awake.specs.Fair.{AreParts};
 ghost use Rattle.mm_awake.specs.Theorem.{Boundaries, States, LinkRanks, ArePlanned, KeepLines, KeepRows, AreMachines, IsBuilt, approach_of, inside_of, ways_of};
+
+/// What systems of machines ask of the plan follows from the rules on connections and maps, where the register of each route counts far enough.
+pub fn memory_plans_are_planned()
+    ensures { (system : System) (inside : Boundaries) (states : States) → IsMemoryPlan system
+        → ((h : ℕ) → h < system.hosts → (inside.after_host h).shape.word_bytes ≡ (system.host h).word_bytes)
+        → ((h : ℕ) → h < system.hosts → 16 * longest_burst (inside.after_host h).shape.burst_bits < states.room h)
+        → ArePlanned system inside states }
+{
+    mm_parts::plans::plans_suit_machines()
+}
 
 /// The machines next to the hosts, the routes, the arbiters and the machines next to the agents keep their lines.
 pub fn machines_keep_their_lines()
