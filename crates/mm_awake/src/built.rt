@@ -42,7 +42,7 @@ pub fn machines_settle()
     mm_machines::settled::lines_settle()
 }
 
-/// In a system of machines each part keeps its record, what leads to each agent is as the theorem on wanted agents asks, and what leads to one with readdatavalid as reads that travel ahead ask.
+/// In a system of machines the parts next to the hosts, the routes and the arbiters keep the equations of their records, each stage holds back two beats at most, and the part next to an agent none. What leads to each agent is as the theorem on wanted agents asks, and what leads to one with readdatavalid as reads that travel ahead ask.
 pub fn machines_keep_their_records()
     ensures parts { (responses : Responses) (system : System) (run : Run) (inside : Boundaries) (states : States) (ranks : LinkRanks) (end : ℕ)
         → IsBuilt responses system run inside states ranks end → IsLegalRun system run end → AreParts system run inside end }
