@@ -1,17 +1,14 @@
 -- A plain system of machines is built.
-use Rattle.std.proofs.Common.{ℕ, ◌≡◌, ◌<◌, List, [], ◌∷◌, map, nat_eq, arith, refl, IsTrue}
-use Rattle.std.specs.List.{list_any}
-use Rattle.ranks.specs.Turns.{AllShare}
-use Rattle.mm_runs.specs.Views.{System, Run, Responses, Shape}
+use Rattle.std.proofs.Common.{ℕ, ◌≡◌, ◌*◌, ◌<◌, arith, refl}
+use Rattle.mm_runs.specs.Views.{System, Run, Responses}
+use Rattle.mm_runs.specs.Commands.{longest_burst}
 use Rattle.mm_runs.specs.Plan.{IsMemoryPlan, AreViews}
 use Rattle.mm_runs.specs.Whole.{IsLegalRun}
 use Rattle.mm_machines.specs.Link.{Port, Target, AreLegalAt}
 use Rattle.mm_machines.specs.Lines.{target_of}
 use Rattle.mm_machines.specs.Settled.{IsSettled}
 use Rattle.mm_links.specs.Going.{KeepsGoing}
-use Rattle.mm_parts.specs.Agent.{IsAgentPlan}
 use Rattle.mm_parts.specs.Host.{ReadsWords}
-use Rattle.mm_parts.specs.Route.{IsRoutePlan}
 use Rattle.mm_parts.specs.Steps.{AreSilentPast}
 use Rattle.mm_parts.specs.System.{RunsAsMachines}
 use Rattle.mm_parts.specs.SystemRun.{PlainPlan, Outside, Registers, plain_system, registers_of, ports_run, inside_run, states_run, before_arbiter}
@@ -21,19 +18,13 @@ use Rattle.mm_awake.specs.Theorem.{Boundaries, States, ArePlanned, KeepRows, Are
 use Rattle.mm_awake.proofs.LinksPass.{on_while_still}
 
 pub record Laws : Type 0 where
-  pub agent_plan : (system : System) → IsMemoryPlan system → (a : ℕ) → a < system.agents → IsAgentPlan (system.agent a)
-  pub route_plan : (system : System) → IsMemoryPlan system → (h : ℕ) (shape : Shape) → h < system.hosts → shape.word_bytes ≡ (system.host h).word_bytes → IsRoutePlan system h shape
+  pub planned : (system : System) (inside : Boundaries) (states : States) → IsMemoryPlan system → ((h : ℕ) → h < system.hosts → (inside.after_host h).shape.word_bytes ≡ (system.host h).word_bytes) →
+      ((h : ℕ) → h < system.hosts → 16 * longest_burst (inside.after_host h).shape.burst_bits < states.room h) → ArePlanned system inside states
   pub reads_words : (system : System) (run : Run) (h end : ℕ) → AreViews system run end → h < system.hosts → ReadsWords (system.host h) (run.at_host h) end
   pub settle : (responses : Responses) (system : System) (run : Run) (inside : Boundaries) (states : States) (end : ℕ) → ArePlanned system inside states → KeepRows system run inside states end → AreMachines responses system run inside states end → IsLegalRun system run end →
       IsSettled system run (inside_of system inside) states.room end
   pub going : (target : Target) (port : Port) (end : ℕ) → AreLegalAt port end → KeepsGoing target port port (λ c. 0) 0 end
   pub pass : (port : Port) (end : ℕ) → PassesOn (record { hold = 0; kept = 0 }) port port end
-
--- a joined host has shares, so each seat has some
-seats_share : (system : System) (agent : ℕ) (order : List ℕ) → ((h : ℕ) → IsTrue (list_any (nat_eq h) order) → 0 < system.shares h agent) →
-    AllShare (map (λ host. record { host = host; shares = system.shares host agent }) order)
-seats_share system agent [] share = cc
-seats_share system agent (x ∷ order) share = (share x (grind arith), seats_share system agent order (λ h is. share h (grind arith)))
 
 module _ (laws : Laws) (responses : Responses) (plan : PlainPlan) (outside : Outside) (end : ℕ) where
   abbrev system : System
@@ -52,16 +43,7 @@ module _ (laws : Laws) (responses : Responses) (plan : PlainPlan) (outside : Out
   module _ (is_plan : IsMemoryPlan system) (views : AreViews system run end) (machines : RunsAsMachines responses system run (inside_run responses plan outside registers) (states_run responses plan outside registers) (record { links = 0; pipe = 0 }) end)
       (quiet : AreQuietPast plan outside) (legal : IsLegalRun system run end) where
     planned : ArePlanned system (wired_inside responses plan outside registers) (wired_states responses plan outside registers machines.room)
-    planned = record {
-      few_stages = omega arith;
-      few_hosts = is_plan.few_hosts;
-      joined = is_plan.joined;
-      shares = λ a there. seats_share system a (plan.joined a) (λ h is. let some = is_plan.shares a h is in omega (arith, some));
-      plain = is_plan.plain;
-      places = λ h low. laws.route_plan system is_plan h _ low refl;
-      agents = laws.agent_plan system is_plan;
-      rooms = machines.large;
-    }
+    planned = laws.planned system (wired_inside responses plan outside registers) (wired_states responses plan outside registers machines.room) is_plan (λ h low. refl) machines.large
 
     rows : KeepRows system run (wired_inside responses plan outside registers) (wired_states responses plan outside registers machines.room) end
     rows = record { link_hold = 0; pipe_hold = 0; few = omega arith; links = machines.links; lanes = machines.lanes; words = machines.words; pipe = machines.pipe }

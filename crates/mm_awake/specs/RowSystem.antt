@@ -26,7 +26,7 @@ boundaries_of ports = record {
   lower = ports.lower;
 }
 
--- every link is its machine or a wire
+-- every link is its machine or a wire, below hosts whose levels fit their ports
 pub record AreRows (system : System) (run : Run) (ports : RowPorts) (end : ℕ) : Type 0 where
   -- what each host shows fits its ports, whose absent byteenable reads as all ones
   pub views : (h : ℕ) → h < system.hosts → FitsPorts (system.host h).shape (system.host h).has_burst (run.at_host h).signals end

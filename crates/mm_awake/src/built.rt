@@ -1,13 +1,25 @@
 //! What the parts of a system of machines keep.
 
-ghost use Rattle.std.specs.Prelude.{ℕ, ◌<◌, IsTrue};
+ghost use Rattle.std.specs.Prelude.{◌≡◌, ℕ, ◌*◌, ◌<◌, IsTrue};
 ghost use Rattle.mm_runs.specs.Views.{Responses, System, Run};
+ghost use Rattle.mm_runs.specs.Commands.{longest_burst};
+ghost use Rattle.mm_runs.specs.Plan.{IsMemoryPlan};
 ghost use Rattle.mm_runs.specs.Whole.{IsLegalRun};
 ghost use Rattle.mm_machines.specs.Settled.{IsSettled};
 ghost use Rattle.mm_awake.specs.Ahead.{LeadsAhead};
 ghost use Rattle.mm_awake.specs.Approach.{IsAwake};
 ghost use Rattle.mm_awake.specs.Fair.{AreParts};
 ghost use Rattle.mm_awake.specs.Theorem.{Boundaries, States, LinkRanks, ArePlanned, KeepLines, KeepRows, AreMachines, IsBuilt, approach_of, inside_of, ways_of};
+
+/// What systems of machines ask of the plan follows from the rules on connections and maps, where the register of each route counts far enough.
+pub fn memory_plans_are_planned()
+    ensures { (system : System) (inside : Boundaries) (states : States) → IsMemoryPlan system
+        → ((h : ℕ) → h < system.hosts → (inside.after_host h).shape.word_bytes ≡ (system.host h).word_bytes)
+        → ((h : ℕ) → h < system.hosts → 16 * longest_burst (inside.after_host h).shape.burst_bits < states.room h)
+        → ArePlanned system inside states }
+{
+    mm_parts::plans::plans_suit_machines()
+}
 
 /// The machines next to the hosts, the routes, the arbiters and the machines next to the agents keep their lines.
 pub fn machines_keep_their_lines()
@@ -30,7 +42,7 @@ pub fn machines_settle()
     mm_machines::settled::lines_settle()
 }
 
-/// In a system of machines each part keeps its record, what leads to each agent is as the theorem on wanted agents asks, and what leads to one with readdatavalid as reads that travel ahead ask.
+/// In a system of machines the parts next to the hosts, the routes and the arbiters keep the equations of their records, each stage holds back two beats at most, and the part next to an agent none. What leads to each agent is as the theorem on wanted agents asks, and what leads to one with readdatavalid as reads that travel ahead ask.
 pub fn machines_keep_their_records()
     ensures parts { (responses : Responses) (system : System) (run : Run) (inside : Boundaries) (states : States) (ranks : LinkRanks) (end : ℕ)
         → IsBuilt responses system run inside states ranks end → IsLegalRun system run end → AreParts system run inside end }

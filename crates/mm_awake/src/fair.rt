@@ -17,7 +17,7 @@ ghost use Rattle.mm_machines.specs.Turns.{seats_of, others_begun, IsKeptAsking};
 ghost use Rattle.mm_parts.specs.Steps.{IsArbiterPart, IsHostPart, IsRoutePart, has_room};
 ghost use Rattle.mm_awake.specs.Ways.{count_in};
 ghost use Rattle.mm_awake.specs.Theorem.{Boundaries, States, LinkRanks, IsBuilt};
-ghost use Rattle.mm_awake.specs.Fair.{are_apart, AllAskPlainly, AreAmong, AsksWithin, BeginsByTurns, IsPlainAt, HandsWritesOn, HandsPlainWrites, may_burst_to, LeadsFairly, AreParts, WaitsAlone, WaitsBefore};
+ghost use Rattle.mm_awake.specs.Fair.{are_apart, AllAskPlainly, AreAmong, AsksWithin, BeginsByTurns, IsPlainAt, HandsWritesOn, HandsPlainWrites, may_burst_to, LeadsFairly, WaitsAlone, WaitsBefore};
 
 /// In a system of machines whose links hand plain writes on, where each host that is joined to an agent shows a plain write for it in every cycle of a window, and has finished its earlier commands as the window begins, the commands that are taken behind its arbiter stand in full turns.
 pub fn plain_writers_take_full_turns()
@@ -30,7 +30,7 @@ pub fn plain_writers_take_full_turns()
 {
     asking_hosts_take_full_turns();
     plain_writes_go_on();
-    machines_are_parts()
+    crate::built::machines_keep_their_records()
 }
 
 /// A system of machines is fair, where its links hand plain writes on in their cycle and show a waiting host's operation at its arbiter within 30 cycles: few others pass a waiting command, and hosts that write without gaps take turns by their shares.
@@ -67,7 +67,7 @@ pub fn straight_links_hand_on()
 {
     commands_begin_by_turns();
     plain_writes_go_on();
-    machines_are_parts()
+    crate::built::machines_keep_their_records()
 }
 
 /// In a system of machines plain commands of a host that is wired to an arbiter go straight there, in step, and its first beats are shown at once.
@@ -79,7 +79,7 @@ pub fn wires_lead_fairly()
 {
     mm_links::rows::pass_is_a_link();
     mm_links::rows::pass_goes_in_step();
-    machines_are_parts()
+    crate::built::machines_keep_their_records()
 }
 
 /// A system of machines is fair where each host is wired to the arbiters of its agents, and is joined to none twice.
@@ -104,7 +104,7 @@ pub fn wired_hosts_ask_while_waiting()
         → AsksWithin late system run up agent end → AsksWithin more system run up agent end }
 {
     waiting_hosts_ask();
-    machines_are_parts()
+    crate::built::machines_keep_their_records()
 }
 
 /// In a system of machines, where the links of each host that is joined to an agent show first beats promptly, an operation of a host that waits stands before the arbiter within a few cycles.
@@ -116,7 +116,7 @@ pub fn prompt_links_ask_within()
 {
     commands_begin_by_turns();
     waiting_hosts_ask();
-    machines_are_parts()
+    crate::built::machines_keep_their_records()
 }
 
 /// In a system of machines, where a waiting host's operation stands before its arbiter within a few cycles, at most as many commands of others begin at the agent before its own as they have shares, as there are such cycles, and as stand in the pipe.
@@ -128,7 +128,7 @@ pub fn waiting_commands_are_passed_by_few()
 {
     askers_are_passed_by_few();
     commands_begin_by_turns();
-    machines_are_parts();
+    crate::built::machines_keep_their_records();
     ranks::turns_keep_seats()
 }
 
@@ -141,7 +141,7 @@ pub fn commands_take_turns()
     plain_writers_take_full_turns();
     commands_begin_by_turns();
     plain_writes_go_on();
-    machines_are_parts()
+    crate::built::machines_keep_their_records()
 }
 
 /// In a system of machines a host that asks at an agent's arbiter throughout a window, and none of whose commands begins there, is passed by at most as many commands of the others as they have shares together.
@@ -152,7 +152,7 @@ pub fn askers_are_passed_by_few()
         → others_begun (seats_of system agent) (λ h. inside.upper h agent 0) (inside.lower agent system.stages).port host from size ≤ shares_of_others system agent host }
 {
     mm_machines::progress::turn_rule_is_fair();
-    machines_are_parts()
+    crate::built::machines_keep_their_records()
 }
 
 /// In a system of machines a host that is wired to an agent's arbiter, and that waits there for its last command alone throughout a window, is passed by at most as many commands of the others as they have shares together.
@@ -180,7 +180,7 @@ pub fn waiting_hosts_ask()
 {
     crate::asked_words_are_owed();
     crate::host_and_route_keep_nothing_back();
-    machines_are_parts()
+    crate::built::machines_keep_their_records()
 }
 
 /// In a system of machines, in each stretch of cycles an agent's arbiter hands on at most two beats for each stage more than the agent accepts.
@@ -188,14 +188,6 @@ pub fn few_stand_in_the_pipe()
     ensures { (responses : Responses) (system : System) (run : Run) (inside : Boundaries) (states : States) (ranks : LinkRanks) (end agent from size : ℕ)
         → IsBuilt responses system run inside states ranks end → IsLegalRun system run end → agent < system.agents → from + size ≤ end
         → count_in (takes (inside.lower agent system.stages).port) from size ≤ count_in (agent_accepts (system.agent agent) (run.at_agent agent)) from size + 2 * system.stages }
-{
-    machines_are_parts()
-}
-
-/// In a system of machines the parts next to the hosts, the routes and the arbiters keep the equations of their records, each stage holds back two beats at most, and the part next to an agent none.
-pub fn machines_are_parts()
-    ensures { (responses : Responses) (system : System) (run : Run) (inside : Boundaries) (states : States) (ranks : LinkRanks) (end : ℕ)
-        → IsBuilt responses system run inside states ranks end → IsLegalRun system run end → AreParts system run inside end }
 {
     crate::built::machines_keep_their_records()
 }

@@ -19,6 +19,7 @@ pub fn plain_systems_are_built()
 {
     mm_parts::system::systems_of_machines_run();
     mm_parts::plans::plans_suit_machines();
+    crate::built::memory_plans_are_planned();
     crate::built::machines_settle();
     crate::wires_keep_going();
     crate::stages_pass_on()

@@ -8,7 +8,7 @@ use Rattle.mm_awake.proofs.fair.commands_take_turns.Goals as goal
 
 pub returns : goal.returns
 returns c = λ responses system run inside states ranks end agent built legal there hands from size fit writes finished.
-    let parts = c.machines_are_parts.ensures responses system run inside states ranks end built legal in
+    let parts = c.machines_keep_their_records.ensures.parts responses system run inside states ranks end built legal in
     c.plain_writers_take_full_turns.ensures responses system run inside states ranks end agent from size (begun_within system run agent from size) built legal there hands fit writes finished
     (among system run agent (λ h. inside.upper h agent 0) (inside.lower agent 0) (inside.lower agent system.stages) from size end fit
     (c.commands_begin_by_turns.ensures responses system run inside states ranks end agent built legal there) (parts.arbiter agent there) (built.plan.joined agent) (λ h low. end_words built.machines h agent low there)

@@ -8,7 +8,7 @@ use Rattle.mm_awake.proofs.fair.prompt_links_ask_within.Goals as goal
 
 pub returns : goal.returns
 returns c = λ responses system run inside states ranks end agent few built legal there prompt host number from here fit waits.
-    let parts = c.machines_are_parts.ensures responses system run inside states ranks end built legal in
+    let parts = c.machines_keep_their_records.ensures.parts responses system run inside states ranks end built legal in
     let now = waits from (omega arith) (omega arith) in
     let later = waits (from + few) (omega arith) (omega arith) in
     let is_joined = for_joined system run host agent number from (λ kind address place. (built.plan.places host here).joined kind address agent place) now.presented in

@@ -9,7 +9,7 @@ pub returns : goal.returns
 returns c = λ responses system run inside states ranks end agent ahead built legal there apart leads. record {
   apart = apart;
   links = λ host from last is_joined fit plainly at.
-      let parts = c.machines_are_parts.ensures responses system run inside states ranks end built legal in
+      let parts = c.machines_keep_their_records.ensures.parts responses system run inside states ranks end built legal in
       let here = built.plan.joined agent host is_joined in
       let words = end_words built.machines host agent here there in
       let whole = ap (λ (s : Shape). s.word_bytes) (built.rows.pipe agent there).same in

@@ -7,7 +7,7 @@ use Rattle.mm_awake.proofs.fair.wired_hosts_ask_while_waiting.Goals as goal
 
 pub returns-clause-wired : goal.returns-clause-wired
 returns-clause-wired c = λ responses system run inside states ranks end agent built legal there wired host number from here fit waits.
-    let parts = c.machines_are_parts.ensures responses system run inside states ranks end built legal in
+    let parts = c.machines_keep_their_records.ensures.parts responses system run inside states ranks end built legal in
     let now = waits from (omega arith) (omega arith) in
     let its = wired host (for_joined system run host agent number from (λ kind address place. (built.plan.places host here).joined kind address agent place) now.presented) in (
       from,

@@ -8,7 +8,7 @@ use Rattle.mm_awake.proofs.fair.wires_lead_fairly.Goals as goal
 
 pub returns : goal.returns
 returns c = λ responses system run inside states ranks end agent host ahead built legal there here wired.
-    let parts = c.machines_are_parts.ensures responses system run inside states ranks end built legal in
+    let parts = c.machines_keep_their_records.ensures.parts responses system run inside states ranks end built legal in
     let top = inside.upper host agent (inside.links host agent) in
     let link = c.pass_is_a_link.ensures.straight 30 ahead (may_burst_to system host agent) (target_of system agent) top end in
     let legal_top = (parts.route host here).legal agent there in

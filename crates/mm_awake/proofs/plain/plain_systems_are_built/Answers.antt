@@ -7,8 +7,7 @@ returns c = λ responses plan outside end is_plan one views quiet legal.
   where
     laws : Laws
     laws = record {
-      agent_plan = c.plans_suit_machines.ensures.agents;
-      route_plan = c.plans_suit_machines.ensures.routes;
+      planned = c.memory_plans_are_planned.ensures;
       reads_words = c.plans_suit_machines.ensures.hosts;
       settle = c.machines_settle.ensures;
       going = c.wires_keep_going.ensures;
