@@ -22,8 +22,8 @@ use Rattle.mm_machines.specs.Rank.{is_owed}
 use Rattle.mm_machines.specs.SideLaws.{fit_when_shown, legal_when_shown, same_counts}
 use Rattle.mm_links.specs.Begins.{BeginsBelow}
 use Rattle.mm_links.specs.Going.RowGoesOn.{at_end, further}
-use Rattle.mm_links.specs.Links.{IsLink, IsStraightLink}
-use Rattle.mm_links.proofs.Beginning.{begun_is_shown, gate_begins}
+use Rattle.mm_links.specs.Links.{IsLink}
+use Rattle.mm_links.proofs.Beginning.{gate_begins}
 use Rattle.mm_links.proofs.HandOn.{hands_on_shown}
 use Rattle.mm_links.specs.Selects.{RunsAsSelect, IsSelectPlan, EnablesFit, select_form, selected, silenced, offset_in, takes_read, is_shut, first_of}
 use Rattle.mm_links.proofs.Alike.{IsAlike}
@@ -527,13 +527,6 @@ module _ (law : SelectsBeats) (wire : (target : Target) (port : Port) (end : ℕ
         (shut_owes law target up down many room offsets plan deep run end fit legal owed) alike) at_end;
   }
 
-  smaller : up.shape.word_bytes ≡ down.shape.word_bytes → ⊥
-  smaller same =
-      let step : 2 * up.shape.word_bytes ≤ many * up.shape.word_bytes = mul-le-mul_right up.shape.word_bytes plan.more in
-      let some = plan.some in
-      let whole = plan.whole in
-      omega (arith, same, step, some, whole)
-
   shut_while_owed : AreLegalAt up end → AnswersAreOwed down end → (c : ℕ) → c < end → lets c ≡ false → length (words_at up c) < words_owed up c
   shut_while_owed legal owed c h e =
       let shut_now : is_shut room up offsets c ≡ true = twice (is_shut room up offsets c) e in
@@ -551,13 +544,3 @@ module _ (law : SelectsBeats) (wire : (target : Target) (port : Port) (end : ℕ
   pub select_begins : AreLegalAt up end → AnswersAreOwed down end → (few : ℕ) (may_burst : Bool) → BeginsBelow few may_burst target up down end
   select_begins legal owed few may_burst =
       gate_begins target up down lets shown_alike taken_at_once end (alike_before end (le_refl end) legal) legal (legal_before end (le_refl end) legal) (shut_while_owed legal owed) few may_burst
-
-  pub select_is_straight : (few : ℕ) (ahead may_burst : Bool) → IsStraightLink few ahead may_burst target up down end
-  select_is_straight few ahead may_burst = record {
-    straight = λ legal owed. record {
-      shown = λ c h same. absurd (smaller same);
-      accepted = λ c h same. absurd (smaller same);
-      kept = λ c h same. absurd (smaller same);
-    };
-    prompt = λ legal owed. begun_is_shown few may_burst target up down end legal (legal_before end (le_refl end) legal) (select_begins legal owed few may_burst);
-  }

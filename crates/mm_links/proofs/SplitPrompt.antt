@@ -1,5 +1,5 @@
 -- A splitter shows a first beat in its own cycle, once all earlier ones are taken and answered.
-use Rattle.std.proofs.Common.{ℕ, suc, ◌<◌, ◌≤◌, ◌≡◌, ◌+◌, ◌*◌, Bool, true, false, not, ◌&&◌, ◌||◌, List, [], ◌∷◌, ◌++◌, if◌then◌else◌, arith, refl, sym, ap, ap₂, subst, ◌∙◌, length, map, filter, flat_map, nat_lt, nat_eq, append-nil, append_assoc, length-append, ltb-true, mul-le-mul_right}
+use Rattle.std.proofs.Common.{ℕ, suc, ◌<◌, ◌≤◌, ◌≡◌, ◌+◌, ◌*◌, Bool, true, false, not, ◌&&◌, ◌||◌, List, [], ◌∷◌, ◌++◌, if◌then◌else◌, arith, refl, sym, ap, ap₂, subst, ◌∙◌, length, map, filter, flat_map, nat_lt, nat_eq, append-nil, append_assoc, length-append, ltb-true}
 use Rattle.std.proofs.lemmas.Bool.{and_parts}
 use Rattle.std.proofs.lemmas.List.{map-append, length-map}
 use Rattle.std.proofs.lemmas.Grind.{flat_map-append}
@@ -10,12 +10,11 @@ use Rattle.mm_runs.specs.Commands.{shows, is_held, is_of_reads, burst_before, wr
 use Rattle.mm_machines.specs.Link.{Target, Port, Marked, AreLegalAt, AnswersAreOwed, CarriesCommands, takes, marked_at, taken_at, shown_at, operations_among, operations_in, is_nonempty, sizes, words_at, words_owed}
 use Rattle.mm_machines.specs.Machines.{Raw, raw_at, raws, parts_sent, single, joined, piece_of, beat_of, MaySplit}
 use Rattle.mm_links.specs.Begins.{BeginsBelow, operations_taken}
-use Rattle.mm_links.specs.Links.{IsStraightLink}
 use Rattle.mm_links.specs.Splits.{SplitState, RunsAsSplit, split_at, opens, or_first_piece}
 use Rattle.mm_links.proofs.Gated.{total_sizes}
 use Rattle.mm_links.proofs.Gather.{HasPieces, cut_of, has_lane_in, spread, wide_lanes}
 use Rattle.mm_links.proofs.OneBeat.{flat_mark, flat_shown, flat_at, shown_raws}
-use Rattle.mm_links.proofs.Beginning.{first_parts, taken_one, shown_later, begun_is_shown}
+use Rattle.mm_links.proofs.Beginning.{first_parts, taken_one, shown_later}
 use Rattle.mm_links.proofs.InStep.{both}
 use Rattle.mm_links.proofs.Prompt.{some_in, is_some}
 use Rattle.mm_links.proofs.Splitting.{shown_above, either_of, same_true}
@@ -190,24 +189,3 @@ module _ (law : HasPieces) (carries : Carries) (target : Target) (count room : �
           by_write : (w : Bool) → is_of_reads (if w then write_transfer port.shape (levels_at port.commands.signals c) (burst_before port.shape port.commands.signals (takes port) c) else read_transfer port.shape (levels_at port.commands.signals c)).kind ≡ not w
           by_write true = refl
           by_write false = refl
-
-module _ (law : HasPieces) (carries : Carries) (target : Target) (count room : ℕ) (up down : Port) (state : SplitState) (may : MaySplit target up.shape down.shape count) (some_room : 0 < room) (run : RunsAsSplit room up down state)
-    (end : ℕ) (many : 1 < count) where
-  smaller : up.shape.word_bytes ≡ down.shape.word_bytes → ⊥
-  smaller same =
-      let step : 2 * down.shape.word_bytes ≤ count * down.shape.word_bytes = mul-le-mul_right down.shape.word_bytes many in
-      let some = may.some in
-      let whole = may.whole in
-      omega (arith, same, step, some, whole)
-
-  pub split_is_straight : (few : ℕ) (ahead may_burst : Bool) → IsStraightLink few ahead may_burst target up down end
-  split_is_straight few ahead may_burst = record {
-    straight = λ legal owed. record {
-      shown = λ c h same. absurd (smaller same);
-      accepted = λ c h same. absurd (smaller same);
-      kept = λ c h same. absurd (smaller same);
-    };
-    prompt = λ legal owed.
-        begun_is_shown few may_burst target up down end legal (carried law carries target count room up down state may some_room run end legal).legal
-        (split_begins law carries target count room up down state may some_room run end legal owed few may_burst);
-  }

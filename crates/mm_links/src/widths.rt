@@ -1,11 +1,11 @@
 //! Links between words of different sizes.
 
-ghost use Rattle.std.specs.Prelude.{◌<◌, ℕ, Bool, List};
+ghost use Rattle.std.specs.Prelude.{◌<◌, ℕ, List};
 ghost use Rattle.mm_machines.specs.Link.{Target, Port, AreLegalAt, CarriesCommands};
 ghost use Rattle.mm_machines.specs.Lines.{HandsOn};
 ghost use Rattle.mm_machines.specs.PartRanks.{HoldsBack};
 ghost use Rattle.mm_machines.specs.Machines.{IsExpanderRun, MaySplit, split_parts, parts_sent};
-ghost use Rattle.mm_links.specs.Links.{IsLink, IsStraightLink};
+ghost use Rattle.mm_links.specs.Links.{IsLink};
 ghost use Rattle.mm_links.specs.Selects.{RunsAsSelect, IsSelectPlan, EnablesFit, select_form};
 ghost use Rattle.mm_links.specs.Splits.{SplitState, RunsAsSplit, split_rest, split_form};
 
@@ -14,17 +14,6 @@ pub fn select_is_a_link()
     ensures { (target : Target) (up down : Port) (many room : ℕ) (offsets : ℕ → List ℕ) (end : ℕ)
         → IsSelectPlan target up.shape down.shape many → 1 < room → RunsAsSelect room up down offsets → EnablesFit up end
         → IsLink (select_form target) up down end }
-{
-    mm_machines::links::link_is_a_row();
-    mm_machines::wires::wire_is_a_link();
-    mm_machines::machines::beat_is_selected()
-}
-
-/// A lane selector is prompt: a read waits in it only while earlier ones are owed. Its words differ, so nothing is said of going straight.
-pub fn select_is_prompt()
-    ensures { (target : Target) (up down : Port) (many room : ℕ) (offsets : ℕ → List ℕ) (end : ℕ)
-        → IsSelectPlan target up.shape down.shape many → 1 < room → RunsAsSelect room up down offsets → EnablesFit up end
-        → (few : ℕ) (ahead may_burst : Bool) → IsStraightLink few ahead may_burst target up down end }
 {
     mm_machines::links::link_is_a_row();
     mm_machines::wires::wire_is_a_link();
@@ -51,15 +40,6 @@ pub fn split_carries_commands()
 pub fn split_is_a_link()
     ensures { (target : Target) (room count : ℕ) (up down : Port) (state : SplitState) (end : ℕ) → MaySplit target up.shape down.shape count
         → 0 < room → RunsAsSplit room up down state → IsLink (split_form target) up down end }
-{
-    mm_machines::machines::split_carries();
-    mm_machines::machines::beat_is_pieces()
-}
-
-/// A splitter is prompt: a read waits in it only while earlier ones are owed. Its words differ, so nothing is said of going straight.
-pub fn split_is_prompt()
-    ensures { (target : Target) (room count : ℕ) (up down : Port) (state : SplitState) (end : ℕ) → MaySplit target up.shape down.shape count
-        → 1 < count → 0 < room → RunsAsSplit room up down state → (few : ℕ) (ahead may_burst : Bool) → IsStraightLink few ahead may_burst target up down end }
 {
     mm_machines::machines::split_carries();
     mm_machines::machines::beat_is_pieces()
