@@ -61,5 +61,6 @@ pub mod SilentRoute
 pub mod StageLine
 pub mod RowBuilt
 pub mod PlainRows
+pub mod RowRuns
 pub mod ModestRow
 pub mod SplitCounts

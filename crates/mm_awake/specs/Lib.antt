@@ -10,3 +10,4 @@ pub mod PlainSystem
 pub mod Still
 pub mod Rows
 pub mod RowSystem
+pub mod RowRun

@@ -6,11 +6,14 @@ ghost use Rattle.mm_runs.specs.Plan.{IsMemoryPlan, AreViews};
 ghost use Rattle.mm_runs.specs.Whole.{IsLegalRun, IsSafe};
 ghost use Rattle.mm_runs.specs.Awake.{NeverIdles, IsFair};
 ghost use Rattle.mm_runs.specs.Order.{is_joined};
-ghost use Rattle.mm_machines.specs.Link.{AreLegalAt, AnswersAreOwed};
+ghost use Rattle.mm_machines.specs.Link.{Target, AreLegalAt, AnswersAreOwed};
 ghost use Rattle.mm_machines.specs.Lines.{target_of};
 ghost use Rattle.mm_machines.specs.PartRanks.{JoinsAlike};
+ghost use Rattle.mm_links.specs.Driven.{Inputs};
 ghost use Rattle.mm_links.specs.Selects.{EnablesFit};
 ghost use Rattle.mm_awake.specs.Fair.{are_apart};
+ghost use Rattle.mm_awake.specs.Rows.{CutsBursts, FitsWords, DropsBeats};
+ghost use Rattle.mm_awake.specs.RowRun.{RowPlan, SuitsRow, row_registers, row_top, row_middle, row_low, row_bottom};
 ghost use Rattle.mm_awake.specs.PlainSystem.{AreQuietPast, wired_ports, wired_states};
 ghost use Rattle.mm_parts.specs.SystemRun.{PlainPlan, HaveOneShape, Outside, plain_system, registers_of, ports_run};
 ghost use Rattle.mm_awake.specs.RowSystem.{RowPorts, AreRows, IsFairRow, boundaries_of};
@@ -79,4 +82,20 @@ pub fn plain_systems_have_rows()
         × AreRows (plain_system plan) run ports end }
 {
     crate::plain::plain_systems_are_built()
+}
+
+/// A row of links has a run for all commands from above, and all waits and answers from below, whatever stands in it: a cutter of either kind, a lane selector or a splitter, what drops beats, and wires.
+pub fn rows_run()
+    ensures { (plan : RowPlan) (inputs : Inputs) (target : Target)
+        → let registers = row_registers plan inputs in
+        SuitsRow target plan
+        → CutsBursts (row_top plan inputs registers) (row_middle plan inputs registers)
+        × FitsWords target (row_middle plan inputs registers) (row_low plan inputs registers)
+        × DropsBeats target (row_low plan inputs registers) (row_bottom plan inputs registers) }
+{
+    mm_links::runs::burst_runs();
+    mm_links::runs::cut_runs();
+    mm_links::runs::select_runs();
+    mm_links::runs::split_runs();
+    mm_links::runs::drop_runs()
 }

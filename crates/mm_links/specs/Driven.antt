@@ -37,26 +37,33 @@ shuts given queue c = not (is_raised (given.inputs.signals.write c)) && not (nat
 abbrev pub select_waits : SelectInputs → List ℕ → ℕ → ℕ
 select_waits given queue c = one_if (shuts given queue c || is_raised (given.inputs.waitrequest c))
 
-abbrev pub select_queue : SelectInputs → ℕ → List ℕ
-select_queue given zero = []
-select_queue given (suc c) =
-    drop (if is_raised (given.inputs.answers.valid c) then 1 else 0) (select_queue given c)
-    ++ only_if ((shows given.inputs.signals c && not (is_raised (select_waits given (select_queue given c) c))) && not (is_raised (given.inputs.signals.write c)))
+abbrev pub select_step : SelectInputs → List ℕ → ℕ → List ℕ
+select_step given queue c =
+    drop (if is_raised (given.inputs.answers.valid c) then 1 else 0) queue
+    ++ only_if ((shows given.inputs.signals c && not (is_raised (select_waits given queue c))) && not (is_raised (given.inputs.signals.write c)))
     (offset_in given.narrow given.wide (given.inputs.signals.address c))
 
-abbrev pub select_above : SelectInputs → Port
-select_above given = record {
+abbrev pub select_queue : SelectInputs → ℕ → List ℕ
+select_queue given zero = []
+select_queue given (suc c) = select_step given (select_queue given c) c
+
+-- with registers of any kind, here and of the other machines
+abbrev pub select_above_with : SelectInputs → (ℕ → List ℕ) → Port
+select_above_with given registers = record {
   shape = given.narrow;
-  commands = record { signals = given.inputs.signals; more = given.inputs.more; tag = given.inputs.tag; waitrequest = λ c. select_waits given (select_queue given c) c };
+  commands = record { signals = given.inputs.signals; more = given.inputs.more; tag = given.inputs.tag; waitrequest = λ c. select_waits given (registers c) c };
   answers = record {
     valid = given.inputs.answers.valid;
-    word = λ c. (given.inputs.answers.word c / 256 ^ first_of (select_queue given c)) % 256 ^ given.narrow.word_bytes;
+    word = λ c. (given.inputs.answers.word c / 256 ^ first_of (registers c)) % 256 ^ given.narrow.word_bytes;
     code = given.inputs.answers.code;
   };
 }
 
-abbrev pub select_levels : SelectInputs → ℕ → Levels
-select_levels given c = silenced (shuts given (select_queue given c) c) (selected given.narrow given.wide (levels_at given.inputs.signals c))
+abbrev pub select_above : SelectInputs → Port
+select_above given = select_above_with given (select_queue given)
+
+abbrev pub select_levels : SelectInputs → List ℕ → ℕ → Levels
+select_levels given queue c = silenced (shuts given queue c) (selected given.narrow given.wide (levels_at given.inputs.signals c))
 
 abbrev pub signals_of : (ℕ → Levels) → Signals
 signals_of levels = record {
@@ -68,12 +75,15 @@ signals_of levels = record {
   count = λ c. (levels c).count;
 }
 
-abbrev pub select_below : SelectInputs → Port
-select_below given = record {
+abbrev pub select_below_with : SelectInputs → (ℕ → List ℕ) → Port
+select_below_with given registers = record {
   shape = given.wide;
-  commands = record { signals = signals_of (select_levels given); more = given.inputs.more; tag = given.inputs.tag; waitrequest = given.inputs.waitrequest };
+  commands = record { signals = signals_of (λ c. select_levels given (registers c) c); more = given.inputs.more; tag = given.inputs.tag; waitrequest = given.inputs.waitrequest };
   answers = given.inputs.answers;
 }
+
+abbrev pub select_below : SelectInputs → Port
+select_below given = select_below_with given (select_queue given)
 
 -- ---- a pipe
 
@@ -200,10 +210,8 @@ split_added given now c = record {
 abbrev pub split_valid : SplitInputs → SplitRegisters → ℕ → ℕ
 split_valid given now c = one_if (is_raised (given.inputs.answers.valid c) && split_completes now)
 
-abbrev pub split_registers : SplitInputs → ℕ → SplitRegisters
-split_registers given zero = record { place = 0; set = []; reads = 0; come = 0; gathered = nothing }
-split_registers given (suc c) =
-    let now = split_registers given c in
+abbrev pub split_step : SplitInputs → SplitRegisters → ℕ → SplitRegisters
+split_step given now c =
     record {
       place = if split_takes given now c then 0 else if split_takes_below given now c then suc now.place else now.place;
       set = if split_takes_below given now c && not (is_raised (split_part given now c).levels.write) then split_pieces given c else now.set;
@@ -212,37 +220,50 @@ split_registers given (suc c) =
       gathered = if is_raised (given.inputs.answers.valid c) then (if split_completes now then nothing else split_added given now c) else now.gathered;
     }
 
-abbrev pub split_state : SplitInputs → SplitState
-split_state given = record {
-  place = λ c. (split_registers given c).place;
-  set = λ c. (split_registers given c).set;
-  reads = λ c. (split_registers given c).reads;
-  come = λ c. (split_registers given c).come;
-  gathered = λ c. (split_registers given c).gathered;
+abbrev pub split_registers : SplitInputs → ℕ → SplitRegisters
+split_registers given zero = record { place = 0; set = []; reads = 0; come = 0; gathered = nothing }
+split_registers given (suc c) = split_step given (split_registers given c) c
+
+abbrev pub split_state_with : (ℕ → SplitRegisters) → SplitState
+split_state_with registers = record {
+  place = λ c. (registers c).place;
+  set = λ c. (registers c).set;
+  reads = λ c. (registers c).reads;
+  come = λ c. (registers c).come;
+  gathered = λ c. (registers c).gathered;
 }
 
-abbrev pub split_above : SplitInputs → Port
-split_above given = record {
+abbrev pub split_state : SplitInputs → SplitState
+split_state given = split_state_with (split_registers given)
+
+abbrev pub split_above_with : SplitInputs → (ℕ → SplitRegisters) → Port
+split_above_with given registers = record {
   shape = given.wide;
-  commands = record { signals = given.inputs.signals; more = given.inputs.more; tag = given.inputs.tag; waitrequest = λ c. split_waits given (split_registers given c) c };
+  commands = record { signals = given.inputs.signals; more = given.inputs.more; tag = given.inputs.tag; waitrequest = λ c. split_waits given (registers c) c };
   answers = record {
-    valid = λ c. split_valid given (split_registers given c) c;
-    word = λ c. (split_added given (split_registers given c) c).word;
-    code = λ c. (split_added given (split_registers given c) c).code;
+    valid = λ c. split_valid given (registers c) c;
+    word = λ c. (split_added given (registers c) c).word;
+    code = λ c. (split_added given (registers c) c).code;
   };
 }
 
-abbrev pub split_below : SplitInputs → Port
-split_below given = record {
+abbrev pub split_above : SplitInputs → Port
+split_above given = split_above_with given (split_registers given)
+
+abbrev pub split_below_with : SplitInputs → (ℕ → SplitRegisters) → Port
+split_below_with given registers = record {
   shape = given.narrow;
   commands = record {
-    signals = signals_of (λ c. (split_part given (split_registers given c) c).levels);
-    more = λ c. (split_part given (split_registers given c) c).more;
-    tag = λ c. (split_part given (split_registers given c) c).tag;
+    signals = signals_of (λ c. (split_part given (registers c) c).levels);
+    more = λ c. (split_part given (registers c) c).more;
+    tag = λ c. (split_part given (registers c) c).tag;
     waitrequest = given.inputs.waitrequest;
   };
   answers = given.inputs.answers;
 }
+
+abbrev pub split_below : SplitInputs → Port
+split_below given = split_below_with given (split_registers given)
 
 -- ---- a cutter of bursts
 
@@ -282,37 +303,48 @@ burst_waits given now c = one_if (burst_sends now || is_raised (given.inputs.wai
 abbrev pub burst_takes : BurstInputs → BurstRegisters → ℕ → Bool
 burst_takes given now c = shows given.inputs.signals c && not (is_raised (burst_waits given now c))
 
-abbrev pub burst_registers : BurstInputs → ℕ → BurstRegisters
-burst_registers given zero = record { burst = idle; rest = record { left = 0; address = 0; command = silent_raw } }
-burst_registers given (suc c) =
-    let now = burst_registers given c in
+abbrev pub burst_step : BurstInputs → BurstRegisters → ℕ → BurstRegisters
+burst_step given now c =
     record {
       burst = burst_after given.shape (levels_at given.inputs.signals c) (burst_takes given now c) now.burst;
       rest = if burst_sends now then (if burst_takes_below given now c then after_beat given.shape.word_bytes now.rest else now.rest)
           else if burst_takes given now c && not (is_raised (given.inputs.signals.write c)) then behind_first given.shape (burst_raw given c) else now.rest;
     }
 
-abbrev pub burst_state : BurstInputs → BurstState
-burst_state given = record { burst = λ c. (burst_registers given c).burst; rest = λ c. (burst_registers given c).rest }
+abbrev pub burst_registers : BurstInputs → ℕ → BurstRegisters
+burst_registers given zero = record { burst = idle; rest = record { left = 0; address = 0; command = silent_raw } }
+burst_registers given (suc c) = burst_step given (burst_registers given c) c
 
-abbrev pub burst_above : BurstInputs → Port
-burst_above given = record {
+abbrev pub burst_state_with : (ℕ → BurstRegisters) → BurstState
+burst_state_with registers = record { burst = λ c. (registers c).burst; rest = λ c. (registers c).rest }
+
+abbrev pub burst_state : BurstInputs → BurstState
+burst_state given = burst_state_with (burst_registers given)
+
+abbrev pub burst_above_with : BurstInputs → (ℕ → BurstRegisters) → Port
+burst_above_with given registers = record {
   shape = given.shape;
-  commands = record { signals = given.inputs.signals; more = given.inputs.more; tag = given.inputs.tag; waitrequest = λ c. burst_waits given (burst_registers given c) c };
+  commands = record { signals = given.inputs.signals; more = given.inputs.more; tag = given.inputs.tag; waitrequest = λ c. burst_waits given (registers c) c };
   answers = given.inputs.answers;
 }
 
-abbrev pub burst_below : BurstInputs → Port
-burst_below given = record {
+abbrev pub burst_above : BurstInputs → Port
+burst_above given = burst_above_with given (burst_registers given)
+
+abbrev pub burst_below_with : BurstInputs → (ℕ → BurstRegisters) → Port
+burst_below_with given registers = record {
   shape = given.below;
   commands = record {
-    signals = signals_of (λ c. (burst_part given (burst_registers given c) c).levels);
-    more = λ c. (burst_part given (burst_registers given c) c).more;
-    tag = λ c. (burst_part given (burst_registers given c) c).tag;
+    signals = signals_of (λ c. (burst_part given (registers c) c).levels);
+    more = λ c. (burst_part given (registers c) c).more;
+    tag = λ c. (burst_part given (registers c) c).tag;
     waitrequest = given.inputs.waitrequest;
   };
   answers = given.inputs.answers;
 }
+
+abbrev pub burst_below : BurstInputs → Port
+burst_below given = burst_below_with given (burst_registers given)
 
 -- ---- one that cuts them into the bursts that an agent takes
 
@@ -329,37 +361,48 @@ cut_part given now c =
 abbrev pub cut_takes_below : CutInputs → BurstRegisters → ℕ → Bool
 cut_takes_below given now c = shows_raw (cut_part given now c) && not (is_raised (given.inputs.waitrequest c))
 
-abbrev pub cut_registers : CutInputs → ℕ → BurstRegisters
-cut_registers given zero = record { burst = idle; rest = record { left = 0; address = 0; command = silent_raw } }
-cut_registers given (suc c) =
-    let now = cut_registers given c in
+abbrev pub cut_step : CutInputs → BurstRegisters → ℕ → BurstRegisters
+cut_step given now c =
     record {
       burst = burst_after given.shape (levels_at given.inputs.signals c) (burst_takes given.bursts now c) now.burst;
       rest = if burst_sends now then (if cut_takes_below given now c then behind_burst given.longest given.shape.word_bytes now.rest else now.rest)
           else if burst_takes given.bursts now c && not (is_raised (given.inputs.signals.write c)) then behind_burst given.longest given.shape.word_bytes (whole_read given.shape (burst_raw given.bursts c)) else now.rest;
     }
 
-abbrev pub cut_state : CutInputs → BurstState
-cut_state given = record { burst = λ c. (cut_registers given c).burst; rest = λ c. (cut_registers given c).rest }
+abbrev pub cut_registers : CutInputs → ℕ → BurstRegisters
+cut_registers given zero = record { burst = idle; rest = record { left = 0; address = 0; command = silent_raw } }
+cut_registers given (suc c) = cut_step given (cut_registers given c) c
 
-abbrev pub cut_above : CutInputs → Port
-cut_above given = record {
+abbrev pub cut_state_with : (ℕ → BurstRegisters) → BurstState
+cut_state_with registers = record { burst = λ c. (registers c).burst; rest = λ c. (registers c).rest }
+
+abbrev pub cut_state : CutInputs → BurstState
+cut_state given = cut_state_with (cut_registers given)
+
+abbrev pub cut_above_with : CutInputs → (ℕ → BurstRegisters) → Port
+cut_above_with given registers = record {
   shape = given.shape;
-  commands = record { signals = given.inputs.signals; more = given.inputs.more; tag = given.inputs.tag; waitrequest = λ c. burst_waits given.bursts (cut_registers given c) c };
+  commands = record { signals = given.inputs.signals; more = given.inputs.more; tag = given.inputs.tag; waitrequest = λ c. burst_waits given.bursts (registers c) c };
   answers = given.inputs.answers;
 }
 
-abbrev pub cut_below : CutInputs → Port
-cut_below given = record {
+abbrev pub cut_above : CutInputs → Port
+cut_above given = cut_above_with given (cut_registers given)
+
+abbrev pub cut_below_with : CutInputs → (ℕ → BurstRegisters) → Port
+cut_below_with given registers = record {
   shape = given.below;
   commands = record {
-    signals = signals_of (λ c. (cut_part given (cut_registers given c) c).levels);
-    more = λ c. (cut_part given (cut_registers given c) c).more;
-    tag = λ c. (cut_part given (cut_registers given c) c).tag;
+    signals = signals_of (λ c. (cut_part given (registers c) c).levels);
+    more = λ c. (cut_part given (registers c) c).more;
+    tag = λ c. (cut_part given (registers c) c).tag;
     waitrequest = given.inputs.waitrequest;
   };
   answers = given.inputs.answers;
 }
+
+abbrev pub cut_below : CutInputs → Port
+cut_below given = cut_below_with given (cut_registers given)
 
 -- ---- what keeps beats without a lane from an agent
 
@@ -397,38 +440,50 @@ drop_takes_below given now c = shows_raw (drop_part given now c) && not (is_rais
 abbrev pub drop_waits : DropInputs → DropRegisters → ℕ → ℕ
 drop_waits given now c = one_if (not (accepted (drop_stands given now c) (drop_takes_below given now c)))
 
-abbrev pub drop_registers : DropInputs → ℕ → DropRegisters
-drop_registers given zero = record { kept = []; reads = 0; own = false }
-drop_registers given (suc c) =
-    let now = drop_registers given c in
+abbrev pub drop_step : DropInputs → DropRegisters → ℕ → DropRegisters
+drop_step given now c =
     record {
       kept = if keeps (drop_stands given now c) (drop_takes_below given now c) then drop_raw given c ∷ [] else if drop_takes_below given now c then [] else now.kept;
       reads = (now.reads + one_if (drop_takes_below given now c && not (is_raised (drop_part given now c).levels.write))) - one_if (is_raised (given.inputs.answers.valid c));
       own = owes_itself (drop_stands given now c) (drop_takes_below given now c);
     }
 
-abbrev pub drop_state : DropInputs → DropState
-drop_state given = record { kept = λ c. (drop_registers given c).kept; reads = λ c. (drop_registers given c).reads; own = λ c. (drop_registers given c).own }
+abbrev pub drop_registers : DropInputs → ℕ → DropRegisters
+drop_registers given zero = record { kept = []; reads = 0; own = false }
+drop_registers given (suc c) = drop_step given (drop_registers given c) c
 
-abbrev pub drop_above : DropInputs → Port
-drop_above given = record {
+abbrev pub drop_state_with : (ℕ → DropRegisters) → DropState
+drop_state_with registers = record { kept = λ c. (registers c).kept; reads = λ c. (registers c).reads; own = λ c. (registers c).own }
+
+abbrev pub drop_state : DropInputs → DropState
+drop_state given = drop_state_with (drop_registers given)
+
+abbrev pub drop_above_with : DropInputs → (ℕ → DropRegisters) → Port
+drop_above_with given registers = record {
   shape = given.shape;
-  commands = record { signals = given.inputs.signals; more = given.inputs.more; tag = given.inputs.tag; waitrequest = λ c. drop_waits given (drop_registers given c) c };
+  commands = record { signals = given.inputs.signals; more = given.inputs.more; tag = given.inputs.tag; waitrequest = λ c. drop_waits given (registers c) c };
   answers = record {
-    valid = λ c. one_if ((drop_registers given c).own || is_raised (given.inputs.answers.valid c));
-    word = λ c. if (drop_registers given c).own then 0 else given.inputs.answers.word c;
-    code = λ c. if (drop_registers given c).own then 0 else given.inputs.answers.code c;
+    valid = λ c. one_if ((registers c).own || is_raised (given.inputs.answers.valid c));
+    word = λ c. if (registers c).own then 0 else given.inputs.answers.word c;
+    code = λ c. if (registers c).own then 0 else given.inputs.answers.code c;
   };
 }
 
-abbrev pub drop_below : DropInputs → Port
-drop_below given = record {
+abbrev pub drop_above : DropInputs → Port
+drop_above given = drop_above_with given (drop_registers given)
+
+abbrev pub drop_below_with : DropInputs → (ℕ → DropRegisters) → Port
+drop_below_with given registers = record {
   shape = given.below;
   commands = record {
-    signals = signals_of (λ c. (drop_part given (drop_registers given c) c).levels);
-    more = λ c. (drop_part given (drop_registers given c) c).more;
-    tag = λ c. (drop_part given (drop_registers given c) c).tag;
+    signals = signals_of (λ c. (drop_part given (registers c) c).levels);
+    more = λ c. (drop_part given (registers c) c).more;
+    tag = λ c. (drop_part given (registers c) c).tag;
     waitrequest = given.inputs.waitrequest;
   };
   answers = given.inputs.answers;
 }
+
+
+abbrev pub drop_below : DropInputs → Port
+drop_below given = drop_below_with given (drop_registers given)
