@@ -38,7 +38,6 @@ pub record AreRows (system : System) (run : Run) (ports : RowPorts) (states : St
   -- each stage of a pipe has two places
   pub places : (a i : ℕ) → a < system.agents → i < system.stages → (states.stage a i).depth ≡ 2
 
--- between equal words only a wire stands for what fits words, and beats are dropped only below a host with byte enables: what drops beats keeps a write until the next beat comes, and a burst of a host without byte enables is counted from its first one
-pub record IsFairRow (system : System) (ports : RowPorts) (agent host : ℕ) : Type 0 where
-  pub words : (ports.below_cutter host agent).shape.word_bytes ≡ (ports.above_dropper host agent).shape.word_bytes → IsWired (ports.below_cutter host agent) (ports.above_dropper host agent)
-  pub enables : IsFalse (system.host host).has_enables → IsWired (ports.above_dropper host agent) (ports.before_arbiter host agent)
+-- beats are dropped only below a host with byte enables: what drops beats keeps a write until the next beat comes, and a burst of a host without byte enables is counted from its first one
+abbrev pub IsFairRow : System → RowPorts → ℕ → ℕ → Type 0
+IsFairRow system ports agent host = IsFalse (system.host host).has_enables → IsWired (ports.above_dropper host agent) (ports.before_arbiter host agent)

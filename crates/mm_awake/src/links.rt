@@ -116,14 +116,13 @@ pub fn rows_keep_their_lines()
     mm_links::drops::drop_is_a_link()
 }
 
-/// Plain commands go straight through such a row, and it goes in step between equal words, where only a wire stands for what fits words.
-/// It shows first beats within a cycle: a first piece that is kept, where beats are dropped, goes on with the second one. There the first beats of joined writes aren't to be shown promptly.
+/// Plain commands go straight through such a row, and it goes in step between equal words. It shows first beats within a cycle: a first piece that is kept, where beats are dropped, goes on with the second one. There the first beats of joined writes aren't to be shown promptly.
 pub fn rows_are_straight()
     ensures straight { (target : Target) (top middle low down : Port) (end : ℕ) → CutsBursts top middle → FitsWords target middle low end → DropsBeats target low down
-        → (middle.shape.word_bytes ≡ low.shape.word_bytes → IsWired middle low) → AreLegalAt top end → AnswersAreOwed down end → JoinsAlike target top end
+        → AreLegalAt top end → AnswersAreOwed down end → JoinsAlike target top end
         → GoesStraightThrough (λ c. false) target top down end }
     ensures step { (target : Target) (top middle low down : Port) (end : ℕ) → CutsBursts top middle → FitsWords target middle low end → DropsBeats target low down
-        → (middle.shape.word_bytes ≡ low.shape.word_bytes → IsWired middle low) → AreLegalAt top end → AnswersAreOwed down end → JoinsAlike target top end
+        → AreLegalAt top end → AnswersAreOwed down end → JoinsAlike target top end
         → top.shape.word_bytes ≡ down.shape.word_bytes → GoesInStep false target top down end }
     ensures prompt { (few : ℕ) (may_burst : Bool) (target : Target) (top middle low down : Port) (end : ℕ) → 0 < few → CutsBursts top middle → FitsWords target middle low end → DropsBeats target low down
         → (IsTrue may_burst → IsWired low down) → AreLegalAt top end → AnswersAreOwed down end → JoinsAlike target top end
@@ -142,6 +141,7 @@ pub fn rows_are_straight()
     mm_links::bursts::cut_goes_in_step();
     mm_links::widths::select_is_a_link();
     mm_links::widths::split_is_a_link();
+    mm_links::widths::split_is_straight();
     mm_links::drops::drop_is_a_link();
     mm_links::drops::drop_is_straight();
     mm_links::drops::plain_commands_act();

@@ -62,7 +62,7 @@ pub fn machines_with_links_are_awake()
     crate::machines_are_awake()
 }
 
-/// And it is fair where no host is joined to an agent twice, and in each row of a host that is joined only a wire stands for what fits equal words, and beats are dropped only below a host with byte enables.
+/// And it is fair where no host is joined to an agent twice, and beats are dropped only below hosts with byte enables.
 pub fn machines_with_links_are_fair()
     ensures { (responses : Responses) (system : System) (run : Run) (ports : RowPorts) (states : States) (end : ℕ)
         → ArePlanned system (boundaries_of ports) states → AreMachines responses system run (boundaries_of ports) states end → AreRows system run ports states end → IsLegalRun system run end

@@ -54,9 +54,9 @@ sends_first room s true a false false r shown lane last free = ap₂ (λ s a. s 
 sends_first room s false a m false r shown lane last free = ap₂ (λ s a. s && (a && nat_lt r room)) shown lane ∙ lt-ltb r room (free refl)
 
 -- where words are those of the agent, a plain command has an operation
-pub plain_acts : (target : Target) (port : Port) (c : ℕ) → 0 < port.shape.word_bytes → target.shape.word_bytes ≡ port.shape.word_bytes → target.shape.has_enables ≡ false → IsTrue (shows_plain port c) →
+pub plain_acts : (target : Target) (port : Port) (c : ℕ) → 0 < port.shape.word_bytes → target.shape.word_bytes ≡ port.shape.word_bytes → IsTrue (shows_plain port c) →
     is_nonempty (operations_in target port.shape (marked_at port c)) ≡ true
-plain_acts target port c some same none plain =
+plain_acts target port c some same plain =
     by_beats (marked_at port c).transfer.beats
     (and_parts (begins_alone (earlier_shown port c) (marked_at port c) && closes (marked_at port c) && nat_eq (length (marked_at port c).transfer.beats) 1) (has_lane port.shape (marked_at port c))
     (and_parts (shows port.commands.signals c) (is_plain port.shape (earlier_shown port c) (marked_at port c)) plain).1).1
@@ -76,7 +76,7 @@ plain_acts target port c some same none plain =
         by_lane : (x : Bool) → list_any (is_enabled b.enables) (numbers 0 port.shape.word_bytes) ≡ x → x || list_any (λ (b : Beat). list_any (is_enabled b.enables) (numbers 0 port.shape.word_bytes)) beats ≡ true →
             (list_any (λ (b : Beat). list_any (is_enabled b.enables) (numbers 0 port.shape.word_bytes)) beats ≡ true → is_nonempty (flat_map (beat_operations target port.shape) beats) ≡ true) →
             is_nonempty (beat_operations target port.shape b ++ flat_map (beat_operations target port.shape) beats) ≡ true
-        by_lane true has e rest = front (operation_at target.span b) (filled_lanes port.shape target.shape b.enables) (flat_map (beat_operations target port.shape) beats) (lanes_are target.shape port.shape b.enables some same none ∙ has)
+        by_lane true has e rest = front (operation_at target.span b) (filled_lanes port.shape target.shape b.enables) (flat_map (beat_operations target port.shape) beats) (lanes_are target.shape port.shape b.enables some same ∙ has)
         by_lane false has e rest = behind (beat_operations target port.shape b) (flat_map (beat_operations target port.shape) beats) (rest e)
 
 -- a read, or a write that ends its command

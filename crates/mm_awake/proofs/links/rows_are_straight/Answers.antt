@@ -3,7 +3,7 @@ use Rattle.mm_awake.proofs.RowLeads.{row_is_straight, row_is_in_step, row_is_pro
 use Rattle.mm_awake.proofs.links.rows_are_straight.Goals as goal
 
 pub returns-clause-straight : goal.returns-clause-straight
-returns-clause-straight c = λ target top middle low down end cuts fits drops equal legal owed alike. row_is_straight (record {
+returns-clause-straight c = λ target top middle low down end cuts fits drops legal owed alike. row_is_straight (record {
   rows = record {
     links = record {
       wire = c.pass_is_a_link.ensures.link;
@@ -24,6 +24,8 @@ returns-clause-straight c = λ target top middle low down end cuts fits drops eq
   cut_steps = c.cut_goes_in_step.ensures;
   drop = c.drop_is_straight.ensures.straight;
   drop_steps = c.drop_is_straight.ensures.step;
+  split = c.split_is_straight.ensures.straight;
+  split_steps = c.split_is_straight.ensures.step;
   acts = c.plain_commands_act.ensures;
   chain = c.chain_is_straight.ensures.straight;
   chain_steps = c.chain_is_straight.ensures.step;
@@ -35,10 +37,10 @@ returns-clause-straight c = λ target top middle low down end cuts fits drops eq
   split_over_drop = c.split_begins_over_drop.ensures;
   burst_over = c.cutters_begin_over_links.ensures.burst;
   cut_over = c.cutters_begin_over_links.ensures.cut;
-}) target end top middle low down cuts fits drops legal owed alike equal
+}) target end top middle low down cuts fits drops legal owed alike
 
 pub returns-clause-step : goal.returns-clause-step
-returns-clause-step c = λ target top middle low down end cuts fits drops equal legal owed alike same. row_is_in_step (record {
+returns-clause-step c = λ target top middle low down end cuts fits drops legal owed alike same. row_is_in_step (record {
   rows = record {
     links = record {
       wire = c.pass_is_a_link.ensures.link;
@@ -59,6 +61,8 @@ returns-clause-step c = λ target top middle low down end cuts fits drops equal 
   cut_steps = c.cut_goes_in_step.ensures;
   drop = c.drop_is_straight.ensures.straight;
   drop_steps = c.drop_is_straight.ensures.step;
+  split = c.split_is_straight.ensures.straight;
+  split_steps = c.split_is_straight.ensures.step;
   acts = c.plain_commands_act.ensures;
   chain = c.chain_is_straight.ensures.straight;
   chain_steps = c.chain_is_straight.ensures.step;
@@ -70,7 +74,7 @@ returns-clause-step c = λ target top middle low down end cuts fits drops equal 
   split_over_drop = c.split_begins_over_drop.ensures;
   burst_over = c.cutters_begin_over_links.ensures.burst;
   cut_over = c.cutters_begin_over_links.ensures.cut;
-}) target end top middle low down cuts fits drops legal owed alike equal same
+}) target end top middle low down cuts fits drops legal owed alike same
 
 pub returns-clause-prompt : goal.returns-clause-prompt
 returns-clause-prompt c = λ few may_burst target top middle low down end later cuts fits drops single legal owed alike. row_is_prompt (record {
@@ -94,6 +98,8 @@ returns-clause-prompt c = λ few may_burst target top middle low down end later 
   cut_steps = c.cut_goes_in_step.ensures;
   drop = c.drop_is_straight.ensures.straight;
   drop_steps = c.drop_is_straight.ensures.step;
+  split = c.split_is_straight.ensures.straight;
+  split_steps = c.split_is_straight.ensures.step;
   acts = c.plain_commands_act.ensures;
   chain = c.chain_is_straight.ensures.straight;
   chain_steps = c.chain_is_straight.ensures.step;

@@ -21,7 +21,7 @@ returns c = λ responses system run ports states end plan machines rows legal ap
     let drops = rows.drops host agent low there in
     let row = fair agent host there joined in
     record {
-      straight = c.rows_are_straight.ensures.straight target top middle last down end cuts fits drops row.words settled.0 settled.1 settled.2;
-      step = c.rows_are_straight.ensures.step target top middle last down end cuts fits drops row.words settled.0 settled.1 settled.2;
-      prompt = c.rows_are_straight.ensures.prompt 30 (may_burst_to system host agent) target top middle last down end (omega arith) cuts fits drops (wired_for_bursts target last down (system.host host).has_enables drops row.enables) settled.0 settled.1 settled.2;
+      straight = c.rows_are_straight.ensures.straight target top middle last down end cuts fits drops settled.0 settled.1 settled.2;
+      step = c.rows_are_straight.ensures.step target top middle last down end cuts fits drops settled.0 settled.1 settled.2;
+      prompt = c.rows_are_straight.ensures.prompt 30 (may_burst_to system host agent) target top middle last down end (omega arith) cuts fits drops (wired_for_bursts target last down (system.host host).has_enables drops row) settled.0 settled.1 settled.2;
     })
