@@ -56,6 +56,7 @@ pub mod Pieces
 pub mod RowOfThree
 pub mod RowLine
 pub mod RowLeads
+pub mod SingleWrites
 pub mod SilentRoute
 pub mod StageLine
 pub mod RowBuilt

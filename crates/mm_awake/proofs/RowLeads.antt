@@ -1,10 +1,11 @@
 -- A row of link machines leads to the arbiter: plain commands go straight through it, in step, and first beats are shown promptly.
 use Rattle.std.proofs.Common.{ℕ, zero, suc, ◌*◌, ◌⊎◌, inl, inr, ◌<◌, ◌≡◌, Bool, true, false, not, ◌||◌, List, arith, refl, sym, subst, ◌∙◌, IsTrue, IsFalse, le_refl}
 use Rattle.std.proofs.lemmas.Bool.{both_ways}
+use Rattle.mm_runs.specs.Commands.{shows}
 use Rattle.mm_machines.specs.Link.{Target, Port, AreLegalAt, AnswersAreOwed, marked_at, operations_in, is_nonempty}
 use Rattle.mm_machines.specs.Machines.{MaySplit}
 use Rattle.mm_machines.specs.PartRanks.{JoinsAlike}
-use Rattle.mm_machines.specs.Straight.{GoesStraightThrough, IsShownPromptly, shows_plain}
+use Rattle.mm_machines.specs.Straight.{GoesStraightThrough, IsShownPromptly, shows_plain, may_be_prompt}
 use Rattle.mm_links.specs.Begins.{BeginsBelow}
 use Rattle.mm_links.specs.Bursts.{BurstState, RunsAsBurst, IsBurstPlan, burst_form}
 use Rattle.mm_links.specs.Cuts.{RunsAsCut, IsCutPlan}
@@ -38,6 +39,7 @@ pub record LeadLaws : Type 0 where
       GoesStraightThrough (λ c. ahead) first.target up middle end → up.shape.word_bytes ≡ middle.shape.word_bytes → GoesInStep ahead first.target up down end
   -- prompt
   pub prompt : (few : ℕ) (may_burst : Bool) (target : Target) (up down : Port) (end : ℕ) → AreLegalAt up end → AreLegalAt down end → BeginsBelow few may_burst target up down end → IsShownPromptly few may_burst target up down end
+  pub singles : (few : ℕ) (may_burst : Bool) (target : Target) (up down : Port) (end : ℕ) → ((c : ℕ) → c < end → IsTrue (shows up.commands.signals c) → IsTrue (may_be_prompt false (marked_at up c))) → BeginsBelow few false target up down end → BeginsBelow few may_burst target up down end
   pub pass_begins : (few : ℕ) (may_burst : Bool) (target : Target) (port : Port) (end : ℕ) → AreLegalAt port end → BeginsBelow few may_burst target port port end
   pub select_begins : (target : Target) (up down : Port) (many room : ℕ) (offsets : ℕ → List ℕ) (end : ℕ) → IsSelectPlan target up.shape down.shape many → 1 < room → RunsAsSelect room up down offsets → EnablesFit up end → AreLegalAt up end → AnswersAreOwed down end →
       (few : ℕ) (may_burst : Bool) → BeginsBelow few may_burst target up down end
@@ -244,3 +246,7 @@ module _ (laws : LeadLaws) (target : Target) (end : ℕ) where
 
       pub row_is_prompt : (IsTrue may_burst → IsWired low down) → IsShownPromptly few may_burst target top down end
       row_is_prompt single = laws.prompt few may_burst target top down end legal legal_below (upper_begins cuts (lower_begins single))
+
+    pub single_is_prompt : (few : ℕ) (may_burst : Bool) → 0 < few → ((c : ℕ) → c < end → IsTrue (shows top.commands.signals c) → IsTrue (may_be_prompt false (marked_at top c))) → IsShownPromptly few may_burst target top down end
+    single_is_prompt few may_burst later single =
+        laws.prompt few may_burst target top down end legal (legal_below few may_burst later) (laws.singles few may_burst target top down end single (upper_begins few false later cuts (lower_begins few false later (λ bursts. absurd cc))))

@@ -38,6 +38,7 @@ pub record AreRows (system : System) (run : Run) (ports : RowPorts) (states : St
   -- each stage of a pipe has two places
   pub places : (a i : ℕ) → a < system.agents → i < system.stages → (states.stage a i).depth ≡ 2
 
--- beats are dropped only below a host with byte enables: what drops beats keeps a write until the next beat comes, and a burst of a host without byte enables is counted from its first one
+-- no beats are dropped below a host with bursts and without byte enables: its write bursts are counted from their first beat, which is kept there until the next one comes
 abbrev pub IsFairRow : System → RowPorts → ℕ → ℕ → Type 0
-IsFairRow system ports agent host = IsFalse (system.host host).has_enables → IsWired (ports.above_dropper host agent) (ports.before_arbiter host agent)
+IsFairRow system ports agent host =
+    IsFalse (system.host host).has_enables → IsTrue (system.host host).has_burst → IsWired (ports.above_dropper host agent) (ports.before_arbiter host agent)
