@@ -1,5 +1,5 @@
 -- A machine that drops beats without a lane begins below what waits above, but for a write that another may follow.
-use Rattle.std.proofs.Common.{ℕ, suc, ◌<◌, ◌≤◌, ◌≡◌, ◌+◌, ◌⊎◌, inl, inr, Bool, true, false, not, ◌&&◌, ◌||◌, List, [], ◌∷◌, ◌++◌, if◌then◌else◌, arith, refl, sym, ap, ap₂, ◌∙◌, length, map, flat_map, nat_eq, nat_lt, IsTrue, lt-ltb}
+use Rattle.std.proofs.Common.{ℕ, suc, ◌<◌, ◌≤◌, ◌≡◌, ◌+◌, ◌⊎◌, inl, inr, Bool, true, false, not, ◌&&◌, ◌||◌, List, [], ◌∷◌, ◌++◌, if◌then◌else◌, arith, refl, sym, ap, ap₂, ◌∙◌, length, map, flat_map, nat_lt, IsTrue, lt-ltb}
 use Rattle.std.proofs.lemmas.Bool.{and_parts, both_ways, not-true}
 use Rattle.std.specs.List.{list_any}
 use Rattle.histories.specs.History.{is_raised, numbers}
@@ -7,10 +7,10 @@ use Rattle.mm_runs.specs.Operations.{Beat, filled_lanes, is_enabled, operation_a
 use Rattle.mm_runs.specs.Views.{Shape}
 use Rattle.mm_runs.specs.Views.Kind.{Reads, Writes}
 use Rattle.mm_runs.specs.Commands.{shows, is_of_reads}
-use Rattle.mm_machines.specs.Link.{Target, Port, AreLegalAt, AnswersAreOwed, takes, marked_at, taken_at, shown_at, operations_in, operations_among, is_nonempty, beat_operations, closes}
+use Rattle.mm_machines.specs.Link.{Target, Port, AreLegalAt, AnswersAreOwed, takes, marked_at, taken_at, shown_at, operations_in, operations_among, is_nonempty, beat_operations}
 use Rattle.mm_machines.specs.Machines.{Raw, raw_at}
 use Rattle.mm_machines.specs.PartRanks.{JoinsAlike}
-use Rattle.mm_machines.specs.Straight.{begins_alone, may_be_prompt, has_lane, earlier_shown, shows_plain, is_plain, shows_empty_write}
+use Rattle.mm_machines.specs.Straight.{may_be_prompt, shows_plain, shows_empty_write}
 use Rattle.mm_links.specs.Begins.{BeginsBelow, operations_taken}
 use Rattle.mm_links.specs.Drops.{DropState, RunsAsDrop, IsDropPlan, sends, accepted, keeps, standing_at}
 use Rattle.mm_links.specs.Links.{IsStraightLink}
@@ -21,6 +21,7 @@ use Rattle.mm_links.proofs.DropShown.{stands_so, lanes_are, one_shown, shown_is}
 use Rattle.mm_links.proofs.DropStraight.{none_owed, above_is, straight}
 use Rattle.mm_links.proofs.DropTaken.{lane, now_writes, now_more, acts_is, dropped_taken, kept_next}
 use Rattle.mm_links.proofs.Gated.{total_sizes}
+use Rattle.mm_links.proofs.InStep.{plain_parts}
 use Rattle.mm_links.proofs.OneBeat.{flat_mark, flat_at}
 use Rattle.mm_links.proofs.Prompt.{some_in}
 
@@ -57,9 +58,7 @@ sends_first room s false a m false r shown lane last free = ap₂ (λ s a. s && 
 pub plain_acts : (target : Target) (port : Port) (c : ℕ) → 0 < port.shape.word_bytes → target.shape.word_bytes ≡ port.shape.word_bytes → IsTrue (shows_plain port c) →
     is_nonempty (operations_in target port.shape (marked_at port c)) ≡ true
 plain_acts target port c some same plain =
-    by_beats (marked_at port c).transfer.beats
-    (and_parts (begins_alone (earlier_shown port c) (marked_at port c) && closes (marked_at port c) && nat_eq (length (marked_at port c).transfer.beats) 1) (has_lane port.shape (marked_at port c))
-    (and_parts (shows port.commands.signals c) (is_plain port.shape (earlier_shown port c) (marked_at port c)) plain).1).1
+    by_beats (marked_at port c).transfer.beats (plain_parts port c plain).lane
   where
     front : {A B : Type 0} (f : A → B) (l : List A) (rest : List B) → is_nonempty l ≡ true → is_nonempty (map f l ++ rest) ≡ true
     front f [] rest e = cc

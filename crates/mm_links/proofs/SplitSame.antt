@@ -5,9 +5,9 @@ use Rattle.histories.specs.History.{is_raised, only_if, numbers}
 use Rattle.mm_runs.specs.Views.Kind.{Reads, Writes}
 use Rattle.mm_runs.specs.Operations.{Beat, operations_of, filled_lanes, operation_at, pieces}
 use Rattle.mm_runs.specs.Commands.{shows, byte_address}
-use Rattle.mm_machines.specs.Link.{Target, Port, Marked, AreLegalAt, AnswersAreOwed, takes, marked_at, taken_at, operations_in, operations_among, is_nonempty, closes, words_at, words_owed, read_beats, is_last_joined}
+use Rattle.mm_machines.specs.Link.{Target, Port, Marked, AreLegalAt, AnswersAreOwed, takes, marked_at, taken_at, operations_in, operations_among, is_nonempty, words_at, words_owed, read_beats, is_last_joined}
 use Rattle.mm_machines.specs.Machines.{Raw, raw_at, raws, parts_sent, single, joined, piece_of, beat_of, MaySplit}
-use Rattle.mm_machines.specs.Straight.{GoesStraightThrough, begins_alone, has_lane, are_answered, are_just_taken, earlier_shown, shows_plain, is_plain}
+use Rattle.mm_machines.specs.Straight.{GoesStraightThrough, has_lane, are_answered, are_just_taken, earlier_shown, shows_plain}
 use Rattle.mm_links.specs.Begins.{operations_taken}
 use Rattle.mm_links.specs.Drops.{any_lane}
 use Rattle.mm_links.specs.InStep.{GoesInStep}
@@ -16,7 +16,7 @@ use Rattle.mm_links.proofs.CutLists.{or_nil}
 use Rattle.mm_links.proofs.DropPrompt.{plain_acts}
 use Rattle.mm_links.proofs.DropShown.{lanes_are}
 use Rattle.mm_links.proofs.Gather.{HasPieces, has_lane_in, piece_count}
-use Rattle.mm_links.proofs.InStep.{earlier_is, both, of_next}
+use Rattle.mm_links.proofs.InStep.{plain_parts, plain_from, earlier_is, of_next}
 use Rattle.mm_links.proofs.OneBeat.{flat_mark, flat_taken, beat_by, aligned, whole_address}
 use Rattle.mm_links.proofs.SplitJoins.{joined_last, more_down}
 use Rattle.mm_links.proofs.SplitLink.{Carries, carried, one_down, up_taken}
@@ -179,18 +179,14 @@ module _ (law : HasPieces) (carries : Carries) (target : Target) (count room : �
 
   plain_at : (c : ℕ) → c < end → IsTrue (shows_plain up c) → IsPlain c
   plain_at c h plain =
-      let outer = and_parts (shows up.commands.signals c) (is_plain up.shape (earlier_shown up c) (marked_at up c)) plain in
-      let lanes = and_parts (begins_alone (earlier_shown up c) (marked_at up c) && closes (marked_at up c) && nat_eq (length (marked_at up c).transfer.beats) 1) (has_lane up.shape (marked_at up c)) outer.1 in
-      let ones = and_parts (begins_alone (earlier_shown up c) (marked_at up c) && closes (marked_at up c)) (nat_eq (length (marked_at up c).transfer.beats) 1) lanes.0 in
-      let ends = and_parts (begins_alone (earlier_shown up c) (marked_at up c)) (closes (marked_at up c)) ones.0 in
-      let begins = and_parts (marked_at up c).transfer.begins (not (is_last_joined (earlier_shown up c))) ends.0 in
+      let p = plain_parts up c plain in
       let words = same_words in
       let some = may.some in
       record {
-        shown = outer.0;
-        alone = ap is_last_joined (sym (earlier_is up end legal c h outer.0)) ∙ not-true (is_last_joined (earlier_shown up c)) begins.1;
-        last = not-true (is_raised (up.commands.more c)) (and_parts (marked_at up c).transfer.ends (not (is_raised (up.commands.more c))) ends.1).1;
-        act = acts_above law carries target count room up down state may some_room run end legal c h outer.0 (plain_acts target up c (omega (arith, words, some)) (sym may.same ∙ sym same_words) plain);
+        shown = p.shown;
+        alone = ap is_last_joined (sym (earlier_is up end legal c h p.shown)) ∙ not-true (is_last_joined (earlier_shown up c)) p.alone;
+        last = not-true (is_raised (up.commands.more c)) p.closing;
+        act = acts_above law carries target count room up down state may some_room run end legal c h p.shown (plain_acts target up c (omega (arith, words, some)) (sym may.same ∙ sym same_words) plain);
       }
 
   acts_there : (c : ℕ) → c < end → IsPlain c → shows down.commands.signals c ≡ true → is_nonempty (operations_in target down.shape (marked_at down c)) ≡ true
@@ -206,13 +202,18 @@ module _ (law : HasPieces) (carries : Carries) (target : Target) (count room : �
       by_take false t = shows_there law carries target count room up down state may some_room run end legal owed c h p.shown t given
 
   plain_below : (c : ℕ) → c < end → IsPlain c → shows down.commands.signals c ≡ true → IsTrue (shows_plain down c)
-  plain_below c h p shown = both shown (both (both (both (both begins alone) closed) single_beat) lanes)
+  plain_below c h p shown = plain_from down c (record {
+    shown = shown;
+    begins = ap (λ (m : Marked). m.transfer.begins) is;
+    alone = alone;
+    ends = ap (λ (m : Marked). m.transfer.ends) is;
+    closing = ap (λ (r : Raw). not (is_raised r.more)) (alone_shown c h shown) ∙ ap not p.last;
+    one = ap (λ (m : Marked). nat_eq (length m.transfer.beats) 1) is;
+    lane = lanes;
+  })
     where
       is : marked_at down c ≡ flat_mark down.shape (raw_at down c)
       is = there_is law carries target count room up down state may some_room run end legal c h shown
-
-      begins : IsTrue (marked_at down c).transfer.begins
-      begins = ap (λ (m : Marked). m.transfer.begins) is
 
       alone : IsTrue (not (is_last_joined (earlier_shown down c)))
       alone = ap (λ l. not (is_last_joined l)) (earlier_is down end legal_there c h shown) ∙ by_joined (is_last_joined (taken_at down c)) refl
@@ -220,12 +221,6 @@ module _ (law : HasPieces) (carries : Carries) (target : Target) (count room : �
           by_joined : (b : Bool) → is_last_joined (taken_at down c) ≡ b → not (is_last_joined (taken_at down c)) ≡ true
           by_joined false e = ap not e
           by_joined true e = absurd (both_ways (is_last_joined (taken_at up c)) p.alone (joined_above c (omega (arith, h)) e))
-
-      closed : IsTrue (closes (marked_at down c))
-      closed = ap closes is ∙ ap (λ (r : Raw). not (is_raised r.more)) (alone_shown c h shown) ∙ ap not p.last
-
-      single_beat : IsTrue (nat_eq (length (marked_at down c).transfer.beats) 1)
-      single_beat = ap (λ (m : Marked). nat_eq (length m.transfer.beats) 1) is
 
       lanes : IsTrue (has_lane down.shape (marked_at down c))
       lanes =
