@@ -57,6 +57,7 @@ pub mod RowOfThree
 pub mod Enables
 pub mod RowLine
 pub mod RowLeads
+pub mod SingleWrites
 pub mod SilentRoute
 pub mod StageLine
 pub mod RowBuilt

@@ -1,22 +1,23 @@
 -- A row of link machines leads to the arbiter: plain commands go straight through it, in step, and first beats are shown promptly.
-use Rattle.std.proofs.Common.{ℕ, ◌<◌, ◌≡◌, Bool, true, false, not, ◌||◌, List, arith, refl, sym, subst, ◌∙◌, IsTrue, IsFalse, le_refl}
+use Rattle.std.proofs.Common.{ℕ, zero, suc, ◌*◌, ◌⊎◌, inl, inr, ◌<◌, ◌≡◌, Bool, true, false, not, ◌||◌, List, arith, refl, sym, subst, ◌∙◌, IsTrue, IsFalse, le_refl}
 use Rattle.std.proofs.lemmas.Bool.{both_ways}
+use Rattle.mm_runs.specs.Commands.{shows}
 use Rattle.mm_machines.specs.Link.{Target, Port, AreLegalAt, AnswersAreOwed, marked_at, operations_in, is_nonempty}
 use Rattle.mm_machines.specs.Machines.{MaySplit}
 use Rattle.mm_machines.specs.PartRanks.{JoinsAlike}
-use Rattle.mm_machines.specs.Straight.{GoesStraightThrough, IsShownPromptly, shows_plain}
+use Rattle.mm_machines.specs.Straight.{GoesStraightThrough, IsShownPromptly, shows_plain, may_be_prompt}
 use Rattle.mm_links.specs.Begins.{BeginsBelow}
 use Rattle.mm_links.specs.Bursts.{BurstState, RunsAsBurst, IsBurstPlan, burst_form}
 use Rattle.mm_links.specs.Cuts.{RunsAsCut, IsCutPlan}
 use Rattle.mm_links.specs.Drops.{DropState, RunsAsDrop, IsDropPlan, drop_form}
 use Rattle.mm_links.specs.InStep.{GoesInStep, AreInStep}
-use Rattle.mm_links.specs.Links.{LinkForm, IsLink, IsStraightLink}
+use Rattle.mm_links.specs.Links.{LinkForm, IsLink, IsStraightLink, chain_form}
 use Rattle.mm_links.specs.Selects.{RunsAsSelect, IsSelectPlan, EnablesFit}
-use Rattle.mm_links.specs.Splits.{SplitState, RunsAsSplit}
+use Rattle.mm_links.specs.Splits.{SplitState, RunsAsSplit, split_form}
 use Rattle.mm_awake.specs.Rows.{IsWired, CutsBursts, CutsBursts.cutter, CutsBursts.shorter, CutsBursts.no_cutter, FitsWords, FitsWords.selector, FitsWords.splitter, FitsWords.no_width, DropsBeats, DropsBeats.dropper, DropsBeats.no_dropper}
 use Rattle.mm_awake.proofs.Enables.{enables_below}
 use Rattle.mm_awake.proofs.RowOfThree.{Carries, IsSettled, settled}
-use Rattle.mm_awake.proofs.RowLine.{RowLaws, cut_linked, fit_linked, drop_linked, linked_carries, cut_words, drop_words}
+use Rattle.mm_awake.proofs.RowLine.{RowLaws, cut_linked, fit_linked, drop_linked, linked_carries, cut_words, drop_words, same_below}
 
 -- the laws of single links
 pub record LeadLaws : Type 0 where
@@ -30,13 +31,16 @@ pub record LeadLaws : Type 0 where
   pub cut_steps : (target : Target) (longest : ℕ) (up down : Port) (state : BurstState) (end : ℕ) → IsCutPlan longest up.shape down.shape → RunsAsCut longest up down state → AreLegalAt up end → AnswersAreOwed down end → GoesInStep false target up down end
   pub drop : (target : Target) (room : ℕ) (up down : Port) (state : DropState) (end : ℕ) → IsDropPlan target up.shape down.shape → 0 < room → RunsAsDrop room up down state → JoinsAlike target up end → (few : ℕ) → IsStraightLink few false false target up down end
   pub drop_steps : (target : Target) (room : ℕ) (up down : Port) (state : DropState) (end : ℕ) → IsDropPlan target up.shape down.shape → 0 < room → RunsAsDrop room up down state → JoinsAlike target up end → AreLegalAt up end → AnswersAreOwed down end → GoesInStep false target up down end
-  pub acts : (target : Target) (port : Port) (c : ℕ) → 0 < port.shape.word_bytes → target.shape.word_bytes ≡ port.shape.word_bytes → IsFalse target.shape.has_enables → IsTrue (shows_plain port c) → IsTrue (is_nonempty (operations_in target port.shape (marked_at port c)))
+  pub split : (target : Target) (room : ℕ) (up down : Port) (state : SplitState) (end : ℕ) → MaySplit target up.shape down.shape 1 → 0 < room → RunsAsSplit room up down state → AreLegalAt up end → AnswersAreOwed down end → GoesStraightThrough (λ c. false) target up down end
+  pub split_steps : (target : Target) (room : ℕ) (up down : Port) (state : SplitState) (end : ℕ) → MaySplit target up.shape down.shape 1 → 0 < room → RunsAsSplit room up down state → AreLegalAt up end → AnswersAreOwed down end → GoesInStep false target up down end
+  pub acts : (target : Target) (port : Port) (c : ℕ) → 0 < port.shape.word_bytes → target.shape.word_bytes ≡ port.shape.word_bytes → IsTrue (shows_plain port c) → IsTrue (is_nonempty (operations_in target port.shape (marked_at port c)))
   pub chain : (ahead : Bool) (first second : LinkForm) (up middle down : Port) (end : ℕ) → first.target ≡ second.target → IsLink first up middle end → IsLink second middle down end → AreLegalAt up end → AnswersAreOwed down end → AreInStep ahead first.target up middle down end →
       GoesStraightThrough (λ c. ahead) first.target up middle end → GoesStraightThrough (λ c. ahead) first.target middle down end → GoesStraightThrough (λ c. ahead) first.target up down end
   pub chain_steps : (ahead : Bool) (first second : LinkForm) (up middle down : Port) (end : ℕ) → first.target ≡ second.target → IsLink first up middle end → IsLink second middle down end → AreLegalAt up end → AnswersAreOwed down end → AreInStep ahead first.target up middle down end →
       GoesStraightThrough (λ c. ahead) first.target up middle end → up.shape.word_bytes ≡ middle.shape.word_bytes → GoesInStep ahead first.target up down end
   -- prompt
   pub prompt : (few : ℕ) (may_burst : Bool) (target : Target) (up down : Port) (end : ℕ) → AreLegalAt up end → AreLegalAt down end → BeginsBelow few may_burst target up down end → IsShownPromptly few may_burst target up down end
+  pub singles : (few : ℕ) (may_burst : Bool) (target : Target) (up down : Port) (end : ℕ) → ((c : ℕ) → c < end → IsTrue (shows up.commands.signals c) → IsTrue (may_be_prompt false (marked_at up c))) → BeginsBelow few false target up down end → BeginsBelow few may_burst target up down end
   pub pass_begins : (few : ℕ) (may_burst : Bool) (target : Target) (port : Port) (end : ℕ) → AreLegalAt port end → BeginsBelow few may_burst target port port end
   pub select_begins : (target : Target) (up down : Port) (many room : ℕ) (offsets : ℕ → List ℕ) (end : ℕ) → IsSelectPlan target up.shape down.shape many → 1 < room → RunsAsSelect room up down offsets → EnablesFit up end → AreLegalAt up end → AnswersAreOwed down end →
       (few : ℕ) (may_burst : Bool) → BeginsBelow few may_burst target up down end
@@ -63,61 +67,121 @@ module _ (laws : LeadLaws) (target : Target) (end : ℕ) where
     pub straight : GoesStraightThrough (λ c. false) target up down end
     pub step : GoesInStep false target up down end
 
-  -- a cutter of bursts, whichever it is
-  record CutLink (top middle : Port) : Type 0 where
-    pub link : IsLink (burst_form target) top middle end
-    pub some : 0 < top.shape.word_bytes
-    pub same : middle.shape.word_bytes ≡ top.shape.word_bytes
-    pub leads : AreLegalAt top end → AnswersAreOwed middle end → Leads top middle
+  -- a link of some form that leads
+  record Led (up down : Port) : Type 0 where
+    pub form : LinkForm
+    pub link : IsLink (record form { target = target }) up down end
+    pub some : 0 < up.shape.word_bytes
+    pub same : down.shape.word_bytes ≡ up.shape.word_bytes
+    pub leads : AreLegalAt up end → AnswersAreOwed down end → Leads up down
 
-  drop_leads : (low down : Port) → DropsBeats target low down → AreLegalAt low end → AnswersAreOwed down end → JoinsAlike target low end → Leads low down
-  drop_leads low down (dropper room state plan some run) legal owed alike = record {
-    straight = (laws.drop target room low down state end plan some run alike 0).straight legal owed;
-    step = laws.drop_steps target room low down state end plan some run alike legal owed;
-  }
-  drop_leads low down (no_dropper wired) legal owed alike =
-      subst (λ p. Leads low p) wired.same (record { straight = (laws.wire target low end).straight legal (subst (λ p. AnswersAreOwed p end) (sym wired.same) owed); step = laws.wire_steps false target low end })
+  -- one whose words are those of the agent
+  record FitLed (up down : Port) : Type 0 where
+    pub led : Led up down
+    pub fits : target.shape.word_bytes ≡ up.shape.word_bytes
 
-  cut_over_drop : (top low down : Port) → CutLink top low → DropsBeats target low down → AreLegalAt top end → AnswersAreOwed down end → AreLegalAt low end → AnswersAreOwed low end → JoinsAlike target low end → Leads top down
-  cut_over_drop top low down cut (no_dropper wired) legal owed legal_low owed_low alike = subst (λ p. Leads top p) wired.same (cut.leads legal owed_low)
-  cut_over_drop top low down cut (dropper room state plan some run) legal owed legal_low owed_low alike = record {
-    straight = laws.chain false (burst_form target) (drop_form target) top low down end refl cut.link link legal owed steps above.straight below.straight;
-    step = laws.chain_steps false (burst_form target) (drop_form target) top low down end refl cut.link link legal owed steps above.straight (sym cut.same);
+  two_lead : (up middle down : Port) → Led up middle → FitLed middle down → AreLegalAt up end → AnswersAreOwed down end → AreLegalAt middle end → AnswersAreOwed middle end → Leads up down
+  two_lead up middle down one two legal owed legal_there owed_there = record {
+    straight = laws.chain false (record one.form { target = target }) (record two.led.form { target = target }) up middle down end refl one.link two.led.link legal owed steps above.straight below.straight;
+    step = laws.chain_steps false (record one.form { target = target }) (record two.led.form { target = target }) up middle down end refl one.link two.led.link legal owed steps above.straight (sym one.same);
   }
     where
-      above : Leads top low
-      above = cut.leads legal owed_low
+      above : Leads up middle
+      above = one.leads legal owed_there
 
-      below : Leads low down
-      below = drop_leads low down (dropper room state plan some run) legal_low owed alike
+      below : Leads middle down
+      below = two.led.leads legal_there owed
 
-      link : IsLink (drop_form target) low down end
-      link = laws.rows.links.drop target room low down state end plan some run alike
+      steps : AreInStep false target up middle down end
+      steps = record { words = λ same. one.same; acts = λ c h plain. laws.acts target up c one.some (two.fits ∙ one.same) plain; first = above.step; second = below.step }
 
-      steps : AreInStep false target top low down end
-      steps = record {
-        words = λ same. cut.same;
-        acts = λ c h plain. laws.acts target top c cut.some (plan.agent ∙ cut.same) plan.enables plain;
-        first = above.step;
-        second = below.step;
+  drop_led : (low down : Port) (room : ℕ) (state : DropState) → IsDropPlan target low.shape down.shape → 0 < room → RunsAsDrop room low down state → JoinsAlike target low end → FitLed low down
+  drop_led low down room state plan some run alike = record {
+    led = record {
+      form = drop_form target;
+      link = laws.rows.links.drop target room low down state end plan some run alike;
+      some = plan.some;
+      same = plan.same;
+      leads = λ legal owed. record { straight = (laws.drop target room low down state end plan some run alike 0).straight legal owed; step = laws.drop_steps target room low down state end plan some run alike legal owed };
+    };
+    fits = plan.agent;
+  }
+
+  split_led : (middle low : Port) (room : ℕ) (state : SplitState) → MaySplit target middle.shape low.shape 1 → 0 < room → RunsAsSplit room middle low state → FitLed middle low
+  split_led middle low room state may some run =
+      let once : 1 * low.shape.word_bytes ≡ low.shape.word_bytes = omega arith in
+      let words : middle.shape.word_bytes ≡ low.shape.word_bytes = may.whole ∙ once in
+      record {
+        led = record {
+          form = split_form target;
+          link = laws.rows.links.split target room 1 middle low state end may some run;
+          some = (let less = may.some in omega (arith, words, less));
+          same = sym words;
+          leads = λ legal owed. record { straight = laws.split target room middle low state end may some run legal owed; step = laws.split_steps target room middle low state end may some run legal owed };
+        };
+        fits = sym may.same ∙ sym words;
       }
 
-  two_lead : (top low down : Port) → CutsBursts top low → DropsBeats target low down → AreLegalAt top end → AnswersAreOwed down end → AreLegalAt low end → AnswersAreOwed low end → JoinsAlike target low end → Leads top down
-  two_lead top low down (cutter state plan run) drops legal owed legal_low owed_low alike =
-      cut_over_drop top low down (record {
-        link = laws.rows.links.burst target top low state end plan run;
-        some = plan.some;
-        same = plan.same;
-        leads = λ legal owed. record { straight = (laws.burst target top low state end plan run 0 false).straight legal owed; step = laws.burst_steps target top low state end plan run legal owed };
-      }) drops legal owed legal_low owed_low alike
-  two_lead top low down (shorter longest state plan run) drops legal owed legal_low owed_low alike =
-      cut_over_drop top low down (record {
-        link = laws.rows.links.cut target longest top low state end plan run;
-        some = plan.some;
-        same = plan.same;
-        leads = λ legal owed. record { straight = (laws.cut target longest top low state end plan run 0 false).straight legal owed; step = laws.cut_steps target longest top low state end plan run legal owed };
-      }) drops legal owed legal_low owed_low alike
-  two_lead top low down (no_cutter wired) drops legal owed legal_low owed_low alike = subst (λ p. Leads p down) (sym wired.same) (drop_leads low down drops legal_low owed alike)
+  cut_led : (top middle : Port) → CutsBursts top middle → IsWired top middle ⊎ Led top middle
+  cut_led top middle (cutter state plan run) = inr (record {
+    form = burst_form target;
+    link = laws.rows.links.burst target top middle state end plan run;
+    some = plan.some;
+    same = plan.same;
+    leads = λ legal owed. record { straight = (laws.burst target top middle state end plan run 0 false).straight legal owed; step = laws.burst_steps target top middle state end plan run legal owed };
+  })
+  cut_led top middle (shorter longest state plan run) = inr (record {
+    form = burst_form target;
+    link = laws.rows.links.cut target longest top middle state end plan run;
+    some = plan.some;
+    same = plan.same;
+    leads = λ legal owed. record { straight = (laws.cut target longest top middle state end plan run 0 false).straight legal owed; step = laws.cut_steps target longest top middle state end plan run legal owed };
+  })
+  cut_led top middle (no_cutter wired) = inl wired
+
+  -- between equal words a splitter makes one piece, and no lane selector stands there
+  count_is_one : (count size : ℕ) → 0 < count → 0 < size → count * size ≡ size → count ≡ 1
+  count_is_one zero size more some same = omega (arith, more)
+  count_is_one (suc zero) size more some same = refl
+  count_is_one (suc (suc k)) size more some same = absurd (omega (arith, some, same))
+
+  -- what lies below the cutter
+  lower_led : (middle low down : Port) → FitsWords target middle low → DropsBeats target low down → middle.shape.word_bytes ≡ low.shape.word_bytes → JoinsAlike target low end → AreLegalAt low end → AnswersAreOwed low end → IsWired middle down ⊎ FitLed middle down
+  lower_led middle low down (selector many room offsets plan deep run) drops same alike legal owed =
+      let more = plan.more in
+      let one = count_is_one many middle.shape.word_bytes (omega (arith, more)) plan.some (sym (same ∙ plan.whole)) in
+      absurd (omega (arith, more, one))
+  lower_led middle low down (no_width wired) (no_dropper below) same alike legal owed = inl (record { same = wired.same ∙ below.same; some = wired.some })
+  lower_led middle low down (no_width wired) (dropper room state plan some run) same alike legal owed = inr (subst (λ p. FitLed p down) (sym wired.same) (drop_led low down room state plan some run alike))
+  lower_led middle low down (splitter count room state may some run) drops same alike legal owed =
+      by_drops drops (count_is_one count low.shape.word_bytes may.one may.some (sym (sym same ∙ may.whole)))
+    where
+      by_drops : DropsBeats target low down → count ≡ 1 → IsWired middle down ⊎ FitLed middle down
+      by_drops (no_dropper below) one = inr (subst (λ p. FitLed middle p) below.same (split_led middle low room state (subst (MaySplit target middle.shape low.shape) one may) some run))
+      by_drops (dropper deep drops plan less drop) one =
+          let high = split_led middle low room state (subst (MaySplit target middle.shape low.shape) one may) some run in
+          let last = drop_led low down deep drops plan less drop alike in
+          inr (record {
+            led = record {
+              form = chain_form (split_form target) (drop_form target);
+              link = laws.rows.chain (split_form target) (drop_form target) middle low down end (record { target = refl; pieces = same_below middle (drop_words (dropper deep drops plan less drop)); words = refl })
+                  (laws.rows.links.split target room count middle low state end may some run) (laws.rows.links.drop target deep low down drops end plan less drop alike);
+              some = high.led.some;
+              same = last.led.same ∙ high.led.same;
+              leads = λ legal_up owed_down. two_lead middle low down high.led last legal_up owed_down legal owed;
+            };
+            fits = high.fits;
+          })
+
+  wire_leads : (top down : Port) → IsWired top down → AreLegalAt top end → AnswersAreOwed down end → Leads top down
+  wire_leads top down wired legal owed =
+      subst (λ p. Leads top p) wired.same (record { straight = (laws.wire target top end).straight legal (subst (λ p. AnswersAreOwed p end) (sym wired.same) owed); step = laws.wire_steps false target top end })
+
+  three_lead : (top middle down : Port) → IsWired top middle ⊎ Led top middle → IsWired middle down ⊎ FitLed middle down → AreLegalAt top end → AnswersAreOwed down end → AreLegalAt middle end → AnswersAreOwed middle end → Leads top down
+  three_lead top middle down (inl wired) (inl below) legal owed legal_there owed_there = wire_leads top down (record { same = wired.same ∙ below.same; some = wired.some }) legal owed
+  three_lead top middle down (inl wired) (inr two) legal owed legal_there owed_there = subst (λ p. Leads p down) (sym wired.same) (two.led.leads legal_there owed)
+  three_lead top middle down (inr one) (inl below) legal owed legal_there owed_there = subst (λ p. Leads top p) below.same (one.leads legal owed_there)
+  three_lead top middle down (inr one) (inr two) legal owed legal_there owed_there = two_lead top middle down one two legal owed legal_there owed_there
 
   -- ---- the row
 
@@ -137,20 +201,20 @@ module _ (laws : LeadLaws) (target : Target) (end : ℕ) where
     between : IsSettled target top middle low down end legal owed alike high mid last end
     between = settled target top middle low down end legal owed alike high mid last end (le_refl end)
 
-    row_leads : (middle.shape.word_bytes ≡ low.shape.word_bytes → IsWired middle low) → top.shape.word_bytes ≡ down.shape.word_bytes → Leads top down
-    row_leads equal same =
-        let wired = equal ((cut_words cuts).same ∙ same ∙ (drop_words drops).same) in
-        two_lead top low down (subst (λ p. CutsBursts top p) wired.same cuts) drops legal owed between.legal_low between.owed_low between.alike_low
+    row_leads : top.shape.word_bytes ≡ down.shape.word_bytes → Leads top down
+    row_leads same =
+        three_lead top middle down (cut_led top middle cuts)
+        (lower_led middle low down fits drops ((cut_words cuts).same ∙ same ∙ (drop_words drops).same) between.alike_low between.legal_low between.owed_low) legal owed between.legal_middle between.owed_middle
 
-    pub row_is_straight : (middle.shape.word_bytes ≡ low.shape.word_bytes → IsWired middle low) → GoesStraightThrough (λ c. false) target top down end
-    row_is_straight equal = record {
-      shown = λ c h same. (row_leads equal same).straight.shown c h same;
-      accepted = λ c h same. (row_leads equal same).straight.accepted c h same;
-      kept = λ c h same. (row_leads equal same).straight.kept c h same;
+    pub row_is_straight : GoesStraightThrough (λ c. false) target top down end
+    row_is_straight = record {
+      shown = λ c h same. (row_leads same).straight.shown c h same;
+      accepted = λ c h same. (row_leads same).straight.accepted c h same;
+      kept = λ c h same. (row_leads same).straight.kept c h same;
     }
 
-    pub row_is_in_step : (middle.shape.word_bytes ≡ low.shape.word_bytes → IsWired middle low) → top.shape.word_bytes ≡ down.shape.word_bytes → GoesInStep false target top down end
-    row_is_in_step equal same = (row_leads equal same).step
+    pub row_is_in_step : top.shape.word_bytes ≡ down.shape.word_bytes → GoesInStep false target top down end
+    row_is_in_step same = (row_leads same).step
 
     module _ (few : ℕ) (may_burst : Bool) (later : 0 < few) where
       fit_begins : FitsWords target middle low → BeginsBelow few may_burst target middle low end
@@ -186,3 +250,7 @@ module _ (laws : LeadLaws) (target : Target) (end : ℕ) where
 
       pub row_is_prompt : (IsTrue may_burst → IsWired low down) → IsShownPromptly few may_burst target top down end
       row_is_prompt single = laws.prompt few may_burst target top down end legal legal_below (upper_begins cuts (lower_begins single))
+
+    pub single_is_prompt : (few : ℕ) (may_burst : Bool) → 0 < few → ((c : ℕ) → c < end → IsTrue (shows top.commands.signals c) → IsTrue (may_be_prompt false (marked_at top c))) → IsShownPromptly few may_burst target top down end
+    single_is_prompt few may_burst later single =
+        laws.prompt few may_burst target top down end legal (legal_below few may_burst later) (laws.singles few may_burst target top down end single (upper_begins few false later cuts (lower_begins few false later (λ bursts. absurd cc))))

@@ -57,7 +57,7 @@ same_above {up} {middle} down words =
     let same : pieces middle.shape down.shape ≡ pieces up.shape down.shape = ap (λ n. n / min n down.shape.word_bytes) words.same in
     subst (λ n. pieces middle.shape down.shape * n ≤ pieces up.shape down.shape) (sym (one_piece words)) (omega (arith, same))
 
-same_below : {middle down : Port} (up : Port) → HasSameWords middle down → pieces middle.shape down.shape * pieces up.shape middle.shape ≤ pieces up.shape down.shape
+pub same_below : {middle down : Port} (up : Port) → HasSameWords middle down → pieces middle.shape down.shape * pieces up.shape middle.shape ≤ pieces up.shape down.shape
 same_below {middle} {down} up words =
     let same : pieces up.shape down.shape ≡ pieces up.shape middle.shape = ap (λ n. up.shape.word_bytes / min up.shape.word_bytes n) words.same in
     subst (λ n. n * pieces up.shape middle.shape ≤ pieces up.shape down.shape) (sym (one_piece words)) (omega (arith, same))

@@ -39,7 +39,7 @@ pub record AreRows (system : System) (run : Run) (ports : RowPorts) (end : ℕ) 
   pub wired : (h a : ℕ) → h < system.hosts → a < system.agents → IsTrue (is_joined system a h) → IsTrue (system.agent a).has_readdatavalid → IsTrue (is_alike (system.host h) (system.agent a)) →
       ports.before_arbiter h a ≡ ports.after_route h a
 
--- between equal words only a wire stands for what fits words, and beats are dropped only below a host with byte enables: what drops beats keeps a write until the next beat comes, and a burst of a host without byte enables is counted from its first one
-pub record IsFairRow (system : System) (ports : RowPorts) (agent host : ℕ) : Type 0 where
-  pub words : (ports.below_cutter host agent).shape.word_bytes ≡ (ports.above_dropper host agent).shape.word_bytes → IsWired (ports.below_cutter host agent) (ports.above_dropper host agent)
-  pub enables : IsFalse (system.host host).has_enables → IsWired (ports.above_dropper host agent) (ports.before_arbiter host agent)
+-- no beats are dropped below a host with bursts and without byte enables: its write bursts are counted from their first beat, which is kept there until the next one comes
+abbrev pub IsFairRow : System → RowPorts → ℕ → ℕ → Type 0
+IsFairRow system ports agent host =
+    IsFalse (system.host host).has_enables → IsTrue (system.host host).has_burst → IsWired (ports.above_dropper host agent) (ports.before_arbiter host agent)

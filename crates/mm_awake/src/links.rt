@@ -3,10 +3,11 @@
 ghost use Rattle.std.specs.Prelude.{◌≡◌, ℕ, ◌<◌, ◌≤◌, Bool, List, IsTrue, IsFalse, false};
 ghost use Rattle.mm_machines.specs.Lines.{KeepsRow, BringsLanes, HavePlacedLanes, sent_by, target_of};
 ghost use Rattle.mm_runs.specs.Order.{host_transfers};
-ghost use Rattle.mm_machines.specs.Link.{Target, Port, AreLegalAt, AnswersAreOwed};
+ghost use Rattle.mm_runs.specs.Commands.{shows};
+ghost use Rattle.mm_machines.specs.Link.{Target, Port, AreLegalAt, AnswersAreOwed, marked_at};
 ghost use Rattle.mm_machines.specs.Machines.{MaySplit};
 ghost use Rattle.mm_machines.specs.PartRanks.{JoinsAlike};
-ghost use Rattle.mm_machines.specs.Straight.{GoesStraightThrough, IsShownPromptly};
+ghost use Rattle.mm_machines.specs.Straight.{GoesStraightThrough, IsShownPromptly, may_be_prompt};
 ghost use Rattle.mm_links.specs.Bursts.{BurstState, RunsAsBurst, IsBurstPlan};
 ghost use Rattle.mm_links.specs.Cuts.{RunsAsCut, IsCutPlan};
 ghost use Rattle.mm_links.specs.Drops.{DropState, RunsAsDrop, IsDropPlan};
@@ -116,17 +117,19 @@ pub fn rows_keep_their_lines()
     mm_links::drops::drop_is_a_link()
 }
 
-/// Plain commands go straight through such a row, and it goes in step between equal words, where only a wire stands for what fits words.
-/// It shows first beats within a cycle: a first piece that is kept, where beats are dropped, goes on with the second one. There the first beats of joined writes aren't to be shown promptly.
+/// Plain commands go straight through such a row, and it goes in step between equal words. It shows first beats within a cycle: a first piece that is kept, where beats are dropped, goes on with the second one. There the first beats of joined writes aren't to be shown promptly, or each write that is shown ends its command.
 pub fn rows_are_straight()
     ensures straight { (target : Target) (top middle low down : Port) (end : ℕ) → CutsBursts top middle → FitsWords target middle low → DropsBeats target low down
-        → EnablesFit top end → (middle.shape.word_bytes ≡ low.shape.word_bytes → IsWired middle low) → AreLegalAt top end → AnswersAreOwed down end → JoinsAlike target top end
+        → EnablesFit top end → AreLegalAt top end → AnswersAreOwed down end → JoinsAlike target top end
         → GoesStraightThrough (λ c. false) target top down end }
     ensures step { (target : Target) (top middle low down : Port) (end : ℕ) → CutsBursts top middle → FitsWords target middle low → DropsBeats target low down
-        → EnablesFit top end → (middle.shape.word_bytes ≡ low.shape.word_bytes → IsWired middle low) → AreLegalAt top end → AnswersAreOwed down end → JoinsAlike target top end
+        → EnablesFit top end → AreLegalAt top end → AnswersAreOwed down end → JoinsAlike target top end
         → top.shape.word_bytes ≡ down.shape.word_bytes → GoesInStep false target top down end }
     ensures prompt { (few : ℕ) (may_burst : Bool) (target : Target) (top middle low down : Port) (end : ℕ) → 0 < few → CutsBursts top middle → FitsWords target middle low → DropsBeats target low down
         → EnablesFit top end → (IsTrue may_burst → IsWired low down) → AreLegalAt top end → AnswersAreOwed down end → JoinsAlike target top end
+        → IsShownPromptly few may_burst target top down end }
+    ensures single { (few : ℕ) (may_burst : Bool) (target : Target) (top middle low down : Port) (end : ℕ) → 0 < few → CutsBursts top middle → FitsWords target middle low → DropsBeats target low down
+        → EnablesFit top end → ((c : ℕ) → c < end → IsTrue (shows top.commands.signals c) → IsTrue (may_be_prompt false (marked_at top c))) → AreLegalAt top end → AnswersAreOwed down end → JoinsAlike target top end
         → IsShownPromptly few may_burst target top down end }
 {
     mm_machines::links::rows_compose();
@@ -142,10 +145,12 @@ pub fn rows_are_straight()
     mm_links::bursts::cut_goes_in_step();
     mm_links::widths::select_is_a_link();
     mm_links::widths::split_is_a_link();
+    mm_links::widths::split_is_straight();
     mm_links::drops::drop_is_a_link();
     mm_links::drops::drop_is_straight();
     mm_links::drops::plain_commands_act();
     mm_links::begins::what_begins_is_prompt();
+    mm_links::begins::single_writes_begin();
     mm_links::begins::links_begin_below();
     mm_links::begins::split_begins_over_drop();
     mm_links::begins::cutters_begin_over_links()

@@ -1,4 +1,4 @@
-//! Systems of machines whose links are machines too: where to start. They are safe, never idle, and are fair where beats are dropped only below hosts with byte enables.
+//! Systems of machines whose links are machines too: where to start. They are safe, never idle, and are fair where no beats are dropped below a host with bursts and without byte enables.
 
 ghost use Rattle.std.specs.Prelude.{ℕ, ◌<◌, ◌+◌, IsTrue, IsFalse};
 ghost use Rattle.mm_runs.specs.Views.{Responses, System, Run};
@@ -56,7 +56,7 @@ pub fn machines_with_links_are_awake()
     crate::machines_are_awake()
 }
 
-/// And it is fair where no host is joined to an agent twice, and in each row of a host that is joined only a wire stands for what fits equal words, and beats are dropped only below a host with byte enables.
+/// And it is fair where no host is joined to an agent twice, and no beats are dropped below a host with bursts and without byte enables.
 pub fn machines_with_links_are_fair()
     ensures { (responses : Responses) (system : System) (run : Run) (ports : RowPorts) (states : States) (end : ℕ)
         → ArePlanned system (boundaries_of ports) states → AreMachines responses system run (boundaries_of ports) states end → AreRows system run ports end → IsLegalRun system run end
@@ -66,7 +66,9 @@ pub fn machines_with_links_are_fair()
 {
     machines_with_links_are_built();
     crate::links::rows_are_straight();
-    crate::fair::straight_machines_are_fair()
+    crate::built::machines_keep_their_records();
+    crate::fair::straight_machines_are_fair();
+    mm_links::begins::single_writes_begin()
 }
 
 /// Such systems exist: a plain system of machines is one, with wires for links, whatever its hosts and agents give, as long as they are legal.

@@ -189,11 +189,11 @@ rows links = record {
   wired = λ h a is there joined has alike. pairs (λ h a. IsTrue (is_alike (burst_system.host h) (burst_system.agent a)) → before_arbiter h a ≡ after_route h a) (λ x. cc) (λ x. cc) (λ x. refl) (λ x. cc) h a is there alike;
 }
 
--- words are all of one size, and host 1, whose beats are dropped, has byte enables
+-- host 1, whose beats are dropped, has byte enables
 pub fair_row : (agent host : ℕ) → agent < 2 → IsTrue (is_joined burst_system agent host) → IsFairRow burst_system burst_ports agent host
 fair_row agent host there joined = pairs (λ h a. IsFairRow burst_system burst_ports a h)
-    (record { words = λ same. wire_below 0 0 (omega arith) (omega arith); enables = λ none. wire_below 0 0 (omega arith) (omega arith) })
-    (record { words = λ same. wire_below 0 1 (omega arith) (omega arith); enables = λ none. wire_below 0 1 (omega arith) (omega arith) })
-    (record { words = λ same. wire_below 1 0 (omega arith) (omega arith); enables = λ none. wire_below 1 0 (omega arith) (omega arith) })
-    (record { words = λ same. wire_below 1 1 (omega arith) (omega arith); enables = λ none. absurd (never true refl none) })
+    (λ none bursts. wire_below 0 0 (omega arith) (omega arith))
+    (λ none bursts. wire_below 0 1 (omega arith) (omega arith))
+    (λ none bursts. wire_below 1 0 (omega arith) (omega arith))
+    (λ none bursts. absurd (never true refl none))
     host agent (joined_below host joined) there

@@ -195,11 +195,6 @@ rows links = record {
   wired = λ h a is there joined has alike. pairs (λ h a. IsTrue (is_alike (width_system.host h) (width_system.agent a)) → before_arbiter h a ≡ after_route h a) (λ x. refl) (λ x. cc) (λ x. cc) (λ x. refl) h a is there alike;
 }
 
--- between equal words each link is a wire, and no beats are dropped
+-- no beats are dropped
 pub fair_row : (agent host : ℕ) → agent < 2 → IsTrue (is_joined width_system agent host) → IsFairRow width_system width_ports agent host
-fair_row agent host there joined = pairs (λ h a. IsFairRow width_system width_ports a h)
-    (record { words = λ same. wire 0 0 (omega arith) (omega arith); enables = λ none. wire_below 0 0 (omega arith) (omega arith) })
-    (record { words = λ same. let bad : ⊥ = cc in absurd bad; enables = λ none. wire_below 0 1 (omega arith) (omega arith) })
-    (record { words = λ same. let bad : ⊥ = cc in absurd bad; enables = λ none. wire_below 1 0 (omega arith) (omega arith) })
-    (record { words = λ same. wire 1 1 (omega arith) (omega arith); enables = λ none. wire_below 1 1 (omega arith) (omega arith) })
-    host agent (joined_below host joined) there
+fair_row agent host there joined = λ none bursts. wire_below host agent (joined_below host joined) there

@@ -13,6 +13,7 @@ use Rattle.mm_machines.specs.Straight.{IsShownPromptly, begins_alone, may_be_pro
 use Rattle.mm_links.specs.Begins.{BeginsBelow, shows_first, operations_taken}
 use Rattle.mm_links.proofs.Alike.{IsAlike, taken_alike, alike_operations}
 use Rattle.mm_links.proofs.InStep.{shown_with, both}
+use Rattle.mm_links.proofs.OneBeat.{count_is_one, flat_at}
 use Rattle.mm_links.proofs.Prompt.{some_in, is_some, some_operation, front_get, only_then}
 use Rattle.mm_links.proofs.Reached.{get_low, get_end, take_front_of, begun_by}
 
@@ -152,6 +153,24 @@ module _ (few : ℕ) (may_burst : Bool) (target : Target) (up down : Port) (end 
         let now : d ≡ c = only_then up c d order takes_it same above in
         (now, subst (λ k. takes down k ≡ true) now (there.1 (subst (λ k. takes up k ≡ true) (sym now) takes_it)));
   }
+
+-- ---- where each write ends its command
+
+pub singles_begin : (few : ℕ) (may_burst : Bool) (target : Target) (up down : Port) (end : ℕ) → ((c : ℕ) → c < end → IsTrue (shows up.commands.signals c) → IsTrue (may_be_prompt false (marked_at up c))) →
+    BeginsBelow few false target up down end → BeginsBelow few may_burst target up down end
+singles_begin few may_burst target up down end single begins = record {
+  taken = λ c h first t. begins.taken c h (as_single c h first) t;
+  waits = λ c h first not_taken reached given. begins.waits c h (as_single c (omega (arith, h)) first) not_taken reached given;
+  empty = begins.empty;
+}
+  where
+    as_single : (c : ℕ) → c < end → IsTrue (shows_first may_burst target up c) → IsTrue (shows_first false target up c)
+    as_single c h first =
+        let is = first_parts may_burst target up c first in
+        first_from false target up c (record { shown = is.shown; may = single c h is.shown; acts = is.acts })
+
+pub single_ends : (port : Port) (end : ℕ) → AreLegalAt port end → port.shape.burst_bits ≡ 1 → (c : ℕ) → c < end → IsTrue (shows port.commands.signals c) → IsTrue (marked_at port c).transfer.ends
+single_ends port end legal one c h shown = ap (λ (m : Marked). m.transfer.ends) (flat_at port end legal (count_is_one port end one legal) c h shown)
 
 -- ---- a wire
 

@@ -1,5 +1,5 @@
 -- A cutter of bursts goes in step with the links beside it.
-use Rattle.std.proofs.Common.{ℕ, ◌<◌, ◌≤◌, ◌≡◌, true, false, not, ◌&&◌, List, arith, sym, ap, ap₂, ◌∙◌, length, nat_eq, IsTrue, le-leb, leb-true}
+use Rattle.std.proofs.Common.{ℕ, ◌<◌, ◌≤◌, ◌≡◌, true, false, not, List, arith, sym, ap, ap₂, ◌∙◌, length, nat_eq, IsTrue, le-leb, leb-true}
 use Rattle.std.specs.List.{list_any}
 use Rattle.std.proofs.lemmas.Bool.{and_parts}
 use Rattle.histories.specs.History.{numbers}
@@ -7,12 +7,12 @@ use Rattle.histories.specs.Laws.{prefix_flat_map, prefix_length}
 use Rattle.mm_runs.specs.Operations.{Beat, is_enabled}
 use Rattle.mm_runs.specs.Commands.{shows}
 use Rattle.mm_machines.specs.Link.{Target, Port, AnswersAreOwed, marked_at, taken_at, operations_among, operations_in, is_nonempty, closes, words_at, read_beats, is_last_joined}
-use Rattle.mm_machines.specs.Straight.{begins_alone, has_lane, earlier_shown, shows_plain, is_plain}
+use Rattle.mm_machines.specs.Straight.{earlier_shown, shows_plain}
 use Rattle.mm_links.specs.InStep.{GoesInStep, is_next}
-use Rattle.mm_links.proofs.CutLists.{IsPartOf, all_operations, more_below}
+use Rattle.mm_links.proofs.CutLists.{all_operations, more_below}
 use Rattle.mm_links.proofs.CutLink.{Cutting, IsOnePart, one_part, first_is, steps, taken_front, up_steps, all_sent, shows_same, takes_same, all_gone, words_same, reads_front, same_taken}
-use Rattle.mm_links.proofs.InStep.{earlier_is, both, of_next}
-use Rattle.mm_links.proofs.CutStraight.{IsPlainAt, plain_at, idle_when_given, idle_taken, goes_through}
+use Rattle.mm_links.proofs.InStep.{IsShownPlain, plain_parts, plain_from, earlier_is, of_next}
+use Rattle.mm_links.proofs.CutStraight.{plain_at, idle_when_given, idle_taken, goes_through}
 
 module _ (target : Target) (up down : Port) (end : ℕ) (cut : Cutting target up down end) (owed : AnswersAreOwed down end) where
   after : (c : ℕ) → c ≤ end → length (operations_among target down.shape (taken_at down c)) ≤ length (operations_among target up.shape (taken_at up c))
@@ -24,34 +24,26 @@ module _ (target : Target) (up down : Port) (end : ℕ) (cut : Cutting target up
       omega (arith, fewer, taken, whole, above)
 
   plain_below : (c : ℕ) → c < end → IsTrue (shows_plain up c) → cut.sends c ≡ false → IsTrue (shows_plain down c)
-  plain_below c h plain idle = both there (both (both (both alone closed) single) lanes)
+  plain_below c h plain idle =
+      let ends = and_parts (marked_at down c).transfer.ends (not (marked_at down c).more) closed in
+      plain_from down c (record {
+        shown = there;
+        begins = cut.alone c h idle p.shown p.begins;
+        alone = ap not joined ∙ p.alone;
+        ends = ends.0;
+        closing = ends.1;
+        one = ap (λ (l : List Beat). nat_eq (length l) 1) one.beats ∙ p.one;
+        lane = ap₂ (λ (l : List Beat) n. list_any (λ (b : Beat). list_any (is_enabled b.enables) (numbers 0 n)) l) one.beats cut.same ∙ p.lane;
+      })
     where
-      p : IsPlainAt target up down end cut owed c
-      p = plain_at target up down end cut owed c plain
+      p : IsShownPlain up c
+      p = plain_parts up c plain
 
       there : shows down.commands.signals c ≡ true
       there = shows_same target up down end cut c idle ∙ p.shown
 
       one : IsOnePart (marked_at up c) (marked_at down c) (cut.behind c)
-      one = one_part target up down end cut c h idle p.shown p.one
-
-      part : IsPartOf target up.shape (marked_at up c) (marked_at down c)
-      part = first_is target up down end cut c h idle p.shown
-
-      is_up : IsTrue (is_plain up.shape (earlier_shown up c) (marked_at up c))
-      is_up = (and_parts (shows up.commands.signals c) (is_plain up.shape (earlier_shown up c) (marked_at up c)) plain).1
-
-      fronts : IsTrue (begins_alone (earlier_shown up c) (marked_at up c) && closes (marked_at up c) && nat_eq (length (marked_at up c).transfer.beats) 1) × IsTrue (has_lane up.shape (marked_at up c))
-      fronts = and_parts (begins_alone (earlier_shown up c) (marked_at up c) && closes (marked_at up c) && nat_eq (length (marked_at up c).transfer.beats) 1) (has_lane up.shape (marked_at up c)) is_up
-
-      three : IsTrue (begins_alone (earlier_shown up c) (marked_at up c) && closes (marked_at up c)) × IsTrue (nat_eq (length (marked_at up c).transfer.beats) 1)
-      three = and_parts (begins_alone (earlier_shown up c) (marked_at up c) && closes (marked_at up c)) (nat_eq (length (marked_at up c).transfer.beats) 1) fronts.0
-
-      two : IsTrue (begins_alone (earlier_shown up c) (marked_at up c)) × IsTrue (closes (marked_at up c))
-      two = and_parts (begins_alone (earlier_shown up c) (marked_at up c)) (closes (marked_at up c)) three.0
-
-      begins : IsTrue (marked_at up c).transfer.begins × IsTrue (not (is_last_joined (earlier_shown up c)))
-      begins = and_parts (marked_at up c).transfer.begins (not (is_last_joined (earlier_shown up c))) two.0
+      one = one_part target up down end cut c h idle p.shown (plain_at target up down end cut owed c plain).one
 
       joined : is_last_joined (earlier_shown down c) ≡ is_last_joined (earlier_shown up c)
       joined =
@@ -59,17 +51,8 @@ module _ (target : Target) (up down : Port) (end : ℕ) (cut : Cutting target up
           ∙ more_below target up.shape (steps target up down end cut c) (all_sent target up down end cut c (omega (arith, h)))
           ∙ ap is_last_joined (sym (up_steps target up down end cut c) ∙ sym (earlier_is up end cut.legal c h p.shown))
 
-      alone : IsTrue (begins_alone (earlier_shown down c) (marked_at down c))
-      alone = both (cut.alone c h idle p.shown begins.0) (ap not joined ∙ begins.1)
-
       closed : IsTrue (closes (marked_at down c))
-      closed = part.closes_so ∙ ap not one.more ∙ (and_parts (marked_at up c).transfer.ends (not (marked_at up c).more) two.1).1
-
-      single : IsTrue (nat_eq (length (marked_at down c).transfer.beats) 1)
-      single = ap (λ (l : List Beat). nat_eq (length l) 1) one.beats ∙ three.1
-
-      lanes : IsTrue (has_lane down.shape (marked_at down c))
-      lanes = ap₂ (λ (l : List Beat) n. list_any (λ (b : Beat). list_any (is_enabled b.enables) (numbers 0 n)) l) one.beats cut.same ∙ fronts.1
+      closed = (first_is target up down end cut c h idle p.shown).closes_so ∙ ap not one.more ∙ p.closing
 
   idle_next : (c : ℕ) → c < end → IsTrue (is_next false target up down c) → cut.sends c ≡ false
   idle_next c h next =

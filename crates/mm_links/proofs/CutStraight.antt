@@ -1,5 +1,5 @@
 -- A cutter of bursts begins below what waits above, and lets a plain command straight through once all earlier words are given.
-use Rattle.std.proofs.Common.{ℕ, suc, ◌<◌, ◌≤◌, ◌≡◌, Bool, true, false, not, ◌&&◌, ◌||◌, List, ◌∷◌, ◌++◌, if◌then◌else◌, arith, refl, sym, ap, ap₂, ◌∙◌, length, filter, flat_map, nat_eq, IsTrue, length-append, le-leb, leb-true, le_of_eq}
+use Rattle.std.proofs.Common.{ℕ, suc, ◌<◌, ◌≤◌, ◌≡◌, Bool, true, false, not, ◌&&◌, ◌||◌, List, ◌∷◌, ◌++◌, if◌then◌else◌, arith, refl, sym, ap, ap₂, ◌∙◌, length, filter, flat_map, IsTrue, length-append, le-leb, leb-true, le_of_eq}
 use Rattle.std.proofs.lemmas.Bool.{and_parts, both_ways, not-true, or_left, or_right, eqb-true}
 use Rattle.histories.specs.History.{is_raised}
 use Rattle.histories.specs.Laws.{prefix_length}
@@ -7,12 +7,12 @@ use Rattle.mm_runs.specs.Views.{levels_at}
 use Rattle.mm_runs.specs.Operations.{Beat}
 use Rattle.mm_runs.specs.Commands.{shows, is_of_reads, burst_before, write_transfer, read_transfer}
 use Rattle.mm_machines.specs.Link.{Target, Port, Marked, AreLegalAt, AnswersAreOwed, takes, marked_at, taken_at, operations_in, beat_operations, closes, is_nonempty, words_at, words_owed, read_beats}
-use Rattle.mm_machines.specs.Straight.{GoesStraightThrough, begins_alone, may_be_prompt, has_lane, are_answered, are_taken_below, are_just_taken, earlier_shown, shows_plain, is_plain}
+use Rattle.mm_machines.specs.Straight.{GoesStraightThrough, may_be_prompt, are_answered, are_taken_below, are_just_taken, earlier_shown, shows_plain}
 use Rattle.mm_links.specs.Begins.{BeginsBelow, shows_first}
 use Rattle.mm_links.specs.Links.{IsStraightLink}
 use Rattle.mm_links.proofs.OneBeat.{reads_append}
 use Rattle.mm_links.proofs.Beginning.{IsFirstShown, first_parts, first_from, begun_is_shown, pass_begins}
-use Rattle.mm_links.proofs.InStep.{earlier_is, both}
+use Rattle.mm_links.proofs.InStep.{plain_parts, earlier_is, both}
 use Rattle.mm_links.proofs.CutLists.{beats_of, IsPartOf, same_operations, all_reads}
 use Rattle.mm_links.proofs.CutLink.{Cutting, one_part, first_is, steps, gone, up_steps, all_sent, shows_same, waits_sending, takes_same, left_first, few_words, words_same, reads_front, operations_gone, cutter_shows_writes}
 
@@ -49,11 +49,7 @@ module _ (target : Target) (up down : Port) (end : ℕ) (cut : Cutting target up
     pub one : length (marked_at up c).transfer.beats ≡ 1
 
   pub plain_at : (c : ℕ) → IsTrue (shows_plain up c) → IsPlainAt c
-  plain_at c plain =
-      let both = and_parts (shows up.commands.signals c) (is_plain up.shape (earlier_shown up c) (marked_at up c)) plain in
-      let lanes = and_parts (begins_alone (earlier_shown up c) (marked_at up c) && closes (marked_at up c) && nat_eq (length (marked_at up c).transfer.beats) 1) (has_lane up.shape (marked_at up c)) both.1 in
-      let one = and_parts (begins_alone (earlier_shown up c) (marked_at up c) && closes (marked_at up c)) (nat_eq (length (marked_at up c).transfer.beats) 1) lanes.0 in
-      record { shown = both.0; one = eqb-true (length (marked_at up c).transfer.beats) 1 one.1 }
+  plain_at c plain = (let p = plain_parts up c plain in record { shown = p.shown; one = eqb-true (length (marked_at up c).transfer.beats) 1 p.one })
 
   -- while no read is sent, a plain command is shown below
   pub goes_through : (c : ℕ) → c < end → IsPlainAt c → cut.sends c ≡ false → (shows down.commands.signals c ≡ true) × (operations_in target down.shape (marked_at down c) ≡ operations_in target up.shape (marked_at up c))

@@ -1,5 +1,5 @@
 -- A machine that drops beats without a lane begins below what waits above, but for a write that another may follow.
-use Rattle.std.proofs.Common.{ℕ, suc, ◌<◌, ◌≤◌, ◌≡◌, ◌+◌, ◌⊎◌, inl, inr, Bool, true, false, not, ◌&&◌, ◌||◌, List, [], ◌∷◌, ◌++◌, if◌then◌else◌, arith, refl, sym, ap, ap₂, ◌∙◌, length, map, flat_map, nat_eq, nat_lt, IsTrue, lt-ltb}
+use Rattle.std.proofs.Common.{ℕ, suc, ◌<◌, ◌≤◌, ◌≡◌, ◌+◌, ◌⊎◌, inl, inr, Bool, true, false, not, ◌&&◌, ◌||◌, List, [], ◌∷◌, ◌++◌, if◌then◌else◌, arith, refl, sym, ap, ap₂, ◌∙◌, length, map, flat_map, nat_lt, IsTrue, lt-ltb}
 use Rattle.std.proofs.lemmas.Bool.{and_parts, both_ways, not-true}
 use Rattle.std.specs.List.{list_any}
 use Rattle.histories.specs.History.{is_raised, numbers}
@@ -7,10 +7,10 @@ use Rattle.mm_runs.specs.Operations.{Beat, filled_lanes, is_enabled, operation_a
 use Rattle.mm_runs.specs.Views.{Shape}
 use Rattle.mm_runs.specs.Views.Kind.{Reads, Writes}
 use Rattle.mm_runs.specs.Commands.{shows, is_of_reads}
-use Rattle.mm_machines.specs.Link.{Target, Port, AreLegalAt, AnswersAreOwed, takes, marked_at, taken_at, shown_at, operations_in, operations_among, is_nonempty, beat_operations, closes}
+use Rattle.mm_machines.specs.Link.{Target, Port, AreLegalAt, AnswersAreOwed, takes, marked_at, taken_at, shown_at, operations_in, operations_among, is_nonempty, beat_operations}
 use Rattle.mm_machines.specs.Machines.{Raw, raw_at}
 use Rattle.mm_machines.specs.PartRanks.{JoinsAlike}
-use Rattle.mm_machines.specs.Straight.{begins_alone, may_be_prompt, has_lane, earlier_shown, shows_plain, is_plain, shows_empty_write}
+use Rattle.mm_machines.specs.Straight.{may_be_prompt, shows_plain, shows_empty_write}
 use Rattle.mm_links.specs.Begins.{BeginsBelow, operations_taken}
 use Rattle.mm_links.specs.Drops.{DropState, RunsAsDrop, IsDropPlan, sends, accepted, keeps, standing_at}
 use Rattle.mm_links.specs.Links.{IsStraightLink}
@@ -21,6 +21,7 @@ use Rattle.mm_links.proofs.DropShown.{stands_so, lanes_are, one_shown, shown_is}
 use Rattle.mm_links.proofs.DropStraight.{none_owed, above_is, straight}
 use Rattle.mm_links.proofs.DropTaken.{lane, now_writes, now_more, acts_is, dropped_taken, kept_next}
 use Rattle.mm_links.proofs.Gated.{total_sizes}
+use Rattle.mm_links.proofs.InStep.{plain_parts}
 use Rattle.mm_links.proofs.OneBeat.{flat_mark, flat_at}
 use Rattle.mm_links.proofs.Prompt.{some_in}
 
@@ -54,12 +55,10 @@ sends_first room s true a false false r shown lane last free = ap₂ (λ s a. s 
 sends_first room s false a m false r shown lane last free = ap₂ (λ s a. s && (a && nat_lt r room)) shown lane ∙ lt-ltb r room (free refl)
 
 -- where words are those of the agent, a plain command has an operation
-pub plain_acts : (target : Target) (port : Port) (c : ℕ) → 0 < port.shape.word_bytes → target.shape.word_bytes ≡ port.shape.word_bytes → target.shape.has_enables ≡ false → IsTrue (shows_plain port c) →
+pub plain_acts : (target : Target) (port : Port) (c : ℕ) → 0 < port.shape.word_bytes → target.shape.word_bytes ≡ port.shape.word_bytes → IsTrue (shows_plain port c) →
     is_nonempty (operations_in target port.shape (marked_at port c)) ≡ true
-plain_acts target port c some same none plain =
-    by_beats (marked_at port c).transfer.beats
-    (and_parts (begins_alone (earlier_shown port c) (marked_at port c) && closes (marked_at port c) && nat_eq (length (marked_at port c).transfer.beats) 1) (has_lane port.shape (marked_at port c))
-    (and_parts (shows port.commands.signals c) (is_plain port.shape (earlier_shown port c) (marked_at port c)) plain).1).1
+plain_acts target port c some same plain =
+    by_beats (marked_at port c).transfer.beats (plain_parts port c plain).lane
   where
     front : {A B : Type 0} (f : A → B) (l : List A) (rest : List B) → is_nonempty l ≡ true → is_nonempty (map f l ++ rest) ≡ true
     front f [] rest e = cc
@@ -76,7 +75,7 @@ plain_acts target port c some same none plain =
         by_lane : (x : Bool) → list_any (is_enabled b.enables) (numbers 0 port.shape.word_bytes) ≡ x → x || list_any (λ (b : Beat). list_any (is_enabled b.enables) (numbers 0 port.shape.word_bytes)) beats ≡ true →
             (list_any (λ (b : Beat). list_any (is_enabled b.enables) (numbers 0 port.shape.word_bytes)) beats ≡ true → is_nonempty (flat_map (beat_operations target port.shape) beats) ≡ true) →
             is_nonempty (beat_operations target port.shape b ++ flat_map (beat_operations target port.shape) beats) ≡ true
-        by_lane true has e rest = front (operation_at target.span b) (filled_lanes port.shape target.shape b.enables) (flat_map (beat_operations target port.shape) beats) (lanes_are target.shape port.shape b.enables some same none ∙ has)
+        by_lane true has e rest = front (operation_at target.span b) (filled_lanes port.shape target.shape b.enables) (flat_map (beat_operations target port.shape) beats) (lanes_are target.shape port.shape b.enables some same ∙ has)
         by_lane false has e rest = behind (beat_operations target port.shape b) (flat_map (beat_operations target port.shape) beats) (rest e)
 
 -- a read, or a write that ends its command

@@ -72,14 +72,12 @@ kept_writes s false a m h t r e = no_keep (accepted (stands_so s false a m h r) 
 
 -- ---- a lane is an operation
 
-pub lanes_are : (target lower : Shape) (enables : ℕ) → 0 < lower.word_bytes → target.word_bytes ≡ lower.word_bytes → target.has_enables ≡ false → is_nonempty (filled_lanes lower target enables) ≡ any_lane lower enables
-lanes_are target lower enables some same none =
+pub lanes_are : (target lower : Shape) (enables : ℕ) → 0 < lower.word_bytes → target.word_bytes ≡ lower.word_bytes → is_nonempty (filled_lanes lower target enables) ≡ any_lane lower enables
+lanes_are target lower enables some same =
     let one : pieces lower target ≡ 1 = ap (λ n. lower.word_bytes / min lower.word_bytes n) same ∙ same_pieces lower some in
     let start = zero-mul (min lower.word_bytes target.word_bytes) in
     let size : min lower.word_bytes target.word_bytes ≡ lower.word_bytes = omega arith in
-    ap (λ n. is_nonempty (flat_map (filled_of_piece lower target enables) (numbers 0 n))) one
-    ∙ ap (λ b. body b (0 * min lower.word_bytes target.word_bytes) (min lower.word_bytes target.word_bytes)) none
-    ∙ ap₂ (λ from n. body false from n) start size ∙ by_any (any_lane lower enables) lower.word_bytes some
+    ap (λ n. is_nonempty (flat_map (filled_of_piece lower target enables) (numbers 0 n))) one ∙ ap₂ (λ from n. body target.has_enables from n) start size ∙ by_enables target.has_enables
   where
     body : Bool → ℕ → ℕ → Bool
     body h from n = is_nonempty ((if h then filter (is_enabled enables) (numbers from n) else if list_any (is_enabled enables) (numbers from n) then numbers from n else []) ++ [])
@@ -88,6 +86,18 @@ lanes_are target lower enables some same none =
     by_any b zero h = absurd (omega (arith, h))
     by_any true (suc n) h = refl
     by_any false (suc n) h = refl
+
+    some_kept : (test : ℕ → Bool) (ns : List ℕ) → is_nonempty (filter test ns ++ []) ≡ list_any test ns
+    some_kept test [] = refl
+    some_kept test (n ∷ ns) = by_test (test n) (some_kept test ns)
+      where
+        by_test : (b : Bool) → is_nonempty (filter test ns ++ []) ≡ list_any test ns → is_nonempty ((if b then n ∷ filter test ns else filter test ns) ++ []) ≡ b || list_any test ns
+        by_test true rest = refl
+        by_test false rest = rest
+
+    by_enables : (h : Bool) → body h 0 lower.word_bytes ≡ any_lane lower enables
+    by_enables true = some_kept (is_enabled enables) (numbers 0 lower.word_bytes)
+    by_enables false = by_any (any_lane lower enables) lower.word_bytes some
 
 module _ (target : Target) (room : ℕ) (up down : Port) (state : DropState) (end : ℕ) (plan : IsDropPlan target up.shape down.shape) (run : RunsAsDrop room up down state) (legal : AreLegalAt up end) where
   abbrev pub now : ℕ → Standing
@@ -209,7 +219,7 @@ module _ (target : Target) (room : ℕ) (up down : Port) (state : DropState) (en
           let same = plan.same in
           let some = plan.some in
           some_mapped (operation_at target.span (beat_of_raw raw)) (filled_lanes down.shape target.shape raw.levels.enables)
-          (lanes_are target.shape down.shape raw.levels.enables (omega (arith, same, some)) (plan.agent ∙ sym plan.same) plan.enables ∙ ap (λ n. list_any (is_enabled raw.levels.enables) (numbers 0 n)) plan.same ∙ here.lane)
+          (lanes_are target.shape down.shape raw.levels.enables (omega (arith, same, some)) (plan.agent ∙ sym plan.same) ∙ ap (λ n. list_any (is_enabled raw.levels.enables) (numbers 0 n)) plan.same ∙ here.lane)
 
   pub drop_lanes : HasLanes target down end
   drop_lanes c h =

@@ -1,14 +1,14 @@
 -- A machine that drops beats without a lane goes in step: a plain command goes straight through it, once all words of earlier commands are given.
-use Rattle.std.proofs.Common.{ℕ, zero, suc, ◌<◌, ◌≤◌, ◌≡◌, ◌+◌, ◌⊎◌, inl, inr, Bool, true, false, not, ◌&&◌, ◌||◌, List, [], ◌∷◌, if◌then◌else◌, arith, refl, sym, ap, ap₂, subst, ◌∙◌, length, map, nat_eq, IsTrue, lt-ltb, le-leb, leb-true}
+use Rattle.std.proofs.Common.{ℕ, zero, suc, ◌<◌, ◌≤◌, ◌≡◌, ◌+◌, ◌⊎◌, inl, inr, Bool, true, false, not, ◌&&◌, ◌||◌, List, [], ◌∷◌, if◌then◌else◌, arith, refl, sym, ap, ap₂, subst, ◌∙◌, length, map, IsTrue, lt-ltb, le-leb, leb-true}
 use Rattle.std.specs.List.{list_any}
 use Rattle.std.proofs.lemmas.Bool.{and_parts, both_ways, not-true}
 use Rattle.histories.specs.History.{is_raised, one_if, numbers}
 use Rattle.mm_runs.specs.Operations.{is_enabled}
 use Rattle.mm_runs.specs.Commands.{shows, words_before}
-use Rattle.mm_machines.specs.Link.{Target, Port, Marked, AreLegalAt, AnswersAreOwed, takes, marked_at, taken_at, operations_among, operations_in, is_nonempty, closes, words_at, words_owed, read_beats, is_last_joined}
+use Rattle.mm_machines.specs.Link.{Target, Port, Marked, AreLegalAt, AnswersAreOwed, takes, marked_at, taken_at, operations_among, operations_in, is_nonempty, words_at, words_owed, read_beats, is_last_joined}
 use Rattle.mm_machines.specs.Machines.{Raw, raw_at}
 use Rattle.mm_machines.specs.PartRanks.{JoinsAlike}
-use Rattle.mm_machines.specs.Straight.{GoesStraightThrough, has_lane, begins_alone, are_answered, are_taken_below, earlier_shown, shows_plain, is_plain}
+use Rattle.mm_machines.specs.Straight.{GoesStraightThrough, has_lane, are_answered, are_taken_below, earlier_shown, shows_plain, is_plain}
 use Rattle.mm_links.specs.InStep.{GoesInStep}
 use Rattle.mm_links.specs.Drops.{DropState, RunsAsDrop, IsDropPlan, sends, standing_at}
 use Rattle.mm_links.proofs.DropGoing.{left_open}
@@ -20,7 +20,7 @@ use Rattle.mm_links.proofs.DropTaken.{Alone, lane, now_writes, now_more, dropped
 use Rattle.mm_links.proofs.DropTaken.Alone.{idle, swallow, keep, pass_read, pass_write}
 use Rattle.mm_links.proofs.DropWords.{asked_is, counts, reads_are, counted, own_before, words_step}
 use Rattle.mm_links.proofs.Gated.{total_sizes}
-use Rattle.mm_links.proofs.InStep.{earlier_is, both, of_next}
+use Rattle.mm_links.proofs.InStep.{plain_parts, earlier_is, both, of_next}
 use Rattle.mm_links.proofs.OneBeat.{flat_mark, flat_at}
 
 module _ (target : Target) (room : ℕ) (up down : Port) (state : DropState) (end : ℕ) (plan : IsDropPlan target up.shape down.shape) (run : RunsAsDrop room up down state) (legal : AreLegalAt up end) (alike : JoinsAlike target up end) (owed : AnswersAreOwed down end) (some : 0 < room) where
@@ -116,18 +116,14 @@ module _ (target : Target) (room : ℕ) (up down : Port) (state : DropState) (en
 
   pub plain_at : (c : ℕ) → c < end → IsTrue (shows_plain up c) → IsPlainAt c
   plain_at c h plain =
-      let outer = and_parts (shows up.commands.signals c) (is_plain up.shape (earlier_shown up c) (marked_at up c)) plain in
-      let lanes = and_parts (begins_alone (earlier_shown up c) (marked_at up c) && closes (marked_at up c) && nat_eq (length (marked_at up c).transfer.beats) 1) (has_lane up.shape (marked_at up c)) outer.1 in
-      let ones = and_parts (begins_alone (earlier_shown up c) (marked_at up c) && closes (marked_at up c)) (nat_eq (length (marked_at up c).transfer.beats) 1) lanes.0 in
-      let ends = and_parts (begins_alone (earlier_shown up c) (marked_at up c)) (closes (marked_at up c)) ones.0 in
-      let begins = and_parts (marked_at up c).transfer.begins (not (is_last_joined (earlier_shown up c))) ends.0 in
-      let above = above_is c h outer.0 in
-      let alone = ap is_last_joined (sym (earlier_is up end legal c h outer.0)) ∙ not-true (is_last_joined (earlier_shown up c)) begins.1 in
-      let closing = not-true (is_raised (up.commands.more c)) (ap closes (sym above) ∙ ends.1) in
+      let p = plain_parts up c plain in
+      let above = above_is c h p.shown in
+      let alone = ap is_last_joined (sym (earlier_is up end legal c h p.shown)) ∙ not-true (is_last_joined (earlier_shown up c)) p.alone in
+      let closing = not-true (is_raised (up.commands.more c)) p.closing in
       record {
         first = record {
-          shown = outer.0;
-          acts = one_any (list_any (is_enabled (up.commands.enables c)) (numbers 0 up.shape.word_bytes)) (ap (has_lane up.shape) (sym above) ∙ lanes.1);
+          shown = p.shown;
+          acts = one_any (list_any (is_enabled (up.commands.enables c)) (numbers 0 up.shape.word_bytes)) (ap (has_lane up.shape) (sym above) ∙ p.lane);
           last = ap (λ m. is_raised (up.commands.write c) && m) closing ∙ none_more (is_raised (up.commands.write c));
           free = free_when_closed c (omega (arith, h)) alone;
         };

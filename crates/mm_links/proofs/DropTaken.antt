@@ -111,7 +111,7 @@ module _ (target : Target) (room : ℕ) (up down : Port) (state : DropState) (en
   shows_below c t = (and_parts (shows down.commands.signals c) (not (is_raised (down.commands.waitrequest c))) t).0
 
   pub acts_is : (raw : Raw) → acts target up.shape (u raw) ≡ any_lane up.shape raw.levels.enables
-  acts_is raw = or_nil (map (operation_at target.span beat) lanes) ∙ only_map lanes ∙ lanes_are target.shape up.shape raw.levels.enables plan.some plan.agent plan.enables
+  acts_is raw = or_nil (map (operation_at target.span beat) lanes) ∙ only_map lanes ∙ lanes_are target.shape up.shape raw.levels.enables plan.some plan.agent
     where
       beat : Beat
       beat = beat_by (if is_raised raw.levels.write then Writes else Reads) (byte_address up.shape raw.levels.address + 0 * up.shape.word_bytes) (if is_raised raw.levels.write then raw.levels.word else 0) raw.levels.enables

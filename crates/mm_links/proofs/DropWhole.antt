@@ -25,7 +25,7 @@ none_of (x ∷ l) e = cc
 module _ (target : Target) (room : ℕ) (up down : Port) (state : DropState) (end : ℕ) (plan : IsDropPlan target up.shape down.shape) (run : RunsAsDrop room up down state) (legal : AreLegalAt up end) (owed : AnswersAreOwed down end) where
   -- without a lane there is nothing to answer
   no_lanes : (b : Beat) → any_lane up.shape b.enables ≡ false → filled_lanes up.shape target.shape b.enables ≡ []
-  no_lanes b e = none_of _ (lanes_are target.shape up.shape b.enables plan.some plan.agent plan.enables ∙ e)
+  no_lanes b e = none_of _ (lanes_are target.shape up.shape b.enables plan.some plan.agent ∙ e)
 
   answers_same : (c : ℕ) → c ≤ end → answers_at target up c ≡ answers_at target down c
   answers_same c h =

@@ -5,9 +5,9 @@ use Rattle.std.proofs.lemmas.Bool.{and_parts, eqb-true, eq-eqb}
 use Rattle.histories.specs.History.{only_if, standing}
 use Rattle.histories.specs.Laws.{shown_is_accepted_and_standing}
 use Rattle.mm_runs.specs.Commands.{shows, is_held}
-use Rattle.mm_machines.specs.Link.{Target, Port, Marked, AreLegalAt, AnswersAreOwed, takes, marked_at, taken_at, shown_at, operations_in, operations_among, is_nonempty}
+use Rattle.mm_machines.specs.Link.{Target, Port, Marked, AreLegalAt, AnswersAreOwed, takes, marked_at, taken_at, shown_at, operations_in, operations_among, is_nonempty, closes, is_last_joined}
 use Rattle.mm_machines.specs.SideLaws.{marked_keeps}
-use Rattle.mm_machines.specs.Straight.{GoesStraightThrough, shows_plain, earlier_shown, are_answered, are_just_taken, is_plain}
+use Rattle.mm_machines.specs.Straight.{GoesStraightThrough, shows_plain, begins_alone, has_lane, earlier_shown, are_answered, are_just_taken, is_plain}
 use Rattle.mm_links.specs.Links.{LinkForm, IsLink}
 use Rattle.mm_links.specs.InStep.{is_next, GoesInStep, AreInStep}
 use Rattle.mm_links.proofs.Chain.{middle_legal, middle_owed}
@@ -35,6 +35,31 @@ earlier_is port end legal c h shown =
 pub both : {a b : Bool} → IsTrue a → IsTrue b → IsTrue (a && b)
 both p q = ap₂ (λ a b. a && b) p q
 
+-- what a plain command is that is shown
+pub record IsShownPlain (port : Port) (c : ℕ) : Type 0 where
+  pub shown : IsTrue (shows port.commands.signals c)
+  pub begins : IsTrue (marked_at port c).transfer.begins
+  pub alone : IsTrue (not (is_last_joined (earlier_shown port c)))
+  pub ends : IsTrue (marked_at port c).transfer.ends
+  pub closing : IsTrue (not (marked_at port c).more)
+  pub one : IsTrue (nat_eq (length (marked_at port c).transfer.beats) 1)
+  pub lane : IsTrue (has_lane port.shape (marked_at port c))
+
+pub plain_parts : (port : Port) (c : ℕ) → IsTrue (shows_plain port c) → IsShownPlain port c
+plain_parts port c plain =
+    let m = marked_at port c in
+    let earlier = earlier_shown port c in
+    let outer = and_parts (shows port.commands.signals c) (is_plain port.shape earlier m) plain in
+    let lanes = and_parts (begins_alone earlier m && closes m && nat_eq (length m.transfer.beats) 1) (has_lane port.shape m) outer.1 in
+    let ones = and_parts (begins_alone earlier m && closes m) (nat_eq (length m.transfer.beats) 1) lanes.0 in
+    let ends = and_parts (begins_alone earlier m) (closes m) ones.0 in
+    let begins = and_parts m.transfer.begins (not (is_last_joined earlier)) ends.0 in
+    let last = and_parts m.transfer.ends (not m.more) ends.1 in
+    record { shown = outer.0; begins = begins.0; alone = begins.1; ends = last.0; closing = last.1; one = ones.1; lane = lanes.1 }
+
+pub plain_from : (port : Port) (c : ℕ) → IsShownPlain port c → IsTrue (shows_plain port c)
+plain_from port c p = both p.shown (both (both (both (both p.begins p.alone) (both p.ends p.closing)) p.one) p.lane)
+
 pub record IsNext (ahead : Bool) (target : Target) (up down : Port) (c : ℕ) : Type 0 where
   pub plain : IsTrue (shows_plain up c)
   pub acts : IsTrue (is_nonempty (operations_in target up.shape (marked_at up c)))
@@ -51,9 +76,6 @@ of_next ahead target up down c next =
     let shown = and_parts (shows_plain up c) (is_nonempty (operations_in target up.shape (marked_at up c))) halves.0 in
     let done = and_parts counts (ahead || are_answered up (earlier_shown up c) c) halves.1 in
     record { plain = shown.0; acts = shown.1; all = eqb-true _ _ done.0; given = done.1 }
-
-shown_plain : (port : Port) (c : ℕ) → IsTrue (shows_plain port c) → shows port.commands.signals c ≡ true
-shown_plain port c plain = (and_parts (shows port.commands.signals c) (is_plain port.shape (earlier_shown port c) (marked_at port c)) plain).0
 
 -- a link that goes in step has just taken all that comes before a plain command
 just : (ahead : Bool) (target : Target) (up down : Port) (end : ℕ) → AreLegalAt down end → GoesInStep ahead target up down end → (c : ℕ) → c < end → IsTrue (is_next ahead target up down c) →
@@ -82,7 +104,7 @@ module _ (ahead : Bool) (target : Target) (up middle down : Port) (end : ℕ) (l
   first_next c h next =
       let above = both_step.first.accepts c (omega arith) in
       let below = both_step.second.accepts c (omega arith) in
-      let earlier = ap (λ l. length (operations_among target up.shape l)) (earlier_is up end legal c h (shown_plain up c next.plain)) in
+      let earlier = ap (λ l. length (operations_among target up.shape l)) (earlier_is up end legal c h (plain_parts up c next.plain).shown) in
       let all = next.all in
       record { plain = next.plain; acts = next.acts; all = omega (arith, above, below, earlier, all); given = next.given }
 
@@ -106,7 +128,7 @@ module _ (ahead : Bool) (target : Target) (up middle down : Port) (end : ℕ) (l
       by_ahead : (a : Bool) → IsTrue (a || are_answered up (earlier_shown up c) c) → earlier_shown middle c ≡ taken_at middle c → IsTrue (a || are_answered middle (earlier_shown middle c) c)
       by_ahead true given earlier = refl
       by_ahead false given earlier =
-          let here = subst (λ l. IsTrue (are_answered up l c)) (earlier_is up end legal c h (shown_plain up c next.plain)) given in
+          let here = subst (λ l. IsTrue (are_answered up l c)) (earlier_is up end legal c h (plain_parts up c next.plain).shown) given in
           subst (λ l. IsTrue (are_answered middle l c)) (sym earlier) (both_step.first.quiet c (omega (arith, h)) here)
 
   of_row : (c : ℕ) → c < end → IsTrue (shows_plain up c) → IsTrue (are_just_taken target up down (earlier_shown up c) c && (ahead || are_answered up (earlier_shown up c) c)) → IsNext ahead target up down c

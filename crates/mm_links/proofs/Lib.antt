@@ -45,4 +45,6 @@ pub mod DropWhole
 pub mod DropStraight
 pub mod DropPrompt
 pub mod Handing
+pub mod SplitPart
 pub mod SplitDrop
+pub mod SplitSame

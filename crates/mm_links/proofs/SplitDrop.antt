@@ -4,9 +4,8 @@ use Rattle.std.proofs.lemmas.Bool.{and_parts, both_ways, or_left, or_right, eq-e
 use Rattle.std.proofs.lemmas.List.{map-append}
 use Rattle.std.proofs.lemmas.Grind.{flat_map-append}
 use Rattle.std.proofs.Math.Nat.{eq-or-lt_of_le}
-use Rattle.histories.specs.History.{is_raised, only_if, IsPrefix}
+use Rattle.histories.specs.History.{is_raised, IsPrefix}
 use Rattle.histories.specs.Laws.{prefix_flat_map, prefix_length}
-use Rattle.mm_runs.specs.Views.{Shape}
 use Rattle.mm_runs.specs.Commands.{shows}
 use Rattle.mm_machines.specs.Link.{Target, Port, Marked, AreLegalAt, AnswersAreOwed, takes, marked_at, taken_at, shown_at, operations_in, operations_among, is_nonempty, words_at, words_owed}
 use Rattle.mm_machines.specs.Machines.{Raw, raw_at, raws, parts_sent, split_parts, MaySplit}
@@ -24,36 +23,15 @@ use Rattle.mm_links.proofs.DropStraight.{none_owed}
 use Rattle.mm_links.proofs.DropTaken.{lane, kept_next}
 use Rattle.mm_links.proofs.DropWords.{words_are_owed}
 use Rattle.mm_links.proofs.Gather.{HasPieces}
-use Rattle.mm_links.proofs.OneBeat.{flat_mark, flat_at, flat_taken}
+use Rattle.mm_links.proofs.OneBeat.{flat_mark, flat_taken}
 use Rattle.mm_links.proofs.Prompt.{some_in}
-use Rattle.mm_links.proofs.SplitLink.{Carries, carried, one_up, one_down, up_taken, shut, split_joins}
+use Rattle.mm_links.proofs.SplitLink.{Carries, carried, one_down, up_taken, split_joins}
+use Rattle.mm_links.proofs.SplitPart.{Acts, above_is, there_is, acts_above, all_parts, part_shown, last_taken, shows_there}
 use Rattle.mm_links.proofs.SplitParts.{parts_of, raws_below, reads_among}
 use Rattle.mm_links.proofs.SplitPrompt.{all_sizes, front_acts}
 use Rattle.mm_links.proofs.SplitPrompt.{accepted as all_accepted}
-use Rattle.mm_links.proofs.SplitShown.{IsPart, ArePartsOf, ArePartsOf.last_part, ArePartsOf.more_parts, ArePartsOf.no_parts, are_parts, acts, upper_acts}
-use Rattle.mm_links.proofs.Splitting.{shown_above, shown_taken, same_raw, part_there, accepted_whole, no_parts as none_of, either_of}
+use Rattle.mm_links.proofs.Splitting.{shown_above, shown_taken, same_raw, part_there}
 use Rattle.mm_links.proofs.SplitWords.{owed_below, quiet_below}
-use Rattle.mm_links.proofs.SplitWords.{none_owed as none_open}
-
--- ---- a part of a beat
-
-module _ (law : HasPieces) (target : Target) (wide narrow : Shape) (count : ℕ) (may : MaySplit target wide narrow count) where
-  abbrev PartOf : Raw → Raw → Type 0
-  PartOf raw part = IsPart law target wide narrow count may raw part
-
-  no_room : {A : Type 0} (before : List A) (x : A) (after : List A) → [] ≡ before ++ x ∷ after → ⊥
-  no_room before x after e = let size = ap length e ∙ length-append before (x ∷ after) in omega (arith, size)
-
-  -- one of the parts is a part, and the last one ends as the beat does
-  part_in : (raw : Raw) (ps : List Raw) → ArePartsOf law target wide narrow count may raw ps → (before : List Raw) (part : Raw) (after : List Raw) → ps ≡ before ++ part ∷ after → PartOf raw part × (after ≡ [] → part.more ≡ raw.more)
-  part_in raw ps (no_parts out) before part after e = absurd (no_room before part after e)
-  part_in raw ps (last_part p is more) [] part after e = let same : p ≡ part = cc in (subst (PartOf raw) same is, λ none. ap (λ (r : Raw). r.more) (sym same) ∙ more)
-  part_in raw ps (last_part p is more) (b ∷ before) part after e = let rest : [] ≡ before ++ part ∷ after = cc in absurd (no_room before part after rest)
-  part_in raw ps (more_parts p next later is more rest) [] part after e =
-      let same : p ≡ part = cc in
-      let behind : next ∷ later ≡ after = cc in
-      (subst (PartOf raw) same is, λ none. (let bad = behind ∙ none in cc))
-  part_in raw ps (more_parts p next later is more rest) (b ∷ before) part after e = let behind : next ∷ later ≡ before ++ part ∷ after = cc in part_in raw (next ∷ later) rest before part after behind
 
 module _ (law : HasPieces) (carries : Carries) (target : Target) (count deep room : ℕ) (up middle down : Port) (splits : SplitState) (drops : DropState) (may : MaySplit target up.shape middle.shape count) (some_deep : 0 < deep) (split : RunsAsSplit deep up middle splits)
     (plan : IsDropPlan target middle.shape down.shape) (some_room : 0 < room) (drop : RunsAsDrop room middle down drops) (end : ℕ) (legal : AreLegalAt up end) (alike : JoinsAlike target up end) (owed : AnswersAreOwed down end) where
@@ -66,59 +44,18 @@ module _ (law : HasPieces) (carries : Carries) (target : Target) (count deep roo
   alike_there : JoinsAlike target middle end
   alike_there k h = split_joins law carries target count deep up middle splits may some_deep split end legal k h (alike k h)
 
-  -- ---- what stands above, and its part below
-
-  above_is : (c : ℕ) → c < end → shows up.commands.signals c ≡ true → marked_at up c ≡ flat_mark up.shape (raw_at up c)
-  above_is = flat_at up end legal (one_up law carries target count deep up middle splits may some_deep split end legal)
-
-  there_is : (c : ℕ) → c < end → shows middle.commands.signals c ≡ true → marked_at middle c ≡ flat_mark middle.shape (raw_at middle c)
-  there_is = flat_at middle end legal_there (one_down law carries target count deep up middle splits may some_deep split end legal)
-
-  abbrev Acts : Raw → Type 0
-  Acts raw = acts law target up.shape middle.shape count may raw ≡ true
-
-  acts_above : (c : ℕ) → c < end → shows up.commands.signals c ≡ true → is_nonempty (operations_in target up.shape (marked_at up c)) ≡ true → Acts (raw_at up c)
-  acts_above c h shown act = sym (upper_acts law target up.shape middle.shape count may (raw_at up c)) ∙ ap (λ (m : Marked). is_nonempty (operations_in target up.shape m)) (sym (above_is c h shown)) ∙ act
-
-  all_parts : (raw : Raw) → ArePartsOf law target up.shape middle.shape count may raw (parts_of up.shape middle.shape raw)
-  all_parts raw = are_parts law target up.shape middle.shape count may raw
-
-  part_shown : (c : ℕ) → c < end → shows middle.commands.signals c ≡ true → PartOf law target up.shape middle.shape count may (raw_at up c) (raw_at middle c)
-  part_shown c h shown = (part_in law target up.shape middle.shape count may (raw_at up c) (split_at up middle c) (all_parts (raw_at up c)) (parts_sent up middle c) (raw_at middle c) (split_rest up middle splits c) (part_there deep up middle splits split end legal c h shown)).0
-
-  lane_there : (c : ℕ) → c < end → Acts (raw_at up c) → shows middle.commands.signals c ≡ true → lane target room middle down drops end plan drop legal_there alike_there c ≡ true
+  lane_there : (c : ℕ) → c < end → Acts law carries target count deep up middle splits may some_deep split end legal (raw_at up c) → shows middle.commands.signals c ≡ true → lane target room middle down drops end plan drop legal_there alike_there c ≡ true
   lane_there c h act shown =
       lane_at target room middle down drops end plan drop legal_there alike_there owed some_room c h shown
-      (ap (λ (m : Marked). is_nonempty (operations_in target middle.shape m)) (there_is c h shown) ∙ (part_shown c h shown).acts_so ∙ act)
-
-  -- ---- what is accepted
-
-  last_taken : (c : ℕ) → c < end → takes up c ≡ true → Acts (raw_at up c) → (takes middle c ≡ true) × ((raw_at middle c).more ≡ (raw_at up c).more)
-  last_taken c h t act = by_take (takes middle c) refl (accepted_whole deep up middle splits split end legal c h t)
-    where
-      by_take : (d : Bool) → takes middle c ≡ d → parts_sent up middle c ++ only_if (takes middle c) (raw_at middle c) ≡ split_at up middle c → (takes middle c ≡ true) × ((raw_at middle c).more ≡ (raw_at up c).more)
-      by_take true d whole = (
-        d,
-        (part_in law target up.shape middle.shape count may (raw_at up c) (split_at up middle c) (all_parts (raw_at up c)) (parts_sent up middle c) (raw_at middle c) [] (sym whole ∙ ap (λ b. parts_sent up middle c ++ only_if b (raw_at middle c)) d)).1 refl,
-      )
-      by_take false d whole =
-          let parts = and_parts (shows up.commands.signals c && opens deep up middle splits c) _ (sym (split.accepts c) ∙ t) in
-          either_of (nat_eq (length (split_at up middle c)) 0) (takes middle c && nat_eq (suc (splits.place c)) (length (split_at up middle c))) parts.1
-          (λ empty. absurd (left_out (split_at up middle c) (all_parts (raw_at up c)) (none_of (split_at up middle c) empty)))
-          (λ last. absurd (both_ways (takes middle c) d (and_parts (takes middle c) _ last).0))
-        where
-          left_out : (ps : List Raw) → ArePartsOf law target up.shape middle.shape count may (raw_at up c) ps → ps ≡ [] → ⊥
-          left_out ps (no_parts out) e = both_ways (acts law target up.shape middle.shape count may (raw_at up c)) out.acts_not act
-          left_out ps (last_part p is more) e = cc
-          left_out ps (more_parts p next later is more rest) e = cc
+      (ap (λ (m : Marked). is_nonempty (operations_in target middle.shape m)) (there_is law carries target count deep up middle splits may some_deep split end legal c h shown) ∙ (part_shown law carries target count deep up middle splits may some_deep split end legal c h shown).acts_so ∙ act)
 
   taken_by : (c : ℕ) → c < end → IsFirstShown false target up c → takes up c ≡ true → operations_taken target up c < operations_taken target down (suc c)
   taken_by c h is t =
-      let act = acts_above c h is.shown is.acts in
-      let last = last_taken c h t act in
+      let act = acts_above law carries target count deep up middle splits may some_deep split end legal c h is.shown is.acts in
+      let last = last_taken law carries target count deep up middle splits may some_deep split end legal c h t act in
       let shown = shown_taken deep up middle splits split end legal c last.0 in
-      let ends = last_of up.shape (raw_at up c) (ap (may_be_prompt false) (sym (above_is c h is.shown)) ∙ is.may) in
-      let ends_there : is_raised (middle.commands.write c) && is_raised (middle.commands.more c) ≡ false = ap₂ (λ w m. w && is_raised m) (part_shown c h shown).writes last.1 ∙ ends in
+      let ends = last_of up.shape (raw_at up c) (ap (may_be_prompt false) (sym (above_is law carries target count deep up middle splits may some_deep split end legal c h is.shown)) ∙ is.may) in
+      let ends_there : is_raised (middle.commands.write c) && is_raised (middle.commands.more c) ≡ false = ap₂ (λ w m. w && is_raised m) (part_shown law carries target count deep up middle splits may some_deep split end legal c h shown).writes last.1 ∙ ends in
       let level = taken_level target room middle down drops end plan drop legal_there alike_there owed some_room c h last.0 (lane_there c h act shown) ends_there in
       let all = all_accepted law carries target count deep up middle splits may some_deep split end legal owed_there (suc c) h in
       let one = taken_one target up c t in
@@ -128,7 +65,7 @@ module _ (law : HasPieces) (carries : Carries) (target : Target) (count deep roo
   -- ---- what waits
 
   -- where a part has gone, more operations are taken below than those accepted
-  more_gone : (c : ℕ) → c < end → Acts (raw_at up c) → shows middle.commands.signals c ≡ true → 0 < length (parts_sent up middle c) → operations_taken target up c < operations_taken target middle c
+  more_gone : (c : ℕ) → c < end → Acts law carries target count deep up middle splits may some_deep split end legal (raw_at up c) → shows middle.commands.signals c ≡ true → 0 < length (parts_sent up middle c) → operations_taken target up c < operations_taken target middle c
   more_gone c h act shown some =
       let before = flat_map (parts_of up.shape middle.shape) (raws up c) in
       let ops : operations_among target middle.shape (taken_at middle c) ≡ operations_among target middle.shape (map (flat_mark middle.shape) before) ++ operations_among target middle.shape (map (flat_mark middle.shape) (parts_sent up middle c)) =
@@ -140,7 +77,7 @@ module _ (law : HasPieces) (carries : Carries) (target : Target) (count deep roo
       all_sizes law target up.shape middle.shape count may (raws up c) ∙ ap (λ l. length (operations_among target up.shape l)) (sym (up_taken law carries target count deep up middle splits may some_deep split end legal c (omega (arith, h)))) in
       let front : IsPrefix (parts_sent up middle c) (split_at up middle c ++ []) =
       record { rest = raw_at middle c ∷ split_rest up middle splits c; joins = sym (part_there deep up middle splits split end legal c h shown) ∙ sym (append-nil (split_at up middle c)) } in
-      let more = front_acts law target up.shape middle.shape count may (raw_at up c) (split_at up middle c) (all_parts (raw_at up c)) act (parts_sent up middle c) front some in
+      let more = front_acts law target up.shape middle.shape count may (raw_at up c) (split_at up middle c) (all_parts law carries target count deep up middle splits may some_deep split end legal (raw_at up c)) act (parts_sent up middle c) front some in
       omega (arith, size, first, more)
 
   -- where none has, no word is owed below
@@ -151,16 +88,6 @@ module _ (law : HasPieces) (carries : Carries) (target : Target) (count deep roo
       let quiet = quiet_below law target count deep up middle splits may split end legal c (omega (arith, h)) owed_c given in
       let left = ap (λ l. length (reads_among l)) none in
       none_owed target room middle down drops end plan drop legal_there alike_there owed some_room c (omega (arith, h)) (omega (arith, asks, quiet, left))
-
-  shows_there : (c : ℕ) → c < end → shows up.commands.signals c ≡ true → takes up c ≡ false → words_owed up c ≤ length (words_at up c) → shows middle.commands.signals c ≡ true
-  shows_there c h shown not_taken given = by_shown (shows middle.commands.signals c) refl
-    where
-      by_shown : (b : Bool) → shows middle.commands.signals c ≡ b → shows middle.commands.signals c ≡ true
-      by_shown true e = e
-      by_shown false e =
-          let waits = (shut law carries target count deep up middle splits may some_deep split end legal c h shown not_taken e).some in
-          let none = none_open law target count deep up middle splits may split end legal c (omega (arith, h)) (λ k less. owed_there k (omega (arith, h, less))) given in
-          absurd (omega (arith, waits, none))
 
   -- behind a part that is taken the next one is shown
   next_shown : (c : ℕ) → suc c < end → shows up.commands.signals c ≡ true → takes up c ≡ false → takes middle c ≡ true → shows middle.commands.signals (suc c) ≡ true
@@ -202,11 +129,11 @@ module _ (law : HasPieces) (carries : Carries) (target : Target) (count deep roo
       now : c < end
       now = omega (arith, h)
 
-      act : Acts (raw_at up c)
-      act = acts_above c now is.shown is.acts
+      act : Acts law carries target count deep up middle splits may some_deep split end legal (raw_at up c)
+      act = acts_above law carries target count deep up middle splits may some_deep split end legal c now is.shown is.acts
 
       shown : shows middle.commands.signals c ≡ true
-      shown = shows_there c now is.shown not_taken given
+      shown = shows_there law carries target count deep up middle splits may some_deep split end legal owed_there c now is.shown not_taken given
 
       has : lane target room middle down drops end plan drop legal_there alike_there c ≡ true
       has = lane_there c now act shown
@@ -263,7 +190,7 @@ module _ (law : HasPieces) (carries : Carries) (target : Target) (count deep roo
           shown_next = next_shown c next is.shown not_taken taken
 
           has_next : lane target room middle down drops end plan drop legal_there alike_there (suc c) ≡ true
-          has_next = lane_there (suc c) next (subst Acts still.0 act) shown_next
+          has_next = lane_there (suc c) next (subst (Acts law carries target count deep up middle splits may some_deep split end legal) still.0 act) shown_next
 
           sends_next : (b : Bool) → b ≡ true → sends room (stands_so (shows middle.commands.signals (suc c)) (is_raised (middle.commands.write (suc c))) (lane target room middle down drops end plan drop legal_there alike_there (suc c)) (is_raised (middle.commands.more (suc c))) b (drops.reads (suc c))) ≡ true
           sends_next true e = sends_kept room (shows middle.commands.signals (suc c)) (is_raised (middle.commands.write (suc c))) (lane target room middle down drops end plan drop legal_there alike_there (suc c)) (is_raised (middle.commands.more (suc c))) (drops.reads (suc c)) shown_next has_next

@@ -1,10 +1,11 @@
 //! How links begin below what waits above, so that rows of them are prompt.
 
-ghost use Rattle.std.specs.Prelude.{◌<◌, ℕ, Bool, List, false};
-ghost use Rattle.mm_machines.specs.Link.{Target, Port, AreLegalAt, AnswersAreOwed};
+ghost use Rattle.std.specs.Prelude.{◌≡◌, ◌<◌, ℕ, Bool, List, false, IsTrue};
+ghost use Rattle.mm_runs.specs.Commands.{shows};
+ghost use Rattle.mm_machines.specs.Link.{Target, Port, AreLegalAt, AnswersAreOwed, marked_at};
 ghost use Rattle.mm_machines.specs.Machines.{MaySplit};
 ghost use Rattle.mm_machines.specs.PartRanks.{JoinsAlike};
-ghost use Rattle.mm_machines.specs.Straight.{IsShownPromptly};
+ghost use Rattle.mm_machines.specs.Straight.{IsShownPromptly, may_be_prompt};
 ghost use Rattle.mm_links.specs.Begins.{BeginsBelow};
 ghost use Rattle.mm_links.specs.Bursts.{BurstState, RunsAsBurst, IsBurstPlan};
 ghost use Rattle.mm_links.specs.Cuts.{RunsAsCut, IsCutPlan};
@@ -16,6 +17,14 @@ ghost use Rattle.mm_links.specs.Splits.{SplitState, RunsAsSplit};
 pub fn what_begins_is_prompt()
     ensures { (few : ℕ) (may_burst : Bool) (target : Target) (up down : Port) (end : ℕ) → AreLegalAt up end → AreLegalAt down end
         → BeginsBelow few may_burst target up down end → IsShownPromptly few may_burst target up down end }
+{}
+
+/// Where each write that is shown above ends its command, what begins single writes below begins all. Where commands have one beat each transfer ends.
+pub fn single_writes_begin()
+    ensures begins { (few : ℕ) (may_burst : Bool) (target : Target) (up down : Port) (end : ℕ) → ((c : ℕ) → c < end → IsTrue (shows up.commands.signals c) → IsTrue (may_be_prompt false (marked_at up c)))
+        → BeginsBelow few false target up down end → BeginsBelow few may_burst target up down end }
+    ensures ends { (port : Port) (end : ℕ) → AreLegalAt port end → port.shape.burst_bits ≡ 1
+        → (c : ℕ) → c < end → IsTrue (shows port.commands.signals c) → IsTrue (marked_at port c).transfer.ends }
 {}
 
 /// A wire, a lane selector and a splitter begin below what waits above, in its own cycle. So does what drops beats, but for a write that another may follow, which it keeps.

@@ -1,6 +1,6 @@
 //! What keeps beats without an enabled lane from an agent without byte enables.
 
-ghost use Rattle.std.specs.Prelude.{◌<◌, ◌≡◌, ℕ, true, false, IsTrue, IsFalse};
+ghost use Rattle.std.specs.Prelude.{◌<◌, ◌≡◌, ℕ, true, false, IsTrue};
 ghost use Rattle.histories.specs.History.{is_raised};
 ghost use Rattle.mm_machines.specs.Link.{Target, Port, AreLegalAt, AnswersAreOwed, marked_at, operations_in, is_nonempty};
 ghost use Rattle.mm_machines.specs.Straight.{shows_plain};
@@ -49,8 +49,8 @@ pub fn drop_is_straight()
         → GoesInStep false target up down end }
 {}
 
-/// Where the words are those of an agent without byte enables, as they are above it, each plain command has an operation.
+/// Where the words are those of the agent, each plain command has an operation.
 pub fn plain_commands_act()
-    ensures { (target : Target) (port : Port) (c : ℕ) → 0 < port.shape.word_bytes → target.shape.word_bytes ≡ port.shape.word_bytes → IsFalse target.shape.has_enables
+    ensures { (target : Target) (port : Port) (c : ℕ) → 0 < port.shape.word_bytes → target.shape.word_bytes ≡ port.shape.word_bytes
         → IsTrue (shows_plain port c) → IsTrue (is_nonempty (operations_in target port.shape (marked_at port c))) }
 {}

@@ -1,7 +1,9 @@
 //! Links between words of different sizes.
 
-ghost use Rattle.std.specs.Prelude.{◌<◌, ℕ, List};
-ghost use Rattle.mm_machines.specs.Link.{Target, Port, AreLegalAt, CarriesCommands};
+ghost use Rattle.std.specs.Prelude.{◌<◌, ℕ, List, false};
+ghost use Rattle.mm_machines.specs.Link.{Target, Port, AreLegalAt, AnswersAreOwed, CarriesCommands};
+ghost use Rattle.mm_machines.specs.Straight.{GoesStraightThrough};
+ghost use Rattle.mm_links.specs.InStep.{GoesInStep};
 ghost use Rattle.mm_machines.specs.Lines.{HandsOn};
 ghost use Rattle.mm_machines.specs.PartRanks.{HoldsBack};
 ghost use Rattle.mm_machines.specs.Machines.{IsExpanderRun, MaySplit, split_parts, parts_sent};
@@ -40,6 +42,17 @@ pub fn split_carries_commands()
 pub fn split_is_a_link()
     ensures { (target : Target) (room count : ℕ) (up down : Port) (state : SplitState) (end : ℕ) → MaySplit target up.shape down.shape count
         → 0 < room → RunsAsSplit room up down state → IsLink (split_form target) up down end }
+{
+    mm_machines::machines::split_carries();
+    mm_machines::machines::beat_is_pieces()
+}
+
+/// Between equal words a splitter sends each beat as one piece, so a plain command goes straight through it once all words of earlier commands are given, and it goes in step.
+pub fn split_is_straight()
+    ensures straight { (target : Target) (room : ℕ) (up down : Port) (state : SplitState) (end : ℕ) → MaySplit target up.shape down.shape 1
+        → 0 < room → RunsAsSplit room up down state → AreLegalAt up end → AnswersAreOwed down end → GoesStraightThrough (λ c. false) target up down end }
+    ensures step { (target : Target) (room : ℕ) (up down : Port) (state : SplitState) (end : ℕ) → MaySplit target up.shape down.shape 1
+        → 0 < room → RunsAsSplit room up down state → AreLegalAt up end → AnswersAreOwed down end → GoesInStep false target up down end }
 {
     mm_machines::machines::split_carries();
     mm_machines::machines::beat_is_pieces()
