@@ -31,7 +31,7 @@ pub record Laws : Type 0 where
   pub pass : (port : Port) (end : ℕ) → PassesOn (record { hold = 0; kept = 0 }) port port end
 
 -- a joined host has shares, so each seat has some
-seats_share : (system : System) (agent : ℕ) (order : List ℕ) → ((h : ℕ) → IsTrue (list_any (nat_eq h) order) → 0 < system.shares h agent) →
+pub seats_share : (system : System) (agent : ℕ) (order : List ℕ) → ((h : ℕ) → IsTrue (list_any (nat_eq h) order) → 0 < system.shares h agent) →
     AllShare (map (λ host. record { host = host; shares = system.shares host agent }) order)
 seats_share system agent [] share = cc
 seats_share system agent (x ∷ order) share = (share x (grind arith), seats_share system agent order (λ h is. share h (grind arith)))

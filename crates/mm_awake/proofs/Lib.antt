@@ -62,5 +62,6 @@ pub mod RowBuilt
 pub mod RowFair
 pub mod PlainRows
 pub mod RowRuns
+pub mod LinkRuns
 pub mod ModestRow
 pub mod SplitCounts

@@ -1,7 +1,8 @@
 //! Systems of machines whose links are machines too: where to start. They are safe, never idle, and are fair where one link alone of each row isn't a wire.
 
-ghost use Rattle.std.specs.Prelude.{ℕ, ◌≡◌, ◌<◌, ◌+◌, IsTrue, IsFalse};
+ghost use Rattle.std.specs.Prelude.{ℕ, ◌≡◌, ◌<◌, ◌≤◌, ◌+◌, IsTrue, IsFalse};
 ghost use Rattle.mm_runs.specs.Views.{Responses, System, Run};
+ghost use Rattle.mm_runs.specs.Commands.{shows};
 ghost use Rattle.mm_runs.specs.Plan.{IsMemoryPlan, AreViews};
 ghost use Rattle.mm_runs.specs.Whole.{IsLegalRun, IsSafe};
 ghost use Rattle.mm_runs.specs.Awake.{NeverIdles, IsFair};
@@ -14,6 +15,7 @@ ghost use Rattle.mm_links.specs.Selects.{EnablesFit};
 ghost use Rattle.mm_awake.specs.Fair.{are_apart};
 ghost use Rattle.mm_awake.specs.Rows.{CutsBursts, FitsWords, DropsBeats};
 ghost use Rattle.mm_awake.specs.RowRun.{RowPlan, SuitsRow, row_registers, row_top, row_middle, row_low, row_bottom};
+ghost use Rattle.mm_awake.specs.LinkSystem.{LinkPlan, SuitsLinks, linked_registers, linked_run, linked_ports, linked_states};
 ghost use Rattle.mm_awake.specs.RowRun.Fitter.{Selects};
 ghost use Rattle.mm_awake.specs.PlainSystem.{AreQuietPast, wired_ports, wired_states};
 ghost use Rattle.mm_parts.specs.SystemRun.{PlainPlan, HaveOneShape, Outside, plain_system, registers_of, ports_run};
@@ -109,4 +111,28 @@ pub fn rows_run()
     mm_links::runs::select_runs();
     mm_links::runs::split_runs();
     mm_links::runs::drop_runs()
+}
+
+/// Systems with such rows run: whatever hosts and agents give, for each choice of links that suits the plan, every part is its machine and every link too.
+pub fn linked_systems_run()
+    ensures { (responses : Responses) (plan : LinkPlan) (outside : Outside) (end : ℕ)
+        → let registers = linked_registers responses plan outside in
+        let run = linked_run responses plan outside registers in
+        let ports = linked_ports responses plan outside registers in
+        IsMemoryPlan plan.system → SuitsLinks plan → AreViews plan.system run end → ((h c : ℕ) → plan.system.hosts ≤ h → IsFalse (shows (outside.host h) c))
+        → ((h a : ℕ) → h < plan.system.hosts → a < plan.system.agents → plan.fitter h a ≡ Selects → EnablesFit (ports.below_cutter h a) end)
+        → ArePlanned plan.system (boundaries_of ports) (linked_states responses plan outside registers)
+        × AreMachines responses plan.system run (boundaries_of ports) (linked_states responses plan outside registers) end
+        × AreRows plan.system run ports (linked_states responses plan outside registers) end }
+{
+    mm_links::runs::burst_runs();
+    mm_links::runs::cut_runs();
+    mm_links::runs::select_runs();
+    mm_links::runs::split_runs();
+    mm_links::runs::drop_runs();
+    mm_parts::runs::host_machine_runs();
+    mm_parts::runs::route_machine_runs();
+    mm_parts::runs::arbiter_machine_runs();
+    mm_parts::runs::agent_machine_runs();
+    mm_parts::plans::plans_suit_machines()
 }
