@@ -62,6 +62,7 @@ pub mod RowBuilt
 pub mod RowFair
 pub mod PlainRows
 pub mod RowRuns
+pub mod RowFits
 pub mod LinkRuns
 pub mod ModestRow
 pub mod SplitCounts

@@ -1,6 +1,6 @@
 //! Systems of machines whose links are machines too: where to start. They are safe, never idle, and are fair where one link alone of each row isn't a wire.
 
-ghost use Rattle.std.specs.Prelude.{ℕ, ◌≡◌, ◌<◌, ◌≤◌, ◌+◌, IsTrue, IsFalse};
+ghost use Rattle.std.specs.Prelude.{ℕ, ◌<◌, ◌≤◌, ◌+◌, ◌^◌, IsTrue, IsFalse};
 ghost use Rattle.mm_runs.specs.Views.{Responses, System, Run};
 ghost use Rattle.mm_runs.specs.Commands.{shows};
 ghost use Rattle.mm_runs.specs.Plan.{IsMemoryPlan, AreViews};
@@ -11,12 +11,10 @@ ghost use Rattle.mm_machines.specs.Link.{Target, AreLegalAt, AnswersAreOwed};
 ghost use Rattle.mm_machines.specs.Lines.{target_of};
 ghost use Rattle.mm_machines.specs.PartRanks.{JoinsAlike};
 ghost use Rattle.mm_links.specs.Driven.{Inputs};
-ghost use Rattle.mm_links.specs.Selects.{EnablesFit};
 ghost use Rattle.mm_awake.specs.Fair.{are_apart};
 ghost use Rattle.mm_awake.specs.Rows.{CutsBursts, FitsWords, DropsBeats};
 ghost use Rattle.mm_awake.specs.RowRun.{RowPlan, SuitsRow, row_registers, row_top, row_middle, row_low, row_bottom};
 ghost use Rattle.mm_awake.specs.LinkSystem.{LinkPlan, SuitsLinks, linked_registers, linked_run, linked_ports, linked_states};
-ghost use Rattle.mm_awake.specs.RowRun.Fitter.{Selects};
 ghost use Rattle.mm_awake.specs.PlainSystem.{AreQuietPast, wired_ports, wired_states};
 ghost use Rattle.mm_parts.specs.SystemRun.{PlainPlan, HaveOneShape, Outside, plain_system, registers_of, ports_run};
 ghost use Rattle.mm_awake.specs.RowSystem.{RowPorts, AreRows, IsFairRow, boundaries_of};
@@ -97,11 +95,11 @@ pub fn plain_systems_have_rows()
     crate::plain::plain_systems_are_built()
 }
 
-/// A row of links has a run for all commands from above, and all waits and answers from below, whatever stands in it: a cutter of either kind, a lane selector or a splitter, what drops beats, and wires.
+/// A row of links has a run for all commands from above whose byte enables fit, and all waits and answers from below, whatever stands in it: a cutter of either kind, a lane selector or a splitter, what drops beats, and wires.
 pub fn rows_run()
     ensures { (plan : RowPlan) (inputs : Inputs) (target : Target) (end : ℕ)
         → let registers = row_registers plan inputs in
-        SuitsRow target plan → (plan.fitter ≡ Selects → EnablesFit (row_middle plan inputs registers) end)
+        SuitsRow target plan → ((c : ℕ) → c < end → inputs.signals.enables c < 2 ^ plan.middle.word_bytes)
         → CutsBursts (row_top plan inputs registers) (row_middle plan inputs registers)
         × FitsWords target (row_middle plan inputs registers) (row_low plan inputs registers) end
         × DropsBeats target (row_low plan inputs registers) (row_bottom plan inputs registers) }
@@ -120,7 +118,6 @@ pub fn linked_systems_run()
         let run = linked_run responses plan outside registers in
         let ports = linked_ports responses plan outside registers in
         IsMemoryPlan plan.system → SuitsLinks plan → AreViews plan.system run end → ((h c : ℕ) → plan.system.hosts ≤ h → IsFalse (shows (outside.host h) c))
-        → ((h a : ℕ) → h < plan.system.hosts → a < plan.system.agents → plan.fitter h a ≡ Selects → EnablesFit (ports.below_cutter h a) end)
         → ArePlanned plan.system (boundaries_of ports) (linked_states responses plan outside registers)
         × AreMachines responses plan.system run (boundaries_of ports) (linked_states responses plan outside registers) end
         × AreRows plan.system run ports (linked_states responses plan outside registers) end }
