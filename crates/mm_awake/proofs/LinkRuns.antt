@@ -113,8 +113,8 @@ module _ (laws : Laws) (responses : Responses) (plan : LinkPlan) (outside : Outs
   host_machine h =
       let inputs = to_host responses plan outside all h in
       let machine : IsHostMachine responses (system.host h) (run.at_host h) (host_lower (system.host h) inputs (run.at_host h) (host_state (λ c. (all c).host h))) (host_state (λ c. (all c).host h)) end =
-          subst (λ (r : ℕ → HostRegisters). IsHostMachine responses (system.host h) (host_view responses (system.host h) inputs (host_state r)) (host_lower (system.host h) inputs (host_view responses (system.host h) inputs (host_state r)) (host_state r)) (host_state r) end)
-          (fun_ext (same_host h)) (laws.host responses (system.host h) inputs end) in
+      subst (λ (r : ℕ → HostRegisters). IsHostMachine responses (system.host h) (host_view responses (system.host h) inputs (host_state r)) (host_lower (system.host h) inputs (host_view responses (system.host h) inputs (host_state r)) (host_state r)) (host_state r) end)
+      (fun_ext (same_host h)) (laws.host responses (system.host h) inputs end) in
       record {
         words = machine.words;
         units = machine.units;

@@ -133,3 +133,18 @@ pub fn linked_systems_run()
     mm_parts::runs::agent_machine_runs();
     mm_parts::plans::plans_suit_machines()
 }
+
+/// So each such system is safe and never idles, for each number of cycles, as long as its hosts and agents are legal.
+pub fn linked_systems_are_awake()
+    ensures safe { (responses : Responses) (plan : LinkPlan) (outside : Outside) (end : ℕ)
+        → let run = linked_run responses plan outside (linked_registers responses plan outside) in
+        IsMemoryPlan plan.system → SuitsLinks plan → AreViews plan.system run end → ((h c : ℕ) → plan.system.hosts ≤ h → IsFalse (shows (outside.host h) c)) → IsLegalRun plan.system run end
+        → IsSafe responses plan.system run end }
+    ensures awake { (responses : Responses) (plan : LinkPlan) (outside : Outside) (end : ℕ)
+        → let run = linked_run responses plan outside (linked_registers responses plan outside) in
+        IsMemoryPlan plan.system → SuitsLinks plan → AreViews plan.system run (end + 2) → ((h c : ℕ) → plan.system.hosts ≤ h → IsFalse (shows (outside.host h) c)) → IsLegalRun plan.system run (end + 2)
+        → NeverIdles plan.system run end }
+{
+    linked_systems_run();
+    machines_with_links_are_awake()
+}

@@ -1,5 +1,5 @@
 -- A system whose boundaries and registers are told cycle by cycle is one of machines: each equation of a machine is a test, which holds of each cycle before the end.
-use Rattle.std.proofs.Common.{ℕ, zero, suc, ◌<◌, ◌≤◌, ◌≡◌, ◌+◌, ◌*◌, ◌^◌, ◌%◌, Bool, true, false, not, ◌&&◌, ◌||◌, arith, refl, sym, ap, ap₂, subst, nat_eq, nat_lt, nat_le, IsTrue, IsFalse, Option, Some, None, if◌then◌else◌, MatchOption, eqb-true, leb-true}
+use Rattle.std.proofs.Common.{ℕ, zero, suc, ◌<◌, ◌≤◌, ◌≡◌, ◌+◌, ◌*◌, ◌^◌, ◌%◌, Bool, true, false, not, ◌&&◌, ◌||◌, arith, refl, sym, ap, ap₂, subst, nat_eq, nat_lt, nat_le, IsTrue, IsFalse, Option, Some, None, if◌then◌else◌, MatchOption, eqb-true, leb-true, ltb-true}
 use Rattle.std.proofs.lemmas.Bool.{and_parts}
 use Rattle.histories.specs.Below.{OfEach, each_below}
 use Rattle.histories.specs.History.{is_raised, one_if}
@@ -8,6 +8,7 @@ use Rattle.mm_runs.specs.Views.Responses.{AreZero}
 use Rattle.mm_runs.specs.Commands.{byte_address, shows, is_held, presents, longest_burst, agent_accepts, words_before}
 use Rattle.mm_runs.specs.Legal.{host_accepts, is_under_way, words_asked}
 use Rattle.mm_runs.specs.Order.{is_agent}
+use Rattle.mm_runs.specs.Plan.{AreViews}
 use Rattle.mm_runs.specs.Whole.{IsLegalRun}
 use Rattle.mm_machines.specs.Link.{Port, takes}
 use Rattle.mm_machines.specs.Lines.{TaggedPort}
@@ -355,4 +356,44 @@ legal_run system run end t = record {
     finished = λ c low left. false_of _ (under (is_under_way (system.host h).shape (run.at_host h).signals (host_accepts (run.at_host h)) c) _ (each t.finished h is c low) left);
   };
   agents = λ a there. record { owed = λ has c low. leb-true _ _ (each t.owed a there c low) };
+}
+
+-- ---- views of the ports
+
+pub record ViewTables (system : System) (run : Run) (end : ℕ) : Type 0 where
+  pub host_enables : Each system.hosts end (λ h c. nat_lt ((run.at_host h).enables c) (2 ^ (system.host h).word_bytes))
+  pub host_lanes : Each system.hosts end (λ h c. where_holds (not (system.host h).has_enables) (nat_eq ((run.at_host h).enables c + 1) (2 ^ (system.host h).word_bytes)))
+  pub host_word : Each system.hosts end (λ h c. nat_lt ((run.at_host h).word c) (256 ^ (system.host h).word_bytes))
+  pub host_beat : Each system.hosts end (λ h c. where_holds (not (system.host h).has_burst) (nat_eq ((run.at_host h).count c) 1))
+  pub has : EachOne system.hosts (λ h. (system.host h).has_readdatavalid)
+  pub response : Each system.hosts end (λ h c. nat_eq ((run.at_host h).response c) 0)
+  pub agent_enables : Each system.agents end (λ a c. nat_lt ((run.at_agent a).enables c) (2 ^ (system.agent a).word_bytes))
+  pub agent_lanes : Each system.agents end (λ a c. where_holds (not (system.agent a).has_enables) (nat_eq ((run.at_agent a).enables c + 1) (2 ^ (system.agent a).word_bytes)))
+  pub agent_word : Each system.agents end (λ a c. nat_lt ((run.at_agent a).word c) (256 ^ (system.agent a).word_bytes))
+  pub agent_beat : Each system.agents end (λ a c. where_holds (not (system.agent a).has_burst) (nat_eq ((run.at_agent a).count c) 1))
+  pub has_read : EachOne system.agents (λ a. (system.agent a).has_read)
+  pub has_write : EachOne system.agents (λ a. (system.agent a).has_write)
+  pub has_wait : EachOne system.agents (λ a. (system.agent a).has_waitrequest)
+  pub code : Each system.agents end (λ a c. nat_eq ((run.at_agent a).response c) 0)
+
+pub are_views : (system : System) (run : Run) (end : ℕ) → ViewTables system run end → AreViews system run end
+are_views system run end t = record {
+  hosts = λ h is. record {
+    enables = λ c low. ltb-true _ _ (each t.host_enables h is c low);
+    all_lanes = λ none c low. eqb-true _ _ (under_false (system.host h).has_enables _ (each t.host_lanes h is c low) none);
+    word = λ c low. ltb-true _ _ (each t.host_word h is c low);
+    one_beat = λ none c low. eqb-true _ _ (under_false (system.host h).has_burst _ (each t.host_beat h is c low) none);
+  };
+  one_word = λ h c is low none read. absurd (never (system.host h).has_readdatavalid (one t.has h is) none);
+  no_response = λ h c is low none. eqb-true _ _ (each t.response h is c low);
+  agents = λ a there. record {
+    enables = λ c low. ltb-true _ _ (each t.agent_enables a there c low);
+    all_lanes = λ none c low. eqb-true _ _ (under_false (system.agent a).has_enables _ (each t.agent_lanes a there c low) none);
+    word = λ c low. ltb-true _ _ (each t.agent_word a there c low);
+    one_beat = λ none c low. eqb-true _ _ (under_false (system.agent a).has_burst _ (each t.agent_beat a there c low) none);
+  };
+  no_read = λ a c there low none. absurd (never (system.agent a).has_read (one t.has_read a there) none);
+  no_write = λ a c there low none. absurd (never (system.agent a).has_write (one t.has_write a there) none);
+  no_waitrequest = λ a c there low none. absurd (never (system.agent a).has_waitrequest (one t.has_wait a there) none);
+  no_code = λ a c there low none. eqb-true _ _ (each t.code a there c low);
 }

@@ -69,7 +69,20 @@ pub fn burst_system_serves()
     ensures second_host { map (λ w. w.word) (given (burst_system.host 1) (burst_run.at_host 1) 12) ≡ 0xbbaa ∷ 0 ∷ [] }
 {}
 
-/// A system with up to three links in a row, run on what its hosts and agents give. Agent 1 takes the two lanes of a burst's second word in one piece, and of the lane that host 1 writes a whole word; the link before it gives 0 for a read without a lane.
+/// The same, but for fairness, of a system with up to three links in a row: a cutter and a lane selector; a cutter, a splitter and what drops beats.
+pub fn long_rows_keep_all()
+    ensures planned { ArePlanned long_plan.system (boundaries_of long_ports) long_states }
+    ensures machines { AreMachines AreZero long_plan.system long_run (boundaries_of long_ports) long_states 15 }
+    ensures rows { AreRows long_plan.system long_run long_ports long_states 15 }
+    ensures legal { IsLegalRun long_plan.system long_run 15 }
+    ensures safe { IsSafe AreZero long_plan.system long_run 15 }
+    ensures awake { NeverIdles long_plan.system long_run 13 }
+{
+    mm_awake::rows::linked_systems_run();
+    mm_awake::rows::machines_with_links_are_awake()
+}
+
+/// In it agent 1 takes the two lanes of a burst's second word in one piece, and of the lane that host 1 writes a whole word; the link before it gives 0 for a read without a lane.
 pub fn long_rows_serve()
     ensures first_agent { map (λ t. t.operation) (taken long_plan.system long_run 0 15)
         ≡ Write 2 0xdd ∷ Write 3 0xee ∷ Read 2 ∷ Read 3 ∷ Write 8 0x99 ∷ Write 9 0xaa ∷ Write 10 0xbb ∷ Write 11 0xcc ∷ [] }

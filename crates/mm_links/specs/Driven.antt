@@ -484,6 +484,5 @@ drop_below_with given registers = record {
   answers = given.inputs.answers;
 }
 
-
 abbrev pub drop_below : DropInputs → Port
 drop_below given = drop_below_with given (drop_registers given)

@@ -3,10 +3,10 @@ use Rattle.mm_awake.proofs.rows.linked_systems_run.Goals as goal
 
 pub returns : goal.returns
 returns c = λ responses plan outside end is_plan suits views quiet. (
-      planned laws responses plan outside end is_plan suits,
-      machines laws responses plan outside end is_plan suits views quiet,
-      are_rows laws responses plan outside end is_plan suits views,
-    )
+  planned laws responses plan outside end is_plan suits,
+  machines laws responses plan outside end is_plan suits views quiet,
+  are_rows laws responses plan outside end is_plan suits views,
+)
   where
     laws : Laws
     laws = record {
