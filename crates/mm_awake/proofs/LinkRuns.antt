@@ -1,5 +1,5 @@
 -- A system of machines with rows of links is one of machines and rows.
-use Rattle.std.proofs.Common.{◌≡◌, ℕ, zero, suc, ◌<◌, ◌≤◌, ◌+◌, ◌*◌, ◌^◌, Bool, true, false, List, ◌||◌, if◌then◌else◌, IsTrue, IsFalse, arith, refl, sym, ap, subst, ◌∙◌}
+use Rattle.std.proofs.Common.{◌≡◌, ℕ, zero, suc, ◌<◌, ◌≤◌, ◌^◌, Bool, true, false, List, ◌||◌, if◌then◌else◌, IsFalse, arith, refl, sym, ap, subst, ◌∙◌}
 use Rattle.std.proofs.Math.Path.{fun_ext}
 use Rattle.std.proofs.lemmas.Bool.{or_left}
 use Rattle.histories.specs.History.{is_raised}
@@ -8,7 +8,7 @@ use Rattle.ranks.specs.Turns.{Seat}
 use Rattle.mm_runs.specs.Views.{System, Run, Shape, Responses, HostSide, AgentSide}
 use Rattle.mm_runs.specs.Commands.{shows}
 use Rattle.mm_runs.specs.Plan.{IsMemoryPlan, AreViews}
-use Rattle.mm_machines.specs.Link.{Target, Port}
+use Rattle.mm_machines.specs.Link.{Target}
 use Rattle.mm_machines.specs.Lines.{target_of}
 use Rattle.mm_machines.specs.Turns.{seats_of}
 use Rattle.mm_parts.specs.Agent.{IsAgentMachine, IsAgentPlan}
@@ -24,7 +24,7 @@ use Rattle.mm_links.specs.Driven.{Inputs}
 use Rattle.mm_awake.specs.RowRun.{Cutter, Fitter, RowPlan, RowRegisters, Cutter.Uncut, Fitter.Unfitted, SuitsRow, row_registers, row_step, row_top, row_middle, row_low, row_bottom}
 use Rattle.mm_awake.specs.RowSystem.{AreRows, boundaries_of}
 use Rattle.mm_awake.specs.Rows.{CutsBursts, FitsWords, DropsBeats, drops_some}
-use Rattle.mm_awake.specs.LinkSystem.{LinkPlan, SuitsLinks, IsWireRow, Registers, row_of, agent_inner, host_inner, linked_registers, to_host, to_route, to_row, to_arbiter, to_agent, after_host, before_arbiter, after_route, before_agent, linked_run, linked_ports, linked_states}
+use Rattle.mm_awake.specs.LinkSystem.{LinkPlan, SuitsLinks, Registers, row_of, agent_inner, linked_registers, to_host, to_route, to_row, to_arbiter, to_agent, after_host, before_arbiter, after_route, before_agent, linked_run, linked_ports, linked_states}
 use Rattle.mm_awake.specs.Theorem.{ArePlanned, AreMachines}
 use Rattle.mm_awake.proofs.BuiltRuns.{seats_share}
 use Rattle.mm_awake.proofs.RowFits.{below_fits}

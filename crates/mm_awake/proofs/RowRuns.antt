@@ -13,7 +13,7 @@ use Rattle.mm_links.specs.Driven.{select_step, select_queue, select_above, selec
 use Rattle.mm_links.specs.Driven.{burst_step, burst_registers, burst_above, burst_below, burst_state, burst_above_with, burst_below_with, burst_state_with, cut_step, cut_registers, cut_above, cut_below, cut_state, cut_above_with, cut_below_with, cut_state_with}
 use Rattle.mm_links.specs.Driven.{drop_step, drop_registers, drop_above, drop_below, drop_state, drop_above_with, drop_below_with, drop_state_with}
 use Rattle.mm_awake.specs.Rows.{IsWired, CutsBursts, FitsWords, DropsBeats, CutsBursts.cutter, CutsBursts.shorter, CutsBursts.no_cutter, FitsWords.selector, FitsWords.splitter, FitsWords.no_width, DropsBeats.dropper, DropsBeats.no_dropper, drops_some}
-use Rattle.mm_awake.specs.RowRun.{Cutter, Fitter, RowPlan, RowRegisters, SuitsWire, SuitsCutter, SuitsFitter, SuitsDropper, Cutter.Uncut, Cutter.ByBeats, Cutter.ByBursts, Fitter.Unfitted, Fitter.Selects, Fitter.Splits}
+use Rattle.mm_awake.specs.RowRun.{Cutter, Fitter, RowPlan, SuitsWire, SuitsCutter, SuitsFitter, SuitsDropper, Cutter.Uncut, Cutter.ByBeats, Cutter.ByBursts, Fitter.Unfitted, Fitter.Selects, Fitter.Splits}
 use Rattle.mm_awake.specs.RowRun.{row_registers, row_top, row_middle, row_low, row_bottom, cut_shown, fit_shown, drop_shown, beats_given, bursts_given, selects_given, splits_given, drops_given}
 
 pub record Links : Type 0 where

@@ -1,5 +1,5 @@
 -- A system of machines with a row of links between each host's route and each agent's arbiter, without stages, run on whatever its hosts and agents give.
-use Rattle.std.specs.Prelude.{◌≡◌, ℕ, zero, suc, ◌+◌, ◌*◌, ◌<◌, ◌≤◌, Bool, true, false, [], IsTrue, IsFalse}
+use Rattle.std.specs.Prelude.{◌≡◌, ℕ, zero, suc, ◌+◌, ◌*◌, ◌<◌, ◌≤◌, Bool, true, false, [], IsTrue}
 use Rattle.mm_runs.specs.Views.{Shape, Responses, System, Run}
 use Rattle.mm_runs.specs.Commands.{longest_burst}
 use Rattle.mm_runs.specs.Awake.{is_alike}

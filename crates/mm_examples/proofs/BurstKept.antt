@@ -9,7 +9,6 @@ use Rattle.mm_runs.specs.Order.{host_transfers, is_joined, is_agent, place_of, b
 use Rattle.mm_runs.specs.Whole.{IsLegalRun}
 use Rattle.mm_machines.specs.Link.{is_nonempty}
 use Rattle.mm_machines.specs.Lines.{Sent, HavePlacedLanes, sent_by, target_of}
-use Rattle.mm_parts.specs.Queue.{QueuesReads}
 use Rattle.mm_links.specs.Driven.{BurstInputs, DropInputs, PipeInputs, burst_above, burst_below, burst_state, drop_above, drop_below, drop_state, pipe_run}
 use Rattle.mm_links.specs.Bursts.{RunsAsBurst}
 use Rattle.mm_links.specs.Drops.{RunsAsDrop}
@@ -18,9 +17,9 @@ use Rattle.mm_awake.specs.RowSystem.{AreRows, IsFairRow, IsFairRow.cutter_left, 
 use Rattle.mm_awake.specs.Rows.{IsWired, CutsBursts, DropsBeats, CutsBursts.cutter, CutsBursts.no_cutter, FitsWords.no_width, DropsBeats.dropper, DropsBeats.no_dropper, drops_some}
 use Rattle.mm_awake.specs.Theorem.{ArePlanned, AreMachines, IsStageBetween}
 use Rattle.mm_examples.specs.TwoByTwo.{first_or}
-use Rattle.mm_examples.specs.BurstSystem.{burst_system, burst_run, burst_ports, burst_states, after_host, after_route, below_cutter, before_arbiter, after_arbiter, before_agent, no_port, cutting, dropping, piping, stage_of}
+use Rattle.mm_examples.specs.BurstSystem.{burst_system, burst_run, burst_ports, burst_states, after_host, after_route, below_cutter, before_arbiter, after_arbiter, before_agent, no_port, cutting, dropping, piping}
 use Rattle.mm_examples.proofs.TwoByTwo.{two, pairs, joined_below, past_two, route_plan}
-use Rattle.mm_examples.proofs.Tables.{HostTables, RouteTables, ArbiterTables, AgentTables, LegalTables, Each, each, host_machine, route_machine, arbiter_machine, agent_machine, legal_run, never}
+use Rattle.mm_examples.proofs.Tables.{HostTables, RouteTables, ArbiterTables, AgentTables, Each, each, host_machine, route_machine, arbiter_machine, agent_machine, legal_run, never}
 
 pub planned : ArePlanned burst_system (boundaries_of burst_ports) burst_states
 planned = record {

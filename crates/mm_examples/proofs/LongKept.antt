@@ -9,10 +9,10 @@ use Rattle.mm_machines.specs.Lines.{target_of}
 use Rattle.mm_awake.specs.RowRun.{SuitsRow, Cutter.Uncut, Cutter.ByBeats, Fitter.Unfitted, Fitter.Selects, Fitter.Splits}
 use Rattle.mm_awake.specs.LinkSystem.{SuitsLinks, IsWireRow, row_of}
 use Rattle.mm_examples.specs.Examples.{quiet}
-use Rattle.mm_examples.specs.TwoByTwo.{first_or, of_two}
+use Rattle.mm_examples.specs.TwoByTwo.{first_or}
 use Rattle.mm_examples.specs.LongRows.{long_plan, long_run, long_outside, first_host, second_host}
 use Rattle.mm_examples.proofs.TwoByTwo.{two, pairs, none_past, is_memory_plan}
-use Rattle.mm_examples.proofs.Tables.{LegalTables, ViewTables, legal_run, are_views}
+use Rattle.mm_examples.proofs.Tables.{legal_run, are_views}
 
 pub is_plan : IsMemoryPlan long_plan.system
 is_plan = is_memory_plan long_plan.system.host (first_or 8 2) (first_or true false) 0

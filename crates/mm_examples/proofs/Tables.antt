@@ -1,13 +1,12 @@
 -- A system whose boundaries and registers are told cycle by cycle is one of machines: each equation of a machine is a test, which holds of each cycle before the end.
-use Rattle.std.proofs.Common.{ℕ, zero, suc, ◌<◌, ◌≤◌, ◌≡◌, ◌+◌, ◌*◌, ◌^◌, ◌%◌, Bool, true, false, not, ◌&&◌, ◌||◌, arith, refl, sym, ap, ap₂, subst, nat_eq, nat_lt, nat_le, IsTrue, IsFalse, Option, Some, None, if◌then◌else◌, MatchOption, eqb-true, leb-true, ltb-true}
+use Rattle.std.proofs.Common.{ℕ, zero, suc, ◌<◌, ◌≡◌, ◌+◌, ◌*◌, ◌^◌, ◌%◌, Bool, true, false, not, ◌&&◌, ◌||◌, arith, refl, ap, nat_eq, nat_lt, nat_le, IsTrue, IsFalse, Option, Some, None, if◌then◌else◌, MatchOption, eqb-true, leb-true, ltb-true}
 use Rattle.std.proofs.lemmas.Bool.{and_parts}
 use Rattle.histories.specs.Below.{OfEach, each_below}
 use Rattle.histories.specs.History.{is_raised, one_if}
 use Rattle.mm_runs.specs.Views.{System, Run, Shape, Levels, levels_at}
 use Rattle.mm_runs.specs.Views.Responses.{AreZero}
-use Rattle.mm_runs.specs.Commands.{byte_address, shows, is_held, presents, longest_burst, agent_accepts, words_before}
+use Rattle.mm_runs.specs.Commands.{byte_address, shows, is_held, longest_burst, agent_accepts, words_before}
 use Rattle.mm_runs.specs.Legal.{host_accepts, is_under_way, words_asked}
-use Rattle.mm_runs.specs.Order.{is_agent}
 use Rattle.mm_runs.specs.Plan.{AreViews}
 use Rattle.mm_runs.specs.Whole.{IsLegalRun}
 use Rattle.mm_machines.specs.Link.{Port, takes}

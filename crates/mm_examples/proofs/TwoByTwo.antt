@@ -1,5 +1,5 @@
 -- What holds of all systems of two hosts, two agents and the default agent with this map.
-use Rattle.std.proofs.Common.{ℕ, zero, suc, ◌<◌, ◌≤◌, ◌≡◌, ◌+◌, ◌*◌, Bool, true, false, List, [], ◌∷◌, arith, refl, sym, ap, subst, ◌∙◌, inr, nat_eq, nat_lt, IsTrue, IsFalse, tests, Option, Some, None, if◌then◌else◌, ltb-false, ltb-true, le-ltb, lt-ltb}
+use Rattle.std.proofs.Common.{ℕ, zero, suc, ◌<◌, ◌≤◌, ◌≡◌, ◌+◌, ◌*◌, Bool, true, false, [], ◌∷◌, arith, refl, sym, ap, subst, ◌∙◌, inr, nat_eq, nat_lt, IsTrue, IsFalse, tests, Some, None, if◌then◌else◌, ltb-false, ltb-true, le-ltb, lt-ltb}
 use Rattle.std.specs.List.{list_any}
 use Rattle.histories.specs.Below.{each_below}
 use Rattle.mm_runs.specs.Views.{Shape, HostSide, System, Kind}

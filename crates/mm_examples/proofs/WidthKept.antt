@@ -15,7 +15,7 @@ use Rattle.mm_awake.specs.Rows.{IsWired, FitsWords, CutsBursts.no_cutter, FitsWo
 use Rattle.mm_awake.specs.Theorem.{ArePlanned, AreMachines}
 use Rattle.mm_examples.specs.WidthSystem.{width_system, width_run, width_ports, width_states, swapped_run, unmoved_run, bytes_of, no_port, after_host, after_route, before_arbiter, before_agent, splitting, selecting}
 use Rattle.mm_examples.proofs.TwoByTwo.{two, pairs, joined_below, past_two, route_plan}
-use Rattle.mm_examples.proofs.Tables.{HostTables, RouteTables, ArbiterTables, AgentTables, LegalTables, host_machine, route_machine, arbiter_machine, agent_machine, legal_run}
+use Rattle.mm_examples.proofs.Tables.{HostTables, RouteTables, ArbiterTables, AgentTables, host_machine, route_machine, arbiter_machine, agent_machine, legal_run}
 
 -- ---- the plan
 
