@@ -1,7 +1,6 @@
 -- A system of machines with rows of links is one of machines and rows.
 use Rattle.std.proofs.Common.{◌≡◌, ℕ, zero, suc, ◌<◌, ◌≤◌, ◌^◌, Bool, true, false, List, ◌||◌, if◌then◌else◌, IsFalse, arith, refl, sym, ap, subst, ◌∙◌}
 use Rattle.std.proofs.Math.Path.{fun_ext}
-use Rattle.std.proofs.lemmas.Bool.{or_left}
 use Rattle.histories.specs.History.{is_raised}
 use Rattle.std.proofs.lemmas.Nat.{pow_pos}
 use Rattle.ranks.specs.Turns.{Seat}
@@ -24,7 +23,7 @@ use Rattle.mm_links.specs.Driven.{Inputs}
 use Rattle.mm_awake.specs.RowRun.{Cutter, Fitter, RowPlan, RowRegisters, Cutter.Uncut, Fitter.Unfitted, SuitsRow, row_registers, row_step, row_top, row_middle, row_low, row_bottom}
 use Rattle.mm_awake.specs.RowSystem.{AreRows, boundaries_of}
 use Rattle.mm_awake.specs.Rows.{CutsBursts, FitsWords, DropsBeats, drops_some}
-use Rattle.mm_awake.specs.LinkSystem.{LinkPlan, SuitsLinks, Registers, row_of, agent_inner, linked_registers, to_host, to_route, to_row, to_arbiter, to_agent, after_host, before_arbiter, after_route, before_agent, linked_run, linked_ports, linked_states}
+use Rattle.mm_awake.specs.LinkSystem.{LinkPlan, SuitsLinks, ShowLanes, Registers, row_of, agent_inner, linked_registers, to_host, to_route, to_row, to_arbiter, to_agent, after_host, before_arbiter, after_route, before_agent, linked_run, linked_ports, linked_states}
 use Rattle.mm_awake.specs.Theorem.{ArePlanned, AreMachines}
 use Rattle.mm_awake.proofs.BuiltRuns.{seats_share}
 use Rattle.mm_awake.proofs.RowFits.{below_fits}
@@ -190,17 +189,17 @@ module _ (laws : Laws) (responses : Responses) (plan : LinkPlan) (outside : Outs
         subst (λ (r : ℕ → RowRegisters). (d : DropsBeats (target_of system a) (row_low (row_of plan h a) (to_row responses plan outside all h a) r) (row_bottom (row_of plan h a) (to_row responses plan outside all h a) r)) × (drops_some d ≡ plan.drops h a)) (fun_ext (same_row h a))
         (drops_run laws.links (to_row responses plan outside all h a) (plan.drops h a) (row_of plan h a) (target_of system a) row.dropper row.room, drops_some_are laws.links (to_row responses plan outside all h a) (plan.drops h a) (row_of plan h a) (target_of system a) row.dropper row.room)
 
-    pub are_rows : AreViews system run end → AreRows system run (linked_ports responses plan outside all) (linked_states responses plan outside all) end
-    are_rows views = record {
+    pub are_rows : AreViews system run end → ShowLanes plan run end → AreRows system run (linked_ports responses plan outside all) (linked_states responses plan outside all) end
+    are_rows views lanes = record {
       cuts = λ h a low there. subst (λ (r : ℕ → RowRegisters). CutsBursts (row_top (row_of plan h a) (to_row responses plan outside all h a) r) (row_middle (row_of plan h a) (to_row responses plan outside all h a) r)) (fun_ext (same_row h a))
           (cuts_run laws.links (to_row responses plan outside all h a) (plan.cutter h a) (row_of plan h a) (suits.rows h a low there).cutter);
       fits = λ h a low there. subst (λ (r : ℕ → RowRegisters). FitsWords (target_of system a) (row_middle (row_of plan h a) (to_row responses plan outside all h a) r) (row_low (row_of plan h a) (to_row responses plan outside all h a) r) end) (fun_ext (same_row h a))
           (fits_run laws.links (to_row responses plan outside all h a) (plan.fitter h a) (row_of plan h a) (target_of system a) end (suits.rows h a low there).fitter (suits.rows h a low there).room
           (λ selects. below_fits (2 ^ (system.host h).word_bytes) (pow_pos (system.host h).word_bytes) (to_row responses plan outside all h a) end (views.hosts h low).enables (plan.cutter h a) (row_of plan h a)));
       drops = λ h a low there. (dropped h a low there).0;
-      lanes = λ h a low there none c within. or_left (system.agent a).has_enables _ (suits.lanes h a low there (sym (dropped h a low there).1 ∙ none));
+      lanes = λ h a low there none c within. lanes h a c low there (sym (dropped h a low there).1 ∙ none) within;
       wired = λ h a low there joined has alike.
-          let wires = suits.wired h a low there alike in
+          let wires = suits.wired h a low there joined has alike in
           wires_same (plan.cutter h a) (plan.fitter h a) (plan.drops h a) (row_of plan h a) (to_row responses plan outside all h a) (λ c. (all c).row h a) (target_of system a) wires.uncut wires.unfitted wires.undropped (suits.rows h a low there);
       places = λ a i there low. let none = suits.stages in absurd (omega (arith, low, none));
     }

@@ -3,8 +3,9 @@ use Rattle.std.specs.Prelude.{◌≡◌, ℕ, zero, suc, ◌+◌, ◌*◌, ◌<�
 use Rattle.mm_runs.specs.Views.{Shape, Responses, System, Run}
 use Rattle.mm_runs.specs.Commands.{longest_burst}
 use Rattle.mm_runs.specs.Awake.{is_alike}
+use Rattle.mm_runs.specs.Order.{host_transfers, is_joined}
 use Rattle.mm_machines.specs.Link.{Port}
-use Rattle.mm_machines.specs.Lines.{TaggedPort, target_of}
+use Rattle.mm_machines.specs.Lines.{HavePlacedLanes, TaggedPort, sent_by, target_of}
 use Rattle.mm_machines.specs.Machines.{Stage}
 use Rattle.mm_machines.specs.Turns.{seats_of}
 use Rattle.mm_parts.specs.Inputs.{Commands}
@@ -58,11 +59,15 @@ pub record IsWireRow (plan : RowPlan) : Type 0 where
 pub record SuitsLinks (plan : LinkPlan) : Type 0 where
   pub stages : plan.system.stages ≡ 0
   pub rows : (h a : ℕ) → h < plan.system.hosts → a < plan.system.agents → SuitsRow (target_of plan.system a) (row_of plan h a)
-  -- no beat without a lane reaches an agent without byte enables
-  pub lanes : (h a : ℕ) → h < plan.system.hosts → a < plan.system.agents → plan.drops h a ≡ false → IsTrue (plan.system.agent a).has_enables
-  pub wired : (h a : ℕ) → h < plan.system.hosts → a < plan.system.agents → IsTrue (is_alike (plan.system.host h) (plan.system.agent a)) → IsWireRow (row_of plan h a)
+  -- a host whose plain commands reach an agent with readdatavalid one for one is wired to its arbiter
+  pub wired : (h a : ℕ) → h < plan.system.hosts → a < plan.system.agents → IsTrue (is_joined plan.system a h) → IsTrue (plan.system.agent a).has_readdatavalid → IsTrue (is_alike (plan.system.host h) (plan.system.agent a)) → IsWireRow (row_of plan h a)
   -- hosts past those of the plan are wired
   pub past : (h a : ℕ) → plan.system.hosts ≤ h → IsWireRow (row_of plan h a)
+
+-- where no beats are dropped, the agent has byte enables or the host shows it no beat without a lane
+abbrev pub ShowLanes : LinkPlan → Run → ℕ → Type 0
+ShowLanes plan run end =
+    (h a c : ℕ) → h < plan.system.hosts → a < plan.system.agents → plan.drops h a ≡ false → c ≤ end → HavePlacedLanes plan.system h a (sent_by (host_transfers plan.system run h c))
 
 -- what all registers hold in one cycle
 pub record Registers : Type 0 where

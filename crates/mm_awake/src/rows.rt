@@ -14,7 +14,7 @@ ghost use Rattle.mm_links.specs.Driven.{Inputs};
 ghost use Rattle.mm_awake.specs.Fair.{are_apart};
 ghost use Rattle.mm_awake.specs.Rows.{CutsBursts, FitsWords, DropsBeats};
 ghost use Rattle.mm_awake.specs.RowRun.{RowPlan, SuitsRow, row_registers, row_top, row_middle, row_low, row_bottom};
-ghost use Rattle.mm_awake.specs.LinkSystem.{LinkPlan, SuitsLinks, linked_registers, linked_run, linked_ports, linked_states};
+ghost use Rattle.mm_awake.specs.LinkSystem.{LinkPlan, SuitsLinks, ShowLanes, linked_registers, linked_run, linked_ports, linked_states};
 ghost use Rattle.mm_awake.specs.PlainSystem.{AreQuietPast, wired_ports, wired_states};
 ghost use Rattle.mm_parts.specs.SystemRun.{PlainPlan, HaveOneShape, Outside, plain_system, registers_of, ports_run};
 ghost use Rattle.mm_awake.specs.RowSystem.{RowPorts, AreRows, IsFairRow, boundaries_of};
@@ -117,7 +117,7 @@ pub fn linked_systems_run()
         → let registers = linked_registers responses plan outside in
         let run = linked_run responses plan outside registers in
         let ports = linked_ports responses plan outside registers in
-        IsMemoryPlan plan.system → SuitsLinks plan → AreViews plan.system run end → ((h c : ℕ) → plan.system.hosts ≤ h → IsFalse (shows (outside.host h) c))
+        IsMemoryPlan plan.system → SuitsLinks plan → AreViews plan.system run end → ShowLanes plan run end → ((h c : ℕ) → plan.system.hosts ≤ h → IsFalse (shows (outside.host h) c))
         → ArePlanned plan.system (boundaries_of ports) (linked_states responses plan outside registers)
         × AreMachines responses plan.system run (boundaries_of ports) (linked_states responses plan outside registers) end
         × AreRows plan.system run ports (linked_states responses plan outside registers) end }
@@ -138,11 +138,11 @@ pub fn linked_systems_run()
 pub fn linked_systems_are_awake()
     ensures safe { (responses : Responses) (plan : LinkPlan) (outside : Outside) (end : ℕ)
         → let run = linked_run responses plan outside (linked_registers responses plan outside) in
-        IsMemoryPlan plan.system → SuitsLinks plan → AreViews plan.system run end → ((h c : ℕ) → plan.system.hosts ≤ h → IsFalse (shows (outside.host h) c)) → IsLegalRun plan.system run end
+        IsMemoryPlan plan.system → SuitsLinks plan → AreViews plan.system run end → ShowLanes plan run end → ((h c : ℕ) → plan.system.hosts ≤ h → IsFalse (shows (outside.host h) c)) → IsLegalRun plan.system run end
         → IsSafe responses plan.system run end }
     ensures awake { (responses : Responses) (plan : LinkPlan) (outside : Outside) (end : ℕ)
         → let run = linked_run responses plan outside (linked_registers responses plan outside) in
-        IsMemoryPlan plan.system → SuitsLinks plan → AreViews plan.system run (end + 2) → ((h c : ℕ) → plan.system.hosts ≤ h → IsFalse (shows (outside.host h) c)) → IsLegalRun plan.system run (end + 2)
+        IsMemoryPlan plan.system → SuitsLinks plan → AreViews plan.system run (end + 2) → ShowLanes plan run (end + 2) → ((h c : ℕ) → plan.system.hosts ≤ h → IsFalse (shows (outside.host h) c)) → IsLegalRun plan.system run (end + 2)
         → NeverIdles plan.system run end }
 {
     linked_systems_run();

@@ -3,11 +3,12 @@ use Rattle.std.proofs.Common.{ℕ, zero, suc, ◌<◌, ◌≤◌, ◌≡◌, Boo
 use Rattle.mm_runs.specs.Views.{Signals}
 use Rattle.mm_runs.specs.Awake.{is_alike}
 use Rattle.mm_runs.specs.Commands.{shows}
+use Rattle.mm_runs.specs.Order.{host_transfers}
 use Rattle.mm_runs.specs.Plan.{IsMemoryPlan, AreViews, IsShape, IsPowerOfTwo}
 use Rattle.mm_runs.specs.Whole.{IsLegalRun}
-use Rattle.mm_machines.specs.Lines.{target_of}
+use Rattle.mm_machines.specs.Lines.{HavePlacedLanes, sent_by, target_of}
 use Rattle.mm_awake.specs.RowRun.{SuitsRow, Cutter.Uncut, Cutter.ByBeats, Fitter.Unfitted, Fitter.Selects, Fitter.Splits}
-use Rattle.mm_awake.specs.LinkSystem.{SuitsLinks, IsWireRow, row_of}
+use Rattle.mm_awake.specs.LinkSystem.{SuitsLinks, ShowLanes, IsWireRow, row_of}
 use Rattle.mm_examples.specs.Examples.{quiet}
 use Rattle.mm_examples.specs.TwoByTwo.{first_or}
 use Rattle.mm_examples.specs.LongRows.{long_plan, long_run, long_outside, first_host, second_host}
@@ -58,9 +59,9 @@ suits = record {
         dropper = record { some = omega arith; same = refl; units = refl; agent = refl; enables = refl; one_beat = refl };
         room = omega arith;
       });
-  lanes = pairs (λ h a. long_plan.drops h a ≡ false → IsTrue (long_plan.system.agent a).has_enables) (λ none. refl) (λ none. let bad : ⊥ = cc in absurd bad) (λ none. refl) (λ none. let bad : ⊥ = cc in absurd bad);
-  wired = pairs (λ h a. IsTrue (is_alike (long_plan.system.host h) (long_plan.system.agent a)) → IsWireRow (row_of long_plan h a))
-      (λ alike. let bad : ⊥ = cc in absurd bad) (λ alike. let bad : ⊥ = cc in absurd bad) (λ alike. let bad : ⊥ = cc in absurd bad) (λ alike. let bad : ⊥ = cc in absurd bad);
+  wired = λ h a is there joined has. pairs (λ h a. IsTrue (is_alike (long_plan.system.host h) (long_plan.system.agent a)) → IsWireRow (row_of long_plan h a))
+      (λ alike. let bad : ⊥ = cc in absurd bad) (λ alike. let bad : ⊥ = cc in absurd bad) (λ alike. let bad : ⊥ = cc in absurd bad) (λ alike. let bad : ⊥ = cc in absurd bad)
+      h a is there;
   past = λ h a past. record {
     uncut = none_past ByBeats Uncut Uncut h past;
     unfitted = none_past (first_or Selects Splits a) (first_or Selects Unfitted a) Unfitted h past;
@@ -88,6 +89,11 @@ views = are_views long_plan.system long_run 15 (record {
   has_wait = record { holds = refl };
   code = record { holds = refl };
 })
+
+-- agent 0 has byte enables
+pub lanes : ShowLanes long_plan long_run 15
+lanes = λ h a c is there none low. pairs (λ h a. long_plan.drops h a ≡ false → HavePlacedLanes long_plan.system h a (sent_by (host_transfers long_plan.system long_run h c)))
+    (λ none. refl) (λ none. let bad : ⊥ = cc in absurd bad) (λ none. refl) (λ none. let bad : ⊥ = cc in absurd bad) h a is there none
 
 pub legal : IsLegalRun long_plan.system long_run 15
 legal = legal_run long_plan.system long_run 15 (record {

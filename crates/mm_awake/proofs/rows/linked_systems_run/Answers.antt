@@ -2,10 +2,10 @@ use Rattle.mm_awake.proofs.LinkRuns.{Laws, planned, machines, are_rows}
 use Rattle.mm_awake.proofs.rows.linked_systems_run.Goals as goal
 
 pub returns : goal.returns
-returns c = λ responses plan outside end is_plan suits views quiet. (
+returns c = λ responses plan outside end is_plan suits views lanes quiet. (
   planned laws responses plan outside end is_plan suits,
   machines laws responses plan outside end is_plan suits views quiet,
-  are_rows laws responses plan outside end is_plan suits views,
+  are_rows laws responses plan outside end is_plan suits views lanes,
 )
   where
     laws : Laws
