@@ -64,5 +64,6 @@ pub mod PlainRows
 pub mod RowRuns
 pub mod RowFits
 pub mod LinkRuns
+pub mod LeftOut
 pub mod ModestRow
 pub mod SplitCounts
