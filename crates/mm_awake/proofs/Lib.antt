@@ -63,5 +63,7 @@ pub mod StageLine
 pub mod RowBuilt
 pub mod PlainRows
 pub mod RowRuns
+pub mod LinkRuns
+pub mod LeftOut
 pub mod ModestRow
 pub mod SplitCounts

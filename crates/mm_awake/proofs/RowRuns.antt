@@ -12,7 +12,7 @@ use Rattle.mm_links.specs.Driven.{Inputs, SelectInputs, SplitInputs, BurstInputs
 use Rattle.mm_links.specs.Driven.{select_step, select_queue, select_above, select_below, select_above_with, select_below_with, split_step, split_registers, split_above, split_below, split_state, split_above_with, split_below_with, split_state_with}
 use Rattle.mm_links.specs.Driven.{burst_step, burst_registers, burst_above, burst_below, burst_state, burst_above_with, burst_below_with, burst_state_with, cut_step, cut_registers, cut_above, cut_below, cut_state, cut_above_with, cut_below_with, cut_state_with}
 use Rattle.mm_links.specs.Driven.{drop_step, drop_registers, drop_above, drop_below, drop_state, drop_above_with, drop_below_with, drop_state_with}
-use Rattle.mm_awake.specs.Rows.{IsWired, CutsBursts, FitsWords, DropsBeats, CutsBursts.cutter, CutsBursts.shorter, CutsBursts.no_cutter, FitsWords.selector, FitsWords.splitter, FitsWords.no_width, DropsBeats.dropper, DropsBeats.no_dropper}
+use Rattle.mm_awake.specs.Rows.{IsWired, CutsBursts, FitsWords, DropsBeats, CutsBursts.cutter, CutsBursts.shorter, CutsBursts.no_cutter, FitsWords.selector, FitsWords.splitter, FitsWords.no_width, DropsBeats.dropper, DropsBeats.no_dropper, drops_some}
 use Rattle.mm_awake.specs.RowRun.{Cutter, Fitter, RowPlan, SuitsWire, SuitsCutter, SuitsFitter, SuitsDropper, Cutter.Uncut, Cutter.ByBeats, Cutter.ByBursts, Fitter.Unfitted, Fitter.Selects, Fitter.Splits}
 use Rattle.mm_awake.specs.RowRun.{row_registers, row_top, row_middle, row_low, row_bottom, cut_shown, fit_shown, drop_shown, beats_given, bursts_given, selects_given, splits_given, drops_given}
 
@@ -111,3 +111,8 @@ module _ (links : Links) (inputs : Inputs) where
       let given = drops_given plan (drop_inputs plan) in
       dropper rest.room (drop_state_with (λ c. (row_registers plan inputs c).drop)) suits (omega (arith, room))
       (subst (λ (r : ℕ → DropRegisters). RunsAsDrop rest.room (drop_above_with given r) (drop_below_with given r) (drop_state_with r)) (fun_ext (same_kept rest)) (links.drop given))
+
+  pub drops_some_are : (drops : Bool) (rest : RowPlan) (target : Target) (suits : SuitsDropper drops target rest.low rest.bottom) (room : 1 < rest.room) → drops_some (drops_run drops rest target suits room) ≡ drops
+  unfolding drops_run
+  drops_some_are false rest target suits room = refl
+  drops_some_are true rest target suits room = refl

@@ -11,3 +11,4 @@ pub mod Still
 pub mod Rows
 pub mod RowSystem
 pub mod RowRun
+pub mod LinkSystem

@@ -1,10 +1,11 @@
 //! Systems of machines whose links are machines too: where to start. They are safe, never idle, and are fair where no beats are dropped below a host with bursts and without byte enables.
 
-ghost use Rattle.std.specs.Prelude.{ℕ, ◌<◌, ◌+◌, IsTrue, IsFalse};
+ghost use Rattle.std.specs.Prelude.{◌≡◌, ℕ, ◌<◌, ◌≤◌, ◌+◌, IsTrue, IsFalse};
 ghost use Rattle.mm_runs.specs.Views.{Responses, System, Run};
+ghost use Rattle.mm_runs.specs.Commands.{shows};
 ghost use Rattle.mm_runs.specs.Plan.{IsMemoryPlan, AreViews};
 ghost use Rattle.mm_runs.specs.Whole.{IsLegalRun, IsSafe};
-ghost use Rattle.mm_runs.specs.Awake.{NeverIdles, IsFair};
+ghost use Rattle.mm_runs.specs.Awake.{NeverIdles, IsFair, is_alike};
 ghost use Rattle.mm_runs.specs.Order.{is_joined};
 ghost use Rattle.mm_machines.specs.Link.{Target, AreLegalAt, AnswersAreOwed};
 ghost use Rattle.mm_machines.specs.Lines.{target_of};
@@ -14,6 +15,7 @@ ghost use Rattle.mm_links.specs.Selects.{EnablesFit};
 ghost use Rattle.mm_awake.specs.Fair.{are_apart};
 ghost use Rattle.mm_awake.specs.Rows.{CutsBursts, FitsWords, DropsBeats};
 ghost use Rattle.mm_awake.specs.RowRun.{RowPlan, SuitsRow, row_registers, row_top, row_middle, row_low, row_bottom};
+ghost use Rattle.mm_awake.specs.LinkSystem.{LinkPlan, SuitsLinks, linked_registers, linked_run, linked_ports, linked_states};
 ghost use Rattle.mm_awake.specs.PlainSystem.{AreQuietPast, wired_ports, wired_states};
 ghost use Rattle.mm_parts.specs.SystemRun.{PlainPlan, HaveOneShape, Outside, plain_system, registers_of, ports_run};
 ghost use Rattle.mm_awake.specs.RowSystem.{RowPorts, AreRows, IsFairRow, boundaries_of};
@@ -101,3 +103,54 @@ pub fn rows_run()
     mm_links::runs::split_runs();
     mm_links::runs::drop_runs()
 }
+
+/// Systems with such rows run: whatever hosts and agents give, for each choice of links that suits the plan, every part is its machine and every link too.
+pub fn linked_systems_run()
+    ensures { (responses : Responses) (plan : LinkPlan) (outside : Outside) (end : ℕ)
+        → let registers = linked_registers responses plan outside in
+        let run = linked_run responses plan outside registers in
+        let ports = linked_ports responses plan outside registers in
+        IsMemoryPlan plan.system → SuitsLinks plan → AreViews plan.system run end → ((h c : ℕ) → plan.system.hosts ≤ h → IsFalse (shows (outside.host h) c))
+        → ArePlanned plan.system (boundaries_of ports) (linked_states responses plan outside registers)
+        × AreMachines responses plan.system run (boundaries_of ports) (linked_states responses plan outside registers) end
+        × AreRows plan.system run ports end }
+{
+    mm_links::runs::burst_runs();
+    mm_links::runs::cut_runs();
+    mm_links::runs::select_runs();
+    mm_links::runs::split_runs();
+    mm_links::runs::drop_runs();
+    mm_parts::runs::host_machine_runs();
+    mm_parts::runs::route_machine_runs();
+    mm_parts::runs::arbiter_machine_runs();
+    mm_parts::runs::agent_machine_runs();
+    mm_parts::plans::plans_suit_machines();
+    crate::built::memory_plans_are_planned()
+}
+
+/// So each such system is safe and never idles, for each number of cycles, as long as its hosts and agents are legal.
+pub fn linked_systems_are_awake()
+    ensures safe { (responses : Responses) (plan : LinkPlan) (outside : Outside) (end : ℕ)
+        → let run = linked_run responses plan outside (linked_registers responses plan outside) in
+        IsMemoryPlan plan.system → SuitsLinks plan → AreViews plan.system run end → ((h c : ℕ) → plan.system.hosts ≤ h → IsFalse (shows (outside.host h) c)) → IsLegalRun plan.system run end
+        → IsSafe responses plan.system run end }
+    ensures awake { (responses : Responses) (plan : LinkPlan) (outside : Outside) (end : ℕ)
+        → let run = linked_run responses plan outside (linked_registers responses plan outside) in
+        IsMemoryPlan plan.system → SuitsLinks plan → AreViews plan.system run (end + 2) → ((h c : ℕ) → plan.system.hosts ≤ h → IsFalse (shows (outside.host h) c)) → IsLegalRun plan.system run (end + 2)
+        → NeverIdles plan.system run end }
+{
+    linked_systems_run();
+    machines_with_links_are_awake()
+}
+
+/// What these premises leave out: an agent with longer bursts has no host without bursts that is alike to it and joined to it, if it has `readdatavalid`, and no host with narrower words.
+pub fn longer_bursts_are_left_out()
+    ensures alike { (responses : Responses) (system : System) (run : Run) (ports : RowPorts) (states : States) (end h a : ℕ)
+        → ArePlanned system (boundaries_of ports) states → AreMachines responses system run (boundaries_of ports) states end → AreRows system run ports end
+        → h < system.hosts → a < system.agents → IsTrue (is_joined system a h) → IsTrue (system.agent a).has_readdatavalid → IsTrue (is_alike (system.host h) (system.agent a))
+        → (system.agent a).burst_bits ≡ 1 }
+    ensures narrower { (responses : Responses) (system : System) (run : Run) (ports : RowPorts) (states : States) (end h a : ℕ)
+        → ArePlanned system (boundaries_of ports) states → AreMachines responses system run (boundaries_of ports) states end → AreRows system run ports end
+        → h < system.hosts → a < system.agents → (system.host h).word_bytes < (system.agent a).word_bytes
+        → (system.agent a).burst_bits ≡ 1 }
+{}

@@ -27,3 +27,4 @@ pub mod TwoByTwo
 pub mod Tables
 pub mod WidthKept
 pub mod BurstKept
+pub mod LongKept

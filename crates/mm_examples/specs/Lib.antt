@@ -20,3 +20,4 @@ pub mod AheadRows
 pub mod TwoByTwo
 pub mod WidthSystem
 pub mod BurstSystem
+pub mod LongRows

@@ -1,4 +1,4 @@
-//! Whole systems with real links, each of two hosts, two agents and the default agent: one with a splitter and a lane selector, one with cutters of bursts and a link that drops beats without a lane.
+//! Whole systems with real links, each of two hosts, two agents and the default agent: one with a splitter and a lane selector, one with cutters of bursts and a link that drops beats without a lane, and one with up to three links in a row.
 
 ghost use Rattle.std.specs.Prelude.{◌<◌, ◌∷◌, [], ◌≡◌, ℕ, IsTrue, map};
 ghost use Rattle.mm_runs.specs.Views.Responses.{AreZero};
@@ -10,6 +10,7 @@ ghost use Rattle.mm_runs.specs.Whole.{IsLegalRun, IsSafe};
 ghost use Rattle.mm_awake.specs.RowSystem.{RowPorts, AreRows, IsFairRow, boundaries_of};
 ghost use Rattle.mm_awake.specs.Theorem.{States, ArePlanned, AreMachines};
 ghost use Rattle.mm_examples.specs.BurstSystem.{burst_system, burst_run, burst_ports, burst_states};
+ghost use Rattle.mm_examples.specs.LongRows.{long_plan, long_run, long_ports, long_states};
 ghost use Rattle.mm_examples.specs.WidthSystem.{width_system, width_run, width_ports, width_states, swapped_run, unmoved_run};
 
 /// Every part of the system and every link is its machine, and the components are legal: the premises of the theorem on systems with links hold, so the system is safe, never idles and is fair.
@@ -66,6 +67,33 @@ pub fn burst_system_serves()
         ≡ Write 4 0xaa ∷ Write 5 0xbb ∷ Write 6 0 ∷ Write 7 0 ∷ Read 4 ∷ Read 5 ∷ Read 6 ∷ Read 7 ∷ Write 0 0x09 ∷ Write 1 0x0a ∷ Write 2 0x0b ∷ Write 3 0x0c ∷ [] }
     ensures first_host { map (λ w. w.word) (given (burst_system.host 0) (burst_run.at_host 0) 12) ≡ 0x44332211 ∷ 0x88776655 ∷ 0 ∷ 0 ∷ [] }
     ensures second_host { map (λ w. w.word) (given (burst_system.host 1) (burst_run.at_host 1) 12) ≡ 0xbbaa ∷ 0 ∷ [] }
+{}
+
+/// The same of a system with up to three links in a row: a cutter and a lane selector; a cutter, a splitter and what drops beats.
+pub fn long_rows_keep_all()
+    ensures planned { ArePlanned long_plan.system (boundaries_of long_ports) long_states }
+    ensures machines { AreMachines AreZero long_plan.system long_run (boundaries_of long_ports) long_states 15 }
+    ensures rows { AreRows long_plan.system long_run long_ports 15 }
+    ensures fair_rows { (agent host : ℕ) → agent < 2 → IsTrue (is_joined long_plan.system agent host) → IsFairRow long_plan.system long_ports agent host }
+    ensures legal { IsLegalRun long_plan.system long_run 15 }
+    ensures safe { IsSafe AreZero long_plan.system long_run 15 }
+    ensures awake { NeverIdles long_plan.system long_run 13 }
+    ensures fair { IsFair long_plan.system long_run 15 }
+{
+    mm_awake::rows::linked_systems_run();
+    mm_awake::rows::machines_with_links_are_awake();
+    mm_awake::rows::machines_with_links_are_fair()
+}
+
+/// In it agent 1 takes the two lanes of a burst's second word in one piece, and of the lane that host 1 writes a whole word; the link before it gives 0 for a read without a lane.
+pub fn long_rows_serve()
+    ensures first_agent { map (λ t. t.operation) (taken long_plan.system long_run 0 15)
+        ≡ Write 2 0xdd ∷ Write 3 0xee ∷ Read 2 ∷ Read 3 ∷ Write 8 0x99 ∷ Write 9 0xaa ∷ Write 10 0xbb ∷ Write 11 0xcc ∷ [] }
+    ensures second_agent { map (λ t. t.operation) (taken long_plan.system long_run 1 15)
+        ≡ Write 0 0x11 ∷ Write 1 0x22 ∷ Write 2 0x33 ∷ Write 3 0x44 ∷ Write 4 0x55 ∷ Write 5 0x66 ∷ Write 8 0 ∷ Write 9 0x77
+        ∷ Read 0 ∷ Read 1 ∷ Read 2 ∷ Read 3 ∷ Read 4 ∷ Read 5 ∷ Read 6 ∷ Read 7 ∷ [] }
+    ensures first_host { map (λ w. w.word) (given (long_plan.system.host 0) (long_run.at_host 0) 15) ≡ 0x44332211 ∷ 0x6655 ∷ 0 ∷ [] }
+    ensures second_host { map (λ w. w.word) (given (long_plan.system.host 1) (long_run.at_host 1) 15) ≡ 0xeedd ∷ 0 ∷ [] }
 {}
 
 /// No machines make a run in which a host is given the halves of its word in the wrong order, or an agent is shown a half word in the wrong lanes.
