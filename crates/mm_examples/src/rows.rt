@@ -1,4 +1,4 @@
-//! Whole systems with real links, each of two hosts, two agents and the default agent: one with a splitter and a lane selector, one with cutters of bursts and a link that drops beats without a lane, and one with up to three links in a row.
+//! Whole systems with real links, each of two hosts, two agents and the default agent: one with a splitter and a lane selector, one with cutters of bursts and a link that drops beats without a lane, and one with several links in a row.
 
 ghost use Rattle.std.specs.Prelude.{◌<◌, ◌∷◌, [], ◌≡◌, ℕ, IsTrue, map};
 ghost use Rattle.mm_runs.specs.Views.Responses.{AreZero};
@@ -13,7 +13,7 @@ ghost use Rattle.mm_examples.specs.BurstSystem.{burst_system, burst_run, burst_p
 ghost use Rattle.mm_examples.specs.LongRows.{long_plan, long_run, long_ports, long_states};
 ghost use Rattle.mm_examples.specs.WidthSystem.{width_system, width_run, width_ports, width_states, swapped_run, unmoved_run};
 
-/// Every part of the system and every link is its machine, and the components are legal: the premises of the theorem on systems with links hold, so the system is safe, never idles and is fair.
+/// Every part of the system and every link is its machine, and the components are legal: the premises of the theorem on systems with links hold, so the system is safe, never idles and is fair. In so few cycles the last two ask little: what counts is that their premises hold.
 pub fn width_system_keeps_all()
     ensures planned { ArePlanned width_system (boundaries_of width_ports) width_states }
     ensures machines { AreMachines AreZero width_system width_run (boundaries_of width_ports) width_states 8 }
