@@ -74,8 +74,8 @@ pub fn long_rows_keep_all()
     ensures planned { ArePlanned long_plan.system (boundaries_of long_ports) long_states }
     ensures machines { AreMachines AreZero long_plan.system long_run (boundaries_of long_ports) long_states 15 }
     ensures rows { AreRows long_plan.system long_run long_ports 15 }
-    ensures fair_rows { (agent host : ℕ) → agent < 2 → IsTrue (is_joined long_plan.system agent host) → IsFairRow long_plan.system long_ports agent host }
     ensures legal { IsLegalRun long_plan.system long_run 15 }
+    ensures fair_rows { (agent host : ℕ) → agent < 2 → IsTrue (is_joined long_plan.system agent host) → IsFairRow long_plan.system long_ports agent host }
     ensures safe { IsSafe AreZero long_plan.system long_run 15 }
     ensures awake { NeverIdles long_plan.system long_run 13 }
     ensures fair { IsFair long_plan.system long_run 15 }

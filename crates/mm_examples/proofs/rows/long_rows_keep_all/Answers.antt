@@ -13,11 +13,11 @@ returns-clause-machines c = (c.linked_systems_run.ensures AreZero long_plan long
 pub returns-clause-rows : goal.returns-clause-rows
 returns-clause-rows c = (c.linked_systems_run.ensures AreZero long_plan long_outside 15 is_plan suits views quiet_past).2
 
-pub returns-clause-fair_rows : goal.returns-clause-fair_rows
-returns-clause-fair_rows c = fair_row
-
 pub returns-clause-legal : goal.returns-clause-legal
 returns-clause-legal c = legal
+
+pub returns-clause-fair_rows : goal.returns-clause-fair_rows
+returns-clause-fair_rows c = fair_row
 
 pub returns-clause-safe : goal.returns-clause-safe
 returns-clause-safe c =
