@@ -12,8 +12,8 @@ use Rattle.interconnect.specs.Wires.{pending_of}
 use Rattle.interconnect.specs.Interconnect.{IsInterconnect}
 use Rattle.netlist.specs.Netlists.{Netlist}
 use Rattle.verilog_writer.specs.Text.{text_of}
-use Rattle.avalon_top.specs.declared.exit.Exit.{Exit}
-use Rattle.avalon_top.specs.declared.exit.Exit.TheVariants as exit
+use Rattle.answer_lines.specs.declared.exit.Exit.{Exit}
+use Rattle.answer_lines.specs.declared.exit.Exit.TheVariants as exit
 use Rattle.avalon_top.specs.declared.words.Task.{Task}
 use Rattle.avalon_top.specs.declared.words.Task.TheVariants.{Generate, Check}
 use Rattle.avalon_top.specs.Words.{AsksFor, AsksForNothing}
