@@ -8,7 +8,7 @@ use Rattle.system_tables.specs.Tables.{SystemTable}
 use Rattle.system_plan.specs.declared.faults.Refusal.TheVariants as refusal
 use Rattle.system_plan.specs.Plans.{IsPlanned, IsAccepted, IsRefusedBy}
 use Rattle.map_text.specs.Text.{map_text}
-use Rattle.interconnect.specs.Wires.{pending_of}
+use Rattle.built_links.specs.Wires.{pending_of}
 use Rattle.interconnect.specs.Interconnect.{IsInterconnect}
 use Rattle.netlist.specs.Netlists.{Netlist}
 use Rattle.verilog_writer.specs.Text.{text_of}
