@@ -8,12 +8,13 @@ use Rattle.link_rules.specs.Plans.{PlanTable}
 use Rattle.system_plan.specs.declared.faults.Refusal.{Refusal}
 use Rattle.system_plan.specs.declared.faults.Refusal.TheVariants as refusal
 use Rattle.system_plan.specs.Plans.{IsPlanned, IsAccepted, IsRefusedBy, IsCause}
-use Rattle.avalon_top.specs.declared.exit.Exit.{Exit}
-use Rattle.avalon_top.specs.declared.exit.Exit.TheVariants as exit
+use Rattle.answer_lines.specs.declared.exit.Exit.{Exit}
+use Rattle.answer_lines.specs.declared.exit.Exit.TheVariants as exit
 use Rattle.avalon_top.specs.declared.words.Task.{Task}
 use Rattle.avalon_top.specs.Words.{AsksFor}
 use Rattle.avalon_top.specs.Run.{Reads, Writes, AreFiles, IsCalledFor, CallsFor, IsOnlyAnswer, NothingFails, unbuilt_of}
-use Rattle.avalon_top.specs.Loading.{StopsFiles, StopsWriting, Stops, IsResultOf, exit_of}
+use Rattle.answer_lines.specs.Lines.{exit_of}
+use Rattle.avalon_top.specs.Loading.{StopsFiles, StopsWriting, Stops, IsResultOf}
 use Rattle.avalon_top.proofs.WordsLemmas.{one_task}
 use Rattle.avalon_top.proofs.FileLemmas.{told_files, not_long}
 

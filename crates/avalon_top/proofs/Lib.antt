@@ -1,4 +1,3 @@
-pub mod Decimals
 pub mod WordsLemmas
 pub mod FileLemmas
 pub mod AnswerLemmas

@@ -1,9 +1,9 @@
 -- What a process of the program ends with.
 use Rattle.std.specs.Prelude.{◌≡◌, ℕ, List, None, ◌⊎◌}
 use Rattle.av_files.specs.Outside.{NamedFiles, RealOutput}
-use Rattle.avalon_top.specs.declared.exit.Exit.{Exit}
-use Rattle.avalon_top.specs.declared.exit.Exit.TheVariants.{NoMemory}
-use Rattle.avalon_top.specs.Lines.{status_of, line_of}
+use Rattle.answer_lines.specs.declared.exit.Exit.{Exit}
+use Rattle.answer_lines.specs.declared.exit.Exit.TheVariants.{NoMemory}
+use Rattle.answer_lines.specs.Lines.{status_of, line_of}
 use Rattle.avalon_top.specs.Run.{Reads, Writes, Answers, IsRefusal, WritesLine}
 
 -- files of these names, of which no fault is counted

@@ -3,20 +3,11 @@ use Rattle.std.specs.Prelude.{◌≡◌, ℕ, ◌<◌, ◌⊎◌, List, length, 
 use Rattle.av_files.specs.Outside.{Rose, WhereTold}
 use Rattle.system_tables.specs.Tables.{SystemTable}
 use Rattle.link_rules.specs.declared.faults.LinkRule.TheVariants as link
-use Rattle.system_plan.specs.declared.faults.Refusal.{Refusal}
-use Rattle.system_plan.specs.declared.faults.Refusal.TheVariants as refusal
-use Rattle.avalon_top.specs.declared.exit.Exit.{Exit}
-use Rattle.avalon_top.specs.declared.exit.Exit.TheVariants as exit
+use Rattle.answer_lines.specs.declared.exit.Exit.{Exit}
+use Rattle.answer_lines.specs.declared.exit.Exit.TheVariants as exit
 use Rattle.avalon_top.specs.declared.words.Task.{Task}
 use Rattle.avalon_top.specs.Words.{AsksFor, AsksForNothing}
 use Rattle.avalon_top.specs.Run.{Reads, AreFiles, IsReadFault, IsBytesLimit, IsOnlyAnswer, IsResult, StopsTask, unbuilt_of}
-
--- the answer to files that are refused
-abbrev pub exit_of : Refusal → Exit
-exit_of (refusal.Script place rule) = exit.ScriptRefused place rule
-exit_of (refusal.Link connection rule other) = exit.LinkRefused connection rule other
-exit_of (refusal.Limit which count) = exit.Limit which count
-exit_of refusal.NoMemory = exit.NoMemory
 
 -- one file was not loaded
 abbrev pub StopsAtFile : ℕ → Reads → Exit → Type 0

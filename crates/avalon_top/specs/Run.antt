@@ -8,12 +8,12 @@ use Rattle.system_tables.specs.Tables.{SystemTable}
 use Rattle.system_plan.specs.declared.faults.Refusal.TheVariants as refusal
 use Rattle.system_plan.specs.Plans.{IsPlanned, IsAccepted, IsRefusedBy}
 use Rattle.map_text.specs.Text.{map_text}
-use Rattle.interconnect.specs.Wires.{pending_of}
+use Rattle.built_links.specs.Wires.{pending_of}
 use Rattle.interconnect.specs.Interconnect.{IsInterconnect}
 use Rattle.netlist.specs.Netlists.{Netlist}
 use Rattle.verilog_writer.specs.Text.{text_of}
-use Rattle.avalon_top.specs.declared.exit.Exit.{Exit}
-use Rattle.avalon_top.specs.declared.exit.Exit.TheVariants as exit
+use Rattle.answer_lines.specs.declared.exit.Exit.{Exit}
+use Rattle.answer_lines.specs.declared.exit.Exit.TheVariants as exit
 use Rattle.avalon_top.specs.declared.words.Task.{Task}
 use Rattle.avalon_top.specs.declared.words.Task.TheVariants.{Generate, Check}
 use Rattle.avalon_top.specs.Words.{AsksFor, AsksForNothing}

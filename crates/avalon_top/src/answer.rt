@@ -2,14 +2,14 @@ ghost use Rattle.std.specs.Prelude.{◌≡◌, ℕ, ◌+◌, ◌^◌, ◌<◌, �
 ghost use Rattle.av_files.specs.Outside.{WhereTold};
 ghost use Rattle.netlist.specs.Netlists.{Netlist};
 ghost use Rattle.verilog_writer.specs.Text.{text_of};
-ghost use Rattle.interconnect.specs.Wires.{pending_of};
+ghost use Rattle.built_links.specs.Wires.{pending_of};
 ghost use Rattle.interconnect.specs.Interconnect.{IsInterconnect};
-ghost use Rattle.avalon_top.specs.Lines.{line_of};
+ghost use Rattle.answer_lines.specs.Lines.{line_of};
 ghost use Rattle.avalon_top.specs.Run.{reads_by, writes_by, Reads, Writes, AreFiles, Answers, IsComplete, IsRefusal, WritesLine, IsResult, IsTextOf, unbuilt_of};
 ghost use Rattle.avalon_top.specs.Loading.{StopsAtFile, StopsFiles, StopsWriting, StopsLoading, Stops, IsResultOf};
 
-use crate::exit::Exit;
 use crate::words::{Task, read_words};
+use answer_lines::Exit;
 use av_base::{Bytes, List, NoMemory};
 use av_files::{LoadFault, Shelf, Sink, load_all, put_all};
 use interconnect::{build, pending};

@@ -1,7 +1,7 @@
 //! What holds of every list of files.
 
 ghost use Rattle.std.specs.Prelude.{◌≤◌, ℕ, List, length};
-ghost use Rattle.avalon_top.specs.declared.exit.Exit.{Exit as Answer};
+ghost use Rattle.answer_lines.specs.declared.exit.Exit.{Exit as Answer};
 ghost use Rattle.avalon_top.specs.declared.words.Task.{Task};
 ghost use Rattle.avalon_top.specs.Run.{IsOnlyAnswer};
 

@@ -2,16 +2,13 @@
 #![tactic(auto)]
 
 mod answer;
-mod exit;
 mod laws;
-mod line;
 mod process;
 mod words;
 
 pub use answer::run;
-pub use exit::Exit;
+pub use answer_lines::{Exit, Line};
 pub use laws::files_call_for_one_answer;
-pub use line::Line;
 pub use link_rules::LinkRule;
 pub use process::status_of_process;
 pub use script_words::ScriptRule;

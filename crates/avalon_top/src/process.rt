@@ -1,11 +1,11 @@
 ghost use Rattle.std.specs.Prelude.{◌≡◌, map, drop, string_bytes};
 ghost use Rattle.std.specs.Process.{exit_status};
-ghost use Rattle.avalon_top.specs.Lines.{status_of, line_of};
+ghost use Rattle.answer_lines.specs.Lines.{status_of, line_of};
 ghost use Rattle.avalon_top.specs.Run.{Answers, IsRefusal, WritesLine};
 ghost use Rattle.avalon_top.specs.Ending.{unread, unwritten, reads_of, writes_of, IsStatusOf, IsEnd};
 
 use crate::answer::run;
-use crate::exit::Exit;
+use answer_lines::Exit;
 use av_files::{DirShelf, StdSink};
 use std::alloc::Global;
 use std::io::Write;

@@ -14,7 +14,7 @@ use Rattle.port_tables.specs.declared.roles.RolePort.{RolePort}
 use Rattle.port_tables.specs.Lists.{Among}
 use Rattle.port_tables.specs.Ports.{bits_if, port_of, host_ports, agent_ports, is_output, ends_of, ports_of}
 use Rattle.port_tables.specs.PortMaps.{IsPortIf, HasKnownPorts, port_at}
-use Rattle.interconnect.specs.Wires.{is_wire_host, is_wire_agent, fills_range, is_wire_memory}
+use Rattle.built_links.specs.Wires.{is_wire_host, is_wire_agent, fills_range, is_wire_memory}
 use Rattle.interconnect.specs.Memory.{form_of}
 use Rattle.interconnect.proofs.Forms.{same_flag}
 

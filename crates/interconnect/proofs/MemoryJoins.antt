@@ -42,7 +42,7 @@ use Rattle.interconnect.specs.Memory.{IsMemory}
 use Rattle.interconnect.specs.Outputs.{IsInputIf, IsInput, output_end, output_at, HaveOwnRoles, HasSameNets, MayDriveAll, AreDriven, IsNoOutput}
 use Rattle.interconnect.specs.MemoryNets.{bounded_form, IsMemoryLink, AreHostInputs, AreAgentInputs, AddsWire, wire_roles, wire_net, wire_outputs, IsJoinedMemory}
 use Rattle.interconnect.specs.Joins.{IsBegun, IsJoinedUpTo}
-use Rattle.interconnect.proofs.Counts.{of_kind}
+use Rattle.built_links.specs.Kinds.{of_kind}
 use Rattle.interconnect.proofs.Driving.{KeepsOn, is_an_end, output_among, can_drive, own_roles, each_at, may_by, stay_driven, same_drivers, low_stays, waiting_as, unwritten_as}
 use Rattle.interconnect.proofs.StreamEnds.{stream_ends_among}
 use Rattle.interconnect.proofs.MemoryEnds.{AreHostPorts, AreAgentPorts, host_ports_are, agent_ports_are, pair_is, limits}

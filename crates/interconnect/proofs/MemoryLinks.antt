@@ -15,10 +15,10 @@ use Rattle.port_tables.specs.Lists.{Among, among_at, among_kept, nat_less}
 use Rattle.port_tables.specs.EndFacts.{IsPlanned, known_is, same_known}
 use Rattle.port_tables.specs.Numbering.{of_mm, mm_kind, of_stream, stream_kind}
 use Rattle.interconnect.specs.declared.memory.MemoryForm.{MemoryForm}
-use Rattle.interconnect.specs.Wires.{is_wire_memory, is_only, is_built_as, is_built, pending_of}
+use Rattle.built_links.specs.Wires.{is_wire_memory, is_only, is_built_as, is_built, pending_of}
 use Rattle.interconnect.specs.Memory.{form_of}
 use Rattle.interconnect.specs.MemoryNets.{bounded_form, IsMemoryLink}
-use Rattle.interconnect.proofs.Counts.{of_kind}
+use Rattle.built_links.specs.Kinds.{of_kind}
 use Rattle.interconnect.proofs.Forms.{all_built}
 
 -- the connection that the loop is at

@@ -26,7 +26,7 @@ use Rattle.port_tables.specs.PortMaps.{HasKnownPorts, port_at}
 use Rattle.port_tables.specs.Ends.{IsStreamPlace}
 use Rattle.port_tables.specs.EndFacts.{IsPlanned, known_is, known_proper}
 use Rattle.port_tables.specs.Numbering.{among_once, mm_among, stream_number, stream_at, ends_at}
-use Rattle.interconnect.specs.Wires.{is_wire, is_wire_at, wires_before, is_wire_stream}
+use Rattle.built_links.specs.Wires.{is_wire, is_wire_at, wires_before, is_wire_stream}
 use Rattle.interconnect.specs.Streams.{IsStream}
 use Rattle.interconnect.specs.Memory.{IsMemory}
 use Rattle.interconnect.specs.Joins.{IsJoinedUpTo}

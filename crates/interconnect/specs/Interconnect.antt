@@ -9,7 +9,7 @@ use Rattle.link_rules.specs.Links.{weight_of}
 use Rattle.netlist.specs.Netlists.{Netlist, input_count}
 use Rattle.st_timing.specs.Ends.{declared}
 use Rattle.port_tables.specs.Ports.{name_at, ports_of, module_name}
-use Rattle.interconnect.specs.Wires.{is_wire_stream, wires_before}
+use Rattle.built_links.specs.Wires.{is_wire_stream, wires_before}
 use Rattle.interconnect.specs.Streams.{IsStream, ServesStream, IsWired}
 use Rattle.interconnect.specs.Memory.{IsMemory, form_of, ServesMemory}
 

@@ -1,4 +1,3 @@
-pub mod Wires
 pub mod Streams
 pub mod Memory
 pub mod Outputs

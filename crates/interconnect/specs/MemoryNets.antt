@@ -23,7 +23,7 @@ use Rattle.port_tables.specs.Ends.{IsAnEnd}
 use Rattle.interconnect.specs.declared.outputs.Output.{Output}
 use Rattle.interconnect.specs.declared.memory.MemoryForm.{MemoryForm}
 use Rattle.interconnect.specs.declared.memory.MemoryLink.{MemoryLink}
-use Rattle.interconnect.specs.Wires.{is_wire_memory}
+use Rattle.built_links.specs.Wires.{is_wire_memory}
 use Rattle.interconnect.specs.Memory.{bound_of, form_of}
 use Rattle.interconnect.specs.Outputs.{input_at, outputs_by, AreDriven}
 

@@ -5,7 +5,7 @@ ghost use Rattle.mm_wire.specs.Wires.{AreHostNets, AreAgentNets};
 ghost use Rattle.address_map.specs.Maps.{mm_connections};
 ghost use Rattle.port_tables.specs.Ports.{ports_of};
 ghost use Rattle.port_tables.specs.PortMaps.{entries_of};
-ghost use Rattle.interconnect.specs.Wires.{pending_of};
+ghost use Rattle.built_links.specs.Wires.{pending_of};
 ghost use Rattle.interconnect.specs.Memory.{form_of};
 ghost use Rattle.interconnect.specs.MemoryNets.{bounded_form, IsMemoryLink, AreHostInputs, AreAgentInputs, AddsWire, wire_outputs};
 ghost use Rattle.interconnect.specs.Joins.{IsBegun, IsJoinedUpTo};

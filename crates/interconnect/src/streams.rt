@@ -14,13 +14,13 @@ ghost use Rattle.stream_path.specs.Serving.{most_nets, ServesInLonger};
 ghost use Rattle.port_tables.specs.Ends.{IsAnEnd};
 ghost use Rattle.port_tables.specs.Ports.{ports_of, module_name};
 ghost use Rattle.port_tables.specs.PortMaps.{entries_of};
-ghost use Rattle.interconnect.specs.Wires.{is_wire_link, wires_before};
+ghost use Rattle.built_links.specs.Wires.{is_wire_link, wires_before};
 ghost use Rattle.interconnect.specs.Streams.{low_line};
 ghost use Rattle.interconnect.specs.Joins.{AreInputs, wire_nets, path_outputs, AddsLow, AddsStream, IsLowOf, with_lows, AreLows, IsJoinedUpTo};
 
-use crate::built::is_wire_stream;
 use crate::outputs::{Output, drive_outputs, input_of};
 use av_base::{List, NoMemory, Val};
+use built_links::is_wire_stream;
 use iface_roles::{SinkPort, SourcePort, proper_records_are_bounded};
 use link_rules::{Plan, StreamLink, streams_are_numbered};
 use netlist::{Builder, Net, NetFault};

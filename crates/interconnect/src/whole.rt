@@ -1,5 +1,5 @@
 ghost use Rattle.std.specs.Prelude.{◌≡◌, None, IfOk};
-ghost use Rattle.interconnect.specs.Wires.{pending_of};
+ghost use Rattle.built_links.specs.Wires.{pending_of};
 ghost use Rattle.interconnect.specs.Interconnect.{IsInterconnect};
 ghost use Rattle.port_tables.specs.PortMaps.{AreTold};
 

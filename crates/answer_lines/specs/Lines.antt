@@ -5,8 +5,10 @@ use Rattle.script_words.specs.declared.faults.ScriptRule.{ScriptRule}
 use Rattle.script_words.specs.declared.faults.ScriptRule.TheVariants as script
 use Rattle.link_rules.specs.declared.faults.LinkRule.{LinkRule}
 use Rattle.link_rules.specs.declared.faults.LinkRule.TheVariants as link
-use Rattle.avalon_top.specs.declared.exit.Exit.{Exit}
-use Rattle.avalon_top.specs.declared.exit.Exit.TheVariants as exit
+use Rattle.system_plan.specs.declared.faults.Refusal.{Refusal}
+use Rattle.system_plan.specs.declared.faults.Refusal.TheVariants as refusal
+use Rattle.answer_lines.specs.declared.exit.Exit.{Exit}
+use Rattle.answer_lines.specs.declared.exit.Exit.TheVariants as exit
 
 abbrev pub script_rule : ScriptRule → List ℕ
 script_rule (script.Words n) = codes "T" ++ decimal n
@@ -54,3 +56,10 @@ status_of (exit.ScriptRefused place rule) = 5
 status_of (exit.LinkRefused connection rule other) = 6
 status_of (exit.Limit which count) = 7
 status_of exit.NoMemory = 10
+
+-- the answer to files that are refused
+abbrev pub exit_of : Refusal → Exit
+exit_of (refusal.Script place rule) = exit.ScriptRefused place rule
+exit_of (refusal.Link connection rule other) = exit.LinkRefused connection rule other
+exit_of (refusal.Limit which count) = exit.Limit which count
+exit_of refusal.NoMemory = exit.NoMemory

@@ -1,27 +1,17 @@
 -- How many connections a plan has.
 use Rattle.std.proofs.Common.{◌≡◌, ◌⊎◌, inl, inr, ℕ, suc, ◌+◌, ◌≤◌, Bool, true, false, cond, List, [], ◌∷◌, length, slice_get, Option, Some, None, refl, ap, arith}
 use Rattle.std.specs.List.{filter, filter_map, cons_option, enumerate_from}
-use Rattle.iface_roles.specs.declared.kinds.Kind.{Kind}
-use Rattle.iface_roles.specs.declared.kinds.Kind.TheVariants.{Clock, Reset, Mm, Stream, Conduit, Interrupt}
-use Rattle.iface_roles.specs.declared.records.Finished.{Finished}
 use Rattle.system_tables.specs.declared.tables.Connection.{Connection}
-use Rattle.system_tables.specs.Tables.{SystemTable, Joins}
+use Rattle.system_tables.specs.Tables.{SystemTable}
 use Rattle.address_map.specs.Maps.{is_mm, mm_connections}
 use Rattle.link_rules.specs.Links.{is_stream}
+use Rattle.built_links.specs.Kinds.{of_kind}
 use Rattle.port_tables.specs.EndFacts.{IsPlanned}
 use Rattle.port_tables.specs.Numbering.{number_of}
 
 -- a connection is of one kind or the other
 abbrev IsOfKind : Connection → Type 0
 IsOfKind connection = (is_mm connection.kind ≡ true) ⊎ (is_stream connection.kind ≡ true)
-
-pub of_kind : (kind : Kind) (a b : Finished) → Joins kind a b → (is_mm kind ≡ true) ⊎ (is_stream kind ≡ true)
-of_kind Clock a b j = absurd j
-of_kind Reset a b j = absurd j
-of_kind Mm a b j = inl refl
-of_kind Stream a b j = inr refl
-of_kind Conduit a b j = absurd j
-of_kind Interrupt a b j = absurd j
 
 length-cond : {X : Type 0} (b : Bool) (x : X) (xs : List X) → length xs ≤ length (cond b (x ∷ xs) xs)
 length-cond true x xs = omega arith

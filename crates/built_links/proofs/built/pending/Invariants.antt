@@ -1,7 +1,7 @@
 use Rattle.std.proofs.Common.{◌≡◌, drop, not}
 use Rattle.std.specs.List.{position_from}
-use Rattle.interconnect.specs.Wires.{is_built}
-use Rattle.interconnect.proofs.built.pending.Given as goal
+use Rattle.built_links.specs.Wires.{is_built}
+use Rattle.built_links.proofs.built.pending.Given as goal
 
 -- no connection before this one has to wait
 abbrev pub invariant-loop-number : goal.invariant-loop-number

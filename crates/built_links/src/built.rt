@@ -2,7 +2,7 @@ ghost use Rattle.std.specs.Prelude.{◌≡◌, length};
 ghost use Rattle.system_tables.specs.Tables.{IsLogic};
 ghost use Rattle.address_map.specs.Maps.{is_mm, mm_connections};
 ghost use Rattle.st_timing.specs.Ends.{declared};
-ghost use Rattle.interconnect.specs.Wires.{has_same_beats, has_plain_ready, is_wire_stream, is_wire_host, is_wire_agent, fills_range, is_wire_memory, is_only, is_built, pending_of};
+ghost use Rattle.built_links.specs.Wires.{has_same_beats, has_plain_ready, is_wire_stream, is_wire_host, is_wire_agent, fills_range, is_wire_memory, is_only, is_built, pending_of};
 
 use iface_roles::{AgentPort, Finished, HostPort, Kind, SinkPort, SourcePort};
 use link_rules::Plan;
@@ -28,7 +28,7 @@ fn has_plain_ready(source: &SourcePort, sink: &SinkPort) -> bool
 }
 
 /// Whether nothing has to be cut, changed, delayed or kept between the ends.
-pub(crate) fn is_wire_stream(source: &SourcePort, sink: &SinkPort, fifo: u8) -> bool
+pub fn is_wire_stream(source: &SourcePort, sink: &SinkPort, fifo: u8) -> bool
     ensures { result ≡ is_wire_stream (declared source.now) (declared sink.now) fifo }
 {
     has_same_beats(source, sink)

@@ -3,11 +3,11 @@ use Rattle.std.specs.List.{position_from}
 use Rattle.std.proofs.lemmas.Option.{slice_get-get_or}
 use Rattle.system_tables.specs.declared.tables.Connection.{Connection}
 use Rattle.system_tables.specs.Tables.{SystemTable}
-use Rattle.interconnect.specs.Wires.{is_built, pending_of}
+use Rattle.built_links.specs.Wires.{is_built, pending_of}
 use Rattle.port_tables.specs.Lists.{position_at, position_past}
 use Rattle.port_tables.specs.EndFacts.{planned}
-use Rattle.interconnect.proofs.Counts.{connections-few}
-use Rattle.interconnect.proofs.built.pending.Goals as goal
+use Rattle.built_links.proofs.Counts.{connections-few}
+use Rattle.built_links.proofs.built.pending.Goals as goal
 
 abbrev Waits : SystemTable → Option ℕ → Type 0
 Waits system o = position_from (λ (connection : Connection). not (is_built system connection)) 0 system.connections ≡ o

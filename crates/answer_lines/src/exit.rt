@@ -1,5 +1,5 @@
 ghost use Rattle.std.specs.Prelude.{◌≡◌, codes, decimal, ◌++◌};
-ghost use Rattle.avalon_top.specs.Lines.{status_of, line_of, script_line, link_line, limit_line};
+ghost use Rattle.answer_lines.specs.Lines.{status_of, line_of, script_line, link_line, limit_line};
 
 use crate::line::Line;
 use av_base::{NoMemory, Place};
@@ -42,7 +42,7 @@ pub enum Exit {
 }
 
 impl From<NoMemory> for Exit {
-    ghost use Rattle.avalon_top.specs.declared.exit.Exit.TheVariants.{NoMemory as NoRoom};
+    ghost use Rattle.answer_lines.specs.declared.exit.Exit.TheVariants.{NoMemory as NoRoom};
 
     ghost from_gives = { λ _ exit. exit ≡ NoRoom };
 
@@ -52,7 +52,7 @@ impl From<NoMemory> for Exit {
 }
 
 impl From<Refusal> for Exit {
-    ghost use Rattle.avalon_top.specs.Loading.{exit_of};
+    ghost use Rattle.answer_lines.specs.Lines.{exit_of};
 
     ghost from_gives = { λ refusal exit. exit ≡ exit_of refusal };
 

@@ -1,7 +1,7 @@
 use Rattle.std.proofs.Common.{◌≡◌, ◌≤◌, length, take}
 use Rattle.std.specs.Prelude.{filter}
 use Rattle.address_map.specs.Maps.{is_mm}
-use Rattle.interconnect.proofs.built.mm_count.Given as goal
+use Rattle.built_links.proofs.built.mm_count.Given as goal
 
 abbrev pub invariant-loop-connection : goal.invariant-loop-connection
 invariant-loop-connection l = record {
