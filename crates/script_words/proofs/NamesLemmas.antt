@@ -1,34 +1,67 @@
--- Where a name stands, seen through a map.
-use Rattle.std.proofs.Common.{◌≡◌, ℕ, Bool, false, List, [], ◌∷◌, ◌++◌, length, map, Option, sym, ap, ◌∙◌}
-use Rattle.std.specs.Prelude.{position, IsNone}
-use Rattle.std.specs.List.{position_or_len, list_any, IsDistinct, AllByRecursion}
-use Rattle.std.proofs.lemmas.List.{map-append}
-use Rattle.std.specs.Prelude.{String, string_bytes, if◌then◌else◌}
+-- Names and their numbers, as a name is added.
+use Rattle.std.proofs.Common.{◌≡◌, ℕ, ◌+◌, Bool, true, false, cond, List, [], ◌∷◌, ◌++◌, length, Some, None, refl, sym, ap, ◌∙◌, subst, arith}
+use Rattle.std.specs.Prelude.{◌||◌, IsNone, string_bytes}
+use Rattle.std.specs.HashMap.{get_by_text}
+use Rattle.std.specs.List.{position_from, list_any, IsDistinct}
+use Rattle.std.specs.Map.{lookup, update}
 use Rattle.std.specs.Str.{bytes_eq}
-use Rattle.std.specs.String.{string_eq}
-use Rattle.std.proofs.Common.{Global, subst}
-use Rattle.script_words.specs.Laws.{position-map, none_passes}
+use Rattle.std.proofs.lemmas.Cmp.{nat_list_eq_equiv}
+use Rattle.std.proofs.lemmas.Iterator.Adapters.{position_from-zero}
+use Rattle.std.proofs.lemmas.Map.Keys.{IsDistinct-push}
+use Rattle.std.proofs.lemmas.Slice.Eq.{bytes_eq-Decides}
+use Rattle.script_words.specs.Laws.{none_passes}
+use Rattle.script_words.specs.Names.{place_of, Numbers, AreNumbered}
 
--- no key has the bytes of a name that isn't in the table
-pub absent : (keys : List (String Global)) (s : String Global) (name : List ℕ) → string_bytes s ≡ name → IsNone (position (bytes_eq name) (map string_bytes keys)) → (position_or_len (string_eq s) keys ≡ length keys) × (list_any (string_eq s) keys ≡ false)
-absent keys s name e h =
-    let P : Option ℕ → Type 0 = λ o. IsNone o in
-    let at_name : IsNone (position (λ k. bytes_eq name (string_bytes k)) keys) = subst P (position-map (bytes_eq name) string_bytes keys) h in
-    let Q : List ℕ → Type 0 = λ bs. IsNone (position (λ k. bytes_eq bs (string_bytes k)) keys) in
-    none_passes (string_eq s) keys (subst Q (sym e) at_name)
+-- a member behind the others
+position_from-pass : {A : Type 0} (p : A → Bool) (i : ℕ) (xs : List A) (y : A) → p y ≡ false → position_from p i (xs ++ y ∷ []) ≡ position_from p i xs
+position_from-pass p i [] y h = ap (λ b. cond b (Some i) None) h
+position_from-pass p i (x ∷ xs) y h = ap (cond (p x) (Some i)) (position_from-pass p (i + 1) xs y h)
 
-pub added : (keys now : List (String Global)) (s : String Global) (name : List ℕ) → string_bytes s ≡ name → IsNone (position (bytes_eq name) (map string_bytes keys)) → now ≡ (if list_any (string_eq s) keys then keys else (keys ++ s ∷ [])) → map string_bytes now ≡ map string_bytes keys ++ name ∷ []
-added keys now s name e h n =
-    let none = (absent keys s name e h).1 in
-    let is : now ≡ keys ++ s ∷ [] = n ∙ ap (λ (b : Bool). if b then keys else (keys ++ s ∷ [])) none in
-    ap (map string_bytes) is ∙ map-append string_bytes keys (s ∷ []) ∙ ap (λ (bs : List ℕ). map string_bytes keys ++ bs ∷ []) e
+position_from-last : {A : Type 0} (p : A → Bool) (i : ℕ) (xs : List A) (y : A) → list_any p xs ≡ false → p y ≡ true → position_from p i (xs ++ y ∷ []) ≡ Some (i + length xs)
+position_from-last p i [] y none h = ap (λ b. cond b (Some i) None) h ∙ ap Some (omega arith)
+position_from-last p i (x ∷ xs) y none h = by (p x) refl (λ rest. position_from-last p (i + 1) xs y rest h)
+  where
+    by : (b : Bool) → p x ≡ b → (list_any p xs ≡ false → position_from p (i + 1) (xs ++ y ∷ []) ≡ Some (i + 1 + length xs))
+        → cond (p x) (Some i) (position_from p (i + 1) (xs ++ y ∷ [])) ≡ Some (i + length (x ∷ xs))
+    by true t later = absurd (let no : true ≡ false = sym (ap (λ b. b || list_any p xs) t) ∙ none in cc)
+    by false t later =
+        ap (λ b. cond b (Some i) (position_from p (i + 1) (xs ++ y ∷ []))) t
+        ∙ later (sym (ap (λ b. b || list_any p xs) t) ∙ none)
+        ∙ ap Some (omega arith)
 
--- texts that differ have bytes that differ
-AllByRecursion-map : {A B : Type 0} (P : B → Type 0) (f : A → B) (xs : List A) → AllByRecursion (λ x. P (f x)) xs → AllByRecursion P (map f xs)
-AllByRecursion-map P f [] h = h
-AllByRecursion-map P f (x ∷ xs) h = (h.0, AllByRecursion-map P f xs h.1)
+-- a name that isn't there yet gets the number of names before it
+pub place_of-added : (names : List (List ℕ)) (name other : List ℕ) → list_any (bytes_eq name) names ≡ false
+    → place_of (names ++ name ∷ []) other ≡ update bytes_eq (place_of names) name (Some (length names)) other
+place_of-added names name other none = position_from-zero (bytes_eq other) (names ++ name ∷ []) ∙ by (bytes_eq name other) refl
+  where
+    by : (b : Bool) → bytes_eq name other ≡ b → position_from (bytes_eq other) 0 (names ++ name ∷ []) ≡ cond (bytes_eq name other) (Some (length names)) (place_of names other)
+    by true h =
+        let same : name ≡ other = (bytes_eq-Decides name other).0 h in
+        position_from-last (bytes_eq other) 0 names name (subst (λ q. list_any (bytes_eq q) names ≡ false) same none) (subst (λ q. bytes_eq q name ≡ true) same ((bytes_eq-Decides name name).1 refl))
+        ∙ ap Some (omega arith)
+        ∙ sym (ap (λ b. cond b (Some (length names)) (place_of names other)) h)
+    by false h =
+        position_from-pass (bytes_eq other) 0 names name (nat_list_eq_equiv.symm other name ∙ h)
+        ∙ sym (position_from-zero (bytes_eq other) names)
+        ∙ sym (ap (λ b. cond b (Some (length names)) (place_of names other)) h)
 
-pub IsDistinct-bytes : (keys : List (String Global)) → IsDistinct string_eq keys → IsDistinct bytes_eq (map string_bytes keys)
+-- no name, and no number
+pub none_numbered : (numbers : Numbers) → numbers.entries ≡ [] → AreNumbered [] numbers
 unfolding IsDistinct
-IsDistinct-bytes [] h = h
-IsDistinct-bytes (k ∷ ks) h = (AllByRecursion-map (λ y. bytes_eq (string_bytes k) y ≡ false) string_bytes ks h.0, IsDistinct-bytes ks h.1)
+none_numbered numbers empty =
+    record {
+      number = λ name. ap (lookup (λ k. bytes_eq name (string_bytes k))) empty;
+      distinct = tt;
+    }
+
+-- one name more, with the next number
+pub numbered : (names : List (List ℕ)) (numbers after : Numbers) (name : List ℕ) → AreNumbered names numbers → IsNone (place_of names name)
+    → ((other : List ℕ) → get_by_text after other ≡ update bytes_eq (get_by_text numbers) name (Some (length names)) other) → AreNumbered (names ++ name ∷ []) after
+numbered names numbers after name are new changed =
+    let none = (none_passes (bytes_eq name) names new).1 in
+    record {
+      number = λ other.
+          changed other ∙ ap (λ o. cond (bytes_eq name other) (Some (length names)) o) (are.number other)
+          ∙ sym (place_of-added names name other none);
+      distinct = IsDistinct-push nat_list_eq_equiv names name are.distinct none;
+    }
