@@ -1,9 +1,8 @@
 -- The first clock connections to ends, as they are added one by one.
-use Rattle.std.proofs.Common.{◌≡◌, ℕ, ◌+◌, ◌<◌, Bool, true, false, cond, not, ◌&&◌, List, [], ◌∷◌, length, take, get_or, Option, Some, None, refl, sym, ap, ◌∙◌, arith}
+use Rattle.std.proofs.Common.{◌≡◌, ℕ, ◌+◌, ◌<◌, Bool, true, false, cond, not, ◌&&◌, List, [], ◌∷◌, length, take, get_or, Option, Some, None, refl, sym, ap, ◌∙◌}
 use Rattle.std.specs.Prelude.{find, is_some}
 use Rattle.std.specs.Borrow.{Bor}
 use Rattle.std.specs.Option.{option_map, option_or, option_copied}
-use Rattle.std.proofs.lemmas.Bool.Decides.{nat_tests}
 use Rattle.std.proofs.lemmas.List.{take_more}
 use Rattle.std.proofs.lemmas.List.Folds.{find-append}
 use Rattle.iface_roles.specs.declared.kinds.Kind.TheVariants.{Clock}
@@ -12,10 +11,7 @@ use Rattle.system_words.specs.declared.joints.Terminal.{Terminal}
 use Rattle.system_words.specs.Roots.{clocks, source_of, start_for}
 use Rattle.script_words.specs.Kinds.{same_kind}
 use Rattle.system_words.specs.Joints.{same_end}
-use Rattle.system_words.proofs.LinkLemmas.{same_end-true}
-
-same_end-comm : (a b : Terminal) → same_end a b ≡ same_end b a
-same_end-comm a b = grind (arith, nat_tests)
+use Rattle.system_words.proofs.LinkLemmas.{same_end-true, same_end-comm}
 
 or_none : {A : Type 0} (o : Option A) → o ≡ option_or o None
 or_none None = refl

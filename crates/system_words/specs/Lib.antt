@@ -1,3 +1,4 @@
 pub mod Commands
 pub mod Joints
+pub mod Links
 pub mod Roots

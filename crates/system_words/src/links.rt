@@ -5,29 +5,36 @@ ghost use Rattle.system_words.specs.Joints.{same_end, same_link};
 
 use crate::joints::{Link, Terminal};
 use av_base::NoMemory;
-use indexmap::IndexSet;
 use std::alloc::Global;
+use std::collections::{HashMap, HashSet};
 use std::marker::Model;
 
 /// The ends of connections, by the numbers of the connections.
 pub struct Links {
-    links: IndexSet<Link>,
+    links: Vec<Link>,
+    numbers: HashMap<Link, usize>,
 }
 
 /// By hand, so that what drops links calls this, and isn't followed through the fields.
 impl Drop for Links {
     fn drop(self) {
-        let Links { links: _ } = self;
+        let Links {
+            links: _,
+            numbers: _,
+        } = self;
     }
 }
 
 impl Model for Links {
     ghost use Rattle.std.specs.Prelude.{List};
     ghost use Rattle.system_words.specs.declared.joints.Link.{Link};
+    ghost use Rattle.system_words.specs.Links.{AreNumbered};
 
     ghost Value = { List Link };
 
-    ghost view = { λ l. l.links.keys };
+    ghost view = { λ l. l.links.items };
+
+    ghost invariant = { λ l. AreNumbered l.links.items l.numbers };
 }
 
 impl Links {
@@ -36,7 +43,8 @@ impl Links {
         ensures { result ≡ [] }
     {
         Links {
-            links: IndexSet::new(alloc),
+            links: Vec::new(alloc),
+            numbers: HashMap::new(alloc),
         }
     }
 
@@ -44,13 +52,13 @@ impl Links {
     pub fn find(&self, link: Link) -> Option<usize>
         ensures { result ≡ position (same_link link) self.now }
     {
-        self.links.get_index_of(&link)
+        self.numbers.get(&link).copied()
     }
 }
 
 /// Ends, each once.
 pub struct Ends {
-    ends: IndexSet<Terminal>,
+    ends: HashSet<Terminal>,
 }
 
 /// By hand, so that what drops ends calls this, and isn't followed through the fields.
@@ -75,7 +83,7 @@ impl Ends {
         ensures { result ≡ [] }
     {
         Ends {
-            ends: IndexSet::new(alloc),
+            ends: HashSet::new(alloc),
         }
     }
 
@@ -114,9 +122,12 @@ pub fn add_link(
     ensures not_taken { OnErr result (taken.new ≡ taken.old) }
 {
     links.links.reserve(1)?;
+    links.numbers.reserve(1)?;
     if takes {
         taken.add_both(link)?;
     }
-    let _ = links.links.insert(link).unwrap();
+    let number: Result<_, _> = links.numbers.insert(link, links.links.len());
+    let _ = number.unwrap();
+    links.links.push(link).unwrap();
     Ok(())
 }

@@ -5,14 +5,14 @@ ghost use Rattle.system_words.specs.declared.joints.Terminal.{Terminal};
 use crate::joints::{Joint, Terminal};
 use av_base::NoMemory;
 use iface_roles::Kind;
-use indexmap::IndexMap;
 use script_words::values::same_kind;
 use std::alloc::Global;
+use std::collections::HashMap;
 use std::marker::Model;
 
 /// Where the first clock connection to an end starts, by that end.
 pub struct Roots {
-    starts: IndexMap<Terminal, Terminal>,
+    starts: HashMap<Terminal, Terminal>,
 }
 
 /// By hand, so that what drops roots calls this, and isn't followed through the fields.
@@ -40,7 +40,7 @@ impl Roots {
         ensures { result ≡ [] }
     {
         Roots {
-            starts: IndexMap::new(alloc),
+            starts: HashMap::new(alloc),
         }
     }
 
