@@ -1,5 +1,6 @@
 -- the one answer that files call for
-use Rattle.std.proofs.Common.{◌≡◌, ℕ, List, length, Option, Some, None, ◌⊎◌, inl, inr, ⊎_elim, subst, refl, sym, ap, ◌∙◌, arith}
+use Rattle.std.proofs.Common.{◌≡◌, ◌<◌, ◌≤◌, ◌-◌, ℕ, List, length, map, Option, Some, None, ◌⊎◌, inl, inr, ⊎_elim, subst, refl, sym, ap, ◌∙◌, arith}
+use Rattle.std.proofs.lemmas.List.{length-map}
 use Rattle.std.specs.Prelude.{Result, Ok, Err, OnOk, IfOk, IfErr}
 use Rattle.system_tables.specs.Tables.{SystemTable}
 use Rattle.link_rules.specs.declared.faults.LinkRule.{LinkRule}
@@ -12,9 +13,9 @@ use Rattle.answer_lines.specs.declared.exit.Exit.{Exit}
 use Rattle.answer_lines.specs.declared.exit.Exit.TheVariants as exit
 use Rattle.avalon_top.specs.declared.words.Task.{Task}
 use Rattle.avalon_top.specs.Words.{AsksFor}
-use Rattle.avalon_top.specs.Run.{Reads, Writes, AreFiles, IsCalledFor, CallsFor, IsOnlyAnswer, NothingFails, unbuilt_of}
+use Rattle.avalon_top.specs.Run.{Reads, Writes, AreFiles, IsFilesLimit, IsBytesLimit, IsReadFault, IsCalledFor, CallsFor, IsOnlyAnswer, NothingFails, unbuilt_of}
 use Rattle.answer_lines.specs.Lines.{exit_of}
-use Rattle.avalon_top.specs.Loading.{StopsFiles, StopsWriting, Stops, IsResultOf}
+use Rattle.avalon_top.specs.Loading.{StopsFiles, StopsLoading, StopsWriting, Stops, IsResultOf}
 use Rattle.avalon_top.proofs.WordsLemmas.{one_task}
 use Rattle.avalon_top.proofs.FileLemmas.{told_files, not_long}
 
@@ -180,6 +181,23 @@ files_stop words reads task files exit.Done asks are s = absurd s
 files_stop words reads task files exit.Usage asks are s = ⊎_elim (λ e. (cc)) (λ is. absurd is.called) s
 files_stop words reads task files (exit.ReadFault file) asks are s = ⊎_elim (λ e. (cc)) (λ is. absurd is.called) s
 files_stop words reads task files exit.WriteFault asks are s = ⊎_elim (λ e. (cc)) (λ is. absurd is.called) s
+
+-- what stops the loading of the files stops the run of the words that name them
+pub loading_stops : {X : Type 0} (f : X → List ℕ) (words : List X) (reads : Reads) (task : Task) (e : Exit) → AsksFor (map f words) task → length words ≤ 65
+    → StopsLoading (length words) reads e → Stops (map f words) reads e
+loading_stops f words reads task (exit.ReadFault file) asks few s = (task, asks, subst (λ n. IsReadFault file n reads) (sym (length-map words f)) s)
+loading_stops f words reads task (exit.Limit which count) asks few s =
+    (task, asks, inr (inl (subst (λ n. IsBytesLimit which count n reads.told) (sym (length-map words f)) s)))
+loading_stops f words reads task exit.NoMemory asks few s = (task, asks, rw length-map few)
+loading_stops f words reads task exit.Done asks few s = absurd s
+loading_stops f words reads task exit.Usage asks few s = absurd s
+loading_stops f words reads task exit.WriteFault asks few s = absurd s
+loading_stops f words reads task (exit.ScriptRefused place rule) asks few s = absurd s
+loading_stops f words reads task (exit.LinkRefused connection rule other) asks few s = absurd s
+
+-- more words than files are read
+pub files_limit : {X : Type 0} (f : X → List ℕ) (words : List X) → 64 < length words - 1 → IsFilesLimit 7 (length words - 1) (length (map f words))
+files_limit f words passed = record { limit = refl; count_is = rw length-map (omega arith); passed = passed }
 
 -- the answer of the files that were loaded is that of the files that are told
 same_answer : (words : List (List ℕ)) (reads : Reads) (writes : Writes) (e : Exit) (task asked : Task) (files loaded : List (List ℕ)) → AreFiles reads.told (length words) loaded
