@@ -116,8 +116,8 @@ impl Exit {
 fn read_line(file: u32) -> Line
     ensures { result ≡ codes "read fault: file " ++ decimal file ++ codes "\n" }
 {
-    let mut line = Line::of(b"read fault: file ");
-    line.put_number(u64::from(file));
+    let mut line = Line::new();
+    line.put_part(b"read fault: file ", u64::from(file));
     line.put(b"\n");
     line
 }
@@ -125,20 +125,16 @@ fn read_line(file: u32) -> Line
 fn script_refused(place: Place, rule: ScriptRule) -> Line
     ensures { result ≡ script_line place rule }
 {
-    let mut line = Line::of(b"script refused: file ");
-    line.put_number(u64::from(place.file));
-    line.put(b" line ");
-    line.put_number(u64::from(place.line));
-    line.put(b" byte ");
-    line.put_number(place.byte);
-    line.put(b" rule ");
+    let mut line = Line::new();
+    line.put_part(b"script refused: file ", u64::from(place.file));
+    line.put_part(b" line ", u64::from(place.line));
+    line.put_part(b" byte ", place.byte);
     let (letter, number) = match rule {
-        ScriptRule::Words(n) => (b"T", n),
-        ScriptRule::Command(n) => (b"C", n),
-        ScriptRule::Interface(n) => (b"I", n),
+        ScriptRule::Words(n) => (b" rule T", n),
+        ScriptRule::Command(n) => (b" rule C", n),
+        ScriptRule::Interface(n) => (b" rule I", n),
     };
-    line.put(letter);
-    line.put_number(u64::from(number));
+    line.put_part(letter, u64::from(number));
     line.put(b"\n");
     line
 }
@@ -146,19 +142,16 @@ fn script_refused(place: Place, rule: ScriptRule) -> Line
 fn link_refused(connection: u32, rule: LinkRule, other: Option<u32>) -> Line
     ensures { result ≡ link_line connection rule other }
 {
-    let mut line = Line::of(b"link refused: connection ");
-    line.put_number(u64::from(connection));
-    line.put(b" rule ");
+    let mut line = Line::new();
+    line.put_part(b"link refused: connection ", u64::from(connection));
     let (letter, number) = match rule {
-        LinkRule::Map(n) => (b"A", n),
-        LinkRule::Mm(n) => (b"P", n),
-        LinkRule::Stream(n) => (b"S", n),
+        LinkRule::Map(n) => (b" rule A", n),
+        LinkRule::Mm(n) => (b" rule P", n),
+        LinkRule::Stream(n) => (b" rule S", n),
     };
-    line.put(letter);
-    line.put_number(u64::from(number));
+    line.put_part(letter, u64::from(number));
     if let Some(other) = other {
-        line.put(b" with ");
-        line.put_number(u64::from(other));
+        line.put_part(b" with ", u64::from(other));
     }
     line.put(b"\n");
     line
@@ -167,10 +160,9 @@ fn link_refused(connection: u32, rule: LinkRule, other: Option<u32>) -> Line
 fn limit(which: u8, count: u64) -> Line
     ensures { result ≡ limit_line which count }
 {
-    let mut line = Line::of(b"limit: L");
-    line.put_number(u64::from(which));
-    line.put(b" count ");
-    line.put_number(count);
+    let mut line = Line::new();
+    line.put_part(b"limit: L", u64::from(which));
+    line.put_part(b" count ", count);
     line.put(b"\n");
     line
 }

@@ -59,6 +59,16 @@ impl Line {
         self.put_decimal(number);
     }
 
+    /// Appends a text and behind it a number in decimal.
+    pub fn put_part(&mut self, text: &[u8], number: u64)
+        requires { length self.old + length text.now + 20 ≤ 256 }
+        ensures text { self.new ≡ self.old ++ text.now ++ decimal number }
+        ensures short { length self.new ≤ length self.old + length text.now + 20 }
+    {
+        self.put(text);
+        self.put_number(number);
+    }
+
     fn put_decimal(&mut self, number: u64)
         requires { length self.old + length (decimal number) ≤ 256 }
         ensures { self.new ≡ self.old ++ decimal number }
