@@ -224,3 +224,129 @@ returns-in_err-address-clause-full c e =
 
 pub returns-clause-full : goal.returns-clause-full
 returns-clause-full c e = cc
+
+pub returns-in_err-unanswered-clause-extends : goal.returns-in_err-unanswered-clause-extends
+returns-in_err-unanswered-clause-extends c = c.reg.ensures.extends
+
+pub returns-in_err-unanswered-clause-waits : goal.returns-in_err-unanswered-clause-waits
+returns-in_err-unanswered-clause-waits c n w = c.reg.ensures.still_wait n w
+
+pub returns-in_err-unanswered-clause-drivers : goal.returns-in_err-unanswered-clause-drivers
+returns-in_err-unanswered-clause-drivers c = c.reg.ensures.drivers
+
+pub returns-in_err-unanswered-clause-memories : goal.returns-in_err-unanswered-clause-memories
+returns-in_err-unanswered-clause-memories c = c.reg.ensures.memories
+
+pub returns-in_err-unanswered-clause-most : goal.returns-in_err-unanswered-clause-most
+returns-in_err-unanswered-clause-most c = omega (arith, c.reg.ensures.most)
+
+pub returns-in_err-gate-clause-extends : goal.returns-in_err-gate-clause-extends
+returns-in_err-gate-clause-extends c = extends_twice _ _ _ c.reg.ensures.extends c.gate_reads.ensures.adds.grows.extends
+
+pub returns-in_err-gate-clause-waits : goal.returns-in_err-gate-clause-waits
+returns-in_err-gate-clause-waits c n w = c.gate_reads.ensures.adds.grows.waits n (c.reg.ensures.still_wait n w)
+
+pub returns-in_err-gate-clause-drivers : goal.returns-in_err-gate-clause-drivers
+returns-in_err-gate-clause-drivers c = c.gate_reads.ensures.adds.grows.drivers ∙ c.reg.ensures.drivers
+
+pub returns-in_err-gate-clause-memories : goal.returns-in_err-gate-clause-memories
+returns-in_err-gate-clause-memories c = c.gate_reads.ensures.adds.grows.memories ∙ c.reg.ensures.memories
+
+pub returns-in_err-gate-clause-most : goal.returns-in_err-gate-clause-most
+returns-in_err-gate-clause-most c = omega (arith, c.reg.ensures.most, c.gate_reads.ensures.adds.most)
+
+pub returns-in_err-grant-clause-extends : goal.returns-in_err-grant-clause-extends
+returns-in_err-grant-clause-extends c = extends_twice _ _ _ c.reg.ensures.extends (extends_twice _ _ _ c.gate_reads.ensures.adds.grows.extends c.constant.ensures.extends)
+
+pub returns-in_err-grant-clause-waits : goal.returns-in_err-grant-clause-waits
+returns-in_err-grant-clause-waits c n w = c.constant.ensures.grows.waits n (c.gate_reads.ensures.adds.grows.waits n (c.reg.ensures.still_wait n w))
+
+pub returns-in_err-grant-clause-drivers : goal.returns-in_err-grant-clause-drivers
+returns-in_err-grant-clause-drivers c = c.constant.ensures.grows.drivers ∙ c.gate_reads.ensures.adds.grows.drivers ∙ c.reg.ensures.drivers
+
+pub returns-in_err-grant-clause-memories : goal.returns-in_err-grant-clause-memories
+returns-in_err-grant-clause-memories c = c.constant.ensures.grows.memories ∙ c.gate_reads.ensures.adds.grows.memories ∙ c.reg.ensures.memories
+
+pub returns-in_err-grant-clause-most : goal.returns-in_err-grant-clause-most
+returns-in_err-grant-clause-most c = omega (arith, c.reg.ensures.most, c.gate_reads.ensures.adds.most, c.constant.ensures.grows.most)
+
+pub returns-in_err-next-clause-extends : goal.returns-in_err-next-clause-extends
+returns-in_err-next-clause-extends c = extends_twice _ _ _ c.reg.ensures.extends (extends_twice _ _ _ c.gate_reads.ensures.adds.grows.extends (extends_twice _ _ _ c.constant.ensures.extends c.next_count.ensures.adds.grows.extends))
+
+pub returns-in_err-next-clause-waits : goal.returns-in_err-next-clause-waits
+returns-in_err-next-clause-waits c n w = c.next_count.ensures.adds.grows.waits n (c.constant.ensures.grows.waits n (c.gate_reads.ensures.adds.grows.waits n (c.reg.ensures.still_wait n w)))
+
+pub returns-in_err-next-clause-drivers : goal.returns-in_err-next-clause-drivers
+returns-in_err-next-clause-drivers c = c.next_count.ensures.adds.grows.drivers ∙ c.constant.ensures.grows.drivers ∙ c.gate_reads.ensures.adds.grows.drivers ∙ c.reg.ensures.drivers
+
+pub returns-in_err-next-clause-memories : goal.returns-in_err-next-clause-memories
+returns-in_err-next-clause-memories c = c.next_count.ensures.adds.grows.memories ∙ c.constant.ensures.grows.memories ∙ c.gate_reads.ensures.adds.grows.memories ∙ c.reg.ensures.memories
+
+pub returns-in_err-next-clause-most : goal.returns-in_err-next-clause-most
+returns-in_err-next-clause-most c = omega (arith, c.reg.ensures.most, c.gate_reads.ensures.adds.most, c.constant.ensures.grows.most, c.next_count.ensures.adds.most)
+
+pub returns-in_err-address-clause-drivers : goal.returns-in_err-address-clause-drivers
+returns-in_err-address-clause-drivers c = c.slice.ensures.grows.drivers ∙ c.set_next.ensures.drivers ∙ c.next_count.ensures.adds.grows.drivers ∙ c.constant.ensures.grows.drivers ∙ c.gate_reads.ensures.adds.grows.drivers ∙ c.reg.ensures.drivers
+
+pub returns-in_err-address-clause-memories : goal.returns-in_err-address-clause-memories
+returns-in_err-address-clause-memories c = c.slice.ensures.grows.memories ∙ c.set_next.ensures.memories ∙ c.next_count.ensures.adds.grows.memories ∙ c.constant.ensures.grows.memories ∙ c.gate_reads.ensures.adds.grows.memories ∙ c.reg.ensures.memories
+
+pub returns-in_err-address-clause-most : goal.returns-in_err-address-clause-most
+returns-in_err-address-clause-most c = omega (arith, c.reg.ensures.most, c.gate_reads.ensures.adds.most, c.constant.ensures.grows.most, c.next_count.ensures.adds.most, c.set_next.ensures.same_count, c.slice.ensures.grows.most)
+
+pub returns-clause-drivers : goal.returns-clause-drivers
+returns-clause-drivers c = c.slice.ensures.grows.drivers ∙ c.set_next.ensures.drivers ∙ c.next_count.ensures.adds.grows.drivers ∙ c.constant.ensures.grows.drivers ∙ c.gate_reads.ensures.adds.grows.drivers ∙ c.reg.ensures.drivers
+
+pub returns-clause-memories : goal.returns-clause-memories
+returns-clause-memories c = c.slice.ensures.grows.memories ∙ c.set_next.ensures.memories ∙ c.next_count.ensures.adds.grows.memories ∙ c.constant.ensures.grows.memories ∙ c.gate_reads.ensures.adds.grows.memories ∙ c.reg.ensures.memories
+
+pub returns-clause-most : goal.returns-clause-most
+returns-clause-most c = omega (arith, c.reg.ensures.most, c.gate_reads.ensures.adds.most, c.constant.ensures.grows.most, c.next_count.ensures.adds.most, c.set_next.ensures.same_count, c.slice.ensures.grows.most)
+
+pub returns-in_err-unanswered-clause-full : goal.returns-in_err-unanswered-clause-full
+returns-in_err-unanswered-clause-full c e = let full = c.reg.ensures.full.0 (handed_on _ _ _ _ c.in_err-unanswered.was c.from_residual.ensures.1 e) in omega (arith, full)
+
+pub gate_reads-requires-clause-unanswered : goal.gate_reads-requires-clause-unanswered
+gate_reads-requires-clause-unanswered c = record { is_net = c.in_ok-unanswered.ensures.net.0; has_width = c.in_ok-unanswered.ensures.net.1 ∙ ap (λ (w : Word). w.width) c.count_of.ensures }
+
+pub gate_reads-requires-clause-pending : goal.gate_reads-requires-clause-pending
+gate_reads-requires-clause-pending c = omega (arith, c.requires.few_reads)
+
+pub gate_reads-requires-clause-read : goal.gate_reads-requires-clause-read
+gate_reads-requires-clause-read c = net_lasts _ _ _ _ c.reg.ensures.extends c.requires.host.read
+
+pub gate_reads-requires-clause-waitrequest : goal.gate_reads-requires-clause-waitrequest
+gate_reads-requires-clause-waitrequest c = net_lasts _ _ _ _ c.reg.ensures.extends c.requires.agent.waitrequest
+
+pub next_count-requires-clause-unanswered : goal.next_count-requires-clause-unanswered
+next_count-requires-clause-unanswered c = net_lasts _ _ _ _ (extends_twice _ _ _ c.gate_reads.ensures.adds.grows.extends c.constant.ensures.extends) (record { is_net = c.in_ok-unanswered.ensures.net.0; has_width = c.in_ok-unanswered.ensures.net.1 ∙ ap (λ (w : Word). w.width) c.count_of.ensures })
+
+pub next_count-requires-clause-zero : goal.next_count-requires-clause-zero
+next_count-requires-clause-zero c = let zero : c.unwrap.result ≡ word 4 0 = subst (λ (o : Option Word). IfSome o (λ v. v ≡ word 4 0)) c.unwrap.ensures c.new.ensures.value in record { is_net = c.in_ok-grant.ensures.net.0; has_width = c.in_ok-grant.ensures.net.1 ∙ ap (λ (w : Word). w.width) zero }
+
+pub next_count-requires-clause-low : goal.next_count-requires-clause-low
+next_count-requires-clause-low c cycle v = let zero : c.unwrap.result ≡ word 4 0 = subst (λ (o : Option Word). IfSome o (λ v. v ≡ word 4 0)) c.unwrap.ensures c.new.ensures.value in (c.in_ok-grant.ensures.value cycle v).1 ∙ ap (λ (w : Word). w.bits) zero
+
+pub next_count-requires-clause-read : goal.next_count-requires-clause-read
+next_count-requires-clause-read c = net_lasts _ _ _ _ c.constant.ensures.extends c.in_ok-gate.ensures.read
+
+pub next_count-requires-clause-waitrequest : goal.next_count-requires-clause-waitrequest
+next_count-requires-clause-waitrequest c = net_lasts _ _ _ _ (extends_twice _ _ _ c.reg.ensures.extends (extends_twice _ _ _ c.gate_reads.ensures.adds.grows.extends c.constant.ensures.extends)) c.requires.agent.waitrequest
+
+pub next_count-requires-clause-readdatavalid : goal.next_count-requires-clause-readdatavalid
+next_count-requires-clause-readdatavalid c = net_lasts _ _ _ _ (extends_twice _ _ _ c.reg.ensures.extends (extends_twice _ _ _ c.gate_reads.ensures.adds.grows.extends c.constant.ensures.extends)) c.requires.agent.readdatavalid
+
+pub set_next-requires-clause-register_is : goal.set_next-requires-clause-register_is
+set_next-requires-clause-register_is c = (extends_twice _ _ _ c.gate_reads.ensures.adds.grows.extends (extends_twice _ _ _ c.constant.ensures.extends c.next_count.ensures.adds.grows.extends)).nets _ _ c.in_ok-unanswered.ensures.net.0
+
+pub set_next-requires-clause-waits : goal.set_next-requires-clause-waits
+set_next-requires-clause-waits c = c.next_count.ensures.adds.grows.waits _ (c.constant.ensures.grows.waits _ (c.gate_reads.ensures.adds.grows.waits _ c.in_ok-unanswered.ensures.waits))
+
+pub set_next-requires-clause-next_is : goal.set_next-requires-clause-next_is
+set_next-requires-clause-next_is c = c.in_ok-next.ensures.net.is_net
+
+pub set_next-requires-clause-widths : goal.set_next-requires-clause-widths
+set_next-requires-clause-widths c = c.in_ok-unanswered.ensures.net.1 ∙ (ap (λ (w : Word). w.width) c.count_of.ensures ∙ sym c.in_ok-next.ensures.net.has_width)
+
+pub slice-requires-clause-a_is : goal.slice-requires-clause-a_is
+slice-requires-clause-a_is c = (extends_twice _ _ _ c.reg.ensures.extends (extends_twice _ _ _ c.gate_reads.ensures.adds.grows.extends (extends_twice _ _ _ c.constant.ensures.extends (extends_twice _ _ _ c.next_count.ensures.adds.grows.extends c.set_next.ensures.extends)))).nets _ _ c.requires.host.address.is_net
