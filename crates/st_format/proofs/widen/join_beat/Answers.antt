@@ -1,4 +1,6 @@
 use Rattle.std.proofs.Common.{◌==◌, ◌&&◌, sym, subst, ap, ◌∙◌, arith}
+use Rattle.std.proofs.lemmas.Result.{IfOk-from_err}
+use Rattle.stage_core.specs.declared.beat.BeatNets.{BeatNets}
 use Rattle.stage_core.specs.Beats.{AreBeatNets}
 use Rattle.stage_core.specs.Groups.{shown_in}
 use Rattle.net_parts.specs.Laws.{net_lasts, extends_twice, grows_once, adds_twice, adds_fewer, bit_fits}
@@ -105,3 +107,153 @@ returns-in_err-first-clause-full c e = let most0 = c.join_word.ensures.adds.most
 
 pub returns-clause-full : goal.returns-clause-full
 returns-clause-full c e = cc
+
+pub returns-in_err-word-clause-beat : goal.returns-in_err-word-clause-beat
+returns-in_err-word-clause-beat c = IfOk-from_err _ _ c.from_residual.ensures.0
+
+pub returns-in_err-word-clause-word : goal.returns-in_err-word-clause-word
+returns-in_err-word-clause-word c = IfOk-from_err _ _ c.from_residual.ensures.0
+
+pub returns-in_err-word-clause-channel : goal.returns-in_err-word-clause-channel
+returns-in_err-word-clause-channel c = IfOk-from_err _ _ c.from_residual.ensures.0
+
+pub returns-in_err-word-clause-error : goal.returns-in_err-word-clause-error
+returns-in_err-word-clause-error c = IfOk-from_err _ _ c.from_residual.ensures.0
+
+pub returns-in_err-word-clause-empty : goal.returns-in_err-word-clause-empty
+returns-in_err-word-clause-empty c = IfOk-from_err _ _ c.from_residual.ensures.0
+
+pub returns-in_err-word-clause-value : goal.returns-in_err-word-clause-value
+returns-in_err-word-clause-value c = IfOk-from_err _ _ c.from_residual.ensures.0
+
+pub returns-in_err-empty-clause-beat : goal.returns-in_err-empty-clause-beat
+returns-in_err-empty-clause-beat c = IfOk-from_err _ _ c.from_residual-in_err-empty.ensures.0
+
+pub returns-in_err-empty-clause-word : goal.returns-in_err-empty-clause-word
+returns-in_err-empty-clause-word c = IfOk-from_err _ _ c.from_residual-in_err-empty.ensures.0
+
+pub returns-in_err-empty-clause-channel : goal.returns-in_err-empty-clause-channel
+returns-in_err-empty-clause-channel c = IfOk-from_err _ _ c.from_residual-in_err-empty.ensures.0
+
+pub returns-in_err-empty-clause-error : goal.returns-in_err-empty-clause-error
+returns-in_err-empty-clause-error c = IfOk-from_err _ _ c.from_residual-in_err-empty.ensures.0
+
+pub returns-in_err-empty-clause-empty : goal.returns-in_err-empty-clause-empty
+returns-in_err-empty-clause-empty c = IfOk-from_err _ _ c.from_residual-in_err-empty.ensures.0
+
+pub returns-in_err-empty-clause-value : goal.returns-in_err-empty-clause-value
+returns-in_err-empty-clause-value c = IfOk-from_err _ _ c.from_residual-in_err-empty.ensures.0
+
+pub returns-in_err-full-clause-beat : goal.returns-in_err-full-clause-beat
+returns-in_err-full-clause-beat c = IfOk-from_err _ _ c.from_residual-in_err-full.ensures.0
+
+pub returns-in_err-full-clause-word : goal.returns-in_err-full-clause-word
+returns-in_err-full-clause-word c = IfOk-from_err _ _ c.from_residual-in_err-full.ensures.0
+
+pub returns-in_err-full-clause-channel : goal.returns-in_err-full-clause-channel
+returns-in_err-full-clause-channel c = IfOk-from_err _ _ c.from_residual-in_err-full.ensures.0
+
+pub returns-in_err-full-clause-error : goal.returns-in_err-full-clause-error
+returns-in_err-full-clause-error c = IfOk-from_err _ _ c.from_residual-in_err-full.ensures.0
+
+pub returns-in_err-full-clause-empty : goal.returns-in_err-full-clause-empty
+returns-in_err-full-clause-empty c = IfOk-from_err _ _ c.from_residual-in_err-full.ensures.0
+
+pub returns-in_err-full-clause-value : goal.returns-in_err-full-clause-value
+returns-in_err-full-clause-value c = IfOk-from_err _ _ c.from_residual-in_err-full.ensures.0
+
+pub returns-in_err-valid-clause-beat : goal.returns-in_err-valid-clause-beat
+returns-in_err-valid-clause-beat c = IfOk-from_err _ _ c.from_residual-in_err-valid.ensures.0
+
+pub returns-in_err-valid-clause-word : goal.returns-in_err-valid-clause-word
+returns-in_err-valid-clause-word c = IfOk-from_err _ _ c.from_residual-in_err-valid.ensures.0
+
+pub returns-in_err-valid-clause-channel : goal.returns-in_err-valid-clause-channel
+returns-in_err-valid-clause-channel c = IfOk-from_err _ _ c.from_residual-in_err-valid.ensures.0
+
+pub returns-in_err-valid-clause-error : goal.returns-in_err-valid-clause-error
+returns-in_err-valid-clause-error c = IfOk-from_err _ _ c.from_residual-in_err-valid.ensures.0
+
+pub returns-in_err-valid-clause-empty : goal.returns-in_err-valid-clause-empty
+returns-in_err-valid-clause-empty c = IfOk-from_err _ _ c.from_residual-in_err-valid.ensures.0
+
+pub returns-in_err-valid-clause-value : goal.returns-in_err-valid-clause-value
+returns-in_err-valid-clause-value c = IfOk-from_err _ _ c.from_residual-in_err-valid.ensures.0
+
+pub returns-in_err-error-clause-beat : goal.returns-in_err-error-clause-beat
+returns-in_err-error-clause-beat c = IfOk-from_err _ _ c.from_residual-in_err-error.ensures.0
+
+pub returns-in_err-error-clause-word : goal.returns-in_err-error-clause-word
+returns-in_err-error-clause-word c = IfOk-from_err _ _ c.from_residual-in_err-error.ensures.0
+
+pub returns-in_err-error-clause-channel : goal.returns-in_err-error-clause-channel
+returns-in_err-error-clause-channel c = IfOk-from_err _ _ c.from_residual-in_err-error.ensures.0
+
+pub returns-in_err-error-clause-error : goal.returns-in_err-error-clause-error
+returns-in_err-error-clause-error c = IfOk-from_err _ _ c.from_residual-in_err-error.ensures.0
+
+pub returns-in_err-error-clause-empty : goal.returns-in_err-error-clause-empty
+returns-in_err-error-clause-empty c = IfOk-from_err _ _ c.from_residual-in_err-error.ensures.0
+
+pub returns-in_err-error-clause-value : goal.returns-in_err-error-clause-value
+returns-in_err-error-clause-value c = IfOk-from_err _ _ c.from_residual-in_err-error.ensures.0
+
+pub returns-in_err-first-clause-beat : goal.returns-in_err-first-clause-beat
+returns-in_err-first-clause-beat c = IfOk-from_err _ _ c.from_residual-in_err-first.ensures.0
+
+pub returns-in_err-first-clause-word : goal.returns-in_err-first-clause-word
+returns-in_err-first-clause-word c = IfOk-from_err _ _ c.from_residual-in_err-first.ensures.0
+
+pub returns-in_err-first-clause-channel : goal.returns-in_err-first-clause-channel
+returns-in_err-first-clause-channel c = IfOk-from_err _ _ c.from_residual-in_err-first.ensures.0
+
+pub returns-in_err-first-clause-error : goal.returns-in_err-first-clause-error
+returns-in_err-first-clause-error c = IfOk-from_err _ _ c.from_residual-in_err-first.ensures.0
+
+pub returns-in_err-first-clause-empty : goal.returns-in_err-first-clause-empty
+returns-in_err-first-clause-empty c = IfOk-from_err _ _ c.from_residual-in_err-first.ensures.0
+
+pub returns-in_err-first-clause-value : goal.returns-in_err-first-clause-value
+returns-in_err-first-clause-value c = IfOk-from_err _ _ c.from_residual-in_err-first.ensures.0
+
+pub join_word-requires-clause-held : goal.join_word-requires-clause-held
+join_word-requires-clause-held c = record { is_net = c.requires.held.word; has_width = c.requires.held_word }
+
+pub join_word-requires-clause-coming : goal.join_word-requires-clause-coming
+join_word-requires-clause-coming c = record { is_net = c.requires.from.word; has_width = c.requires.from_word }
+
+pub join_word-requires-clause-gathered : goal.join_word-requires-clause-gathered
+join_word-requires-clause-gathered c = record { is_net = c.requires.held.empty; has_width = c.requires.held_empty }
+
+pub join_empty-requires-clause-gathered : goal.join_empty-requires-clause-gathered
+join_empty-requires-clause-gathered c = net_lasts _ _ _ _ c.join_word.ensures.adds.grows.extends (record { is_net = c.requires.held.empty; has_width = c.requires.held_empty })
+
+pub join_empty-requires-clause-empty : goal.join_empty-requires-clause-empty
+join_empty-requires-clause-empty c = c.join_word.ensures.adds.grows.extends.nets _ _ c.requires.from.empty
+
+pub join_empty-requires-clause-small : goal.join_empty-requires-clause-small
+join_empty-requires-clause-small c = c.requires.from_empty
+
+pub fills_up-requires-clause-gathered : goal.fills_up-requires-clause-gathered
+fills_up-requires-clause-gathered c = net_lasts _ _ _ _ (extends_twice _ _ _ c.join_word.ensures.adds.grows.extends c.join_empty.ensures.adds.grows.extends) (record { is_net = c.requires.held.empty; has_width = c.requires.held_empty })
+
+pub or-requires-clause-widths : goal.or-requires-clause-widths
+or-requires-clause-widths c = c.requires.held_error
+
+pub mux-requires-clause-one_bit : goal.mux-requires-clause-one_bit
+mux-requires-clause-one_bit c = c.requires.held.valid.has_width
+
+pub mux-requires-clause-widths : goal.mux-requires-clause-widths
+mux-requires-clause-widths c = c.requires.held.first.has_width ∙ sym c.requires.from.first.has_width
+
+pub returns-clause-word : goal.returns-clause-word
+returns-clause-word c = c.in_ok-word.ensures.net.has_width
+
+pub returns-clause-channel : goal.returns-clause-channel
+returns-clause-channel c = ap (λ (b : BeatNets). b.channel.width) c.copied.ensures
+
+pub returns-clause-error : goal.returns-clause-error
+returns-clause-error c = c.in_ok-error.ensures.net.1 ∙ c.requires.held_error
+
+pub returns-clause-empty : goal.returns-clause-empty
+returns-clause-empty c = c.in_ok-empty.ensures.net.has_width

@@ -1,7 +1,8 @@
-use Rattle.std.proofs.Common.{◌≡◌, ◌+◌, ◌-◌, ◌*◌, ◌%◌, ◌^◌, ◌∙◌, arith}
+use Rattle.std.proofs.Common.{◌≡◌, ◌+◌, ◌-◌, ◌*◌, ◌%◌, ◌^◌, sym, ◌∙◌, arith}
+use Rattle.std.proofs.lemmas.Result.{IfOk-from_err}
 use Rattle.netlist.specs.Runs.{Always}
 use Rattle.net_parts.specs.Nets.{IsNetOfWidth}
-use Rattle.net_parts.specs.Laws.{grows_once, adds_twice, adds_fewer, if_ok}
+use Rattle.net_parts.specs.Laws.{extends_twice, grows_once, adds_twice, adds_fewer, if_ok}
 use Rattle.st_format.proofs.WidenLemmas.{missing_and}
 use Rattle.stage_core.specs.Refusing.{handed_on}
 use Rattle.st_format.proofs.widen.join_empty.Goals as goal
@@ -50,3 +51,39 @@ returns-in_err-own-clause-full c e = let most0 = c.constant.ensures.adds.most in
 
 pub returns-clause-full : goal.returns-clause-full
 returns-clause-full c e = let most0 = c.constant.ensures.adds.most in let most1 = c.sub.ensures.grows.most in let most2 = c.widen_empty.ensures.adds.most in let full = c.add.ensures.full.0 e in omega (arith, most0, most1, most2, full)
+
+pub returns-in_err-most-clause-net : goal.returns-in_err-most-clause-net
+returns-in_err-most-clause-net c = IfOk-from_err _ _ c.from_residual.ensures.0
+
+pub returns-in_err-most-clause-value : goal.returns-in_err-most-clause-value
+returns-in_err-most-clause-value c = IfOk-from_err _ _ c.from_residual.ensures.0
+
+pub returns-in_err-missing-clause-net : goal.returns-in_err-missing-clause-net
+returns-in_err-missing-clause-net c = IfOk-from_err _ _ c.from_residual-in_err-missing.ensures.0
+
+pub returns-in_err-missing-clause-value : goal.returns-in_err-missing-clause-value
+returns-in_err-missing-clause-value c = IfOk-from_err _ _ c.from_residual-in_err-missing.ensures.0
+
+pub returns-in_err-own-clause-net : goal.returns-in_err-own-clause-net
+returns-in_err-own-clause-net c = IfOk-from_err _ _ c.from_residual-in_err-own.ensures.0
+
+pub returns-in_err-own-clause-value : goal.returns-in_err-own-clause-value
+returns-in_err-own-clause-value c = IfOk-from_err _ _ c.from_residual-in_err-own.ensures.0
+
+pub sub-requires-clause-a_is : goal.sub-requires-clause-a_is
+sub-requires-clause-a_is c = c.in_ok-most.ensures.net.is_net
+
+pub sub-requires-clause-b_is : goal.sub-requires-clause-b_is
+sub-requires-clause-b_is c = c.constant.ensures.adds.grows.extends.nets _ _ c.requires.gathered.is_net
+
+pub sub-requires-clause-widths : goal.sub-requires-clause-widths
+sub-requires-clause-widths c = c.in_ok-most.ensures.net.has_width ∙ sym c.requires.gathered.has_width
+
+pub widen_empty-requires-clause-empty : goal.widen_empty-requires-clause-empty
+widen_empty-requires-clause-empty c = (extends_twice _ _ _ c.constant.ensures.adds.grows.extends c.sub.ensures.extends).nets _ _ c.requires.empty
+
+pub widen_empty-requires-clause-small : goal.widen_empty-requires-clause-small
+widen_empty-requires-clause-small c = c.requires.small
+
+pub add-requires-clause-widths : goal.add-requires-clause-widths
+add-requires-clause-widths c = c.in_ok-missing.ensures.net.1 ∙ (c.in_ok-most.ensures.net.has_width ∙ sym c.in_ok-own.ensures.net.has_width)
