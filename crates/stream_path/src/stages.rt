@@ -202,6 +202,31 @@ fn emit_formed<S: Stage + Drop>(
     emit_stream(&stages, builder, from, ready)
 }
 
+/// Makes all stages behind what adds the error, and that too.
+fn emit_tied<S: Stage + Drop>(
+    joint: &Joint,
+    front: S,
+    builder: &mut Builder,
+    from: BeatNets,
+    ready: Net,
+) -> Result<StreamNets, NetFault>
+    requires joined { CanJoin (source_of joint.now) (sink_of joint.now) }
+    requires shallow { joint.now.depth ≤ 64 }
+    requires front { Reaches joint.now errors_reach (S.has_shape front) (S.passes_ready front) (S.takes front) (S.gives front) (S.forward_nets front + S.backward_nets front) }
+    requires widths { FitSide (side_of (source_of joint.now)) (source_of joint.now) (widths_of from) }
+    requires from { AreBeatNets builder.old from }
+    requires ready { IsBit builder.old ready }
+    ensures nets { IfOk result (λ made. AreStageNets builder.new (source_of joint.now) (sink_of joint.now) made) }
+    ensures carries { IfOk result (λ made. CarriesStream (source_of joint.now) (sink_of joint.now) joint.now.depth builder.new from made ready) }
+    ensures grows { GrowsBy most_stage_nets builder.old builder.new }
+    ensures waits { StillWait builder.old builder.new }
+    ensures no_more_wait { OnOk result (StillWait builder.new builder.old) }
+    ensures full { result ≡ Err NetFault.TooManyNets → 2 ^ 20 < length builder.old.lines + most_stage_nets }
+{
+    let formed = with_format(joint, front);
+    emit_formed(joint, formed, builder, from, ready)
+}
+
 /// Makes all stages, one behind the other.
 fn emit_chain(
     joint: &Joint,
@@ -223,8 +248,7 @@ fn emit_chain(
 {
     let timed = timed(joint);
     let with_errors = with_errors(joint, timed);
-    let formed = with_format(joint, with_errors);
-    emit_formed(joint, formed, builder, from, ready)
+    emit_tied(joint, with_errors, builder, from, ready)
 }
 
 /// Makes what stands between ends of one form of which the sink's ready latency isn't the shorter one, where no queue is needed:
