@@ -1,6 +1,8 @@
 use Rattle.std.proofs.Common.{sym, subst, ◌∙◌, arith, inl, inr}
+use Rattle.std.proofs.lemmas.Result.{IfOk-from_err}
 use Rattle.net_parts.specs.Groups.{AreNumberedFrom, in_row, of_row, nets_last}
-use Rattle.net_parts.specs.Laws.{net_lasts, extends_twice}
+use Rattle.net_parts.specs.Laws.{net_lasts, extends_twice, grows_fewer}
+use Rattle.net_parts.specs.Refusing.{handed_on}
 use Rattle.netlist.specs.Netlists.{IsWaiting}
 use Rattle.net_parts.proofs.places.low_place.Goals as goal
 
@@ -40,3 +42,48 @@ returns-clause-newly g c n w = elim (c.in_ok-item.ensures.newly n w) [
   | inl before ↦ elim (c.low_register.ensures.newly n before) [ inl old ↦ inl old | inr one ↦ inr (inl (one ∙ sym c.in_ok-full.ensures.number)) ]
   | inr row ↦ inr (inr (of_row _ _ c.in_ok-item.ensures.numbers n (record { least = row.least; below = (let high = row.below in omega arith) })))
 ]
+
+pub returns-in_err-full-clause-place : goal.returns-in_err-full-clause-place
+returns-in_err-full-clause-place g c = IfOk-from_err _ _ c.from_residual.ensures.0
+
+pub returns-in_err-item-clause-place : goal.returns-in_err-item-clause-place
+returns-in_err-item-clause-place g c = IfOk-from_err _ _ c.from_residual-in_err-item.ensures.0
+
+pub returns-in_err-full-clause-count : goal.returns-in_err-full-clause-count
+returns-in_err-full-clause-count g c = IfOk-from_err _ _ c.from_residual.ensures.0
+
+pub returns-in_err-item-clause-count : goal.returns-in_err-item-clause-count
+returns-in_err-item-clause-count g c = IfOk-from_err _ _ c.from_residual-in_err-item.ensures.0
+
+pub returns-in_err-full-clause-starts : goal.returns-in_err-full-clause-starts
+returns-in_err-full-clause-starts g c = IfOk-from_err _ _ c.from_residual.ensures.0
+
+pub returns-in_err-item-clause-starts : goal.returns-in_err-item-clause-starts
+returns-in_err-item-clause-starts g c = IfOk-from_err _ _ c.from_residual-in_err-item.ensures.0
+
+pub returns-in_err-full-clause-newly : goal.returns-in_err-full-clause-newly
+returns-in_err-full-clause-newly g c = IfOk-from_err _ _ c.from_residual.ensures.0
+
+pub returns-in_err-item-clause-newly : goal.returns-in_err-item-clause-newly
+returns-in_err-item-clause-newly g c = IfOk-from_err _ _ c.from_residual-in_err-item.ensures.0
+
+pub returns-in_err-full-clause-grows : goal.returns-in_err-full-clause-grows
+returns-in_err-full-clause-grows g c = grows_fewer _ _ _ _ (omega arith) c.low_register.ensures.grows
+
+pub returns-in_err-full-clause-still_wait : goal.returns-in_err-full-clause-still_wait
+returns-in_err-full-clause-still_wait g c n w = c.low_register.ensures.still_wait n w
+
+pub returns-in_err-item-clause-still_wait : goal.returns-in_err-item-clause-still_wait
+returns-in_err-item-clause-still_wait g c n w = c.low_registers.ensures.still_wait n (c.low_register.ensures.still_wait n w)
+
+pub returns-clause-still_wait : goal.returns-clause-still_wait
+returns-clause-still_wait g c n w = c.low_registers.ensures.still_wait n (c.low_register.ensures.still_wait n w)
+
+pub returns-in_err-full-clause-full : goal.returns-in_err-full-clause-full
+returns-in_err-full-clause-full g c e = let full = c.low_register.ensures.full (handed_on _ _ _ _ c.in_err-full.was c.from_residual.ensures.1 e) in omega (arith, full)
+
+pub returns-in_err-item-clause-full : goal.returns-in_err-item-clause-full
+returns-in_err-item-clause-full g c e = let most = c.low_register.ensures.grows.most in let full = c.low_registers.ensures.full (handed_on _ _ _ _ c.in_err-item.was c.from_residual-in_err-item.ensures.1 e) in omega (arith, most, full)
+
+pub returns-clause-full : goal.returns-clause-full
+returns-clause-full g c e = cc
