@@ -103,3 +103,11 @@ returns-in_err-word-2-clause-full c e = let most0 = c.loop-part.invariant.adds.m
 pub returns-clause-full : goal.returns-clause-full
 returns-clause-full c e = cc
 
+pub returns-clause-net : goal.returns-clause-net
+returns-clause-net c = let all : c.loop-part.part ≡ c.args.sizes.now.parts = (let most = c.loop-part.invariant.most in omega (arith, most)) in record { is_net = c.loop-part.invariant.net.is_net; has_width = c.loop-part.invariant.net.has_width ∙ ap (λ n. c.args.sizes.now.bits * (c.args.sizes.now.symbols * n)) all }
+
+pub returns-clause-value : goal.returns-clause-value
+returns-clause-value c cycle v = let all : c.loop-part.part ≡ c.args.sizes.now.parts = (let most = c.loop-part.invariant.most in omega (arith, most)) in c.loop-part.invariant.value cycle v ∙ ap (laid c.args.sizes.now.bits c.args.sizes.now.symbols c.args.sizes.now.parts (cycle.net c.args.held.number) (cycle.net c.args.coming.number) (cycle.net c.args.gathered.number)) all
+
+pub returns-clause-adds : goal.returns-clause-adds
+returns-clause-adds c = adds_fewer _ _ _ _ (let most = c.loop-part.invariant.most in omega (arith, most)) c.loop-part.invariant.adds

@@ -1,5 +1,6 @@
 use Rattle.std.proofs.Common.{◌≡◌, suc, ◌+◌, ◌*◌, ◌^◌, ◌<◌, sym, subst, ap, ◌∙◌, arith, ◌≤◌}
 use Rattle.stream_machines.specs.Words.{turned_word}
+use Rattle.std.proofs.lemmas.Result.{IfOk-from_err}
 use Rattle.net_parts.specs.Laws.{grows_once, adds_twice, adds_fewer, valued_fits}
 use Rattle.st_format.proofs.Turning.{turned_more, turned_one}
 use Rattle.std.proofs.Math.Nat.{mul-le-mul_left}
@@ -69,3 +70,45 @@ returns-clause-full c e = cc
 
 pub returns-then-symbols-eq1-clause-full : goal.returns-then-symbols-eq1-clause-full
 returns-then-symbols-eq1-clause-full c e = cc
+
+pub returns-in_err-turned-clause-net : goal.returns-in_err-turned-clause-net
+returns-in_err-turned-clause-net c = IfOk-from_err _ _ c.from_residual.ensures.0
+
+pub returns-in_err-turned-clause-value : goal.returns-in_err-turned-clause-value
+returns-in_err-turned-clause-value c = IfOk-from_err _ _ c.from_residual.ensures.0
+
+pub returns-in_err-symbol-clause-net : goal.returns-in_err-symbol-clause-net
+returns-in_err-symbol-clause-net c = IfOk-from_err _ _ c.from_residual-in_err-symbol.ensures.0
+
+pub returns-in_err-symbol-clause-value : goal.returns-in_err-symbol-clause-value
+returns-in_err-symbol-clause-value c = IfOk-from_err _ _ c.from_residual-in_err-symbol.ensures.0
+
+pub returns-in_err-turned-2-clause-net : goal.returns-in_err-turned-2-clause-net
+returns-in_err-turned-2-clause-net c = IfOk-from_err _ _ c.from_residual-in_err-turned-2.ensures.0
+
+pub returns-in_err-turned-2-clause-value : goal.returns-in_err-turned-2-clause-value
+returns-in_err-turned-2-clause-value c = IfOk-from_err _ _ c.from_residual-in_err-turned-2.ensures.0
+
+pub take_symbol-requires-clause-word : goal.take_symbol-requires-clause-word
+take_symbol-requires-clause-word c = c.requires.word.is_net
+
+pub take_symbol-requires-clause-some : goal.take_symbol-requires-clause-some
+take_symbol-requires-clause-some c = c.requires.some_bits
+
+pub take_symbol-requires-clause-small : goal.take_symbol-requires-clause-small
+take_symbol-requires-clause-small c = let width = c.requires.word.has_width in let small = c.requires.small in omega (arith, width, small)
+
+pub take_symbol-requires-in-loop-place-clause-word : goal.take_symbol-requires-in-loop-place-clause-word
+take_symbol-requires-in-loop-place-clause-word c = c.loop-place.invariant.adds.grows.extends.nets _ _ c.requires.word.is_net
+
+pub take_symbol-requires-in-loop-place-clause-some : goal.take_symbol-requires-in-loop-place-clause-some
+take_symbol-requires-in-loop-place-clause-some c = c.requires.some_bits
+
+pub take_symbol-requires-in-loop-place-clause-small : goal.take_symbol-requires-in-loop-place-clause-small
+take_symbol-requires-in-loop-place-clause-small c = let width = c.requires.word.has_width in let small = c.requires.small in omega (arith, width, small)
+
+pub returns-clause-net : goal.returns-clause-net
+returns-clause-net c = let all : c.loop-place.place ≡ c.args.symbols = omega arith in record { is_net = c.loop-place.invariant.net.is_net; has_width = c.loop-place.invariant.net.has_width ∙ ap (λ n. c.args.bits * n) all }
+
+pub returns-clause-value : goal.returns-clause-value
+returns-clause-value c cycle v = let all : c.loop-place.place ≡ c.args.symbols = omega arith in c.loop-place.invariant.value cycle v ∙ ap (λ n. turned_word c.args.bits n (cycle.net c.args.word.number)) all
