@@ -55,6 +55,7 @@ pub mod Stirred
 pub mod Pieces
 pub mod RowOfThree
 pub mod Enables
+pub mod Widened
 pub mod RowLine
 pub mod RowLeads
 pub mod SingleWrites
@@ -64,6 +65,5 @@ pub mod RowBuilt
 pub mod PlainRows
 pub mod RowRuns
 pub mod LinkRuns
-pub mod LeftOut
 pub mod ModestRow
 pub mod SplitCounts

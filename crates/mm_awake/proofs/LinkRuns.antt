@@ -24,7 +24,9 @@ use Rattle.mm_awake.specs.RowSystem.{AreRows, boundaries_of}
 use Rattle.mm_awake.specs.Rows.{CutsBursts, FitsWords, DropsBeats, drops_some}
 use Rattle.mm_awake.specs.LinkSystem.{LinkPlan, SuitsLinks, Registers, row_of, agent_inner, linked_registers, to_host, to_route, to_row, to_arbiter, to_agent, after_host, before_arbiter, after_route, before_agent, linked_run, linked_ports, linked_states}
 use Rattle.mm_awake.specs.Theorem.{Boundaries, States, ArePlanned, AreMachines}
-use Rattle.mm_awake.proofs.RowRuns.{Links, cuts_run, fits_run, drops_run, drops_some_are}
+use Rattle.mm_awake.specs.Wires.{IsWire}
+use Rattle.mm_awake.proofs.RowRuns.{Links, wire, cuts_run, fits_run, drops_run, drops_some_are}
+use Rattle.mm_awake.proofs.Widened.{wire_chain}
 
 pub record Laws : Type 0 where
   pub links : Links
@@ -54,14 +56,18 @@ wires_show cutter fitter drops rest inputs registers c k f d quiet =
     (subst (λ f. IsFalse (shows (row_bottom (record rest { cutter = Uncut; fitter = f; drops = drops }) inputs registers).commands.signals c)) (sym f)
     (subst (λ d. IsFalse (shows (row_bottom (record rest { cutter = Uncut; fitter = Unfitted; drops = d }) inputs registers).commands.signals c)) (sym d) quiet))
 
-wires_same : (cutter : Cutter) (fitter : Fitter) (drops : Bool) (rest : RowPlan) (inputs : Inputs) (registers : ℕ → RowRegisters) (target : Target) → cutter ≡ Uncut → fitter ≡ Unfitted → drops ≡ false →
+wires_are_one : (cutter : Cutter) (fitter : Fitter) (drops : Bool) (rest : RowPlan) (inputs : Inputs) (registers : ℕ → RowRegisters) (target : Target) → cutter ≡ Uncut → fitter ≡ Unfitted → drops ≡ false →
     SuitsRow target (record rest { cutter = cutter; fitter = fitter; drops = drops }) →
-    row_bottom (record rest { cutter = cutter; fitter = fitter; drops = drops }) inputs registers ≡ row_top (record rest { cutter = cutter; fitter = fitter; drops = drops }) inputs registers
-wires_same cutter fitter drops rest inputs registers target k f d =
-    subst (λ k. SuitsRow target (record rest { cutter = k; fitter = fitter; drops = drops }) → row_bottom (record rest { cutter = k; fitter = fitter; drops = drops }) inputs registers ≡ row_top (record rest { cutter = k; fitter = fitter; drops = drops }) inputs registers) (sym k)
-    (subst (λ f. SuitsRow target (record rest { cutter = Uncut; fitter = f; drops = drops }) → row_bottom (record rest { cutter = Uncut; fitter = f; drops = drops }) inputs registers ≡ row_top (record rest { cutter = Uncut; fitter = f; drops = drops }) inputs registers) (sym f)
-    (subst (λ d. SuitsRow target (record rest { cutter = Uncut; fitter = Unfitted; drops = d }) → row_bottom (record rest { cutter = Uncut; fitter = Unfitted; drops = d }) inputs registers ≡ row_top (record rest { cutter = Uncut; fitter = Unfitted; drops = d }) inputs registers) (sym d)
-    (λ suits. ap (λ (s : Shape). record (row_bottom (record rest { cutter = Uncut; fitter = Unfitted; drops = false }) inputs registers) { shape = s }) (sym (suits.cutter.0 ∙ suits.fitter.0 ∙ suits.dropper.0)))))
+    IsWire (row_top (record rest { cutter = cutter; fitter = fitter; drops = drops }) inputs registers) (row_bottom (record rest { cutter = cutter; fitter = fitter; drops = drops }) inputs registers)
+wires_are_one cutter fitter drops rest inputs registers target k f d =
+    subst (λ k. SuitsRow target (record rest { cutter = k; fitter = fitter; drops = drops }) → IsWire (row_top (record rest { cutter = k; fitter = fitter; drops = drops }) inputs registers) (row_bottom (record rest { cutter = k; fitter = fitter; drops = drops }) inputs registers)) (sym k)
+    (subst (λ f. SuitsRow target (record rest { cutter = Uncut; fitter = f; drops = drops }) → IsWire (row_top (record rest { cutter = Uncut; fitter = f; drops = drops }) inputs registers) (row_bottom (record rest { cutter = Uncut; fitter = f; drops = drops }) inputs registers)) (sym f)
+    (subst (λ d. SuitsRow target (record rest { cutter = Uncut; fitter = Unfitted; drops = d }) → IsWire (row_top (record rest { cutter = Uncut; fitter = Unfitted; drops = d }) inputs registers) (row_bottom (record rest { cutter = Uncut; fitter = Unfitted; drops = d }) inputs registers)) (sym d)
+    (λ suits.
+    let plan = record rest { cutter = Uncut; fitter = Unfitted; drops = false } in
+    let bottom = row_bottom plan inputs registers in
+    wire_chain (row_top plan inputs registers) (row_middle plan inputs registers) bottom (wire bottom rest.top rest.middle suits.cutter).wire
+    (wire_chain (row_middle plan inputs registers) (row_low plan inputs registers) bottom (wire bottom rest.middle rest.low suits.fitter).wire (wire bottom rest.low rest.bottom suits.dropper).wire))))
 
 or_false : (a b : Bool) → IsFalse (a || b) → IsFalse b
 or_false false b e = e
@@ -187,5 +193,5 @@ module _ (laws : Laws) (responses : Responses) (plan : LinkPlan) (outside : Outs
       lanes = λ h a low there none. suits.lanes h a low there (sym (dropped h a low there).1 ∙ none);
       wired = λ h a low there joined has alike.
           let wires = suits.wired h a low there joined has alike in
-          wires_same (plan.cutter h a) (plan.fitter h a) (plan.drops h a) (row_of plan h a) (to_row responses plan outside all h a) (λ c. (all c).row h a) (target_of system a) wires.uncut wires.unfitted wires.undropped (suits.rows h a low there);
+          wires_are_one (plan.cutter h a) (plan.fitter h a) (plan.drops h a) (row_of plan h a) (to_row responses plan outside all h a) (λ c. (all c).row h a) (target_of system a) wires.uncut wires.unfitted wires.undropped (suits.rows h a low there);
     }

@@ -15,7 +15,7 @@ use Rattle.mm_parts.specs.ArbiterRun.{ArbiterInputs, ArbiterRegisters, arbiter_a
 use Rattle.mm_parts.specs.AgentRun.{AgentInputs, AgentRegisters, agent_at_rest, agent_state, agent_view, agent_upper, agent_step}
 use Rattle.mm_parts.specs.SystemRun.{Outside, no_words, commands_of}
 use Rattle.mm_links.specs.Driven.{Inputs}
-use Rattle.mm_awake.specs.RowRun.{Cutter, Fitter, Cutter.Uncut, Fitter.Unfitted, RowPlan, RowRegisters, SuitsRow, row_at_rest, row_step, row_top, row_middle, row_low, drop_raw, commands_by, shown_with}
+use Rattle.mm_awake.specs.RowRun.{Cutter, Fitter, Cutter.Uncut, Fitter.Unfitted, RowPlan, RowRegisters, SuitsRow, row_at_rest, row_step, by_cutter, by_fitter, row_top, row_middle, row_low, drop_raw, commands_by, shown_with}
 use Rattle.mm_awake.specs.RowSystem.{RowPorts}
 use Rattle.mm_awake.specs.Theorem.{States}
 
@@ -36,15 +36,21 @@ host_inner plan h = inner_shape (plan.system.host h).word_bytes (plan.system.hos
 abbrev pub agent_inner : LinkPlan → ℕ → Shape
 agent_inner plan a = inner_shape (plan.system.agent a).word_bytes (plan.system.agent a).burst_bits
 
--- below the cutter bursts are those of the agent, and below what fits words its words too
+-- below a cutter bursts are as it makes them, and below what fits words they are single beats; a wire before the arbiter leads to those of the agent
+abbrev pub bits_below_cutter : LinkPlan → ℕ → ℕ → ℕ
+bits_below_cutter plan h a = by_cutter (plan.cutter h a) (plan.system.host h).burst_bits 1 (λ longest. (plan.system.agent a).burst_bits)
+
+abbrev pub bits_above_dropper : LinkPlan → ℕ → ℕ → ℕ
+bits_above_dropper plan h a = by_fitter (plan.fitter h a) (bits_below_cutter plan h a) 1 1
+
 abbrev pub row_of : LinkPlan → ℕ → ℕ → RowPlan
 row_of plan h a = record {
   cutter = plan.cutter h a;
   fitter = plan.fitter h a;
   drops = plan.drops h a;
   top = host_inner plan h;
-  middle = inner_shape (plan.system.host h).word_bytes (plan.system.agent a).burst_bits;
-  low = agent_inner plan a;
+  middle = inner_shape (plan.system.host h).word_bytes (bits_below_cutter plan h a);
+  low = inner_shape (plan.system.agent a).word_bytes (bits_above_dropper plan h a);
   bottom = agent_inner plan a;
   room = plan.room;
 }

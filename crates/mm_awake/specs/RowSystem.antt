@@ -1,5 +1,5 @@
 -- Systems of machines whose links are machines too: three in a row between a host's route and an agent's arbiter, each of which may be a wire.
-use Rattle.std.specs.Prelude.{◌≡◌, ℕ, ◌<◌, not, ◌||◌, IsTrue, IsFalse}
+use Rattle.std.specs.Prelude.{ℕ, ◌<◌, not, ◌||◌, IsTrue, IsFalse}
 use Rattle.mm_runs.specs.Views.{System, Run}
 use Rattle.mm_runs.specs.Awake.{is_alike}
 use Rattle.mm_runs.specs.Order.{is_joined}
@@ -8,6 +8,7 @@ use Rattle.mm_machines.specs.Link.{Port}
 use Rattle.mm_machines.specs.Lines.{TaggedPort, target_of}
 use Rattle.mm_awake.specs.Rows.{IsWired, CutsBursts, FitsWords, DropsBeats, drops_some, ports_of_three}
 use Rattle.mm_awake.specs.Theorem.{Boundaries}
+use Rattle.mm_awake.specs.Wires.{IsWire}
 
 -- the boundaries inside, of a host and an agent from the route down
 pub record RowPorts : Type 0 where
@@ -37,7 +38,7 @@ pub record AreRows (system : System) (run : Run) (ports : RowPorts) (end : ℕ) 
   pub lanes : (h a : ℕ) (low : h < system.hosts) (there : a < system.agents) → IsFalse (drops_some (drops h a low there)) → IsTrue ((system.agent a).has_enables || not (system.host h).has_enables)
   -- a host whose plain commands reach an agent with readdatavalid one for one is wired to its arbiter: a link with room for one read, which may stand there, would hold a second one back while the first is owed
   pub wired : (h a : ℕ) → h < system.hosts → a < system.agents → IsTrue (is_joined system a h) → IsTrue (system.agent a).has_readdatavalid → IsTrue (is_alike (system.host h) (system.agent a)) →
-      ports.before_arbiter h a ≡ ports.after_route h a
+      IsWire (ports.after_route h a) (ports.before_arbiter h a)
 
 -- no beats are dropped below a host with bursts and without byte enables: its write bursts are counted from their first beat, which is kept there until the next one comes
 abbrev pub IsFairRow : System → RowPorts → ℕ → ℕ → Type 0

@@ -5,7 +5,7 @@ ghost use Rattle.mm_runs.specs.Views.{Responses, System, Run};
 ghost use Rattle.mm_runs.specs.Commands.{shows};
 ghost use Rattle.mm_runs.specs.Plan.{IsMemoryPlan, AreViews};
 ghost use Rattle.mm_runs.specs.Whole.{IsLegalRun, IsSafe};
-ghost use Rattle.mm_runs.specs.Awake.{NeverIdles, IsFair, is_alike};
+ghost use Rattle.mm_runs.specs.Awake.{NeverIdles, IsFair};
 ghost use Rattle.mm_runs.specs.Order.{is_joined};
 ghost use Rattle.mm_machines.specs.Link.{Target, AreLegalAt, AnswersAreOwed};
 ghost use Rattle.mm_machines.specs.Lines.{target_of};
@@ -142,15 +142,3 @@ pub fn linked_systems_are_awake()
     linked_systems_run();
     machines_with_links_are_awake()
 }
-
-/// What these premises leave out: an agent with longer bursts has no host without bursts that is alike to it and joined to it, if it has `readdatavalid`, and no host with narrower words.
-pub fn longer_bursts_are_left_out()
-    ensures alike { (responses : Responses) (system : System) (run : Run) (ports : RowPorts) (states : States) (end h a : ℕ)
-        → ArePlanned system (boundaries_of ports) states → AreMachines responses system run (boundaries_of ports) states end → AreRows system run ports end
-        → h < system.hosts → a < system.agents → IsTrue (is_joined system a h) → IsTrue (system.agent a).has_readdatavalid → IsTrue (is_alike (system.host h) (system.agent a))
-        → (system.agent a).burst_bits ≡ 1 }
-    ensures narrower { (responses : Responses) (system : System) (run : Run) (ports : RowPorts) (states : States) (end h a : ℕ)
-        → ArePlanned system (boundaries_of ports) states → AreMachines responses system run (boundaries_of ports) states end → AreRows system run ports end
-        → h < system.hosts → a < system.agents → (system.host h).word_bytes < (system.agent a).word_bytes
-        → (system.agent a).burst_bits ≡ 1 }
-{}

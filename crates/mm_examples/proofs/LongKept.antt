@@ -39,7 +39,7 @@ suits = record {
       (record {
         cutter = record { some = omega arith; same = refl; bytes = refl; one_beat = refl };
         fitter = (2, record { some = omega arith; more = omega arith; whole = refl; same = refl; bytes = refl; enables = refl; one_beat = refl; one_beat_below = refl });
-        dropper = (refl, omega arith);
+        dropper = (refl, omega arith, omega arith);
         room = omega arith;
       })
       (record {
@@ -49,14 +49,14 @@ suits = record {
         room = omega arith;
       })
       (record {
-        cutter = (refl, omega arith);
+        cutter = (refl, omega arith, omega arith);
         fitter = (4, record { some = omega arith; more = omega arith; whole = refl; same = refl; bytes = refl; enables = refl; one_beat = refl; one_beat_below = refl });
-        dropper = (refl, omega arith);
+        dropper = (refl, omega arith, omega arith);
         room = omega arith;
       })
       (record {
-        cutter = (refl, omega arith);
-        fitter = (refl, omega arith);
+        cutter = (refl, omega arith, omega arith);
+        fitter = (refl, omega arith, omega arith);
         dropper = record { some = omega arith; same = refl; units = refl; agent = refl; enables = refl; one_beat = refl };
         room = omega arith;
       });

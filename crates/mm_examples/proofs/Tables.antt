@@ -287,7 +287,7 @@ pub record AgentTables (system : System) (run : Run) (up : ℕ → TaggedPort) (
   pub has_valid : EachOne system.agents (λ a. (system.agent a).has_readdatavalid)
   pub words : EachOne system.agents (λ a. nat_eq (up a).shape.word_bytes (system.agent a).word_bytes)
   pub bursts : EachOne system.agents (λ a. nat_eq (up a).shape.burst_bits (system.agent a).burst_bits)
-  pub plain : EachOne system.agents (λ a. nat_eq (system.agent a).burst_bits 1)
+  pub plain : EachOne system.agents (λ a. where_holds (not (system.agent a).has_burst) (nat_eq (system.agent a).burst_bits 1))
   pub read : Each system.agents end (λ a c. nat_eq ((run.at_agent a).read c) (if is_full (system.agent a) (state a) c then 0 else (up a).commands.read c))
   pub write : Each system.agents end (λ a c. nat_eq ((run.at_agent a).write c) ((up a).commands.write c))
   pub address : Each system.agents end (λ a c. nat_eq ((run.at_agent a).address c * (system.agent a).unit_bytes) (byte_address (up a).shape ((up a).commands.address c) % (system.agent a).span))
@@ -310,7 +310,7 @@ agent_machine system run up state end t a there = record {
   commands = record {
     words = eqb-true _ _ (one t.words a there);
     bursts = eqb-true _ _ (one t.bursts a there);
-    plain = λ none. eqb-true _ _ (one t.plain a there);
+    plain = λ none. eqb-true _ _ (under_false (system.agent a).has_burst _ (one t.plain a there) none);
     read = λ c low has. eqb-true _ _ (each t.read a there c low);
     no_read = λ c low none. absurd (never (system.agent a).has_read (one t.has_read a there) none);
     write = λ c low has. eqb-true _ _ (each t.write a there c low);
