@@ -61,6 +61,7 @@ pub mod RowLeads
 pub mod SingleWrites
 pub mod SilentRoute
 pub mod StageLine
+pub mod SilentRow
 pub mod RowBuilt
 pub mod PlainRows
 pub mod RowRuns

@@ -1,10 +1,11 @@
 -- A system of machines with rows of links is one of machines and rows.
-use Rattle.std.proofs.Common.{◌≡◌, ℕ, zero, suc, ◌*◌, ◌<◌, ◌≤◌, Bool, true, false, List, ◌||◌, if◌then◌else◌, IsFalse, arith, refl, sym, ap, subst, ◌∙◌}
+use Rattle.std.proofs.Common.{◌≡◌, ℕ, zero, suc, ◌*◌, ◌<◌, ◌≤◌, Bool, true, false, List, ◌||◌, if◌then◌else◌, IsTrue, IsFalse, arith, refl, sym, ap, subst, ◌∙◌}
 use Rattle.std.proofs.Math.Path.{fun_ext}
 use Rattle.histories.specs.History.{is_raised}
 use Rattle.ranks.specs.Turns.{Seat}
 use Rattle.mm_runs.specs.Views.{System, Run, Shape, Responses, HostSide, AgentSide}
 use Rattle.mm_runs.specs.Commands.{shows, longest_burst}
+use Rattle.mm_runs.specs.Order.{is_joined}
 use Rattle.mm_runs.specs.Plan.{IsMemoryPlan, AreViews}
 use Rattle.mm_machines.specs.Link.{Target}
 use Rattle.mm_machines.specs.Lines.{target_of}
@@ -24,7 +25,7 @@ use Rattle.mm_awake.specs.RowSystem.{AreRows, boundaries_of}
 use Rattle.mm_awake.specs.Rows.{CutsBursts, FitsWords, DropsBeats, drops_some}
 use Rattle.mm_awake.specs.LinkSystem.{LinkPlan, SuitsLinks, Registers, row_of, agent_inner, linked_registers, to_host, to_route, to_row, to_arbiter, to_agent, after_host, before_arbiter, after_route, before_agent, linked_run, linked_ports, linked_states}
 use Rattle.mm_awake.specs.Theorem.{Boundaries, States, ArePlanned, AreMachines}
-use Rattle.mm_awake.specs.Wires.{IsWire}
+use Rattle.mm_awake.specs.Wires.{IsWire, HandsAllOn}
 use Rattle.mm_awake.proofs.RowRuns.{Links, wire, cuts_run, fits_run, drops_run, drops_some_are}
 use Rattle.mm_awake.proofs.Widened.{wire_chain}
 
@@ -68,6 +69,19 @@ wires_are_one cutter fitter drops rest inputs registers target k f d =
     let bottom = row_bottom plan inputs registers in
     wire_chain (row_top plan inputs registers) (row_middle plan inputs registers) bottom (wire bottom rest.top rest.middle suits.cutter).wire
     (wire_chain (row_middle plan inputs registers) (row_low plan inputs registers) bottom (wire bottom rest.middle rest.low suits.fitter).wire (wire bottom rest.low rest.bottom suits.dropper).wire))))
+
+-- and hands all on, whatever its shapes
+abbrev HandOn : RowPlan → Inputs → (ℕ → RowRegisters) → Type 0
+HandOn plan inputs registers =
+    HandsAllOn (row_top plan inputs registers) (row_middle plan inputs registers) × HandsAllOn (row_middle plan inputs registers) (row_low plan inputs registers) × HandsAllOn (row_low plan inputs registers) (row_bottom plan inputs registers)
+
+wires_hand_on : (cutter : Cutter) (fitter : Fitter) (drops : Bool) (rest : RowPlan) (inputs : Inputs) (registers : ℕ → RowRegisters) → cutter ≡ Uncut → fitter ≡ Unfitted → drops ≡ false →
+    HandOn (record rest { cutter = cutter; fitter = fitter; drops = drops }) inputs registers
+wires_hand_on cutter fitter drops rest inputs registers k f d =
+    subst (λ k. HandOn (record rest { cutter = k; fitter = fitter; drops = drops }) inputs registers) (sym k)
+    (subst (λ f. HandOn (record rest { cutter = Uncut; fitter = f; drops = drops }) inputs registers) (sym f)
+    (subst (λ d. HandOn (record rest { cutter = Uncut; fitter = Unfitted; drops = d }) inputs registers) (sym d)
+    (record { commands = refl; answers = refl }, record { commands = refl; answers = refl }, record { commands = refl; answers = refl })))
 
 or_false : (a b : Bool) → IsFalse (a || b) → IsFalse b
 or_false false b e = e
@@ -162,6 +176,13 @@ module _ (laws : Laws) (responses : Responses) (plan : LinkPlan) (outside : Outs
     pub planned : ArePlanned system (boundaries_of (linked_ports responses plan outside all)) (linked_states responses plan outside all)
     planned = laws.planned system (boundaries_of (linked_ports responses plan outside all)) (linked_states responses plan outside all) is_plan (λ h low. refl) (λ h low. omega arith)
 
+    not_joined : (h a : ℕ) → system.hosts ≤ h → IsFalse (is_joined system a h)
+    not_joined h a past = by_test (is_joined system a h) refl
+      where
+        by_test : (b : Bool) → is_joined system a h ≡ b → IsFalse b
+        by_test false e = refl
+        by_test true e = let low = is_plan.joined a h e in absurd (omega (arith, low, past))
+
     pub machines : AreViews system run end → ((h c : ℕ) → system.hosts ≤ h → IsFalse (shows (outside.host h) c)) → AreMachines responses system run (boundaries_of (linked_ports responses plan outside all)) (linked_states responses plan outside all) end
     machines views quiet = record {
       one_word = λ h low. laws.reads_words system run h end views low;
@@ -169,29 +190,33 @@ module _ (laws : Laws) (responses : Responses) (plan : LinkPlan) (outside : Outs
       route = λ h low. route_machine h _;
       arbiter = λ a there. arbiter_machine a;
       silent = λ a there h c past low.
-          let wires = suits.past h a past in
+          let wires = suits.apart h a (not_joined h a past) in
           wires_show (plan.cutter h a) (plan.fitter h a) (plan.drops h a) (row_of plan h a) (to_row responses plan outside all h a) (λ c. (all c).row h a) c wires.uncut wires.unfitted wires.undropped
           (gate (goes_to system h (asked_side (to_route responses plan outside all h)) (route_state (λ c. (all c).route h)) a c) (is_shut (system.host h) (host_state (λ c. (all c).host h)) c) ((outside.host h).read c) ((outside.host h).write c) (quiet h c past));
       stage = λ a i there low. let none = suits.stages in absurd (omega (arith, low, none));
       agent = λ a there. agent_machine a (laws.agent_side system is_plan a (agent_inner plan a) there refl refl);
     }
 
-    dropped : (h a : ℕ) → h < system.hosts → a < system.agents → (d : DropsBeats (target_of system a) (row_low (row_of plan h a) (to_row responses plan outside all h a) (λ c. (all c).row h a)) (row_bottom (row_of plan h a) (to_row responses plan outside all h a) (λ c. (all c).row h a))) × (drops_some d ≡ plan.drops h a)
-    dropped h a low there =
-        let row = suits.rows h a low there in
+    dropped : (h a : ℕ) → h < system.hosts → a < system.agents → IsTrue (is_joined system a h) → (d : DropsBeats (target_of system a) (row_low (row_of plan h a) (to_row responses plan outside all h a) (λ c. (all c).row h a)) (row_bottom (row_of plan h a) (to_row responses plan outside all h a) (λ c. (all c).row h a))) × (drops_some d ≡ plan.drops h a)
+    dropped h a low there joined =
+        let row = suits.rows h a low there joined in
         subst (λ (r : ℕ → RowRegisters). (d : DropsBeats (target_of system a) (row_low (row_of plan h a) (to_row responses plan outside all h a) r) (row_bottom (row_of plan h a) (to_row responses plan outside all h a) r)) × (drops_some d ≡ plan.drops h a)) (fun_ext (same_row h a))
         (drops_run laws.links (to_row responses plan outside all h a) (plan.drops h a) (row_of plan h a) (target_of system a) row.dropper row.room, drops_some_are laws.links (to_row responses plan outside all h a) (plan.drops h a) (row_of plan h a) (target_of system a) row.dropper row.room)
 
     pub are_rows : AreViews system run end → AreRows system run (linked_ports responses plan outside all) end
     are_rows views = record {
       views = views.hosts;
-      cuts = λ h a low there. subst (λ (r : ℕ → RowRegisters). CutsBursts (row_top (row_of plan h a) (to_row responses plan outside all h a) r) (row_middle (row_of plan h a) (to_row responses plan outside all h a) r)) (fun_ext (same_row h a))
-          (cuts_run laws.links (to_row responses plan outside all h a) (plan.cutter h a) (row_of plan h a) (suits.rows h a low there).cutter);
-      fits = λ h a low there. subst (λ (r : ℕ → RowRegisters). FitsWords (target_of system a) (row_middle (row_of plan h a) (to_row responses plan outside all h a) r) (row_low (row_of plan h a) (to_row responses plan outside all h a) r)) (fun_ext (same_row h a))
-          (fits_run laws.links (to_row responses plan outside all h a) (plan.fitter h a) (row_of plan h a) (target_of system a) (suits.rows h a low there).fitter (suits.rows h a low there).room);
-      drops = λ h a low there. (dropped h a low there).0;
-      lanes = λ h a low there none. suits.lanes h a low there (sym (dropped h a low there).1 ∙ none);
+      cuts = λ h a low there joined. subst (λ (r : ℕ → RowRegisters). CutsBursts (row_top (row_of plan h a) (to_row responses plan outside all h a) r) (row_middle (row_of plan h a) (to_row responses plan outside all h a) r)) (fun_ext (same_row h a))
+          (cuts_run laws.links (to_row responses plan outside all h a) (plan.cutter h a) (row_of plan h a) (suits.rows h a low there joined).cutter);
+      fits = λ h a low there joined. subst (λ (r : ℕ → RowRegisters). FitsWords (target_of system a) (row_middle (row_of plan h a) (to_row responses plan outside all h a) r) (row_low (row_of plan h a) (to_row responses plan outside all h a) r)) (fun_ext (same_row h a))
+          (fits_run laws.links (to_row responses plan outside all h a) (plan.fitter h a) (row_of plan h a) (target_of system a) (suits.rows h a low there joined).fitter (suits.rows h a low there joined).room);
+      drops = λ h a low there joined. (dropped h a low there joined).0;
+      lanes = λ h a low there joined none. suits.lanes h a low there joined (sym (dropped h a low there joined).1 ∙ none);
       wired = λ h a low there joined has alike.
           let wires = suits.wired h a low there joined has alike in
-          wires_are_one (plan.cutter h a) (plan.fitter h a) (plan.drops h a) (row_of plan h a) (to_row responses plan outside all h a) (λ c. (all c).row h a) (target_of system a) wires.uncut wires.unfitted wires.undropped (suits.rows h a low there);
+          wires_are_one (plan.cutter h a) (plan.fitter h a) (plan.drops h a) (row_of plan h a) (to_row responses plan outside all h a) (λ c. (all c).row h a) (target_of system a) wires.uncut wires.unfitted wires.undropped (suits.rows h a low there joined);
+      apart = λ h a low there none.
+          let wires = suits.apart h a none in
+          let on = wires_hand_on (plan.cutter h a) (plan.fitter h a) (plan.drops h a) (row_of plan h a) (to_row responses plan outside all h a) (λ c. (all c).row h a) wires.uncut wires.unfitted wires.undropped in
+          record { high = on.0; mid = on.1; low = on.2 };
     }

@@ -1,5 +1,5 @@
 -- A system of machines with a row of links between each host's route and each agent's arbiter, without stages, run on whatever its hosts and agents give.
-use Rattle.std.specs.Prelude.{◌≡◌, ℕ, zero, suc, ◌+◌, ◌*◌, ◌<◌, ◌≤◌, Bool, true, false, not, ◌||◌, [], IsTrue}
+use Rattle.std.specs.Prelude.{◌≡◌, ℕ, zero, suc, ◌+◌, ◌*◌, ◌<◌, Bool, true, false, not, ◌||◌, [], IsTrue, IsFalse}
 use Rattle.mm_runs.specs.Views.{Shape, Responses, System, Run}
 use Rattle.mm_runs.specs.Commands.{longest_burst}
 use Rattle.mm_runs.specs.Awake.{is_alike}
@@ -64,13 +64,13 @@ pub record IsWireRow (plan : RowPlan) : Type 0 where
 -- what is asked of the links
 pub record SuitsLinks (plan : LinkPlan) : Type 0 where
   pub stages : plan.system.stages ≡ 0
-  pub rows : (h a : ℕ) → h < plan.system.hosts → a < plan.system.agents → SuitsRow (target_of plan.system a) (row_of plan h a)
+  pub rows : (h a : ℕ) → h < plan.system.hosts → a < plan.system.agents → IsTrue (is_joined plan.system a h) → SuitsRow (target_of plan.system a) (row_of plan h a)
   -- a host whose plain commands reach an agent with readdatavalid one for one is wired to its arbiter
   pub wired : (h a : ℕ) → h < plan.system.hosts → a < plan.system.agents → IsTrue (is_joined plan.system a h) → IsTrue (plan.system.agent a).has_readdatavalid → IsTrue (is_alike (plan.system.host h) (plan.system.agent a)) → IsWireRow (row_of plan h a)
   -- where no beats are dropped, the agent has byte enables or the host has none
-  pub lanes : (h a : ℕ) → h < plan.system.hosts → a < plan.system.agents → plan.drops h a ≡ false → IsTrue ((plan.system.agent a).has_enables || not (plan.system.host h).has_enables)
-  -- hosts past those of the plan are wired
-  pub past : (h a : ℕ) → plan.system.hosts ≤ h → IsWireRow (row_of plan h a)
+  pub lanes : (h a : ℕ) → h < plan.system.hosts → a < plan.system.agents → IsTrue (is_joined plan.system a h) → plan.drops h a ≡ false → IsTrue ((plan.system.agent a).has_enables || not (plan.system.host h).has_enables)
+  -- between hosts and agents that aren't joined stand wires, whatever their words
+  pub apart : (h a : ℕ) → IsFalse (is_joined plan.system a h) → IsWireRow (row_of plan h a)
 
 -- what all registers hold in one cycle
 pub record Registers : Type 0 where

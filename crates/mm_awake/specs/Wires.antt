@@ -14,3 +14,8 @@ with_bursts bits port = record port { shape = shape_with bits port.shape }
 pub record IsWire (up down : Port) : Type 0 where
   pub same : with_bursts down.shape.burst_bits up ≡ down
   pub longer : up.shape.burst_bits ≤ down.shape.burst_bits
+
+-- where nothing is shown a wire may lead to any words
+pub record HandsAllOn (up down : Port) : Type 0 where
+  pub commands : up.commands ≡ down.commands
+  pub answers : up.answers ≡ down.answers

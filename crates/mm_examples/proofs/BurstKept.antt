@@ -16,7 +16,7 @@ use Rattle.mm_awake.specs.Theorem.{ArePlanned, AreMachines, IsStageBetween}
 use Rattle.mm_awake.specs.Wires.{IsWire}
 use Rattle.mm_examples.specs.TwoByTwo.{first_or}
 use Rattle.mm_examples.specs.BurstSystem.{burst_system, burst_run, burst_ports, burst_states, after_host, after_route, below_cutter, below_dropper, before_arbiter, after_arbiter, before_agent, no_port, cutting, dropping, piping}
-use Rattle.mm_examples.proofs.TwoByTwo.{two, pairs, joined_below, past_two, route_plan}
+use Rattle.mm_examples.proofs.TwoByTwo.{two, pairs, joined_below, two_are_joined, past_two, route_plan}
 use Rattle.mm_examples.proofs.Tables.{HostTables, RouteTables, ArbiterTables, AgentTables, host_machine, route_machine, arbiter_machine, agent_machine, host_views, legal_run, never}
 
 pub planned : ArePlanned burst_system (boundaries_of burst_ports) burst_states
@@ -187,13 +187,14 @@ lanes links (suc (suc h)) a is there none = absurd (omega (arith, is))
 pub rows : Links → AreRows burst_system burst_run burst_ports 12
 rows links = record {
   views = host_views burst_system burst_run 12 (record { enables = record { holds = refl }; all_lanes = record { holds = refl }; word = record { holds = refl }; one_beat = record { holds = refl } });
-  cuts = λ h a is there. two (λ h. CutsBursts (after_route h a) (below_cutter h a))
+  cuts = λ h a is there joined. two (λ h. CutsBursts (after_route h a) (below_cutter h a))
       (cutter (burst_state (cutting a)) (record { some = omega arith; same = refl; bytes = refl; one_beat = refl }) (links.burst (cutting a)))
       (no_cutter (wire 1 a (omega arith) there))
       h is;
-  fits = λ h a is there. no_width (wire_below h a is there);
-  drops = drops links;
-  lanes = lanes links;
+  fits = λ h a is there joined. no_width (wire_below h a is there);
+  drops = λ h a is there joined. drops links h a is there;
+  lanes = λ h a is there joined none. lanes links h a is there none;
+  apart = λ h a is there none. absurd (two_are_joined h is none);
   wired = λ h a is there joined has alike. pairs (λ h a. IsTrue (is_alike (burst_system.host h) (burst_system.agent a)) → IsWire (after_route h a) (before_arbiter h a))
       (λ x. let bad : ⊥ = cc in absurd bad) (λ x. let bad : ⊥ = cc in absurd bad) (λ x. plain_wire.wire) (λ x. let bad : ⊥ = cc in absurd bad) h a is there alike;
 }

@@ -13,7 +13,7 @@ use Rattle.mm_awake.specs.LinkSystem.{SuitsLinks, IsWireRow, row_of}
 use Rattle.mm_examples.specs.Examples.{quiet}
 use Rattle.mm_examples.specs.TwoByTwo.{first_or}
 use Rattle.mm_examples.specs.LongRows.{long_plan, long_run, long_ports, long_outside, first_host, second_host}
-use Rattle.mm_examples.proofs.TwoByTwo.{two, pairs, joined_below, none_past, is_memory_plan}
+use Rattle.mm_examples.proofs.TwoByTwo.{two, pairs, joined_below, past_joined, none_past, is_memory_plan}
 use Rattle.mm_examples.proofs.Tables.{legal_run, are_views, never}
 
 pub is_plan : IsMemoryPlan long_plan.system
@@ -35,7 +35,7 @@ is_plan = is_memory_plan long_plan.system.host (first_or 8 2) (first_or true fal
 pub suits : SuitsLinks long_plan
 suits = record {
   stages = refl;
-  rows = pairs (λ h a. SuitsRow (target_of long_plan.system a) (row_of long_plan h a))
+  rows = λ h a is there joined. pairs (λ h a. SuitsRow (target_of long_plan.system a) (row_of long_plan h a))
       (record {
         cutter = record { some = omega arith; same = refl; bytes = refl; one_beat = refl };
         fitter = (2, record { some = omega arith; more = omega arith; whole = refl; same = refl; bytes = refl; enables = refl; one_beat = refl; one_beat_below = refl });
@@ -59,17 +59,19 @@ suits = record {
         fitter = (refl, omega arith, omega arith);
         dropper = record { some = omega arith; same = refl; units = refl; agent = refl; enables = refl; one_beat = refl };
         room = omega arith;
-      });
+      })
+      h a is there;
   wired = λ h a is there joined has. pairs (λ h a. IsTrue (is_alike (long_plan.system.host h) (long_plan.system.agent a)) → IsWireRow (row_of long_plan h a))
       (λ alike. let bad : ⊥ = cc in absurd bad) (λ alike. let bad : ⊥ = cc in absurd bad) (λ alike. let bad : ⊥ = cc in absurd bad) (λ alike. let bad : ⊥ = cc in absurd bad)
       h a is there;
   -- agent 0 has byte enables, and before agent 1 beats are dropped
-  lanes = pairs (λ h a. long_plan.drops h a ≡ false → IsTrue ((long_plan.system.agent a).has_enables || not (long_plan.system.host h).has_enables))
-      (λ none. refl) (λ none. let bad : ⊥ = cc in absurd bad) (λ none. refl) (λ none. let bad : ⊥ = cc in absurd bad);
-  past = λ h a past. record {
-    uncut = none_past ByBeats Uncut Uncut h past;
-    unfitted = none_past (first_or Selects Splits a) (first_or Selects Unfitted a) Unfitted h past;
-    undropped = none_past (first_or false true a) (first_or false true a) false h past;
+  lanes = λ h a is there joined. pairs (λ h a. long_plan.drops h a ≡ false → IsTrue ((long_plan.system.agent a).has_enables || not (long_plan.system.host h).has_enables))
+      (λ none. refl) (λ none. let bad : ⊥ = cc in absurd bad) (λ none. refl) (λ none. let bad : ⊥ = cc in absurd bad)
+      h a is there;
+  apart = λ h a none. record {
+    uncut = none_past ByBeats Uncut Uncut h (past_joined h none);
+    unfitted = none_past (first_or Selects Splits a) (first_or Selects Unfitted a) Unfitted h (past_joined h none);
+    undropped = none_past (first_or false true a) (first_or false true a) false h (past_joined h none);
   };
 }
 

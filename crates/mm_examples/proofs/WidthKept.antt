@@ -15,7 +15,7 @@ use Rattle.mm_awake.specs.Rows.{IsWired, FitsWords, CutsBursts.no_cutter, FitsWo
 use Rattle.mm_awake.specs.Theorem.{ArePlanned, AreMachines}
 use Rattle.mm_awake.specs.Wires.{IsWire}
 use Rattle.mm_examples.specs.WidthSystem.{width_system, width_run, width_ports, width_states, swapped_run, unmoved_run, bytes_of, no_port, after_host, after_route, above_dropper, before_arbiter, before_agent, splitting, selecting}
-use Rattle.mm_examples.proofs.TwoByTwo.{two, pairs, joined_below, past_two, route_plan}
+use Rattle.mm_examples.proofs.TwoByTwo.{two, pairs, joined_below, two_are_joined, past_two, route_plan}
 use Rattle.mm_examples.proofs.Tables.{HostTables, RouteTables, ArbiterTables, AgentTables, host_machine, route_machine, arbiter_machine, agent_machine, host_views, legal_run}
 
 -- ---- the plan
@@ -188,15 +188,16 @@ pub record Links : Type 0 where
 pub rows : Links → AreRows width_system width_run width_ports 8
 rows links = record {
   views = host_views width_system width_run 8 (record { enables = record { holds = refl }; all_lanes = record { holds = refl }; word = record { holds = refl }; one_beat = record { holds = refl } });
-  cuts = λ h a is there. no_cutter (wire h a is there);
-  fits = λ h a is there. pairs (λ h a. FitsWords (target_of width_system a) (after_route h a) (above_dropper h a))
+  cuts = λ h a is there joined. no_cutter (wire h a is there);
+  fits = λ h a is there joined. pairs (λ h a. FitsWords (target_of width_system a) (after_route h a) (above_dropper h a))
       (no_width (wire 0 0 (omega arith) (omega arith)))
       (splitter 2 2 (split_state splitting) (record { bytes = refl; some = omega arith; same = refl; one = omega arith; whole = refl; one_beat = refl }) (omega arith) (links.split splitting))
       (selector 2 2 (select_queue selecting) (record { some = omega arith; more = omega arith; whole = refl; same = refl; bytes = refl; enables = refl; one_beat = refl; one_beat_below = refl }) (omega arith) (links.select selecting))
       (no_width (wire 1 1 (omega arith) (omega arith)))
       h a is there;
-  drops = λ h a is there. no_dropper (wire_below h a is there);
-  lanes = λ h a is there none. refl;
+  drops = λ h a is there joined. no_dropper (wire_below h a is there);
+  lanes = λ h a is there joined none. refl;
+  apart = λ h a is there none. absurd (two_are_joined h is none);
   wired = λ h a is there joined has alike. pairs (λ h a. IsTrue (is_alike (width_system.host h) (width_system.agent a)) → IsWire (after_route h a) (before_arbiter h a))
       (λ x. record { same = refl; longer = omega arith }) (λ x. let bad : ⊥ = cc in absurd bad) (λ x. let bad : ⊥ = cc in absurd bad) (λ x. record { same = refl; longer = omega arith }) h a is there alike;
 }

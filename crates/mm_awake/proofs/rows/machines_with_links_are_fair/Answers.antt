@@ -18,9 +18,9 @@ returns c = λ responses system run ports states end plan machines rows legal ap
     let middle = ports.below_cutter host agent in
     let last = ports.above_dropper host agent in
     let down = ports.before_arbiter host agent in
-    let cuts = rows.cuts host agent low there in
-    let fits = rows.fits host agent low there in
-    let drops = rows.drops host agent low there in
+    let cuts = rows.cuts host agent low there joined in
+    let fits = rows.fits host agent low there joined in
+    let drops = rows.drops host agent low there joined in
     let row = fair agent host there joined in
     record {
       straight = c.rows_are_straight.ensures.straight target top middle last down end cuts fits drops settled.3 settled.0 settled.1 settled.2;
