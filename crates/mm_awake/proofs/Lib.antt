@@ -66,5 +66,6 @@ pub mod RowBuilt
 pub mod PlainRows
 pub mod RowRuns
 pub mod LinkRuns
+pub mod PlanLinks
 pub mod ModestRow
 pub mod SplitCounts

@@ -15,7 +15,7 @@ ghost use Rattle.mm_links.specs.Selects.{EnablesFit};
 ghost use Rattle.mm_awake.specs.Fair.{are_apart};
 ghost use Rattle.mm_awake.specs.Rows.{CutsBursts, FitsWords, DropsBeats};
 ghost use Rattle.mm_awake.specs.RowRun.{RowPlan, SuitsRow, row_registers, row_top, row_middle, row_low, row_bottom};
-ghost use Rattle.mm_awake.specs.LinkSystem.{LinkPlan, SuitsLinks, linked_registers, linked_run, linked_ports, linked_states};
+ghost use Rattle.mm_awake.specs.LinkSystem.{LinkPlan, SuitsLinks, links_for, linked_registers, linked_run, linked_ports, linked_states};
 ghost use Rattle.mm_awake.specs.PlainSystem.{AreQuietPast, wired_ports, wired_states};
 ghost use Rattle.mm_parts.specs.SystemRun.{PlainPlan, HaveOneShape, Outside, plain_system, registers_of, ports_run};
 ghost use Rattle.mm_awake.specs.RowSystem.{RowPorts, AreRows, IsFairRow, boundaries_of};
@@ -127,6 +127,11 @@ pub fn linked_systems_run()
     mm_parts::plans::plans_suit_machines();
     crate::built::memory_plans_are_planned()
 }
+
+/// For each plan without stages that keeps the rules on connections and maps there are links that suit it: nothing that these rules accept is left out.
+pub fn plans_have_links()
+    ensures { (system : System) → IsMemoryPlan system → system.stages ≡ 0 → SuitsLinks (links_for system) }
+{}
 
 /// So each such system is safe and never idles, for each number of cycles, as long as its hosts and agents are legal.
 pub fn linked_systems_are_awake()
