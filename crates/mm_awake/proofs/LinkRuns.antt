@@ -20,9 +20,9 @@ use Rattle.mm_parts.specs.Route.{IsRouteMachine, goes_to}
 use Rattle.mm_parts.specs.RouteRun.{RouteInputs, RouteRegisters, route_registers, route_state, route_upper, route_lower, route_step, asked_side}
 use Rattle.mm_parts.specs.SystemRun.{Outside}
 use Rattle.mm_links.specs.Driven.{Inputs}
-use Rattle.mm_awake.specs.RowRun.{Cutter, Fitter, RowPlan, RowRegisters, Cutter.Uncut, Fitter.Unfitted, SuitsRow, row_registers, row_step, row_top, row_middle, row_low, row_bottom}
+use Rattle.mm_awake.specs.RowRun.{Cutter, Fitter, RowPlan, RowRegisters, Cutter.Uncut, Fitter.Unfitted, SuitsRow, SuitsDropper, row_registers, row_step, row_top, row_middle, row_low, row_bottom}
 use Rattle.mm_awake.specs.RowSystem.{AreRows, boundaries_of}
-use Rattle.mm_awake.specs.Rows.{CutsBursts, FitsWords, DropsBeats, drops_some}
+use Rattle.mm_awake.specs.Rows.{IsWired, CutsBursts, FitsWords, DropsBeats, drops_some}
 use Rattle.mm_awake.specs.LinkSystem.{LinkPlan, SuitsLinks, Registers, row_of, agent_inner, linked_registers, to_host, to_route, to_row, to_arbiter, to_agent, after_host, before_arbiter, after_route, before_agent, linked_run, linked_ports, linked_states}
 use Rattle.mm_awake.specs.Theorem.{Boundaries, States, ArePlanned, AreMachines}
 use Rattle.mm_awake.specs.Wires.{IsWire, HandsAllOn}
@@ -82,6 +82,13 @@ wires_hand_on cutter fitter drops rest inputs registers k f d =
     (subst (λ f. HandOn (record rest { cutter = Uncut; fitter = f; drops = drops }) inputs registers) (sym f)
     (subst (λ d. HandOn (record rest { cutter = Uncut; fitter = Unfitted; drops = d }) inputs registers) (sym d)
     (record { commands = refl; answers = refl }, record { commands = refl; answers = refl }, record { commands = refl; answers = refl })))
+
+-- where no beats are dropped a wire stands before the arbiter
+pub undropped : (drops : Bool) (rest : RowPlan) (inputs : Inputs) (registers : ℕ → RowRegisters) (target : Target) → drops ≡ false → SuitsDropper drops target rest.low rest.bottom →
+    IsWired (row_low (record rest { drops = drops }) inputs registers) (row_bottom (record rest { drops = drops }) inputs registers)
+undropped drops rest inputs registers target e =
+    subst (λ d. SuitsDropper d target rest.low rest.bottom → IsWired (row_low (record rest { drops = d }) inputs registers) (row_bottom (record rest { drops = d }) inputs registers)) (sym e)
+    (λ suits. wire (row_bottom (record rest { drops = false }) inputs registers) rest.low rest.bottom suits)
 
 or_false : (a b : Bool) → IsFalse (a || b) → IsFalse b
 or_false false b e = e

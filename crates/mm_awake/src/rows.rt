@@ -128,11 +128,6 @@ pub fn linked_systems_run()
     crate::built::memory_plans_are_planned()
 }
 
-/// For each plan without stages that keeps the rules on connections and maps there are links that suit it: nothing that these rules accept is left out.
-pub fn plans_have_links()
-    ensures { (system : System) → IsMemoryPlan system → system.stages ≡ 0 → SuitsLinks (links_for system) }
-{}
-
 /// So each such system is safe and never idles, for each number of cycles, as long as its hosts and agents are legal.
 pub fn linked_systems_are_awake()
     ensures safe { (responses : Responses) (plan : LinkPlan) (outside : Outside) (end : ℕ)
@@ -146,4 +141,43 @@ pub fn linked_systems_are_awake()
 {
     linked_systems_run();
     machines_with_links_are_awake()
+}
+
+/// And it is fair where no host is joined to an agent twice, and no beats are dropped below a host with bursts and without byte enables.
+pub fn linked_systems_are_fair()
+    ensures { (responses : Responses) (plan : LinkPlan) (outside : Outside) (end : ℕ)
+        → let run = linked_run responses plan outside (linked_registers responses plan outside) in
+        IsMemoryPlan plan.system → SuitsLinks plan → AreViews plan.system run end → ((h c : ℕ) → plan.system.hosts ≤ h → IsFalse (shows (outside.host h) c)) → IsLegalRun plan.system run end
+        → ((agent : ℕ) → agent < plan.system.agents → IsTrue (are_apart (plan.system.joined agent)))
+        → ((h a : ℕ) → a < plan.system.agents → IsTrue (is_joined plan.system a h) → IsFalse (plan.system.host h).has_enables → IsTrue (plan.system.host h).has_burst → IsFalse (plan.drops h a))
+        → IsFair plan.system run end }
+{
+    linked_systems_run();
+    machines_with_links_are_fair()
+}
+
+/// For each plan without stages that keeps the rules on connections and maps there are links that suit it: nothing that these rules accept is left out.
+pub fn plans_have_links()
+    ensures { (system : System) → IsMemoryPlan system → system.stages ≡ 0 → SuitsLinks (links_for system) }
+{}
+
+/// So for each such plan there is a system of machines that is safe, never idles, and is fair where no host is joined to an agent twice, whatever its hosts and agents give, as long as they are legal.
+pub fn plans_are_served()
+    ensures safe { (responses : Responses) (system : System) (outside : Outside) (end : ℕ)
+        → let run = linked_run responses (links_for system) outside (linked_registers responses (links_for system) outside) in
+        IsMemoryPlan system → system.stages ≡ 0 → AreViews system run end → ((h c : ℕ) → system.hosts ≤ h → IsFalse (shows (outside.host h) c)) → IsLegalRun system run end
+        → IsSafe responses system run end }
+    ensures awake { (responses : Responses) (system : System) (outside : Outside) (end : ℕ)
+        → let run = linked_run responses (links_for system) outside (linked_registers responses (links_for system) outside) in
+        IsMemoryPlan system → system.stages ≡ 0 → AreViews system run (end + 2) → ((h c : ℕ) → system.hosts ≤ h → IsFalse (shows (outside.host h) c)) → IsLegalRun system run (end + 2)
+        → NeverIdles system run end }
+    ensures fair { (responses : Responses) (system : System) (outside : Outside) (end : ℕ)
+        → let run = linked_run responses (links_for system) outside (linked_registers responses (links_for system) outside) in
+        IsMemoryPlan system → system.stages ≡ 0 → AreViews system run end → ((h c : ℕ) → system.hosts ≤ h → IsFalse (shows (outside.host h) c)) → IsLegalRun system run end
+        → ((agent : ℕ) → agent < system.agents → IsTrue (are_apart (system.joined agent)))
+        → IsFair system run end }
+{
+    plans_have_links();
+    linked_systems_are_awake();
+    linked_systems_are_fair()
 }
