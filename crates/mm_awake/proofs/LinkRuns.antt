@@ -6,7 +6,7 @@ use Rattle.ranks.specs.Turns.{Seat}
 use Rattle.mm_runs.specs.Views.{System, Run, Shape, Responses, HostSide, AgentSide}
 use Rattle.mm_runs.specs.Commands.{shows, longest_burst}
 use Rattle.mm_runs.specs.Order.{is_joined}
-use Rattle.mm_runs.specs.Plan.{IsMemoryPlan, AreViews}
+use Rattle.mm_runs.specs.Plan.{IsMemoryPlan}
 use Rattle.mm_machines.specs.Link.{Target}
 use Rattle.mm_machines.specs.Lines.{target_of}
 use Rattle.mm_machines.specs.Turns.{seats_of}
@@ -14,7 +14,7 @@ use Rattle.mm_parts.specs.Agent.{IsAgentMachine}
 use Rattle.mm_parts.specs.AgentRun.{AgentInputs, AgentRegisters, SuitsAgent, agent_registers, agent_state, agent_view, agent_upper, agent_step}
 use Rattle.mm_parts.specs.Arbiter.{IsArbiterMachine}
 use Rattle.mm_parts.specs.ArbiterRun.{ArbiterInputs, ArbiterRegisters, arbiter_registers, arbiter_grant, arbiter_upper, arbiter_lower, arbiter_step}
-use Rattle.mm_parts.specs.Host.{IsHostMachine, ReadsWords, is_shut}
+use Rattle.mm_parts.specs.Host.{IsHostMachine, is_shut}
 use Rattle.mm_parts.specs.HostRun.{HostInputs, HostRegisters, host_registers, host_state, host_view, host_lower, host_step}
 use Rattle.mm_parts.specs.Route.{IsRouteMachine, goes_to}
 use Rattle.mm_parts.specs.RouteRun.{RouteInputs, RouteRegisters, route_registers, route_state, route_upper, route_lower, route_step, asked_side}
@@ -23,7 +23,7 @@ use Rattle.mm_links.specs.Driven.{Inputs}
 use Rattle.mm_awake.specs.RowRun.{Cutter, Fitter, RowPlan, RowRegisters, Cutter.Uncut, Fitter.Unfitted, SuitsRow, SuitsDropper, row_registers, row_step, row_top, row_middle, row_low, row_bottom}
 use Rattle.mm_awake.specs.RowSystem.{AreRows, boundaries_of}
 use Rattle.mm_awake.specs.Rows.{IsWired, CutsBursts, FitsWords, DropsBeats, drops_some}
-use Rattle.mm_awake.specs.LinkSystem.{LinkPlan, SuitsLinks, Registers, row_of, agent_inner, linked_registers, to_host, to_route, to_row, to_arbiter, to_agent, after_host, before_arbiter, after_route, before_agent, linked_run, linked_ports, linked_states}
+use Rattle.mm_awake.specs.LinkSystem.{LinkPlan, SuitsLinks, AreFitHosts, Registers, row_of, agent_inner, linked_registers, to_host, to_route, to_row, to_arbiter, to_agent, after_host, before_arbiter, after_route, before_agent, linked_run, linked_ports, linked_states}
 use Rattle.mm_awake.specs.Theorem.{Boundaries, States, ArePlanned, AreMachines}
 use Rattle.mm_awake.specs.Wires.{IsWire, HandsAllOn}
 use Rattle.mm_awake.proofs.RowRuns.{Links, wire, cuts_run, fits_run, drops_run, drops_some_are}
@@ -47,7 +47,6 @@ pub record Laws : Type 0 where
   pub agent_side : (system : System) → IsMemoryPlan system → (a : ℕ) (shape : Shape) → a < system.agents → shape.word_bytes ≡ (system.agent a).word_bytes → shape.burst_bits ≡ (system.agent a).burst_bits → SuitsAgent (system.agent a) shape
   pub planned : (system : System) (inside : Boundaries) (states : States) → IsMemoryPlan system → ((h : ℕ) → h < system.hosts → (inside.after_host h).shape.word_bytes ≡ (system.host h).word_bytes) →
       ((h : ℕ) → h < system.hosts → 16 * longest_burst (inside.after_host h).shape.burst_bits < states.room h) → ArePlanned system inside states
-  pub reads_words : (system : System) (run : Run) (h end : ℕ) → AreViews system run end → h < system.hosts → ReadsWords (system.host h) (run.at_host h) end
 
 -- a row of wires shows what is shown to it, at one boundary
 wires_show : (cutter : Cutter) (fitter : Fitter) (drops : Bool) (rest : RowPlan) (inputs : Inputs) (registers : ℕ → RowRegisters) (c : ℕ) → cutter ≡ Uncut → fitter ≡ Unfitted → drops ≡ false →
@@ -190,16 +189,16 @@ module _ (laws : Laws) (responses : Responses) (plan : LinkPlan) (outside : Outs
         by_test false e = refl
         by_test true e = let low = is_plan.joined a h e in absurd (omega (arith, low, past))
 
-    pub machines : AreViews system run end → ((h c : ℕ) → system.hosts ≤ h → IsFalse (shows (outside.host h) c)) → AreMachines responses system run (boundaries_of (linked_ports responses plan outside all)) (linked_states responses plan outside all) end
-    machines views quiet = record {
-      one_word = λ h low. laws.reads_words system run h end views low;
+    pub machines : AreFitHosts system outside end → AreMachines responses system run (boundaries_of (linked_ports responses plan outside all)) (linked_states responses plan outside all) end
+    machines fit = record {
+      one_word = λ h low none c less reads. fit.one_word h c low less none reads;
       host = λ h low. host_machine h;
       route = λ h low. route_machine h _;
       arbiter = λ a there. arbiter_machine a;
       silent = λ a there h c past low.
           let wires = suits.apart h a (not_joined h a past) in
           wires_show (plan.cutter h a) (plan.fitter h a) (plan.drops h a) (row_of plan h a) (to_row responses plan outside all h a) (λ c. (all c).row h a) c wires.uncut wires.unfitted wires.undropped
-          (gate (goes_to system h (asked_side (to_route responses plan outside all h)) (route_state (λ c. (all c).route h)) a c) (is_shut (system.host h) (host_state (λ c. (all c).host h)) c) ((outside.host h).read c) ((outside.host h).write c) (quiet h c past));
+          (gate (goes_to system h (asked_side (to_route responses plan outside all h)) (route_state (λ c. (all c).route h)) a c) (is_shut (system.host h) (host_state (λ c. (all c).host h)) c) ((outside.host h).read c) ((outside.host h).write c) (fit.none_past h c past));
       stage = λ a i there low. let none = suits.stages in absurd (omega (arith, low, none));
       agent = λ a there. agent_machine a (laws.agent_side system is_plan a (agent_inner plan a) there refl refl);
     }
@@ -210,9 +209,9 @@ module _ (laws : Laws) (responses : Responses) (plan : LinkPlan) (outside : Outs
         subst (λ (r : ℕ → RowRegisters). (d : DropsBeats (target_of system a) (row_low (row_of plan h a) (to_row responses plan outside all h a) r) (row_bottom (row_of plan h a) (to_row responses plan outside all h a) r)) × (drops_some d ≡ plan.drops h a)) (fun_ext (same_row h a))
         (drops_run laws.links (to_row responses plan outside all h a) (plan.drops h a) (row_of plan h a) (target_of system a) row.dropper row.room, drops_some_are laws.links (to_row responses plan outside all h a) (plan.drops h a) (row_of plan h a) (target_of system a) row.dropper row.room)
 
-    pub are_rows : AreViews system run end → AreRows system run (linked_ports responses plan outside all) end
-    are_rows views = record {
-      views = views.hosts;
+    pub are_rows : AreFitHosts system outside end → AreRows system run (linked_ports responses plan outside all) end
+    are_rows fit = record {
+      views = fit.ports;
       cuts = λ h a low there joined. subst (λ (r : ℕ → RowRegisters). CutsBursts (row_top (row_of plan h a) (to_row responses plan outside all h a) r) (row_middle (row_of plan h a) (to_row responses plan outside all h a) r)) (fun_ext (same_row h a))
           (cuts_run laws.links (to_row responses plan outside all h a) (plan.cutter h a) (row_of plan h a) (suits.rows h a low there joined).cutter);
       fits = λ h a low there joined. subst (λ (r : ℕ → RowRegisters). FitsWords (target_of system a) (row_middle (row_of plan h a) (to_row responses plan outside all h a) r) (row_low (row_of plan h a) (to_row responses plan outside all h a) r)) (fun_ext (same_row h a))

@@ -1,9 +1,11 @@
 -- A system of machines with a row of links between each host's route and each agent's arbiter, without stages, run on whatever its hosts and agents give.
-use Rattle.std.specs.Prelude.{◌≡◌, ℕ, zero, suc, ◌+◌, ◌*◌, ◌<◌, Bool, true, false, not, ◌&&◌, ◌||◌, [], if◌then◌else◌, nat_lt, IsTrue, IsFalse}
+use Rattle.std.specs.Prelude.{◌≡◌, ℕ, zero, suc, ◌+◌, ◌*◌, ◌<◌, ◌≤◌, Bool, true, false, not, ◌&&◌, ◌||◌, [], if◌then◌else◌, nat_lt, IsTrue, IsFalse}
+use Rattle.histories.specs.History.{is_raised}
 use Rattle.mm_runs.specs.Views.{Shape, Responses, System, Run}
-use Rattle.mm_runs.specs.Commands.{longest_burst}
+use Rattle.mm_runs.specs.Commands.{longest_burst, shows}
 use Rattle.mm_runs.specs.Awake.{is_alike}
 use Rattle.mm_runs.specs.Order.{is_joined}
+use Rattle.mm_runs.specs.Plan.{FitsPorts}
 use Rattle.mm_machines.specs.Link.{Port}
 use Rattle.mm_machines.specs.Lines.{TaggedPort, target_of}
 use Rattle.mm_machines.specs.Machines.{Stage}
@@ -85,6 +87,12 @@ links_for system = record {
   drops = λ h a. is_joined system a h && ((system.host h).has_enables && not (system.agent a).has_enables);
   room = 2;
 }
+
+-- what is asked of what the hosts show, beside that it is legal: it fits their ports, whose absent byteenable reads as all ones and burstcount as 1; a host without readdatavalid reads one word at a time; and hosts past those of the plan show nothing
+pub record AreFitHosts (system : System) (outside : Outside) (end : ℕ) : Type 0 where
+  pub ports : (h : ℕ) → h < system.hosts → FitsPorts (system.host h).shape (system.host h).has_burst (outside.host h) end
+  pub one_word : (h c : ℕ) → h < system.hosts → c < end → IsFalse (system.host h).has_readdatavalid → IsTrue (is_raised ((outside.host h).read c)) → (outside.host h).count c ≡ 1
+  pub none_past : (h c : ℕ) → system.hosts ≤ h → IsFalse (shows (outside.host h) c)
 
 -- what all registers hold in one cycle
 pub record Registers : Type 0 where

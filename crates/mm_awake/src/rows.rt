@@ -2,7 +2,6 @@
 
 ghost use Rattle.std.specs.Prelude.{◌≡◌, ℕ, ◌<◌, ◌≤◌, ◌+◌, IsTrue, IsFalse};
 ghost use Rattle.mm_runs.specs.Views.{Responses, System, Run};
-ghost use Rattle.mm_runs.specs.Commands.{shows};
 ghost use Rattle.mm_runs.specs.Plan.{IsMemoryPlan, AreViews};
 ghost use Rattle.mm_runs.specs.Whole.{IsLegalRun, IsSafe};
 ghost use Rattle.mm_runs.specs.Awake.{NeverIdles, IsFair};
@@ -15,7 +14,7 @@ ghost use Rattle.mm_links.specs.Selects.{EnablesFit};
 ghost use Rattle.mm_awake.specs.Fair.{are_apart};
 ghost use Rattle.mm_awake.specs.Rows.{CutsBursts, FitsWords, DropsBeats};
 ghost use Rattle.mm_awake.specs.RowRun.{RowPlan, SuitsRow, row_registers, row_top, row_middle, row_low, row_bottom};
-ghost use Rattle.mm_awake.specs.LinkSystem.{LinkPlan, SuitsLinks, links_for, linked_registers, linked_run, linked_ports, linked_states};
+ghost use Rattle.mm_awake.specs.LinkSystem.{LinkPlan, SuitsLinks, AreFitHosts, links_for, linked_registers, linked_run, linked_ports, linked_states};
 ghost use Rattle.mm_awake.specs.PlainSystem.{AreQuietPast, wired_ports, wired_states};
 ghost use Rattle.mm_parts.specs.SystemRun.{PlainPlan, HaveOneShape, Outside, plain_system, registers_of, ports_run};
 ghost use Rattle.mm_awake.specs.RowSystem.{RowPorts, AreRows, IsFairRow, boundaries_of};
@@ -110,7 +109,7 @@ pub fn linked_systems_run()
         → let registers = linked_registers responses plan outside in
         let run = linked_run responses plan outside registers in
         let ports = linked_ports responses plan outside registers in
-        IsMemoryPlan plan.system → SuitsLinks plan → AreViews plan.system run end → ((h c : ℕ) → plan.system.hosts ≤ h → IsFalse (shows (outside.host h) c))
+        IsMemoryPlan plan.system → SuitsLinks plan → AreFitHosts plan.system outside end
         → ArePlanned plan.system (boundaries_of ports) (linked_states responses plan outside registers)
         × AreMachines responses plan.system run (boundaries_of ports) (linked_states responses plan outside registers) end
         × AreRows plan.system run ports end }
@@ -132,11 +131,11 @@ pub fn linked_systems_run()
 pub fn linked_systems_are_awake()
     ensures safe { (responses : Responses) (plan : LinkPlan) (outside : Outside) (end : ℕ)
         → let run = linked_run responses plan outside (linked_registers responses plan outside) in
-        IsMemoryPlan plan.system → SuitsLinks plan → AreViews plan.system run end → ((h c : ℕ) → plan.system.hosts ≤ h → IsFalse (shows (outside.host h) c)) → IsLegalRun plan.system run end
+        IsMemoryPlan plan.system → SuitsLinks plan → AreFitHosts plan.system outside end → IsLegalRun plan.system run end
         → IsSafe responses plan.system run end }
     ensures awake { (responses : Responses) (plan : LinkPlan) (outside : Outside) (end : ℕ)
         → let run = linked_run responses plan outside (linked_registers responses plan outside) in
-        IsMemoryPlan plan.system → SuitsLinks plan → AreViews plan.system run (end + 2) → ((h c : ℕ) → plan.system.hosts ≤ h → IsFalse (shows (outside.host h) c)) → IsLegalRun plan.system run (end + 2)
+        IsMemoryPlan plan.system → SuitsLinks plan → AreFitHosts plan.system outside (end + 2) → IsLegalRun plan.system run (end + 2)
         → NeverIdles plan.system run end }
 {
     linked_systems_run();
@@ -147,7 +146,7 @@ pub fn linked_systems_are_awake()
 pub fn linked_systems_are_fair()
     ensures { (responses : Responses) (plan : LinkPlan) (outside : Outside) (end : ℕ)
         → let run = linked_run responses plan outside (linked_registers responses plan outside) in
-        IsMemoryPlan plan.system → SuitsLinks plan → AreViews plan.system run end → ((h c : ℕ) → plan.system.hosts ≤ h → IsFalse (shows (outside.host h) c)) → IsLegalRun plan.system run end
+        IsMemoryPlan plan.system → SuitsLinks plan → AreFitHosts plan.system outside end → IsLegalRun plan.system run end
         → ((agent : ℕ) → agent < plan.system.agents → IsTrue (are_apart (plan.system.joined agent)))
         → ((h a : ℕ) → a < plan.system.agents → IsTrue (is_joined plan.system a h) → IsFalse (plan.system.host h).has_enables → IsTrue (plan.system.host h).has_burst → IsFalse (plan.drops h a))
         → IsFair plan.system run end }
@@ -165,15 +164,15 @@ pub fn plans_have_links()
 pub fn plans_are_served()
     ensures safe { (responses : Responses) (system : System) (outside : Outside) (end : ℕ)
         → let run = linked_run responses (links_for system) outside (linked_registers responses (links_for system) outside) in
-        IsMemoryPlan system → system.stages ≡ 0 → AreViews system run end → ((h c : ℕ) → system.hosts ≤ h → IsFalse (shows (outside.host h) c)) → IsLegalRun system run end
+        IsMemoryPlan system → system.stages ≡ 0 → AreFitHosts system outside end → IsLegalRun system run end
         → IsSafe responses system run end }
     ensures awake { (responses : Responses) (system : System) (outside : Outside) (end : ℕ)
         → let run = linked_run responses (links_for system) outside (linked_registers responses (links_for system) outside) in
-        IsMemoryPlan system → system.stages ≡ 0 → AreViews system run (end + 2) → ((h c : ℕ) → system.hosts ≤ h → IsFalse (shows (outside.host h) c)) → IsLegalRun system run (end + 2)
+        IsMemoryPlan system → system.stages ≡ 0 → AreFitHosts system outside (end + 2) → IsLegalRun system run (end + 2)
         → NeverIdles system run end }
     ensures fair { (responses : Responses) (system : System) (outside : Outside) (end : ℕ)
         → let run = linked_run responses (links_for system) outside (linked_registers responses (links_for system) outside) in
-        IsMemoryPlan system → system.stages ≡ 0 → AreViews system run end → ((h c : ℕ) → system.hosts ≤ h → IsFalse (shows (outside.host h) c)) → IsLegalRun system run end
+        IsMemoryPlan system → system.stages ≡ 0 → AreFitHosts system outside end → IsLegalRun system run end
         → ((agent : ℕ) → agent < system.agents → IsTrue (are_apart (system.joined agent)))
         → IsFair system run end }
 {

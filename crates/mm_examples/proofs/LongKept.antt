@@ -4,17 +4,17 @@ use Rattle.mm_runs.specs.Views.{Signals}
 use Rattle.mm_runs.specs.Awake.{is_alike}
 use Rattle.mm_runs.specs.Order.{is_joined}
 use Rattle.mm_runs.specs.Commands.{shows}
-use Rattle.mm_runs.specs.Plan.{IsMemoryPlan, AreViews, IsShape, IsPowerOfTwo}
+use Rattle.mm_runs.specs.Plan.{IsMemoryPlan, IsShape, IsPowerOfTwo}
 use Rattle.mm_runs.specs.Whole.{IsLegalRun}
 use Rattle.mm_machines.specs.Lines.{target_of}
 use Rattle.mm_awake.specs.RowRun.{SuitsRow, Cutter.Uncut, Cutter.ByBeats, Fitter.Unfitted, Fitter.Selects, Fitter.Splits}
 use Rattle.mm_awake.specs.RowSystem.{IsFairRow}
-use Rattle.mm_awake.specs.LinkSystem.{SuitsLinks, IsWireRow, row_of}
+use Rattle.mm_awake.specs.LinkSystem.{SuitsLinks, AreFitHosts, IsWireRow, row_of}
 use Rattle.mm_examples.specs.Examples.{quiet}
 use Rattle.mm_examples.specs.TwoByTwo.{first_or}
 use Rattle.mm_examples.specs.LongRows.{long_plan, long_run, long_ports, long_outside, first_host, second_host}
 use Rattle.mm_examples.proofs.TwoByTwo.{two, pairs, joined_below, past_joined, none_past, is_memory_plan}
-use Rattle.mm_examples.proofs.Tables.{legal_run, are_views, never}
+use Rattle.mm_examples.proofs.Tables.{legal_run, host_views, never}
 
 pub is_plan : IsMemoryPlan long_plan.system
 is_plan = is_memory_plan long_plan.system.host (first_or 8 2) (first_or true false) 0
@@ -75,23 +75,15 @@ suits = record {
   };
 }
 
-pub quiet_past : (h c : ℕ) → 2 ≤ h → IsFalse (shows (long_outside.host h) c)
+quiet_past : (h c : ℕ) → 2 ≤ h → IsFalse (shows (long_outside.host h) c)
 quiet_past h c past = subst (λ (signals : Signals). IsFalse (shows signals c)) (sym (none_past first_host second_host quiet h past)) refl
 
-pub views : AreViews long_plan.system long_run 15
-views = are_views long_plan.system long_run 15 (record {
-  shown = record { enables = record { holds = refl }; all_lanes = record { holds = refl }; word = record { holds = refl }; one_beat = record { holds = refl } };
-  has = record { holds = refl };
-  response = record { holds = refl };
-  agent_enables = record { holds = refl };
-  agent_lanes = record { holds = refl };
-  agent_word = record { holds = refl };
-  agent_beat = record { holds = refl };
-  has_read = record { holds = refl };
-  has_write = record { holds = refl };
-  has_wait = record { holds = refl };
-  code = record { holds = refl };
-})
+pub fit : AreFitHosts long_plan.system long_outside 15
+fit = record {
+  ports = host_views long_plan.system long_run 15 (record { enables = record { holds = refl }; all_lanes = record { holds = refl }; word = record { holds = refl }; one_beat = record { holds = refl } });
+  one_word = λ h c is low none reads. absurd (never true refl none);
+  none_past = quiet_past;
+}
 
 -- both hosts have byte enables
 pub fair_row : (agent host : ℕ) → agent < 2 → IsTrue (is_joined long_plan.system agent host) → IsFairRow long_plan.system long_ports agent host

@@ -10,5 +10,5 @@ returns-clause-awake c = λ responses system outside end is_plan none. c.linked_
 
 -- beats are dropped below hosts with byte enables alone
 pub returns-clause-fair : goal.returns-clause-fair
-returns-clause-fair c = λ responses system outside end is_plan none views quiet legal apart.
-    c.linked_systems_are_fair.ensures responses (links_for system) outside end is_plan (c.plans_have_links.ensures system is_plan none) views quiet legal apart (λ h a there joined lacks bursts. rw (joined, lacks) refl)
+returns-clause-fair c = λ responses system outside end is_plan none fit legal apart.
+    c.linked_systems_are_fair.ensures responses (links_for system) outside end is_plan (c.plans_have_links.ensures system is_plan none) fit legal apart (λ h a there joined lacks bursts. rw (joined, lacks) refl)
