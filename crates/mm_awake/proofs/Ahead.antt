@@ -18,10 +18,10 @@ use Rattle.mm_awake.specs.Front.{KeepsWhole}
 use Rattle.mm_awake.specs.Ahead.{LeadsAhead, CanTakeMore}
 use Rattle.mm_awake.specs.Wires.{IsWire}
 use Rattle.mm_links.specs.Soon.{ShowsSoon}
-use Rattle.mm_awake.proofs.Widened.{wire_stays, wire_taken, wire_operations}
 use Rattle.mm_awake.proofs.Arbiter.{TurnLaws, Idles, Idles.beat_stands, Idles.rests, Idles.nothing, idles}
 use Rattle.mm_awake.proofs.Wanted.{some_or_none, own_taken, tagged_of_host, two_of}
 use Rattle.mm_awake.proofs.Bits.{none_taken, takes_shows, not_shown, shown_again, holds, no_true}
+use Rattle.mm_awake.proofs.Widened.{wire_stays, wire_taken, wire_operations}
 
 pub each_of : (test : ℕ → Bool) (xs : List ℕ) (h : ℕ) → IsTrue (list_all test xs) → IsTrue (list_any (nat_eq h) xs) → IsTrue (test h)
 each_of test [] h all any = absurd (no_true any)

@@ -17,8 +17,8 @@ use Rattle.mm_awake.proofs.Enables.{enables_below}
 use Rattle.mm_awake.proofs.LinksPass.{on_while_still}
 use Rattle.mm_awake.proofs.Passing.{wire_passes}
 use Rattle.mm_awake.proofs.RowLine.{LinkLaws, carries_of}
-use Rattle.mm_awake.proofs.Widened.{wire_link, wire_stays, goes_behind_wire}
 use Rattle.mm_awake.proofs.RowOfThree.{Carries, settled}
+use Rattle.mm_awake.proofs.Widened.{wire_link, wire_stays, goes_behind_wire}
 
 -- a rank that is at most so large
 pub record Goes (largest : ℕ) (target : Target) (up down : Port) (end : ℕ) : Type 0 where

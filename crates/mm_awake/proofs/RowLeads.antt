@@ -16,9 +16,9 @@ use Rattle.mm_links.specs.Selects.{RunsAsSelect, IsSelectPlan, EnablesFit}
 use Rattle.mm_links.specs.Splits.{SplitState, RunsAsSplit, split_form}
 use Rattle.mm_awake.specs.Rows.{IsWired, CutsBursts, CutsBursts.cutter, CutsBursts.shorter, CutsBursts.no_cutter, FitsWords, FitsWords.selector, FitsWords.splitter, FitsWords.no_width, DropsBeats, DropsBeats.dropper, DropsBeats.no_dropper}
 use Rattle.mm_awake.proofs.Enables.{enables_below}
-use Rattle.mm_awake.proofs.Widened.{wire_link, wire_chain, owed_above_wire, straight_behind_wire, steps_behind_wire, begins_behind_wire, begins_before_wire}
 use Rattle.mm_awake.proofs.RowOfThree.{Carries, IsSettled, settled}
 use Rattle.mm_awake.proofs.RowLine.{RowLaws, cut_linked, fit_linked, drop_linked, linked_carries, cut_words, drop_words, same_below}
+use Rattle.mm_awake.proofs.Widened.{wire_link, wire_chain, owed_above_wire, straight_behind_wire, steps_behind_wire, begins_behind_wire, begins_before_wire}
 
 -- the laws of single links
 pub record LeadLaws : Type 0 where

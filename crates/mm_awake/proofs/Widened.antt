@@ -3,16 +3,17 @@ use Rattle.std.proofs.Common.{ℕ, zero, suc, ◌<◌, ◌≤◌, ◌≡◌, ◌
 use Rattle.std.proofs.Math.Nat.{pow-le-pow_right}
 use Rattle.std.proofs.Math.Path.{fun_ext}
 use Rattle.histories.specs.History.{IsPrefix}
-use Rattle.mm_runs.specs.Views.{Shape, Signals, levels_at}
+use Rattle.mm_runs.specs.Views.{Shape, Signals, System, Run, levels_at}
 use Rattle.mm_runs.specs.Commands.{burst_before, burst_after}
 use Rattle.mm_machines.specs.Link.{Target, Port, Marked, AreLegalAt, AnswersAreOwed, CarriesCommands, takes, shown_at, taken_at, items_from, items_of, acted_after, items, operations_among, closes}
-use Rattle.mm_machines.specs.Lines.{IsCarrier, KeepsRow, IsWordForWord}
+use Rattle.mm_machines.specs.Lines.{IsCarrier, KeepsRow, IsWordForWord, target_of}
 use Rattle.mm_machines.specs.PartRanks.{JoinsAlike, HoldsBack, are_joined_alike, goes_on_alike}
-use Rattle.mm_machines.specs.Straight.{GoesStraightThrough}
+use Rattle.mm_machines.specs.Straight.{GoesStraightThrough, IsShownPromptly}
 use Rattle.mm_links.specs.Begins.{BeginsBelow}
 use Rattle.mm_links.specs.Going.{KeepsGoing, RowGoesOn, RowGoesOn.at_end, RowGoesOn.further}
 use Rattle.mm_links.specs.InStep.{GoesInStep}
 use Rattle.mm_links.specs.Links.{IsLink, HandsOnJoins, BringsLanesDown, OwesNothingBelow, pass_form}
+use Rattle.mm_awake.specs.Fair.{EndsThere, ShowsOperation, WaitsThere}
 use Rattle.mm_awake.specs.Wires.{IsWire, shape_with, with_bursts}
 
 burst_same : (bits : ℕ) (shape : Shape) (signals : Signals) (accepts : ℕ → Bool) (c : ℕ) → burst_before (shape_with bits shape) signals accepts c ≡ burst_before shape signals accepts c
@@ -131,6 +132,12 @@ module _ (bits : ℕ) (port : Port) where
         kept = λ c h same plain taken. rw bursts (straight.kept c h same plain taken);
       }
 
+      prompt_wide : (few : ℕ) (may_burst : Bool) → IsShownPromptly few may_burst target up port end → IsShownPromptly few may_burst target up wide end
+      prompt_wide few may_burst prompt = record {
+        shown = λ c number m h got waits taken. rw bursts (prompt.shown c number m h got waits (rw bursts at taken));
+        empty = λ c d later h ends none empty. prompt.empty c d later h ends none (rw bursts at empty);
+      }
+
       steps_wide : (ahead : Bool) → GoesInStep ahead target up port end → GoesInStep ahead target up wide end
       steps_wide ahead steps = record {
         accepts = λ c h. rw bursts (steps.accepts c h);
@@ -189,6 +196,20 @@ module _ (up down : Port) (wire : IsWire up down) where
   pub wire_operations : (target : Target) (c : ℕ) → length (operations_among target down.shape (taken_at down c)) ≡ length (operations_among target up.shape (taken_at up c))
   wire_operations target c = subst (λ p. length (operations_among target p.shape (taken_at p c)) ≡ length (operations_among target up.shape (taken_at up c))) wire.same (ap (λ l. length (operations_among target up.shape l)) (taken_same bits_below up c))
 
+  pub ends_behind_wire : (target : Target) (c : ℕ) → EndsThere target up c → EndsThere target down c
+  ends_behind_wire target c there = subst (λ p. EndsThere target p c) wire.same (record { shown = there.shown; ends = rw (bursts bits_below up) there.ends; acts = rw (bursts bits_below up) there.acts })
+
+  pub shown_behind_wire : (target : Target) (c : ℕ) → ShowsOperation target up c → ShowsOperation target down c
+  shown_behind_wire target c there = subst (λ p. ShowsOperation target p c) wire.same (there.0, rw (bursts bits_below up) there.1)
+
+  pub waits_above_wire : (system : System) (run : Run) (agent host number c : ℕ) → WaitsThere system run agent down host number c → WaitsThere system run agent up host number c
+  waits_above_wire system run agent host number c waits = record {
+    presented = waits.presented;
+    counted = waits.counted;
+    earlier = waits.earlier;
+    untaken = (let same = wire_operations (target_of system agent) c in let few = waits.untaken in omega (arith, same, few));
+  }
+
   pub owed_above_wire : (end : ℕ) → AnswersAreOwed down end → AnswersAreOwed up end
   owed_above_wire end owed = owed_narrow bits_below up end (subst (λ p. AnswersAreOwed p end) (sym wire.same) owed)
 
@@ -198,6 +219,9 @@ module _ (up down : Port) (wire : IsWire up down) where
 
     pub straight_behind_wire : (top : Port) (ahead : ℕ → Bool) → GoesStraightThrough ahead target top up end → GoesStraightThrough ahead target top down end
     straight_behind_wire top ahead straight = subst (λ p. GoesStraightThrough ahead target top p end) wire.same (straight_wide bits_below up wire.longer target top end ahead straight)
+
+    pub prompt_behind_wire : (top : Port) (few : ℕ) (may_burst : Bool) → IsShownPromptly few may_burst target top up end → IsShownPromptly few may_burst target top down end
+    prompt_behind_wire top few may_burst prompt = subst (λ p. IsShownPromptly few may_burst target top p end) wire.same (prompt_wide bits_below up wire.longer target top end few may_burst prompt)
 
     pub steps_behind_wire : (top : Port) (ahead : Bool) → GoesInStep ahead target top up end → GoesInStep ahead target top down end
     steps_behind_wire top ahead steps = subst (λ p. GoesInStep ahead target top p end) wire.same (steps_wide bits_below up wire.longer target top end ahead steps)

@@ -13,8 +13,8 @@ use Rattle.mm_links.specs.Drops.{IsDropPlan}
 use Rattle.mm_links.specs.Selects.{IsSelectPlan, selected, silenced, first_of}
 use Rattle.mm_links.specs.Splits.{nothing}
 use Rattle.mm_links.specs.Driven.{Inputs, SelectInputs, SplitInputs, BurstInputs, CutInputs, DropInputs, SplitRegisters, BurstRegisters, DropRegisters}
-use Rattle.mm_awake.specs.Wires.{shape_with}
 use Rattle.mm_links.specs.Driven.{signals_of, silent_raw, shuts, select_waits, select_step, split_part, split_waits, split_valid, split_added, split_step, burst_part, burst_waits, burst_step, cut_part, cut_step, drop_part, drop_waits, drop_step}
+use Rattle.mm_awake.specs.Wires.{shape_with}
 
 pub data Cutter : Type 0 where
   Uncut : Cutter
