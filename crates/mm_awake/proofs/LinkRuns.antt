@@ -1,5 +1,6 @@
 -- A system of machines with rows of links is one of machines and rows.
-use Rattle.std.proofs.Common.{◌≡◌, ℕ, zero, suc, ◌*◌, ◌<◌, ◌≤◌, Bool, true, false, List, ◌||◌, if◌then◌else◌, IsTrue, IsFalse, arith, refl, sym, ap, subst, ◌∙◌}
+use Rattle.std.proofs.Common.{◌≡◌, ℕ, zero, suc, ◌*◌, ◌<◌, Bool, true, false, List, ◌||◌, if◌then◌else◌, IsTrue, IsFalse, arith, refl, sym, ap, subst, ◌∙◌}
+use Rattle.std.proofs.lemmas.Bool.{both_ways}
 use Rattle.std.proofs.Math.Path.{fun_ext}
 use Rattle.histories.specs.History.{is_raised}
 use Rattle.ranks.specs.Turns.{Seat}
@@ -88,6 +89,14 @@ pub undropped : (drops : Bool) (rest : RowPlan) (inputs : Inputs) (registers : �
 undropped drops rest inputs registers target e =
     subst (λ d. SuitsDropper d target rest.low rest.bottom → IsWired (row_low (record rest { drops = d }) inputs registers) (row_bottom (record rest { drops = d }) inputs registers)) (sym e)
     (λ suits. wire (row_bottom (record rest { drops = false }) inputs registers) rest.low rest.bottom suits)
+
+-- links stand between a host and an agent that are joined
+pub links_at_joined : {plan : LinkPlan} (suits : SuitsLinks plan) (h a : ℕ) → h < plan.system.hosts → a < plan.system.agents → IsTrue (is_joined plan.system a h) → IsFalse (suits.idle h a)
+links_at_joined {plan} suits h a low there joined = by_test (suits.idle h a) refl
+  where
+    by_test : (b : Bool) → suits.idle h a ≡ b → IsFalse b
+    by_test false e = refl
+    by_test true e = absurd (both_ways (is_joined plan.system a h) (suits.apart h a low there e).0 joined)
 
 or_false : (a b : Bool) → IsFalse (a || b) → IsFalse b
 or_false false b e = e
@@ -182,13 +191,6 @@ module _ (laws : Laws) (responses : Responses) (plan : LinkPlan) (outside : Outs
     pub planned : ArePlanned system (boundaries_of (linked_ports responses plan outside all)) (linked_states responses plan outside all)
     planned = laws.planned system (boundaries_of (linked_ports responses plan outside all)) (linked_states responses plan outside all) is_plan (λ h low. refl) (λ h low. omega arith)
 
-    not_joined : (h a : ℕ) → system.hosts ≤ h → IsFalse (is_joined system a h)
-    not_joined h a past = by_test (is_joined system a h) refl
-      where
-        by_test : (b : Bool) → is_joined system a h ≡ b → IsFalse b
-        by_test false e = refl
-        by_test true e = let low = is_plan.joined a h e in absurd (omega (arith, low, past))
-
     pub machines : AreFitHosts system outside end → AreMachines responses system run (boundaries_of (linked_ports responses plan outside all)) (linked_states responses plan outside all) end
     machines fit = record {
       one_word = λ h low none c less reads. fit.one_word h c low less none reads;
@@ -196,14 +198,14 @@ module _ (laws : Laws) (responses : Responses) (plan : LinkPlan) (outside : Outs
       route = λ h low. route_machine h _;
       arbiter = λ a there. arbiter_machine a;
       silent = λ a there h c past low.
-          let wires = suits.apart h a (not_joined h a past) in
+          let wires = suits.past h a past in
           wires_show (plan.cutter h a) (plan.fitter h a) (plan.drops h a) (row_of plan h a) (to_row responses plan outside all h a) (λ c. (all c).row h a) c wires.uncut wires.unfitted wires.undropped
           (gate (goes_to system h (asked_side (to_route responses plan outside all h)) (route_state (λ c. (all c).route h)) a c) (is_shut (system.host h) (host_state (λ c. (all c).host h)) c) ((outside.host h).read c) ((outside.host h).write c) (fit.none_past h c past));
       stage = λ a i there low. let none = suits.stages in absurd (omega (arith, low, none));
       agent = λ a there. agent_machine a (laws.agent_side system is_plan a (agent_inner plan a) there refl refl);
     }
 
-    dropped : (h a : ℕ) → h < system.hosts → a < system.agents → IsTrue (is_joined system a h) → (d : DropsBeats (target_of system a) (row_low (row_of plan h a) (to_row responses plan outside all h a) (λ c. (all c).row h a)) (row_bottom (row_of plan h a) (to_row responses plan outside all h a) (λ c. (all c).row h a))) × (drops_some d ≡ plan.drops h a)
+    dropped : (h a : ℕ) → h < system.hosts → a < system.agents → IsFalse (suits.idle h a) → (d : DropsBeats (target_of system a) (row_low (row_of plan h a) (to_row responses plan outside all h a) (λ c. (all c).row h a)) (row_bottom (row_of plan h a) (to_row responses plan outside all h a) (λ c. (all c).row h a))) × (drops_some d ≡ plan.drops h a)
     dropped h a low there joined =
         let row = suits.rows h a low there joined in
         subst (λ (r : ℕ → RowRegisters). (d : DropsBeats (target_of system a) (row_low (row_of plan h a) (to_row responses plan outside all h a) r) (row_bottom (row_of plan h a) (to_row responses plan outside all h a) r)) × (drops_some d ≡ plan.drops h a)) (fun_ext (same_row h a))
@@ -211,6 +213,7 @@ module _ (laws : Laws) (responses : Responses) (plan : LinkPlan) (outside : Outs
 
     pub are_rows : AreFitHosts system outside end → AreRows system run (linked_ports responses plan outside all) end
     are_rows fit = record {
+      idle = suits.idle;
       views = fit.ports;
       cuts = λ h a low there joined. subst (λ (r : ℕ → RowRegisters). CutsBursts (row_top (row_of plan h a) (to_row responses plan outside all h a) r) (row_middle (row_of plan h a) (to_row responses plan outside all h a) r)) (fun_ext (same_row h a))
           (cuts_run laws.links (to_row responses plan outside all h a) (plan.cutter h a) (row_of plan h a) (suits.rows h a low there joined).cutter);
@@ -220,9 +223,10 @@ module _ (laws : Laws) (responses : Responses) (plan : LinkPlan) (outside : Outs
       lanes = λ h a low there joined none. suits.lanes h a low there joined (sym (dropped h a low there joined).1 ∙ none);
       wired = λ h a low there joined has alike.
           let wires = suits.wired h a low there joined has alike in
-          wires_are_one (plan.cutter h a) (plan.fitter h a) (plan.drops h a) (row_of plan h a) (to_row responses plan outside all h a) (λ c. (all c).row h a) (target_of system a) wires.uncut wires.unfitted wires.undropped (suits.rows h a low there joined);
-      apart = λ h a low there none.
-          let wires = suits.apart h a none in
+          wires_are_one (plan.cutter h a) (plan.fitter h a) (plan.drops h a) (row_of plan h a) (to_row responses plan outside all h a) (λ c. (all c).row h a) (target_of system a) wires.uncut wires.unfitted wires.undropped (suits.rows h a low there (links_at_joined suits h a low there joined));
+      apart = λ h a low there idle.
+          let apart = suits.apart h a low there idle in
+          let wires = apart.1 in
           let on = wires_hand_on (plan.cutter h a) (plan.fitter h a) (plan.drops h a) (row_of plan h a) (to_row responses plan outside all h a) (λ c. (all c).row h a) wires.uncut wires.unfitted wires.undropped in
-          record { high = on.0; mid = on.1; low = on.2 };
+          (apart.0, record { high = on.0; mid = on.1; low = on.2 });
     }

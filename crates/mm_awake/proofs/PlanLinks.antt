@@ -10,7 +10,7 @@ use Rattle.mm_runs.specs.Plan.{IsMemoryPlan, IsPowerOfTwo}
 use Rattle.mm_machines.specs.Link.{Target}
 use Rattle.mm_machines.specs.Lines.{target_of}
 use Rattle.mm_awake.specs.RowRun.{Cutter, Fitter, Cutter.Uncut, Cutter.ByBeats, Fitter.Unfitted, Fitter.Selects, Fitter.Splits, RowPlan, SuitsRow, SuitsDropper, SuitsFitter, by_cutter, by_fitter}
-use Rattle.mm_awake.specs.LinkSystem.{LinkPlan, SuitsLinks, links_for, fitter_for, row_of, inner_shape}
+use Rattle.mm_awake.specs.LinkSystem.{LinkPlan, SuitsLinks, IsWireRow, links_for, fitter_for, row_of, inner_shape}
 
 bits_below : (small large : ℕ) → 2 ^ small ≤ 2 ^ large → small ≤ large
 bits_below small large low = by_test (nat_lt large small) refl
@@ -34,6 +34,14 @@ more_than_once (suc (suc times)) small large less whole = omega arith
 
 some_bytes : (size : ℕ) → IsPowerOfTwo size → 0 < size
 some_bytes size power = subst (λ n. 0 < n) (sym power.1) (pow_pos power.0)
+
+when_not : (b : Bool) → IsFalse (not b) → IsTrue b
+when_not true no_more = refl
+when_not false no_more = cc
+
+unless : (b : Bool) → IsTrue (not b) → IsFalse b
+unless false is = refl
+unless true is = cc
 
 none_dropped : (host agent : Bool) → IsTrue (not host || agent) → (host && not agent) ≡ false
 none_dropped false agent may = refl
@@ -185,10 +193,21 @@ module _ (system : System) (is_plan : IsMemoryPlan system) where
             let found = by_words (nat_lt agent.word_bytes host.word_bytes) (nat_lt host.word_bytes agent.word_bytes) refl refl in
             place_in ByBeats found.0 (host.has_enables && not agent.has_enables) (cut_other e) (fitter_is ∙ found.1) drops_are (cut_row found.0 found.1 found.2 found.3)
 
+  idle_row : (h a : ℕ) → IsFalse (is_joined system a h) → IsWireRow (row_of links h a)
+  idle_row h a none = record { uncut = rw none refl; unfitted = rw none refl; undropped = rw none refl }
+
+  past_is_apart : (h a : ℕ) → system.hosts ≤ h → IsFalse (is_joined system a h)
+  past_is_apart h a past = by_test (is_joined system a h) refl
+    where
+      by_test : (b : Bool) → is_joined system a h ≡ b → IsFalse b
+      by_test false e = refl
+      by_test true e = let low = is_plan.joined a h e in absurd (omega (arith, low, past))
+
   pub links_suit_plan : system.stages ≡ 0 → SuitsLinks links
   links_suit_plan stages = record {
+    idle = λ h a. not (is_joined system a h);
     stages = stages;
-    rows = row_suits;
+    rows = λ h a low there links. row_suits h a low there (when_not (is_joined system a h) links);
     wired = λ h a low there joined has alike.
         let parts = alike_parts (system.host h) (system.agent a) alike in
         record {
@@ -196,8 +215,9 @@ module _ (system : System) (is_plan : IsMemoryPlan system) where
           unfitted = fitter_is h a low there joined ∙ unfitted_at h a low there joined parts.words;
           undropped = drops_are h a low there joined ∙ none_dropped (system.host h).has_enables (system.agent a).has_enables parts.enables;
         };
-    lanes = λ h a low there joined none. lanes_stay (system.host h).has_enables (system.agent a).has_enables (sym (drops_are h a low there joined) ∙ none);
-    apart = λ h a none. record { uncut = rw none refl; unfitted = rw none refl; undropped = rw none refl };
+    lanes = λ h a low there links none. lanes_stay (system.host h).has_enables (system.agent a).has_enables (sym (drops_are h a low there (when_not (is_joined system a h) links)) ∙ none);
+    apart = λ h a low there idle. let none = unless (is_joined system a h) idle in (none, idle_row h a none);
+    past = λ h a past. idle_row h a (past_is_apart h a past);
   }
 
 pub links_suit : (system : System) → IsMemoryPlan system → system.stages ≡ 0 → SuitsLinks (links_for system)

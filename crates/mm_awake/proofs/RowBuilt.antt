@@ -29,6 +29,14 @@ use Rattle.mm_awake.proofs.SilentRoute.{single_behind}
 use Rattle.mm_awake.proofs.SilentRow.{IsQuiet, silent_keeps, silent_lanes, silent_is_modest}
 use Rattle.mm_awake.proofs.StageLine.{PipeLaws, hold_of, hold_is, pipe_line}
 
+-- links stand between a host and an agent that are joined
+pub links_there : {system : System} {run : Run} {ports : RowPorts} {end : ℕ} (rows : AreRows system run ports end) (h a : ℕ) → h < system.hosts → a < system.agents → IsTrue (is_joined system a h) → IsFalse (rows.idle h a)
+links_there {system} {run} {ports} {end} rows h a low there joined = by_test (rows.idle h a) refl
+  where
+    by_test : (b : Bool) → rows.idle h a ≡ b → IsFalse b
+    by_test false e = refl
+    by_test true e = absurd (both_ways (is_joined system a h) (rows.apart h a low there e).0 joined)
+
 pub record Laws : Type 0 where
   pub lines : (responses : Responses) (system : System) (run : Run) (inside : Boundaries) (states : States) (end : ℕ) → ArePlanned system inside states → AreMachines responses system run inside states end → KeepLines responses system run inside states end
   pub settle : (responses : Responses) (system : System) (run : Run) (inside : Inside) (holds : Holds) (end : ℕ) (wired : Wired responses system run inside holds end) → IsLegalRun system run end → IsSettled system run inside wired.room end
@@ -96,7 +104,7 @@ module _ (laws : Laws) (responses : Responses) (system : System) (run : Run) (po
   top_words : (h a : ℕ) → h < system.hosts → a < system.agents → (ports.after_route h a).shape.word_bytes ≡ (system.host h).word_bytes
   top_words h a low there = ap (λ s. s.word_bytes) ((machines.route h low).shapes a there) ∙ (plan.places h low).words
 
-  host_word : (h a : ℕ) → h < system.hosts → a < system.agents → IsTrue (is_joined system a h) → 0 < (system.host h).word_bytes
+  host_word : (h a : ℕ) → h < system.hosts → a < system.agents → IsFalse (rows.idle h a) → 0 < (system.host h).word_bytes
   host_word h a low there joined = let same = top_words h a low there in let some = (cut_words (rows.cuts h a low there joined)).some in omega (arith, same, some)
 
   views_before : (c : ℕ) → c ≤ end → (h : ℕ) → h < system.hosts → FitsPorts (system.host h).shape (system.host h).has_burst (run.at_host h).signals c
@@ -129,12 +137,12 @@ module _ (laws : Laws) (responses : Responses) (system : System) (run : Run) (po
   abbrev Alike : ℕ → Type 0
   Alike c = (h a : ℕ) → h < system.hosts → a < system.agents → IsAlike h a c
 
-  by_joined : (h a : ℕ) {R : Type 0} → (IsTrue (is_joined system a h) → R) → (IsFalse (is_joined system a h) → R) → R
-  by_joined h a {R} there other = by_test (is_joined system a h) refl
+  by_idle : (h a : ℕ) {R : Type 0} → (IsFalse (rows.idle h a) → R) → (IsTrue (rows.idle h a) → R) → R
+  by_idle h a {R} links wires = by_test (rows.idle h a) refl
     where
-      by_test : (b : Bool) → is_joined system a h ≡ b → R
-      by_test true e = there e
-      by_test false e = other e
+      by_test : (b : Bool) → rows.idle h a ≡ b → R
+      by_test true e = wires e
+      by_test false e = links e
 
   quiet_top : (h a c : ℕ) → IsAlike h a c → IsFalse (is_joined system a h) → IsQuiet (ports.after_route h a) c
   quiet_top h a c is none k less = by_shown (shows (ports.after_route h a).commands.signals k) refl
@@ -144,17 +152,19 @@ module _ (laws : Laws) (responses : Responses) (system : System) (run : Run) (po
       by_shown true e = absurd (both_ways (is_joined system a h) none (is.joined k less e))
 
   row_line : (c : ℕ) → c ≤ end → Alike c → (h a : ℕ) → h < system.hosts → a < system.agents → KeepsRow (target_of system a) 2 (ports.after_route h a) (ports.before_arbiter h a) c
-  row_line c fit alike h a low there = by_joined h a
+  row_line c fit alike h a low there = by_idle h a
       (λ joined. laws.row (target_of system a) (ports.after_route h a) (ports.below_cutter h a) (ports.above_dropper h a) (ports.before_arbiter h a) c (rows.cuts h a low there joined) (rows.fits h a low there joined) (rows.drops h a low there joined) (enables_before c fit h a low there) (alike h a low there).alike)
-      (λ none. let idle = rows.apart h a low there none in
-      silent_keeps (target_of system a) (ports.after_route h a) (ports.below_cutter h a) (ports.above_dropper h a) (ports.before_arbiter h a) c idle.high idle.mid idle.low (quiet_top h a c (alike h a low there) none))
+      (λ wires. let apart = rows.apart h a low there wires in
+      let idle = apart.1 in
+      silent_keeps (target_of system a) (ports.after_route h a) (ports.below_cutter h a) (ports.above_dropper h a) (ports.before_arbiter h a) c idle.high idle.mid idle.low (quiet_top h a c (alike h a low there) apart.0))
 
   row_lanes : (c : ℕ) → c ≤ end → Alike c → (h a : ℕ) → h < system.hosts → a < system.agents → BringsLanes system run h a (ports.after_route h a) (ports.before_arbiter h a) c
-  row_lanes c fit alike h a low there = by_joined h a
+  row_lanes c fit alike h a low there = by_idle h a
       (λ joined. laws.lanes system run h a (ports.after_route h a) (ports.below_cutter h a) (ports.above_dropper h a) (ports.before_arbiter h a) c (rows.cuts h a low there joined) (rows.fits h a low there joined) (rows.drops h a low there joined) (enables_before c fit h a low there) (alike h a low there).alike
       (λ none k less. lanes_placed system run h a c (host_word h a low there joined) (plan.agents a there).word (views_before c fit h low) (rows.lanes h a low there joined none) k less))
-      (λ none. let idle = rows.apart h a low there none in
-      silent_lanes system run h a (ports.after_route h a) (ports.below_cutter h a) (ports.above_dropper h a) (ports.before_arbiter h a) c idle.high idle.mid idle.low (quiet_top h a c (alike h a low there) none))
+      (λ wires. let apart = rows.apart h a low there wires in
+      let idle = apart.1 in
+      silent_lanes system run h a (ports.after_route h a) (ports.below_cutter h a) (ports.above_dropper h a) (ports.before_arbiter h a) c idle.high idle.mid idle.low (quiet_top h a c (alike h a low there) apart.0))
 
   kept : (c : ℕ) → c ≤ end → Alike c → KeepRows system run inside states c
   kept c fit alike = record {
@@ -250,16 +260,17 @@ module _ (laws : Laws) (responses : Responses) (system : System) (run : Run) (po
       by_place true true e f =
           let low = ltb-true h system.hosts e in
           let there = ltb-true a system.agents f in
-          by_joined h a
+          by_idle h a
           (λ joined.
           let found = laws.modest (target_of system a) (ports.after_route h a) (ports.below_cutter h a) (ports.above_dropper h a) (ports.before_arbiter h a) end (rows.cuts h a low there joined) (rows.fits h a low there joined) (rows.drops h a low there joined) (enables_top h a low there)
           (legal_top h a low there) (owed_down h a low there) (alike h a low there) in
           record { standing = found.0; modest = λ low there. found.1 })
-          (λ none.
-          let idle = rows.apart h a low there none in
+          (λ wires.
+          let apart = rows.apart h a low there wires in
+          let idle = apart.1 in
           record {
             standing = λ i. record { rank = λ c. 0; largest = 0 };
-            modest = λ low there. silent_is_modest (target_of system a) (ports.after_route h a) (ports.below_cutter h a) (ports.above_dropper h a) (ports.before_arbiter h a) end idle.high idle.mid idle.low (quiet_top h a end (all_alike h a low there) none);
+            modest = λ low there. silent_is_modest (target_of system a) (ports.after_route h a) (ports.below_cutter h a) (ports.above_dropper h a) (ports.before_arbiter h a) end idle.high idle.mid idle.low (quiet_top h a end (all_alike h a low there) apart.0);
           })
       by_place true false e f = let past = ltb-false a system.agents f in record { standing = λ i. record { rank = λ c. 0; largest = 0 }; modest = λ low there. absurd (omega (arith, there, past)) }
       by_place false y e f = let past = ltb-false h system.hosts e in record { standing = λ i. record { rank = λ c. 0; largest = 0 }; modest = λ low there. absurd (omega (arith, low, past)) }

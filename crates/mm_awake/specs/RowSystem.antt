@@ -1,5 +1,5 @@
 -- Systems of machines whose links are machines too: three in a row between a host's route and an agent's arbiter, each of which may be a wire.
-use Rattle.std.specs.Prelude.{ℕ, ◌<◌, not, ◌||◌, IsTrue, IsFalse}
+use Rattle.std.specs.Prelude.{ℕ, ◌<◌, Bool, not, ◌||◌, IsTrue, IsFalse}
 use Rattle.mm_runs.specs.Views.{System, Run}
 use Rattle.mm_runs.specs.Awake.{is_alike}
 use Rattle.mm_runs.specs.Order.{is_joined}
@@ -33,19 +33,20 @@ pub record AreIdleWires (ports : RowPorts) (h a : ℕ) : Type 0 where
   pub mid : HandsAllOn (ports.below_cutter h a) (ports.above_dropper h a)
   pub low : HandsAllOn (ports.above_dropper h a) (ports.before_arbiter h a)
 
--- every link between hosts and agents that are joined is its machine or a wire, below hosts whose levels fit their ports
+-- every link is its machine or a wire, below hosts whose levels fit their ports
 pub record AreRows (system : System) (run : Run) (ports : RowPorts) (end : ℕ) : Type 0 where
+  pub idle : ℕ → ℕ → Bool  -- of a host and an agent that aren't joined: wires lead there, whatever the words
   -- what each host shows fits its ports, whose absent byteenable reads as all ones
   pub views : (h : ℕ) → h < system.hosts → FitsPorts (system.host h).shape (system.host h).has_burst (run.at_host h).signals end
-  pub cuts : (h a : ℕ) → h < system.hosts → a < system.agents → IsTrue (is_joined system a h) → CutsBursts (ports.after_route h a) (ports.below_cutter h a)
-  pub fits : (h a : ℕ) → h < system.hosts → a < system.agents → IsTrue (is_joined system a h) → FitsWords (target_of system a) (ports.below_cutter h a) (ports.above_dropper h a)
-  pub drops : (h a : ℕ) → h < system.hosts → a < system.agents → IsTrue (is_joined system a h) → DropsBeats (target_of system a) (ports.above_dropper h a) (ports.before_arbiter h a)
+  pub cuts : (h a : ℕ) → h < system.hosts → a < system.agents → IsFalse (idle h a) → CutsBursts (ports.after_route h a) (ports.below_cutter h a)
+  pub fits : (h a : ℕ) → h < system.hosts → a < system.agents → IsFalse (idle h a) → FitsWords (target_of system a) (ports.below_cutter h a) (ports.above_dropper h a)
+  pub drops : (h a : ℕ) → h < system.hosts → a < system.agents → IsFalse (idle h a) → DropsBeats (target_of system a) (ports.above_dropper h a) (ports.before_arbiter h a)
   -- where no beats are dropped, the agent has byte enables or the host has none
-  pub lanes : (h a : ℕ) (low : h < system.hosts) (there : a < system.agents) (joined : IsTrue (is_joined system a h)) → IsFalse (drops_some (drops h a low there joined)) → IsTrue ((system.agent a).has_enables || not (system.host h).has_enables)
+  pub lanes : (h a : ℕ) (low : h < system.hosts) (there : a < system.agents) (links : IsFalse (idle h a)) → IsFalse (drops_some (drops h a low there links)) → IsTrue ((system.agent a).has_enables || not (system.host h).has_enables)
   -- a host whose plain commands reach an agent with readdatavalid one for one is wired to its arbiter: a link with room for one read, which may stand there, would hold a second one back while the first is owed
   pub wired : (h a : ℕ) → h < system.hosts → a < system.agents → IsTrue (is_joined system a h) → IsTrue (system.agent a).has_readdatavalid → IsTrue (is_alike (system.host h) (system.agent a)) →
       IsWire (ports.after_route h a) (ports.before_arbiter h a)
-  pub apart : (h a : ℕ) → h < system.hosts → a < system.agents → IsFalse (is_joined system a h) → AreIdleWires ports h a
+  pub apart : (h a : ℕ) → h < system.hosts → a < system.agents → IsTrue (idle h a) → IsFalse (is_joined system a h) × AreIdleWires ports h a
 
 -- no beats are dropped below a host with bursts and without byte enables: its write bursts are counted from their first beat, which is kept there until the next one comes
 abbrev pub IsFairRow : System → RowPorts → ℕ → ℕ → Type 0

@@ -1,5 +1,6 @@
 -- The right system with bursts and a stage is one of machines, of which all premises hold.
 use Rattle.std.proofs.Common.{ℕ, zero, suc, le_refl, ◌<◌, ◌≡◌, ◌*◌, ◌||◌, true, false, not, arith, refl, IsTrue, IsFalse}
+use Rattle.std.proofs.lemmas.Bool.{both_ways}
 use Rattle.mm_runs.specs.Views.Responses.{AreZero}
 use Rattle.mm_runs.specs.Awake.{is_alike}
 use Rattle.mm_runs.specs.Commands.{longest_burst}
@@ -16,7 +17,7 @@ use Rattle.mm_awake.specs.Theorem.{ArePlanned, AreMachines, IsStageBetween}
 use Rattle.mm_awake.specs.Wires.{IsWire}
 use Rattle.mm_examples.specs.TwoByTwo.{first_or}
 use Rattle.mm_examples.specs.BurstSystem.{burst_system, burst_run, burst_ports, burst_states, after_host, after_route, below_cutter, below_dropper, before_arbiter, after_arbiter, before_agent, no_port, cutting, dropping, piping}
-use Rattle.mm_examples.proofs.TwoByTwo.{two, pairs, joined_below, two_are_joined, past_two, route_plan}
+use Rattle.mm_examples.proofs.TwoByTwo.{two, pairs, joined_below, past_two, route_plan}
 use Rattle.mm_examples.proofs.Tables.{HostTables, RouteTables, ArbiterTables, AgentTables, host_machine, route_machine, arbiter_machine, agent_machine, host_views, legal_run, never}
 
 pub planned : ArePlanned burst_system (boundaries_of burst_ports) burst_states
@@ -186,6 +187,7 @@ lanes links (suc (suc h)) a is there none = absurd (omega (arith, is))
 
 pub rows : Links → AreRows burst_system burst_run burst_ports 12
 rows links = record {
+  idle = λ h a. false;
   views = host_views burst_system burst_run 12 (record { enables = record { holds = refl }; all_lanes = record { holds = refl }; word = record { holds = refl }; one_beat = record { holds = refl } });
   cuts = λ h a is there joined. two (λ h. CutsBursts (after_route h a) (below_cutter h a))
       (cutter (burst_state (cutting a)) (record { some = omega arith; same = refl; bytes = refl; one_beat = refl }) (links.burst (cutting a)))
@@ -194,7 +196,7 @@ rows links = record {
   fits = λ h a is there joined. no_width (wire_below h a is there);
   drops = λ h a is there joined. drops links h a is there;
   lanes = λ h a is there joined none. lanes links h a is there none;
-  apart = λ h a is there none. absurd (two_are_joined h is none);
+  apart = λ h a is there idle. absurd (both_ways false refl idle);
   wired = λ h a is there joined has alike. pairs (λ h a. IsTrue (is_alike (burst_system.host h) (burst_system.agent a)) → IsWire (after_route h a) (before_arbiter h a))
       (λ x. let bad : ⊥ = cc in absurd bad) (λ x. let bad : ⊥ = cc in absurd bad) (λ x. plain_wire.wire) (λ x. let bad : ⊥ = cc in absurd bad) h a is there alike;
 }

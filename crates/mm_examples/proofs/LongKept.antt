@@ -1,5 +1,6 @@
 -- The system with rows of several links suits its plan, and its components are legal.
 use Rattle.std.proofs.Common.{ℕ, zero, suc, ◌<◌, ◌≤◌, ◌≡◌, Bool, true, false, not, ◌||◌, arith, refl, sym, ap, subst, inl, IsTrue, IsFalse, if◌then◌else◌, nat_eq, tests}
+use Rattle.std.proofs.lemmas.Bool.{both_ways}
 use Rattle.mm_runs.specs.Views.{Signals}
 use Rattle.mm_runs.specs.Awake.{is_alike}
 use Rattle.mm_runs.specs.Order.{is_joined}
@@ -13,7 +14,7 @@ use Rattle.mm_awake.specs.LinkSystem.{SuitsLinks, AreFitHosts, IsWireRow, row_of
 use Rattle.mm_examples.specs.Examples.{quiet}
 use Rattle.mm_examples.specs.TwoByTwo.{first_or}
 use Rattle.mm_examples.specs.LongRows.{long_plan, long_run, long_ports, long_outside, first_host, second_host}
-use Rattle.mm_examples.proofs.TwoByTwo.{two, pairs, joined_below, past_joined, none_past, is_memory_plan}
+use Rattle.mm_examples.proofs.TwoByTwo.{two, pairs, joined_below, none_past, is_memory_plan}
 use Rattle.mm_examples.proofs.Tables.{legal_run, host_views, never}
 
 pub is_plan : IsMemoryPlan long_plan.system
@@ -34,8 +35,9 @@ is_plan = is_memory_plan long_plan.system.host (first_or 8 2) (first_or true fal
 
 pub suits : SuitsLinks long_plan
 suits = record {
+  idle = λ h a. false;
   stages = refl;
-  rows = λ h a is there joined. pairs (λ h a. SuitsRow (target_of long_plan.system a) (row_of long_plan h a))
+  rows = λ h a is there links. pairs (λ h a. SuitsRow (target_of long_plan.system a) (row_of long_plan h a))
       (record {
         cutter = record { some = omega arith; same = refl; bytes = refl; one_beat = refl };
         fitter = (2, record { some = omega arith; more = omega arith; whole = refl; same = refl; bytes = refl; enables = refl; one_beat = refl; one_beat_below = refl });
@@ -65,13 +67,14 @@ suits = record {
       (λ alike. let bad : ⊥ = cc in absurd bad) (λ alike. let bad : ⊥ = cc in absurd bad) (λ alike. let bad : ⊥ = cc in absurd bad) (λ alike. let bad : ⊥ = cc in absurd bad)
       h a is there;
   -- agent 0 has byte enables, and before agent 1 beats are dropped
-  lanes = λ h a is there joined. pairs (λ h a. long_plan.drops h a ≡ false → IsTrue ((long_plan.system.agent a).has_enables || not (long_plan.system.host h).has_enables))
+  lanes = λ h a is there links. pairs (λ h a. long_plan.drops h a ≡ false → IsTrue ((long_plan.system.agent a).has_enables || not (long_plan.system.host h).has_enables))
       (λ none. refl) (λ none. let bad : ⊥ = cc in absurd bad) (λ none. refl) (λ none. let bad : ⊥ = cc in absurd bad)
       h a is there;
-  apart = λ h a none. record {
-    uncut = none_past ByBeats Uncut Uncut h (past_joined h none);
-    unfitted = none_past (first_or Selects Splits a) (first_or Selects Unfitted a) Unfitted h (past_joined h none);
-    undropped = none_past (first_or false true a) (first_or false true a) false h (past_joined h none);
+  apart = λ h a is there idle. absurd (both_ways false refl idle);
+  past = λ h a past. record {
+    uncut = none_past ByBeats Uncut Uncut h past;
+    unfitted = none_past (first_or Selects Splits a) (first_or Selects Unfitted a) Unfitted h past;
+    undropped = none_past (first_or false true a) (first_or false true a) false h past;
   };
 }
 

@@ -44,15 +44,6 @@ joined_below (suc (suc n)) is =
     let none : IsTrue false = rw (e, f) at is in
     absurd (no_true none)
 
--- each host of the two is joined
-pub two_are_joined : (h : ℕ) → h < 2 → IsFalse (list_any (nat_eq h) (0 ∷ 1 ∷ [])) → ⊥
-two_are_joined h is = two (λ h. IsFalse (list_any (nat_eq h) (0 ∷ 1 ∷ [])) → ⊥) (λ none. cc) (λ none. cc) h is
-
-pub past_joined : (h : ℕ) → IsFalse (list_any (nat_eq h) (0 ∷ 1 ∷ [])) → 2 ≤ h
-past_joined zero none = absurd (two_are_joined 0 (omega arith) none)
-past_joined (suc zero) none = absurd (two_are_joined 1 (omega arith) none)
-past_joined (suc (suc n)) none = omega arith
-
 pub none_past : {A : Type 0} (first second none : A) (h : ℕ) → 2 ≤ h → of_two first second none h ≡ none
 none_past {A} first second none zero past = absurd (omega (arith, past))
 none_past {A} first second none (suc zero) past = absurd (omega (arith, past))

@@ -1,5 +1,6 @@
 -- The right system with width changes is one of machines, of which all premises hold.
-use Rattle.std.proofs.Common.{ℕ, ◌<◌, ◌≤◌, true, arith, refl, le_refl, IsTrue}
+use Rattle.std.proofs.Common.{ℕ, ◌<◌, ◌≤◌, true, false, arith, refl, le_refl, IsTrue}
+use Rattle.std.proofs.lemmas.Bool.{both_ways}
 use Rattle.mm_runs.specs.Views.Responses.{AreZero}
 use Rattle.mm_runs.specs.Awake.{is_alike}
 use Rattle.mm_runs.specs.Order.{is_joined}
@@ -15,7 +16,7 @@ use Rattle.mm_awake.specs.Rows.{IsWired, FitsWords, CutsBursts.no_cutter, FitsWo
 use Rattle.mm_awake.specs.Theorem.{ArePlanned, AreMachines}
 use Rattle.mm_awake.specs.Wires.{IsWire}
 use Rattle.mm_examples.specs.WidthSystem.{width_system, width_run, width_ports, width_states, swapped_run, unmoved_run, bytes_of, no_port, after_host, after_route, above_dropper, before_arbiter, before_agent, splitting, selecting}
-use Rattle.mm_examples.proofs.TwoByTwo.{two, pairs, joined_below, two_are_joined, past_two, route_plan}
+use Rattle.mm_examples.proofs.TwoByTwo.{two, pairs, joined_below, past_two, route_plan}
 use Rattle.mm_examples.proofs.Tables.{HostTables, RouteTables, ArbiterTables, AgentTables, host_machine, route_machine, arbiter_machine, agent_machine, host_views, legal_run}
 
 -- ---- the plan
@@ -187,6 +188,7 @@ pub record Links : Type 0 where
 
 pub rows : Links → AreRows width_system width_run width_ports 8
 rows links = record {
+  idle = λ h a. false;
   views = host_views width_system width_run 8 (record { enables = record { holds = refl }; all_lanes = record { holds = refl }; word = record { holds = refl }; one_beat = record { holds = refl } });
   cuts = λ h a is there joined. no_cutter (wire h a is there);
   fits = λ h a is there joined. pairs (λ h a. FitsWords (target_of width_system a) (after_route h a) (above_dropper h a))
@@ -197,7 +199,7 @@ rows links = record {
       h a is there;
   drops = λ h a is there joined. no_dropper (wire_below h a is there);
   lanes = λ h a is there joined none. refl;
-  apart = λ h a is there none. absurd (two_are_joined h is none);
+  apart = λ h a is there idle. absurd (both_ways false refl idle);
   wired = λ h a is there joined has alike. pairs (λ h a. IsTrue (is_alike (width_system.host h) (width_system.agent a)) → IsWire (after_route h a) (before_arbiter h a))
       (λ x. record { same = refl; longer = omega arith }) (λ x. let bad : ⊥ = cc in absurd bad) (λ x. let bad : ⊥ = cc in absurd bad) (λ x. record { same = refl; longer = omega arith }) h a is there alike;
 }
