@@ -16,10 +16,13 @@ use Rattle.mm_parts.specs.Ahead.{waits_left}
 use Rattle.mm_awake.specs.Ways.{Ways, Standings, tagged}
 use Rattle.mm_awake.specs.Front.{KeepsWhole}
 use Rattle.mm_awake.specs.Ahead.{LeadsAhead, CanTakeMore}
+use Rattle.mm_awake.specs.Wires.{IsWire}
 use Rattle.mm_links.specs.Soon.{ShowsSoon}
 use Rattle.mm_awake.proofs.Arbiter.{TurnLaws, Idles, Idles.beat_stands, Idles.rests, Idles.nothing, idles}
 use Rattle.mm_awake.proofs.Wanted.{some_or_none, own_taken, tagged_of_host, two_of}
-use Rattle.mm_awake.proofs.Bits.{none_taken, takes_shows, not_shown, shown_again, holds, no_true}
+use Rattle.mm_awake.proofs.Bits.{takes_shows, shown_again, holds, no_true}
+use Rattle.mm_awake.proofs.SilentRow.{never_taken}
+use Rattle.mm_awake.proofs.Widened.{wire_stays, wire_taken, wire_operations}
 
 pub each_of : (test : ℕ → Bool) (xs : List ℕ) (h : ℕ) → IsTrue (list_all test xs) → IsTrue (list_any (nat_eq h) xs) → IsTrue (test h)
 each_of test [] h all any = absurd (no_true any)
@@ -31,10 +34,6 @@ each_of test (x ∷ xs) h all any = by_same (nat_eq h x) refl any (each_of test 
     by_same : (b : Bool) → nat_eq h x ≡ b → IsTrue (b || list_any (nat_eq h) xs) → (IsTrue (list_any (nat_eq h) xs) → IsTrue (test h)) → IsTrue (test h)
     by_same true e any more = let same : h ≡ x = grind (arith, tests, e) in subst (λ y. IsTrue (test y)) (sym same) parts.0
     by_same false e any more = more any
-
-never_taken : (port : Port) (end n : ℕ) → n ≤ end → ((c : ℕ) → c < end → IsFalse (shows port.commands.signals c)) → taken_at port n ≡ []
-never_taken port end zero fit none = refl
-never_taken port end (suc n) fit none = none_taken port n (not_shown port n (none n (omega (arith, fit)))) ∙ never_taken port end n (omega (arith, fit)) none
 
 -- ---- the pipe
 
@@ -70,7 +69,7 @@ module _ (turn_laws : TurnLaws) (system : System) (run : Run) (agent : ℕ) (way
   alike_at : (h : ℕ) → IsTrue (is_joined system agent h) → IsTrue (is_alike (system.host h) (system.agent agent))
   alike_at h joined = each_of (λ host. is_alike (system.host host) (system.agent agent)) (system.joined agent) h alike joined
 
-  wire : (h : ℕ) → h < system.hosts → IsTrue (is_joined system agent h) → ways.upper h 0 ≡ top h
+  wire : (h : ℕ) → h < system.hosts → IsTrue (is_joined system agent h) → IsWire (top h) (ways.upper h 0)
   wire h low joined = ahead.wired h low joined (alike_at h joined)
 
   plain_at : (h : ℕ) → IsTrue (is_joined system agent h) → IsFalse (system.host h).has_burst
@@ -104,8 +103,8 @@ module _ (turn_laws : TurnLaws) (system : System) (run : Run) (agent : ℕ) (way
   -- no command is left open above the arbiter
   closed : (h c : ℕ) → h < system.hosts → suc c < end → IsFalse (is_unclosed (ways.upper h 0) c)
   closed h c low fit = by_joined h
-      (λ joined. subst (λ p. IsFalse (is_unclosed p c)) (sym (wire h low joined)) (ahead.closed h low (plain_at h joined) c (omega (arith, fit))))
-      (λ apart. ap is_last_joined (never_taken (ways.upper h 0) end (suc c) (omega (arith, fit)) (λ c fit. silent h c fit apart)))
+      (λ joined. subst (λ l. IsFalse (is_last_joined l)) (sym (wire_taken (top h) (ways.upper h 0) (wire h low joined) (suc c))) (ahead.closed h low (plain_at h joined) c (omega (arith, fit))))
+      (λ apart. ap is_last_joined (never_taken (ways.upper h 0) end (λ c fit. silent h c fit apart) (suc c) (omega (arith, fit))))
 
   -- where a host asks, a beat is shown behind the arbiter
   arbiter_shows : (h c : ℕ) → suc c < end → IsTrue (shows (ways.upper h 0).commands.signals c) → IsTrue (shows bottom.commands.signals c)
@@ -133,13 +132,13 @@ module _ (turn_laws : TurnLaws) (system : System) (run : Run) (agent : ℕ) (way
           by_shown : (b : Bool) → shows (top h).commands.signals c ≡ b → IsFalse b
           by_shown false e = refl
           by_shown true e =
-              let at_arbiter = subst (λ p. IsTrue (shows p.commands.signals c)) (sym (wire h low (ahead.joined h c low (omega (arith, fit)) e))) e in
+              let at_arbiter = wire_stays (top h) (ways.upper h 0) (wire h low (ahead.joined h c low (omega (arith, fit)) e)) (λ p. IsTrue (shows p.commands.signals c)) e in
               absurd (both_ways (shows bottom.commands.signals c) (none ways.stages (omega arith)) (arbiter_shows h c fit at_arbiter))
 
       nowhere : ((k : ℕ) → k < suc ways.stages → IsFalse (shows (ways.lower k).commands.signals c)) → ⊥
       nowhere none = by_joined h
           (λ joined.
-          let w = ap (λ (p : Port). length (operations_among (target_of system agent) p.shape (taken_at p c))) (wire h low joined) in
+          let w = wire_operations (top h) (ways.upper h 0) (wire h low joined) (target_of system agent) c in
           let own = own_taken system agent (λ h. ways.upper h 0) (tagged ways ways.stages) end arbiter (target_of system agent) h low (keeps.words h low) c (omega (arith, fit)) in
           let tags = tagged_of_host (target_of system agent) (ways.lower 0).shape (taken_at (ways.lower 0) c) h in
           let same = all_the_same ways.lower ways.stages ahead.pipe c ways.stages (omega arith) (λ i less. none i (omega (arith, less))) in
@@ -148,7 +147,7 @@ module _ (turn_laws : TurnLaws) (system : System) (run : Run) (agent : ℕ) (way
           let got = ap (λ l. length (of_host h l)) (ahead.accepts.taken c (omega (arith, fit))) in
           omega (arith, most, lacks, w, own, tags, below, shapes, got))
           (λ apart.
-          let nothing = ap (λ l. length (operations_among (target_of system agent) (top h).shape l)) (never_taken (top h) end c (omega (arith, fit)) (λ c fit. silent_top h c low fit apart)) in
+          let nothing = ap (λ l. length (operations_among (target_of system agent) (top h).shape l)) (never_taken (top h) end (λ c fit. silent_top h c low fit apart) c (omega (arith, fit))) in
           omega (arith, most, lacks, nothing))
         where
           most : length (issued system run h agent (suc c)) ≤ length (operations_among (target_of system agent) (top h).shape (taken_at (top h) c))

@@ -16,6 +16,7 @@ use Rattle.mm_awake.specs.PlainSystem.{AreQuietPast, wire_ranks, wired_inside, w
 use Rattle.mm_awake.specs.Slack.{PassesOn}
 use Rattle.mm_awake.specs.Theorem.{Boundaries, States, ArePlanned, KeepRows, AreMachines, AreLinks, IsBuilt, inside_of}
 use Rattle.mm_awake.proofs.LinksPass.{on_while_still}
+use Rattle.mm_awake.proofs.Widened.{wire_self}
 
 pub record Laws : Type 0 where
   pub planned : (system : System) (inside : Boundaries) (states : States) → IsMemoryPlan system → ((h : ℕ) → h < system.hosts → (inside.after_host h).shape.word_bytes ≡ (system.host h).word_bytes) →
@@ -69,7 +70,7 @@ module _ (laws : Laws) (responses : Responses) (plan : PlainPlan) (outside : Out
       pass = λ h a i low there only. on_while_still (before_arbiter responses plan outside registers h a) (laws.pass (before_arbiter responses plan outside registers h a) end);
       allow = λ h a low there. omega arith;
       toll = λ h a low there. omega arith;
-      wired = λ h a low there is valid alike. refl;
+      wired = λ h a low there is valid alike. wire_self _;
     }
 
     pub built : (room : ℕ → ℕ) × IsBuilt responses system run (wired_inside responses plan outside registers) (wired_states responses plan outside registers room) wire_ranks end

@@ -130,7 +130,7 @@ cut_hands longest up down state plan run = record {
 pub enables_below : {up down : Port} (end : ℕ) → CutsBursts up down → EnablesFit up end → EnablesFit down end
 enables_below {up} {down} end (cutter state plan run) fit = below_fits up down state end (burst_hands up down state plan run) fit
 enables_below {up} {down} end (shorter longest state plan run) fit = below_fits up down state end (cut_hands longest up down state plan run) fit
-enables_below {up} {down} end (no_cutter wired) fit = subst (λ p. EnablesFit p end) wired.same fit
+enables_below {up} {down} end (no_cutter wired) fit = subst (λ p. EnablesFit p end) wired.wire.same fit
 
 -- ---- a host without byte enables
 

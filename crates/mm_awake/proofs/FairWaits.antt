@@ -1,5 +1,5 @@
 -- Where a host waits for its last command alone, all its unfinished commands are for one agent.
-use Rattle.std.proofs.Common.{ℕ, zero, suc, ◌<◌, ◌≤◌, ◌≡◌, ◌+◌, ◌-◌, Bool, true, false, not, ◌||◌, ◌&&◌, arith, refl, sym, ap, subst, nat_eq, nat_le, IsTrue, IsFalse, Some, tests}
+use Rattle.std.proofs.Common.{ℕ, zero, suc, ◌<◌, ◌≤◌, ◌≡◌, ◌+◌, ◌-◌, Bool, true, false, not, ◌||◌, ◌&&◌, arith, refl, subst, nat_eq, nat_le, IsTrue, IsFalse, Some, tests}
 use Rattle.std.specs.List.{list_all}
 use Rattle.histories.specs.History.{numbers}
 use Rattle.mm_runs.specs.Views.{System, Run}
@@ -7,7 +7,9 @@ use Rattle.mm_runs.specs.Awake.{commands_begun, is_for, is_finished, is_unfinish
 use Rattle.mm_runs.specs.Commands.{shows}
 use Rattle.mm_machines.specs.Link.{Port}
 use Rattle.mm_awake.specs.Fair.{WaitsAlone}
+use Rattle.mm_awake.specs.Wires.{IsWire}
 use Rattle.mm_awake.proofs.Numbers.{each_holds}
+use Rattle.mm_awake.proofs.Widened.{wire_stays}
 
 all_hold : (test : ℕ → Bool) (first count : ℕ) → ((k : ℕ) → first ≤ k → k < first + count → IsTrue (test k)) → IsTrue (list_all test (numbers first count))
 all_hold test first zero each = refl
@@ -50,9 +52,9 @@ waits_only system run agent host c waits = all_hold test 1 last each
     each k low high = by_last k low high (nat_eq last k) refl
 
 -- a host that is wired to the arbiter asks there
-pub asks_by : (count : Port → ℕ) (presented : ℕ) (port top : Port) (c : ℕ) → port ≡ top → (IsFalse (shows top.commands.signals c) → presented ≤ count top) → count port < presented → IsTrue (shows port.commands.signals c)
-asks_by count presented port top c same all untaken = subst (λ p. IsTrue (shows p.commands.signals c)) (sym same) (by_shown (shows top.commands.signals c) refl)
+pub asks_by : (presented taken taken_top : ℕ) (port top : Port) (c : ℕ) → IsWire top port → taken ≡ taken_top → (IsFalse (shows top.commands.signals c) → presented ≤ taken_top) → taken < presented → IsTrue (shows port.commands.signals c)
+asks_by presented taken taken_top port top c wire same all untaken = wire_stays top port wire (λ p. IsTrue (shows p.commands.signals c)) (by_shown (shows top.commands.signals c) refl)
   where
     by_shown : (b : Bool) → shows top.commands.signals c ≡ b → IsTrue b
     by_shown true e = refl
-    by_shown false e = let taken = all e in let here = ap count same in absurd (omega (arith, taken, here, untaken))
+    by_shown false e = let few = all e in absurd (omega (arith, few, same, untaken))

@@ -1,11 +1,13 @@
 -- A system of machines with rows of links is one of machines and rows.
-use Rattle.std.proofs.Common.{◌≡◌, ℕ, zero, suc, ◌*◌, ◌<◌, ◌≤◌, Bool, true, false, List, ◌||◌, if◌then◌else◌, IsFalse, arith, refl, sym, ap, subst, ◌∙◌}
+use Rattle.std.proofs.Common.{◌≡◌, ℕ, zero, suc, ◌*◌, ◌<◌, Bool, true, false, List, ◌||◌, if◌then◌else◌, IsTrue, IsFalse, arith, refl, sym, ap, subst, ◌∙◌}
+use Rattle.std.proofs.lemmas.Bool.{both_ways}
 use Rattle.std.proofs.Math.Path.{fun_ext}
 use Rattle.histories.specs.History.{is_raised}
 use Rattle.ranks.specs.Turns.{Seat}
 use Rattle.mm_runs.specs.Views.{System, Run, Shape, Responses, HostSide, AgentSide}
 use Rattle.mm_runs.specs.Commands.{shows, longest_burst}
-use Rattle.mm_runs.specs.Plan.{IsMemoryPlan, AreViews}
+use Rattle.mm_runs.specs.Order.{is_joined}
+use Rattle.mm_runs.specs.Plan.{IsMemoryPlan}
 use Rattle.mm_machines.specs.Link.{Target}
 use Rattle.mm_machines.specs.Lines.{target_of}
 use Rattle.mm_machines.specs.Turns.{seats_of}
@@ -13,18 +15,20 @@ use Rattle.mm_parts.specs.Agent.{IsAgentMachine}
 use Rattle.mm_parts.specs.AgentRun.{AgentInputs, AgentRegisters, SuitsAgent, agent_registers, agent_state, agent_view, agent_upper, agent_step}
 use Rattle.mm_parts.specs.Arbiter.{IsArbiterMachine}
 use Rattle.mm_parts.specs.ArbiterRun.{ArbiterInputs, ArbiterRegisters, arbiter_registers, arbiter_grant, arbiter_upper, arbiter_lower, arbiter_step}
-use Rattle.mm_parts.specs.Host.{IsHostMachine, ReadsWords, is_shut}
+use Rattle.mm_parts.specs.Host.{IsHostMachine, is_shut}
 use Rattle.mm_parts.specs.HostRun.{HostInputs, HostRegisters, host_registers, host_state, host_view, host_lower, host_step}
 use Rattle.mm_parts.specs.Route.{IsRouteMachine, goes_to}
 use Rattle.mm_parts.specs.RouteRun.{RouteInputs, RouteRegisters, route_registers, route_state, route_upper, route_lower, route_step, asked_side}
 use Rattle.mm_parts.specs.SystemRun.{Outside}
 use Rattle.mm_links.specs.Driven.{Inputs}
-use Rattle.mm_awake.specs.RowRun.{Cutter, Fitter, RowPlan, RowRegisters, Cutter.Uncut, Fitter.Unfitted, SuitsRow, row_registers, row_step, row_top, row_middle, row_low, row_bottom}
+use Rattle.mm_awake.specs.RowRun.{Cutter, Fitter, RowPlan, RowRegisters, Cutter.Uncut, Fitter.Unfitted, SuitsRow, SuitsDropper, row_registers, row_step, row_top, row_middle, row_low, row_bottom}
 use Rattle.mm_awake.specs.RowSystem.{AreRows, boundaries_of}
-use Rattle.mm_awake.specs.Rows.{CutsBursts, FitsWords, DropsBeats, drops_some}
-use Rattle.mm_awake.specs.LinkSystem.{LinkPlan, SuitsLinks, Registers, row_of, agent_inner, linked_registers, to_host, to_route, to_row, to_arbiter, to_agent, after_host, before_arbiter, after_route, before_agent, linked_run, linked_ports, linked_states}
+use Rattle.mm_awake.specs.Rows.{IsWired, CutsBursts, FitsWords, DropsBeats, drops_some}
+use Rattle.mm_awake.specs.LinkSystem.{LinkPlan, SuitsLinks, AreFitHosts, Registers, row_of, agent_inner, linked_registers, to_host, to_route, to_row, to_arbiter, to_agent, after_host, before_arbiter, after_route, before_agent, linked_run, linked_ports, linked_states}
 use Rattle.mm_awake.specs.Theorem.{Boundaries, States, ArePlanned, AreMachines}
-use Rattle.mm_awake.proofs.RowRuns.{Links, cuts_run, fits_run, drops_run, drops_some_are}
+use Rattle.mm_awake.specs.Wires.{IsWire, HandsAllOn}
+use Rattle.mm_awake.proofs.RowRuns.{Links, wire, cuts_run, fits_run, drops_run, drops_some_are}
+use Rattle.mm_awake.proofs.Widened.{wire_chain}
 
 pub record Laws : Type 0 where
   pub links : Links
@@ -44,7 +48,6 @@ pub record Laws : Type 0 where
   pub agent_side : (system : System) → IsMemoryPlan system → (a : ℕ) (shape : Shape) → a < system.agents → shape.word_bytes ≡ (system.agent a).word_bytes → shape.burst_bits ≡ (system.agent a).burst_bits → SuitsAgent (system.agent a) shape
   pub planned : (system : System) (inside : Boundaries) (states : States) → IsMemoryPlan system → ((h : ℕ) → h < system.hosts → (inside.after_host h).shape.word_bytes ≡ (system.host h).word_bytes) →
       ((h : ℕ) → h < system.hosts → 16 * longest_burst (inside.after_host h).shape.burst_bits < states.room h) → ArePlanned system inside states
-  pub reads_words : (system : System) (run : Run) (h end : ℕ) → AreViews system run end → h < system.hosts → ReadsWords (system.host h) (run.at_host h) end
 
 -- a row of wires shows what is shown to it, at one boundary
 wires_show : (cutter : Cutter) (fitter : Fitter) (drops : Bool) (rest : RowPlan) (inputs : Inputs) (registers : ℕ → RowRegisters) (c : ℕ) → cutter ≡ Uncut → fitter ≡ Unfitted → drops ≡ false →
@@ -54,14 +57,46 @@ wires_show cutter fitter drops rest inputs registers c k f d quiet =
     (subst (λ f. IsFalse (shows (row_bottom (record rest { cutter = Uncut; fitter = f; drops = drops }) inputs registers).commands.signals c)) (sym f)
     (subst (λ d. IsFalse (shows (row_bottom (record rest { cutter = Uncut; fitter = Unfitted; drops = d }) inputs registers).commands.signals c)) (sym d) quiet))
 
-wires_same : (cutter : Cutter) (fitter : Fitter) (drops : Bool) (rest : RowPlan) (inputs : Inputs) (registers : ℕ → RowRegisters) (target : Target) → cutter ≡ Uncut → fitter ≡ Unfitted → drops ≡ false →
+wires_are_one : (cutter : Cutter) (fitter : Fitter) (drops : Bool) (rest : RowPlan) (inputs : Inputs) (registers : ℕ → RowRegisters) (target : Target) → cutter ≡ Uncut → fitter ≡ Unfitted → drops ≡ false →
     SuitsRow target (record rest { cutter = cutter; fitter = fitter; drops = drops }) →
-    row_bottom (record rest { cutter = cutter; fitter = fitter; drops = drops }) inputs registers ≡ row_top (record rest { cutter = cutter; fitter = fitter; drops = drops }) inputs registers
-wires_same cutter fitter drops rest inputs registers target k f d =
-    subst (λ k. SuitsRow target (record rest { cutter = k; fitter = fitter; drops = drops }) → row_bottom (record rest { cutter = k; fitter = fitter; drops = drops }) inputs registers ≡ row_top (record rest { cutter = k; fitter = fitter; drops = drops }) inputs registers) (sym k)
-    (subst (λ f. SuitsRow target (record rest { cutter = Uncut; fitter = f; drops = drops }) → row_bottom (record rest { cutter = Uncut; fitter = f; drops = drops }) inputs registers ≡ row_top (record rest { cutter = Uncut; fitter = f; drops = drops }) inputs registers) (sym f)
-    (subst (λ d. SuitsRow target (record rest { cutter = Uncut; fitter = Unfitted; drops = d }) → row_bottom (record rest { cutter = Uncut; fitter = Unfitted; drops = d }) inputs registers ≡ row_top (record rest { cutter = Uncut; fitter = Unfitted; drops = d }) inputs registers) (sym d)
-    (λ suits. ap (λ (s : Shape). record (row_bottom (record rest { cutter = Uncut; fitter = Unfitted; drops = false }) inputs registers) { shape = s }) (sym (suits.cutter.0 ∙ suits.fitter.0 ∙ suits.dropper.0)))))
+    IsWire (row_top (record rest { cutter = cutter; fitter = fitter; drops = drops }) inputs registers) (row_bottom (record rest { cutter = cutter; fitter = fitter; drops = drops }) inputs registers)
+wires_are_one cutter fitter drops rest inputs registers target k f d =
+    subst (λ k. SuitsRow target (record rest { cutter = k; fitter = fitter; drops = drops }) → IsWire (row_top (record rest { cutter = k; fitter = fitter; drops = drops }) inputs registers) (row_bottom (record rest { cutter = k; fitter = fitter; drops = drops }) inputs registers)) (sym k)
+    (subst (λ f. SuitsRow target (record rest { cutter = Uncut; fitter = f; drops = drops }) → IsWire (row_top (record rest { cutter = Uncut; fitter = f; drops = drops }) inputs registers) (row_bottom (record rest { cutter = Uncut; fitter = f; drops = drops }) inputs registers)) (sym f)
+    (subst (λ d. SuitsRow target (record rest { cutter = Uncut; fitter = Unfitted; drops = d }) → IsWire (row_top (record rest { cutter = Uncut; fitter = Unfitted; drops = d }) inputs registers) (row_bottom (record rest { cutter = Uncut; fitter = Unfitted; drops = d }) inputs registers)) (sym d)
+    (λ suits.
+    let plan = record rest { cutter = Uncut; fitter = Unfitted; drops = false } in
+    let bottom = row_bottom plan inputs registers in
+    wire_chain (row_top plan inputs registers) (row_middle plan inputs registers) bottom (wire bottom rest.top rest.middle suits.cutter).wire
+    (wire_chain (row_middle plan inputs registers) (row_low plan inputs registers) bottom (wire bottom rest.middle rest.low suits.fitter).wire (wire bottom rest.low rest.bottom suits.dropper).wire))))
+
+-- and hands all on, whatever its shapes
+abbrev HandOn : RowPlan → Inputs → (ℕ → RowRegisters) → Type 0
+HandOn plan inputs registers =
+    HandsAllOn (row_top plan inputs registers) (row_middle plan inputs registers) × HandsAllOn (row_middle plan inputs registers) (row_low plan inputs registers) × HandsAllOn (row_low plan inputs registers) (row_bottom plan inputs registers)
+
+wires_hand_on : (cutter : Cutter) (fitter : Fitter) (drops : Bool) (rest : RowPlan) (inputs : Inputs) (registers : ℕ → RowRegisters) → cutter ≡ Uncut → fitter ≡ Unfitted → drops ≡ false →
+    HandOn (record rest { cutter = cutter; fitter = fitter; drops = drops }) inputs registers
+wires_hand_on cutter fitter drops rest inputs registers k f d =
+    subst (λ k. HandOn (record rest { cutter = k; fitter = fitter; drops = drops }) inputs registers) (sym k)
+    (subst (λ f. HandOn (record rest { cutter = Uncut; fitter = f; drops = drops }) inputs registers) (sym f)
+    (subst (λ d. HandOn (record rest { cutter = Uncut; fitter = Unfitted; drops = d }) inputs registers) (sym d)
+    (record { commands = refl; answers = refl }, record { commands = refl; answers = refl }, record { commands = refl; answers = refl })))
+
+-- where no beats are dropped a wire stands before the arbiter
+pub undropped : (drops : Bool) (rest : RowPlan) (inputs : Inputs) (registers : ℕ → RowRegisters) (target : Target) → drops ≡ false → SuitsDropper drops target rest.low rest.bottom →
+    IsWired (row_low (record rest { drops = drops }) inputs registers) (row_bottom (record rest { drops = drops }) inputs registers)
+undropped drops rest inputs registers target e =
+    subst (λ d. SuitsDropper d target rest.low rest.bottom → IsWired (row_low (record rest { drops = d }) inputs registers) (row_bottom (record rest { drops = d }) inputs registers)) (sym e)
+    (λ suits. wire (row_bottom (record rest { drops = false }) inputs registers) rest.low rest.bottom suits)
+
+-- links stand between a host and an agent that are joined
+pub links_at_joined : {plan : LinkPlan} (suits : SuitsLinks plan) (h a : ℕ) → h < plan.system.hosts → a < plan.system.agents → IsTrue (is_joined plan.system a h) → IsFalse (suits.idle h a)
+links_at_joined {plan} suits h a low there joined = by_test (suits.idle h a) refl
+  where
+    by_test : (b : Bool) → suits.idle h a ≡ b → IsFalse b
+    by_test false e = refl
+    by_test true e = absurd (both_ways (is_joined plan.system a h) (suits.apart h a low there e).0 joined)
 
 or_false : (a b : Bool) → IsFalse (a || b) → IsFalse b
 or_false false b e = e
@@ -156,36 +191,42 @@ module _ (laws : Laws) (responses : Responses) (plan : LinkPlan) (outside : Outs
     pub planned : ArePlanned system (boundaries_of (linked_ports responses plan outside all)) (linked_states responses plan outside all)
     planned = laws.planned system (boundaries_of (linked_ports responses plan outside all)) (linked_states responses plan outside all) is_plan (λ h low. refl) (λ h low. omega arith)
 
-    pub machines : AreViews system run end → ((h c : ℕ) → system.hosts ≤ h → IsFalse (shows (outside.host h) c)) → AreMachines responses system run (boundaries_of (linked_ports responses plan outside all)) (linked_states responses plan outside all) end
-    machines views quiet = record {
-      one_word = λ h low. laws.reads_words system run h end views low;
+    pub machines : AreFitHosts system outside end → AreMachines responses system run (boundaries_of (linked_ports responses plan outside all)) (linked_states responses plan outside all) end
+    machines fit = record {
+      one_word = λ h low none c less reads. fit.one_word h c low less none reads;
       host = λ h low. host_machine h;
       route = λ h low. route_machine h _;
       arbiter = λ a there. arbiter_machine a;
       silent = λ a there h c past low.
           let wires = suits.past h a past in
           wires_show (plan.cutter h a) (plan.fitter h a) (plan.drops h a) (row_of plan h a) (to_row responses plan outside all h a) (λ c. (all c).row h a) c wires.uncut wires.unfitted wires.undropped
-          (gate (goes_to system h (asked_side (to_route responses plan outside all h)) (route_state (λ c. (all c).route h)) a c) (is_shut (system.host h) (host_state (λ c. (all c).host h)) c) ((outside.host h).read c) ((outside.host h).write c) (quiet h c past));
+          (gate (goes_to system h (asked_side (to_route responses plan outside all h)) (route_state (λ c. (all c).route h)) a c) (is_shut (system.host h) (host_state (λ c. (all c).host h)) c) ((outside.host h).read c) ((outside.host h).write c) (fit.none_past h c past));
       stage = λ a i there low. let none = suits.stages in absurd (omega (arith, low, none));
       agent = λ a there. agent_machine a (laws.agent_side system is_plan a (agent_inner plan a) there refl refl);
     }
 
-    dropped : (h a : ℕ) → h < system.hosts → a < system.agents → (d : DropsBeats (target_of system a) (row_low (row_of plan h a) (to_row responses plan outside all h a) (λ c. (all c).row h a)) (row_bottom (row_of plan h a) (to_row responses plan outside all h a) (λ c. (all c).row h a))) × (drops_some d ≡ plan.drops h a)
-    dropped h a low there =
-        let row = suits.rows h a low there in
+    dropped : (h a : ℕ) → h < system.hosts → a < system.agents → IsFalse (suits.idle h a) → (d : DropsBeats (target_of system a) (row_low (row_of plan h a) (to_row responses plan outside all h a) (λ c. (all c).row h a)) (row_bottom (row_of plan h a) (to_row responses plan outside all h a) (λ c. (all c).row h a))) × (drops_some d ≡ plan.drops h a)
+    dropped h a low there joined =
+        let row = suits.rows h a low there joined in
         subst (λ (r : ℕ → RowRegisters). (d : DropsBeats (target_of system a) (row_low (row_of plan h a) (to_row responses plan outside all h a) r) (row_bottom (row_of plan h a) (to_row responses plan outside all h a) r)) × (drops_some d ≡ plan.drops h a)) (fun_ext (same_row h a))
         (drops_run laws.links (to_row responses plan outside all h a) (plan.drops h a) (row_of plan h a) (target_of system a) row.dropper row.room, drops_some_are laws.links (to_row responses plan outside all h a) (plan.drops h a) (row_of plan h a) (target_of system a) row.dropper row.room)
 
-    pub are_rows : AreViews system run end → AreRows system run (linked_ports responses plan outside all) end
-    are_rows views = record {
-      views = views.hosts;
-      cuts = λ h a low there. subst (λ (r : ℕ → RowRegisters). CutsBursts (row_top (row_of plan h a) (to_row responses plan outside all h a) r) (row_middle (row_of plan h a) (to_row responses plan outside all h a) r)) (fun_ext (same_row h a))
-          (cuts_run laws.links (to_row responses plan outside all h a) (plan.cutter h a) (row_of plan h a) (suits.rows h a low there).cutter);
-      fits = λ h a low there. subst (λ (r : ℕ → RowRegisters). FitsWords (target_of system a) (row_middle (row_of plan h a) (to_row responses plan outside all h a) r) (row_low (row_of plan h a) (to_row responses plan outside all h a) r)) (fun_ext (same_row h a))
-          (fits_run laws.links (to_row responses plan outside all h a) (plan.fitter h a) (row_of plan h a) (target_of system a) (suits.rows h a low there).fitter (suits.rows h a low there).room);
-      drops = λ h a low there. (dropped h a low there).0;
-      lanes = λ h a low there none. suits.lanes h a low there (sym (dropped h a low there).1 ∙ none);
+    pub are_rows : AreFitHosts system outside end → AreRows system run (linked_ports responses plan outside all) end
+    are_rows fit = record {
+      idle = suits.idle;
+      views = fit.ports;
+      cuts = λ h a low there joined. subst (λ (r : ℕ → RowRegisters). CutsBursts (row_top (row_of plan h a) (to_row responses plan outside all h a) r) (row_middle (row_of plan h a) (to_row responses plan outside all h a) r)) (fun_ext (same_row h a))
+          (cuts_run laws.links (to_row responses plan outside all h a) (plan.cutter h a) (row_of plan h a) (suits.rows h a low there joined).cutter);
+      fits = λ h a low there joined. subst (λ (r : ℕ → RowRegisters). FitsWords (target_of system a) (row_middle (row_of plan h a) (to_row responses plan outside all h a) r) (row_low (row_of plan h a) (to_row responses plan outside all h a) r)) (fun_ext (same_row h a))
+          (fits_run laws.links (to_row responses plan outside all h a) (plan.fitter h a) (row_of plan h a) (target_of system a) (suits.rows h a low there joined).fitter (suits.rows h a low there joined).room);
+      drops = λ h a low there joined. (dropped h a low there joined).0;
+      lanes = λ h a low there joined none. suits.lanes h a low there joined (sym (dropped h a low there joined).1 ∙ none);
       wired = λ h a low there joined has alike.
           let wires = suits.wired h a low there joined has alike in
-          wires_same (plan.cutter h a) (plan.fitter h a) (plan.drops h a) (row_of plan h a) (to_row responses plan outside all h a) (λ c. (all c).row h a) (target_of system a) wires.uncut wires.unfitted wires.undropped (suits.rows h a low there);
+          wires_are_one (plan.cutter h a) (plan.fitter h a) (plan.drops h a) (row_of plan h a) (to_row responses plan outside all h a) (λ c. (all c).row h a) (target_of system a) wires.uncut wires.unfitted wires.undropped (suits.rows h a low there (links_at_joined suits h a low there joined));
+      apart = λ h a low there idle.
+          let apart = suits.apart h a low there idle in
+          let wires = apart.1 in
+          let on = wires_hand_on (plan.cutter h a) (plan.fitter h a) (plan.drops h a) (row_of plan h a) (to_row responses plan outside all h a) (λ c. (all c).row h a) wires.uncut wires.unfitted wires.undropped in
+          (apart.0, record { high = on.0; mid = on.1; low = on.2 });
     }

@@ -1,5 +1,5 @@
 -- What may stand in each place of a row, and the row of three.
-use Rattle.std.proofs.Common.{ℕ, zero, suc, ◌<◌, ◌≤◌, List, arith, subst, le_refl}
+use Rattle.std.proofs.Common.{ℕ, zero, suc, ◌<◌, ◌≤◌, List, arith, le_refl}
 use Rattle.mm_machines.specs.Link.{Target, Port, AreLegalAt, AnswersAreOwed}
 use Rattle.mm_machines.specs.Machines.{MaySplit}
 use Rattle.mm_machines.specs.PartRanks.{JoinsAlike}
@@ -18,6 +18,7 @@ use Rattle.mm_awake.proofs.LinksPass.{on_while_still}
 use Rattle.mm_awake.proofs.Passing.{wire_passes}
 use Rattle.mm_awake.proofs.RowLine.{LinkLaws, carries_of}
 use Rattle.mm_awake.proofs.RowOfThree.{Carries, settled}
+use Rattle.mm_awake.proofs.Widened.{wire_link, wire_stays, goes_behind_wire}
 
 -- a rank that is at most so large
 pub record Goes (largest : ℕ) (target : Target) (up down : Port) (end : ℕ) : Type 0 where
@@ -59,17 +60,19 @@ ranked largest goes = record { standing = record { rank = goes.0; largest = larg
 
 module _ (laws : Laws) (target : Target) (end : ℕ) where
   wire_carries : (up down : Port) → IsWired up down → Carries target up down end
-  wire_carries up down wired = subst (λ p. Carries target up p end) wired.same (carries_of (laws.links.wire target up end wired.some))
+  wire_carries up down wired = carries_of (wire_link target up down end wired.wire (laws.links.wire target up end wired.some))
 
   wire_goes : (largest : ℕ) (up down : Port) → IsWired up down → AreLegalAt up end → Goes largest target up down end
   wire_goes largest up down wired legal =
-      subst (λ p. Goes largest target up p end) wired.same (record { standing = record { rank = λ c. 0; largest = 0 }; few = omega arith; going = laws.wire_goes target up end legal })
+      record { standing = record { rank = λ c. 0; largest = 0 }; few = omega arith; going = goes_behind_wire up down wired.wire target end up (λ c. 0) 0 (laws.wire_goes target up end legal) }
 
   wire_stirs : (up down : Port) → IsWired up down → StirsAbove up down end
-  wire_stirs up down wired = subst (λ p. StirsAbove up p end) wired.same (λ c h is. is)
+  wire_stirs up down wired = wire_stays up down wired.wire (λ p. StirsAbove up p end) (λ c h is. is)
 
   wire_still : (top up down : Port) → IsWired up down → PassesWhileStill (record { hold = 0; kept = 0 }) top up down end
-  wire_still top up down wired = subst (λ p. PassesWhileStill (record { hold = 0; kept = 0 }) top up p end) wired.same (on_while_still top (wire_passes up end))
+  wire_still top up down wired =
+      let passes = on_while_still top (wire_passes up end) in
+      wire_stays up down wired.wire (λ p. PassesWhileStill (record { hold = 0; kept = 0 }) top up p end) (record { beats = passes.beats; words = passes.words })
 
   -- next to the route
   pub record High (top middle : Port) : Type 0 where

@@ -1,5 +1,5 @@
 -- A plain system of machines has rows of wires.
-use Rattle.std.proofs.Common.{ℕ, ◌<◌, arith, refl}
+use Rattle.std.proofs.Common.{ℕ, ◌<◌, false, arith}
 use Rattle.std.proofs.lemmas.Bool.{or_left}
 use Rattle.mm_runs.specs.Plan.{AreViews}
 use Rattle.mm_runs.specs.Views.{Run, Responses}
@@ -8,7 +8,9 @@ use Rattle.mm_awake.specs.PlainSystem.{wired_ports, wired_inside, wired_states}
 use Rattle.mm_awake.specs.RowSystem.{AreRows, boundaries_of}
 use Rattle.mm_awake.specs.Rows.{IsWired, CutsBursts.no_cutter, FitsWords.no_width, DropsBeats.no_dropper}
 use Rattle.mm_awake.specs.Theorem.{ArePlanned, AreMachines}
+use Rattle.mm_awake.proofs.Bits.{no_true}
 use Rattle.mm_awake.proofs.Building.{end_words}
+use Rattle.mm_awake.proofs.Widened.{wire_self}
 
 module _ (responses : Responses) (plan : PlainPlan) (outside : Outside) (end : ℕ) (room : ℕ → ℕ) where
   abbrev registers : ℕ → Registers
@@ -47,14 +49,16 @@ module _ (responses : Responses) (plan : PlainPlan) (outside : Outside) (end : �
         let words = end_words machines h a low there in
         let same = (machines.agent a there).commands.words in
         let some = (planned.agents a there).word in
-        record { same = refl; some = omega (arith, words, same, some) }
+        record { wire = wire_self _; some = omega (arith, words, same, some) }
 
     pub are_rows : HaveOneShape plan → AreViews (plain_system plan) run end → AreRows (plain_system plan) run (wired_ports responses plan outside registers) end
     are_rows shape views = record {
+      idle = λ h a. false;
       views = views.hosts;
-      cuts = λ h a low there. no_cutter (wire h a low there);
-      fits = λ h a low there. no_width (wire h a low there);
-      drops = λ h a low there. no_dropper (wire h a low there);
-      lanes = λ h a low there none. or_left plan.agent.has_enables _ shape.lanes;
-      wired = λ h a low there joined has alike. refl;
+      cuts = λ h a low there links. no_cutter (wire h a low there);
+      fits = λ h a low there links. no_width (wire h a low there);
+      drops = λ h a low there links. no_dropper (wire h a low there);
+      lanes = λ h a low there links none. or_left plan.agent.has_enables _ shape.lanes;
+      wired = λ h a low there joined has alike. wire_self _;
+      apart = λ h a low there idle. absurd (no_true idle);
     }

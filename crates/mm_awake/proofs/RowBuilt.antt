@@ -1,9 +1,10 @@
 -- A system of machines whose links are machines too is built: by steps in time, joined commands are alike behind its routes, so each row of links keeps its line.
-use Rattle.std.proofs.Common.{ℕ, zero, suc, ◌≡◌, ◌<◌, ◌≤◌, ◌-◌, ◌/◌, ◌^◌, min, Bool, true, false, arith, refl, sym, ap, ap₂, subst, ◌∙◌, le_refl, nat_lt, IsFalse}
-use Rattle.std.proofs.lemmas.Bool.{ltb-true, ltb-false}
+use Rattle.std.proofs.Common.{ℕ, zero, suc, ◌≡◌, ◌<◌, ◌≤◌, ◌-◌, ◌/◌, ◌^◌, min, Bool, true, false, arith, refl, sym, ap, ap₂, subst, ◌∙◌, le_refl, nat_lt, IsTrue, IsFalse}
+use Rattle.std.proofs.lemmas.Bool.{ltb-true, ltb-false, both_ways}
 use Rattle.mm_runs.specs.Views.{System, Run, Responses}
 use Rattle.mm_runs.specs.Legal.{IsLegalAgent}
-use Rattle.mm_runs.specs.Order.{host_transfers}
+use Rattle.mm_runs.specs.Commands.{shows}
+use Rattle.mm_runs.specs.Order.{host_transfers, is_joined}
 use Rattle.mm_runs.specs.Plan.{FitsPorts}
 use Rattle.mm_runs.specs.Shorter.{legal_run_before}
 use Rattle.mm_runs.specs.Whole.{IsLegalRun}
@@ -25,7 +26,16 @@ use Rattle.mm_awake.proofs.Enables.{lanes_placed}
 use Rattle.mm_awake.proofs.Piped.{StageLaws, tagged_at}
 use Rattle.mm_awake.proofs.RowLine.{cut_words}
 use Rattle.mm_awake.proofs.SilentRoute.{single_behind}
+use Rattle.mm_awake.proofs.SilentRow.{IsQuiet, silent_keeps, silent_lanes, silent_is_modest}
 use Rattle.mm_awake.proofs.StageLine.{PipeLaws, hold_of, hold_is, pipe_line}
+
+-- links stand between a host and an agent that are joined
+pub links_there : {system : System} {run : Run} {ports : RowPorts} {end : ℕ} (rows : AreRows system run ports end) (h a : ℕ) → h < system.hosts → a < system.agents → IsTrue (is_joined system a h) → IsFalse (rows.idle h a)
+links_there {system} {run} {ports} {end} rows h a low there joined = by_test (rows.idle h a) refl
+  where
+    by_test : (b : Bool) → rows.idle h a ≡ b → IsFalse b
+    by_test false e = refl
+    by_test true e = absurd (both_ways (is_joined system a h) (rows.apart h a low there e).0 joined)
 
 pub record Laws : Type 0 where
   pub lines : (responses : Responses) (system : System) (run : Run) (inside : Boundaries) (states : States) (end : ℕ) → ArePlanned system inside states → AreMachines responses system run inside states end → KeepLines responses system run inside states end
@@ -94,8 +104,8 @@ module _ (laws : Laws) (responses : Responses) (system : System) (run : Run) (po
   top_words : (h a : ℕ) → h < system.hosts → a < system.agents → (ports.after_route h a).shape.word_bytes ≡ (system.host h).word_bytes
   top_words h a low there = ap (λ s. s.word_bytes) ((machines.route h low).shapes a there) ∙ (plan.places h low).words
 
-  host_word : (h a : ℕ) → h < system.hosts → a < system.agents → 0 < (system.host h).word_bytes
-  host_word h a low there = let same = top_words h a low there in let some = (cut_words (rows.cuts h a low there)).some in omega (arith, same, some)
+  host_word : (h a : ℕ) → h < system.hosts → a < system.agents → IsFalse (rows.idle h a) → 0 < (system.host h).word_bytes
+  host_word h a low there joined = let same = top_words h a low there in let some = (cut_words (rows.cuts h a low there joined)).some in omega (arith, same, some)
 
   views_before : (c : ℕ) → c ≤ end → (h : ℕ) → h < system.hosts → FitsPorts (system.host h).shape (system.host h).has_burst (run.at_host h).signals c
   views_before c fit h low = let views = rows.views h low in record {
@@ -119,17 +129,42 @@ module _ (laws : Laws) (responses : Responses) (system : System) (run : Run) (po
   pipe_of : (a : ℕ) → a < system.agents → IsPipeLine system a (hold_of system.stages) system.stages (ports.lower a system.stages) (ports.lower a 0) end
   pipe_of a there = pipe_line laws.pipes system a end (ports.lower a) (states.stage a) system.stages (λ i low. machines.stage a i there low) (some_word a there)
 
+  -- before a cycle joined commands are alike behind a route, and it shows something to agents alone that its host is joined to
+  pub record IsAlike (h a c : ℕ) : Type 0 where
+    pub alike : JoinsAlike (target_of system a) (ports.after_route h a) c
+    pub joined : (k : ℕ) → k < c → IsTrue (shows (ports.after_route h a).commands.signals k) → IsTrue (is_joined system a h)
+
   abbrev Alike : ℕ → Type 0
-  Alike c = (h a : ℕ) → h < system.hosts → a < system.agents → JoinsAlike (target_of system a) (ports.after_route h a) c
+  Alike c = (h a : ℕ) → h < system.hosts → a < system.agents → IsAlike h a c
+
+  by_idle : (h a : ℕ) {R : Type 0} → (IsFalse (rows.idle h a) → R) → (IsTrue (rows.idle h a) → R) → R
+  by_idle h a {R} links wires = by_test (rows.idle h a) refl
+    where
+      by_test : (b : Bool) → rows.idle h a ≡ b → R
+      by_test true e = wires e
+      by_test false e = links e
+
+  quiet_top : (h a c : ℕ) → IsAlike h a c → IsFalse (is_joined system a h) → IsQuiet (ports.after_route h a) c
+  quiet_top h a c is none k less = by_shown (shows (ports.after_route h a).commands.signals k) refl
+    where
+      by_shown : (b : Bool) → shows (ports.after_route h a).commands.signals k ≡ b → IsFalse b
+      by_shown false e = refl
+      by_shown true e = absurd (both_ways (is_joined system a h) none (is.joined k less e))
 
   row_line : (c : ℕ) → c ≤ end → Alike c → (h a : ℕ) → h < system.hosts → a < system.agents → KeepsRow (target_of system a) 2 (ports.after_route h a) (ports.before_arbiter h a) c
-  row_line c fit alike h a low there =
-      laws.row (target_of system a) (ports.after_route h a) (ports.below_cutter h a) (ports.above_dropper h a) (ports.before_arbiter h a) c (rows.cuts h a low there) (rows.fits h a low there) (rows.drops h a low there) (enables_before c fit h a low there) (alike h a low there)
+  row_line c fit alike h a low there = by_idle h a
+      (λ joined. laws.row (target_of system a) (ports.after_route h a) (ports.below_cutter h a) (ports.above_dropper h a) (ports.before_arbiter h a) c (rows.cuts h a low there joined) (rows.fits h a low there joined) (rows.drops h a low there joined) (enables_before c fit h a low there) (alike h a low there).alike)
+      (λ wires. let apart = rows.apart h a low there wires in
+      let idle = apart.1 in
+      silent_keeps (target_of system a) (ports.after_route h a) (ports.below_cutter h a) (ports.above_dropper h a) (ports.before_arbiter h a) c idle.high idle.mid idle.low (quiet_top h a c (alike h a low there) apart.0))
 
   row_lanes : (c : ℕ) → c ≤ end → Alike c → (h a : ℕ) → h < system.hosts → a < system.agents → BringsLanes system run h a (ports.after_route h a) (ports.before_arbiter h a) c
-  row_lanes c fit alike h a low there =
-      laws.lanes system run h a (ports.after_route h a) (ports.below_cutter h a) (ports.above_dropper h a) (ports.before_arbiter h a) c (rows.cuts h a low there) (rows.fits h a low there) (rows.drops h a low there) (enables_before c fit h a low there) (alike h a low there)
-      (λ none k less. lanes_placed system run h a c (host_word h a low there) (plan.agents a there).word (views_before c fit h low) (rows.lanes h a low there none) k less)
+  row_lanes c fit alike h a low there = by_idle h a
+      (λ joined. laws.lanes system run h a (ports.after_route h a) (ports.below_cutter h a) (ports.above_dropper h a) (ports.before_arbiter h a) c (rows.cuts h a low there joined) (rows.fits h a low there joined) (rows.drops h a low there joined) (enables_before c fit h a low there) (alike h a low there).alike
+      (λ none k less. lanes_placed system run h a c (host_word h a low there joined) (plan.agents a there).word (views_before c fit h low) (rows.lanes h a low there joined none) k less))
+      (λ wires. let apart = rows.apart h a low there wires in
+      let idle = apart.1 in
+      silent_lanes system run h a (ports.after_route h a) (ports.below_cutter h a) (ports.above_dropper h a) (ports.before_arbiter h a) c idle.high idle.mid idle.low (quiet_top h a c (alike h a low there) apart.0))
 
   kept : (c : ℕ) → c ≤ end → Alike c → KeepRows system run inside states c
   kept c fit alike = record {
@@ -179,7 +214,7 @@ module _ (laws : Laws) (responses : Responses) (system : System) (run : Run) (po
       let up_single = (host_line h low).single c fit host_legal (owed_host h low) in
       let up_below = (host_line h low).debt c fit host_legal (owed_host h low) in
       let carried = (route_line h low).commands c fit up_legal up_single up_below (λ b here. owed_route h b low here) in
-      laws.alike (target_of system a) (ports.after_route h a) h c (carried.legal a there) (single h a low there up_legal up_single up_below) (λ k less. carried.tag a k there less)
+      record { alike = laws.alike (target_of system a) (ports.after_route h a) h c (carried.legal a there) (single h a low there up_legal up_single up_below) (λ k less. carried.tag a k there less); joined = λ k less shown. carried.joined a k there less shown }
 
   alike_at : (c : ℕ) → c ≤ end → Alike c
   alike_at zero fit = alike_by zero fit (λ h low k less. absurd (omega (arith, less))) (λ h a low there k less. absurd (omega (arith, less))) (λ h a low there legal_up single_up below_up k less shown. absurd (omega (arith, less)))
@@ -190,11 +225,14 @@ module _ (laws : Laws) (responses : Responses) (system : System) (run : Run) (po
       single_behind laws.route responses system h (states.room h) (ports.after_host h) (ports.after_route h) (states.route h) end (plan.places h low) (machines.route h low) c fit legal_up single_up below_up
       (λ b here. settled.owed_after_route h b low here) a there)
 
-  pub alike : Alike end
-  alike = alike_at end (le_refl end)
+  all_alike : Alike end
+  all_alike = alike_at end (le_refl end)
+
+  pub alike : (h a : ℕ) → h < system.hosts → a < system.agents → JoinsAlike (target_of system a) (ports.after_route h a) end
+  alike h a low there = (all_alike h a low there).alike
 
   settled : IsSettled system run (inside_of system inside) states.room end
-  settled = settled_at end (le_refl end) alike
+  settled = settled_at end (le_refl end) all_alike
 
   pub legal_top : (h a : ℕ) → h < system.hosts → a < system.agents → AreLegalAt (ports.after_route h a) end
   legal_top h a low there =
@@ -222,9 +260,18 @@ module _ (laws : Laws) (responses : Responses) (system : System) (run : Run) (po
       by_place true true e f =
           let low = ltb-true h system.hosts e in
           let there = ltb-true a system.agents f in
-          let found = laws.modest (target_of system a) (ports.after_route h a) (ports.below_cutter h a) (ports.above_dropper h a) (ports.before_arbiter h a) end (rows.cuts h a low there) (rows.fits h a low there) (rows.drops h a low there) (enables_top h a low there)
+          by_idle h a
+          (λ joined.
+          let found = laws.modest (target_of system a) (ports.after_route h a) (ports.below_cutter h a) (ports.above_dropper h a) (ports.before_arbiter h a) end (rows.cuts h a low there joined) (rows.fits h a low there joined) (rows.drops h a low there joined) (enables_top h a low there)
           (legal_top h a low there) (owed_down h a low there) (alike h a low there) in
-          record { standing = found.0; modest = λ low there. found.1 }
+          record { standing = found.0; modest = λ low there. found.1 })
+          (λ wires.
+          let apart = rows.apart h a low there wires in
+          let idle = apart.1 in
+          record {
+            standing = λ i. record { rank = λ c. 0; largest = 0 };
+            modest = λ low there. silent_is_modest (target_of system a) (ports.after_route h a) (ports.below_cutter h a) (ports.above_dropper h a) (ports.before_arbiter h a) end idle.high idle.mid idle.low (quiet_top h a end (all_alike h a low there) apart.0);
+          })
       by_place true false e f = let past = ltb-false a system.agents f in record { standing = λ i. record { rank = λ c. 0; largest = 0 }; modest = λ low there. absurd (omega (arith, there, past)) }
       by_place false y e f = let past = ltb-false h system.hosts e in record { standing = λ i. record { rank = λ c. 0; largest = 0 }; modest = λ low there. absurd (omega (arith, low, past)) }
 
@@ -242,4 +289,4 @@ module _ (laws : Laws) (responses : Responses) (system : System) (run : Run) (po
   }
 
   pub rows_built : (ranks : LinkRanks) × IsBuilt responses system run inside states ranks end
-  rows_built = (ranks, record { plan = plan; rows = kept end (le_refl end) alike; machines = machines; links = links })
+  rows_built = (ranks, record { plan = plan; rows = kept end (le_refl end) all_alike; machines = machines; links = links })

@@ -1,6 +1,6 @@
 -- A row of link machines leads to the arbiter: plain commands go straight through it, in step, and first beats are shown promptly.
-use Rattle.std.proofs.Common.{ℕ, zero, suc, ◌*◌, ◌⊎◌, inl, inr, ◌<◌, ◌≡◌, Bool, true, false, not, ◌||◌, List, arith, refl, sym, subst, ◌∙◌, IsTrue, IsFalse, le_refl}
-use Rattle.std.proofs.lemmas.Bool.{both_ways}
+use Rattle.std.proofs.Common.{ℕ, zero, suc, ◌*◌, ◌⊎◌, inl, inr, ◌<◌, ◌≡◌, Bool, true, false, not, ◌||◌, List, arith, refl, sym, ap, subst, ◌∙◌, IsTrue, IsFalse, le_refl}
+use Rattle.std.proofs.lemmas.Bool.{both_ways, or_right}
 use Rattle.mm_runs.specs.Commands.{shows}
 use Rattle.mm_machines.specs.Link.{Target, Port, AreLegalAt, AnswersAreOwed, marked_at, operations_in, is_nonempty}
 use Rattle.mm_machines.specs.Machines.{MaySplit}
@@ -11,13 +11,14 @@ use Rattle.mm_links.specs.Bursts.{BurstState, RunsAsBurst, IsBurstPlan, burst_fo
 use Rattle.mm_links.specs.Cuts.{RunsAsCut, IsCutPlan}
 use Rattle.mm_links.specs.Drops.{DropState, RunsAsDrop, IsDropPlan, drop_form}
 use Rattle.mm_links.specs.InStep.{GoesInStep, AreInStep}
-use Rattle.mm_links.specs.Links.{LinkForm, IsLink, IsStraightLink, chain_form}
+use Rattle.mm_links.specs.Links.{LinkForm, IsLink, IsStraightLink, chain_form, pass_form}
 use Rattle.mm_links.specs.Selects.{RunsAsSelect, IsSelectPlan, EnablesFit}
 use Rattle.mm_links.specs.Splits.{SplitState, RunsAsSplit, split_form}
 use Rattle.mm_awake.specs.Rows.{IsWired, CutsBursts, CutsBursts.cutter, CutsBursts.shorter, CutsBursts.no_cutter, FitsWords, FitsWords.selector, FitsWords.splitter, FitsWords.no_width, DropsBeats, DropsBeats.dropper, DropsBeats.no_dropper}
 use Rattle.mm_awake.proofs.Enables.{enables_below}
 use Rattle.mm_awake.proofs.RowOfThree.{Carries, IsSettled, settled}
 use Rattle.mm_awake.proofs.RowLine.{RowLaws, cut_linked, fit_linked, drop_linked, linked_carries, cut_words, drop_words, same_below}
+use Rattle.mm_awake.proofs.Widened.{wire_link, wire_chain, owed_above_wire, straight_behind_wire, steps_behind_wire, begins_behind_wire, begins_before_wire}
 
 -- the laws of single links
 pub record LeadLaws : Type 0 where
@@ -80,6 +81,11 @@ module _ (laws : LeadLaws) (target : Target) (end : ℕ) where
     pub led : Led up down
     pub fits : target.shape.word_bytes ≡ up.shape.word_bytes
 
+  -- and that is word for word
+  record LastLed (up down : Port) : Type 0 where
+    pub fit : FitLed up down
+    pub words : IsTrue fit.led.form.word_for_word
+
   two_lead : (up middle down : Port) → Led up middle → FitLed middle down → AreLegalAt up end → AnswersAreOwed down end → AreLegalAt middle end → AnswersAreOwed middle end → Leads up down
   two_lead up middle down one two legal owed legal_there owed_there = record {
     straight = laws.chain false (record one.form { target = target }) (record two.led.form { target = target }) up middle down end refl one.link two.led.link legal owed steps above.straight below.straight;
@@ -95,16 +101,19 @@ module _ (laws : LeadLaws) (target : Target) (end : ℕ) where
       steps : AreInStep false target up middle down end
       steps = record { words = λ same. one.same; acts = λ c h plain. laws.acts target up c one.some (two.fits ∙ one.same) plain; first = above.step; second = below.step }
 
-  drop_led : (low down : Port) (room : ℕ) (state : DropState) → IsDropPlan target low.shape down.shape → 0 < room → RunsAsDrop room low down state → JoinsAlike target low end → FitLed low down
+  drop_led : (low down : Port) (room : ℕ) (state : DropState) → IsDropPlan target low.shape down.shape → 0 < room → RunsAsDrop room low down state → JoinsAlike target low end → LastLed low down
   drop_led low down room state plan some run alike = record {
-    led = record {
-      form = drop_form target;
-      link = laws.rows.links.drop target room low down state end plan some run alike;
-      some = plan.some;
-      same = plan.same;
-      leads = λ legal owed. record { straight = (laws.drop target room low down state end plan some run alike 0).straight legal owed; step = laws.drop_steps target room low down state end plan some run alike legal owed };
+    fit = record {
+      led = record {
+        form = drop_form target;
+        link = laws.rows.links.drop target room low down state end plan some run alike;
+        some = plan.some;
+        same = plan.same;
+        leads = λ legal owed. record { straight = (laws.drop target room low down state end plan some run alike 0).straight legal owed; step = laws.drop_steps target room low down state end plan some run alike legal owed };
+      };
+      fits = plan.agent;
     };
-    fits = plan.agent;
+    words = refl;
   }
 
   split_led : (middle low : Port) (room : ℕ) (state : SplitState) → MaySplit target middle.shape low.shape 1 → 0 < room → RunsAsSplit room middle low state → FitLed middle low
@@ -122,22 +131,35 @@ module _ (laws : LeadLaws) (target : Target) (end : ℕ) where
         fits = sym may.same ∙ sym words;
       }
 
-  cut_led : (top middle : Port) → CutsBursts top middle → IsWired top middle ⊎ Led top middle
-  cut_led top middle (cutter state plan run) = inr (record {
+  -- a wire
+  abbrev wire_led : (up down : Port) → IsWired up down → Led up down
+  wire_led up down wired = record {
+    form = pass_form target;
+    link = wire_link target up down end wired.wire (laws.rows.links.wire target up end wired.some);
+    some = wired.some;
+    same = sym (ap (λ p. p.shape.word_bytes) wired.wire.same);
+    leads = λ legal owed. record {
+      straight = straight_behind_wire up down wired.wire target end up (λ c. false) ((laws.wire target up end).straight legal (owed_above_wire up down wired.wire end owed));
+      step = steps_behind_wire up down wired.wire target end up false (laws.wire_steps false target up end);
+    };
+  }
+
+  cut_led : (top middle : Port) → CutsBursts top middle → Led top middle
+  cut_led top middle (cutter state plan run) = record {
     form = burst_form target;
     link = laws.rows.links.burst target top middle state end plan run;
     some = plan.some;
     same = plan.same;
     leads = λ legal owed. record { straight = (laws.burst target top middle state end plan run 0 false).straight legal owed; step = laws.burst_steps target top middle state end plan run legal owed };
-  })
-  cut_led top middle (shorter longest state plan run) = inr (record {
+  }
+  cut_led top middle (shorter longest state plan run) = record {
     form = burst_form target;
     link = laws.rows.links.cut target longest top middle state end plan run;
     some = plan.some;
     same = plan.same;
     leads = λ legal owed. record { straight = (laws.cut target longest top middle state end plan run 0 false).straight legal owed; step = laws.cut_steps target longest top middle state end plan run legal owed };
-  })
-  cut_led top middle (no_cutter wired) = inl wired
+  }
+  cut_led top middle (no_cutter wired) = wire_led top middle wired
 
   -- between equal words a splitter makes one piece, and no lane selector stands there
   count_is_one : (count size : ℕ) → 0 < count → 0 < size → count * size ≡ size → count ≡ 1
@@ -145,43 +167,46 @@ module _ (laws : LeadLaws) (target : Target) (end : ℕ) where
   count_is_one (suc zero) size more some same = refl
   count_is_one (suc (suc k)) size more some same = absurd (omega (arith, some, same))
 
+  -- one over another, which is word for word
+  chain_led : (up middle down : Port) → FitLed up middle → LastLed middle down → AreLegalAt middle end → AnswersAreOwed middle end → FitLed up down
+  chain_led up middle down one two legal owed = record {
+    led = record {
+      form = chain_form (record one.led.form { target = target }) (record two.fit.led.form { target = target });
+      link = laws.rows.chain (record one.led.form { target = target }) (record two.fit.led.form { target = target }) up middle down end
+          (record { target = refl; pieces = same_below {middle = middle} {down = down} up (record { some = two.fit.led.some; same = two.fit.led.same }); words = or_right one.led.form.word_for_word _ two.words }) one.led.link two.fit.led.link;
+      some = one.led.some;
+      same = two.fit.led.same ∙ one.led.same;
+      leads = λ legal_up owed_down. two_lead up middle down one.led two.fit legal_up owed_down legal owed;
+    };
+    fits = one.fits;
+  }
+
   -- what lies below the cutter
   lower_led : (middle low down : Port) → FitsWords target middle low → DropsBeats target low down → middle.shape.word_bytes ≡ low.shape.word_bytes → JoinsAlike target low end → AreLegalAt low end → AnswersAreOwed low end → IsWired middle down ⊎ FitLed middle down
   lower_led middle low down (selector many room offsets plan deep run) drops same alike legal owed =
       let more = plan.more in
       let one = count_is_one many middle.shape.word_bytes (omega (arith, more)) plan.some (sym (same ∙ plan.whole)) in
       absurd (omega (arith, more, one))
-  lower_led middle low down (no_width wired) (no_dropper below) same alike legal owed = inl (record { same = wired.same ∙ below.same; some = wired.some })
-  lower_led middle low down (no_width wired) (dropper room state plan some run) same alike legal owed = inr (subst (λ p. FitLed p down) (sym wired.same) (drop_led low down room state plan some run alike))
-  lower_led middle low down (splitter count room state may some run) drops same alike legal owed =
-      by_drops drops (count_is_one count low.shape.word_bytes may.one may.some (sym (sym same ∙ may.whole)))
+  lower_led middle low down (no_width wired) (no_dropper below) same alike legal owed = inl (record { wire = wire_chain middle low down wired.wire below.wire; some = wired.some })
+  lower_led middle low down (no_width wired) (dropper room state plan some run) same alike legal owed =
+      let last = drop_led low down room state plan some run alike in
+      inr (chain_led middle low down (record { led = wire_led middle low wired; fits = last.fit.fits ∙ sym same }) last legal owed)
+  lower_led middle low down (splitter count room state may some run) drops same alike legal owed = inr (chain_led middle low down high (below drops) legal owed)
     where
-      by_drops : DropsBeats target low down → count ≡ 1 → IsWired middle down ⊎ FitLed middle down
-      by_drops (no_dropper below) one = inr (subst (λ p. FitLed middle p) below.same (split_led middle low room state (subst (MaySplit target middle.shape low.shape) one may) some run))
-      by_drops (dropper deep drops plan less drop) one =
-          let high = split_led middle low room state (subst (MaySplit target middle.shape low.shape) one may) some run in
-          let last = drop_led low down deep drops plan less drop alike in
-          inr (record {
-            led = record {
-              form = chain_form (split_form target) (drop_form target);
-              link = laws.rows.chain (split_form target) (drop_form target) middle low down end (record { target = refl; pieces = same_below middle (drop_words (dropper deep drops plan less drop)); words = refl })
-                  (laws.rows.links.split target room count middle low state end may some run) (laws.rows.links.drop target deep low down drops end plan less drop alike);
-              some = high.led.some;
-              same = last.led.same ∙ high.led.same;
-              leads = λ legal_up owed_down. two_lead middle low down high.led last legal_up owed_down legal owed;
-            };
-            fits = high.fits;
-          })
+      high : FitLed middle low
+      high = split_led middle low room state (subst (MaySplit target middle.shape low.shape) (count_is_one count low.shape.word_bytes may.one may.some (sym (sym same ∙ may.whole))) may) some run
 
-  wire_leads : (top down : Port) → IsWired top down → AreLegalAt top end → AnswersAreOwed down end → Leads top down
-  wire_leads top down wired legal owed =
-      subst (λ p. Leads top p) wired.same (record { straight = (laws.wire target top end).straight legal (subst (λ p. AnswersAreOwed p end) (sym wired.same) owed); step = laws.wire_steps false target top end })
+      below : DropsBeats target low down → LastLed low down
+      below (no_dropper wired) = record { fit = record { led = wire_led low down wired; fits = sym may.same }; words = refl }
+      below (dropper deep drops plan less drop) = drop_led low down deep drops plan less drop alike
 
-  three_lead : (top middle down : Port) → IsWired top middle ⊎ Led top middle → IsWired middle down ⊎ FitLed middle down → AreLegalAt top end → AnswersAreOwed down end → AreLegalAt middle end → AnswersAreOwed middle end → Leads top down
-  three_lead top middle down (inl wired) (inl below) legal owed legal_there owed_there = wire_leads top down (record { same = wired.same ∙ below.same; some = wired.some }) legal owed
-  three_lead top middle down (inl wired) (inr two) legal owed legal_there owed_there = subst (λ p. Leads p down) (sym wired.same) (two.led.leads legal_there owed)
-  three_lead top middle down (inr one) (inl below) legal owed legal_there owed_there = subst (λ p. Leads top p) below.same (one.leads legal owed_there)
-  three_lead top middle down (inr one) (inr two) legal owed legal_there owed_there = two_lead top middle down one two legal owed legal_there owed_there
+  three_lead : (top middle down : Port) → Led top middle → IsWired middle down ⊎ FitLed middle down → AreLegalAt top end → AnswersAreOwed down end → AreLegalAt middle end → AnswersAreOwed middle end → Leads top down
+  three_lead top middle down one (inl below) legal owed legal_there owed_there =
+      let leads = one.leads legal owed_there in record {
+        straight = straight_behind_wire middle down below.wire target end top (λ c. false) leads.straight;
+        step = steps_behind_wire middle down below.wire target end top false leads.step;
+      }
+  three_lead top middle down one (inr two) legal owed legal_there owed_there = two_lead top middle down one two legal owed legal_there owed_there
 
   -- ---- the row
 
@@ -220,20 +245,20 @@ module _ (laws : LeadLaws) (target : Target) (end : ℕ) where
       fit_begins : FitsWords target middle low → BeginsBelow few may_burst target middle low end
       fit_begins (selector many room offsets plan deep run) = laws.select_begins target middle low many room offsets end plan deep run fit_middle between.legal_middle between.owed_low few may_burst
       fit_begins (splitter count room state may some run) = laws.split_begins target room count middle low state end may some run between.legal_middle between.owed_low few may_burst
-      fit_begins (no_width wired) = subst (λ p. BeginsBelow few may_burst target middle p end) wired.same (laws.pass_begins few may_burst target middle end between.legal_middle)
+      fit_begins (no_width wired) = begins_behind_wire middle low wired.wire target end middle few may_burst (laws.pass_begins few may_burst target middle end between.legal_middle)
 
       single_begins : FitsWords target middle low → (room : ℕ) (state : DropState) → IsDropPlan target low.shape down.shape → 0 < room → RunsAsDrop room low down state → BeginsBelow few false target middle down end
       single_begins (selector many deep offsets above some_deep select) room state plan some run = absurd (both_ways target.shape.has_enables plan.enables above.enables)
       single_begins (splitter count deep splits may some_deep split) room state plan some run =
           laws.split_over_drop target deep room count middle low down splits state end may some_deep split plan some run between.alike_middle between.legal_middle owed few later
       single_begins (no_width wired) room state plan some run =
-          subst (λ p. BeginsBelow few false target p down end) (sym wired.same) (laws.drop_begins target room low down state end plan some run between.alike_low between.legal_low owed few)
+          begins_before_wire middle low wired.wire target end down few false (laws.drop_begins target room low down state end plan some run between.alike_low between.legal_low owed few)
 
       lower_begins : (IsTrue may_burst → IsWired low down) → BeginsBelow few may_burst target middle down end
       lower_begins single = by_burst may_burst refl drops
         where
           wired_below : IsWired low down → BeginsBelow few may_burst target middle down end
-          wired_below wired = subst (λ p. BeginsBelow few may_burst target middle p end) wired.same (fit_begins fits)
+          wired_below wired = begins_behind_wire low down wired.wire target end middle few may_burst (fit_begins fits)
 
           by_burst : (b : Bool) → may_burst ≡ b → DropsBeats target low down → BeginsBelow few may_burst target middle down end
           by_burst true e any = wired_below (single e)
@@ -243,7 +268,7 @@ module _ (laws : LeadLaws) (target : Target) (end : ℕ) where
       upper_begins : CutsBursts top middle → BeginsBelow few may_burst target middle down end → BeginsBelow few may_burst target top down end
       upper_begins (cutter state plan run) below = laws.burst_over target top middle down state end few may_burst plan run legal between.owed_middle below
       upper_begins (shorter longest state plan run) below = laws.cut_over target longest top middle down state end few may_burst plan run legal between.owed_middle below
-      upper_begins (no_cutter wired) below = subst (λ p. BeginsBelow few may_burst target p down end) (sym wired.same) below
+      upper_begins (no_cutter wired) below = begins_before_wire top middle wired.wire target end down few may_burst below
 
       legal_below : AreLegalAt down end
       legal_below = ((last end between.alike_low).carries.commands end (le_refl end) between.legal_low (λ k less. owed k (omega (arith, less)))).legal

@@ -19,6 +19,7 @@ use Rattle.mm_links.specs.Splits.{SplitState, RunsAsSplit, split_form}
 use Rattle.mm_awake.specs.Rows.{IsWired, CutsBursts, CutsBursts.cutter, CutsBursts.shorter, CutsBursts.no_cutter, FitsWords, FitsWords.selector, FitsWords.splitter, FitsWords.no_width, DropsBeats, DropsBeats.dropper, DropsBeats.no_dropper, drops_some}
 use Rattle.mm_awake.proofs.Enables.{enables_below}
 use Rattle.mm_awake.proofs.RowOfThree.{Carries, settled}
+use Rattle.mm_awake.proofs.Widened.{wire_link}
 
 -- each machine is a link
 pub record LinkLaws : Type 0 where
@@ -63,7 +64,7 @@ same_below {middle} {down} up words =
     subst (λ n. n * pieces up.shape middle.shape ≤ pieces up.shape down.shape) (sym (one_piece words)) (omega (arith, same))
 
 wired_words : {up down : Port} → IsWired up down → HasSameWords up down
-wired_words {up} {down} wired = record { some = wired.some; same = sym (ap (λ p. p.shape.word_bytes) wired.same) }
+wired_words {up} {down} wired = record { some = wired.some; same = sym (ap (λ p. p.shape.word_bytes) wired.wire.same) }
 
 pub cut_words : {up down : Port} → CutsBursts up down → HasSameWords up down
 cut_words (cutter state plan run) = record { some = plan.some; same = plan.same }
@@ -82,7 +83,7 @@ pub record RowLaws : Type 0 where
 module _ (laws : RowLaws) (target : Target) where
   wired_linked : (hold : ℕ) (gathers : Bool) (up down : Port) → IsWired up down → (end : ℕ) → Linked target hold false gathers up down end
   wired_linked hold gathers up down wired end =
-      subst (λ p. Linked target hold false gathers up p end) wired.same (record { form = pass_form target; for_target = refl; few = omega arith; lanes = refl; words = or_right gathers true refl; link = laws.links.wire target up end wired.some })
+      record { form = pass_form target; for_target = refl; few = omega arith; lanes = refl; words = or_right gathers true refl; link = wire_link target up down end wired.wire (laws.links.wire target up end wired.some) }
 
   pub cut_linked : (up down : Port) → CutsBursts up down → (end : ℕ) → Linked target 1 false false up down end
   cut_linked up down (cutter state plan run) end = record { form = burst_form target; for_target = refl; few = omega arith; lanes = refl; words = refl; link = laws.links.burst target up down state end plan run }

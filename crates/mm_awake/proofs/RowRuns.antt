@@ -26,9 +26,9 @@ pub record Links : Type 0 where
 abbrev with_shape : Port → Shape → Port
 with_shape port shape = record port { shape = shape }
 
--- a wire between boundaries of one shape
-wire : (port : Port) (up down : Shape) → SuitsWire up down → IsWired (with_shape port up) (with_shape port down)
-wire port up down suits = record { same = ap (with_shape port) suits.0; some = suits.1 }
+-- a wire between boundaries of one shape, but for the longest burst
+pub wire : (port : Port) (up down : Shape) → SuitsWire up down → IsWired (with_shape port up) (with_shape port down)
+wire port up down suits = record { wire = record { same = ap (with_shape port) suits.0; longer = suits.1 }; some = suits.2 }
 
 module _ (links : Links) (inputs : Inputs) where
   -- ---- the cutter

@@ -1,5 +1,5 @@
 -- Reads that travel while others are owed: what the parts that lead to an agent do of what it is asked, where nothing but it can wait.
-use Rattle.std.specs.Prelude.{◌≡◌, ℕ, suc, ◌-◌, ◌<◌, ◌≤◌, length, IsTrue, IsFalse}
+use Rattle.std.specs.Prelude.{ℕ, suc, ◌-◌, ◌<◌, ◌≤◌, length, IsTrue, IsFalse}
 use Rattle.histories.specs.History.{is_raised}
 use Rattle.mm_runs.specs.Views.{System, Run}
 use Rattle.mm_runs.specs.Commands.{shows}
@@ -13,6 +13,7 @@ use Rattle.mm_parts.specs.Ahead.{AcceptsAhead, BearsMore}
 use Rattle.mm_links.specs.Soon.{ShowsSoon}
 use Rattle.mm_awake.specs.Front.{owes_alone}
 use Rattle.mm_awake.specs.Ways.{Ways, tagged}
+use Rattle.mm_awake.specs.Wires.{IsWire}
 
 -- where fewer than 16 reads of a host are under way and the agent alone owes it words, nothing waits before the route: a beat is shown behind it, or all that the host has presented for the agent was taken there
 abbrev pub KeepsNothingBack : System → Run → ℕ → ℕ → Port → ℕ → Type 0
@@ -32,7 +33,7 @@ pub record LeadsAhead (system : System) (run : Run) (agent : ℕ) (ways : Ways) 
   pub closed : (h : ℕ) → h < system.hosts → IsFalse (system.host h).has_burst → LeavesNothingOpen (ways.upper h (ways.above h)) (end - 1)
   pub joined : (h c : ℕ) → h < system.hosts → c < end → IsTrue (shows (ways.upper h (ways.above h)).commands.signals c) → IsTrue (is_joined system agent h)
   -- a host whose plain commands reach the agent one for one is wired to the arbiter
-  pub wired : (h : ℕ) → h < system.hosts → IsTrue (is_joined system agent h) → IsTrue (is_alike (system.host h) (system.agent agent)) → ways.upper h 0 ≡ ways.upper h (ways.above h)
+  pub wired : (h : ℕ) → h < system.hosts → IsTrue (is_joined system agent h) → IsTrue (is_alike (system.host h) (system.agent agent)) → IsWire (ways.upper h (ways.above h)) (ways.upper h 0)
 
 -- all unfinished commands of a host are for the agent, which waits for nothing: more reads may be under way, and an operation of the host isn't taken
 pub record CanTakeMore (system : System) (run : Run) (agent host c : ℕ) : Type 0 where

@@ -1,4 +1,5 @@
 pub mod Ways
+pub mod Wires
 pub mod Front
 pub mod Sizes
 pub mod Slack

@@ -1,9 +1,11 @@
 -- A system of machines with a row of links between each host's route and each agent's arbiter, without stages, run on whatever its hosts and agents give.
-use Rattle.std.specs.Prelude.{◌≡◌, ℕ, zero, suc, ◌+◌, ◌*◌, ◌<◌, ◌≤◌, Bool, true, false, not, ◌||◌, [], IsTrue}
+use Rattle.std.specs.Prelude.{◌≡◌, ℕ, zero, suc, ◌+◌, ◌*◌, ◌<◌, ◌≤◌, Bool, true, false, not, ◌&&◌, ◌||◌, [], if◌then◌else◌, nat_lt, IsTrue, IsFalse}
+use Rattle.histories.specs.History.{is_raised}
 use Rattle.mm_runs.specs.Views.{Shape, Responses, System, Run}
-use Rattle.mm_runs.specs.Commands.{longest_burst}
+use Rattle.mm_runs.specs.Commands.{longest_burst, shows}
 use Rattle.mm_runs.specs.Awake.{is_alike}
 use Rattle.mm_runs.specs.Order.{is_joined}
+use Rattle.mm_runs.specs.Plan.{FitsPorts}
 use Rattle.mm_machines.specs.Link.{Port}
 use Rattle.mm_machines.specs.Lines.{TaggedPort, target_of}
 use Rattle.mm_machines.specs.Machines.{Stage}
@@ -15,7 +17,7 @@ use Rattle.mm_parts.specs.ArbiterRun.{ArbiterInputs, ArbiterRegisters, arbiter_a
 use Rattle.mm_parts.specs.AgentRun.{AgentInputs, AgentRegisters, agent_at_rest, agent_state, agent_view, agent_upper, agent_step}
 use Rattle.mm_parts.specs.SystemRun.{Outside, no_words, commands_of}
 use Rattle.mm_links.specs.Driven.{Inputs}
-use Rattle.mm_awake.specs.RowRun.{Cutter, Fitter, Cutter.Uncut, Fitter.Unfitted, RowPlan, RowRegisters, SuitsRow, row_at_rest, row_step, row_top, row_middle, row_low, drop_raw, commands_by, shown_with}
+use Rattle.mm_awake.specs.RowRun.{Cutter, Fitter, Cutter.Uncut, Cutter.ByBeats, Fitter.Unfitted, Fitter.Selects, Fitter.Splits, RowPlan, RowRegisters, SuitsRow, row_at_rest, row_step, by_cutter, by_fitter, row_top, row_middle, row_low, drop_raw, commands_by, shown_with}
 use Rattle.mm_awake.specs.RowSystem.{RowPorts}
 use Rattle.mm_awake.specs.Theorem.{States}
 
@@ -36,15 +38,21 @@ host_inner plan h = inner_shape (plan.system.host h).word_bytes (plan.system.hos
 abbrev pub agent_inner : LinkPlan → ℕ → Shape
 agent_inner plan a = inner_shape (plan.system.agent a).word_bytes (plan.system.agent a).burst_bits
 
--- below the cutter bursts are those of the agent, and below what fits words its words too
+-- below a cutter bursts are as it makes them, and below what fits words they are single beats; a wire before the arbiter leads to those of the agent
+abbrev pub bits_below_cutter : LinkPlan → ℕ → ℕ → ℕ
+bits_below_cutter plan h a = by_cutter (plan.cutter h a) (plan.system.host h).burst_bits 1 (λ longest. (plan.system.agent a).burst_bits)
+
+abbrev pub bits_above_dropper : LinkPlan → ℕ → ℕ → ℕ
+bits_above_dropper plan h a = by_fitter (plan.fitter h a) (bits_below_cutter plan h a) 1 1
+
 abbrev pub row_of : LinkPlan → ℕ → ℕ → RowPlan
 row_of plan h a = record {
   cutter = plan.cutter h a;
   fitter = plan.fitter h a;
   drops = plan.drops h a;
   top = host_inner plan h;
-  middle = inner_shape (plan.system.host h).word_bytes (plan.system.agent a).burst_bits;
-  low = agent_inner plan a;
+  middle = inner_shape (plan.system.host h).word_bytes (bits_below_cutter plan h a);
+  low = inner_shape (plan.system.agent a).word_bytes (bits_above_dropper plan h a);
   bottom = agent_inner plan a;
   room = plan.room;
 }
@@ -57,14 +65,36 @@ pub record IsWireRow (plan : RowPlan) : Type 0 where
 
 -- what is asked of the links
 pub record SuitsLinks (plan : LinkPlan) : Type 0 where
+  pub idle : ℕ → ℕ → Bool  -- of a host and an agent that aren't joined: wires lead there, whatever the words
   pub stages : plan.system.stages ≡ 0
-  pub rows : (h a : ℕ) → h < plan.system.hosts → a < plan.system.agents → SuitsRow (target_of plan.system a) (row_of plan h a)
+  pub rows : (h a : ℕ) → h < plan.system.hosts → a < plan.system.agents → IsFalse (idle h a) → SuitsRow (target_of plan.system a) (row_of plan h a)
   -- a host whose plain commands reach an agent with readdatavalid one for one is wired to its arbiter
   pub wired : (h a : ℕ) → h < plan.system.hosts → a < plan.system.agents → IsTrue (is_joined plan.system a h) → IsTrue (plan.system.agent a).has_readdatavalid → IsTrue (is_alike (plan.system.host h) (plan.system.agent a)) → IsWireRow (row_of plan h a)
   -- where no beats are dropped, the agent has byte enables or the host has none
-  pub lanes : (h a : ℕ) → h < plan.system.hosts → a < plan.system.agents → plan.drops h a ≡ false → IsTrue ((plan.system.agent a).has_enables || not (plan.system.host h).has_enables)
+  pub lanes : (h a : ℕ) → h < plan.system.hosts → a < plan.system.agents → IsFalse (idle h a) → plan.drops h a ≡ false → IsTrue ((plan.system.agent a).has_enables || not (plan.system.host h).has_enables)
+  pub apart : (h a : ℕ) → h < plan.system.hosts → a < plan.system.agents → IsTrue (idle h a) → IsFalse (is_joined plan.system a h) × IsWireRow (row_of plan h a)
   -- hosts past those of the plan are wired
   pub past : (h a : ℕ) → plan.system.hosts ≤ h → IsWireRow (row_of plan h a)
+
+-- what makes the words of a host those of an agent
+abbrev pub fitter_for : ℕ → ℕ → Fitter
+fitter_for host agent = if nat_lt agent host then Splits else if nat_lt host agent then Selects else Unfitted
+
+-- links for any plan: hosts that are alike to an agent are wired to it, and between others that are joined bursts are cut into single beats, words are fitted, and beats without a lane are dropped where the host alone has byte enables
+abbrev pub links_for : System → LinkPlan
+links_for system = record {
+  system = system;
+  cutter = λ h a. if is_joined system a h && not (is_alike (system.host h) (system.agent a)) then ByBeats else Uncut;
+  fitter = λ h a. if is_joined system a h then fitter_for (system.host h).word_bytes (system.agent a).word_bytes else Unfitted;
+  drops = λ h a. is_joined system a h && ((system.host h).has_enables && not (system.agent a).has_enables);
+  room = 2;
+}
+
+-- what is asked of what the hosts show, beside that it is legal: it fits their ports, whose absent byteenable reads as all ones and burstcount as 1; a host without readdatavalid reads one word at a time; and hosts past those of the plan show nothing
+pub record AreFitHosts (system : System) (outside : Outside) (end : ℕ) : Type 0 where
+  pub ports : (h : ℕ) → h < system.hosts → FitsPorts (system.host h).shape (system.host h).has_burst (outside.host h) end
+  pub one_word : (h c : ℕ) → h < system.hosts → c < end → IsFalse (system.host h).has_readdatavalid → IsTrue (is_raised ((outside.host h).read c)) → (outside.host h).count c ≡ 1
+  pub none_past : (h c : ℕ) → system.hosts ≤ h → IsFalse (shows (outside.host h) c)
 
 -- what all registers hold in one cycle
 pub record Registers : Type 0 where

@@ -1,6 +1,6 @@
 -- A row of a cutter of bursts, what fits words and what drops beats, each of which may be a wire, run on all that is shown to it: commands from above, waits and answers from below.
 -- In a cycle commands go down first, by registers, and then waits and answers come up; so the registers of all three are told together, by recursion on the cycle.
-use Rattle.std.specs.Prelude.{◌≡◌, ℕ, zero, suc, ◌/◌, ◌%◌, ◌^◌, ◌<◌, ◌||◌, Bool, true, false, List, [], if◌then◌else◌}
+use Rattle.std.specs.Prelude.{◌≡◌, ℕ, zero, suc, ◌/◌, ◌%◌, ◌^◌, ◌<◌, ◌≤◌, ◌||◌, Bool, true, false, List, [], if◌then◌else◌}
 use Rattle.histories.specs.History.{is_raised, one_if}
 use Rattle.mm_runs.specs.Views.{Shape, levels_at}
 use Rattle.mm_machines.specs.Paths.{AnswerView}
@@ -14,6 +14,7 @@ use Rattle.mm_links.specs.Selects.{IsSelectPlan, selected, silenced, first_of}
 use Rattle.mm_links.specs.Splits.{nothing}
 use Rattle.mm_links.specs.Driven.{Inputs, SelectInputs, SplitInputs, BurstInputs, CutInputs, DropInputs, SplitRegisters, BurstRegisters, DropRegisters}
 use Rattle.mm_links.specs.Driven.{signals_of, silent_raw, shuts, select_waits, select_step, split_part, split_waits, split_valid, split_added, split_step, burst_part, burst_waits, burst_step, cut_part, cut_step, drop_part, drop_waits, drop_step}
+use Rattle.mm_awake.specs.Wires.{shape_with}
 
 pub data Cutter : Type 0 where
   Uncut : Cutter
@@ -160,9 +161,9 @@ abbrev pub row_registers : RowPlan → Inputs → ℕ → RowRegisters
 row_registers plan inputs zero = row_at_rest
 row_registers plan inputs (suc c) = row_step plan inputs (row_registers plan inputs c) c
 
--- what the plan says of the words and bursts at the boundaries; where a wire stands they are the same
+-- what the plan says of the words and bursts at the boundaries; where a wire stands they are the same, but that bursts may be longer below
 abbrev pub SuitsWire : Shape → Shape → Type 0
-SuitsWire up down = (up ≡ down) × (0 < up.word_bytes)
+SuitsWire up down = (shape_with down.burst_bits up ≡ down) × (up.burst_bits ≤ down.burst_bits) × (0 < up.word_bytes)
 
 abbrev pub SuitsCutter : Cutter → Shape → Shape → Type 0
 SuitsCutter Uncut up down = SuitsWire up down

@@ -1,5 +1,5 @@
 -- Systems of machines whose links are machines too: three in a row between a host's route and an agent's arbiter, each of which may be a wire.
-use Rattle.std.specs.Prelude.{◌≡◌, ℕ, ◌<◌, not, ◌||◌, IsTrue, IsFalse}
+use Rattle.std.specs.Prelude.{ℕ, ◌<◌, Bool, not, ◌||◌, IsTrue, IsFalse}
 use Rattle.mm_runs.specs.Views.{System, Run}
 use Rattle.mm_runs.specs.Awake.{is_alike}
 use Rattle.mm_runs.specs.Order.{is_joined}
@@ -8,6 +8,7 @@ use Rattle.mm_machines.specs.Link.{Port}
 use Rattle.mm_machines.specs.Lines.{TaggedPort, target_of}
 use Rattle.mm_awake.specs.Rows.{IsWired, CutsBursts, FitsWords, DropsBeats, drops_some, ports_of_three}
 use Rattle.mm_awake.specs.Theorem.{Boundaries}
+use Rattle.mm_awake.specs.Wires.{IsWire, HandsAllOn}
 
 -- the boundaries inside, of a host and an agent from the route down
 pub record RowPorts : Type 0 where
@@ -26,18 +27,26 @@ boundaries_of ports = record {
   lower = ports.lower;
 }
 
+-- what stands between a host and an agent that it isn't joined to, where nothing is shown: wires, which may lead to any words
+pub record AreIdleWires (ports : RowPorts) (h a : ℕ) : Type 0 where
+  pub high : HandsAllOn (ports.after_route h a) (ports.below_cutter h a)
+  pub mid : HandsAllOn (ports.below_cutter h a) (ports.above_dropper h a)
+  pub low : HandsAllOn (ports.above_dropper h a) (ports.before_arbiter h a)
+
 -- every link is its machine or a wire, below hosts whose levels fit their ports
 pub record AreRows (system : System) (run : Run) (ports : RowPorts) (end : ℕ) : Type 0 where
+  pub idle : ℕ → ℕ → Bool  -- of a host and an agent that aren't joined: wires lead there, whatever the words
   -- what each host shows fits its ports, whose absent byteenable reads as all ones
   pub views : (h : ℕ) → h < system.hosts → FitsPorts (system.host h).shape (system.host h).has_burst (run.at_host h).signals end
-  pub cuts : (h a : ℕ) → h < system.hosts → a < system.agents → CutsBursts (ports.after_route h a) (ports.below_cutter h a)
-  pub fits : (h a : ℕ) → h < system.hosts → a < system.agents → FitsWords (target_of system a) (ports.below_cutter h a) (ports.above_dropper h a)
-  pub drops : (h a : ℕ) → h < system.hosts → a < system.agents → DropsBeats (target_of system a) (ports.above_dropper h a) (ports.before_arbiter h a)
+  pub cuts : (h a : ℕ) → h < system.hosts → a < system.agents → IsFalse (idle h a) → CutsBursts (ports.after_route h a) (ports.below_cutter h a)
+  pub fits : (h a : ℕ) → h < system.hosts → a < system.agents → IsFalse (idle h a) → FitsWords (target_of system a) (ports.below_cutter h a) (ports.above_dropper h a)
+  pub drops : (h a : ℕ) → h < system.hosts → a < system.agents → IsFalse (idle h a) → DropsBeats (target_of system a) (ports.above_dropper h a) (ports.before_arbiter h a)
   -- where no beats are dropped, the agent has byte enables or the host has none
-  pub lanes : (h a : ℕ) (low : h < system.hosts) (there : a < system.agents) → IsFalse (drops_some (drops h a low there)) → IsTrue ((system.agent a).has_enables || not (system.host h).has_enables)
+  pub lanes : (h a : ℕ) (low : h < system.hosts) (there : a < system.agents) (links : IsFalse (idle h a)) → IsFalse (drops_some (drops h a low there links)) → IsTrue ((system.agent a).has_enables || not (system.host h).has_enables)
   -- a host whose plain commands reach an agent with readdatavalid one for one is wired to its arbiter: a link with room for one read, which may stand there, would hold a second one back while the first is owed
   pub wired : (h a : ℕ) → h < system.hosts → a < system.agents → IsTrue (is_joined system a h) → IsTrue (system.agent a).has_readdatavalid → IsTrue (is_alike (system.host h) (system.agent a)) →
-      ports.before_arbiter h a ≡ ports.after_route h a
+      IsWire (ports.after_route h a) (ports.before_arbiter h a)
+  pub apart : (h a : ℕ) → h < system.hosts → a < system.agents → IsTrue (idle h a) → IsFalse (is_joined system a h) × AreIdleWires ports h a
 
 -- no beats are dropped below a host with bursts and without byte enables: its write bursts are counted from their first beat, which is kept there until the next one comes
 abbrev pub IsFairRow : System → RowPorts → ℕ → ℕ → Type 0

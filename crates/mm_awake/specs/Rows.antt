@@ -1,5 +1,5 @@
 -- How the links in a row between a host's route and an agent's arbiter keep going and hold little back, and the rows that do.
-use Rattle.std.specs.Prelude.{◌≡◌, ℕ, zero, suc, ◌<◌, ◌≤◌, Bool, true, false, List}
+use Rattle.std.specs.Prelude.{ℕ, zero, suc, ◌<◌, ◌≤◌, Bool, true, false, List}
 use Rattle.mm_machines.specs.Link.{Target, Port}
 use Rattle.mm_machines.specs.Machines.{MaySplit}
 use Rattle.mm_links.specs.Bursts.{BurstState, RunsAsBurst, IsBurstPlan}
@@ -10,6 +10,7 @@ use Rattle.mm_links.specs.Selects.{RunsAsSelect, IsSelectPlan}
 use Rattle.mm_links.specs.Splits.{SplitState, RunsAsSplit}
 use Rattle.mm_awake.specs.Slack.{Slack, PassesWhileStill, IsModestLink}
 use Rattle.mm_awake.specs.Ways.{Standing}
+use Rattle.mm_awake.specs.Wires.{IsWire}
 
 -- at most three links, of which number 0 is the lowest: each keeps going, and holds little back while the highest port is still
 pub record IsModestRow (target : Target) (links : ℕ) (port : ℕ → Port) (standing : ℕ → Standing) (slack : ℕ → Slack) (end : ℕ) : Type 0 where
@@ -22,7 +23,7 @@ pub record IsModestRow (target : Target) (links : ℕ) (port : ℕ → Port) (st
 
 -- a wire, whose words aren't empty
 pub record IsWired (up down : Port) : Type 0 where
-  pub same : up ≡ down
+  pub wire : IsWire up down
   pub some : 0 < up.shape.word_bytes
 
 -- below the route bursts are cut into single beats, or into those that the agent takes, or stay

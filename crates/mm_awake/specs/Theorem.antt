@@ -19,6 +19,7 @@ use Rattle.mm_links.specs.Going.{KeepsGoing}
 use Rattle.mm_awake.specs.Slack.{Slack, Slacks, PassesWhileStill, host_allows, toll}
 use Rattle.mm_awake.specs.Approach.{Approach}
 use Rattle.mm_awake.specs.Ways.{Ways, Standing, Standings}
+use Rattle.mm_awake.specs.Wires.{IsWire}
 
 -- the boundaries inside
 pub record Boundaries : Type 0 where
@@ -89,7 +90,7 @@ pub record AreLinks (system : System) (run : Run) (inside : Boundaries) (states 
   pub toll : (h a : ℕ) → h < system.hosts → a < system.agents → toll (ways_of system inside a) (standings_of system run states ranks a) h ≤ 5
   -- a host whose plain commands reach an agent with readdatavalid one for one is wired to its arbiter
   pub wired : (h a : ℕ) → h < system.hosts → a < system.agents → IsTrue (is_joined system a h) → IsTrue (system.agent a).has_readdatavalid → IsTrue (is_alike (system.host h) (system.agent a)) →
-      inside.upper h a 0 ≡ inside.upper h a (inside.links h a)
+      IsWire (inside.upper h a (inside.links h a)) (inside.upper h a 0)
 
 -- what the plan says
 pub record ArePlanned (system : System) (inside : Boundaries) (states : States) : Type 0 where

@@ -16,6 +16,7 @@ ghost use Rattle.mm_machines.specs.Straight.{IsShownPromptly};
 ghost use Rattle.mm_machines.specs.Turns.{seats_of, others_begun, IsKeptAsking};
 ghost use Rattle.mm_parts.specs.Steps.{IsArbiterPart, IsHostPart, IsRoutePart, has_room};
 ghost use Rattle.mm_awake.specs.Ways.{count_in};
+ghost use Rattle.mm_awake.specs.Wires.{IsWire};
 ghost use Rattle.mm_awake.specs.Theorem.{Boundaries, States, LinkRanks, IsBuilt};
 ghost use Rattle.mm_awake.specs.Fair.{are_apart, AllAskPlainly, AreAmong, AsksWithin, BeginsByTurns, IsPlainAt, HandsWritesOn, HandsPlainWrites, may_burst_to, LeadsFairly, WaitsAlone, WaitsBefore};
 
@@ -74,7 +75,7 @@ pub fn straight_links_hand_on()
 pub fn wires_lead_fairly()
     ensures { (responses : Responses) (system : System) (run : Run) (inside : Boundaries) (states : States) (ranks : LinkRanks) (end agent host : ℕ) (ahead : Bool)
         → IsBuilt responses system run inside states ranks end → IsLegalRun system run end → agent < system.agents → host < system.hosts
-        → inside.upper host agent 0 ≡ inside.upper host agent (inside.links host agent)
+        → IsWire (inside.upper host agent (inside.links host agent)) (inside.upper host agent 0)
         → LeadsFairly system inside ahead agent host end }
 {
     mm_links::rows::pass_is_a_link();
@@ -87,7 +88,7 @@ pub fn wired_machines_are_fair()
     ensures { (responses : Responses) (system : System) (run : Run) (inside : Boundaries) (states : States) (ranks : LinkRanks) (end : ℕ)
         → IsBuilt responses system run inside states ranks end → IsLegalRun system run end
         → ((agent : ℕ) → agent < system.agents → IsTrue (are_apart (system.joined agent)))
-        → ((agent host : ℕ) → agent < system.agents → IsTrue (is_joined system agent host) → inside.upper host agent 0 ≡ inside.upper host agent (inside.links host agent))
+        → ((agent host : ℕ) → agent < system.agents → IsTrue (is_joined system agent host) → IsWire (inside.upper host agent (inside.links host agent)) (inside.upper host agent 0))
         → IsFair system run end }
 {
     machines_are_fair();
@@ -98,7 +99,7 @@ pub fn wired_machines_are_fair()
 pub fn wired_hosts_ask_while_waiting()
     ensures wired { (responses : Responses) (system : System) (run : Run) (inside : Boundaries) (states : States) (ranks : LinkRanks) (end agent : ℕ)
         → IsBuilt responses system run inside states ranks end → IsLegalRun system run end → agent < system.agents
-        → ((host : ℕ) → IsTrue (is_joined system agent host) → inside.upper host agent 0 ≡ inside.upper host agent (inside.links host agent))
+        → ((host : ℕ) → IsTrue (is_joined system agent host) → IsWire (inside.upper host agent (inside.links host agent)) (inside.upper host agent 0))
         → AsksWithin 0 system run (λ h. inside.upper h agent 0) agent end }
     ensures later { (late more : ℕ) (system : System) (run : Run) (up : ℕ → Port) (agent end : ℕ) → late ≤ more
         → AsksWithin late system run up agent end → AsksWithin more system run up agent end }
@@ -159,7 +160,7 @@ pub fn askers_are_passed_by_few()
 pub fn waiting_hosts_are_passed_by_few()
     ensures { (responses : Responses) (system : System) (run : Run) (inside : Boundaries) (states : States) (ranks : LinkRanks) (end agent host from size : ℕ)
         → IsBuilt responses system run inside states ranks end → IsLegalRun system run end → agent < system.agents → host < system.hosts → from + size ≤ end
-        → inside.upper host agent 0 ≡ inside.upper host agent (inside.links host agent) → Throughout from size (WaitsBefore system run inside agent host)
+        → IsWire (inside.upper host agent (inside.links host agent)) (inside.upper host agent 0) → Throughout from size (WaitsBefore system run inside agent host)
         → others_begun (seats_of system agent) (λ h. inside.upper h agent 0) (inside.lower agent system.stages).port host from size ≤ shares_of_others system agent host }
 {
     waiting_hosts_ask();

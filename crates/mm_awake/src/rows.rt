@@ -2,10 +2,9 @@
 
 ghost use Rattle.std.specs.Prelude.{◌≡◌, ℕ, ◌<◌, ◌≤◌, ◌+◌, IsTrue, IsFalse};
 ghost use Rattle.mm_runs.specs.Views.{Responses, System, Run};
-ghost use Rattle.mm_runs.specs.Commands.{shows};
 ghost use Rattle.mm_runs.specs.Plan.{IsMemoryPlan, AreViews};
 ghost use Rattle.mm_runs.specs.Whole.{IsLegalRun, IsSafe};
-ghost use Rattle.mm_runs.specs.Awake.{NeverIdles, IsFair, is_alike};
+ghost use Rattle.mm_runs.specs.Awake.{NeverIdles, IsFair};
 ghost use Rattle.mm_runs.specs.Order.{is_joined};
 ghost use Rattle.mm_machines.specs.Link.{Target, AreLegalAt, AnswersAreOwed};
 ghost use Rattle.mm_machines.specs.Lines.{target_of};
@@ -15,7 +14,7 @@ ghost use Rattle.mm_links.specs.Selects.{EnablesFit};
 ghost use Rattle.mm_awake.specs.Fair.{are_apart};
 ghost use Rattle.mm_awake.specs.Rows.{CutsBursts, FitsWords, DropsBeats};
 ghost use Rattle.mm_awake.specs.RowRun.{RowPlan, SuitsRow, row_registers, row_top, row_middle, row_low, row_bottom};
-ghost use Rattle.mm_awake.specs.LinkSystem.{LinkPlan, SuitsLinks, linked_registers, linked_run, linked_ports, linked_states};
+ghost use Rattle.mm_awake.specs.LinkSystem.{LinkPlan, SuitsLinks, AreFitHosts, links_for, linked_registers, linked_run, linked_ports, linked_states};
 ghost use Rattle.mm_awake.specs.PlainSystem.{AreQuietPast, wired_ports, wired_states};
 ghost use Rattle.mm_parts.specs.SystemRun.{PlainPlan, HaveOneShape, Outside, plain_system, registers_of, ports_run};
 ghost use Rattle.mm_awake.specs.RowSystem.{RowPorts, AreRows, IsFairRow, boundaries_of};
@@ -110,7 +109,7 @@ pub fn linked_systems_run()
         → let registers = linked_registers responses plan outside in
         let run = linked_run responses plan outside registers in
         let ports = linked_ports responses plan outside registers in
-        IsMemoryPlan plan.system → SuitsLinks plan → AreViews plan.system run end → ((h c : ℕ) → plan.system.hosts ≤ h → IsFalse (shows (outside.host h) c))
+        IsMemoryPlan plan.system → SuitsLinks plan → AreFitHosts plan.system outside end
         → ArePlanned plan.system (boundaries_of ports) (linked_states responses plan outside registers)
         × AreMachines responses plan.system run (boundaries_of ports) (linked_states responses plan outside registers) end
         × AreRows plan.system run ports end }
@@ -132,25 +131,52 @@ pub fn linked_systems_run()
 pub fn linked_systems_are_awake()
     ensures safe { (responses : Responses) (plan : LinkPlan) (outside : Outside) (end : ℕ)
         → let run = linked_run responses plan outside (linked_registers responses plan outside) in
-        IsMemoryPlan plan.system → SuitsLinks plan → AreViews plan.system run end → ((h c : ℕ) → plan.system.hosts ≤ h → IsFalse (shows (outside.host h) c)) → IsLegalRun plan.system run end
+        IsMemoryPlan plan.system → SuitsLinks plan → AreFitHosts plan.system outside end → IsLegalRun plan.system run end
         → IsSafe responses plan.system run end }
     ensures awake { (responses : Responses) (plan : LinkPlan) (outside : Outside) (end : ℕ)
         → let run = linked_run responses plan outside (linked_registers responses plan outside) in
-        IsMemoryPlan plan.system → SuitsLinks plan → AreViews plan.system run (end + 2) → ((h c : ℕ) → plan.system.hosts ≤ h → IsFalse (shows (outside.host h) c)) → IsLegalRun plan.system run (end + 2)
+        IsMemoryPlan plan.system → SuitsLinks plan → AreFitHosts plan.system outside (end + 2) → IsLegalRun plan.system run (end + 2)
         → NeverIdles plan.system run end }
 {
     linked_systems_run();
     machines_with_links_are_awake()
 }
 
-/// What these premises leave out: an agent with longer bursts has no host without bursts that is alike to it and joined to it, if it has `readdatavalid`, and no host with narrower words.
-pub fn longer_bursts_are_left_out()
-    ensures alike { (responses : Responses) (system : System) (run : Run) (ports : RowPorts) (states : States) (end h a : ℕ)
-        → ArePlanned system (boundaries_of ports) states → AreMachines responses system run (boundaries_of ports) states end → AreRows system run ports end
-        → h < system.hosts → a < system.agents → IsTrue (is_joined system a h) → IsTrue (system.agent a).has_readdatavalid → IsTrue (is_alike (system.host h) (system.agent a))
-        → (system.agent a).burst_bits ≡ 1 }
-    ensures narrower { (responses : Responses) (system : System) (run : Run) (ports : RowPorts) (states : States) (end h a : ℕ)
-        → ArePlanned system (boundaries_of ports) states → AreMachines responses system run (boundaries_of ports) states end → AreRows system run ports end
-        → h < system.hosts → a < system.agents → (system.host h).word_bytes < (system.agent a).word_bytes
-        → (system.agent a).burst_bits ≡ 1 }
+/// And it is fair where no host is joined to an agent twice, and no beats are dropped below a host with bursts and without byte enables.
+pub fn linked_systems_are_fair()
+    ensures { (responses : Responses) (plan : LinkPlan) (outside : Outside) (end : ℕ)
+        → let run = linked_run responses plan outside (linked_registers responses plan outside) in
+        IsMemoryPlan plan.system → SuitsLinks plan → AreFitHosts plan.system outside end → IsLegalRun plan.system run end
+        → ((agent : ℕ) → agent < plan.system.agents → IsTrue (are_apart (plan.system.joined agent)))
+        → ((h a : ℕ) → a < plan.system.agents → IsTrue (is_joined plan.system a h) → IsFalse (plan.system.host h).has_enables → IsTrue (plan.system.host h).has_burst → IsFalse (plan.drops h a))
+        → IsFair plan.system run end }
+{
+    linked_systems_run();
+    machines_with_links_are_fair()
+}
+
+/// For each plan without stages that keeps the rules on connections and maps there are links that suit it: nothing that these rules accept is left out.
+pub fn plans_have_links()
+    ensures { (system : System) → IsMemoryPlan system → system.stages ≡ 0 → SuitsLinks (links_for system) }
 {}
+
+/// So for each such plan there is a system of machines that is safe, never idles, and is fair where no host is joined to an agent twice, whatever its hosts and agents give, as long as they are legal.
+pub fn plans_are_served()
+    ensures safe { (responses : Responses) (system : System) (outside : Outside) (end : ℕ)
+        → let run = linked_run responses (links_for system) outside (linked_registers responses (links_for system) outside) in
+        IsMemoryPlan system → system.stages ≡ 0 → AreFitHosts system outside end → IsLegalRun system run end
+        → IsSafe responses system run end }
+    ensures awake { (responses : Responses) (system : System) (outside : Outside) (end : ℕ)
+        → let run = linked_run responses (links_for system) outside (linked_registers responses (links_for system) outside) in
+        IsMemoryPlan system → system.stages ≡ 0 → AreFitHosts system outside (end + 2) → IsLegalRun system run (end + 2)
+        → NeverIdles system run end }
+    ensures fair { (responses : Responses) (system : System) (outside : Outside) (end : ℕ)
+        → let run = linked_run responses (links_for system) outside (linked_registers responses (links_for system) outside) in
+        IsMemoryPlan system → system.stages ≡ 0 → AreFitHosts system outside end → IsLegalRun system run end
+        → ((agent : ℕ) → agent < system.agents → IsTrue (are_apart (system.joined agent)))
+        → IsFair system run end }
+{
+    plans_have_links();
+    linked_systems_are_awake();
+    linked_systems_are_fair()
+}

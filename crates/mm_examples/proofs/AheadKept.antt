@@ -31,7 +31,7 @@ leads_ahead laws = record {
   back = one (λ h. KeepsNothingBack waiting_small waiting_run h 0 (read_behind h) 5) (laws.back waiting_small waiting_run 0 0 reads_below (λ a. read_behind 0) 5 (omega arith) host_part route_part);
   closed = λ h low plain. one (λ h. LeavesNothingOpen (read_behind h) 4) (laws.closed waiting_small waiting_run 0 0 reads_below (λ a. read_behind 0) 5 (omega arith) host_part route_part refl) h low;
   joined = λ h c low fit shown. one (λ h. IsTrue (is_joined waiting_small 0 h)) refl h low;
-  wired = λ h low joined alike. refl;
+  wired = λ h low joined alike. record { same = refl; longer = omega arith };
 }
   where
     accepted : (c : ℕ) → c < 5 → IsTrue (shows (read_behind 0).commands.signals c) → IsFalse (agent_accepts (waiting_small.agent 0) (waiting_run.at_agent 0) c) → ⊥
@@ -56,7 +56,7 @@ travel_leads = record {
   back = one (λ h. KeepsNothingBack travel_system travel_run h 0 (travel_port h) 4) (four _ (λ room alone none. cc) (λ room alone none. cc) (λ room alone none. omega arith) (λ room alone none. omega arith));
   closed = λ h low plain. one (λ h. LeavesNothingOpen (travel_port h) 3) (λ c fit. each_below (λ c. IsFalse (is_unclosed (travel_port 0) c)) 3 c (((tt, refl), refl), refl) fit) h low;
   joined = λ h c low fit shown. one (λ h. IsTrue (is_joined travel_system 0 h)) refl h low;
-  wired = λ h low joined alike. refl;
+  wired = λ h low joined alike. record { same = refl; longer = omega arith };
 }
   where
     accepted : (c : ℕ) → c < 4 → IsTrue (shows (travel_port 0).commands.signals c) → IsFalse (agent_accepts (travel_system.agent 0) (travel_run.at_agent 0) c) → ⊥

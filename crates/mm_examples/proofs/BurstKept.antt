@@ -1,5 +1,6 @@
 -- The right system with bursts and a stage is one of machines, of which all premises hold.
-use Rattle.std.proofs.Common.{ℕ, zero, suc, ◌<◌, ◌≡◌, ◌*◌, ◌||◌, true, false, not, arith, refl, IsTrue, IsFalse}
+use Rattle.std.proofs.Common.{ℕ, zero, suc, le_refl, ◌<◌, ◌≡◌, ◌*◌, ◌||◌, true, false, not, arith, refl, IsTrue, IsFalse}
+use Rattle.std.proofs.lemmas.Bool.{both_ways}
 use Rattle.mm_runs.specs.Views.Responses.{AreZero}
 use Rattle.mm_runs.specs.Awake.{is_alike}
 use Rattle.mm_runs.specs.Commands.{longest_burst}
@@ -13,8 +14,9 @@ use Rattle.mm_links.specs.Pipes.{RunsAsPipe}
 use Rattle.mm_awake.specs.RowSystem.{AreRows, IsFairRow, boundaries_of}
 use Rattle.mm_awake.specs.Rows.{IsWired, CutsBursts, DropsBeats, CutsBursts.cutter, CutsBursts.no_cutter, FitsWords.no_width, DropsBeats.dropper, DropsBeats.no_dropper, drops_some}
 use Rattle.mm_awake.specs.Theorem.{ArePlanned, AreMachines, IsStageBetween}
+use Rattle.mm_awake.specs.Wires.{IsWire}
 use Rattle.mm_examples.specs.TwoByTwo.{first_or}
-use Rattle.mm_examples.specs.BurstSystem.{burst_system, burst_run, burst_ports, burst_states, after_host, after_route, below_cutter, before_arbiter, after_arbiter, before_agent, no_port, cutting, dropping, piping}
+use Rattle.mm_examples.specs.BurstSystem.{burst_system, burst_run, burst_ports, burst_states, after_host, after_route, below_cutter, below_dropper, before_arbiter, after_arbiter, before_agent, no_port, cutting, dropping, piping}
 use Rattle.mm_examples.proofs.TwoByTwo.{two, pairs, joined_below, past_two, route_plan}
 use Rattle.mm_examples.proofs.Tables.{HostTables, RouteTables, ArbiterTables, AgentTables, host_machine, route_machine, arbiter_machine, agent_machine, host_views, legal_run, never}
 
@@ -26,7 +28,7 @@ planned = record {
   shares = λ a there. (omega arith, (omega arith, tt));
   plain = two (λ h. IsFalse (burst_system.host h).has_burst → (burst_system.host h).burst_bits ≡ 1) (λ none. let bad : ⊥ = cc in absurd bad) (λ none. refl);
   places = λ h is. route_plan burst_system.host (λ a. 4) (first_or true false) 1 (after_host h).shape h is refl;
-  agents = λ a there. record { word = omega arith; unit = omega arith; pending = omega arith; span = 4; spans = refl; some_span = omega arith; one_word = λ fixed reads. refl };
+  agents = λ a there. record { word = omega arith; unit = omega arith; pending = omega arith; span = 4; spans = refl; some_span = omega arith; one_word = λ fixed reads. let bad : ⊥ = cc in absurd bad };
   rooms = two (λ h. 16 * longest_burst (after_host h).shape.burst_bits < burst_states.room h) (omega arith) (omega arith);
 }
 
@@ -134,7 +136,7 @@ machines links = record {
   host = host_machine burst_system burst_run after_host burst_states.host 12 hosts;
   route = route_machine burst_system burst_states.room after_host after_route burst_states.route 12 routes;
   arbiter = arbiter_machine burst_system before_arbiter after_arbiter burst_states.grant 12 arbiters;
-  silent = λ a there h c past low. past_two (before_arbiter 0 a) (before_arbiter 1 a) no_port c refl h past;
+  silent = λ a there h c past low. past_two (below_dropper 0 a) (below_dropper 1 a) no_port c refl h past;
   stage = stages links;
   agent = agent_machine burst_system burst_run before_agent burst_states.agent 12 agents;
 }
@@ -152,15 +154,22 @@ legal = legal_run burst_system burst_run 12 (record {
 -- ---- the links
 
 wire : (h a : ℕ) → h < 2 → a < 2 → IsWired (after_route h a) (after_route h a)
-wire h a is there = record { same = refl; some = pairs (λ h a. 0 < (after_route h a).shape.word_bytes) (omega arith) (omega arith) (omega arith) (omega arith) h a is there }
+wire h a is there = record { wire = record { same = refl; longer = le_refl (after_route h a).shape.burst_bits }; some = pairs (λ h a. 0 < (after_route h a).shape.word_bytes) (omega arith) (omega arith) (omega arith) (omega arith) h a is there }
 
 wire_below : (h a : ℕ) → h < 2 → a < 2 → IsWired (below_cutter h a) (below_cutter h a)
-wire_below h a is there = record { same = refl; some = pairs (λ h a. 0 < (below_cutter h a).shape.word_bytes) (omega arith) (omega arith) (omega arith) (omega arith) h a is there }
+wire_below h a is there = record { wire = record { same = refl; longer = le_refl (below_cutter h a).shape.burst_bits }; some = pairs (λ h a. 0 < (below_cutter h a).shape.word_bytes) (omega arith) (omega arith) (omega arith) (omega arith) h a is there }
+
+-- the wires before the arbiters: below them bursts are longer
+cut_wire : (a : ℕ) → IsWired (below_cutter 0 a) (before_arbiter 0 a)
+cut_wire a = record { wire = record { same = refl; longer = omega arith }; some = omega arith }
+
+plain_wire : IsWired (below_cutter 1 0) (before_arbiter 1 0)
+plain_wire = record { wire = record { same = refl; longer = omega arith }; some = omega arith }
 
 -- what beats are dropped, by host and agent: those of host 1 before agent 1
 drops : Links → (h a : ℕ) → h < 2 → a < 2 → DropsBeats (target_of burst_system a) (below_cutter h a) (before_arbiter h a)
-drops links zero a is there = no_dropper (wire_below 0 a is there)
-drops links (suc zero) zero is there = no_dropper (wire_below 1 0 is there)
+drops links zero a is there = no_dropper (cut_wire a)
+drops links (suc zero) zero is there = no_dropper plain_wire
 drops links (suc zero) (suc zero) is there = dropper 2 (drop_state dropping) (record { some = omega arith; same = refl; units = refl; agent = refl; enables = refl; one_beat = refl }) (omega arith) (links.drop dropping)
 drops links (suc zero) (suc (suc a)) is there = absurd (omega (arith, there))
 drops links (suc (suc h)) a is there = absurd (omega (arith, is))
@@ -178,22 +187,25 @@ lanes links (suc (suc h)) a is there none = absurd (omega (arith, is))
 
 pub rows : Links → AreRows burst_system burst_run burst_ports 12
 rows links = record {
+  idle = λ h a. false;
   views = host_views burst_system burst_run 12 (record { enables = record { holds = refl }; all_lanes = record { holds = refl }; word = record { holds = refl }; one_beat = record { holds = refl } });
-  cuts = λ h a is there. two (λ h. CutsBursts (after_route h a) (below_cutter h a))
+  cuts = λ h a is there joined. two (λ h. CutsBursts (after_route h a) (below_cutter h a))
       (cutter (burst_state (cutting a)) (record { some = omega arith; same = refl; bytes = refl; one_beat = refl }) (links.burst (cutting a)))
       (no_cutter (wire 1 a (omega arith) there))
       h is;
-  fits = λ h a is there. no_width (wire_below h a is there);
-  drops = drops links;
-  lanes = lanes links;
-  wired = λ h a is there joined has alike. pairs (λ h a. IsTrue (is_alike (burst_system.host h) (burst_system.agent a)) → before_arbiter h a ≡ after_route h a) (λ x. cc) (λ x. cc) (λ x. refl) (λ x. cc) h a is there alike;
+  fits = λ h a is there joined. no_width (wire_below h a is there);
+  drops = λ h a is there joined. drops links h a is there;
+  lanes = λ h a is there joined none. lanes links h a is there none;
+  apart = λ h a is there idle. absurd (both_ways false refl idle);
+  wired = λ h a is there joined has alike. pairs (λ h a. IsTrue (is_alike (burst_system.host h) (burst_system.agent a)) → IsWire (after_route h a) (before_arbiter h a))
+      (λ x. let bad : ⊥ = cc in absurd bad) (λ x. let bad : ⊥ = cc in absurd bad) (λ x. plain_wire.wire) (λ x. let bad : ⊥ = cc in absurd bad) h a is there alike;
 }
 
 -- host 1, whose beats are dropped, has byte enables
 pub fair_row : (agent host : ℕ) → agent < 2 → IsTrue (is_joined burst_system agent host) → IsFairRow burst_system burst_ports agent host
 fair_row agent host there joined = pairs (λ h a. IsFairRow burst_system burst_ports a h)
-    (λ none bursts. wire_below 0 0 (omega arith) (omega arith))
-    (λ none bursts. wire_below 0 1 (omega arith) (omega arith))
-    (λ none bursts. wire_below 1 0 (omega arith) (omega arith))
+    (λ none bursts. cut_wire 0)
+    (λ none bursts. cut_wire 1)
+    (λ none bursts. plain_wire)
     (λ none bursts. absurd (never true refl none))
     host agent (joined_below host joined) there

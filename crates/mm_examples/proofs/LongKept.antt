@@ -1,20 +1,21 @@
 -- The system with rows of several links suits its plan, and its components are legal.
 use Rattle.std.proofs.Common.{ℕ, zero, suc, ◌<◌, ◌≤◌, ◌≡◌, Bool, true, false, not, ◌||◌, arith, refl, sym, ap, subst, inl, IsTrue, IsFalse, if◌then◌else◌, nat_eq, tests}
+use Rattle.std.proofs.lemmas.Bool.{both_ways}
 use Rattle.mm_runs.specs.Views.{Signals}
 use Rattle.mm_runs.specs.Awake.{is_alike}
 use Rattle.mm_runs.specs.Order.{is_joined}
 use Rattle.mm_runs.specs.Commands.{shows}
-use Rattle.mm_runs.specs.Plan.{IsMemoryPlan, AreViews, IsShape, IsPowerOfTwo}
+use Rattle.mm_runs.specs.Plan.{IsMemoryPlan, IsShape, IsPowerOfTwo}
 use Rattle.mm_runs.specs.Whole.{IsLegalRun}
 use Rattle.mm_machines.specs.Lines.{target_of}
 use Rattle.mm_awake.specs.RowRun.{SuitsRow, Cutter.Uncut, Cutter.ByBeats, Fitter.Unfitted, Fitter.Selects, Fitter.Splits}
 use Rattle.mm_awake.specs.RowSystem.{IsFairRow}
-use Rattle.mm_awake.specs.LinkSystem.{SuitsLinks, IsWireRow, row_of}
+use Rattle.mm_awake.specs.LinkSystem.{SuitsLinks, AreFitHosts, IsWireRow, row_of}
 use Rattle.mm_examples.specs.Examples.{quiet}
 use Rattle.mm_examples.specs.TwoByTwo.{first_or}
 use Rattle.mm_examples.specs.LongRows.{long_plan, long_run, long_ports, long_outside, first_host, second_host}
 use Rattle.mm_examples.proofs.TwoByTwo.{two, pairs, joined_below, none_past, is_memory_plan}
-use Rattle.mm_examples.proofs.Tables.{legal_run, are_views, never}
+use Rattle.mm_examples.proofs.Tables.{legal_run, host_views, never}
 
 pub is_plan : IsMemoryPlan long_plan.system
 is_plan = is_memory_plan long_plan.system.host (first_or 8 2) (first_or true false) 0
@@ -34,12 +35,13 @@ is_plan = is_memory_plan long_plan.system.host (first_or 8 2) (first_or true fal
 
 pub suits : SuitsLinks long_plan
 suits = record {
+  idle = λ h a. false;
   stages = refl;
-  rows = pairs (λ h a. SuitsRow (target_of long_plan.system a) (row_of long_plan h a))
+  rows = λ h a is there links. pairs (λ h a. SuitsRow (target_of long_plan.system a) (row_of long_plan h a))
       (record {
         cutter = record { some = omega arith; same = refl; bytes = refl; one_beat = refl };
         fitter = (2, record { some = omega arith; more = omega arith; whole = refl; same = refl; bytes = refl; enables = refl; one_beat = refl; one_beat_below = refl });
-        dropper = (refl, omega arith);
+        dropper = (refl, omega arith, omega arith);
         room = omega arith;
       })
       (record {
@@ -49,23 +51,26 @@ suits = record {
         room = omega arith;
       })
       (record {
-        cutter = (refl, omega arith);
+        cutter = (refl, omega arith, omega arith);
         fitter = (4, record { some = omega arith; more = omega arith; whole = refl; same = refl; bytes = refl; enables = refl; one_beat = refl; one_beat_below = refl });
-        dropper = (refl, omega arith);
+        dropper = (refl, omega arith, omega arith);
         room = omega arith;
       })
       (record {
-        cutter = (refl, omega arith);
-        fitter = (refl, omega arith);
+        cutter = (refl, omega arith, omega arith);
+        fitter = (refl, omega arith, omega arith);
         dropper = record { some = omega arith; same = refl; units = refl; agent = refl; enables = refl; one_beat = refl };
         room = omega arith;
-      });
+      })
+      h a is there;
   wired = λ h a is there joined has. pairs (λ h a. IsTrue (is_alike (long_plan.system.host h) (long_plan.system.agent a)) → IsWireRow (row_of long_plan h a))
       (λ alike. let bad : ⊥ = cc in absurd bad) (λ alike. let bad : ⊥ = cc in absurd bad) (λ alike. let bad : ⊥ = cc in absurd bad) (λ alike. let bad : ⊥ = cc in absurd bad)
       h a is there;
   -- agent 0 has byte enables, and before agent 1 beats are dropped
-  lanes = pairs (λ h a. long_plan.drops h a ≡ false → IsTrue ((long_plan.system.agent a).has_enables || not (long_plan.system.host h).has_enables))
-      (λ none. refl) (λ none. let bad : ⊥ = cc in absurd bad) (λ none. refl) (λ none. let bad : ⊥ = cc in absurd bad);
+  lanes = λ h a is there links. pairs (λ h a. long_plan.drops h a ≡ false → IsTrue ((long_plan.system.agent a).has_enables || not (long_plan.system.host h).has_enables))
+      (λ none. refl) (λ none. let bad : ⊥ = cc in absurd bad) (λ none. refl) (λ none. let bad : ⊥ = cc in absurd bad)
+      h a is there;
+  apart = λ h a is there idle. absurd (both_ways false refl idle);
   past = λ h a past. record {
     uncut = none_past ByBeats Uncut Uncut h past;
     unfitted = none_past (first_or Selects Splits a) (first_or Selects Unfitted a) Unfitted h past;
@@ -73,23 +78,15 @@ suits = record {
   };
 }
 
-pub quiet_past : (h c : ℕ) → 2 ≤ h → IsFalse (shows (long_outside.host h) c)
+quiet_past : (h c : ℕ) → 2 ≤ h → IsFalse (shows (long_outside.host h) c)
 quiet_past h c past = subst (λ (signals : Signals). IsFalse (shows signals c)) (sym (none_past first_host second_host quiet h past)) refl
 
-pub views : AreViews long_plan.system long_run 15
-views = are_views long_plan.system long_run 15 (record {
-  shown = record { enables = record { holds = refl }; all_lanes = record { holds = refl }; word = record { holds = refl }; one_beat = record { holds = refl } };
-  has = record { holds = refl };
-  response = record { holds = refl };
-  agent_enables = record { holds = refl };
-  agent_lanes = record { holds = refl };
-  agent_word = record { holds = refl };
-  agent_beat = record { holds = refl };
-  has_read = record { holds = refl };
-  has_write = record { holds = refl };
-  has_wait = record { holds = refl };
-  code = record { holds = refl };
-})
+pub fit : AreFitHosts long_plan.system long_outside 15
+fit = record {
+  ports = host_views long_plan.system long_run 15 (record { enables = record { holds = refl }; all_lanes = record { holds = refl }; word = record { holds = refl }; one_beat = record { holds = refl } });
+  one_word = λ h c is low none reads. absurd (never true refl none);
+  none_past = quiet_past;
+}
 
 -- both hosts have byte enables
 pub fair_row : (agent host : ℕ) → agent < 2 → IsTrue (is_joined long_plan.system agent host) → IsFairRow long_plan.system long_ports agent host

@@ -7,7 +7,7 @@ use Rattle.mm_runs.specs.Views.{System, Run, Shape, Levels, levels_at}
 use Rattle.mm_runs.specs.Views.Responses.{AreZero}
 use Rattle.mm_runs.specs.Commands.{byte_address, shows, is_held, longest_burst, agent_accepts, words_before}
 use Rattle.mm_runs.specs.Legal.{host_accepts, is_under_way, words_asked}
-use Rattle.mm_runs.specs.Plan.{FitsPorts, AreViews}
+use Rattle.mm_runs.specs.Plan.{FitsPorts}
 use Rattle.mm_runs.specs.Whole.{IsLegalRun}
 use Rattle.mm_machines.specs.Link.{Port, takes}
 use Rattle.mm_machines.specs.Lines.{TaggedPort}
@@ -287,7 +287,7 @@ pub record AgentTables (system : System) (run : Run) (up : ℕ → TaggedPort) (
   pub has_valid : EachOne system.agents (λ a. (system.agent a).has_readdatavalid)
   pub words : EachOne system.agents (λ a. nat_eq (up a).shape.word_bytes (system.agent a).word_bytes)
   pub bursts : EachOne system.agents (λ a. nat_eq (up a).shape.burst_bits (system.agent a).burst_bits)
-  pub plain : EachOne system.agents (λ a. nat_eq (system.agent a).burst_bits 1)
+  pub plain : EachOne system.agents (λ a. where_holds (not (system.agent a).has_burst) (nat_eq (system.agent a).burst_bits 1))
   pub read : Each system.agents end (λ a c. nat_eq ((run.at_agent a).read c) (if is_full (system.agent a) (state a) c then 0 else (up a).commands.read c))
   pub write : Each system.agents end (λ a c. nat_eq ((run.at_agent a).write c) ((up a).commands.write c))
   pub address : Each system.agents end (λ a c. nat_eq ((run.at_agent a).address c * (system.agent a).unit_bytes) (byte_address (up a).shape ((up a).commands.address c) % (system.agent a).span))
@@ -310,7 +310,7 @@ agent_machine system run up state end t a there = record {
   commands = record {
     words = eqb-true _ _ (one t.words a there);
     bursts = eqb-true _ _ (one t.bursts a there);
-    plain = λ none. eqb-true _ _ (one t.plain a there);
+    plain = λ none. eqb-true _ _ (under_false (system.agent a).has_burst _ (one t.plain a there) none);
     read = λ c low has. eqb-true _ _ (each t.read a there c low);
     no_read = λ c low none. absurd (never (system.agent a).has_read (one t.has_read a there) none);
     write = λ c low has. eqb-true _ _ (each t.write a there c low);
@@ -372,34 +372,4 @@ host_views system run end t h is = record {
   all_lanes = λ none c low. eqb-true _ _ (under_false (system.host h).has_enables _ (each t.all_lanes h is c low) none);
   word = λ c low. ltb-true _ _ (each t.word h is c low);
   one_beat = λ none c low. eqb-true _ _ (under_false (system.host h).has_burst _ (each t.one_beat h is c low) none);
-}
-
-pub record ViewTables (system : System) (run : Run) (end : ℕ) : Type 0 where
-  pub shown : ShownTables system run end
-  pub has : EachOne system.hosts (λ h. (system.host h).has_readdatavalid)
-  pub response : Each system.hosts end (λ h c. nat_eq ((run.at_host h).response c) 0)
-  pub agent_enables : Each system.agents end (λ a c. nat_lt ((run.at_agent a).enables c) (2 ^ (system.agent a).word_bytes))
-  pub agent_lanes : Each system.agents end (λ a c. where_holds (not (system.agent a).has_enables) (nat_eq ((run.at_agent a).enables c + 1) (2 ^ (system.agent a).word_bytes)))
-  pub agent_word : Each system.agents end (λ a c. nat_lt ((run.at_agent a).word c) (256 ^ (system.agent a).word_bytes))
-  pub agent_beat : Each system.agents end (λ a c. where_holds (not (system.agent a).has_burst) (nat_eq ((run.at_agent a).count c) 1))
-  pub has_read : EachOne system.agents (λ a. (system.agent a).has_read)
-  pub has_write : EachOne system.agents (λ a. (system.agent a).has_write)
-  pub has_wait : EachOne system.agents (λ a. (system.agent a).has_waitrequest)
-  pub code : Each system.agents end (λ a c. nat_eq ((run.at_agent a).response c) 0)
-
-pub are_views : (system : System) (run : Run) (end : ℕ) → ViewTables system run end → AreViews system run end
-are_views system run end t = record {
-  hosts = host_views system run end t.shown;
-  one_word = λ h c is low none read. absurd (never (system.host h).has_readdatavalid (one t.has h is) none);
-  no_response = λ h c is low none. eqb-true _ _ (each t.response h is c low);
-  agents = λ a there. record {
-    enables = λ c low. ltb-true _ _ (each t.agent_enables a there c low);
-    all_lanes = λ none c low. eqb-true _ _ (under_false (system.agent a).has_enables _ (each t.agent_lanes a there c low) none);
-    word = λ c low. ltb-true _ _ (each t.agent_word a there c low);
-    one_beat = λ none c low. eqb-true _ _ (under_false (system.agent a).has_burst _ (each t.agent_beat a there c low) none);
-  };
-  no_read = λ a c there low none. absurd (never (system.agent a).has_read (one t.has_read a there) none);
-  no_write = λ a c there low none. absurd (never (system.agent a).has_write (one t.has_write a there) none);
-  no_waitrequest = λ a c there low none. absurd (never (system.agent a).has_waitrequest (one t.has_wait a there) none);
-  no_code = λ a c there low none. eqb-true _ _ (each t.code a there c low);
 }

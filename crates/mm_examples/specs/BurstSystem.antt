@@ -1,4 +1,4 @@
--- A right system with bursts and a pipeline stage: host 0 shows bursts of two words of four bytes, with all lanes, host 1 single words with byte enables; agent 0 has byte enables, agent 1 has none, and both take single words. Cutters of bursts lead from host 0 to both agents, what drops beats without a lane from host 1 to agent 1; host 1 is wired to agent 0. A stage stands before each agent.
+-- A right system with bursts and a pipeline stage: host 0 shows bursts of two words of four bytes, with all lanes, host 1 single words with byte enables; agent 0 has byte enables, agent 1 has none, and both take bursts of up to four words. Cutters into single words lead from host 0 to both agents, what drops beats without a lane from host 1 to agent 1; host 1 is wired to agent 0. A stage stands before each agent.
 -- Host 0 writes a burst to agent 0, which waits once, reads it, reads a burst of no agent and writes a word to agent 1. Host 1 writes two lanes and none to agent 1, reads two lanes of it and none, and writes two lanes to agent 0.
 use Rattle.std.specs.Prelude.{ℕ, zero, suc, ◌/◌, ◌%◌, true, false, List, [], ◌∷◌, Option, Some, None, nat_eq, nat_lt, if◌then◌else◌}
 use Rattle.histories.specs.History.{is_raised}
@@ -14,9 +14,10 @@ use Rattle.mm_links.specs.Driven.{BurstInputs, DropInputs, PipeInputs, burst_abo
 use Rattle.mm_links.specs.Pipes.{PipeSides, tagged_side}
 use Rattle.mm_awake.specs.RowSystem.{RowPorts}
 use Rattle.mm_awake.specs.Theorem.{States}
+use Rattle.mm_awake.specs.Wires.{with_bursts}
 use Rattle.mm_examples.specs.Examples.{signal, always, quiet}
 use Rattle.mm_examples.specs.PartRows.{answers_in}
-use Rattle.mm_examples.specs.TwoByTwo.{first_or, of_two, plain_shape, small_agent, two_by_two, gated, reads_queued}
+use Rattle.mm_examples.specs.TwoByTwo.{first_or, of_two, plain_shape, burst_shape, small_agent, two_by_two, gated, reads_queued}
 
 abbrev pub host_shape : ℕ → Shape
 host_shape h = record { word_bytes = 4; unit_bytes = 1; burst_bits = first_or 2 1 h; has_enables = first_or false true h }
@@ -58,7 +59,7 @@ joined h = signal (first_or (1 ∷ []) [] h)
 abbrev pub piping : ℕ → PipeInputs
 piping a = record {
   stages = 1;
-  shape = plain_shape 4;
+  shape = burst_shape 4;
   inputs = record {
     signals = record {
       read = signal (first_or (0 ∷ 0 ∷ 1 ∷ 1 ∷ 1 ∷ []) (0 ∷ 0 ∷ 1 ∷ []) a);
@@ -109,7 +110,7 @@ cutting a = record {
 abbrev pub dropping : DropInputs
 dropping = record {
   shape = plain_shape 4;
-  below = plain_shape 4;
+  below = burst_shape 4;
   room = 2;
   inputs = record {
     signals = gated second_host (0 ∷ 0 ∷ 1 ∷ 1 ∷ 1 ∷ 1 ∷ 1 ∷ 1 ∷ []) (1 ∷ 1 ∷ []);
@@ -137,8 +138,12 @@ after_route h a = of_two (burst_above (cutting a)) (first_or wire (drop_above dr
 abbrev pub below_cutter : ℕ → ℕ → Port
 below_cutter h a = first_or (burst_below (cutting a)) (after_route h a) h
 
+abbrev pub below_dropper : ℕ → ℕ → Port
+below_dropper h a = of_two (burst_below (cutting a)) (first_or wire (drop_below dropping) a) no_port h
+
+-- the agents take bursts, so the wires before the arbiters lead to ports with bursts
 abbrev pub before_arbiter : ℕ → ℕ → Port
-before_arbiter h a = of_two (burst_below (cutting a)) (first_or wire (drop_below dropping) a) no_port h
+before_arbiter h a = with_bursts 3 (below_dropper h a)
 
 -- ---- the other boundaries and the ports of the components
 
@@ -156,7 +161,7 @@ abbrev pub burst_run : Run
 burst_run = record {
   at_host = λ h. record { signals = asked h; waitrequest = (after_host h).commands.waitrequest; readdata = (after_host h).answers.word; readdatavalid = (after_host h).answers.valid; response = always 0 };
   at_agent = λ a. record {
-    signals = record (before_agent a).commands.signals { address = λ c. (before_agent a).commands.address c % 16 / 4; enables = first_or (before_agent a).commands.enables (always 15) a; count = always 1 };
+    signals = record (before_agent a).commands.signals { address = λ c. (before_agent a).commands.address c % 16 / 4; enables = first_or (before_agent a).commands.enables (always 15) a };
     waitrequest = (before_agent a).commands.waitrequest;
     readdata = (before_agent a).answers.word;
     readdatavalid = (before_agent a).answers.valid;
@@ -182,7 +187,7 @@ owing_by h c = if nat_lt c 3 then None else first_or (if nat_lt c 10 then Some 0
 abbrev pub stage_of : ℕ → Stage
 stage_of a = record {
   depth = 2;
-  shape = plain_shape 4;
+  shape = burst_shape 4;
   sides = record { commands_above = (pipe_of a).commands 0; answers_above = (pipe_of a).answers 0; commands_below = (pipe_of a).commands 1; answers_below = (pipe_of a).answers 1 };
   queue = (pipe_of a).queue 0;
 }

@@ -1,4 +1,4 @@
--- A system with rows of several links, as `linked_systems_run` of `mm_awake` runs it: host 0 shows bursts of two words of four bytes, host 1 single words of two; agent 0 has words of eight bytes, agent 1 of two without byte enables.
+-- A system with rows of several links, as `linked_systems_run` of `mm_awake` runs it: host 0 shows bursts of two words of four bytes, host 1 single words of two; agent 0 has words of eight bytes, agent 1 of two without byte enables, and both take bursts of up to four words.
 -- A cutter and a lane selector lead from host 0 to agent 0; a cutter, a splitter and what drops beats to agent 1; from host 1 a lane selector to agent 0, and what drops beats to agent 1.
 use Rattle.std.specs.Prelude.{true, false, [], ◌∷◌, nat_lt, if◌then◌else◌}
 use Rattle.mm_runs.specs.Views.{Signals, Run}

@@ -17,13 +17,17 @@ of_two {A} first second none number = if nat_eq number 0 then first else if nat_
 abbrev pub plain_shape : ℕ → Shape
 plain_shape bytes = record { word_bytes = bytes; unit_bytes = 1; burst_bits = 1; has_enables = true }
 
--- an agent with waitrequest and readdatavalid that bears two reads
+-- those of bursts of up to four beats
+abbrev pub burst_shape : ℕ → Shape
+burst_shape bytes = record (plain_shape bytes) { burst_bits = 3 }
+
+-- an agent with waitrequest, readdatavalid and such bursts that bears two reads
 abbrev pub small_agent : ℕ → Bool → AgentSide
 small_agent bytes has_enables = record {
-  shape = record { word_bytes = bytes; unit_bytes = bytes; burst_bits = 1; has_enables = has_enables };
+  shape = record { word_bytes = bytes; unit_bytes = bytes; burst_bits = 3; has_enables = has_enables };
   has_read = true;
   has_write = true;
-  has_burst = false;
+  has_burst = true;
   has_waitrequest = true;
   has_readdatavalid = true;
   has_response = false;

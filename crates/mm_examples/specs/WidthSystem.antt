@@ -1,4 +1,4 @@
--- A right system with width changes: host 0 has words of four bytes and host 1 of two, agent 0 of four and agent 1 of two. A splitter leads from host 0 to agent 1, a lane selector from host 1 to agent 0; the other two pairs are wired.
+-- A right system with width changes: host 0 has words of four bytes and host 1 of two, agent 0 of four and agent 1 of two. The agents take bursts, the hosts show none. A splitter leads from host 0 to agent 1, a lane selector from host 1 to agent 0; the other two pairs are wired.
 -- Host 0 writes to agent 1, reads it, reads no agent and writes to agent 0. Host 1 writes to agent 0, reads it, where it waits once, and writes to agent 1, where it waits for its turn.
 use Rattle.std.specs.Prelude.{ℕ, zero, suc, true, false, List, [], ◌∷◌, Option, Some, None, nat_lt, if◌then◌else◌}
 use Rattle.mm_runs.specs.Views.{Signals, Shape, System, Run}
@@ -12,9 +12,10 @@ use Rattle.mm_parts.specs.Route.{kind_at}
 use Rattle.mm_links.specs.Driven.{SelectInputs, SplitInputs, select_above, select_below, split_above, split_below}
 use Rattle.mm_awake.specs.RowSystem.{RowPorts}
 use Rattle.mm_awake.specs.Theorem.{States}
+use Rattle.mm_awake.specs.Wires.{with_bursts}
 use Rattle.mm_examples.specs.Examples.{signal, always, quiet}
 use Rattle.mm_examples.specs.PartRows.{answers_in}
-use Rattle.mm_examples.specs.TwoByTwo.{first_or, of_two, plain_shape, small_agent, two_by_two, gated, reads_queued}
+use Rattle.mm_examples.specs.TwoByTwo.{first_or, of_two, plain_shape, burst_shape, small_agent, two_by_two, gated, reads_queued}
 
 abbrev pub bytes_of : ℕ → ℕ
 bytes_of number = first_or 4 2 number
@@ -98,21 +99,25 @@ no_port = port_with (plain_shape 2) quiet (always 0) (always 0) (withheld (given
 abbrev pub after_route : ℕ → ℕ → Port
 after_route h a = of_two (first_or first_wire (split_above splitting) a) (first_or (select_above selecting) second_wire a) no_port h
 
+abbrev pub above_dropper : ℕ → ℕ → Port
+above_dropper h a = of_two (first_or first_wire (split_below splitting) a) (first_or (select_below selecting) second_wire a) no_port h
+
+-- the wires before the arbiters lead to ports with bursts
 abbrev pub before_arbiter : ℕ → ℕ → Port
-before_arbiter h a = of_two (first_or first_wire (split_below splitting) a) (first_or (select_below selecting) second_wire a) no_port h
+before_arbiter h a = with_bursts 3 (above_dropper h a)
 
 -- before the agents: beats of four bytes at agent 0; at agent 1 those of host 0 in two pieces, and one of host 1
 abbrev pub before_agent : ℕ → TaggedPort
 before_agent a = first_or
     (record {
-      port = port_with (plain_shape 4)
+      port = port_with (burst_shape 4)
           (record (beats (0 ∷ 1 ∷ 1 ∷ []) (1 ∷ 0 ∷ 0 ∷ 0 ∷ 0 ∷ 0 ∷ 1 ∷ []) (0 ∷ 0 ∷ 0 ∷ 0 ∷ 0 ∷ 0 ∷ 8 ∷ []) (0xbbaa0000 ∷ 0 ∷ 0 ∷ 0 ∷ 0 ∷ 0 ∷ 0x99887766 ∷ []) 0) { enables = signal (12 ∷ 12 ∷ 12 ∷ 0 ∷ 0 ∷ 0 ∷ 15 ∷ []) })
           (signal (1 ∷ 1 ∷ 1 ∷ [])) (signal (0 ∷ 1 ∷ [])) (given_by 0);
       answer_tag = signal (0 ∷ 0 ∷ 0 ∷ 1 ∷ []);
     })
     (record {
       port = record {
-        shape = plain_shape 2;
+        shape = burst_shape 2;
         commands = record {
           signals = beats (0 ∷ 0 ∷ 1 ∷ 1 ∷ []) (1 ∷ 1 ∷ 0 ∷ 0 ∷ 1 ∷ []) (20 ∷ 22 ∷ 20 ∷ 22 ∷ 24 ∷ []) (0x2211 ∷ 0x4433 ∷ 0 ∷ 0 ∷ 0xddcc ∷ []) 3;
           more = signal (1 ∷ 0 ∷ 1 ∷ []);
@@ -126,7 +131,7 @@ before_agent a = first_or
     a
 
 abbrev pub width_ports : RowPorts
-width_ports = record { after_host = after_host; after_route = after_route; below_cutter = after_route; above_dropper = before_arbiter; before_arbiter = before_arbiter; lower = λ a i. before_agent a }
+width_ports = record { after_host = after_host; after_route = after_route; below_cutter = after_route; above_dropper = above_dropper; before_arbiter = before_arbiter; lower = λ a i. before_agent a }
 
 -- ---- the ports of the components
 
@@ -176,3 +181,8 @@ swapped_run = record width_run { at_host = λ h. record (width_run.at_host h) { 
 -- agent 0 is shown the first write of host 1 in the lower lanes
 abbrev pub unmoved_run : Run
 unmoved_run = record width_run { at_agent = λ a. record (width_run.at_agent a) { signals = record (width_run.at_agent a).signals { word = signal (first_or (0xbbaa ∷ 0 ∷ 0 ∷ 0 ∷ 0 ∷ 0 ∷ 0x99887766 ∷ []) (0x2211 ∷ 0x4433 ∷ 0 ∷ 0 ∷ 0xddcc ∷ []) a); enables = signal (first_or (3 ∷ 12 ∷ 12 ∷ 0 ∷ 0 ∷ 0 ∷ 15 ∷ []) (3 ∷ 3 ∷ 3 ∷ 3 ∷ 3 ∷ []) a) } } }
+
+-- ---- a write burst of two words, at a port that takes bursts of two
+
+abbrev pub two_words : Port
+two_words = with_bursts 2 (record first_wire { commands = record first_wire.commands { signals = record (beats [] (1 ∷ []) [] [] 15) { count = always 2 }; more = always 1 } })

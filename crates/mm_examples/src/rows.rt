@@ -3,15 +3,18 @@
 ghost use Rattle.std.specs.Prelude.{◌<◌, ◌∷◌, [], ◌≡◌, ℕ, IsTrue, map};
 ghost use Rattle.mm_runs.specs.Views.Responses.{AreZero};
 ghost use Rattle.mm_runs.specs.Operations.Operation.{Write, Read};
-ghost use Rattle.mm_runs.specs.Awake.{NeverIdles, IsFair};
+ghost use Rattle.mm_runs.specs.Awake.{NeverIdles, IsFair, is_alike};
+ghost use Rattle.mm_runs.specs.Commands.{longest_burst};
 ghost use Rattle.mm_runs.specs.Legal.{given};
 ghost use Rattle.mm_runs.specs.Order.{taken, is_joined};
 ghost use Rattle.mm_runs.specs.Whole.{IsLegalRun, IsSafe};
 ghost use Rattle.mm_awake.specs.RowSystem.{RowPorts, AreRows, IsFairRow, boundaries_of};
 ghost use Rattle.mm_awake.specs.Theorem.{States, ArePlanned, AreMachines};
+ghost use Rattle.mm_awake.specs.Wires.{with_bursts};
+ghost use Rattle.mm_machines.specs.Link.{AreLegalAt};
 ghost use Rattle.mm_examples.specs.BurstSystem.{burst_system, burst_run, burst_ports, burst_states};
 ghost use Rattle.mm_examples.specs.LongRows.{long_plan, long_run, long_ports, long_states};
-ghost use Rattle.mm_examples.specs.WidthSystem.{width_system, width_run, width_ports, width_states, swapped_run, unmoved_run};
+ghost use Rattle.mm_examples.specs.WidthSystem.{width_system, width_run, width_ports, width_states, swapped_run, unmoved_run, two_words};
 
 /// Every part of the system and every link is its machine, and the components are legal: the premises of the theorem on systems with links hold, so the system is safe, never idles and is fair. In so few cycles the last two ask little: what counts is that their premises hold.
 pub fn width_system_keeps_all()
@@ -29,6 +32,14 @@ pub fn width_system_keeps_all()
     mm_awake::rows::machines_with_links_are_awake();
     mm_awake::rows::machines_with_links_are_fair()
 }
+
+/// In it hosts without bursts stand beside agents with bursts of up to four beats: host 0 is joined to agent 0, to which it is alike and which has `readdatavalid`, and so is wired to it; host 1 has narrower words than agent 0. Shorter they may not be: a burst of two words isn't legal where bursts are of one.
+pub fn bursts_may_be_longer_below()
+    ensures alike { IsTrue (is_joined width_system 0 0) × IsTrue (width_system.agent 0).has_readdatavalid × IsTrue (is_alike (width_system.host 0) (width_system.agent 0))
+        × ((width_system.host 0).burst_bits ≡ 1) × (longest_burst (width_system.agent 0).burst_bits ≡ 4) }
+    ensures narrower { IsTrue (is_joined width_system 0 1) × ((width_system.host 1).word_bytes < (width_system.agent 0).word_bytes) × ((width_system.host 1).burst_bits ≡ 1) }
+    ensures shorter { AreLegalAt two_words 1 × (AreLegalAt (with_bursts 1 two_words) 1 → ⊥) }
+{}
 
 /// The same of a system with cutters of bursts, a link that drops beats without a lane, and a stage before each agent.
 pub fn burst_system_keeps_all()

@@ -1,8 +1,8 @@
 use Rattle.std.proofs.Common.{◌<◌, suc, length, arith}
 use Rattle.mm_runs.specs.Order.{issued}
-use Rattle.mm_machines.specs.Link.{Port, taken_at, operations_among}
 use Rattle.mm_machines.specs.Lines.{target_of}
 use Rattle.mm_awake.proofs.FairWaits.{asks_by}
+use Rattle.mm_awake.proofs.Widened.{wire_operations}
 use Rattle.mm_awake.proofs.fair.waiting_hosts_are_passed_by_few.Goals as goal
 
 pub returns : goal.returns
@@ -11,8 +11,8 @@ returns c = λ responses system run inside states ranks end agent host from size
     (λ k low high.
     let is = waits k low high in
     let within : k < end = omega (arith, high, fit) in (
-      asks_by (λ (port : Port). length (operations_among (target_of system agent) port.shape (taken_at port k))) (length (issued system run host agent (suc k)))
-          (inside.upper host agent 0) (inside.upper host agent (inside.links host agent)) k wired
+      asks_by (length (issued system run host agent (suc k))) _ _ (inside.upper host agent 0) (inside.upper host agent (inside.links host agent)) k wired
+          (wire_operations (inside.upper host agent (inside.links host agent)) (inside.upper host agent 0) wired (target_of system agent) k)
           (λ quiet. c.waiting_hosts_ask.ensures.asks responses system run inside states ranks end agent host k built legal there here within is.alone quiet) is.untaken,
       is.none,
     ))

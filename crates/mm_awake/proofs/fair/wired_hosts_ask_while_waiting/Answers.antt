@@ -1,8 +1,7 @@
-use Rattle.std.proofs.Common.{arith, sym, subst}
-use Rattle.mm_machines.specs.Link.{Port}
+use Rattle.std.proofs.Common.{arith}
 use Rattle.mm_machines.specs.Lines.{target_of}
-use Rattle.mm_awake.specs.Fair.{WaitsThere, ShowsOperation}
 use Rattle.mm_awake.proofs.FairWired.{asks_there, for_joined}
+use Rattle.mm_awake.proofs.Widened.{shown_behind_wire, waits_above_wire}
 use Rattle.mm_awake.proofs.fair.wired_hosts_ask_while_waiting.Goals as goal
 
 pub returns-clause-wired : goal.returns-clause-wired
@@ -13,10 +12,10 @@ returns-clause-wired c = λ responses system run inside states ranks end agent b
       from,
       omega arith,
       omega arith,
-      subst (λ (p : Port). ShowsOperation (target_of system agent) p from) (sym its)
+      shown_behind_wire (inside.upper host agent (inside.links host agent)) (inside.upper host agent 0) its (target_of system agent) from
           (asks_there system run host agent (inside.after_host host) (λ a. inside.upper host a (inside.links host a)) end there (parts.host host here) (parts.route host here) from (omega (arith, fit))
           (λ alone quiet. c.waiting_hosts_ask.ensures.asks responses system run inside states ranks end agent host from built legal there here (omega (arith, fit)) alone quiet)
-          number (subst (λ (p : Port). WaitsThere system run agent p host number from) its now)),
+          number (waits_above_wire (inside.upper host agent (inside.links host agent)) (inside.upper host agent 0) its system run agent host number from now)),
     )
 
 pub returns-clause-later : goal.returns-clause-later

@@ -1,9 +1,6 @@
-use Rattle.std.proofs.Common.{sym, subst}
-use Rattle.mm_machines.specs.Link.{Port}
 use Rattle.mm_machines.specs.Lines.{target_of}
-use Rattle.mm_machines.specs.Straight.{GoesStraightThrough, IsShownPromptly}
-use Rattle.mm_links.specs.InStep.{GoesInStep}
 use Rattle.mm_awake.specs.Fair.{may_burst_to}
+use Rattle.mm_awake.proofs.Widened.{straight_behind_wire, steps_behind_wire, prompt_behind_wire}
 use Rattle.mm_awake.proofs.fair.wires_lead_fairly.Goals as goal
 
 pub returns : goal.returns
@@ -13,8 +10,9 @@ returns c = λ responses system run inside states ranks end agent host ahead bui
     let link = c.pass_is_a_link.ensures.straight 30 ahead (may_burst_to system host agent) (target_of system agent) top end in
     let legal_top = (parts.route host here).legal agent there in
     let owed = (parts.route host here).owed agent there in
+    let down = inside.upper host agent 0 in
     record {
-      straight = subst (λ (p : Port). GoesStraightThrough (λ _. ahead) (target_of system agent) top p end) (sym wired) (link.straight legal_top owed);
-      step = λ same. subst (λ (p : Port). GoesInStep ahead (target_of system agent) top p end) (sym wired) (c.pass_goes_in_step.ensures ahead (target_of system agent) top end);
-      prompt = subst (λ (p : Port). IsShownPromptly 30 (may_burst_to system host agent) (target_of system agent) top p end) (sym wired) (link.prompt legal_top owed);
+      straight = straight_behind_wire top down wired (target_of system agent) end top (λ _. ahead) (link.straight legal_top owed);
+      step = λ same. steps_behind_wire top down wired (target_of system agent) end top ahead (c.pass_goes_in_step.ensures ahead (target_of system agent) top end);
+      prompt = prompt_behind_wire top down wired (target_of system agent) end top 30 (may_burst_to system host agent) (link.prompt legal_top owed);
     }

@@ -3,13 +3,13 @@ use Rattle.mm_awake.specs.LinkSystem.{linked_registers, linked_run, linked_ports
 use Rattle.mm_awake.proofs.rows.linked_systems_are_awake.Goals as goal
 
 pub returns-clause-safe : goal.returns-clause-safe
-returns-clause-safe c = λ responses plan outside end is_plan suits views quiet legal.
+returns-clause-safe c = λ responses plan outside end is_plan suits fit legal.
     let registers = linked_registers responses plan outside in
-    let all = c.linked_systems_run.ensures responses plan outside end is_plan suits views quiet in
+    let all = c.linked_systems_run.ensures responses plan outside end is_plan suits fit in
     c.machines_with_links_are_awake.ensures.safe responses plan.system (linked_run responses plan outside registers) (linked_ports responses plan outside registers) (linked_states responses plan outside registers) end all.0 all.1 all.2 legal
 
 pub returns-clause-awake : goal.returns-clause-awake
-returns-clause-awake c = λ responses plan outside end is_plan suits views quiet legal.
+returns-clause-awake c = λ responses plan outside end is_plan suits fit legal.
     let registers = linked_registers responses plan outside in
-    let all = c.linked_systems_run.ensures responses plan outside (end + 2) is_plan suits views quiet in
+    let all = c.linked_systems_run.ensures responses plan outside (end + 2) is_plan suits fit in
     c.machines_with_links_are_awake.ensures.awake responses plan.system (linked_run responses plan outside registers) (linked_ports responses plan outside registers) (linked_states responses plan outside registers) end all.0 all.1 all.2 legal

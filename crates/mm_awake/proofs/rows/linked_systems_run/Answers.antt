@@ -2,10 +2,10 @@ use Rattle.mm_awake.proofs.LinkRuns.{Laws, planned, machines, are_rows}
 use Rattle.mm_awake.proofs.rows.linked_systems_run.Goals as goal
 
 pub returns : goal.returns
-returns c = λ responses plan outside end is_plan suits views quiet. (
+returns c = λ responses plan outside end is_plan suits fit. (
   planned laws responses plan outside end is_plan suits,
-  machines laws responses plan outside end is_plan suits views quiet,
-  are_rows laws responses plan outside end is_plan suits views,
+  machines laws responses plan outside end is_plan suits fit,
+  are_rows laws responses plan outside end is_plan suits fit,
 )
   where
     laws : Laws
@@ -17,5 +17,4 @@ returns c = λ responses plan outside end is_plan suits views quiet. (
       agent = c.agent_machine_runs.ensures;
       agent_side = c.plans_suit_machines.ensures.sides;
       planned = c.memory_plans_are_planned.ensures;
-      reads_words = c.plans_suit_machines.ensures.hosts;
     }

@@ -2,6 +2,7 @@ use Rattle.std.proofs.Common.{◌∙◌, false, arith, ap}
 use Rattle.mm_machines.specs.Lines.{target_of}
 use Rattle.mm_awake.specs.Fair.{may_burst_to}
 use Rattle.mm_awake.specs.RowSystem.{boundaries_of}
+use Rattle.mm_awake.proofs.RowBuilt.{links_there}
 use Rattle.mm_awake.proofs.RowLeads.{wired_for_bursts}
 use Rattle.mm_awake.proofs.SingleWrites.{by_kind, single_behind_route}
 use Rattle.mm_awake.proofs.rows.machines_with_links_are_fair.Goals as goal
@@ -18,10 +19,11 @@ returns c = λ responses system run ports states end plan machines rows legal ap
     let middle = ports.below_cutter host agent in
     let last = ports.above_dropper host agent in
     let down = ports.before_arbiter host agent in
-    let cuts = rows.cuts host agent low there in
-    let fits = rows.fits host agent low there in
-    let drops = rows.drops host agent low there in
-    let row = fair agent host there joined in
+    let row = links_there rows host agent low there joined in
+    let cuts = rows.cuts host agent low there row in
+    let fits = rows.fits host agent low there row in
+    let drops = rows.drops host agent low there row in
+    let stay = fair agent host there joined in
     record {
       straight = c.rows_are_straight.ensures.straight target top middle last down end cuts fits drops settled.3 settled.0 settled.1 settled.2;
       step = c.rows_are_straight.ensures.step target top middle last down end cuts fits drops settled.3 settled.0 settled.1 settled.2;
@@ -30,5 +32,5 @@ returns c = λ responses system run ports states end plan machines rows legal ap
           (single_behind_route system run host agent (ports.after_host host) (ports.after_route host) end there (parts.host host low) (parts.route host low)
           (λ k h shown. c.single_writes_begin.ensures.ends top end settled.0 (ap (λ s. s.burst_bits) ((parts.route host low).shape agent there) ∙ (machines.host host low).bursts ∙ plan.plain host low none) k h shown)) settled.0 settled.1 settled.2)
           (λ bursts. c.rows_are_straight.ensures.prompt 30 (may_burst_to system host agent) target top middle last down end (omega arith) cuts fits drops settled.3
-          (wired_for_bursts target last down (system.host host).has_enables drops (λ none. row none bursts)) settled.0 settled.1 settled.2);
+          (wired_for_bursts target last down (system.host host).has_enables drops (λ none. stay none bursts)) settled.0 settled.1 settled.2);
     })
