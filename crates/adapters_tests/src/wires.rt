@@ -2,6 +2,7 @@
 
 ghost use Rattle.std.specs.Prelude.{◌≡◌, ℕ, [], ◌∷◌, ◌++◌, IfOk, OnOk, false, codes};
 ghost use Rattle.netlist.specs.Netlists.{IsInputPort, IsOutputPort, IsClocked, IsWritten};
+ghost use Rattle.adapters_tests.specs.Whole.{wire_ports};
 ghost use Rattle.mm_wire.specs.Wires.{AreHostNets, AreAgentNets};
 
 use crate::builders::text_of;
@@ -33,7 +34,7 @@ fn push_input(
 /// A host's address and read, an agent's waitrequest and readdatavalid, and a word.
 fn push_inputs(alloc: Global, ports: &mut List<PortLine>) -> Result<(), NetFault>
     requires { ports.old ≡ [] }
-    ensures { OnOk result (ports.new ≡ record { name = codes "h$m$a"; width = 10; output = false } ∷ record { name = codes "h$m$r"; width = 1; output = false } ∷ record { name = codes "a$s$w"; width = 1; output = false } ∷ record { name = codes "a$s$v"; width = 1; output = false } ∷ record { name = codes "a$s$d"; width = 32; output = false } ∷ []) }
+    ensures { OnOk result (ports.new ≡ wire_ports) }
 {
     push_input(alloc, ports, "h$m$a", 10)?;
     push_input(alloc, ports, "h$m$r", 1)?;
@@ -43,7 +44,7 @@ fn push_inputs(alloc: Global, ports: &mut List<PortLine>) -> Result<(), NetFault
 }
 
 fn inputs(alloc: Global) -> Result<List<PortLine>, NetFault>
-    ensures { IfOk result (λ ps. ps ≡ record { name = codes "h$m$a"; width = 10; output = false } ∷ record { name = codes "h$m$r"; width = 1; output = false } ∷ record { name = codes "a$s$w"; width = 1; output = false } ∷ record { name = codes "a$s$v"; width = 1; output = false } ∷ record { name = codes "a$s$d"; width = 32; output = false } ∷ []) }
+    ensures { IfOk result (λ ps. ps ≡ wire_ports) }
 {
     let mut ports = List::new(alloc);
     push_inputs(alloc, &mut ports)?;

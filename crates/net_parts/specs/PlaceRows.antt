@@ -9,7 +9,7 @@ use Rattle.netlist.specs.Runs.{Cycle, Run, cycle_of, IsRun}
 use Rattle.net_parts.specs.declared.places.PlaceNets.{PlaceNets}
 use Rattle.net_parts.specs.Nets.{IsBit}
 use Rattle.net_parts.specs.Groups.{AreNets, group_widths, values_of, AreNumberedFrom, InGroup, nets_last}
-use Rattle.net_parts.specs.Places.{Place, shift_row, refilled, AllEmpty, PlacesMove}
+use Rattle.net_parts.specs.Places.{Place, first_or, fill_row, shift_row, refilled, AllEmpty, PlacesMove}
 
 -- the nets of a place as a group
 abbrev pub nets_of : {N : ℕ} → PlaceNets N → List NetValue
@@ -67,6 +67,11 @@ pub record AreInRow {N : ℕ} (netlist : Netlist) (like : PlaceNets N) (row : Li
 abbrev pub InRow : {N : ℕ} → List (PlaceNets N) → ℕ → Type 0
 InRow [] n = ⊥
 InRow (place ∷ row) n = InGroup (nets_of place) n ⊎ InRow row n
+
+-- what stands behind a place, once an item has come: the first of the rest, or what ends the row. `before` is the bit that all before it are full
+abbrev pub filled_behind : {N : ℕ} → Cycle → NetValue → NetValue → PlaceNets N → List (PlaceNets N) → PlaceNets N → Place (List ℕ)
+filled_behind cycle before comes from rest end =
+    first_or (fill_row ((cycle.net comes.number == 1) && (cycle.net before.number == 1)) (cycle.net comes.number == 1) (values_of cycle from.item) (row_in cycle rest)) (place_in cycle end)
 
 -- in each run each place begins empty
 abbrev pub StartsAllEmpty : {N : ℕ} → Netlist → List (PlaceNets N) → Type 0

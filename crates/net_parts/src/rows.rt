@@ -6,8 +6,7 @@ ghost use Rattle.netlist.specs.Runs.{Always};
 ghost use Rattle.net_parts.specs.Nets.{IsBit};
 ghost use Rattle.net_parts.specs.Growth.{GrowsBy, AddsNets, StillWait, WaitsBeside, WaitsWithout, AreMadeBetween};
 ghost use Rattle.net_parts.specs.Groups.{values_of};
-ghost use Rattle.net_parts.specs.Places.{first_or, fill_row};
-ghost use Rattle.net_parts.specs.PlaceRows.{nets_of, ArePlaceNets, HaveSameWidths, place_in, row_in, AreInRow, InRow, StartsAllEmpty, RowMoves, StepsRow, shown_first, last_full};
+ghost use Rattle.net_parts.specs.PlaceRows.{nets_of, ArePlaceNets, HaveSameWidths, place_in, row_in, AreInRow, InRow, StartsAllEmpty, RowMoves, StepsRow, filled_behind, shown_first, last_full};
 
 use crate::bits::gives_item;
 use crate::places::{PlaceNets, choose_place, end_place, fill_place, low_place, set_next_place};
@@ -33,7 +32,7 @@ fn fill_next<const N: usize>(
     requires widths { HaveSameWidths end.now from.now }
     ensures place { IfOk result (λ made. ArePlaceNets builder.new made) }
     ensures widths { IfOk result (λ made. HaveSameWidths made from.now) }
-    ensures value { IfOk result (λ made. Always builder.new (λ cycle. place_in cycle made ≡ first_or (fill_row ((cycle.net comes.number == 1) && (cycle.net before.number == 1)) (cycle.net comes.number == 1) (values_of cycle from.now.item) (row_in cycle rest.now)) (place_in cycle end.now))) }
+    ensures value { IfOk result (λ made. Always builder.new (λ cycle. place_in cycle made ≡ filled_behind cycle before comes from.now rest.now end.now)) }
     ensures adds { AddsNets (N + 2) builder.old builder.new }
     ensures full { result ≡ Err NetFault.TooManyNets → 2 ^ 20 < length builder.old.lines + (N + 2) }
 {

@@ -97,6 +97,10 @@ Always netlist P = (cycle : Cycle) → IsValuation netlist cycle → P cycle
 abbrev pub InputsFit : List PortLine → (ℕ → ℕ) → Type 0
 InputsFit ports input = (k w : ℕ) → IsInputPort ports k w → input k < 2 ^ w
 
+-- in each of so many cycles they do
+abbrev pub AlwaysFit : List PortLine → (ℕ → ℕ → ℕ) → ℕ → Type 0
+AlwaysFit ports inputs cycles = (c : ℕ) → c < cycles → InputsFit ports (inputs c)
+
 -- each register's value and each word fits its width
 pub record StateFits (netlist : Netlist) (cycle : Cycle) : Type 0 where
   pub registers : (n : ℕ) (line : Line) → slice_get netlist.lines n ≡ Some line → is_register line.equation ≡ true → cycle.net n < 2 ^ line.width

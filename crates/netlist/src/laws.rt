@@ -3,13 +3,14 @@
 ghost use Rattle.std.specs.Prelude.{◌≡◌, ℕ, ◌<◌, ◌≤◌, slice_get, Some};
 ghost use Rattle.netlist.specs.Netlists.{Netlist, IsWellMade, IsInputPort, driver_of, input_net};
 ghost use Rattle.netlist.specs.declared.line.PortLine.{PortLine};
-ghost use Rattle.netlist.specs.Runs.{Run, Cycle, IsRun, IsValuation, InputsFit, StateFits, WordsFit, SameInputs, SameState, SameNets, Always, HasValuation, HasRun, GoesOn};
+ghost use Rattle.netlist.specs.Runs.{Run, Cycle, IsRun, IsValuation, InputsFit, AlwaysFit, StateFits, WordsFit, SameInputs, SameState, SameNets, Always, HasValuation, HasRun, GoesOn};
 ghost use Rattle.netlist.specs.Longer.{Keeps, Extends};
 ghost use Rattle.netlist.specs.Signals.{port_net, port_value, signal};
 
 /// Any inputs and first contents, each within its width, have a run of every length.
 pub fn has_run()
-    ensures { (netlist : Netlist) → IsWellMade netlist → (inputs : ℕ → ℕ → ℕ) (contents : ℕ → ℕ → ℕ) (cycles : ℕ) → ((c : ℕ) → c < cycles → InputsFit netlist.ports (inputs c)) → WordsFit netlist.memories contents → HasRun netlist inputs contents cycles }
+    ensures { (netlist : Netlist) → IsWellMade netlist → (inputs : ℕ → ℕ → ℕ) (contents : ℕ → ℕ → ℕ) (cycles : ℕ)
+        → AlwaysFit netlist.ports inputs cycles → WordsFit netlist.memories contents → HasRun netlist inputs contents cycles }
 {}
 
 /// Any inputs and state, each within its width, have a valuation.
