@@ -1,7 +1,7 @@
 pub mod Forms
 pub mod Driving
 pub mod StreamEnds
-pub mod MemoryLinks
+pub mod MemoryWires
 pub mod MemoryEnds
 pub mod MemoryJoins
 pub mod Joining

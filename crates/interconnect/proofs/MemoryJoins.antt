@@ -15,18 +15,16 @@ use Rattle.address_map.specs.Ends.{each_once}
 use Rattle.address_map.specs.Footprints.{known_at}
 use Rattle.address_map.specs.Maps.{is_mm, mm_connections, hosts_of, agents_of}
 use Rattle.link_rules.specs.Links.{streams_of}
-use Rattle.netlist.specs.declared.line.Equation.{Equation}
-use Rattle.netlist.specs.declared.line.Equation.TheVariants.{Reg}
 use Rattle.netlist.specs.declared.line.Line.{Line}
 use Rattle.netlist.specs.declared.line.PortLine.{PortLine}
 use Rattle.netlist.specs.Nets.{NetValue, net_of}
-use Rattle.netlist.specs.Netlists.{Netlist, IsInputPort, driver_of, input_count, input_net, is_register, next_set}
+use Rattle.netlist.specs.Netlists.{Netlist, IsInputPort, driver_of, input_count, input_net}
 use Rattle.netlist.specs.Longer.{Extends}
 use Rattle.mm_machines.specs.BoundedWire.{WireForm, IsWireForm}
 use Rattle.mm_wire.specs.declared.nets.HostNets.{HostNets}
 use Rattle.mm_wire.specs.declared.nets.AgentNets.{AgentNets}
 use Rattle.mm_wire.specs.declared.nets.WireNets.{WireNets}
-use Rattle.net_parts.specs.Nets.{IsRegister, IsNetOfWidth}
+use Rattle.net_parts.specs.Nets.{IsNetOfWidth}
 use Rattle.net_parts.specs.Laws.{extends_twice, net_lasts, register_lasts}
 use Rattle.mm_wire.specs.Wires.{AreHostNets, AreAgentNets, AreWireNets, RunsAsWire}
 use Rattle.port_tables.specs.declared.roles.PortRole.{PortRole}
@@ -36,11 +34,11 @@ use Rattle.port_tables.specs.Ports.{bits_if, is_forward, connection_ends, ends_o
 use Rattle.port_tables.specs.PortMaps.{IsPortIf, HasKnownPorts, port_at}
 use Rattle.port_tables.specs.EndFacts.{IsPlanned, known_is}
 use Rattle.port_tables.specs.Numbering.{of_stream, stream_kind}
-use Rattle.interconnect.specs.declared.memory.MemoryLink.{MemoryLink}
+use Rattle.interconnect.specs.declared.memory.MemoryWire.{MemoryWire}
 use Rattle.interconnect.specs.Streams.{IsStream}
 use Rattle.interconnect.specs.Memory.{IsMemory}
 use Rattle.interconnect.specs.Outputs.{IsInputIf, IsInput, output_end, output_at, HaveOwnRoles, HasSameNets, MayDriveAll, AreDriven, IsNoOutput}
-use Rattle.interconnect.specs.MemoryNets.{bounded_form, IsMemoryLink, AreHostInputs, AreAgentInputs, AddsWire, wire_roles, wire_net, wire_outputs, IsJoinedMemory}
+use Rattle.interconnect.specs.MemoryNets.{bounded_form, IsMemoryWire, AreHostInputs, AreAgentInputs, AddsWire, wire_roles, wire_net, wire_outputs, IsJoinedMemory}
 use Rattle.interconnect.specs.Joins.{IsBegun, IsJoinedUpTo}
 use Rattle.built_links.specs.Kinds.{of_kind}
 use Rattle.interconnect.proofs.Driving.{KeepsOn, is_an_end, output_among, can_drive, own_roles, each_at, may_by, stay_driven, same_drivers, low_stays, waiting_as, unwritten_as}
@@ -83,7 +81,7 @@ memory_among system number connection host agent h is =
     ] in
     among_kept (λ (c : Connection). is_mm c.kind) system.connections connection (among_at system.connections number connection is.connection_is) kind
 
-one_link : (system : SystemTable) (link : MemoryLink) (number : ℕ) (connection : Connection) (host : HostPort) (agent : AgentPort) → IsPlanned system → IsMemoryLink system link
+one_link : (system : SystemTable) (link : MemoryWire) (number : ℕ) (connection : Connection) (host : HostPort) (agent : AgentPort) → IsPlanned system → IsMemoryWire system link
     → IsMemory system number connection host agent → link.connection ≡ connection
 one_link system link number connection host agent h l is =
     only (subst (λ (cs : List Connection). Among connection cs) l.only (memory_among system number connection host agent h is))
@@ -93,7 +91,7 @@ one_link system link number connection host agent h l is =
     only (inr none) = absurd none
 
 -- what holds of the link holds of each connection of a host to an agent
-of_link : (system : SystemTable) (link : MemoryLink) (number : ℕ) (connection : Connection) (host : HostPort) (agent : AgentPort) (netlist : Netlist) → IsPlanned system → (l : IsMemoryLink system link)
+of_link : (system : SystemTable) (link : MemoryWire) (number : ℕ) (connection : Connection) (host : HostPort) (agent : AgentPort) (netlist : Netlist) → IsPlanned system → (l : IsMemoryWire system link)
     → IsMemory system number connection host agent → IsJoinedMemory system netlist link.connection l.host l.agent → IsJoinedMemory system netlist connection host agent
 of_link system link number connection host agent netlist h l is joined =
     let same = one_link system link number connection host agent h l is in
@@ -106,30 +104,30 @@ of_link system link number connection host agent netlist h l is joined =
     (subst (λ (x : HostPort). IsJoinedMemory system netlist link.connection x l.agent) hosts joined))
 
 -- its ends are ends of the system
-pub host_among : (system : SystemTable) (link : MemoryLink) → IsMemoryLink system link → Among link.connection.start (ends_of system)
+pub host_among : (system : SystemTable) (link : MemoryWire) → IsMemoryWire system link → Among link.connection.start (ends_of system)
 host_among system link l =
     let hosts : hosts_of system ≡ link.connection.start ∷ [] = ap (λ (cs : List Connection). each_once (map (λ (c : Connection). c.start) cs)) l.only in
     among_front (hosts_of system ++ agents_of system) (flat_map (connection_ends system) (streams_of system)) link.connection.start
     (among_front (hosts_of system) (agents_of system) link.connection.start (subst (λ (ends : List EndId). Among link.connection.start ends) (sym hosts) (inl refl)))
 
-pub agent_among : (system : SystemTable) (link : MemoryLink) → IsMemoryLink system link → Among link.connection.end (ends_of system)
+pub agent_among : (system : SystemTable) (link : MemoryWire) → IsMemoryWire system link → Among link.connection.end (ends_of system)
 agent_among system link l =
     let agents : agents_of system ≡ link.connection.end ∷ [] = ap (λ (cs : List Connection). each_once (map (λ (c : Connection). c.end) cs)) l.only in
     among_front (hosts_of system ++ agents_of system) (flat_map (connection_ends system) (streams_of system)) link.connection.end
     (among_back (hosts_of system) (agents_of system) link.connection.end (subst (λ (ends : List EndId). Among link.connection.end ends) (sym agents) (inl refl)))
 
 -- the ports at its ends
-pub link_host : (system : SystemTable) (link : MemoryLink) → HasKnownPorts system → IsMemoryLink system link → AreHostPorts system link.connection.start link.form.address_bits link.form.has_enables
+pub link_host : (system : SystemTable) (link : MemoryWire) → HasKnownPorts system → IsMemoryWire system link → AreHostPorts system link.connection.start link.form.address_bits link.form.has_enables
 link_host system link h l =
     subst (λ (f : WireForm). AreHostPorts system link.connection.start f.address_bits f.has_enables) (sym l.form_is)
     (host_ports_are system link.connection.start l.host l.agent h (host_among system link l) l.host_is (pair_is l.host l.agent l.wire))
 
-pub link_agent : (system : SystemTable) (link : MemoryLink) → HasKnownPorts system → IsMemoryLink system link → AreAgentPorts system link.connection.end link.form.address_bits link.form.has_enables
+pub link_agent : (system : SystemTable) (link : MemoryWire) → HasKnownPorts system → IsMemoryWire system link → AreAgentPorts system link.connection.end link.form.address_bits link.form.has_enables
 link_agent system link h l =
     subst (λ (f : WireForm). AreAgentPorts system link.connection.end f.address_bits f.has_enables) (sym l.form_is)
     (agent_ports_are system link.connection.end l.host l.agent h (agent_among system link l) l.agent_is (pair_is l.host l.agent l.wire))
 
-pub link_limits : (system : SystemTable) (link : MemoryLink) → IsMemoryLink system link → IsWireForm (bounded_form link.form)
+pub link_limits : (system : SystemTable) (link : MemoryWire) → IsMemoryWire system link → IsWireForm (bounded_form link.form)
 link_limits system link l = subst IsWireForm (sym l.form_is) (limits l.host l.agent (pair_is l.host l.agent l.wire))
 
 -- ---- inputs
@@ -249,9 +247,9 @@ agent_lasts old new agent extends are =
     }
 
 -- a wire was added between the nets of the link's ends
-pub record IsAdded (system : SystemTable) (link : MemoryLink) (old middle : Netlist) (host : HostNets) (agent : AgentNets) (made : WireNets) : Type 0 where
+pub record IsAdded (system : SystemTable) (link : MemoryWire) (old middle : Netlist) (host : HostNets) (agent : AgentNets) (made : WireNets) : Type 0 where
   pub known : HasKnownPorts system
-  pub link_is : IsMemoryLink system link
+  pub link_is : IsMemoryWire system link
   pub begun : IsBegun system old
   pub from_are : AreHostInputs system link.connection.start link.form.address_bits host
   pub to_are : AreAgentInputs system link.connection.end agent
@@ -271,7 +269,7 @@ undriven_where netlist None h = tt
 undriven_where netlist (Some k) h = h k refl
 
 -- its outputs may be driven
-pub link_may_drive : (system : SystemTable) (link : MemoryLink) (old middle : Netlist) (host : HostNets) (agent : AgentNets) (made : WireNets) → IsAdded system link old middle host agent made
+pub link_may_drive : (system : SystemTable) (link : MemoryWire) (old middle : Netlist) (host : HostNets) (agent : AgentNets) (made : WireNets) → IsAdded system link old middle host agent made
     → MayDriveAll system link.connection (wire_outputs host agent made) middle
 link_may_drive system link old middle host agent made s =
     let bits = link.form.address_bits in
@@ -292,7 +290,7 @@ is_memory (Agent agent) = true
 is_memory _ = false
 
 -- an output of a stream is none of the link's
-other_output : (system : SystemTable) (link : MemoryLink) (n k : ℕ) (connection : Connection) (source : StreamPort) (sink : StreamPort) (r : PortRole) → HasKnownPorts system → IsMemoryLink system link
+other_output : (system : SystemTable) (link : MemoryWire) (n k : ℕ) (connection : Connection) (source : StreamPort) (sink : StreamPort) (r : PortRole) → HasKnownPorts system → IsMemoryWire system link
     → IsStream system n connection source sink → output_at system connection r ≡ Some k → IsNoOutput system link.connection k
 other_output system link n k connection source sink r h l is here s there =
     let ends = stream_ends_among system n connection source sink is in
@@ -311,7 +309,7 @@ other_output system link n k connection source sink r h l is here s there =
     stream_end false = ap is_memory is.source_is
 
 -- the host is joined to its agent
-pub link_joined : KeepsOn → (system : SystemTable) (link : MemoryLink) (old middle new : Netlist) (host : HostNets) (agent : AgentNets) (made : WireNets) → IsAdded system link old middle host agent made
+pub link_joined : KeepsOn → (system : SystemTable) (link : MemoryWire) (old middle new : Netlist) (host : HostNets) (agent : AgentNets) (made : WireNets) → IsAdded system link old middle host agent made
     → HasSameNets middle new → Extends middle new → AreDriven system link.connection (wire_outputs host agent made) new
     → ((k : ℕ) → IsNoOutput system link.connection k → driver_of new k ≡ driver_of middle k) → IsJoinedUpTo system 0 new
 link_joined law system link old middle new host agent made s same extends driven others =

@@ -22,7 +22,7 @@ use Rattle.port_tables.specs.declared.roles.PortRole.TheVariants as role
 use Rattle.port_tables.specs.Ends.{IsAnEnd}
 use Rattle.interconnect.specs.declared.outputs.Output.{Output}
 use Rattle.interconnect.specs.declared.memory.MemoryForm.{MemoryForm}
-use Rattle.interconnect.specs.declared.memory.MemoryLink.{MemoryLink}
+use Rattle.interconnect.specs.declared.memory.MemoryWire.{MemoryWire}
 use Rattle.built_links.specs.Wires.{is_wire_memory}
 use Rattle.interconnect.specs.Memory.{bound_of, form_of}
 use Rattle.interconnect.specs.Outputs.{input_at, outputs_by, AreDriven}
@@ -32,7 +32,7 @@ abbrev pub bounded_form : MemoryForm → WireForm
 bounded_form memory = record { address_bits = memory.address_bits; has_enables = memory.has_enables; pending = memory.pending }
 
 -- the only connection of a host to an agent, which is a wire of this form
-pub record IsMemoryLink (system : SystemTable) (link : MemoryLink) : Type 0 where
+pub record IsMemoryWire (system : SystemTable) (link : MemoryWire) : Type 0 where
   pub host : HostPort
   pub agent : AgentPort
   pub only : mm_connections system ≡ link.connection ∷ []

@@ -3,17 +3,18 @@ ghost use Rattle.netlist.specs.Netlists.{Netlist};
 ghost use Rattle.mm_machines.specs.BoundedWire.{IsWireForm};
 ghost use Rattle.mm_wire.specs.Wires.{AreHostNets, AreAgentNets};
 ghost use Rattle.address_map.specs.Maps.{mm_connections};
+ghost use Rattle.link_rules.specs.PlanLinks.{IsMemoryLink};
 ghost use Rattle.port_tables.specs.Ports.{ports_of};
 ghost use Rattle.port_tables.specs.PortMaps.{entries_of};
 ghost use Rattle.built_links.specs.Wires.{pending_of};
 ghost use Rattle.interconnect.specs.Memory.{form_of};
-ghost use Rattle.interconnect.specs.MemoryNets.{bounded_form, IsMemoryLink, AreHostInputs, AreAgentInputs, AddsWire, wire_outputs};
+ghost use Rattle.interconnect.specs.MemoryNets.{bounded_form, IsMemoryWire, AreHostInputs, AreAgentInputs, AddsWire, wire_outputs};
 ghost use Rattle.interconnect.specs.Joins.{IsBegun, IsJoinedUpTo};
 
 use crate::outputs::{Output, drive_outputs, input_net, input_of};
 use av_base::NoMemory;
-use iface_roles::{AgentPort, Finished};
-use link_rules::Plan;
+use iface_roles::AgentPort;
+use link_rules::{MemoryLink, Plan, memory_links_are_numbered};
 use mm_wire::{AgentNets, HostNets, WireNets, emit};
 use netlist::{Builder, NetFault};
 use port_tables::{PortMap, PortRole, ports_are_known};
@@ -30,9 +31,9 @@ struct MemoryForm {
     pending: u8,
 }
 
-/// The connection of a host to an agent.
+/// A host and its agent, where these two alone are joined.
 #[derive(Clone, Copy)]
-struct MemoryLink {
+struct MemoryWire {
     connection: Connection,
     form: MemoryForm,
 }
@@ -48,33 +49,42 @@ fn form_of(agent: &AgentPort) -> MemoryForm
     }
 }
 
-/// The connection of a host to an agent, where there is one.
-fn memory_link(plan: &Plan) -> Option<MemoryLink>
-    requires { pending_of plan.now.system ≡ None }
-    ensures { MatchOption result (mm_connections plan.now.system ≡ []) (IsMemoryLink plan.now.system) }
+/// A link that is built is a wire.
+fn wire_of(plan: &Plan, link: &MemoryLink) -> MemoryWire
+    requires built { pending_of plan.now.system ≡ None }
+    requires link { IsMemoryLink plan.now.system link.now }
+    ensures { IsMemoryWire plan.now.system result }
 {
     plan.well_made();
-    for connection in plan.connections() {
-        if let Finished::Agent(agent) = plan.interface(connection.end) {
-            return Some(MemoryLink {
-                connection: *connection,
-                form: form_of(&agent),
-            });
-        }
+    MemoryWire {
+        connection: plan.connections()[link.connection as usize],
+        form: form_of(&link.agent),
     }
-    None
+}
+
+/// The host and the agent that are joined, where there are any.
+fn memory_wire(plan: &Plan) -> Option<MemoryWire>
+    requires { pending_of plan.now.system ≡ None }
+    ensures { MatchOption result (mm_connections plan.now.system ≡ []) (IsMemoryWire plan.now.system) }
+{
+    plan.well_made();
+    memory_links_are_numbered();
+    match plan.memory_links().split_first() {
+        Some((link, _)) => Some(wire_of(plan, link)),
+        None => None,
+    }
 }
 
 /// The nets at the host's inputs.
-fn host_nets(builder: &Builder, plan: &Plan, ports: &PortMap, link: MemoryLink) -> HostNets
+fn host_nets(builder: &Builder, plan: &Plan, ports: &PortMap, wire: MemoryWire) -> HostNets
     requires builder { builder.now.ports ≡ ports_of plan.now.system }
     requires map { ports.now.entries ≡ entries_of plan.now.system }
-    requires link { IsMemoryLink plan.now.system link }
-    ensures inputs { AreHostInputs plan.now.system link.connection.start link.form.address_bits result }
-    ensures nets { AreHostNets builder.now result link.form.address_bits }
+    requires wire { IsMemoryWire plan.now.system wire }
+    ensures inputs { AreHostInputs plan.now.system wire.connection.start wire.form.address_bits result }
+    ensures nets { AreHostNets builder.now result wire.form.address_bits }
 {
     ports_are_known(plan);
-    let end = link.connection.start;
+    let end = wire.connection.start;
     HostNets {
         address: input_net(builder, plan, ports, end, PortRole::Address),
         read: input_net(builder, plan, ports, end, PortRole::Read),
@@ -85,15 +95,15 @@ fn host_nets(builder: &Builder, plan: &Plan, ports: &PortMap, link: MemoryLink) 
 }
 
 /// The nets at the agent's inputs.
-fn agent_nets(builder: &Builder, plan: &Plan, ports: &PortMap, link: MemoryLink) -> AgentNets
+fn agent_nets(builder: &Builder, plan: &Plan, ports: &PortMap, wire: MemoryWire) -> AgentNets
     requires builder { builder.now.ports ≡ ports_of plan.now.system }
     requires map { ports.now.entries ≡ entries_of plan.now.system }
-    requires link { IsMemoryLink plan.now.system link }
-    ensures inputs { AreAgentInputs plan.now.system link.connection.end result }
+    requires wire { IsMemoryWire plan.now.system wire }
+    ensures inputs { AreAgentInputs plan.now.system wire.connection.end result }
     ensures nets { AreAgentNets builder.now result }
 {
     ports_are_known(plan);
-    let end = link.connection.end;
+    let end = wire.connection.end;
     AgentNets {
         waitrequest: input_net(builder, plan, ports, end, PortRole::WaitRequest),
         readdata: input_net(builder, plan, ports, end, PortRole::ReadData),
@@ -140,24 +150,24 @@ fn wire_outputs(host: &HostNets, agent: &AgentNets, made: &WireNets) -> [Output;
 }
 
 /// Joins the host to its agent.
-fn join_link(
+fn join_wire(
     builder: &mut Builder,
     plan: &Plan,
     ports: &PortMap,
-    link: MemoryLink,
+    wire: MemoryWire,
 ) -> Result<(), NoMemory>
     requires map { ports.now.entries ≡ entries_of plan.now.system }
-    requires link { IsMemoryLink plan.now.system link }
+    requires wire { IsMemoryWire plan.now.system wire }
     requires begun { IsBegun plan.now.system builder.old }
     ensures { OnOk result (IsJoinedUpTo plan.now.system 0 builder.new) }
 {
     ports_are_known(plan);
     netlist::keeps();
-    let host = host_nets(builder, plan, ports, link);
-    let agent = agent_nets(builder, plan, ports, link);
-    let made = wire_nets(builder, &host, &agent, link.form)?;
+    let host = host_nets(builder, plan, ports, wire);
+    let agent = agent_nets(builder, plan, ports, wire);
+    let made = wire_nets(builder, &host, &agent, wire.form)?;
     let outputs = wire_outputs(&host, &agent, &made);
-    drive_outputs(builder, plan, ports, link.connection, &outputs);
+    drive_outputs(builder, plan, ports, wire.connection, &outputs);
     Ok(())
 }
 
@@ -173,8 +183,8 @@ pub(crate) fn join_memory(
     ensures { OnOk result (IsJoinedUpTo plan.now.system 0 builder.new) }
 {
     ports_are_known(plan);
-    match memory_link(plan) {
-        Some(link) => join_link(builder, plan, ports, link),
+    match memory_wire(plan) {
+        Some(wire) => join_wire(builder, plan, ports, wire),
         None => Ok(()),
     }
 }

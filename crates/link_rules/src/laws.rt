@@ -1,13 +1,15 @@
 //! What holds of the links of every plan, and of the numbers of its streams, hosts and agents.
 
 ghost use Rattle.std.specs.Prelude.{◌≡◌, ℕ, ◌<◌, Some, map, slice_get};
+ghost use Rattle.iface_roles.specs.declared.kinds.Kind.TheVariants.{Mm};
+ghost use Rattle.system_tables.specs.declared.tables.Connection.{Connection};
 ghost use Rattle.system_tables.specs.declared.tables.EndId.{EndId as Id};
 ghost use Rattle.system_tables.specs.Tables.{SystemTable, IsSystem};
 ghost use Rattle.address_map.specs.Maps.{hosts_of, agents_of};
 ghost use Rattle.link_rules.specs.declared.plan_links.MemoryLink.{MemoryLink};
 ghost use Rattle.link_rules.specs.declared.plan_links.StreamLink.{StreamLink};
 ghost use Rattle.link_rules.specs.Links.{streams_of};
-ghost use Rattle.link_rules.specs.PlanLinks.{stream_links, memory_links, IsStreamLink, IsMemoryLink, KeepsStreamRules, KeepsMmRules, IsHostEnd, IsAgentEnd};
+ghost use Rattle.link_rules.specs.PlanLinks.{stream_links, memory_links, IsStreamLink, IsMemoryLink, HasMemoryLink, KeepsStreamRules, KeepsMmRules, IsHostEnd, IsAgentEnd};
 ghost use Rattle.link_rules.specs.Plans.{PlanTable, IsPlan};
 
 use address_map::{ends_are_joined, ends_have_one_number};
@@ -19,9 +21,10 @@ pub fn streams_are_numbered()
     ensures rising { (system : SystemTable) (j k a b : ℕ) → j < k → slice_get (streams_of system) j ≡ Some a → slice_get (streams_of system) k ≡ Some b → a < b }
 {}
 
-/// Each link of a host to an agent is that of its connection.
+/// Each link of a host to an agent is that of its connection, and each such connection has one.
 pub fn memory_links_are_numbered()
-    ensures { (system : SystemTable) → IsSystem system → (k : ℕ) (link : MemoryLink) → slice_get (memory_links system) k ≡ Some link → IsMemoryLink system link }
+    ensures links { (system : SystemTable) → IsSystem system → (k : ℕ) (link : MemoryLink) → slice_get (memory_links system) k ≡ Some link → IsMemoryLink system link }
+    ensures each { (system : SystemTable) → IsSystem system → (number : ℕ) (connection : Connection) → slice_get system.connections number ≡ Some connection → connection.kind ≡ Mm → HasMemoryLink system number }
 {
     ends_have_one_number();
 }

@@ -1,8 +1,7 @@
 -- The hosts, agents and streams of a system: where they come from, and that each end has ports once.
-use Rattle.std.proofs.Common.{◌≡◌, ◌⊎◌, inl, inr, ℕ, zero, suc, ◌+◌, ◌<◌, Bool, true, false, not, List, [], ◌∷◌, ◌++◌, length, map, slice_get, get_or, Option, Some, None, refl, sym, ap, subst, ◌∙◌, arith}
+use Rattle.std.proofs.Common.{◌≡◌, ◌⊎◌, inl, inr, ℕ, zero, suc, ◌+◌, ◌<◌, Bool, true, false, not, List, [], ◌∷◌, ◌++◌, map, slice_get, Option, Some, None, refl, sym, ap, subst, ◌∙◌, arith}
 use Rattle.std.specs.Prelude.{if◌then◌else◌}
 use Rattle.std.specs.List.{flat_map, enumerate_from}
-use Rattle.std.proofs.lemmas.Option.{slice_get-get_or, get_or_from_slice_get, slice_get_within}
 use Rattle.std.proofs.lemmas.Bool.{and_from, eq-eqb, false≢true}
 use Rattle.iface_roles.specs.declared.kinds.Kind.{Kind}
 use Rattle.iface_roles.specs.declared.kinds.Kind.TheVariants.{Clock, Reset, Mm, Stream, Conduit, Interrupt}
@@ -18,7 +17,9 @@ use Rattle.system_tables.specs.Tables.{SystemTable, IsEnd, IsLogic, Joins}
 use Rattle.address_map.specs.Ends.{is_same_end, each_once}
 use Rattle.address_map.specs.Footprints.{known_at}
 use Rattle.address_map.specs.Maps.{is_mm, mm_connections, hosts_of, agents_of}
+use Rattle.link_rules.specs.declared.plan_links.StreamLink.{StreamLink}
 use Rattle.link_rules.specs.Links.{is_stream, streams_of}
+use Rattle.link_rules.specs.PlanLinks.{IsStreamLink}
 use Rattle.port_tables.specs.Ports.{connection_ends, ends_of}
 use Rattle.port_tables.specs.Ends.{IsNarrow, IsPlanEnd, ArePlanEnds, IsStreamPlace}
 use Rattle.port_tables.specs.EndFacts.{AreNarrow, IsPlanned, known_is}
@@ -393,35 +394,32 @@ are_ends system number connection at (suc (suc k)) end e = absurd (let n : None 
 
 -- ---- streams by their numbers
 
-place_at : (system : SystemTable) (number : ℕ) (streams : List ℕ) → streams ≡ (streams_of system) → number < length (streams_of system) → slice_get (streams_of system) number ≡ Some (get_or streams number 0)
-place_at system number streams e inside =
-    slice_get-get_or (streams_of system) number 0 inside ∙ ap (λ (xs : List ℕ). Some (get_or xs number 0)) (sym e)
+-- the stream of a link: its connection, whose ends are the link's
+pub record IsStreamOf (system : SystemTable) (number : ℕ) (link : StreamLink) : Type 0 where
+  pub connection : Connection
+  pub place : IsStreamPlace system number connection
+  pub start : connection.start ≡ link.source_end
+  pub end : connection.end ≡ link.sink_end
 
-pub stream_inside : (system : SystemTable) (number : ℕ) (streams : List ℕ) (connections : List Connection) → IsPlanned system → streams ≡ (streams_of system) → connections ≡ system.connections
-    → number < length (streams_of system) → get_or streams number 0 < length connections
-stream_inside system number streams connections h e f inside =
-    let is = stream_number system _ (among_at (streams_of system) number _ (place_at system number streams e inside)) in
-    let below = slice_get_within system.connections _ is.connection is.is in
-    rw f below
-
-pub stream_place : (system : SystemTable) (number : ℕ) (streams : List ℕ) (connections : List Connection) (d : Connection) → IsPlanned system → streams ≡ (streams_of system)
-    → connections ≡ system.connections → number < length (streams_of system) → IsStreamPlace system number (get_or connections (get_or streams number 0) d)
-stream_place system number streams connections d h e f inside =
-    let place = get_or streams number 0 in
-    let is = stream_number system place (among_at (streams_of system) number place (place_at system number streams e inside)) in
-    let at = stream_at system place is.connection h is.is is.kind in
-    let found : get_or connections place d ≡ is.connection = ap (λ (xs : List Connection). get_or xs place d) f ∙ get_or_from_slice_get system.connections place is.connection d is.is in
-    subst (IsStreamPlace system number) (sym found) (record {
-      place = place;
-      place_is = place_at system number streams e inside;
-      connection_is = is.is;
-      source = at.source;
-      sink = at.sink;
-      source_port = at.joins.source;
-      sink_port = at.joins.sink;
-      source_is = known_is system is.connection.start (Source at.joins.source) at.joins.start;
-      sink_is = known_is system is.connection.end (Sink at.joins.sink) at.joins.end;
-    })
+pub link_stream : (system : SystemTable) (number : ℕ) (link : StreamLink) → IsPlanned system → IsStreamLink system number link → IsStreamOf system number link
+link_stream system number link h l =
+    let at = stream_at system link.connection l.connection h l.connection_is l.kind in
+    record {
+      connection = l.connection;
+      place = record {
+        place = link.connection;
+        place_is = l.place_is;
+        connection_is = l.connection_is;
+        source = at.source;
+        sink = at.sink;
+        source_port = at.joins.source;
+        sink_port = at.joins.sink;
+        source_is = known_is system l.connection.start (Source at.joins.source) at.joins.start;
+        sink_is = known_is system l.connection.end (Sink at.joins.sink) at.joins.end;
+      };
+      start = l.start;
+      end = l.end;
+    }
 
 -- ---- what the ends by number are known as
 

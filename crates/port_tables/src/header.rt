@@ -4,7 +4,7 @@ ghost use Rattle.iface_roles.specs.declared.records.Finished.{Finished};
 ghost use Rattle.netlist.specs.Netlists.{IsWellMade, IsClocked, IsWritten, driver_of, started};
 ghost use Rattle.link_rules.specs.Links.{streams_of};
 ghost use Rattle.address_map.specs.Maps.{agents_of};
-ghost use Rattle.port_tables.specs.Ends.{IsPlanEnd, ArePlanEnds, IsStreamPlace};
+ghost use Rattle.port_tables.specs.Ends.{IsPlanEnd, ArePlanEnds};
 ghost use Rattle.port_tables.specs.Ports.{name_at, port_name, has_bits, connection_ends, ports_of, module_name};
 ghost use Rattle.port_tables.specs.PortMaps.{entry_of, end_entries, entries_of, line_of_entry, AreSinks, IsMapOf, AreTold};
 
@@ -12,10 +12,10 @@ use crate::port_table::{PortEntry, PortMap};
 use crate::roles::{PortRole, RolePort, agent_ports, host_ports, port, sink_ports, source_ports};
 use av_base::{List, NoMemory, Text};
 use iface_roles::{Finished, proper_records_are_bounded};
-use link_rules::Plan;
+use link_rules::{Plan, streams_are_numbered};
 use netlist::{Builder, NetFault, PortLine};
 use std::alloc::Global;
-use system_tables::{Connection, EndId};
+use system_tables::EndId;
 
 fn name_of_port(alloc: Global, plan: &Plan, end: EndId, word: &str) -> Result<Text, NoMemory>
     requires { (known : Finished) × IsEnd plan.now.system end known }
@@ -73,23 +73,14 @@ fn push_ends(entries: &mut List<PortEntry>, plan: &Plan, ends: &[EndId]) -> Resu
     Ok(())
 }
 
-/// The connection of a stream, by the stream's number.
-pub fn stream_at(plan: &Plan, number: usize) -> Connection
-    requires { number < length (streams_of plan.now.system) }
-    ensures { IsStreamPlace plan.now.system number result }
-{
-    plan.well_made();
-    let place = plan.streams()[number];
-    plan.connections()[place as usize]
-}
-
 /// Appends the ports of streams.
 fn push_streams(entries: &mut List<PortEntry>, plan: &Plan) -> Result<(), NoMemory>
     ensures { OnOk result (entries.new ≡ entries.old ++ flat_map (end_entries plan.now.system) (flat_map (connection_ends plan.now.system) (streams_of plan.now.system))) }
 {
-    for number in 0..plan.streams().len() {
-        let connection = stream_at(plan, number);
-        push_ends(entries, plan, &[connection.start, connection.end])?;
+    plan.well_made();
+    streams_are_numbered();
+    for link in plan.stream_links() {
+        push_ends(entries, plan, &[link.source_end, link.sink_end])?;
     }
     Ok(())
 }
@@ -109,10 +100,11 @@ fn port_entries(alloc: Global, plan: &Plan) -> Result<List<PortEntry>, NoMemory>
 fn sinks(alloc: Global, plan: &Plan) -> Result<List<EndId>, NoMemory>
     ensures { IfOk result (AreSinks plan.now.system (length (streams_of plan.now.system))) }
 {
+    plan.well_made();
+    streams_are_numbered();
     let mut sinks = List::new(alloc);
-    for number in 0..plan.streams().len() {
-        let connection = stream_at(plan, number);
-        sinks.push(connection.end)?;
+    for link in plan.stream_links() {
+        sinks.push(link.sink_end)?;
     }
     Ok(sinks)
 }

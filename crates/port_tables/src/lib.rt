@@ -7,7 +7,7 @@ mod port_map;
 mod port_table;
 mod roles;
 
-pub use header::{start, stream_at};
+pub use header::start;
 pub use laws::ports_are_known;
 pub use port_table::PortMap;
 pub use roles::PortRole;
