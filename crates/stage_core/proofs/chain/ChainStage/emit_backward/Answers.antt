@@ -1,7 +1,6 @@
 use Rattle.std.proofs.Common.{◌⊎◌, inl, inr, arith}
 use Rattle.net_parts.specs.Growth.{WaitsWithout}
-use Rattle.net_parts.specs.Laws.{on_ok, if_ok, grows_twice, grows_fewer}
-use Rattle.stage_core.specs.ChainNets.{HasMiddle}
+use Rattle.net_parts.specs.Laws.{on_ok, grows_twice, grows_fewer}
 use Rattle.stage_core.proofs.chain.ChainStage.emit_backward.Goals as goal
 
 pub returns-clause-no_more_wait : goal.returns-clause-no_more_wait
@@ -22,12 +21,6 @@ returns-in_err-middle-clause-grows g c = grows_fewer _ _ _ _ (omega arith) c.emi
 
 pub returns-in_err-middle-clause-waits : goal.returns-in_err-middle-clause-waits
 returns-in_err-middle-clause-waits g c n apart w = c.emit_backward.ensures.waits n (λ o. apart (inr o)) w
-
-pub returns-clause-made : goal.returns-clause-made
-returns-clause-made g c =
-    if_ok c.emit_backward-2.result _ (λ up. HasMiddle (λ middle. g.A.Stage.backward_in c.args.self.now.first c.args.kept.0 middle up c.emit_backward-2.new.builder) (λ middle. g.B.Stage.backward_in c.args.self.now.second c.args.kept.1 c.args.ready middle c.emit_backward-2.new.builder))
-    (λ up first. record { middle = c.in_ok-middle.middle; first = first; second = g.met.B.Stage.backward_lasts _ _ _ _ _ _ c.in_ok-middle.ensures.made c.emit_backward-2.ensures.grows.extends })
-    c.emit_backward-2.ensures.made
 
 pub returns-clause-grows : goal.returns-clause-grows
 returns-clause-grows g c = grows_fewer _ _ _ _ (omega arith) (grows_twice _ _ _ _ _ c.emit_backward.ensures.grows c.emit_backward-2.ensures.grows)
