@@ -1,6 +1,6 @@
 -- What a route shows in a cycle doesn't rest on the words that come in it: so its commands stay single one cycle longer than words are owed.
-use Rattle.std.proofs.Common.{ℕ, zero, suc, ◌<◌, ◌≤◌, ◌≡◌, ◌+◌, Bool, true, false, not, List, [], ◌∷◌, ◌++◌, arith, tests, refl, sym, ap, ap₂, subst, ◌∙◌, length, nat_lt, lt-ltb, le-ltb, if◌then◌else◌, Option, Some, None, le_refl}
-use Rattle.std.proofs.lemmas.Bool.{and_parts}
+use Rattle.std.proofs.Common.{ℕ, zero, suc, ◌<◌, ◌≤◌, ◌≡◌, ◌+◌, Bool, true, false, not, List, [], ◌∷◌, ◌++◌, arith, tests, refl, sym, ap, ap₂, subst, ◌∙◌, length, nat_lt, lt-ltb, le-ltb, if◌then◌else◌, Option, Some, None, le_refl, IsTrue}
+use Rattle.std.proofs.lemmas.Bool.{and_parts, false≢true}
 use Rattle.histories.specs.History.{before, only_if, is_raised, one_if}
 use Rattle.histories.specs.Laws.{before_extends, prefix_flat_map, prefix_filter, prefix_length}
 use Rattle.mm_runs.specs.Views.{System, Responses}
@@ -65,6 +65,24 @@ module _ (route : (responses : Responses) (system : System) (host room : ℕ) (u
       by_time true was = was
       by_time false was = by_owing (state.owing k)
 
+  -- a word that is given came before, or is the default agent's
+  came : (k : ℕ) → k < suc c → IsTrue (is_raised (given k)) → IsTrue (is_raised (up.answers.valid k))
+  unfolding given
+  came k low = by_time (nat_lt k c) (machine.valid k (omega (arith, low, inside)))
+    where
+      by_owing : (o : Option ℕ) → is_raised (up.answers.valid k) ≡ by_option o (nat_lt 0 (state.owed k)) (λ a. is_raised ((down a).answers.valid k)) → IsTrue (is_raised (by_option o (one_if (nat_lt 0 (state.owed k))) (λ a. 0))) → IsTrue (is_raised (up.answers.valid k))
+      by_owing None was comes = was ∙ sym (raised (nat_lt 0 (state.owed k))) ∙ comes
+        where
+          raised : (b : Bool) → is_raised (one_if b) ≡ b
+          raised true = refl
+          raised false = refl
+      by_owing (Some a) was comes = absurd (false≢true comes)
+
+      by_time : (b : Bool) → is_raised (up.answers.valid k) ≡ by_option (state.owing k) (nat_lt 0 (state.owed k)) (λ a. is_raised ((down a).answers.valid k)) →
+          IsTrue (is_raised (if b then up.answers.valid k else by_option (state.owing k) (one_if (nat_lt 0 (state.owed k))) (λ a. 0))) → IsTrue (is_raised (up.answers.valid k))
+      by_time true was comes = comes
+      by_time false was comes = by_owing (state.owing k) was comes
+
   quiet_machine : IsRouteMachine responses system host room quiet_up quiet_down state (suc c)
   quiet_machine = record {
     shapes = machine.shapes;
@@ -85,8 +103,8 @@ module _ (route : (responses : Responses) (system : System) (host room : ℕ) (u
     counts = λ k low. counted k (omega (arith, low));
     owes = λ k low. machine.owes k (omega (arith, low, inside));
     valid = valid_then;
-    answer = λ k low. machine.answer k (omega (arith, low, inside));
-    code = λ k low. machine.code k (omega (arith, low, inside));
+    answer = λ k low comes. machine.answer k (omega (arith, low, inside)) (came k low comes);
+    code = λ k low comes. machine.code k (omega (arith, low, inside)) (came k low comes);
   }
     where
       counted : (k : ℕ) → k < c → state.owed k + read_count up k < room → one_if (is_raised (given k)) ≤ state.owed k + read_count up k → state.owed (suc k) + one_if (is_raised (given k)) ≡ state.owed k + read_count up k

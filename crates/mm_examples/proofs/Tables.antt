@@ -245,8 +245,8 @@ route_machine system room up down state end t h is = record {
   counts = λ c low few some. eqb-true _ _ (each t.counts h is c (omega (arith, low)));
   owes = λ c low. same_option _ _ (each t.owes h is c (omega (arith, low)));
   valid = λ c low. same_bool _ _ (each t.valid h is c low);
-  answer = λ c low. eqb-true _ _ (each t.answer h is c low);
-  code = λ c low. eqb-true _ _ (each t.code h is c low);
+  answer = λ c low comes. eqb-true _ _ (each t.answer h is c low);
+  code = λ c low comes. eqb-true _ _ (each t.code h is c low);
 }
 
 -- ---- arbiters, whose grants are those of the turn rule
@@ -330,7 +330,7 @@ agent_machine system run up state end t a there = record {
     valid = λ c low. same_bool _ _ (each t.valid a there c low);
     word = λ c low. eqb-true _ _ (each t.answer a there c low);
     code = λ c low. eqb-true _ _ (each t.code a there c low);
-    tag = λ c low. eqb-true _ _ (each t.tag a there c low);
+    tag = λ c low some. eqb-true _ _ (each t.tag a there c low);
   };
   fixed = λ none. absurd (never (system.agent a).has_readdatavalid (one t.has_valid a there) none);
 }

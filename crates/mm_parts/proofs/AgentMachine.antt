@@ -41,7 +41,7 @@ queued_shorter responses view up state end c low g = record {
   valid = λ k less. g.valid k (omega arith);
   word = λ k less. g.word k (omega arith);
   code = λ k less. g.code k (omega arith);
-  tag = λ k less. g.tag k (omega arith);
+  tag = λ k less some. g.tag k (omega arith) some;
 }
 
 fixed_shorter : (responses : Responses) (side : AgentSide) (view : AgentView) (up : TaggedPort) (state : AgentState) (end c : ℕ) → c ≤ end → GivesFixed responses side view up state end → GivesFixed responses side view up state c

@@ -1,5 +1,6 @@
 -- The words that go up from an agent of fixed latency.
-use Rattle.std.proofs.Common.{ℕ, zero, suc, ◌<◌, ◌≤◌, ◌≡◌, ◌-◌, ◌^◌, [], ◌++◌, List, Bool, true, false, not, ◌&&◌, if◌then◌else◌, nat_lt, nat_le, arith, tests, refl, sym, ap, ap₂, ◌∙◌, subst, length, map, append-nil, replicate, Option, Some, None, is_some}
+use Rattle.std.proofs.Common.{ℕ, zero, suc, ◌<◌, ◌≤◌, ◌≡◌, ◌-◌, ◌^◌, [], ◌∷◌, ◌++◌, ◌∷◌, List, Bool, true, false, not, ◌&&◌, if◌then◌else◌, nat_lt, nat_le, arith, tests, refl, sym, ap, ap₂, ◌∙◌, subst, length, map, append-nil, replicate, Option, Some, None, is_some}
+use Rattle.std.specs.Prelude.{MatchOption}
 use Rattle.std.proofs.lemmas.Bool.{and_parts, ltb-true, ltb-false, lt-ltb, le-ltb}
 use Rattle.std.proofs.lemmas.List.{map-append}
 use Rattle.std.proofs.lemmas.Grind.{flat_map-append}
@@ -78,9 +79,13 @@ module _ (system : System) (run : Run) (agent : ℕ) (up : TaggedPort) (state : 
 
   -- the tags of the words are those of the reads, some cycles late
   tag_in : (c : ℕ) → c < end → only_if (is_raised (up.answers.valid c)) (up.answer_tag c) ≡ (if nat_lt last c then fresh (c - suc last) else [])
-  tag_in c low = ap₂ (λ v t. only_if v t) (g.valid c low ∙ ap is_some (row_is c last low)) (g.tag c low ∙ ap (λ o. by_option o 0 (λ tag. tag)) (row_is c last low)) ∙ by_both (nat_lt last c) (reads (c - suc last))
+  tag_in c low = told (state.row c last) (is_raised (up.answers.valid c)) (up.answer_tag c) (g.valid c low) (g.tag c low) ∙ ap (λ o. by_option o [] (λ tag. tag ∷ [])) (row_is c last low) ∙ by_both (nat_lt last c) (reads (c - suc last))
     where
-      by_both : (b r : Bool) → only_if (is_some (if b then (if r then Some (up.commands.tag (c - suc last)) else None) else None)) (by_option (if b then (if r then Some (up.commands.tag (c - suc last)) else None) else None) 0 (λ tag. tag))
+      told : (o : Option ℕ) (v : Bool) (t : ℕ) → v ≡ is_some o → MatchOption o (Unit {0}) (λ tag. t ≡ tag) → only_if v t ≡ by_option o [] (λ tag. tag ∷ [])
+      told None v t valid tag = ap (λ b. only_if b t) valid
+      told (Some x) v t valid tag = ap₂ (λ (b : Bool) (k : ℕ). only_if b k) valid tag
+
+      by_both : (b r : Bool) → by_option (if b then (if r then Some (up.commands.tag (c - suc last)) else None) else None) [] (λ tag. tag ∷ [])
           ≡ (if b then only_if r (up.commands.tag (c - suc last)) else [])
       by_both true true = refl
       by_both true false = refl

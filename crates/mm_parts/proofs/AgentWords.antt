@@ -15,7 +15,7 @@ use Rattle.mm_machines.specs.Link.{Port, Marked, takes, marked_at, taken_at, byt
 use Rattle.mm_machines.specs.Lines.{TaggedPort, asked_tags, word_tags, answers_with, target_of, bytes_of}
 use Rattle.mm_machines.specs.Blocks.{codes_of}
 use Rattle.mm_parts.specs.Queue.{Entry, head_tag}
-use Rattle.mm_parts.proofs.Queued.{entries, left_after}
+use Rattle.mm_parts.proofs.Queued.{some_left, entries, left_after}
 use Rattle.mm_machines.specs.Lines.{IsFit}
 use Rattle.mm_parts.specs.Agent.{AgentState, ShowsToAgent, GivesQueued, IsAgentPlan, code_by}
 use Rattle.mm_parts.proofs.Alike.{AreAlike, tag_all, tagged_beats}
@@ -196,7 +196,7 @@ module _ (system : System) (run : Run) (agent : ℕ) (up : TaggedPort) (state : 
         let es : List Entry = entries (taken_at up.port c) in
         let within : length (word_tags up c) < words_of es = omega (arith, more, few, asked, counted) in
         let tag : up.answer_tag c ≡ head_tag (left_after es (length (word_tags up c))) =
-        g.tag c low ∙ ap head_tag (queue_holds side view up state end machine plan fit.legal fit.kinds less has c low ∙ ap (left_after es) (sym counted)) in
+        g.tag c low (let some = some_left es (words_before view.readdatavalid c) (omega (arith, within, counted)) in let size = ap length (queue_holds side view up state end machine plan fit.legal fit.kinds less has c low) in omega (arith, some, size)) ∙ ap head_tag (queue_holds side view up state end machine plan fit.legal fit.kinds less has c low ∙ ap (left_after es) (sym counted)) in
         let next = tag_in_order es (word_tags up c) (all_ask up.port end fit.legal c (omega arith)) (subst (IsPrefix (word_tags up c)) (asked_are (taken_at up.port c)) p) within in
         let tags : word_tags up (suc c) ≡ word_tags up c ++ head_tag (left_after es (length (word_tags up c))) ∷ [] = ap₂ (λ b t. word_tags up c ++ only_if b t) valid tag in
         let size = ap length tags ∙ length-append (word_tags up c) (head_tag (left_after es (length (word_tags up c))) ∷ []) in (

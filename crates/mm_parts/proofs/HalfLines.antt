@@ -37,8 +37,8 @@ route_shorter responses system host room up down state end c low m = record {
   counts = λ k less few some. m.counts k (omega arith) few some;
   owes = λ k less. m.owes k (omega arith);
   valid = λ k less. m.valid k (omega arith);
-  answer = λ k less. m.answer k (omega arith);
-  code = λ k less. m.code k (omega arith);
+  answer = λ k less comes. m.answer k (omega arith) comes;
+  code = λ k less comes. m.code k (omega arith) comes;
 }
 
 pub host_shorter : (responses : Responses) (side : HostSide) (view : HostView) (down : Port) (state : HostState) (end c : ℕ) → c ≤ end → IsHostMachine responses side view down state end → IsHostMachine responses side view down state c

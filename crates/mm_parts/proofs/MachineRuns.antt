@@ -18,7 +18,7 @@ use Rattle.mm_parts.specs.Route.{RouteState, IsRouteMachine}
 use Rattle.mm_parts.specs.RouteRun.{RouteInputs, RouteRegisters, route_at_rest, route_step, route_state, route_upper, route_lower}
 use Rattle.mm_parts.specs.Arbiter.{IsArbiterMachine}
 use Rattle.mm_parts.specs.ArbiterRun.{ArbiterInputs, ArbiterRegisters, arbiter_at_rest, arbiter_step, arbiter_upper, arbiter_lower, asks_now}
-use Rattle.mm_parts.specs.Agent.{AgentState, ShowsToAgent, GivesQueued, GivesFixed, IsAgentMachine, code_by}
+use Rattle.mm_parts.specs.Agent.{AgentState, ShowsToAgent, GivesQueued, GivesFixed, IsAgentMachine, code_by, row_places}
 use Rattle.mm_parts.specs.AgentRun.{AgentInputs, SuitsAgent, AgentRegisters, agent_at_rest, agent_step, agent_state, agent_view, agent_upper, timed}
 use Rattle.mm_parts.proofs.AgentShown.{aligned_rest}
 
@@ -81,8 +81,8 @@ module _ (responses : Responses) (system : System) (host room : ℕ) (inputs : R
     counts = λ c low few some. ap (λ (r : RouteRegisters). r.owed + one_if (is_raised ((route_upper responses system host inputs state).answers.valid c))) (next c) ∙ owed_next _ _ some;
     owes = λ c low. ap (λ (r : RouteRegisters). r.owing) (next c);
     valid = λ c low. raised _;
-    answer = λ c low. refl;
-    code = λ c low. refl;
+    answer = λ c low comes. refl;
+    code = λ c low comes. refl;
   }
 
 module _ (seats : List Seat) (hosts : ℕ) (inputs : ArbiterInputs) (end : ℕ) (registers : ℕ → ArbiterRegisters)
@@ -199,7 +199,7 @@ module _ (responses : Responses) (side : AgentSide) (inputs : AgentInputs) (end 
     valid = λ c low. ap is_raised (gate side.has_readdatavalid _ _ has);
     word = λ c low. gate side.has_readdatavalid _ _ has;
     code = λ c low. gate side.has_readdatavalid _ _ has;
-    tag = λ c low. gate side.has_readdatavalid _ _ has;
+    tag = λ c low some. gate side.has_readdatavalid _ _ has;
   }
 
   at_once : (level : ℕ → ℕ) (c : ℕ) → IsFalse side.has_readdatavalid → 1 ≤ side.read_latency → timed side level c ≡ level c
@@ -208,13 +208,17 @@ module _ (responses : Responses) (side : AgentSide) (inputs : AgentInputs) (end 
   late : (level : ℕ → ℕ) (c : ℕ) → IsFalse side.has_readdatavalid → side.read_latency ≡ 0 → timed side level (suc c) ≡ level c
   late level c has none = shut side.has_readdatavalid _ _ has ∙ gate (nat_eq side.read_latency 0) _ _ (ap (λ n. nat_eq n 0) none)
 
+  own_tag : (o : Option ℕ) (tag : ℕ) → tag ≡ by_option o 0 (λ tag. tag) → MatchOption o (Unit {0}) (λ own. tag ≡ own)
+  own_tag None tag is = tt
+  own_tag (Some own) tag is = is
+
   fixed_run : IsFalse side.has_readdatavalid → GivesFixed responses side view upper holding end
   fixed_run has = record {
     empty = λ i. ap (λ (r : AgentRegisters). r.row i) begins;
     first = λ c low. ap (λ (r : AgentRegisters). r.row 0) (steps c);
     next = λ c i low. ap (λ (r : AgentRegisters). r.row (suc i)) (steps c);
     valid = λ c low. ap is_raised (shut side.has_readdatavalid _ _ has) ∙ raised _;
-    tag = λ c low. shut side.has_readdatavalid _ _ has;
+    tag = λ c low. own_tag (holding.row c (row_places side - 1)) _ (shut side.has_readdatavalid _ _ has);
     word = λ c low some. at_once inputs.readdata c has some;
     code = λ c low some. at_once (λ c. code_by responses (inputs.response c)) c has some;
     word_late = λ c low none. late inputs.readdata c has none;

@@ -36,6 +36,15 @@ AllAsk es = All HasWords es
 same_entry : (e : Entry) (n : ℕ) → n ≡ e.left → record { tag = e.tag; left = n } ≡ e
 same_entry e n same = ap (λ k. record { tag = e.tag; left = k }) same
 
+-- where a word is lacking, an entry is left
+pub some_left : (es : List Entry) (w : ℕ) → w < words_of es → 0 < length (left_after es w)
+some_left [] w few = absurd (omega (arith, few))
+some_left (e ∷ later) w few = by_test (nat_lt w e.left) refl (λ past. some_left later (w - e.left) (omega (arith, few, past)))
+  where
+    by_test : (b : Bool) → nat_lt w e.left ≡ b → (e.left ≤ w → 0 < length (left_after later (w - e.left))) → 0 < length (left_after (e ∷ later) w)
+    by_test true is more = rw is (omega arith)
+    by_test false is more = rw is (more (ltb-false w e.left is))
+
 pub left_push : (es : List Entry) (k : Entry) (w : ℕ) → w ≤ words_of es → 1 ≤ k.left → left_after (es ++ k ∷ []) w ≡ left_after es w ++ k ∷ []
 left_push [] k w low some =
     let first : nat_lt w k.left ≡ true = lt-ltb w k.left (omega arith) in

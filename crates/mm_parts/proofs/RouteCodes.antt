@@ -115,7 +115,7 @@ module _ (responses : Responses) (system : System) (host room : ℕ) (up : Port)
       s = splits_at responses system host room up down state end machine legal single plan below owed c low
 
       by_place : (q : Asked) (o : Option ℕ) → q.place ≡ o → o ≡ state.owing c → MatchOption q.place (up.answers.code c ≡ 3) (λ _. ⊤)
-      by_place q None at owes = subst (λ o. MatchOption o (up.answers.code c ≡ 3) (λ _. ⊤)) (sym at) (machine.code c low ∙ ap (λ o. by_option o (default_code_by responses) (λ a. (down a).answers.code c)) (sym owes) ∙ ap default_code_by are)
+      by_place q None at owes = subst (λ o. MatchOption o (up.answers.code c ≡ 3) (λ _. ⊤)) (sym at) (machine.code c low valid ∙ ap (λ o. by_option o (default_code_by responses) (λ a. (down a).answers.code c)) (sym owes) ∙ ap default_code_by are)
       by_place q (Some a) at owes = subst (λ o. MatchOption o (up.answers.code c ≡ 3) (λ _. ⊤)) (sym at) tt
 
       by_back : (l : List Asked) → (splits_at responses system host room up down state end machine legal single plan below owed c low).back ≡ l → HasDefaultCode (up.answers.code c) (slice_get (asked_at system host up (suc c)) (length (words_at up c)))

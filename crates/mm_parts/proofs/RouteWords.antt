@@ -210,8 +210,8 @@ module _ (responses : Responses) (system : System) (host room : ℕ) (up : Port)
           let it : is_agent a q.place ≡ true = ap (is_agent a) at ∙ e in
           let owes = of_agent a (state.owing c) e in
           let here : is_raised ((down a).answers.valid c) ≡ true = sym (machine.valid c low ∙ ap (λ o. by_option o (nat_lt 0 (state.owed c)) (λ a. is_raised ((down a).answers.valid c))) owes) ∙ valid in
-          let word : up.answers.word c ≡ (down a).answers.word c = machine.answer c low ∙ ap (λ o. by_option o 0 (λ a. (down a).answers.word c)) owes in
-          let code : up.answers.code c ≡ (down a).answers.code c = machine.code c low ∙ ap (λ o. by_option o (default_code_by responses) (λ a. (down a).answers.code c)) owes in
+          let word : up.answers.word c ≡ (down a).answers.word c = machine.answer c low valid ∙ ap (λ o. by_option o 0 (λ a. (down a).answers.word c)) owes in
+          let code : up.answers.code c ≡ (down a).answers.code c = machine.code c low valid ∙ ap (λ o. by_option o (default_code_by responses) (λ a. (down a).answers.code c)) owes in
           ap (λ b. only_if b (record { word = (down a).answers.word c; code = (down a).answers.code c })) here
           ∙ ap₂ (λ w k. record { word = w; code = k } ∷ []) (sym word) (sym code) ∙ sym (ap (λ b. map (λ (p : Asked × Word). p.1) (if b then (q, word_now c) ∷ [] else [])) it)
 
@@ -418,7 +418,7 @@ module _ (responses : Responses) (system : System) (host room : ℕ) (up : Port)
         where
           by_place : (q : Asked) (rest : List Asked) → s.front ++ q ∷ rest ≡ asked_taken c → q.place ≡ state.owing c → (o : Option ℕ) → state.owing c ≡ o → IsRouted system host up down c (length (words_at up c)) (word_now c) (Some q)
           by_place q rest joins at None owes =
-              let word : up.answers.word c ≡ 0 = machine.answer c low ∙ ap (λ o. by_option o 0 (λ a. (down a).answers.word c)) owes in
+              let word : up.answers.word c ≡ 0 = machine.answer c low valid ∙ ap (λ o. by_option o 0 (λ a. (down a).answers.word c)) owes in
               subst (λ o. MatchOption o (IsDefaultWord (system.host host) q.beat (word_now c)) (λ a. HoldsAnswers (filled_lanes (system.host host).shape (system.agent a).shape q.beat.enables) (drop (reads_for system host a (take (length (words_at up c)) (asked_at system host up (suc c)))) (answers_at (target_of system a) (down a) (suc c))) (word_now c))) (sym (at ∙ owes))
               (ap (λ w. list_all (λ lane. nat_eq (byte_at w lane) 0) (filter (is_enabled q.beat.enables) (numbers 0 (system.host host).word_bytes))) word ∙ default_word q.beat.enables (filter (is_enabled q.beat.enables) (numbers 0 (system.host host).word_bytes)))
           by_place q rest joins at (Some a) owes =
@@ -431,7 +431,7 @@ module _ (responses : Responses) (system : System) (host room : ℕ) (up : Port)
               let own = own_answers a c there low s.front q rest joins s.size it (s.words a there) w more in
               let front : take (length (words_at up c)) (asked_at system host up (suc c)) ≡ s.front =
               ap (λ n. take n (asked_at system host up (suc c))) (sym s.size) ∙ prefix_take (asked_front c low) (length s.front) (let sum = sym (ap length joins) ∙ length-append s.front (q ∷ rest) in omega (arith, sum)) ∙ ap (take (length s.front)) (sym joins) ∙ take-append_seam s.front (q ∷ rest) in
-              let word : up.answers.word c ≡ (down a).answers.word c = machine.answer c low ∙ ap (λ o. by_option o 0 (λ a. (down a).answers.word c)) owes in
+              let word : up.answers.word c ≡ (down a).answers.word c = machine.answer c low valid ∙ ap (λ o. by_option o 0 (λ a. (down a).answers.word c)) owes in
               let lanes : filled_lanes (system.host host).shape (system.agent a).shape q.beat.enables ≡ filled_lanes up.shape (system.agent a).shape q.beat.enables =
               ap (λ w. filled_lanes (record { word_bytes = w; unit_bytes = 0; burst_bits = 0; has_enables = true }) (system.agent a).shape q.beat.enables) (sym plan.words) in
               let holds : HoldsAnswers (filled_lanes up.shape (system.agent a).shape q.beat.enables) (bytes_in (target_of system a) up.shape q.beat w) (word_now c) =

@@ -1,13 +1,13 @@
 -- The part next to an agent as a machine: what it shows to the agent, how long it waits above, and the answers with their tags.
 -- Avalon memory-mapped: read and write transfers with waitrequest or with fixed wait states, pipelined reads with variable
 -- latency (readdatavalid) or with fixed latency, bursts, read responses.
-use Rattle.std.specs.Prelude.{◌≡◌, ℕ, suc, ◌+◌, ◌-◌, ◌*◌, ◌^◌, ◌%◌, ◌<◌, ◌≤◌, max, Bool, not, ◌&&◌, ◌||◌, List, length, if◌then◌else◌, nat_eq, nat_lt, IsTrue, IsFalse, Option, Some, None, is_some}
+use Rattle.std.specs.Prelude.{◌≡◌, ℕ, suc, ◌+◌, ◌-◌, ◌*◌, ◌^◌, ◌%◌, ◌<◌, ◌≤◌, max, Bool, not, ◌&&◌, ◌||◌, List, length, if◌then◌else◌, nat_eq, nat_lt, IsTrue, IsFalse, Option, Some, None, is_some, MatchOption}
 use Rattle.histories.specs.History.{is_raised}
 use Rattle.mm_runs.specs.Views.{AgentSide, AgentView, Responses}
 use Rattle.mm_runs.specs.Views.Responses.{AreZero, AreCodes}
 use Rattle.mm_runs.specs.Commands.{byte_address, wait_time, stood_after}
 use Rattle.mm_machines.specs.Lines.{TaggedPort}
-use Rattle.mm_parts.specs.Queue.{Entry, QueuesReads, head_tag, takes_read, by_option}
+use Rattle.mm_parts.specs.Queue.{Entry, QueuesReads, head_tag, takes_read}
 
 -- the registers, as functions of the cycle: with readdatavalid the unanswered reads, without it the row of tags,
 -- and without waitrequest for how many cycles the beat has stood
@@ -58,7 +58,7 @@ pub record GivesQueued (responses : Responses) (view : AgentView) (up : TaggedPo
   pub valid : (c : ℕ) → c < end → is_raised (up.answers.valid c) ≡ is_raised (view.readdatavalid c)
   pub word : (c : ℕ) → c < end → up.answers.word c ≡ view.readdata c
   pub code : (c : ℕ) → c < end → up.answers.code c ≡ code_by responses (view.response c)
-  pub tag : (c : ℕ) → c < end → up.answer_tag c ≡ head_tag (state.queue c)
+  pub tag : (c : ℕ) → c < end → 0 < length (state.queue c) → up.answer_tag c ≡ head_tag (state.queue c)
 
 -- how many cycles after its acceptance a read's word goes up, at fixed latency
 abbrev pub row_places : AgentSide → ℕ
@@ -71,7 +71,7 @@ pub record GivesFixed (responses : Responses) (side : AgentSide) (view : AgentVi
   pub first : (c : ℕ) → suc c < end → state.row (suc c) 0 ≡ (if takes_read up.port c then Some (up.commands.tag c) else None)
   pub next : (c i : ℕ) → suc c < end → state.row (suc c) (suc i) ≡ state.row c i
   pub valid : (c : ℕ) → c < end → is_raised (up.answers.valid c) ≡ is_some (state.row c (row_places side - 1))
-  pub tag : (c : ℕ) → c < end → up.answer_tag c ≡ by_option (state.row c (row_places side - 1)) 0 (λ tag. tag)
+  pub tag : (c : ℕ) → c < end → MatchOption (state.row c (row_places side - 1)) (Unit {0}) (λ tag. up.answer_tag c ≡ tag)
   pub word : (c : ℕ) → c < end → 1 ≤ side.read_latency → up.answers.word c ≡ view.readdata c
   pub code : (c : ℕ) → c < end → 1 ≤ side.read_latency → up.answers.code c ≡ code_by responses (view.response c)
   pub word_late : (c : ℕ) → suc c < end → side.read_latency ≡ 0 → up.answers.word (suc c) ≡ view.readdata c

@@ -69,8 +69,8 @@ pub record IsRouteMachine (responses : Responses) (system : System) (host room :
   pub owes : (c : ℕ) → suc c < end → state.owing (suc c) ≡ (if takes_read up c then place_now system host up state c else state.owing c)
   -- the answers: those of the place that owes; the default agent gives a word in each cycle in which it owes one
   pub valid : (c : ℕ) → c < end → is_raised (up.answers.valid c) ≡ by_option (state.owing c) (nat_lt 0 (state.owed c)) (λ a. is_raised ((down a).answers.valid c))
-  pub answer : (c : ℕ) → c < end → up.answers.word c ≡ by_option (state.owing c) 0 (λ a. (down a).answers.word c)
-  pub code : (c : ℕ) → c < end → up.answers.code c ≡ by_option (state.owing c) (default_code_by responses) (λ a. (down a).answers.code c)
+  pub answer : (c : ℕ) → c < end → IsTrue (is_raised (up.answers.valid c)) → up.answers.word c ≡ by_option (state.owing c) 0 (λ a. (down a).answers.word c)
+  pub code : (c : ℕ) → c < end → IsTrue (is_raised (up.answers.valid c)) → up.answers.code c ≡ by_option (state.owing c) (default_code_by responses) (λ a. (down a).answers.code c)
 
 -- what the map says of the places of a host
 pub record IsRoutePlan (system : System) (host : ℕ) (shape : Shape) : Type 0 where
