@@ -1,6 +1,6 @@
 -- In each cycle the arbiter shows the beat of the one that it chooses, and takes it from that one alone.
 use Rattle.std.proofs.Common.{ℕ, zero, suc, ◌<◌, ◌≡◌, Bool, true, false, not, ◌&&◌, ◌||◌, IsTrue, IsFalse, if◌then◌else◌, nat_eq, arith, tests, refl, sym, ap, ap₂, ◌∙◌, subst, Option, Some, None, MatchOption}
-use Rattle.std.proofs.lemmas.Bool.{and_parts, eqb-true, eqb-false}
+use Rattle.std.proofs.lemmas.Bool.{and_parts, eqb-true, eqb-false, false≢true}
 use Rattle.histories.specs.History.{is_raised}
 use Rattle.mm_runs.specs.Views.{System, levels_at}
 use Rattle.mm_runs.specs.Commands.{Burst, shows, burst_before, burst_after}
@@ -58,23 +58,34 @@ module _ (system : System) (agent : ℕ) (up : ℕ → Port) (down : TaggedPort)
   some_shown c h low is = ap (λ (r : Raw). is_raised r.levels.read || is_raised r.levels.write) (same_raw c h low is) ∙ (of_choice c h low is).1
 
   pub takes_up : (h c : ℕ) → h < system.hosts → c < end → takes (up h) c ≡ (takes down.port c && is_agent h (choice c))
-  takes_up h c there low = by_choice (choice c) refl
+  takes_up h c there low = by_shown (shows (up h).commands.signals c) refl
     where
-      wait : is_raised ((up h).commands.waitrequest c) ≡ not (is_agent h (choice c)) || is_raised (down.commands.waitrequest c)
-      wait = machine.wait h c there low
+      none : (b : Bool) → (b && false) ≡ false
+      none true = refl
+      none false = refl
 
-      refused : is_agent h (choice c) ≡ false → takes (up h) c ≡ (takes down.port c && is_agent h (choice c))
-      refused e =
+      -- who doesn't ask isn't chosen
+      quiet_is_other : shows (up h).commands.signals c ≡ false → (o : Option ℕ) → choice c ≡ o → is_agent h o ≡ false
+      quiet_is_other quiet None is = refl
+      quiet_is_other quiet (Some k) is = by_same (nat_eq h k) refl
+        where
+          by_same : (b : Bool) → nat_eq h k ≡ b → nat_eq h k ≡ false
+          by_same false e = e
+          by_same true e = absurd (false≢true (sym quiet ∙ (of_choice c h low (is ∙ ap Some (sym (eqb-true h k e)))).1))
+
+      quietly : shows (up h).commands.signals c ≡ false → takes (up h) c ≡ (takes down.port c && is_agent h (choice c))
+      quietly quiet =
+          ap (λ s. s && not (is_raised ((up h).commands.waitrequest c))) quiet
+          ∙ sym (ap (λ b. takes down.port c && b) (quiet_is_other quiet (choice c) refl) ∙ none (takes down.port c))
+
+      refused : is_raised ((up h).commands.waitrequest c) ≡ not (is_agent h (choice c)) || is_raised (down.commands.waitrequest c) → is_agent h (choice c) ≡ false → takes (up h) c ≡ (takes down.port c && is_agent h (choice c))
+      refused wait e =
           ap (λ w. shows (up h).commands.signals c && not w) (wait ∙ ap (λ b. not b || is_raised (down.commands.waitrequest c)) e) ∙ none (shows (up h).commands.signals c)
           ∙ sym (ap (λ b. takes down.port c && b) e ∙ none (takes down.port c))
-        where
-          none : (b : Bool) → (b && false) ≡ false
-          none true = refl
-          none false = refl
 
-      by_same : (k : ℕ) → choice c ≡ Some k → (b : Bool) → nat_eq h k ≡ b → takes (up h) c ≡ (takes down.port c && is_agent h (choice c))
-      by_same k is false e = refused (ap (is_agent h) is ∙ e)
-      by_same k is true e =
+      by_same : is_raised ((up h).commands.waitrequest c) ≡ not (is_agent h (choice c)) || is_raised (down.commands.waitrequest c) → (k : ℕ) → choice c ≡ Some k → (b : Bool) → nat_eq h k ≡ b → takes (up h) c ≡ (takes down.port c && is_agent h (choice c))
+      by_same wait k is false e = refused wait (ap (is_agent h) is ∙ e)
+      by_same wait k is true e =
           let same : h ≡ k = eqb-true h k e in
           let it : is_agent h (choice c) ≡ true = ap (is_agent h) is ∙ e in
           let here : choice c ≡ Some h = is ∙ ap Some (sym same) in
@@ -85,9 +96,13 @@ module _ (system : System) (agent : ℕ) (up : ℕ → Port) (down : TaggedPort)
           whole true = refl
           whole false = refl
 
-      by_choice : (o : Option ℕ) → choice c ≡ o → takes (up h) c ≡ (takes down.port c && is_agent h (choice c))
-      by_choice None is = refused (ap (is_agent h) is)
-      by_choice (Some k) is = by_same k is (nat_eq h k) refl
+      by_choice : is_raised ((up h).commands.waitrequest c) ≡ not (is_agent h (choice c)) || is_raised (down.commands.waitrequest c) → (o : Option ℕ) → choice c ≡ o → takes (up h) c ≡ (takes down.port c && is_agent h (choice c))
+      by_choice wait None is = refused wait (ap (is_agent h) is)
+      by_choice wait (Some k) is = by_same wait k is (nat_eq h k) refl
+
+      by_shown : (b : Bool) → shows (up h).commands.signals c ≡ b → takes (up h) c ≡ (takes down.port c && is_agent h (choice c))
+      by_shown false quiet = quietly quiet
+      by_shown true asks = by_choice (machine.wait h c there low asks) (choice c) refl
 
   -- where the bursts stand
   pub record Bursts (c : ℕ) : Type 0 where

@@ -38,3 +38,4 @@ mod RouteSteps
 mod AgentTimes
 mod AgentRank
 mod AgentAhead
+pub mod LoneArbiter

@@ -130,7 +130,7 @@ module _ (seats : List Seat) (hosts : ℕ) (inputs : ArbiterInputs) (end : ℕ) 
     begins = ap (λ (r : ArbiterRegisters). r.grant) first;
     next = λ c low. ap (λ (r : ArbiterRegisters). r.grant) (next c) ∙ ap (λ o. record { open_host = o; round = (chosen (grant c) (asks_now inputs c)).round }) (open_same (grant c).open_host (chosen (grant c) (asks_now inputs c)).host _ _ (ends_same c));
     shown = λ c low. shows_choice c (chosen (grant c) (asks_now inputs c)).host refl;
-    wait = λ h c there low. raised _;
+    wait = λ h c there low asks. raised _;
     valid = λ h c there low. raised _;
     word = λ h c there low. refl;
     code = λ h c there low. refl;

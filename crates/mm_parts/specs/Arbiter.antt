@@ -1,5 +1,5 @@
 -- The arbiter as a machine: the turn rule, the multiplexer, and the answers sent back by their tags.
-use Rattle.std.specs.Prelude.{◌≡◌, ℕ, suc, ◌<◌, Bool, not, ◌&&◌, ◌||◌, List, IsFalse, None, MatchOption, nat_eq}
+use Rattle.std.specs.Prelude.{◌≡◌, ℕ, suc, ◌<◌, Bool, not, ◌&&◌, ◌||◌, List, IsTrue, IsFalse, None, MatchOption, nat_eq}
 use Rattle.histories.specs.History.{is_raised}
 use Rattle.mm_runs.specs.Commands.{shows}
 use Rattle.mm_runs.specs.Order.{is_agent}
@@ -20,7 +20,7 @@ pub record IsArbiterMachine (seats : List Seat) (hosts : ℕ) (up : ℕ → Port
   pub next : (c : ℕ) → suc c < end → grant (suc c) ≡ grant_after (grant c) (chosen (grant c) (asks_at up c)) (ends_at up down.port c)
   -- the chosen one's beat goes on as it is, with its tag and its `more`; where none is chosen, none is shown
   pub shown : (c : ℕ) → c < end → MatchOption (chosen (grant c) (asks_at up c)).host (IsFalse (shows down.commands.signals c)) (λ host. raw_at down.port c ≡ raw_at (up host) c)
-  pub wait : (h c : ℕ) → h < hosts → c < end → is_raised ((up h).commands.waitrequest c) ≡ not (chooses grant up c h) || is_raised (down.commands.waitrequest c)
+  pub wait : (h c : ℕ) → h < hosts → c < end → IsTrue (shows (up h).commands.signals c) → is_raised ((up h).commands.waitrequest c) ≡ not (chooses grant up c h) || is_raised (down.commands.waitrequest c)
   -- a word goes to the asker whose tag it bears
   pub valid : (h c : ℕ) → h < hosts → c < end → is_raised ((up h).answers.valid c) ≡ is_raised (down.answers.valid c) && nat_eq (down.answer_tag c) h
   pub word : (h c : ℕ) → h < hosts → c < end → (up h).answers.word c ≡ down.answers.word c

@@ -13,3 +13,4 @@ pub mod System
 pub mod SystemRun
 pub mod Steps
 pub mod Ahead
+pub mod Lone

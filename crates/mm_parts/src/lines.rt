@@ -1,6 +1,6 @@
 //! Each machine keeps the whole of its line and holds nothing.
 
-ghost use Rattle.std.specs.Prelude.{◌<◌, ◌*◌, ℕ, IsTrue, List};
+ghost use Rattle.std.specs.Prelude.{◌<◌, ◌*◌, ℕ, IsTrue, List, [], ◌∷◌};
 ghost use Rattle.mm_runs.specs.Views.{Responses, System, Run};
 ghost use Rattle.mm_runs.specs.Commands.{longest_burst};
 ghost use Rattle.mm_runs.specs.Order.{is_joined};
@@ -11,6 +11,7 @@ ghost use Rattle.mm_machines.specs.Lines.{TaggedPort, IsHostLine, IsRouteLine, I
 ghost use Rattle.mm_parts.specs.Host.{HostState, IsHostMachine, ReadsWords};
 ghost use Rattle.mm_parts.specs.Route.{RouteState, IsRoutePlan, IsRouteMachine};
 ghost use Rattle.mm_parts.specs.Arbiter.{IsArbiterMachine};
+ghost use Rattle.mm_parts.specs.Lone.{IsLoneWire};
 ghost use Rattle.mm_parts.specs.Agent.{AgentState, IsAgentPlan, IsAgentMachine};
 
 /// The part next to an agent keeps its line, for every timing of the agent.
@@ -34,6 +35,12 @@ pub fn arbiter_machine_keeps_its_line()
 pub fn arbiter_machine_takes_turns()
     ensures { (seats : List Seat) (hosts : ℕ) (up : ℕ → Port) (down : TaggedPort) (grant : ℕ → Grant) (end : ℕ)
         → IsArbiterMachine seats hosts up down grant end → TakesTurnsByRule seats up down.port end }
+{}
+
+/// Where one host alone is joined to an agent, a wire is the machine of its arbiter.
+pub fn lone_arbiter_is_a_wire()
+    ensures { (seat : Seat) (hosts : ℕ) (up : ℕ → Port) (down : TaggedPort) (end : ℕ)
+        → IsLoneWire seat.host hosts up down end → (grant : ℕ → Grant) × IsArbiterMachine (seat ∷ []) hosts up down grant end }
 {}
 
 /// The route keeps its line: decoder, limiter, default agent and collector.
