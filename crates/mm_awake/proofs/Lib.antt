@@ -69,3 +69,4 @@ pub mod LinkRuns
 pub mod PlanLinks
 pub mod ModestRow
 pub mod SplitCounts
+pub mod WiredSystem

@@ -1,10 +1,11 @@
 -- A plain system of machines has rows of wires.
-use Rattle.std.proofs.Common.{ℕ, ◌<◌, false, arith}
+use Rattle.std.proofs.Common.{ℕ, ◌<◌, false, arith, refl}
 use Rattle.std.proofs.lemmas.Bool.{or_left}
 use Rattle.mm_runs.specs.Plan.{AreViews}
 use Rattle.mm_runs.specs.Views.{Run, Responses}
 use Rattle.mm_parts.specs.SystemRun.{PlainPlan, HaveOneShape, Outside, Registers, plain_system, registers_of, ports_run, before_arbiter}
-use Rattle.mm_awake.specs.PlainSystem.{wired_ports, wired_inside, wired_states}
+use Rattle.mm_awake.specs.PlainSystem.{wired_ports, wired_inside, wired_states, plain_ports, plain_states}
+use Rattle.mm_awake.specs.WiredSystem.{IsWiredSystem}
 use Rattle.mm_awake.specs.RowSystem.{AreRows, boundaries_of}
 use Rattle.mm_awake.specs.Rows.{IsWired, CutsBursts.no_cutter, FitsWords.no_width, DropsBeats.no_dropper}
 use Rattle.mm_awake.specs.Theorem.{ArePlanned, AreMachines}
@@ -61,4 +62,18 @@ module _ (responses : Responses) (plan : PlainPlan) (outside : Outside) (end : �
       lanes = λ h a low there links none. or_left plan.agent.has_enables _ shape.lanes;
       wired = λ h a low there joined has alike. wire_self _;
       apart = λ h a low there idle. absurd (no_true idle);
+    }
+
+    pub plain_wired : HaveOneShape plan → IsWiredSystem responses (plain_system plan) run (plain_ports responses plan outside registers) (plain_states responses plan outside registers room) end
+    plain_wired shape = record {
+      host = machines.host;
+      room = planned.rooms;
+      route = machines.route;
+      arbiter = machines.arbiter;
+      silent = machines.silent;
+      agent = machines.agent;
+      no_stage = refl;
+      wires = λ h a low there joined. wire_self _;
+      lanes = λ h a low there joined. or_left plan.agent.has_enables _ shape.lanes;
+      idle = λ h a low there none. record { commands = refl; answers = refl };
     }

@@ -13,3 +13,4 @@ pub mod Rows
 pub mod RowSystem
 pub mod RowRun
 pub mod LinkSystem
+pub mod WiredSystem

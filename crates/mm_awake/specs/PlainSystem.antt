@@ -1,10 +1,10 @@
 -- A plain system of machines, wired without links and stages: its boundaries, states and ranks, as `IsBuilt` asks for them.
-use Rattle.std.specs.Prelude.{ℕ, ◌≤◌, [], IsFalse}
+use Rattle.std.specs.Prelude.{ℕ, ◌≤◌, IsFalse}
 use Rattle.mm_runs.specs.Views.{Responses}
 use Rattle.mm_runs.specs.Commands.{shows}
 use Rattle.mm_machines.specs.Link.{Port}
-use Rattle.mm_machines.specs.Machines.{Stage}
 use Rattle.mm_parts.specs.SystemRun.{PlainPlan, Outside, Registers, after_host, before_arbiter, before_agent, states_run}
+use Rattle.mm_awake.specs.WiredSystem.{WiredPorts, WiredStates, no_stage}
 use Rattle.mm_awake.specs.RowSystem.{RowPorts}
 use Rattle.mm_awake.specs.Theorem.{Boundaries, States, LinkRanks}
 
@@ -26,19 +26,27 @@ module _ (responses : Responses) (plan : PlainPlan) (outside : Outside) (registe
     lower = λ a i. before_agent responses plan outside registers a;
   }
 
-  -- there is no stage: this one is of no boundary
-  abbrev no_stage : ℕ → Stage
-  no_stage a =
-      let port = (before_agent responses plan outside registers a).port in
-      record { depth = 0; shape = port.shape; sides = record { commands_above = port.commands; answers_above = port.answers; commands_below = port.commands; answers_below = port.answers }; queue = λ c. [] }
-
   abbrev pub wired_states : (ℕ → ℕ) → States
   wired_states room =
       let states = states_run responses plan outside registers in
-      record { host = states.host; route = states.route; room = room; grant = states.arbiter; stage = λ a i. no_stage a; agent = states.agent }
+      record { host = states.host; route = states.route; room = room; grant = states.arbiter; stage = λ a i. no_stage (before_agent responses plan outside registers a).port; agent = states.agent }
 
   -- the same wires as rows of three
   abbrev pub wired_ports : RowPorts
   wired_ports =
       let wire : ℕ → ℕ → Port = before_arbiter responses plan outside registers in
       record { after_host = after_host responses plan outside registers; after_route = wire; below_cutter = wire; above_dropper = wire; before_arbiter = wire; lower = λ a i. before_agent responses plan outside registers a }
+
+  -- and as the boundaries of a system without links
+  abbrev pub plain_ports : WiredPorts
+  plain_ports = record {
+    after_host = after_host responses plan outside registers;
+    after_route = before_arbiter responses plan outside registers;
+    before_arbiter = before_arbiter responses plan outside registers;
+    before_agent = before_agent responses plan outside registers;
+  }
+
+  abbrev pub plain_states : (ℕ → ℕ) → WiredStates
+  plain_states room =
+      let states = states_run responses plan outside registers in
+      record { host = states.host; route = states.route; room = room; grant = states.arbiter; agent = states.agent }

@@ -6,6 +6,7 @@ pub mod fair;
 pub mod links;
 pub mod plain;
 pub mod rows;
+pub mod wired;
 
 ghost use Rattle.std.specs.Prelude.{◌≡◌, ℕ, suc, ◌≤◌, ◌<◌, ◌+◌, ◌-◌, IsTrue, Some};
 ghost use Rattle.histories.specs.History.{IsPrefix};

@@ -1,0 +1,80 @@
+-- A wired system is one of machines whose rows of links are wires.
+use Rattle.std.proofs.Common.{◌≡◌, ℕ, ◌<◌, ◌*◌, Bool, true, false, not, IsTrue, arith, refl, ap}
+use Rattle.mm_runs.specs.Plan.{IsMemoryPlan, AreViews}
+use Rattle.mm_runs.specs.Views.{System, Run, Responses}
+use Rattle.mm_runs.specs.Commands.{longest_burst}
+use Rattle.mm_runs.specs.Order.{is_joined}
+use Rattle.mm_machines.specs.Link.{Port}
+use Rattle.mm_parts.specs.Agent.{IsAgentPlan}
+use Rattle.mm_parts.specs.Host.{ReadsWords}
+use Rattle.mm_awake.specs.RowSystem.{AreRows, boundaries_of}
+use Rattle.mm_awake.specs.Rows.{IsWired, CutsBursts.no_cutter, FitsWords.no_width, DropsBeats.no_dropper}
+use Rattle.mm_awake.specs.Theorem.{ArePlanned, AreMachines, Boundaries, States}
+use Rattle.mm_awake.specs.WiredSystem.{WiredPorts, WiredStates, IsWiredSystem, rows_of_wires, states_of_wired}
+use Rattle.mm_awake.proofs.Widened.{wire_self}
+
+module _ (responses : Responses) (system : System) (run : Run) (ports : WiredPorts) (states : WiredStates) (end : ℕ)
+    (plan : IsMemoryPlan system) (wired : IsWiredSystem responses system run ports states end) where
+  pub planned : ((system : System) (inside : Boundaries) (states : States) → IsMemoryPlan system
+      → ((h : ℕ) → h < system.hosts → (inside.after_host h).shape.word_bytes ≡ (system.host h).word_bytes)
+      → ((h : ℕ) → h < system.hosts → 16 * longest_burst (inside.after_host h).shape.burst_bits < states.room h)
+      → ArePlanned system inside states) → ArePlanned system (boundaries_of (rows_of_wires ports)) (states_of_wired ports states)
+  planned law = law system (boundaries_of (rows_of_wires ports)) (states_of_wired ports states) plan (λ h low. (wired.host h low).words) wired.room
+
+  pub machines : ((h : ℕ) → h < system.hosts → ReadsWords (system.host h) (run.at_host h) end)
+      → AreMachines responses system run (boundaries_of (rows_of_wires ports)) (states_of_wired ports states) end
+  machines one_word = record {
+    one_word = one_word;
+    host = wired.host;
+    route = wired.route;
+    arbiter = wired.arbiter;
+    silent = wired.silent;
+    stage = λ a i there few. absurd (omega (arith, few, wired.no_stage));
+    agent = wired.agent;
+  }
+
+  -- words aren't empty, from an agent up to the routes that lead to it
+  module _ (agents : (a : ℕ) → a < system.agents → IsAgentPlan (system.agent a)) where
+    some_word : (h a : ℕ) → h < system.hosts → a < system.agents → 0 < (ports.before_arbiter h a).shape.word_bytes
+    some_word h a low there =
+        let same = ap (λ s. s.word_bytes) ((wired.arbiter a there).shapes h low) in
+        let words = (wired.agent a there).commands.words in
+        let some = (agents a there).word in
+        omega (arith, same, words, some)
+
+    pub low_wire : (h a : ℕ) → h < system.hosts → a < system.agents → IsWired (ports.before_arbiter h a) (ports.before_arbiter h a)
+    low_wire h a low there = record { wire = wire_self _; some = some_word h a low there }
+
+    top_wire : (h a : ℕ) → h < system.hosts → a < system.agents → IsTrue (is_joined system a h) → IsWired (ports.after_route h a) (ports.before_arbiter h a)
+    top_wire h a low there joined =
+        let wire = wired.wires h a low there joined in
+        let same = ap (λ (port : Port). port.shape.word_bytes) wire.same in
+        let some = some_word h a low there in
+        record { wire = wire; some = omega (arith, same, some) }
+
+    joined_if : (b : Bool) → not b ≡ false → b ≡ true
+    joined_if true e = refl
+    joined_if false e = cc
+
+    apart_if : (b : Bool) → not b ≡ true → b ≡ false
+    apart_if true e = cc
+    apart_if false e = refl
+
+    pub rows : AreViews system run end → AreRows system run (rows_of_wires ports) end
+    rows views = record {
+      idle = λ h a. not (is_joined system a h);
+      views = views.hosts;
+      cuts = λ h a low there links. no_cutter (top_wire h a low there (joined_if (is_joined system a h) links));
+      fits = λ h a low there links. no_width (low_wire h a low there);
+      drops = λ h a low there links. no_dropper (low_wire h a low there);
+      lanes = λ h a low there links none. wired.lanes h a low there (joined_if (is_joined system a h) links);
+      wired = λ h a low there joined has alike. wired.wires h a low there joined;
+      apart = λ h a low there idle. (let none = apart_if (is_joined system a h) idle in (
+        none,
+        record {
+          high = wired.idle h a low there none;
+          mid = record { commands = refl; answers = refl };
+          low = record { commands = refl; answers = refl };
+        },
+      ));
+    }

@@ -1,0 +1,55 @@
+//! Systems without links and stages: what nets of hosts, routes, arbiters and agents alone owe, and what they get for it.
+
+ghost use Rattle.std.specs.Prelude.{ℕ, ◌<◌, ◌+◌, IsTrue};
+ghost use Rattle.mm_runs.specs.Views.{Responses, System, Run};
+ghost use Rattle.mm_runs.specs.Plan.{IsMemoryPlan, AreViews};
+ghost use Rattle.mm_runs.specs.Whole.{IsLegalRun, IsSafe};
+ghost use Rattle.mm_runs.specs.Awake.{NeverIdles, IsFair};
+ghost use Rattle.mm_parts.specs.SystemRun.{PlainPlan, HaveOneShape, Outside, plain_system, registers_of, ports_run};
+ghost use Rattle.mm_awake.specs.Fair.{are_apart};
+ghost use Rattle.mm_awake.specs.PlainSystem.{AreQuietPast, plain_ports, plain_states};
+ghost use Rattle.mm_awake.specs.Theorem.{ArePlanned, AreMachines};
+ghost use Rattle.mm_awake.specs.RowSystem.{AreRows, boundaries_of};
+ghost use Rattle.mm_awake.specs.WiredSystem.{WiredPorts, WiredStates, IsWiredSystem, rows_of_wires, states_of_wired};
+
+/// A wired system of a plan is one of machines, whose rows of links are wires.
+pub fn wired_systems_have_rows()
+    ensures { (responses : Responses) (system : System) (run : Run) (ports : WiredPorts) (states : WiredStates) (end : ℕ)
+        → IsMemoryPlan system → AreViews system run end → IsWiredSystem responses system run ports states end
+        → ArePlanned system (boundaries_of (rows_of_wires ports)) (states_of_wired ports states)
+        × AreMachines responses system run (boundaries_of (rows_of_wires ports)) (states_of_wired ports states) end
+        × AreRows system run (rows_of_wires ports) end }
+{
+    crate::built::memory_plans_are_planned();
+    mm_parts::plans::plans_suit_machines()
+}
+
+/// So it is safe, never idles, and is fair where no host is joined to an agent twice, as long as its hosts and agents are legal.
+pub fn wired_systems_are_served()
+    ensures safe { (responses : Responses) (system : System) (run : Run) (ports : WiredPorts) (states : WiredStates) (end : ℕ)
+        → IsMemoryPlan system → AreViews system run end → IsWiredSystem responses system run ports states end → IsLegalRun system run end
+        → IsSafe responses system run end }
+    ensures awake { (responses : Responses) (system : System) (run : Run) (ports : WiredPorts) (states : WiredStates) (end : ℕ)
+        → IsMemoryPlan system → AreViews system run (end + 2) → IsWiredSystem responses system run ports states (end + 2) → IsLegalRun system run (end + 2)
+        → NeverIdles system run end }
+    ensures fair { (responses : Responses) (system : System) (run : Run) (ports : WiredPorts) (states : WiredStates) (end : ℕ)
+        → IsMemoryPlan system → AreViews system run end → IsWiredSystem responses system run ports states end → IsLegalRun system run end
+        → ((agent : ℕ) → agent < system.agents → IsTrue (are_apart (system.joined agent)))
+        → IsFair system run end }
+{
+    wired_systems_have_rows();
+    crate::rows::machines_with_links_are_awake();
+    crate::rows::machines_with_links_are_fair();
+    mm_parts::plans::plans_suit_machines()
+}
+
+/// Wired systems exist: a plain system of machines is one, whatever its hosts and agents give, as long as they are legal.
+pub fn plain_systems_are_wired()
+    ensures { (responses : Responses) (plan : PlainPlan) (outside : Outside) (end : ℕ)
+        → let registers = registers_of responses plan outside in
+        let run = ports_run responses plan outside registers in
+        IsMemoryPlan (plain_system plan) → HaveOneShape plan → AreViews (plain_system plan) run end → AreQuietPast plan outside → IsLegalRun (plain_system plan) run end
+        → (room : ℕ → ℕ) × IsWiredSystem responses (plain_system plan) run (plain_ports responses plan outside registers) (plain_states responses plan outside registers room) end }
+{
+    crate::plain::plain_systems_are_built()
+}
