@@ -1,7 +1,7 @@
 -- Lists that are made of numbered items, and searches in them.
 use Rattle.std.proofs.Common.{◌≡◌, ℕ, ◌+◌, ◌<◌, ◌≤◌, ◌⊎◌, inl, inr, zero, suc, Bool, true, false, ◌||◌, cond, nat_eq, List, [], ◌∷◌, Option, Some, None, map, filter, length, refl, sym, ap, subst, ◌∙◌, arith}
 use Rattle.std.specs.Prelude.{find, slice_get, slice_index_or}
-use Rattle.std.specs.List.{filter_map, enumerate_from, cons_option, list_any}
+use Rattle.std.specs.List.{AllByRecursion, IsDistinct, filter_map, enumerate_from, cons_option, list_any}
 use Rattle.std.proofs.lemmas.Bool.{cases_lt}
 use Rattle.std.proofs.lemmas.Bool.Decides.{Decides-eqb}
 use Rattle.std.proofs.lemmas.Option.{same_Some, none-some}
@@ -162,3 +162,26 @@ module _ {X : Type 0} (p : X → Bool) (number : X → ℕ) where
       by : (b : Bool) → p z ≡ b → list_any (nat_eq n) (map number (cond (p z) (z ∷ filter p xs) (filter p xs))) ≡ true → (list_any (nat_eq n) (map number (filter p xs)) ≡ true → Listed (z ∷ xs) n) → Listed (z ∷ xs) n
       by true e any rest = first (nat_eq n (number z)) refl e (rw e at any) rest
       by false e any rest = rest (rw e at any)
+
+  others : (xs : List X) (n : ℕ) → ((k : ℕ) (x : X) → slice_get xs k ≡ Some x → p x ≡ true → n ≡ number x → ⊥) → AllByRecursion (λ m. nat_eq n m ≡ false) (map number (filter p xs))
+  others [] n none = tt
+  others (z ∷ xs) n none = by (p z) refl (others xs n (λ k x at. none (suc k) x at))
+    where
+      differs : (b : Bool) → nat_eq n (number z) ≡ b → p z ≡ true → nat_eq n (number z) ≡ false
+      differs true same passes = absurd (none 0 z refl passes ((Decides-eqb n (number z)).0 same))
+      differs false other passes = other
+
+      by : (b : Bool) → p z ≡ b → AllByRecursion (λ m. nat_eq n m ≡ false) (map number (filter p xs)) → AllByRecursion (λ m. nat_eq n m ≡ false) (map number (cond (p z) (z ∷ filter p xs) (filter p xs)))
+      by true e rest = rw e (differs (nat_eq n (number z)) refl e, rest)
+      by false e rest = rw e rest
+
+  -- where one place alone has each number, the numbers are distinct
+  pub distinct : (xs : List X) → ((j k : ℕ) (x y : X) → slice_get xs j ≡ Some x → slice_get xs k ≡ Some y → p x ≡ true → p y ≡ true → number x ≡ number y → j ≡ k) → IsDistinct nat_eq (map number (filter p xs))
+  unfolding IsDistinct
+  distinct [] once = tt
+  distinct (z ∷ xs) once =
+      by (p z) refl (distinct xs (λ j k x y at_x at_y px py same. (let e = once (suc j) (suc k) x y at_x at_y px py same in omega (arith, e))))
+    where
+      by : (b : Bool) → p z ≡ b → IsDistinct nat_eq (map number (filter p xs)) → IsDistinct nat_eq (map number (cond (p z) (z ∷ filter p xs) (filter p xs)))
+      by true e rest = rw e (others xs (number z) (λ k x at px same. absurd (let no = once 0 (suc k) z x refl at e px same in omega (arith, no))), rest)
+      by false e rest = rw e rest

@@ -2,6 +2,7 @@
 use Rattle.std.proofs.Common.{◌≡◌, ◌↔◌, ℕ, ◌*◌, ◌/◌, ◌%◌, ◌<◌, ◌≤◌, Bool, true, false, not, ◌&&◌, nat_eq, nat_lt, List, [], Option, Some, None, length, refl, sym, ap, subst, ◌∙◌, arith, IsTrue}
 use Rattle.std.specs.Prelude.{slice_get, slice_index_or, take}
 use Rattle.std.specs.Bool.{IsFalse}
+use Rattle.std.specs.List.{IsDistinct}
 use Rattle.std.specs.Option.{option_map, option_map_or}
 use Rattle.std.proofs.Math.Nat.{div-add-mod'}
 use Rattle.std.proofs.lemmas.Bool.Decides.{nat_tests, Decides-eqb}
@@ -29,9 +30,9 @@ use Rattle.mm_runs.specs.Views.Kind.{Reads, Writes}
 use Rattle.mm_runs.specs.Order.{is_joined}
 use Rattle.mm_runs.specs.Plan.{IsMemoryPlan, IsInFootprint, IsShape, IsPowerOfTwo, footprint, serves_kind}
 use Rattle.memory_sides.specs.Sides.{host_side, agent_side}
-use Rattle.memory_plans.specs.Systems.{side_of_host, side_of_agent, known_in, link_between, agent_of, access_of, place_in, memory_system}
-use Rattle.memory_plans.proofs.ListLemmas.{At, there_at, index_is, listed, listed_from}
-use Rattle.memory_plans.proofs.LinkLemmas.{known_is, footprint_between, each_is, agent_of_link, footprint_has_link, found_between}
+use Rattle.memory_plans.specs.Systems.{HasLink, side_of_host, side_of_agent, known_in, link_between, agent_of, access_of, place_in, memory_system}
+use Rattle.memory_plans.proofs.ListLemmas.{distinct, At, there_at, index_is, listed, listed_from}
+use Rattle.memory_plans.proofs.LinkLemmas.{HasFootprint, one_link, known_is, footprint_between, each_is, agent_of_link, footprint_has_link, found_between}
 use Rattle.memory_plans.proofs.SideLemmas.{plain_width, host_shape, agent_shape, some_bound, fixed_is_plain, bursts_wait, span_is}
 
 within_limit : (limit n : ℕ) → nat_lt limit n ≡ false → n ≤ limit
@@ -50,16 +51,19 @@ whole_bytes f kept = (f.base / f.bytes, (let none = by (nat_eq (f.base % f.bytes
     by true is = (Decides-eqb (f.base % f.bytes) 0).0 is
     by false is = absurd (let no : true ≡ false = sym (ap not is) ∙ kept in cc)
 
-module _ (plan : PlanTable) (is_plan : IsPlan plan)
-    (numbered : (k : ℕ) (link : MemoryLink) → slice_get (memory_links plan.system) k ≡ Some link → IsMemoryLink plan.system link)
-    (keeps : (k : ℕ) (link : MemoryLink) → slice_get (memory_links plan.system) k ≡ Some link → KeepsMmRules plan.system link)
-    (one_end : (side : Side) (j k : ℕ) (end : EndId) → slice_get (mm_ends side plan.system) j ≡ Some end → slice_get (mm_ends side plan.system) k ≡ Some end → j ≡ k)
-    (known_hosts : (number : ℕ) (end : EndId) → slice_get (hosts_of plan.system) number ≡ Some end → IsHostEnd plan.system end)
-    (known_agents : (number : ℕ) (end : EndId) → slice_get (agents_of plan.system) number ≡ Some end → IsAgentEnd plan.system end)
-    (places : (number : ℕ) (host : EndId) (entries : List MapEntry) → slice_get (hosts_of plan.system) number ≡ Some host → slice_get plan.maps number ≡ Some entries
-    → (access : Access) (address connection : ℕ) → (place_of entries access address ≡ Some connection) ↔ IsPlace (footprints plan.system) host access address connection)
-    (bounded_host : (host : HostPort) → IsProper (Host host) → IsBoundedHost host)
-    (bounded_agent : (agent : AgentPort) → IsProper (Agent agent) → IsBoundedAgent agent) where
+-- what is known of the ends, the links and the maps of a plan
+pub record PlanLaws (plan : PlanTable) : Type 0 where
+  pub numbered : (k : ℕ) (link : MemoryLink) → slice_get (memory_links plan.system) k ≡ Some link → IsMemoryLink plan.system link
+  pub keeps : (k : ℕ) (link : MemoryLink) → slice_get (memory_links plan.system) k ≡ Some link → KeepsMmRules plan.system link
+  pub one_end : (side : Side) (j k : ℕ) (end : EndId) → slice_get (mm_ends side plan.system) j ≡ Some end → slice_get (mm_ends side plan.system) k ≡ Some end → j ≡ k
+  pub known_hosts : (number : ℕ) (end : EndId) → slice_get (hosts_of plan.system) number ≡ Some end → IsHostEnd plan.system end
+  pub known_agents : (number : ℕ) (end : EndId) → slice_get (agents_of plan.system) number ≡ Some end → IsAgentEnd plan.system end
+  pub places : (number : ℕ) (host : EndId) (entries : List MapEntry) → slice_get (hosts_of plan.system) number ≡ Some host → slice_get plan.maps number ≡ Some entries
+      → (access : Access) (address connection : ℕ) → (place_of entries access address ≡ Some connection) ↔ IsPlace (footprints plan.system) host access address connection
+  pub bounded_host : (host : HostPort) → IsProper (Host host) → IsBoundedHost host
+  pub bounded_agent : (agent : AgentPort) → IsProper (Agent agent) → IsBoundedAgent agent
+
+module _ (plan : PlanTable) (is_plan : IsPlan plan) (laws : PlanLaws plan) where
   abbrev pub system : System
   system = memory_system plan
 
@@ -77,21 +81,21 @@ module _ (plan : PlanTable) (is_plan : IsPlan plan)
     pub bounded : IsBoundedAgent agent
 
   host_here : (h : ℕ) (end : EndId) (host : HostPort) → slice_get (hosts_of plan.system) h ≡ Some end → IsEnd plan.system end (Host host) → IsProper (Host host) → IsHost h host
-  host_here h end host at there proper = record { is = ap side_of_host (known_at_number (hosts_of plan.system) h end (Host host) at there); bounded = bounded_host host proper }
+  host_here h end host at there proper = record { is = ap side_of_host (known_at_number (hosts_of plan.system) h end (Host host) at there); bounded = laws.bounded_host host proper }
 
   agent_here : (a : ℕ) (end : EndId) (agent : AgentPort) → slice_get (agents_of plan.system) a ≡ Some end → IsEnd plan.system end (Agent agent) → IsProper (Agent agent) → IsAgent a agent
-  agent_here a end agent at there proper = record { is = ap side_of_agent (known_at_number (agents_of plan.system) a end (Agent agent) at there); bounded = bounded_agent agent proper }
+  agent_here a end agent at there proper = record { is = ap side_of_agent (known_at_number (agents_of plan.system) a end (Agent agent) at there); bounded = laws.bounded_agent agent proper }
 
   a_host : (h : ℕ) → h < system.hosts → (host : HostPort) × IsHost h host
   a_host h below =
       let at = there_at (hosts_of plan.system) h below in
-      let end = known_hosts h at.0 at.1 in
+      let end = laws.known_hosts h at.0 at.1 in
       (end.host, host_here h at.0 end.host at.1 end.is end.proper)
 
   an_agent : (a : ℕ) → a < system.agents → (agent : AgentPort) × IsAgent a agent
   an_agent a below =
       let at = there_at (agents_of plan.system) a below in
-      let end = known_agents a at.0 at.1 in
+      let end = laws.known_agents a at.0 at.1 in
       (end.agent, agent_here a at.0 end.agent at.1 end.is end.proper)
 
   -- what holds of the sides of all proper hosts holds of each host
@@ -115,7 +119,7 @@ module _ (plan : PlanTable) (is_plan : IsPlan plan)
 
   joint_of : (a h : ℕ) (link : MemoryLink) (there : At (memory_links plan.system) link) → link.host_number ≡ h → link.agent_number ≡ a → IsJoint a h
   joint_of a h link there host_is agent_is =
-      let l = numbered there.place link there.is in
+      let l = laws.numbered there.place link there.is in
       let at_host : slice_get (hosts_of plan.system) h ≡ Some l.connection.start = ap (slice_get (hosts_of plan.system)) (sym host_is) ∙ l.host_is in
       let at_agent : slice_get (agents_of plan.system) a ≡ Some l.connection.end = ap (slice_get (agents_of plan.system)) (sym agent_is) ∙ l.agent_is in
       record {
@@ -123,7 +127,7 @@ module _ (plan : PlanTable) (is_plan : IsPlan plan)
         there = there;
         host_is = host_is;
         agent_is = agent_is;
-        between = found_between plan.system is_plan.system numbered h a link there host_is agent_is;
+        between = found_between plan.system is_plan.system laws.numbered h a link there host_is agent_is;
         host = (host_here h l.connection.start link.host at_host l.host l.host_proper).is;
         agent = (agent_here a l.connection.end link.agent at_agent l.agent l.agent_proper).is;
       }
@@ -150,26 +154,26 @@ module _ (plan : PlanTable) (is_plan : IsPlan plan)
   host_below : (a h : ℕ) → IsTrue (is_joined system a h) → h < system.hosts
   host_below a h joined =
       let j = joint a h joined in
-      let l = numbered j.there.place j.link j.there.is in
+      let l = laws.numbered j.there.place j.link j.there.is in
       slice_get_within (hosts_of plan.system) h l.connection.start (ap (slice_get (hosts_of plan.system)) (sym j.host_is) ∙ l.host_is)
 
   agent_below : (a h : ℕ) → IsTrue (is_joined system a h) → a < system.agents
   agent_below a h joined =
       let j = joint a h joined in
-      let l = numbered j.there.place j.link j.there.is in
+      let l = laws.numbered j.there.place j.link j.there.is in
       slice_get_within (agents_of plan.system) a l.connection.end (ap (slice_get (agents_of plan.system)) (sym j.agent_is) ∙ l.agent_is)
 
   some_shares : (a h : ℕ) → IsTrue (is_joined system a h) → 1 ≤ system.shares h a
-  some_shares a h joined = let j = joint a h joined in subst (λ n. 1 ≤ n) (sym (shares_of a h j)) (numbered j.there.place j.link j.there.is).some_share
+  some_shares a h joined = let j = joint a h joined in subst (λ n. 1 ≤ n) (sym (shares_of a h j)) (laws.numbered j.there.place j.link j.there.is).some_share
 
   few_shares : (a h : ℕ) → IsTrue (is_joined system a h) → system.shares h a ≤ 63
-  few_shares a h joined = let j = joint a h joined in subst (λ n. n ≤ 63) (sym (shares_of a h j)) (numbered j.there.place j.link j.there.is).few_shares
+  few_shares a h joined = let j = joint a h joined in subst (λ n. n ≤ 63) (sym (shares_of a h j)) (laws.numbered j.there.place j.link j.there.is).few_shares
 
   wider : (a h : ℕ) → IsTrue (is_joined system a h) → (system.host h).word_bytes < (system.agent a).word_bytes → IsTrue (system.agent a).has_enables
   wider a h joined less =
       let j = joint a h joined in
-      let l = numbered j.there.place j.link j.there.is in
-      let kept = keeps j.there.place j.link j.there.is l.connection l.connection_is 3 in
+      let l = laws.numbered j.there.place j.link j.there.is in
+      let kept = laws.keeps j.there.place j.link j.there.is l.connection l.connection_is 3 in
       let order : j.link.host.word_bytes < j.link.agent.word_bytes =
       subst (λ (side : AgentSide). j.link.host.word_bytes < side.word_bytes) j.agent (subst (λ (side : HostSide). side.word_bytes < (system.agent a).word_bytes) j.host less) in
       let below : nat_lt j.link.host.word_bytes j.link.agent.word_bytes ≡ true = grind (arith, nat_tests) in
@@ -185,7 +189,7 @@ module _ (plan : PlanTable) (is_plan : IsPlan plan)
       let whole = whole_bytes f kept in
       (whole.0, base_of a h j ∙ l.base_is ∙ whole.1 ∙ ap (λ n. whole.0 * n) (sym (bytes_of a h j)))
 
-  -- ---- places
+  -- ---- laws.places
 
   serves_both : (a : ℕ) (agent : AgentPort) (kind : Kind) (number : ℕ) (c : Connection) (host : HostPort) → system.agent a ≡ agent_side agent
       → serves_kind (system.agent a) kind ≡ serves (access_of kind) (entry_of number (footprint_between c host agent))
@@ -200,32 +204,35 @@ module _ (plan : PlanTable) (is_plan : IsPlan plan)
   from_option f (Some x) y same = (x, refl, same_Some (f x) y same)
 
   module _ (h : ℕ) (end : EndId) (entries : List MapEntry) (at_host : slice_get (hosts_of plan.system) h ≡ Some end) (at_map : slice_get plan.maps h ≡ Some entries) where
-    place_there : (a address : ℕ) (kind : Kind) → place_in plan.system entries kind address ≡ Some a → IsServed h a address kind
+    served_by : (a address : ℕ) (kind : Kind) (number : ℕ) (spot : IsPlace (footprints plan.system) end (access_of kind) address number) → HasFootprint plan.system number spot.footprint → agent_of plan.system number ≡ a → IsServed h a address kind
     unfolding joint_of
-    place_there a address kind goes =
-        let from = from_option (agent_of plan.system) (place_of entries (access_of kind) address) a goes in
-        let place = (places h end entries at_host at_map (access_of kind) address from.0).0 from.1 in
-        let has = footprint_has_link plan.system from.0 place.footprint place.is in
-        let l = numbered has.there.place has.link has.there.is in
+    served_by a address kind number spot has named =
+        let l = laws.numbered has.there.place has.link has.there.is in
         let same_connection : l.connection ≡ has.link_is.connection = same_Some l.connection has.link_is.connection (sym l.connection_is ∙ has.link_is.is) in
-        let ends : l.connection.start ≡ end = ap (λ (c : Connection). c.start) same_connection ∙ sym (ap (λ (f : Footprint). f.host) has.same) ∙ place.of_host in
-        let host_is : has.link.host_number ≡ h = one_end Start has.link.host_number h end (l.host_is ∙ ap Some ends) at_host in
-        let agent_is : has.link.agent_number ≡ a = sym (agent_of_link plan.system has.link has.link_is) ∙ ap (agent_of plan.system) has.number_is ∙ from.2 in
+        let ends : l.connection.start ≡ end = ap (λ (c : Connection). c.start) same_connection ∙ sym (ap (λ (f : Footprint). f.host) has.same) ∙ spot.of_host in
+        let host_is : has.link.host_number ≡ h = laws.one_end Start has.link.host_number h end (l.host_is ∙ ap Some ends) at_host in
+        let agent_is : has.link.agent_number ≡ a = sym (agent_of_link plan.system has.link has.link_is) ∙ ap (agent_of plan.system) has.number_is ∙ named in
         let joined = joined_by a h has.link has.there host_is agent_is in
         let j = joint_of a h has.link has.there host_is agent_is in
-        let bases : system.base h a ≡ place.footprint.base = base_of a h j ∙ has.link_is.base_is ∙ sym (ap (λ (f : Footprint). f.base) has.same) in
-        let bytes : footprint (system.agent a).span (system.host h).word_bytes ≡ place.footprint.bytes = bytes_of a h j ∙ sym (ap (λ (f : Footprint). f.bytes) has.same) in
-        let low = place.from_base in
-        let high = place.below_end in (
+        let bases : system.base h a ≡ spot.footprint.base = base_of a h j ∙ has.link_is.base_is ∙ sym (ap (λ (f : Footprint). f.base) has.same) in
+        let bytes : footprint (system.agent a).span (system.host h).word_bytes ≡ spot.footprint.bytes = bytes_of a h j ∙ sym (ap (λ (f : Footprint). f.bytes) has.same) in
+        let low = spot.from_base in
+        let high = spot.below_end in (
           agent_below a h joined,
           record { joined = joined; from_base = omega (arith, bases, low); below_end = omega (arith, bases, bytes, high) },
-          serves_both a has.link.agent kind from.0 has.link_is.connection has.link.host j.agent ∙ sym (ap (λ (f : Footprint). serves (access_of kind) (entry_of from.0 f)) has.same) ∙ place.serves_it,
+          serves_both a has.link.agent kind number has.link_is.connection has.link.host j.agent ∙ sym (ap (λ (f : Footprint). serves (access_of kind) (entry_of number f)) has.same) ∙ spot.serves_it,
         )
+
+    place_there : (a address : ℕ) (kind : Kind) → place_in plan.system entries kind address ≡ Some a → IsServed h a address kind
+    place_there a address kind goes =
+        let from = from_option (agent_of plan.system) (place_of entries (access_of kind) address) a goes in
+        let spot = (laws.places h end entries at_host at_map (access_of kind) address from.0).0 from.1 in
+        served_by a address kind from.0 spot (footprint_has_link plan.system from.0 spot.footprint spot.is) from.2
 
     place_back : (a address : ℕ) (kind : Kind) → IsServed h a address kind → place_in plan.system entries kind address ≡ Some a
     place_back a address kind served =
         let j = joint a h served.1.joined in
-        let m = numbered j.there.place j.link j.there.is in
+        let m = laws.numbered j.there.place j.link j.there.is in
         let l = each_is plan.system j.link j.there in
         let f = footprint_between l.connection j.link.host j.link.agent in
         let same_connection : m.connection ≡ l.connection = same_Some m.connection l.connection (sym m.connection_is ∙ l.is) in
@@ -242,7 +249,7 @@ module _ (plan : PlanTable) (is_plan : IsPlan plan)
           below_end = omega (arith, bases, bytes, high);
           serves_it = sym (serves_both a j.link.agent kind j.link.connection l.connection j.link.host j.agent) ∙ served.2;
         } in
-        ap (option_map (agent_of plan.system)) ((places h end entries at_host at_map (access_of kind) address j.link.connection).1 place)
+        ap (option_map (agent_of plan.system)) ((laws.places h end entries at_host at_map (access_of kind) address j.link.connection).1 place)
         ∙ ap Some (agent_of_link plan.system j.link l ∙ j.agent_is)
 
   place : (h a address : ℕ) (kind : Kind) → h < system.hosts → (system.place h kind address ≡ Some a) ↔ IsServed h a address kind
@@ -274,3 +281,29 @@ module _ (plan : PlanTable) (is_plan : IsPlan plan)
     base = base;
     place = place;
   }
+
+  -- ---- links
+
+  pub apart : (a : ℕ) → IsDistinct nat_eq (system.joined a)
+  apart a = distinct (λ (link : MemoryLink). nat_eq link.agent_number a) (λ link. link.host_number) (memory_links plan.system)
+      (λ j k x y at_x at_y px py same.
+      one_link plan.system is_plan.system laws.numbered x y (record { place = j; is = at_x }) (record { place = k; is = at_y }) same
+      ((Decides-eqb x.agent_number a).0 px ∙ sym ((Decides-eqb y.agent_number a).0 py)))
+
+  pub has_link : (k : ℕ) (link : MemoryLink) → slice_get (memory_links plan.system) k ≡ Some link → HasLink system link
+  unfolding joint_of
+  has_link k link at =
+      let there : At (memory_links plan.system) link = record { place = k; is = at } in
+      let a = link.agent_number in
+      let h = link.host_number in
+      let joined = joined_by a h link there refl refl in
+      let j = joint_of a h link there refl refl in
+      record {
+        host_below = host_below a h joined;
+        agent_below = agent_below a h joined;
+        host = j.host;
+        agent = j.agent;
+        joined = joined;
+        base = base_of a h j;
+        shares = shares_of a h j;
+      }

@@ -1,5 +1,5 @@
 -- The hosts and agents of a plan, as the system that runs speak of.
-use Rattle.std.specs.Prelude.{ℕ, Bool, false, ◌&&◌, nat_eq, List, [], Option, map, filter, find, length, slice_get, slice_index_or}
+use Rattle.std.specs.Prelude.{◌≡◌, ◌<◌, IsTrue, ℕ, Bool, false, ◌&&◌, nat_eq, List, [], Option, map, filter, find, length, slice_get, slice_index_or}
 use Rattle.std.specs.Option.{option_map, option_map_or}
 use Rattle.iface_roles.specs.declared.records.Finished.{Finished}
 use Rattle.iface_roles.specs.declared.records.Finished.TheVariants.{Host, Agent, Other}
@@ -14,6 +14,7 @@ use Rattle.link_rules.specs.Plans.{PlanTable}
 use Rattle.memory_sides.specs.Sides.{host_side, agent_side}
 use Rattle.mm_runs.specs.Views.{Shape, HostSide, AgentSide, Kind, System}
 use Rattle.mm_runs.specs.Views.Kind.{Reads, Writes}
+use Rattle.mm_runs.specs.Order.{is_joined}
 
 -- what stands for an interface that isn't there, which no plan shows
 abbrev pub no_shape : Shape
@@ -86,3 +87,13 @@ memory_system plan = record {
   shares = λ h a. option_map_or (λ link. link.shares) (link_between plan.system h a) 0;
   stages = plan.system.stages;
 }
+
+-- the system joins the ends of a link, as they are
+pub record HasLink (system : System) (link : MemoryLink) : Type 0 where
+  pub host_below : link.host_number < system.hosts
+  pub agent_below : link.agent_number < system.agents
+  pub host : system.host link.host_number ≡ host_side link.host
+  pub agent : system.agent link.agent_number ≡ agent_side link.agent
+  pub joined : IsTrue (is_joined system link.agent_number link.host_number)
+  pub base : system.base link.host_number link.agent_number ≡ link.base
+  pub shares : system.shares link.host_number link.agent_number ≡ link.shares
