@@ -60,7 +60,7 @@ says hosts agents number connection (Source start) end link makes = absurd (none
 says hosts agents number connection (Sink start) end link makes = absurd (none-some link makes)
 says hosts agents number connection Other end link makes = absurd (none-some link makes)
 
-says_number : (system : SystemTable) (number : ℕ) (connection : Connection) (link : MemoryLink) → memory_link system (number, connection) ≡ Some link → link.connection ≡ number
+pub says_number : (system : SystemTable) (number : ℕ) (connection : Connection) (link : MemoryLink) → memory_link system (number, connection) ≡ Some link → link.connection ≡ number
 says_number system number connection link makes = (says (hosts_of system) (agents_of system) number connection (known_at system connection.start) (known_at system connection.end) link makes).number_is
 
 -- a link is that of its connection and of its footprint

@@ -11,7 +11,7 @@ pub record At {X : Type 0} (xs : List X) (x : X) : Type 0 where
   pub place : ℕ
   pub is : slice_get xs place ≡ Some x
 
-later : {X : Type 0} (y : X) (xs : List X) (x : X) → At xs x → At (y ∷ xs) x
+abbrev pub later : {X : Type 0} (y : X) (xs : List X) (x : X) → At xs x → At (y ∷ xs) x
 later y xs x at = record { place = suc at.place; is = at.is }
 
 pub there_at : {X : Type 0} (xs : List X) (k : ℕ) → k < length xs → (x : X) × (slice_get xs k ≡ Some x)
@@ -74,7 +74,7 @@ module _ {X Y : Type 0} (f : ℕ × X → Option Y) (number : Y → ℕ) (says :
       let same = says (n + from.place) from.item y from.makes in
       omega (arith, same)
 
-  numbers_rise : (n : ℕ) (xs : List X) (j k : ℕ) (a b : Y) → j < k → slice_get (filter_map f (enumerate_from n xs)) j ≡ Some a → slice_get (filter_map f (enumerate_from n xs)) k ≡ Some b → number a < number b
+  pub numbers_rise : (n : ℕ) (xs : List X) (j k : ℕ) (a b : Y) → j < k → slice_get (filter_map f (enumerate_from n xs)) j ≡ Some a → slice_get (filter_map f (enumerate_from n xs)) k ≡ Some b → number a < number b
   numbers_rise n [] j k a b less at_j at_k = absurd (none-some a at_j)
   numbers_rise n (x ∷ xs) j k a b less at_j at_k = by (f (n, x)) refl j k less at_j at_k (λ i l. numbers_rise (n + 1) xs i l a b)
     where

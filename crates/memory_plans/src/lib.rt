@@ -1,6 +1,8 @@
 //! The hosts and agents of a plan as the system that memory-mapped runs speak of.
 #![tactic(auto)]
 
+mod routes;
+
 ghost use Rattle.std.specs.Prelude.{◌≡◌, ℕ, Some, nat_eq, slice_get};
 ghost use Rattle.std.specs.List.{IsDistinct};
 ghost use Rattle.link_rules.specs.declared.plan_links.MemoryLink.{MemoryLink};
@@ -8,6 +10,8 @@ ghost use Rattle.link_rules.specs.PlanLinks.{memory_links};
 ghost use Rattle.link_rules.specs.Plans.{PlanTable, IsPlan};
 ghost use Rattle.mm_runs.specs.Plan.{IsMemoryPlan};
 ghost use Rattle.memory_plans.specs.Systems.{memory_system, HasLink};
+
+pub use routes::{Route, host_routes, routes_are_the_map};
 
 /// Every plan keeps all that the theorems on systems of machines ask, and joins no host to an agent twice.
 pub fn plans_are_memory_plans()
