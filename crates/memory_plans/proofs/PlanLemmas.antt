@@ -108,8 +108,7 @@ module _ (plan : PlanTable) (is_plan : IsPlan plan) (laws : PlanLaws plan) where
   -- ---- joined hosts and agents
 
   -- the link of a host and an agent, with what is known of its ends and its connection
-  pub record IsJoint (a h : ℕ) : Type 0 where
-    pub link : MemoryLink
+  pub record IsJoint (a h : ℕ) (link : MemoryLink) : Type 0 where
     pub there : At (memory_links plan.system) link
     pub host_is : link.host_number ≡ h
     pub agent_is : link.agent_number ≡ a
@@ -117,13 +116,12 @@ module _ (plan : PlanTable) (is_plan : IsPlan plan) (laws : PlanLaws plan) where
     pub host : system.host h ≡ host_side link.host
     pub agent : system.agent a ≡ agent_side link.agent
 
-  joint_of : (a h : ℕ) (link : MemoryLink) (there : At (memory_links plan.system) link) → link.host_number ≡ h → link.agent_number ≡ a → IsJoint a h
+  joint_of : (a h : ℕ) (link : MemoryLink) (there : At (memory_links plan.system) link) → link.host_number ≡ h → link.agent_number ≡ a → IsJoint a h link
   joint_of a h link there host_is agent_is =
       let l = laws.numbered there.place link there.is in
       let at_host : slice_get (hosts_of plan.system) h ≡ Some l.connection.start = ap (slice_get (hosts_of plan.system)) (sym host_is) ∙ l.host_is in
       let at_agent : slice_get (agents_of plan.system) a ≡ Some l.connection.end = ap (slice_get (agents_of plan.system)) (sym agent_is) ∙ l.agent_is in
       record {
-        link = link;
         there = there;
         host_is = host_is;
         agent_is = agent_is;
@@ -132,64 +130,64 @@ module _ (plan : PlanTable) (is_plan : IsPlan plan) (laws : PlanLaws plan) where
         agent = (agent_here a l.connection.end link.agent at_agent l.agent l.agent_proper).is;
       }
 
-  joint : (a h : ℕ) → IsTrue (is_joined system a h) → IsJoint a h
+  joint : (a h : ℕ) → IsTrue (is_joined system a h) → (link : MemoryLink) × IsJoint a h link
   joint a h joined =
       let l = listed_from (λ (link : MemoryLink). nat_eq link.agent_number a) (λ link. link.host_number) (memory_links plan.system) h joined in
-      joint_of a h l.item l.there l.is ((Decides-eqb l.item.agent_number a).0 l.passes)
+      (l.item, joint_of a h l.item l.there l.is ((Decides-eqb l.item.agent_number a).0 l.passes))
 
   joined_by : (a h : ℕ) (link : MemoryLink) → At (memory_links plan.system) link → link.host_number ≡ h → link.agent_number ≡ a → IsTrue (is_joined system a h)
   joined_by a h link there host_is agent_is =
       subst (λ n. IsTrue (is_joined system a n)) host_is
       (listed (λ (link : MemoryLink). nat_eq link.agent_number a) (λ link. link.host_number) (memory_links plan.system) there.place link there.is ((Decides-eqb link.agent_number a).1 agent_is))
 
-  base_of : (a h : ℕ) (j : IsJoint a h) → system.base h a ≡ j.link.base
-  base_of a h j = ap (λ o. option_map_or (λ (link : MemoryLink). link.base) o 0) j.between
+  base_of : (a h : ℕ) (link : MemoryLink) → IsJoint a h link → system.base h a ≡ link.base
+  base_of a h link j = ap (λ o. option_map_or (λ (link : MemoryLink). link.base) o 0) j.between
 
-  shares_of : (a h : ℕ) (j : IsJoint a h) → system.shares h a ≡ j.link.shares
-  shares_of a h j = ap (λ o. option_map_or (λ (link : MemoryLink). link.shares) o 0) j.between
+  shares_of : (a h : ℕ) (link : MemoryLink) → IsJoint a h link → system.shares h a ≡ link.shares
+  shares_of a h link j = ap (λ o. option_map_or (λ (link : MemoryLink). link.shares) o 0) j.between
 
-  bytes_of : (a h : ℕ) (j : IsJoint a h) → footprint (system.agent a).span (system.host h).word_bytes ≡ footprint (span_of j.link.agent) j.link.host.word_bytes
-  bytes_of a h j = ap (λ (side : AgentSide). footprint side.span (system.host h).word_bytes) j.agent ∙ ap (λ (side : HostSide). footprint (span_of j.link.agent) side.word_bytes) j.host
+  bytes_of : (a h : ℕ) (link : MemoryLink) → IsJoint a h link → footprint (system.agent a).span (system.host h).word_bytes ≡ footprint (span_of link.agent) link.host.word_bytes
+  bytes_of a h link j = ap (λ (side : AgentSide). footprint side.span (system.host h).word_bytes) j.agent ∙ ap (λ (side : HostSide). footprint (span_of link.agent) side.word_bytes) j.host
 
   host_below : (a h : ℕ) → IsTrue (is_joined system a h) → h < system.hosts
   host_below a h joined =
-      let j = joint a h joined in
-      let l = laws.numbered j.there.place j.link j.there.is in
+      let x = joint a h joined in let link = x.0 in let j = x.1 in
+      let l = laws.numbered j.there.place link j.there.is in
       slice_get_within (hosts_of plan.system) h l.connection.start (ap (slice_get (hosts_of plan.system)) (sym j.host_is) ∙ l.host_is)
 
   agent_below : (a h : ℕ) → IsTrue (is_joined system a h) → a < system.agents
   agent_below a h joined =
-      let j = joint a h joined in
-      let l = laws.numbered j.there.place j.link j.there.is in
+      let x = joint a h joined in let link = x.0 in let j = x.1 in
+      let l = laws.numbered j.there.place link j.there.is in
       slice_get_within (agents_of plan.system) a l.connection.end (ap (slice_get (agents_of plan.system)) (sym j.agent_is) ∙ l.agent_is)
 
   some_shares : (a h : ℕ) → IsTrue (is_joined system a h) → 1 ≤ system.shares h a
-  some_shares a h joined = let j = joint a h joined in subst (λ n. 1 ≤ n) (sym (shares_of a h j)) (laws.numbered j.there.place j.link j.there.is).some_share
+  some_shares a h joined = let x = joint a h joined in let link = x.0 in let j = x.1 in subst (λ n. 1 ≤ n) (sym (shares_of a h link j)) (laws.numbered j.there.place link j.there.is).some_share
 
   few_shares : (a h : ℕ) → IsTrue (is_joined system a h) → system.shares h a ≤ 63
-  few_shares a h joined = let j = joint a h joined in subst (λ n. n ≤ 63) (sym (shares_of a h j)) (laws.numbered j.there.place j.link j.there.is).few_shares
+  few_shares a h joined = let x = joint a h joined in let link = x.0 in let j = x.1 in subst (λ n. n ≤ 63) (sym (shares_of a h link j)) (laws.numbered j.there.place link j.there.is).few_shares
 
   wider : (a h : ℕ) → IsTrue (is_joined system a h) → (system.host h).word_bytes < (system.agent a).word_bytes → IsTrue (system.agent a).has_enables
   wider a h joined less =
-      let j = joint a h joined in
-      let l = laws.numbered j.there.place j.link j.there.is in
-      let kept = laws.keeps j.there.place j.link j.there.is l.connection l.connection_is 3 in
-      let order : j.link.host.word_bytes < j.link.agent.word_bytes =
-      subst (λ (side : AgentSide). j.link.host.word_bytes < side.word_bytes) j.agent (subst (λ (side : HostSide). side.word_bytes < (system.agent a).word_bytes) j.host less) in
-      let below : nat_lt j.link.host.word_bytes j.link.agent.word_bytes ≡ true = grind (arith, nat_tests) in
-      subst (λ (side : AgentSide). IsTrue side.has_enables) (sym j.agent) (both_false (nat_lt j.link.host.word_bytes j.link.agent.word_bytes) j.link.agent.enables kept below)
+      let x = joint a h joined in let link = x.0 in let j = x.1 in
+      let l = laws.numbered j.there.place link j.there.is in
+      let kept = laws.keeps j.there.place link j.there.is l.connection l.connection_is 3 in
+      let order : link.host.word_bytes < link.agent.word_bytes =
+      subst (λ (side : AgentSide). link.host.word_bytes < side.word_bytes) j.agent (subst (λ (side : HostSide). side.word_bytes < (system.agent a).word_bytes) j.host less) in
+      let below : nat_lt link.host.word_bytes link.agent.word_bytes ≡ true = grind (arith, nat_tests) in
+      subst (λ (side : AgentSide). IsTrue side.has_enables) (sym j.agent) (both_false (nat_lt link.host.word_bytes link.agent.word_bytes) link.agent.enables kept below)
 
   base : (h a : ℕ) → IsTrue (is_joined system a h) → (k : ℕ) × (system.base h a ≡ k * footprint (system.agent a).span (system.host h).word_bytes)
   base h a joined =
-      let j = joint a h joined in
-      let l = each_is plan.system j.link j.there in
-      let f = footprint_between l.connection j.link.host j.link.agent in
-      let at : slice_index_or (footprints plan.system) j.link.connection None ≡ Some f = index_is (footprints plan.system) j.link.connection (Some f) None l.footprint_is in
-      let kept : is_misplaced f ≡ false = subst (λ o. breaks_after (take j.link.connection (footprints plan.system)) o 1 ≡ false) at (is_plan.maps.kept j.link.connection 1) in
+      let x = joint a h joined in let link = x.0 in let j = x.1 in
+      let l = each_is plan.system link j.there in
+      let f = footprint_between l.connection link.host link.agent in
+      let at : slice_index_or (footprints plan.system) link.connection None ≡ Some f = index_is (footprints plan.system) link.connection (Some f) None l.footprint_is in
+      let kept : is_misplaced f ≡ false = subst (λ o. breaks_after (take link.connection (footprints plan.system)) o 1 ≡ false) at (is_plan.maps.kept link.connection 1) in
       let whole = whole_bytes f kept in
-      (whole.0, base_of a h j ∙ l.base_is ∙ whole.1 ∙ ap (λ n. whole.0 * n) (sym (bytes_of a h j)))
+      (whole.0, base_of a h link j ∙ l.base_is ∙ whole.1 ∙ ap (λ n. whole.0 * n) (sym (bytes_of a h link j)))
 
-  -- ---- laws.places
+  -- ---- places
 
   serves_both : (a : ℕ) (agent : AgentPort) (kind : Kind) (number : ℕ) (c : Connection) (host : HostPort) → system.agent a ≡ agent_side agent
       → serves_kind (system.agent a) kind ≡ serves (access_of kind) (entry_of number (footprint_between c host agent))
@@ -205,7 +203,6 @@ module _ (plan : PlanTable) (is_plan : IsPlan plan) (laws : PlanLaws plan) where
 
   module _ (h : ℕ) (end : EndId) (entries : List MapEntry) (at_host : slice_get (hosts_of plan.system) h ≡ Some end) (at_map : slice_get plan.maps h ≡ Some entries) where
     served_by : (a address : ℕ) (kind : Kind) (number : ℕ) (spot : IsPlace (footprints plan.system) end (access_of kind) address number) → HasFootprint plan.system number spot.footprint → agent_of plan.system number ≡ a → IsServed h a address kind
-    unfolding joint_of
     served_by a address kind number spot has named =
         let l = laws.numbered has.there.place has.link has.there.is in
         let same_connection : l.connection ≡ has.link_is.connection = same_Some l.connection has.link_is.connection (sym l.connection_is ∙ has.link_is.is) in
@@ -214,8 +211,8 @@ module _ (plan : PlanTable) (is_plan : IsPlan plan) (laws : PlanLaws plan) where
         let agent_is : has.link.agent_number ≡ a = sym (agent_of_link plan.system has.link has.link_is) ∙ ap (agent_of plan.system) has.number_is ∙ named in
         let joined = joined_by a h has.link has.there host_is agent_is in
         let j = joint_of a h has.link has.there host_is agent_is in
-        let bases : system.base h a ≡ spot.footprint.base = base_of a h j ∙ has.link_is.base_is ∙ sym (ap (λ (f : Footprint). f.base) has.same) in
-        let bytes : footprint (system.agent a).span (system.host h).word_bytes ≡ spot.footprint.bytes = bytes_of a h j ∙ sym (ap (λ (f : Footprint). f.bytes) has.same) in
+        let bases : system.base h a ≡ spot.footprint.base = base_of a h has.link j ∙ has.link_is.base_is ∙ sym (ap (λ (f : Footprint). f.base) has.same) in
+        let bytes : footprint (system.agent a).span (system.host h).word_bytes ≡ spot.footprint.bytes = bytes_of a h has.link j ∙ sym (ap (λ (f : Footprint). f.bytes) has.same) in
         let low = spot.from_base in
         let high = spot.below_end in (
           agent_below a h joined,
@@ -231,26 +228,28 @@ module _ (plan : PlanTable) (is_plan : IsPlan plan) (laws : PlanLaws plan) where
 
     place_back : (a address : ℕ) (kind : Kind) → IsServed h a address kind → place_in plan.system entries kind address ≡ Some a
     place_back a address kind served =
-        let j = joint a h served.1.joined in
-        let m = laws.numbered j.there.place j.link j.there.is in
-        let l = each_is plan.system j.link j.there in
-        let f = footprint_between l.connection j.link.host j.link.agent in
+        let x = joint a h served.1.joined in
+        let link = x.0 in
+        let j = x.1 in
+        let m = laws.numbered j.there.place link j.there.is in
+        let l = each_is plan.system link j.there in
+        let f = footprint_between l.connection link.host link.agent in
         let same_connection : m.connection ≡ l.connection = same_Some m.connection l.connection (sym m.connection_is ∙ l.is) in
         let ends : f.host ≡ end = same_Some f.host end (sym (ap (λ (c : Connection). Some c.start) same_connection) ∙ sym m.host_is ∙ ap (slice_get (hosts_of plan.system)) j.host_is ∙ at_host) in
-        let bases : system.base h a ≡ f.base = base_of a h j ∙ l.base_is in
-        let bytes : footprint (system.agent a).span (system.host h).word_bytes ≡ f.bytes = bytes_of a h j in
+        let bases : system.base h a ≡ f.base = base_of a h link j ∙ l.base_is in
+        let bytes : footprint (system.agent a).span (system.host h).word_bytes ≡ f.bytes = bytes_of a h link j in
         let low = served.1.from_base in
         let high = served.1.below_end in
-        let place : IsPlace (footprints plan.system) end (access_of kind) address j.link.connection = record {
+        let place : IsPlace (footprints plan.system) end (access_of kind) address link.connection = record {
           footprint = f;
           is = l.footprint_is;
           of_host = ends;
           from_base = omega (arith, bases, low);
           below_end = omega (arith, bases, bytes, high);
-          serves_it = sym (serves_both a j.link.agent kind j.link.connection l.connection j.link.host j.agent) ∙ served.2;
+          serves_it = sym (serves_both a link.agent kind link.connection l.connection link.host j.agent) ∙ served.2;
         } in
-        ap (option_map (agent_of plan.system)) ((laws.places h end entries at_host at_map (access_of kind) address j.link.connection).1 place)
-        ∙ ap Some (agent_of_link plan.system j.link l ∙ j.agent_is)
+        ap (option_map (agent_of plan.system)) ((laws.places h end entries at_host at_map (access_of kind) address link.connection).1 place)
+        ∙ ap Some (agent_of_link plan.system link l ∙ j.agent_is)
 
   place : (h a address : ℕ) (kind : Kind) → h < system.hosts → (system.place h kind address ≡ Some a) ↔ IsServed h a address kind
   place h a address kind below =
@@ -291,7 +290,6 @@ module _ (plan : PlanTable) (is_plan : IsPlan plan) (laws : PlanLaws plan) where
       ((Decides-eqb x.agent_number a).0 px ∙ sym ((Decides-eqb y.agent_number a).0 py)))
 
   pub has_link : (k : ℕ) (link : MemoryLink) → slice_get (memory_links plan.system) k ≡ Some link → HasLink system link
-  unfolding joint_of
   has_link k link at =
       let there : At (memory_links plan.system) link = record { place = k; is = at } in
       let a = link.agent_number in
@@ -304,6 +302,6 @@ module _ (plan : PlanTable) (is_plan : IsPlan plan) (laws : PlanLaws plan) where
         host = j.host;
         agent = j.agent;
         joined = joined;
-        base = base_of a h j;
-        shares = shares_of a h j;
+        base = base_of a h link j;
+        shares = shares_of a h link j;
       }

@@ -25,7 +25,7 @@ use Rattle.link_rules.specs.Plans.{PlanTable, IsPlan}
 use Rattle.mm_runs.specs.Views.{System, Kind, HostSide, AgentSide}
 use Rattle.mm_runs.specs.Views.Kind.{Reads, Writes}
 use Rattle.mm_runs.specs.Order.{is_joined}
-use Rattle.mm_runs.specs.Plan.{IsMemoryPlan, footprint, serves_kind}
+use Rattle.mm_runs.specs.Plan.{IsInFootprint, IsMemoryPlan, footprint, serves_kind}
 use Rattle.memory_plans.specs.Systems.{HasLink, memory_system}
 use Rattle.memory_plans.specs.Routes.{Route, word_bits, span_bits, footprint_bits, route_of, routes_of, holds, takes, routed, AreApart, IsRoute, HasRoute, AreRoutes}
 use Rattle.memory_plans.proofs.ListLemmas.{At, found_at, later, index_is, listed_from, numbers_rise}
@@ -311,18 +311,22 @@ module _ (plan : PlanTable) (is_plan : IsPlan plan) (numbered : (k : ℕ) (link 
           sym (takes_both kind route is) ∙ both.1,
         )
 
+    passes_it : (agent : ℕ) (r : HasRoute routes agent) → IsInFootprint system host agent address → IsTrue (serves_kind (system.agent agent) kind) → test r.route ≡ true
+    passes_it agent r inside serves =
+        let is = each r.number r.route r.is in
+        let low = inside.from_base in
+        let high = inside.below_end in
+        let base : r.route.base ≡ system.base host agent = is.base ∙ ap (system.base host) r.leads in
+        let bytes : 2 ^ r.route.bits ≡ footprint (system.agent agent).span (system.host host).word_bytes = is.bytes ∙ ap (λ a. footprint (system.agent a).span (system.host host).word_bytes) r.leads in
+        let holds_it : holds address r.route ≡ true = bounds-hold address r.route (omega (arith, low, base)) (omega (arith, high, base, bytes)) in
+        let takes_it : takes kind r.route ≡ true = takes_both kind r.route is ∙ ap (λ a. serves_kind (system.agent a) kind) r.leads ∙ serves in
+        rw (holds_it, takes_it) refl
+
     comes_from : (agent : ℕ) → system.place host kind address ≡ Some agent → (route : Route) × (find test routes ≡ Some route) × (route.agent ≡ agent)
     comes_from agent goes =
         let served = (kept_plan.place host agent address kind below).0 goes in
         let r = agents agent served.1.joined in
-        let is = each r.number r.route r.is in
-        let low = served.1.from_base in
-        let high = served.1.below_end in
-        let base : r.route.base ≡ system.base host agent = is.base ∙ ap (system.base host) r.leads in
-        let bytes : 2 ^ r.route.bits ≡ footprint (system.agent agent).span (system.host host).word_bytes = is.bytes ∙ ap (λ a. footprint (system.agent a).span (system.host host).word_bytes) r.leads in
-        let holds_it : holds address r.route ≡ true = bounds-hold address r.route (omega (arith, low, base)) (omega (arith, high, base, bytes)) in
-        let takes_it : takes kind r.route ≡ true = takes_both kind r.route is ∙ ap (λ a. serves_kind (system.agent a) kind) r.leads ∙ served.2 in
-        let found = found_at test routes r.number r.route r.is (rw (holds_it, takes_it) refl) in
+        let found = found_at test routes r.number r.route r.is (passes_it agent r served.1 served.2) in
         let there = goes_there found.2.there.place found.0 found.2.there.is found.2.passes in
         (found.0, found.1, same_Some found.0.agent agent (sym there ∙ goes))
 
