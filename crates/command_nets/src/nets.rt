@@ -37,6 +37,22 @@ pub struct AnswerNets {
 }
 
 impl CommandNets {
+    /// The same nets.
+    pub fn copied(&self) -> CommandNets
+        ensures { result ≡ self.now }
+    {
+        CommandNets {
+            read: self.read,
+            write: self.write,
+            address: self.address,
+            word: self.word,
+            enables: self.enables,
+            count: self.count,
+            more: self.more,
+            tag: self.tag,
+        }
+    }
+
     /// The nets as a group, in the order of the fields.
     pub fn group(&self) -> [Net; 8]
         ensures { result ≡ group_of self.now }

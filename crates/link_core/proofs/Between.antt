@@ -1,0 +1,53 @@
+-- The laws of links between the views of nets.
+use Rattle.std.proofs.Common.{◌≡◌, ℕ, ◌<◌, sym, subst, Option, Some, None}
+use Rattle.netlist.specs.Nets.{NetValue}
+use Rattle.netlist.specs.Netlists.{Netlist}
+use Rattle.netlist.specs.Runs.{Run}
+use Rattle.mm_runs.specs.Views.{Shape}
+use Rattle.mm_machines.specs.Link.{Target, Port}
+use Rattle.mm_links.specs.Links.{LinkForm, IsLink, pass_form, chain_form}
+use Rattle.command_nets.specs.declared.nets.CommandNets.{CommandNets}
+use Rattle.command_nets.specs.declared.nets.AnswerNets.{AnswerNets}
+use Rattle.command_nets.specs.Nets.{port_in}
+use Rattle.link_core.specs.Form.{Form, FormsFit, KeepsLaw, form_of_chain}
+use Rattle.link_core.specs.MaybeNets.{command_of, answer_of}
+use Rattle.link_core.specs.PassNets.{IsPassForm}
+use Rattle.mm_links.specs.Links as links
+
+-- ---- a link of no nets
+
+pub at_pass : (P : Port → Port → Type 0) (form : Form) (from to : CommandNets) (wait up : NetValue) (answer back : AnswerNets) (run : Run) → IsPassForm form → to ≡ from → (up ≡ wait) × (back ≡ answer) →
+    P (port_in form.up run from wait answer) (port_in form.up run from wait answer) → P (port_in form.up run from up back) (port_in form.down run to wait answer)
+at_pass P form from to wait up answer back run p f b h =
+    subst (λ (s : Shape). P (port_in form.up run from up back) (port_in s run to wait answer)) (sym p.same)
+    (subst (λ (n : CommandNets). P (port_in form.up run from up back) (port_in form.up run n wait answer)) (sym f)
+    (subst (λ (n : NetValue). P (port_in form.up run from n back) (port_in form.up run from wait answer)) (sym b.0)
+    (subst (λ (n : AnswerNets). P (port_in form.up run from wait n) (port_in form.up run from wait answer)) (sym b.1) h)))
+
+pub pass_between : (form : Form) (from to : CommandNets) (wait up : NetValue) (answer back : AnswerNets) (run : Run) (end : ℕ) → IsPassForm form → to ≡ from → (up ≡ wait) × (back ≡ answer) →
+    ((target : Target) (port : Port) (end : ℕ) → 0 < port.shape.word_bytes → IsLink (pass_form target) port port end) →
+    KeepsLaw form (port_in form.up run from up back) (port_in form.down run to wait answer) end
+pass_between form from to wait up answer back run end p f b law =
+    at_pass (λ above below. KeepsLaw form above below end) form from to wait up answer back run p f b
+    (subst (λ (f : LinkForm). IsLink f (port_in form.up run from wait answer) (port_in form.up run from wait answer) end) (sym p.is) (law form.link.target (port_in form.up run from wait answer) end p.some))
+
+-- ---- two in a row
+
+pub chain_between : (first second form : Form) (run : Run) (from middle to : CommandNets) (up between wait : NetValue) (back inner answer : AnswerNets) (end : ℕ) → form ≡ form_of_chain first second → FormsFit first second →
+    ((first second : LinkForm) (up middle down : Port) (end : ℕ) → links.FormsFit first second up middle down → IsLink first up middle end → IsLink second middle down end → IsLink (chain_form first second) up down end) →
+    KeepsLaw first (port_in first.up run from up back) (port_in first.down run middle between inner) end →
+    KeepsLaw second (port_in second.up run middle between inner) (port_in second.down run to wait answer) end →
+    KeepsLaw form (port_in form.up run from up back) (port_in form.down run to wait answer) end
+chain_between first second form run from middle to up between wait back inner answer end is fit chain one two =
+    subst (λ (f : Form). KeepsLaw f (port_in f.up run from up back) (port_in f.down run to wait answer) end) (sym is)
+    (chain first.link second.link (port_in first.up run from up back) (port_in first.down run middle between inner) (port_in second.down run to wait answer) end
+    (record { target = fit.target; pieces = fit.pieces; words = fit.words }) one
+    (subst (λ (s : Shape). KeepsLaw second (port_in s run middle between inner) (port_in second.down run to wait answer) end) (sym fit.same_side) two))
+
+-- ---- a link where one is needed
+
+-- what a part has made says what was kept of it
+pub of_some : {L H : Type 0} (command_in : L → CommandNets → CommandNets → H → Netlist → Type 0) (answer_in : L → H → NetValue → AnswerNets → NetValue → AnswerNets → Netlist → Type 0) (link : L) (from to : CommandNets) (kept : Option H) (wait up : NetValue) (answer back : AnswerNets) (netlist : Netlist) (P : Type 0) →
+    ((held : H) → command_in link from to held netlist → answer_in link held wait answer up back netlist → P) → command_of command_in (Some link) from to kept netlist → answer_of answer_in (Some link) kept wait answer up back netlist → P
+of_some command_in answer_in link from to (Some held) wait up answer back netlist P law f b = law held f b
+of_some command_in answer_in link from to None wait up answer back netlist P law f b = absurd f

@@ -1,0 +1,5 @@
+mod Between
+mod LineBetween
+mod Raised
+mod RowLaw
+mod StageLaw

@@ -1,0 +1,39 @@
+use Rattle.std.proofs.Common.{◌⊎◌, inl, inr, arith}
+use Rattle.net_parts.specs.Growth.{WaitsWithout}
+use Rattle.net_parts.specs.Laws.{on_ok, if_ok, grows_twice, grows_fewer}
+use Rattle.netlist.specs.Nets.{NetValue}
+use Rattle.command_nets.specs.declared.nets.AnswerNets.{AnswerNets}
+use Rattle.link_core.specs.ChainNets.{HasMiddleAnswer}
+use Rattle.link_core.proofs.chain.ChainLink.emit_answer.Goals as goal
+
+pub returns-clause-no_more_wait : goal.returns-clause-no_more_wait
+returns-clause-no_more_wait g c =
+    on_ok c.emit_answer-2.result (WaitsWithout (g.A.Link.owns c.args.kept.0) c.emit_answer.new.builder c.emit_answer-2.new.builder)
+    (WaitsWithout (λ n. g.A.Link.owns c.args.kept.0 n ⊎ g.B.Link.owns c.args.kept.1 n) c.args.builder.now c.emit_answer-2.new.builder)
+    (λ first n w. (
+    let one = first n w in
+    let two = c.in_ok-middle.ensures.no_more_wait n one.0 in
+    (two.0, λ o. elim o [ inl p ↦ one.1 p | inr p ↦ two.1 p ])))
+    c.emit_answer-2.ensures.no_more_wait
+
+pub emit_answer-requires-2-clause-kept : goal.emit_answer-requires-2-clause-kept
+emit_answer-requires-2-clause-kept g c = g.met.A.Link.kept_lasts _ _ _ _ c.requires.kept.first c.emit_answer.ensures.grows.extends (λ n o. c.emit_answer.ensures.waits n (c.requires.kept.apart n o))
+
+pub returns-in_err-middle-clause-grows : goal.returns-in_err-middle-clause-grows
+returns-in_err-middle-clause-grows g c = grows_fewer _ _ _ _ (omega arith) c.emit_answer.ensures.grows
+
+pub returns-in_err-middle-clause-waits : goal.returns-in_err-middle-clause-waits
+returns-in_err-middle-clause-waits g c n apart w = c.emit_answer.ensures.waits n (λ o. apart (inr o)) w
+
+pub returns-clause-made : goal.returns-clause-made
+returns-clause-made g c =
+    if_ok c.emit_answer-2.result _
+    (λ (p : NetValue × AnswerNets). HasMiddleAnswer (λ middle middle_answer. g.A.Link.answer_in c.args.self.now.first c.args.kept.0 middle middle_answer p.0 p.1 c.emit_answer-2.new.builder) (λ middle middle_answer. g.B.Link.answer_in c.args.self.now.second c.args.kept.1 c.args.wait c.args.answer middle middle_answer c.emit_answer-2.new.builder))
+    (λ p first. record { wait = c.in_ok-middle.middle; answer = c.in_ok-middle.inner; first = first; second = g.met.B.Link.answer_lasts _ _ _ _ _ _ _ _ c.in_ok-middle.ensures.made c.emit_answer-2.ensures.grows.extends })
+    c.emit_answer-2.ensures.made
+
+pub returns-clause-grows : goal.returns-clause-grows
+returns-clause-grows g c = grows_fewer _ _ _ _ (omega arith) (grows_twice _ _ _ _ _ c.emit_answer.ensures.grows c.emit_answer-2.ensures.grows)
+
+pub returns-clause-waits : goal.returns-clause-waits
+returns-clause-waits g c n apart w = c.emit_answer-2.ensures.waits n (λ o. apart (inl o)) (c.emit_answer.ensures.waits n (λ o. apart (inr o)) w)

@@ -1,0 +1,59 @@
+use Rattle.std.proofs.Common.{sym, subst, ap, ◌∙◌, inl, inr, arith}
+use Rattle.net_parts.specs.Laws.{grows_twice, grows_fewer}
+use Rattle.link_core.proofs.chain.ChainLink.emit_command.Goals as goal
+
+pub returns-clause-kept : goal.returns-clause-kept
+returns-clause-kept g c = record {
+  first = g.met.A.Link.kept_lasts _ _ _ _ c.in_ok-middle.ensures.kept c.emit_command-2.ensures.grows.extends (λ n o. c.emit_command-2.ensures.waits n);
+  second = c.in_ok-to.ensures.kept;
+  apart = λ n o p. (let before = c.in_ok-middle.ensures.owned n o in let behind = c.in_ok-to.ensures.owned n p in omega arith);
+}
+
+pub returns-clause-owned : goal.returns-clause-owned
+returns-clause-owned g c n o =
+    elim o [
+      | inl p ↦ (let at = c.in_ok-middle.ensures.owned n p in let more = c.emit_command-2.ensures.grows.extends.count in (at.0, omega arith))
+      | inr p ↦ (let at = c.in_ok-to.ensures.owned n p in let more = c.emit_command.ensures.grows.extends.count in (omega arith, at.1))
+    ]
+
+pub returns-clause-made : goal.returns-clause-made
+returns-clause-made g c = record {
+  middle = c.in_ok-middle.middle;
+  first = g.met.A.Link.command_lasts _ _ _ _ _ _ c.in_ok-middle.ensures.made c.emit_command-2.ensures.grows.extends;
+  second = c.in_ok-to.ensures.made;
+}
+
+pub returns-clause-own_wait : goal.returns-clause-own_wait
+returns-clause-own_wait g c n o =
+    elim o [
+      | inl p ↦ c.emit_command-2.ensures.waits n (c.in_ok-middle.ensures.own_wait n p)
+      | inr p ↦ c.in_ok-to.ensures.own_wait n p
+    ]
+
+pub emit_command-requires-2-clause-widths : goal.emit_command-requires-2-clause-widths
+emit_command-requires-2-clause-widths g c = subst (g.B.Link.takes c.args.self.now.second) (sym c.in_ok-middle.ensures.widths) c.requires.widths.1
+
+pub returns-in_err-middle-clause-grows : goal.returns-in_err-middle-clause-grows
+returns-in_err-middle-clause-grows g c = grows_fewer _ _ _ _ (omega arith) c.emit_command.ensures.grows
+
+pub returns-in_err-to-clause-grows : goal.returns-in_err-to-clause-grows
+returns-in_err-to-clause-grows g c = grows_twice _ _ _ _ _ c.emit_command.ensures.grows c.emit_command-2.ensures.grows
+
+pub returns-in_err-to-clause-waits : goal.returns-in_err-to-clause-waits
+returns-in_err-to-clause-waits g c n w = c.emit_command-2.ensures.waits n (c.emit_command.ensures.waits n w)
+
+pub returns-clause-widths : goal.returns-clause-widths
+returns-clause-widths g c = c.in_ok-to.ensures.widths ∙ ap (g.B.Link.gives c.args.self.now.second) c.in_ok-middle.ensures.widths
+
+pub returns-clause-grows : goal.returns-clause-grows
+returns-clause-grows g c = grows_twice _ _ _ _ _ c.emit_command.ensures.grows c.emit_command-2.ensures.grows
+
+pub returns-clause-waits : goal.returns-clause-waits
+returns-clause-waits g c n w = c.emit_command-2.ensures.waits n (c.emit_command.ensures.waits n w)
+
+pub returns-clause-newly : goal.returns-clause-newly
+returns-clause-newly g c n w =
+    elim (c.in_ok-to.ensures.newly n w) [
+      | inl before ↦ elim (c.in_ok-middle.ensures.newly n before) [ inl old ↦ inl old | inr own ↦ inr (inl own) ]
+      | inr own ↦ inr (inr own)
+    ]

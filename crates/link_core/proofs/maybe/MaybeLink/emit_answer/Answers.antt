@@ -1,0 +1,35 @@
+use Rattle.std.proofs.Common.{◌+◌, ◌^◌, ◌<◌, length, sym, subst}
+use Rattle.std.specs.Prelude.{Some, IsSomeAnd, unwrap_or, option_map}
+use Rattle.net_parts.specs.Growth.{GrowsBy, WaitsWithout}
+use Rattle.net_parts.specs.Laws.{if_ok, on_ok}
+use Rattle.netlist.specs.Nets.{NetValue}
+use Rattle.command_nets.specs.declared.nets.AnswerNets.{AnswerNets}
+use Rattle.link_core.specs.MaybeNets.{kept_of, answer_of}
+use Rattle.link_core.proofs.maybe.MaybeLink.emit_answer.Goals as goal
+
+pub emit_answer-requires-clause-kept : goal.emit_answer-requires-clause-kept
+emit_answer-requires-clause-kept g c =
+    subst (λ kept. kept_of g.L.Link.is_kept (Some c.in-Some.link) kept c.args.builder.now) c.unwrap.ensures
+    (subst (λ link. kept_of g.L.Link.is_kept link c.args.kept c.args.builder.now) c.in-Some.is c.requires.kept)
+
+pub returns-in-Some-clause-made : goal.returns-in-Some-clause-made
+returns-in-Some-clause-made g c =
+    if_ok c.emit_answer.result _ (λ (p : NetValue × AnswerNets). answer_of g.L.Link.answer_in c.args.self.now.link c.args.kept c.args.wait c.args.answer p.0 p.1 c.emit_answer.new.builder)
+    (λ p made. subst (λ link. answer_of g.L.Link.answer_in link c.args.kept c.args.wait c.args.answer p.0 p.1 c.emit_answer.new.builder) (sym c.in-Some.is)
+    (subst (λ kept. answer_of g.L.Link.answer_in (Some c.in-Some.link) kept c.args.wait c.args.answer p.0 p.1 c.emit_answer.new.builder) (sym c.unwrap.ensures) made))
+    c.emit_answer.ensures.made
+
+pub returns-in-Some-clause-grows : goal.returns-in-Some-clause-grows
+returns-in-Some-clause-grows g c = subst (λ link. GrowsBy (unwrap_or (option_map g.L.Link.answer_nets link) 0) c.args.builder.now c.emit_answer.new.builder) (sym c.in-Some.is) c.emit_answer.ensures.grows
+
+pub returns-in-Some-clause-waits : goal.returns-in-Some-clause-waits
+returns-in-Some-clause-waits g c n apart w = c.emit_answer.ensures.waits n (λ o. apart (subst (λ kept. IsSomeAnd kept (λ held. g.L.Link.owns held n)) (sym c.unwrap.ensures) o)) w
+
+pub returns-in-Some-clause-no_more_wait : goal.returns-in-Some-clause-no_more_wait
+returns-in-Some-clause-no_more_wait g c =
+    on_ok c.emit_answer.result _ (WaitsWithout (λ n. IsSomeAnd c.args.kept (λ held. g.L.Link.owns held n)) c.args.builder.now c.emit_answer.new.builder)
+    (λ out n w. (let set = out n w in (set.0, λ o. set.1 (subst (λ kept. IsSomeAnd kept (λ held. g.L.Link.owns held n)) c.unwrap.ensures o))))
+    c.emit_answer.ensures.no_more_wait
+
+pub returns-in-Some-clause-full : goal.returns-in-Some-clause-full
+returns-in-Some-clause-full g c e = subst (λ link. 2 ^ 20 < length c.args.builder.now.lines + unwrap_or (option_map g.L.Link.answer_nets link) 0) (sym c.in-Some.is) (c.emit_answer.ensures.full e)

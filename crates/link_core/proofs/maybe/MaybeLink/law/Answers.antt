@@ -1,0 +1,17 @@
+use Rattle.std.proofs.Common.{subst}
+use Rattle.command_nets.specs.Nets.{port_in}
+use Rattle.link_core.specs.Form.{KeepsLaw}
+use Rattle.link_core.specs.MaybeNets.{form_of, command_of, answer_of}
+use Rattle.link_core.proofs.Between.{pass_between, of_some}
+use Rattle.link_core.proofs.maybe.MaybeLink.law.Goals as goal
+
+pub returns-in-None-clause-keeps : goal.returns-in-None-clause-keeps
+returns-in-None-clause-keeps g c form from to kept wait up answer back netlist p f b run endless end =
+    pass_between form from to wait up answer back run end (subst (λ link. form_of g.L.Link.has_form link form) c.in-None.is p) (subst (λ link. command_of g.L.Link.command_in link from to kept netlist) c.in-None.is f)
+    (subst (λ link. answer_of g.L.Link.answer_in link kept wait answer up back netlist) c.in-None.is b) c.pass_is_a_link.ensures.link
+
+pub returns-in-Some-clause-keeps : goal.returns-in-Some-clause-keeps
+returns-in-Some-clause-keeps g c form from to kept wait up answer back netlist p f b run endless end =
+    of_some g.L.Link.command_in g.L.Link.answer_in c.in-Some.link from to kept wait up answer back netlist (KeepsLaw form (port_in form.up run from up back) (port_in form.down run to wait answer) end)
+    (λ held x y. c.law.ensures.keeps form from to held wait up answer back netlist (subst (λ link. form_of g.L.Link.has_form link form) c.in-Some.is p) x y run endless end)
+    (subst (λ link. command_of g.L.Link.command_in link from to kept netlist) c.in-Some.is f) (subst (λ link. answer_of g.L.Link.answer_in link kept wait answer up back netlist) c.in-Some.is b)

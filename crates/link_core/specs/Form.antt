@@ -1,0 +1,26 @@
+-- What a link keeps, between its two sides.
+use Rattle.std.specs.Prelude.{◌≡◌, ℕ, ◌*◌, ◌≤◌, ◌||◌, IsTrue}
+use Rattle.mm_runs.specs.Views.{Shape}
+use Rattle.mm_runs.specs.Operations.{pieces}
+use Rattle.mm_machines.specs.Link.{Port}
+use Rattle.mm_links.specs.Links.{LinkForm, IsLink, chain_form}
+
+-- the shapes of both sides, and what differs among links
+pub record Form : Type 0 where
+  pub up : Shape
+  pub down : Shape
+  pub link : LinkForm
+
+-- all that a link promises, in the cycles before `end`
+abbrev pub KeepsLaw : Form → Port → Port → ℕ → Type 0
+KeepsLaw form up down end = IsLink form.link up down end
+
+abbrev pub form_of_chain : Form → Form → Form
+form_of_chain first second = record { up = first.up; down = second.down; link = chain_form first.link second.link }
+
+-- the forms of two links, one behind the other, fit: for one agent, no more pieces, and all but one are word for word
+pub record FormsFit (first second : Form) : Type 0 where
+  pub same_side : first.down ≡ second.up
+  pub target : first.link.target ≡ second.link.target
+  pub pieces : pieces first.down second.down * pieces first.up first.down ≤ pieces first.up second.down
+  pub words : IsTrue (first.link.word_for_word || second.link.word_for_word)

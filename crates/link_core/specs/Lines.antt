@@ -1,0 +1,18 @@
+-- The line of a pipe: commands and words go on unchanged with their tags, so many cycles later.
+use Rattle.std.specs.Prelude.{◌≡◌, ℕ, ◌+◌}
+use Rattle.mm_runs.specs.Views.{System}
+use Rattle.mm_machines.specs.Link.{Port}
+use Rattle.mm_machines.specs.Lines.{TaggedPort, IsPipeLine}
+use Rattle.link_core.specs.Form.{Form}
+
+abbrev pub tagged_port : Port → (ℕ → ℕ) → TaggedPort
+tagged_port port tag = record { port = port; answer_tag = tag }
+
+-- the tag of an answer goes through so many registers
+abbrev pub IsLater : ℕ → (ℕ → ℕ) → (ℕ → ℕ) → Type 0
+IsLater stages tag later = (c : ℕ) → later (stages + c) ≡ tag c
+
+-- the line between these ports, whatever tags the answers bear
+abbrev pub KeepsLine : ℕ → Form → Port → Port → Type 0
+KeepsLine stages form up down =
+    (system : System) (agent end : ℕ) (tag later : ℕ → ℕ) → IsLater stages tag later → IsPipeLine system agent form.link.hold stages (tagged_port up later) (tagged_port down tag) end

@@ -1,0 +1,32 @@
+-- Links that are begun: what each one has left stands in the netlist, and their registers are apart.
+use Rattle.std.specs.Prelude.{ℕ, List, [], ◌∷◌}
+use Rattle.netlist.specs.Nets.{NetValue}
+use Rattle.netlist.specs.Netlists.{Netlist, IsWaiting}
+use Rattle.netlist.specs.Runs.{Run, IsEndlessRun}
+use Rattle.netlist.specs.Longer.{Extends}
+use Rattle.command_nets.specs.Nets.{port_in}
+use Rattle.link_core.specs.Form.{Form, KeepsLaw}
+use Rattle.command_nets.specs.declared.nets.CommandNets.{CommandNets}
+use Rattle.command_nets.specs.declared.nets.AnswerNets.{AnswerNets}
+use Rattle.link_core.specs.declared.row.Begun.{Begun}
+
+module _ {L H : Type 0} (is_kept : L → H → Netlist → Type 0) (command_in : L → CommandNets → CommandNets → H → Netlist → Type 0) (owns : H → ℕ → Type 0) where
+  -- a link is begun: it has made its command, and its registers wait
+  pub record IsBegun (begun : Begun L H) (netlist : Netlist) : Type 0 where
+    pub kept : is_kept begun.link begun.kept netlist
+    pub made : command_in begun.link begun.from begun.to begun.kept netlist
+    pub waits : (n : ℕ) → owns begun.kept n → IsWaiting netlist n
+
+  -- a link's registers are none of the others'
+  abbrev pub IsApart : Begun L H → List (Begun L H) → Type 0
+  IsApart begun [] = Unit {0}
+  IsApart begun (other ∷ others) = ((n : ℕ) → owns begun.kept n → ¬ owns other.kept n) × IsApart begun others
+
+  abbrev pub AreBegun : List (Begun L H) → Netlist → Type 0
+  AreBegun [] netlist = Unit {0}
+  AreBegun (begun ∷ others) netlist = IsBegun begun netlist × (IsApart begun others × AreBegun others netlist)
+
+-- in each endless run of each longer netlist the law is kept between these nets
+abbrev pub KeepsInLonger : Form → Netlist → CommandNets → NetValue → AnswerNets → CommandNets → NetValue → AnswerNets → Type 0
+KeepsInLonger form netlist from up back to wait answer =
+    (longer : Netlist) → Extends netlist longer → (run : Run) → IsEndlessRun longer run → (end : ℕ) → KeepsLaw form (port_in form.up run from up back) (port_in form.down run to wait answer) end

@@ -1,0 +1,20 @@
+//! Links of a command path as equations: what each one appends, and the law that it keeps.
+#![tactic(auto)]
+
+pub mod chain;
+pub mod delay;
+pub mod link;
+pub mod maybe;
+pub mod pass;
+pub mod pipe;
+pub mod row;
+pub mod stage;
+
+pub use chain::Chain;
+pub use delay::Delay;
+pub use link::Link;
+pub use maybe::Maybe;
+pub use pass::Pass;
+pub use pipe::{Pipe, pipe_of};
+pub use row::{Begun, begin_link, finish_link};
+pub use stage::PipeStage;
