@@ -10,9 +10,11 @@ use Rattle.command_nets.specs.declared.nets.CommandNets.{CommandNets}
 use Rattle.command_nets.specs.declared.nets.AnswerNets.{AnswerNets}
 use Rattle.command_nets.specs.Nets.{port_in}
 use Rattle.link_core.specs.Form.{Form, FormsFit, KeepsLaw, form_of_chain}
+use Rattle.link_core.specs.ChainNets.{HasMiddle}
 use Rattle.link_core.specs.MaybeNets.{command_of, answer_of}
 use Rattle.link_core.specs.PassNets.{IsPassForm}
 use Rattle.mm_links.specs.Links as links
+use Rattle.link_core.proofs.AlikeChain.{alike_chain}
 
 -- ---- a link of no nets
 
@@ -29,20 +31,33 @@ pub pass_between : (form : Form) (from to : CommandNets) (wait up : NetValue) (a
     KeepsLaw form (port_in form.up run from up back) (port_in form.down run to wait answer) end
 pass_between form from to wait up answer back run end p f b law =
     at_pass (λ above below. KeepsLaw form above below end) form from to wait up answer back run p f b
-    (subst (λ (f : LinkForm). IsLink f (port_in form.up run from wait answer) (port_in form.up run from wait answer) end) (sym p.is) (law form.link.target (port_in form.up run from wait answer) end p.some))
+    (λ alike. subst (λ (f : LinkForm). IsLink f (port_in form.up run from wait answer) (port_in form.up run from wait answer) end) (sym p.is) (law form.link.target (port_in form.up run from wait answer) end p.some))
 
 -- ---- two in a row
 
-pub chain_between : (first second form : Form) (run : Run) (from middle to : CommandNets) (up between wait : NetValue) (back inner answer : AnswerNets) (end : ℕ) → form ≡ form_of_chain first second → FormsFit first second →
+pub chain_between : (first second form : Form) (run : Run) (from middle to : CommandNets) (up between wait : NetValue) (back inner answer : AnswerNets) → form ≡ form_of_chain first second → FormsFit first second →
     ((first second : LinkForm) (up middle down : Port) (end : ℕ) → links.FormsFit first second up middle down → IsLink first up middle end → IsLink second middle down end → IsLink (chain_form first second) up down end) →
-    KeepsLaw first (port_in first.up run from up back) (port_in first.down run middle between inner) end →
-    KeepsLaw second (port_in second.up run middle between inner) (port_in second.down run to wait answer) end →
-    KeepsLaw form (port_in form.up run from up back) (port_in form.down run to wait answer) end
-chain_between first second form run from middle to up between wait back inner answer end is fit chain one two =
-    subst (λ (f : Form). KeepsLaw f (port_in f.up run from up back) (port_in f.down run to wait answer) end) (sym is)
-    (chain first.link second.link (port_in first.up run from up back) (port_in first.down run middle between inner) (port_in second.down run to wait answer) end
-    (record { target = fit.target; pieces = fit.pieces; words = fit.words }) one
-    (subst (λ (s : Shape). KeepsLaw second (port_in s run middle between inner) (port_in second.down run to wait answer) end) (sym fit.same_side) two))
+    ((end : ℕ) → KeepsLaw first (port_in first.up run from up back) (port_in first.down run middle between inner) end) →
+    ((end : ℕ) → KeepsLaw second (port_in second.up run middle between inner) (port_in second.down run to wait answer) end) →
+    (end : ℕ) → KeepsLaw form (port_in form.up run from up back) (port_in form.down run to wait answer) end
+chain_between first second form run from middle to up between wait back inner answer is fit chain one two =
+    subst (λ (f : Form). (end : ℕ) → KeepsLaw f (port_in f.up run from up back) (port_in f.down run to wait answer) end) (sym is)
+    (alike_chain first.link second.link (port_in first.up run from up back) (port_in first.down run middle between inner) (port_in second.down run to wait answer)
+    (record { target = fit.target; pieces = fit.pieces; words = fit.words }) chain one
+    (subst (λ (s : Shape). (end : ℕ) → KeepsLaw second (port_in s run middle between inner) (port_in second.down run to wait answer) end) (sym fit.same_side) two))
+
+pub row_between : (first second form : Form) (run : Run) (from middle to : CommandNets) (up between wait : NetValue) (back inner answer : AnswerNets) (firsts seconds : Target → Port → Port → Type 0) → form ≡ form_of_chain first second → FormsFit first second →
+    firsts first.link.target (port_in first.up run from up back) (port_in first.down run middle between inner) →
+    seconds second.link.target (port_in second.up run middle between inner) (port_in second.down run to wait answer) →
+    HasMiddle (λ port. firsts form.link.target (port_in form.up run from up back) port) (λ port. seconds form.link.target port (port_in form.down run to wait answer))
+row_between first second form run from middle to up between wait back inner answer firsts seconds is fit one two =
+    subst (λ (f : Form). HasMiddle (λ port. firsts f.link.target (port_in f.up run from up back) port) (λ port. seconds f.link.target port (port_in f.down run to wait answer))) (sym is)
+    (record {
+      middle = port_in first.down run middle between inner;
+      first = one;
+      second = subst (λ (s : Shape). seconds first.link.target (port_in s run middle between inner) (port_in second.down run to wait answer)) (sym fit.same_side)
+          (subst (λ (t : Target). seconds t (port_in second.up run middle between inner) (port_in second.down run to wait answer)) (sym fit.target) two);
+    })
 
 -- ---- a link where one is needed
 

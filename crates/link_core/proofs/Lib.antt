@@ -1,3 +1,4 @@
+mod AlikeChain
 mod Between
 mod LineBetween
 mod Raised

@@ -15,7 +15,7 @@ use Rattle.link_core.specs.declared.stage.StageKept.{StageKept}
 use Rattle.command_nets.specs.Nets.{raw_in, command_view, answer_view, port_in, ShowSame}
 use Rattle.link_core.specs.Form.{Form, KeepsLaw}
 use Rattle.command_nets.specs.Groups.{IsOfCommand, is_shown, hidden, nothing_shown, same_shown}
-use Rattle.link_core.specs.StageNets.{IsStageForm, StageCommand, StageAnswer, is_standing, coming_in}
+use Rattle.link_core.specs.StageNets.{IsStageForm, RunsAsPipeStage, StageCommand, StageAnswer, is_standing, coming_in}
 
 -- ---- the machine
 
@@ -168,8 +168,19 @@ pub stage_between : (form : Form) (from to : CommandNets) (kept : StageKept) (wa
 stage_between form from to kept wait up answer back netlist run end p f b endless law =
     subst (λ (s : Shape). KeepsLaw form (port_in form.up run from up back) (port_in s run to wait answer) end) (sym p.same)
     (at_kept from to kept netlist (λ x y. KeepsLaw form (port_in form.up run x up back) (port_in form.up run y wait answer) end) f
-    (λ here. subst (λ (l : LinkForm). IsLink l (port_in form.up run kept.from up back) (port_in form.up run kept.first wait answer) end) (sym p.is)
+    (λ here alike. subst (λ (l : LinkForm). IsLink l (port_in form.up run kept.from up back) (port_in form.up run kept.first wait answer) end) (sym p.is)
     (law (sides_in form.up run kept wait answer up back) (runs_as_pipe kept wait answer up back netlist here b run endless form.up) form.link.target end p.some)))
+
+pub stage_runs_between : (form : Form) (from to : CommandNets) (kept : StageKept) (wait up : NetValue) (answer back : AnswerNets) (netlist : Netlist) (run : Run) → IsStageForm form → StageCommand from to kept netlist → StageAnswer kept wait answer up back netlist → IsEndlessRun netlist run →
+    RunsAsPipeStage (port_in form.up run from up back) (port_in form.down run to wait answer)
+stage_runs_between form from to kept wait up answer back netlist run p f b endless =
+    subst (λ (s : Shape). RunsAsPipeStage (port_in form.up run from up back) (port_in s run to wait answer)) (sym p.same)
+    (at_kept from to kept netlist (λ x y. RunsAsPipeStage (port_in form.up run x up back) (port_in form.up run y wait answer)) f
+    (λ here. record {
+      queue = λ c. queue_of (raw_in (cycle_of run c) kept.first) (raw_in (cycle_of run c) kept.second);
+      runs = is_stage_run kept wait answer up back netlist here b run endless form.up;
+      opens = opens kept wait answer up back netlist here b run endless;
+    }))
 
 pub stage_ignores : (from to : CommandNets) (kept : StageKept) (netlist : Netlist) (one other : Cycle) → StageCommand from to kept netlist → ((n : ℕ) → IsOfCommand kept.first n ⊎ IsOfCommand kept.second n → one.net n ≡ other.net n) → ShowSame to one other
 stage_ignores from to kept netlist one other f state =

@@ -2,7 +2,6 @@
 use Rattle.std.specs.Prelude.{◌≡◌, ℕ}
 use Rattle.netlist.specs.Nets.{NetValue}
 use Rattle.netlist.specs.Netlists.{Netlist}
-use Rattle.command_nets.specs.declared.nets.CommandNets.{CommandNets}
 use Rattle.command_nets.specs.declared.nets.AnswerNets.{AnswerNets}
 use Rattle.link_core.specs.Form.{Form, FormsFit, form_of_chain}
 
@@ -21,9 +20,9 @@ pub record AreBothKept (one two : Netlist → Type 0) (ones twos : ℕ → Type 
   pub second : two netlist
   pub apart : (n : ℕ) → ones n → ¬ twos n
 
--- between the two parts there is a command that the first leads to and the second starts from
-pub record HasMiddle (before behind : CommandNets → Type 0) : Type 0 where
-  pub middle : CommandNets
+-- between the two parts there is something that the first leads to and the second starts from
+pub record HasMiddle {X : Type 0} (before behind : X → Type 0) : Type 0 where
+  pub middle : X
   pub first : before middle
   pub second : behind middle
 

@@ -3,6 +3,7 @@ use Rattle.std.specs.Prelude.{◌≡◌, ℕ, ◌*◌, ◌≤◌, ◌||◌, IsTr
 use Rattle.mm_runs.specs.Views.{Shape}
 use Rattle.mm_runs.specs.Operations.{pieces}
 use Rattle.mm_machines.specs.Link.{Port}
+use Rattle.mm_machines.specs.PartRanks.{JoinsAlike}
 use Rattle.mm_links.specs.Links.{LinkForm, IsLink, chain_form}
 
 -- the shapes of both sides, and what differs among links
@@ -11,9 +12,9 @@ pub record Form : Type 0 where
   pub down : Shape
   pub link : LinkForm
 
--- all that a link promises, in the cycles before `end`
+-- all that a link promises, in the cycles before `end`. Joined commands above it are alike, as they are behind a route
 abbrev pub KeepsLaw : Form → Port → Port → ℕ → Type 0
-KeepsLaw form up down end = IsLink form.link up down end
+KeepsLaw form up down end = JoinsAlike form.link.target up end → IsLink form.link up down end
 
 abbrev pub form_of_chain : Form → Form → Form
 form_of_chain first second = record { up = first.up; down = second.down; link = chain_form first.link second.link }

@@ -5,6 +5,7 @@ use Rattle.netlist.specs.Netlists.{Netlist, IsWaiting}
 use Rattle.netlist.specs.Longer.{Extends}
 use Rattle.command_nets.specs.declared.nets.CommandNets.{CommandNets}
 use Rattle.command_nets.specs.declared.nets.AnswerNets.{AnswerNets}
+use Rattle.mm_machines.specs.Link.{Target, Port}
 use Rattle.link_core.specs.Form.{Form}
 use Rattle.link_core.specs.PassNets.{IsPassForm}
 
@@ -12,6 +13,11 @@ use Rattle.link_core.specs.PassNets.{IsPassForm}
 abbrev pub form_of : {L : Type 0} → (L → Form → Type 0) → Option L → Form → Type 0
 form_of forms (Some link) form = forms link form
 form_of forms None form = IsPassForm form
+
+-- and it does what the part does, or passes all on
+abbrev pub runs_of : {L : Type 0} → (L → Target → Port → Port → Type 0) → Option L → Target → Port → Port → Type 0
+runs_of runs (Some link) target up down = runs link target up down
+runs_of runs None target up down = up ≡ down
 
 -- between the calls the part keeps what it does, and without a part nothing is kept
 abbrev pub kept_of : {L H : Type 0} → (L → H → Netlist → Type 0) → Option L → Option H → Netlist → Type 0

@@ -5,6 +5,7 @@ use Rattle.netlist.specs.Netlists.{Netlist, IsWaiting}
 use Rattle.netlist.specs.Runs.{Run, IsEndlessRun}
 use Rattle.netlist.specs.Longer.{Extends}
 use Rattle.command_nets.specs.Nets.{port_in}
+use Rattle.mm_machines.specs.Link.{Target, Port}
 use Rattle.link_core.specs.Form.{Form, KeepsLaw}
 use Rattle.command_nets.specs.declared.nets.CommandNets.{CommandNets}
 use Rattle.command_nets.specs.declared.nets.AnswerNets.{AnswerNets}
@@ -25,6 +26,11 @@ module _ {L H : Type 0} (is_kept : L → H → Netlist → Type 0) (command_in :
   abbrev pub AreBegun : List (Begun L H) → Netlist → Type 0
   AreBegun [] netlist = Unit {0}
   AreBegun (begun ∷ others) netlist = IsBegun begun netlist × (IsApart begun others × AreBegun others netlist)
+
+-- in each endless run of each longer netlist the machine runs between these nets
+abbrev pub RunsInLonger : (Target → Port → Port → Type 0) → Form → Netlist → CommandNets → NetValue → AnswerNets → CommandNets → NetValue → AnswerNets → Type 0
+RunsInLonger runs form netlist from up back to wait answer =
+    (longer : Netlist) → Extends netlist longer → (run : Run) → IsEndlessRun longer run → runs form.link.target (port_in form.up run from up back) (port_in form.down run to wait answer)
 
 -- in each endless run of each longer netlist the law is kept between these nets
 abbrev pub KeepsInLonger : Form → Netlist → CommandNets → NetValue → AnswerNets → CommandNets → NetValue → AnswerNets → Type 0

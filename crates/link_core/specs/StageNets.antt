@@ -1,5 +1,5 @@
 -- A pipeline stage of two places: what its two calls leave in a netlist.
-use Rattle.std.specs.Prelude.{◌≡◌, ℕ, ◌+◌, ◌<◌, ◌⊎◌, Bool, ◌&&◌, if◌then◌else◌}
+use Rattle.std.specs.Prelude.{◌≡◌, ℕ, ◌+◌, ◌<◌, ◌⊎◌, Bool, false, ◌&&◌, List, length, if◌then◌else◌}
 use Rattle.std.proofs.Common.{inl, inr}
 use Rattle.histories.specs.History.{is_raised}
 use Rattle.netlist.specs.Nets.{NetValue}
@@ -7,7 +7,8 @@ use Rattle.netlist.specs.Netlists.{Netlist, IsWaiting}
 use Rattle.netlist.specs.Runs.{Cycle, Run, cycle_of, IsRun, Always}
 use Rattle.netlist.specs.Longer.{Extends}
 use Rattle.net_parts.specs.Groups.{AreWaiting}
-use Rattle.mm_machines.specs.Machines.{Raw}
+use Rattle.mm_machines.specs.Link.{Port}
+use Rattle.mm_machines.specs.Machines.{Raw, IsStageRun}
 use Rattle.mm_links.specs.Pipes.{stage_form}
 use Rattle.command_nets.specs.declared.nets.CommandNets.{CommandNets}
 use Rattle.command_nets.specs.declared.nets.AnswerNets.{AnswerNets}
@@ -21,6 +22,12 @@ pub record IsStageForm (form : Form) : Type 0 where
   pub same : form.down ≡ form.up
   pub is : form.link ≡ stage_form form.link.target
   pub some : 0 < form.up.word_bytes
+
+-- what it does: a queue of two beats for commands, which waits only when full, and a register for answers
+pub record RunsAsPipeStage (up down : Port) : Type 0 where
+  pub queue : ℕ → List Raw
+  pub runs : IsStageRun 2 up down queue
+  pub opens : (c : ℕ) → length (queue c) < 2 → is_raised (up.commands.waitrequest c) ≡ false
 
 -- the command that is shown stands on
 abbrev pub is_standing : Cycle → CommandNets → NetValue → Bool

@@ -24,6 +24,8 @@ impl<A: Link, B: Link> Link for Chain<A, B> {
 
     ghost has_form = { λ s form. IsChainOf (A.has_form s.first) (B.has_form s.second) form };
 
+    ghost runs = { λ s target up down. HasMiddle (λ middle. A.runs s.first target up middle) (λ middle. B.runs s.second target middle down) };
+
     ghost takes = { λ s widths. A.takes s.first widths × B.takes s.second (A.gives s.first widths) };
 
     ghost gives = { λ s widths. B.gives s.second (A.gives s.first widths) };

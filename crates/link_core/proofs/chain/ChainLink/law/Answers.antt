@@ -1,12 +1,18 @@
 use Rattle.std.proofs.Common.{inl, inr}
-use Rattle.link_core.proofs.Between.{chain_between}
+use Rattle.link_core.proofs.Between.{chain_between, row_between}
 use Rattle.link_core.proofs.chain.ChainLink.law.Goals as goal
 
 pub returns-clause-keeps : goal.returns-clause-keeps
-returns-clause-keeps g c form from to kept wait up answer back netlist p f b run endless end =
-    chain_between p.first p.second form run from f.middle to up b.wait wait back b.answer answer end p.is p.fit c.chain_is_a_link.ensures
-    (c.law.ensures.keeps p.first from f.middle kept.0 b.wait up b.answer back netlist p.first_has f.first b.first run endless end)
-    (c.law-2.ensures.keeps p.second f.middle to kept.1 wait b.wait answer b.answer netlist p.second_has f.second b.second run endless end)
+returns-clause-keeps g c form from to kept wait up answer back netlist p f b run endless =
+    chain_between p.first p.second form run from f.middle to up b.wait wait back b.answer answer p.is p.fit c.chain_is_a_link.ensures
+    (c.law.ensures.keeps p.first from f.middle kept.0 b.wait up b.answer back netlist p.first_has f.first b.first run endless)
+    (c.law-2.ensures.keeps p.second f.middle to kept.1 wait b.wait answer b.answer netlist p.second_has f.second b.second run endless)
+
+pub returns-clause-machine : goal.returns-clause-machine
+returns-clause-machine g c form from to kept wait up answer back netlist p f b run endless =
+    row_between p.first p.second form run from f.middle to up b.wait wait back b.answer answer (g.A.Link.runs c.args.self.now.first) (g.B.Link.runs c.args.self.now.second) p.is p.fit
+    (c.law.ensures.machine p.first from f.middle kept.0 b.wait up b.answer back netlist p.first_has f.first b.first run endless)
+    (c.law-2.ensures.machine p.second f.middle to kept.1 wait b.wait answer b.answer netlist p.second_has f.second b.second run endless)
 
 pub returns-clause-ignores_answer : goal.returns-clause-ignores_answer
 returns-clause-ignores_answer g c from to kept netlist f one other v w state same =

@@ -1,5 +1,9 @@
-use Rattle.link_core.proofs.Between.{pass_between}
+use Rattle.std.proofs.Common.{◌≡◌, refl}
+use Rattle.link_core.proofs.Between.{at_pass, pass_between}
 use Rattle.link_core.proofs.pass.PassLink.law.Goals as goal
 
 pub returns-clause-keeps : goal.returns-clause-keeps
 returns-clause-keeps c form from to kept wait up answer back netlist p f b run endless end = pass_between form from to wait up answer back run end p f b c.pass_is_a_link.ensures.link
+
+pub returns-clause-machine : goal.returns-clause-machine
+returns-clause-machine c form from to kept wait up answer back netlist p f b run endless = at_pass (λ above below. above ≡ below) form from to wait up answer back run p f b refl

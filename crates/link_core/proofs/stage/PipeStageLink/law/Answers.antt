@@ -1,4 +1,4 @@
-use Rattle.link_core.proofs.StageLaw.{stage_between, stage_ignores}
+use Rattle.link_core.proofs.StageLaw.{stage_between, stage_runs_between, stage_ignores}
 use Rattle.link_core.proofs.stage.PipeStageLink.law.Goals as goal
 
 pub returns-clause-keeps : goal.returns-clause-keeps
@@ -7,3 +7,6 @@ returns-clause-keeps c form from to kept wait up answer back netlist p f b run e
 
 pub returns-clause-ignores_answer : goal.returns-clause-ignores_answer
 returns-clause-ignores_answer c from to kept netlist f one other v w state same = stage_ignores from to kept netlist one other f state
+
+pub returns-clause-machine : goal.returns-clause-machine
+returns-clause-machine c form from to kept wait up answer back netlist p f b run endless = stage_runs_between form from to kept wait up answer back netlist run p f b endless
