@@ -4,3 +4,4 @@ mod LineBetween
 mod Raised
 mod RowLaw
 mod StageLaw
+mod StagesInRow
