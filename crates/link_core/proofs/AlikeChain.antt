@@ -54,3 +54,13 @@ module _ (first second : LinkForm) (up middle down : Port) (fit : FormsFit first
       by_cycles (chain_form first second) up down end alike (λ c low legal owed. (
       let here : JoinsAlike first.target up c = λ k less. alike k (omega (arith, less, low)) in
       chain first second up middle down c fit (one c here) (two c (settled c here legal owed).alike)))
+
+  -- in the middle, where commands above are legal and joined ones alike, and answers below are owed
+  pub legal_middle : (c : ℕ) → JoinsAlike first.target up c → AreLegalAt up c → AnswersAreOwed down c → AreLegalAt middle c
+  legal_middle c alike legal owed = (settled c alike legal (λ k less. owed k (omega (arith, less)))).legal
+
+  pub alike_middle : (c : ℕ) → JoinsAlike first.target up c → AreLegalAt up c → AnswersAreOwed down c → JoinsAlike second.target middle c
+  alike_middle c alike legal owed = (settled c alike legal (λ k less. owed k (omega (arith, less)))).alike
+
+  pub owed_middle : (c : ℕ) → JoinsAlike first.target up c → AreLegalAt up c → AnswersAreOwed down c → AnswersAreOwed middle c
+  owed_middle c alike legal owed = ((two c (alike_middle c alike legal owed)).row.carries.answers c (le_refl c) (legal_middle c alike legal owed) owed).owed

@@ -5,3 +5,4 @@ mod Raised
 mod RowLaw
 mod StageLaw
 mod StagesInRow
+mod StraightChain

@@ -1,5 +1,5 @@
 -- Two links, one behind the other.
-use Rattle.std.specs.Prelude.{◌≡◌, ℕ}
+use Rattle.std.specs.Prelude.{◌≡◌, ◌<◌, ℕ}
 use Rattle.netlist.specs.Nets.{NetValue}
 use Rattle.netlist.specs.Netlists.{Netlist}
 use Rattle.command_nets.specs.declared.nets.AnswerNets.{AnswerNets}
@@ -13,6 +13,13 @@ pub record IsChainOf (firsts seconds : Form → Type 0) (form : Form) : Type 0 w
   pub fit : FormsFit first second
   pub first_has : firsts first
   pub second_has : seconds second
+
+-- both parts have a law by which they are straight, and all words are those of the agent
+pub record IsStraightChainOf (firsts seconds : Form → Type 0) (form : Form) : Type 0 where
+  pub chain : IsChainOf firsts seconds form
+  pub some : 0 < chain.first.up.word_bytes
+  pub agent : chain.first.link.target.shape.word_bytes ≡ chain.first.up.word_bytes
+  pub between : chain.first.down.word_bytes ≡ chain.first.up.word_bytes
 
 -- both parts are kept, and their registers are apart
 pub record AreBothKept (one two : Netlist → Type 0) (ones twos : ℕ → Type 0) (netlist : Netlist) : Type 0 where

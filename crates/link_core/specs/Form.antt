@@ -1,9 +1,11 @@
 -- What a link keeps, between its two sides.
-use Rattle.std.specs.Prelude.{◌≡◌, ℕ, ◌*◌, ◌≤◌, ◌||◌, IsTrue}
+use Rattle.std.specs.Prelude.{◌≡◌, ℕ, ◌*◌, ◌≤◌, ◌||◌, false, IsTrue}
 use Rattle.mm_runs.specs.Views.{Shape}
 use Rattle.mm_runs.specs.Operations.{pieces}
-use Rattle.mm_machines.specs.Link.{Port}
+use Rattle.mm_machines.specs.Link.{Target, Port, AreLegalAt, AnswersAreOwed}
 use Rattle.mm_machines.specs.PartRanks.{JoinsAlike}
+use Rattle.mm_machines.specs.Straight.{GoesStraightThrough}
+use Rattle.mm_links.specs.InStep.{GoesInStep}
 use Rattle.mm_links.specs.Links.{LinkForm, IsLink, chain_form}
 
 -- the shapes of both sides, and what differs among links
@@ -15,6 +17,15 @@ pub record Form : Type 0 where
 -- all that a link promises, in the cycles before `end`. Joined commands above it are alike, as they are behind a route
 abbrev pub KeepsLaw : Form → Port → Port → ℕ → Type 0
 KeepsLaw form up down end = JoinsAlike form.link.target up end → IsLink form.link up down end
+
+-- plain commands go straight through it, and it goes in step, in the cycles before `end`
+pub record IsStraight (target : Target) (up down : Port) (end : ℕ) : Type 0 where
+  pub straight : GoesStraightThrough (λ c. false) target up down end
+  pub step : GoesInStep false target up down end
+
+-- where commands above are legal and joined ones alike, and answers below are owed
+abbrev pub KeepsStraight : Form → Port → Port → ℕ → Type 0
+KeepsStraight form up down end = AreLegalAt up end → AnswersAreOwed down end → JoinsAlike form.link.target up end → IsStraight form.link.target up down end
 
 abbrev pub form_of_chain : Form → Form → Form
 form_of_chain first second = record { up = first.up; down = second.down; link = chain_form first.link second.link }

@@ -6,7 +6,7 @@ use Rattle.netlist.specs.Runs.{Run, IsEndlessRun}
 use Rattle.netlist.specs.Longer.{Extends}
 use Rattle.command_nets.specs.Nets.{port_in}
 use Rattle.mm_machines.specs.Link.{Target, Port}
-use Rattle.link_core.specs.Form.{Form, KeepsLaw}
+use Rattle.link_core.specs.Form.{Form, KeepsLaw, KeepsStraight}
 use Rattle.command_nets.specs.declared.nets.CommandNets.{CommandNets}
 use Rattle.command_nets.specs.declared.nets.AnswerNets.{AnswerNets}
 use Rattle.link_core.specs.declared.row.Begun.{Begun}
@@ -36,3 +36,8 @@ RunsInLonger runs form netlist from up back to wait answer =
 abbrev pub KeepsInLonger : Form → Netlist → CommandNets → NetValue → AnswerNets → CommandNets → NetValue → AnswerNets → Type 0
 KeepsInLonger form netlist from up back to wait answer =
     (longer : Netlist) → Extends netlist longer → (run : Run) → IsEndlessRun longer run → (end : ℕ) → KeepsLaw form (port_in form.up run from up back) (port_in form.down run to wait answer) end
+
+-- and there it is straight
+abbrev pub StraightInLonger : Form → Netlist → CommandNets → NetValue → AnswerNets → CommandNets → NetValue → AnswerNets → Type 0
+StraightInLonger form netlist from up back to wait answer =
+    (longer : Netlist) → Extends netlist longer → (run : Run) → IsEndlessRun longer run → (end : ℕ) → KeepsStraight form (port_in form.up run from up back) (port_in form.down run to wait answer) end

@@ -3,11 +3,12 @@
 
 ghost use Rattle.std.specs.Prelude.{◌≡◌, ℕ, ◌+◌, ◌⊎◌};
 ghost use Rattle.std.proofs.Common.{inl, inr};
-ghost use Rattle.link_core.specs.ChainNets.{IsChainOf, AreBothKept, HasMiddle, HasMiddleAnswer};
+ghost use Rattle.link_core.specs.ChainNets.{IsChainOf, IsStraightChainOf, AreBothKept, HasMiddle, HasMiddleAnswer};
 
 use crate::link::Link;
 use command_nets::{AnswerNets, CommandNets};
-use mm_links::rows::chain_is_a_link;
+use mm_links::drops::plain_commands_act;
+use mm_links::rows::{chain_is_a_link, chain_is_straight};
 use netlist::{Builder, Net, NetFault};
 
 /// A link of two parts that fit.
@@ -23,6 +24,8 @@ impl<A: Link, B: Link> Link for Chain<A, B> {
     type Held = (A::Held, B::Held);
 
     ghost has_form = { λ s form. IsChainOf (A.has_form s.first) (B.has_form s.second) form };
+
+    ghost is_straight = { λ s form. IsStraightChainOf (λ first. A.has_form s.first first × A.is_straight s.first first) (λ second. B.has_form s.second second × B.is_straight s.second second) form };
 
     ghost runs = { λ s target up down. HasMiddle (λ middle. A.runs s.first target up middle) (λ middle. B.runs s.second target middle down) };
 
@@ -74,6 +77,8 @@ impl<A: Link, B: Link> Link for Chain<A, B> {
         self.first.law();
         self.second.law();
         chain_is_a_link();
+        chain_is_straight();
+        plain_commands_act();
     }
 
     ghost kept_lasts = { λ s kept old new h e w. record {

@@ -2,7 +2,7 @@ use Rattle.net_parts.specs.Laws.{extends_twice, if_ok}
 use Rattle.netlist.specs.Nets.{NetValue}
 use Rattle.command_nets.specs.declared.nets.AnswerNets.{AnswerNets}
 use Rattle.link_core.specs.Form.{Form}
-use Rattle.link_core.specs.Rows.{KeepsInLonger, RunsInLonger}
+use Rattle.link_core.specs.Rows.{KeepsInLonger, RunsInLonger, StraightInLonger}
 use Rattle.link_core.proofs.RowLaw.{begun_last, begun_front, on_any}
 use Rattle.link_core.proofs.row.finish_link.Goals as goal
 
@@ -35,4 +35,15 @@ returns-clause-machine g c =
     c.law.ensures.machine form c.args.one.from c.args.one.to c.args.one.kept c.args.wait p.0 c.args.answer p.1 longer has
     (g.met.L.Link.command_lasts _ _ _ _ _ _ begun.made (extends_twice _ _ _ c.emit_answer.ensures.grows.extends e))
     (g.met.L.Link.answer_lasts _ _ _ _ _ _ _ _ made e) run endless))
+    c.emit_answer.ensures.made
+
+pub returns-clause-straight : goal.returns-clause-straight
+returns-clause-straight g c =
+    if_ok c.emit_answer.result _
+    (λ (p : NetValue × AnswerNets). (form : Form) → g.L.Link.is_straight c.args.one.link form → StraightInLonger form c.emit_answer.new.builder c.args.one.from p.0 p.1 c.args.one.to c.args.wait c.args.answer)
+    (λ p made form has longer e run endless end. (
+    let begun = begun_last g.L.Link.is_kept g.L.Link.command_in g.L.Link.owns g.met.L.Link.kept_lasts g.met.L.Link.command_lasts c.args.others.now c.args.one c.args.builder.now c.requires.begun in
+    c.law.ensures.straight form c.args.one.from c.args.one.to c.args.one.kept c.args.wait p.0 c.args.answer p.1 longer has
+    (g.met.L.Link.command_lasts _ _ _ _ _ _ begun.made (extends_twice _ _ _ c.emit_answer.ensures.grows.extends e))
+    (g.met.L.Link.answer_lasts _ _ _ _ _ _ _ _ made e) run endless end))
     c.emit_answer.ensures.made

@@ -1,5 +1,6 @@
 use Rattle.std.proofs.Common.{inl, inr}
 use Rattle.link_core.proofs.Between.{chain_between, row_between}
+use Rattle.link_core.proofs.StraightChain.{straight_between}
 use Rattle.link_core.proofs.chain.ChainLink.law.Goals as goal
 
 pub returns-clause-keeps : goal.returns-clause-keeps
@@ -18,3 +19,11 @@ pub returns-clause-ignores_answer : goal.returns-clause-ignores_answer
 returns-clause-ignores_answer g c from to kept netlist f one other v w state same =
     c.law-2.ensures.ignores_answer f.middle to kept.1 netlist f.second one other v w (λ n o. state n (inr o))
     (c.law.ensures.ignores_answer from f.middle kept.0 netlist f.first one other v w (λ n o. state n (inl o)) same)
+
+pub returns-clause-straight : goal.returns-clause-straight
+returns-clause-straight g c form from to kept wait up answer back netlist p f b run endless =
+    straight_between (record { chain = c.chain_is_a_link.ensures; straight = c.chain_is_straight.ensures.straight; step = c.chain_is_straight.ensures.step; acts = c.plain_commands_act.ensures }) form run from f.middle to up b.wait wait back b.answer answer _ _ p
+    (c.law.ensures.keeps p.chain.first from f.middle kept.0 b.wait up b.answer back netlist p.chain.first_has.0 f.first b.first run endless)
+    (c.law-2.ensures.keeps p.chain.second f.middle to kept.1 wait b.wait answer b.answer netlist p.chain.second_has.0 f.second b.second run endless)
+    (c.law.ensures.straight p.chain.first from f.middle kept.0 b.wait up b.answer back netlist p.chain.first_has.1 f.first b.first run endless)
+    (c.law-2.ensures.straight p.chain.second f.middle to kept.1 wait b.wait answer b.answer netlist p.chain.second_has.1 f.second b.second run endless)
