@@ -1,5 +1,5 @@
 -- Links that are begun stay so while a netlist grows and leaves their registers waiting.
-use Rattle.std.proofs.Common.{ℕ, List, [], ◌∷◌, ◌++◌, arith}
+use Rattle.std.proofs.Common.{ℕ, List, [], ◌∷◌, ◌++◌, arith, inl, inr}
 use Rattle.std.specs.Prelude.{Result, Ok, Err, OnOk}
 use Rattle.netlist.specs.Netlists.{Netlist, IsWaiting}
 use Rattle.netlist.specs.Longer.{Extends}
@@ -7,7 +7,7 @@ use Rattle.net_parts.specs.Growth.{AreMadeBetween}
 use Rattle.net_parts.specs.Laws.{waiting_within}
 use Rattle.command_nets.specs.declared.nets.CommandNets.{CommandNets}
 use Rattle.link_core.specs.declared.row.Begun.{Begun}
-use Rattle.link_core.specs.Rows.{IsBegun, IsApart, AreBegun}
+use Rattle.link_core.specs.Rows.{IsBegun, IsApart, AreBegun, IsOfOne}
 
 module _ {L H : Type 0} (is_kept : L → H → Netlist → Type 0) (command_in : L → CommandNets → CommandNets → H → Netlist → Type 0) (owns : H → ℕ → Type 0)
     (kept_lasts : (link : L) (kept : H) (old new : Netlist) → is_kept link kept old → Extends old new → ((n : ℕ) → owns kept n → IsWaiting old n → IsWaiting new n) → is_kept link kept new)
@@ -54,3 +54,7 @@ module _ {L H : Type 0} (is_kept : L → H → Netlist → Type 0) (command_in :
 pub on_any : {X E : Type 0} (r : Result X E) (P : Type 0) → P → OnOk r P
 on_any (Ok x) P p = p
 on_any (Err e) P p = tt
+
+pub last_owned : {L H : Type 0} (owns : H → ℕ → Type 0) (row : List (Begun L H)) (one : Begun L H) (n : ℕ) → owns one.kept n → IsOfOne owns (row ++ one ∷ []) n
+last_owned owns [] one n own = inl own
+last_owned owns (begun ∷ row) one n own = inr (last_owned owns row one n own)

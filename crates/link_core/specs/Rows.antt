@@ -1,5 +1,5 @@
 -- Links that are begun: what each one has left stands in the netlist, and their registers are apart.
-use Rattle.std.specs.Prelude.{ℕ, List, [], ◌∷◌}
+use Rattle.std.specs.Prelude.{◌≡◌, ◌⊎◌, ◌++◌, ℕ, List, [], ◌∷◌}
 use Rattle.netlist.specs.Nets.{NetValue}
 use Rattle.netlist.specs.Netlists.{Netlist, IsWaiting}
 use Rattle.netlist.specs.Runs.{Run, IsEndlessRun}
@@ -26,6 +26,16 @@ module _ {L H : Type 0} (is_kept : L → H → Netlist → Type 0) (command_in :
   abbrev pub AreBegun : List (Begun L H) → Netlist → Type 0
   AreBegun [] netlist = Unit {0}
   AreBegun (begun ∷ others) netlist = IsBegun begun netlist × (IsApart begun others × AreBegun others netlist)
+
+-- the number is that of a register of one of these links
+abbrev pub IsOfOne : {L H : Type 0} → (H → ℕ → Type 0) → List (Begun L H) → ℕ → Type 0
+IsOfOne owns [] n = ⊥
+IsOfOne owns (begun ∷ others) n = owns begun.kept n ⊎ IsOfOne owns others n
+
+-- one more link is begun, between these commands, behind the others
+pub record IsPushed {L H : Type 0} (link : L) (from to : CommandNets) (old new : List (Begun L H)) : Type 0 where
+  pub kept : H
+  pub is : new ≡ old ++ record { link = link; from = from; to = to; kept = kept } ∷ []
 
 -- in each endless run of each longer netlist the machine runs between these nets
 abbrev pub RunsInLonger : (Target → Port → Port → Type 0) → Form → Netlist → CommandNets → NetValue → AnswerNets → CommandNets → NetValue → AnswerNets → Type 0

@@ -1,8 +1,9 @@
-use Rattle.std.proofs.Common.{List, sym, subst}
+use Rattle.std.proofs.Common.{List, ◌⊎◌, inl, inr, sym, subst}
+use Rattle.netlist.specs.Netlists.{IsWaiting}
 use Rattle.command_nets.specs.declared.nets.CommandNets.{CommandNets}
 use Rattle.link_core.specs.declared.row.Begun.{Begun}
-use Rattle.link_core.specs.Rows.{AreBegun}
-use Rattle.link_core.proofs.RowLaw.{begun_push}
+use Rattle.link_core.specs.Rows.{AreBegun, IsOfOne}
+use Rattle.link_core.proofs.RowLaw.{begun_push, last_owned}
 use Rattle.link_core.proofs.row.begin_link.Goals as goal
 
 pub returns-clause-begun : goal.returns-clause-begun
@@ -12,3 +13,8 @@ returns-clause-begun g c =
     subst (λ (l : List (Begun _ _)). AreBegun g.L.Link.is_kept g.L.Link.command_in g.L.Link.owns l c.emit_command.new.builder) (sym c.in_ok-push.ensures.items)
     (begun_push g.L.Link.is_kept g.L.Link.command_in g.L.Link.owns g.met.L.Link.kept_lasts g.met.L.Link.command_lasts _ _ c.args.builder.now c.emit_command.new.builder c.requires.begun c.emit_command.ensures.grows.extends c.emit_command.ensures.waits
     (record { kept = c.in_ok-to.ensures.kept; made = here; waits = c.in_ok-to.ensures.own_wait }) c.in_ok-to.ensures.owned)
+
+pub returns-clause-newly : goal.returns-clause-newly
+returns-clause-newly g c n w =
+    subst (λ (l : List (Begun _ _)). IsWaiting c.args.builder.now n ⊎ IsOfOne g.L.Link.owns l n) (sym c.in_ok-push.ensures.items)
+    (elim (c.in_ok-to.ensures.newly n w) [ inl old ↦ inl old | inr own ↦ inr (last_owned g.L.Link.owns _ _ n own) ])
