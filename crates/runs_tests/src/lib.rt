@@ -4,4 +4,6 @@
 #[cfg(test)]
 mod operations;
 #[cfg(test)]
+mod routes;
+#[cfg(test)]
 mod symbols;
