@@ -2,9 +2,9 @@
 use Rattle.std.specs.Prelude.{◌≡◌, ◌⊎◌, ◌++◌, ℕ, List, [], ◌∷◌}
 use Rattle.netlist.specs.Nets.{NetValue}
 use Rattle.netlist.specs.Netlists.{Netlist, IsWaiting}
-use Rattle.netlist.specs.Runs.{Run, IsEndlessRun}
+use Rattle.netlist.specs.Runs.{Run, Cycle, IsEndlessRun, IsValuation, SameState}
 use Rattle.netlist.specs.Longer.{Extends}
-use Rattle.command_nets.specs.Nets.{port_in}
+use Rattle.command_nets.specs.Nets.{ShowSame, port_in}
 use Rattle.mm_machines.specs.Link.{Target, Port}
 use Rattle.link_core.specs.Form.{Form, KeepsLaw, KeepsStraight}
 use Rattle.command_nets.specs.declared.nets.CommandNets.{CommandNets}
@@ -36,6 +36,11 @@ IsOfOne owns (begun ∷ others) n = owns begun.kept n ⊎ IsOfOne owns others n
 pub record IsPushed {L H : Type 0} (link : L) (from to : CommandNets) (old new : List (Begun L H)) : Type 0 where
   pub kept : H
   pub is : new ≡ old ++ record { link = link; from = from; to = to; kept = kept } ∷ []
+
+-- in each longer netlist the command below depends neither on wait nor on the answer of its cycle: with one state, one command above leads to one below
+abbrev pub IgnoresInLonger : Netlist → CommandNets → CommandNets → Type 0
+IgnoresInLonger netlist from to =
+    (longer : Netlist) → Extends netlist longer → (one other : Cycle) → IsValuation longer one → IsValuation longer other → SameState longer one other → ShowSame from one other → ShowSame to one other
 
 -- in each endless run of each longer netlist the machine runs between these nets
 abbrev pub RunsInLonger : (Target → Port → Port → Type 0) → Form → Netlist → CommandNets → NetValue → AnswerNets → CommandNets → NetValue → AnswerNets → Type 0

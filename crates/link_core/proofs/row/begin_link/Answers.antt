@@ -4,6 +4,7 @@ use Rattle.command_nets.specs.declared.nets.CommandNets.{CommandNets}
 use Rattle.link_core.specs.declared.row.Begun.{Begun}
 use Rattle.link_core.specs.Rows.{AreBegun, IsOfOne}
 use Rattle.link_core.proofs.RowLaw.{begun_push, last_owned}
+use Rattle.net_parts.specs.Laws.{owned_same}
 use Rattle.link_core.proofs.row.begin_link.Goals as goal
 
 pub returns-clause-begun : goal.returns-clause-begun
@@ -18,3 +19,9 @@ pub returns-clause-newly : goal.returns-clause-newly
 returns-clause-newly g c n w =
     subst (λ (l : List (Begun _ _)). IsWaiting c.args.builder.now n ⊎ IsOfOne g.L.Link.owns l n) (sym c.in_ok-push.ensures.items)
     (elim (c.in_ok-to.ensures.newly n w) [ inl old ↦ inl old | inr own ↦ inr (last_owned g.L.Link.owns _ _ n own) ])
+
+pub returns-clause-ignores_answer : goal.returns-clause-ignores_answer
+returns-clause-ignores_answer g c longer e one other v w state same =
+    let made = subst (λ (n : CommandNets). g.L.Link.command_in c.args.link n c.in_ok-to.to c.in_ok-to.kept c.emit_command.new.builder) c.copied.ensures c.in_ok-to.ensures.made in
+    c.law.ensures.ignores_answer c.args.from c.in_ok-to.to c.in_ok-to.kept longer (g.met.L.Link.command_lasts _ _ _ _ _ _ made e) one other v w
+    (λ n o. owned_same c.emit_command.new.builder longer n one other c.well_made.ensures e (c.in_ok-to.ensures.own_wait n o) state) same
