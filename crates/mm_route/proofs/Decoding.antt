@@ -1,5 +1,6 @@
 -- The decoder's equations, one after the other.
-use Rattle.std.proofs.Common.{◌≡◌, ℕ, zero, suc, ◌+◌, ◌-◌, ◌*◌, ◌/◌, ◌%◌, ◌^◌, ◌<◌, ◌≤◌, Bool, true, false, ◌&&◌, ◌==◌, if◌then◌else◌, nat_eq, nat_le, nat_lt, bit_and, refl, sym, subst, ap, ◌∙◌, arith}
+use Rattle.std.proofs.Common.{◌≡◌, ℕ, zero, suc, ◌+◌, ◌-◌, ◌*◌, ◌/◌, ◌%◌, ◌^◌, ◌<◌, ◌≤◌, Bool, true, false, ◌&&◌, ◌==◌, if◌then◌else◌, nat_eq, nat_le, nat_lt, bit_and, List, [], ◌∷◌, length, get_or, take, drop, refl, sym, subst, ap, ◌∙◌, arith}
+use Rattle.std.proofs.lemmas.List.{take_all}
 use Rattle.std.proofs.lemmas.Bool.{eqb-true, eqb-false, eq-eqb, ne_eqb, le-leb, lt-leb, ltb-true, ltb-false}
 use Rattle.std.proofs.lemmas.Nat.{pow-add}
 use Rattle.std.proofs.Math.Pow.{pow_mono}
@@ -113,3 +114,8 @@ kind_held entry write address inside held e f = f ∙ ap (λ n. gated entry writ
 -- a bit below others
 pub bit_below : (width above low bits held more : ℕ) → width ≡ 1 → bits ≡ above * 2 ^ width + low → low ≡ held → above ≡ more → bits ≡ held + 2 * more
 bit_below width above low bits held more one e f g = e ∙ ap (λ n. above * 2 ^ n + low) one ∙ omega (arith, f, g)
+
+-- the first entry and the others are all
+pub split_whole : (entries : List RouteEntry) (d : RouteEntry) → 1 ≤ length entries → get_or entries 0 d ∷ take (length entries - 1) (drop 1 entries) ≡ entries
+split_whole [] d h = absurd (omega arith)
+split_whole (entry ∷ later) d h = ap (λ (xs : List RouteEntry). entry ∷ xs) (take_all (length (entry ∷ later) - 1) later (omega arith))

@@ -1,2 +1,5 @@
 pub mod Entries
 pub mod Decoder
+pub mod Shown
+pub mod Registers
+pub mod Forward

@@ -3,5 +3,12 @@
 
 mod decoder;
 mod entry;
+mod gate;
+mod registers;
+mod route;
+mod shown;
 
 pub use entry::RouteEntry;
+pub use registers::RegisterNets;
+pub use route::{HeldRoute, emit_route};
+pub use shown::ShownNets;

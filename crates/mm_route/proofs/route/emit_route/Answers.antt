@@ -1,0 +1,100 @@
+use Rattle.std.proofs.Common.{◌≡◌, ◌+◌, ◌*◌, length, inl, inr, refl, ap, ◌∙◌, subst, sym, arith}
+use Rattle.net_parts.specs.Laws.{extends_twice, net_lasts, adds_twice, adds_grow, adds_fewer, grows_within}
+use Rattle.mm_route.specs.Shown.{command_lasts, shown_are_commands, AreCommandsOf, widths_below, shown_nets_last}
+use Rattle.mm_route.specs.Registers.{register_nets_last, start_lasts, registers_wait_on}
+use Rattle.mm_route.proofs.route.emit_route.Goals as goal
+
+pub place_now-requires-clause-command : goal.place_now-requires-clause-command
+place_now-requires-clause-command c = command_lasts _ _ _ c.make_registers.ensures.grows.extends c.requires.command
+
+pub returns-in_err-place-clause-grows : goal.returns-in_err-place-clause-grows
+returns-in_err-place-clause-grows c = grows_within 4 _ _ _ _ _ c.make_registers.ensures.grows (adds_grow _ _ _ c.place_now.ensures.adds) (omega arith)
+
+pub returns-in_err-open-clause-grows : goal.returns-in_err-open-clause-grows
+returns-in_err-open-clause-grows c =
+    grows_within 4 _ _ _ _ _ c.make_registers.ensures.grows (adds_grow _ _ _ (adds_twice _ _ _ _ _ c.place_now.ensures.adds c.open_gate.ensures.adds)) (omega arith)
+
+pub returns-in_err-tag-clause-grows : goal.returns-in_err-tag-clause-grows
+returns-in_err-tag-clause-grows c =
+    grows_within 4 _ _ _ _ _ c.make_registers.ensures.grows (adds_grow _ _ _ (adds_twice _ _ _ _ _ (adds_twice _ _ _ _ _ c.place_now.ensures.adds c.open_gate.ensures.adds) c.constant.ensures.adds)) (omega arith)
+
+pub returns-in_err-commands-clause-grows : goal.returns-in_err-commands-clause-grows
+returns-in_err-commands-clause-grows c =
+    grows_within 4 _ _ _ _ _ c.make_registers.ensures.grows
+    (adds_grow _ _ _ (adds_twice _ _ _ _ _ (adds_twice _ _ _ _ _ (adds_twice _ _ _ _ _ c.place_now.ensures.adds c.open_gate.ensures.adds) c.constant.ensures.adds) c.show_all.ensures.adds)) (omega arith)
+
+pub returns-clause-grows : goal.returns-clause-grows
+returns-clause-grows c =
+    grows_within 4 _ _ _ _ _ c.make_registers.ensures.grows
+    (adds_grow _ _ _ (adds_twice _ _ _ _ _ (adds_twice _ _ _ _ _ (adds_twice _ _ _ _ _ c.place_now.ensures.adds c.open_gate.ensures.adds) c.constant.ensures.adds) c.show_all.ensures.adds)) (omega arith)
+
+pub show_all-requires : goal.show_all-requires
+show_all-requires c =
+    let e1 = c.constant.ensures.adds.grows.extends in
+    let e2 = extends_twice _ _ _ c.open_gate.ensures.adds.grows.extends e1 in
+    let e3 = extends_twice _ _ _ c.place_now.ensures.adds.grows.extends e2 in
+    let e4 = extends_twice _ _ _ c.make_registers.ensures.grows.extends e3 in
+    record {
+      shown = record {
+        place = net_lasts _ _ _ _ e2 c.in_ok-place.ensures.net;
+        gate = net_lasts _ _ _ _ e1 c.in_ok-open.ensures.gate;
+        tag = c.in_ok-tag.ensures.net.is_net;
+        command = command_lasts _ _ _ e4 c.requires.command;
+      };
+    }
+
+pub returns-clause-commands : goal.returns-clause-commands
+returns-clause-commands c =
+    subst (λ n. AreCommandsOf c.show_all.new.builder (widths_below c.args.command n) c.in_ok-commands.commands.items) c.in_ok-tag.ensures.net.has_width (shown_are_commands _ _ _ _ c.in_ok-commands.ensures.made)
+
+pub returns-clause-kept : goal.returns-clause-kept
+returns-clause-kept c =
+    let e0 = c.show_all.ensures.adds.grows.extends in
+    let e1 = extends_twice _ _ _ c.constant.ensures.adds.grows.extends e0 in
+    let e2 = extends_twice _ _ _ c.open_gate.ensures.adds.grows.extends e1 in
+    let e3 = extends_twice _ _ _ c.place_now.ensures.adds.grows.extends e2 in
+    let e4 = extends_twice _ _ _ c.make_registers.ensures.grows.extends e3 in
+    record {
+      registers = register_nets_last _ _ _ _ _ e3 c.in_ok-registers.ensures.nets;
+      waits = registers_wait_on _ _ _ (λ n o w. c.show_all.ensures.adds.grows.waits n (c.constant.ensures.adds.grows.waits n (c.open_gate.ensures.adds.grows.waits n (c.place_now.ensures.adds.grows.waits n w)))) c.in_ok-registers.ensures.wait;
+      shown = record {
+        place = net_lasts _ _ _ _ e2 c.in_ok-place.ensures.net;
+        gate = net_lasts _ _ _ _ e1 c.in_ok-open.ensures.gate;
+        tag = e0.nets _ _ c.in_ok-tag.ensures.net.is_net;
+        command = command_lasts _ _ _ e4 c.requires.command;
+      };
+      owes = net_lasts _ _ _ _ e1 c.in_ok-open.ensures.owes;
+      owes_is = λ cycle v. c.in_ok-open.ensures.owes_is cycle (e1.valuations cycle v);
+    }
+
+pub returns-clause-owned : goal.returns-clause-owned
+returns-clause-owned c n o =
+    let e0 = c.show_all.ensures.adds.grows.extends in
+    let e1 = extends_twice _ _ _ c.constant.ensures.adds.grows.extends e0 in
+    let e2 = extends_twice _ _ _ c.open_gate.ensures.adds.grows.extends e1 in
+    let e3 = extends_twice _ _ _ c.place_now.ensures.adds.grows.extends e2 in
+    let h = c.in_ok-registers.ensures.owned n o in
+    (h.0, (let more = e3.count in omega (arith, h.1, more)))
+
+pub returns-clause-made : goal.returns-clause-made
+returns-clause-made c =
+    let e0 = c.show_all.ensures.adds.grows.extends in
+    let e1 = extends_twice _ _ _ c.constant.ensures.adds.grows.extends e0 in
+    let e2 = extends_twice _ _ _ c.open_gate.ensures.adds.grows.extends e1 in
+    let e3 = extends_twice _ _ _ c.place_now.ensures.adds.grows.extends e2 in
+    let e4 = extends_twice _ _ _ c.make_registers.ensures.grows.extends e3 in
+    record {
+      command_is = refl;
+      count = c.in_ok-commands.ensures.count;
+      nets = record {
+        place = net_lasts _ _ _ _ e2 c.in_ok-place.ensures.net;
+        gate = net_lasts _ _ _ _ e1 c.in_ok-open.ensures.gate;
+        tag = e0.nets _ _ c.in_ok-tag.ensures.net.is_net;
+        command = command_lasts _ _ _ e4 c.requires.command;
+      };
+      starts = start_lasts _ _ _ e3 c.in_ok-registers.ensures.starts;
+      place = λ cycle v. c.in_ok-place.ensures.value cycle (e2.valuations cycle v);
+      gate = λ cycle v. c.in_ok-open.ensures.gate_is cycle (e1.valuations cycle v);
+      tag = λ cycle v. c.in_ok-tag.ensures.value cycle (e0.valuations cycle v);
+      shown = c.in_ok-commands.ensures.made;
+    }

@@ -1,0 +1,101 @@
+//! The place of the command above, and the gate that a read passes.
+
+ghost use Rattle.std.specs.Prelude.{◌≡◌, ◌+◌, ◌*◌, ◌^◌, ◌<◌, ◌≤◌, nat_lt, length, IfOk};
+ghost use Rattle.histories.specs.History.{is_raised, one_if};
+ghost use Rattle.netlist.specs.Runs.{Always};
+ghost use Rattle.net_parts.specs.Nets.{IsBit, IsNetOfWidth};
+ghost use Rattle.net_parts.specs.Growth.{AddsNets};
+ghost use Rattle.command_nets.specs.Nets.{AreCommandNets};
+ghost use Rattle.mm_route.specs.Entries.{AreEntries};
+ghost use Rattle.mm_route.specs.Decoder.{AreAskedNets};
+ghost use Rattle.mm_route.specs.Registers.{AreRegisterNets};
+ghost use Rattle.mm_route.specs.Forward.{place_in, opens};
+
+use crate::decoder::{AskedNets, decode};
+use crate::entry::RouteEntry;
+use crate::registers::RegisterNets;
+use command_nets::CommandNets;
+use net_parts::choose;
+use netlist::{Builder, Net, NetFault};
+
+/// The gate's nets, of one bit each.
+#[derive(Clone, Copy)]
+pub(crate) struct GateNets {
+    /// Words are owed above.
+    pub owes: Net,
+    /// The command goes on.
+    pub gate: Net,
+}
+
+/// What the decoder reads of a command.
+#[tactic(auto, using(net_parts::specs::Laws::growing))]
+fn asked_nets(builder: &mut Builder, command: &CommandNets) -> Result<AskedNets, NetFault>
+    requires command { AreCommandNets builder.old command.now }
+    ensures asked { IfOk result (λ asked. AreAskedNets builder.new asked) }
+    ensures write { IfOk result (λ asked. asked.write ≡ command.now.write) }
+    ensures address { IfOk result (λ asked. asked.address ≡ command.now.address) }
+    ensures width { IfOk result (λ asked. asked.width ≡ command.now.address.width) }
+    ensures small { IfOk result (λ asked. asked.width ≤ 128) }
+    ensures adds { AddsNets 1 builder.old builder.new }
+    ensures full { result ≡ Err NetFault.TooManyNets → 2 ^ 20 < length builder.old.lines + 1 }
+{
+    let no_write = builder.not(command.write)?;
+    Ok(AskedNets {
+        address: command.address,
+        width: builder.width(command.address),
+        write: command.write,
+        no_write,
+    })
+}
+
+/// The place of the command above, a bit for each entry: latched inside a burst, else by its address.
+#[tactic(auto, using(net_parts::specs::Laws::growing))]
+pub(crate) fn place_now(
+    builder: &mut Builder,
+    registers: &RegisterNets,
+    entries: &[RouteEntry],
+    command: &CommandNets,
+    room_bits: u8,
+) -> Result<Net, NetFault>
+    requires some { 1 ≤ length entries.now }
+    requires few { length entries.now ≤ 128 }
+    requires entries { AreEntries command.now.address.width entries.now }
+    requires registers { AreRegisterNets builder.old registers.now (length entries.now) room_bits }
+    requires command { AreCommandNets builder.old command.now }
+    ensures net { IfOk result (λ place. IsNetOfWidth builder.new place (length entries.now)) }
+    ensures value { IfOk result (λ place. Always builder.new (λ cycle. cycle.net place.number ≡ place_in cycle entries.now registers.now command.now)) }
+    ensures adds { AddsNets (2 + 5 * length entries.now) builder.old builder.new }
+    ensures full { result ≡ Err NetFault.TooManyNets → 2 ^ 20 < length builder.old.lines + (2 + 5 * length entries.now) }
+{
+    let asked = asked_nets(builder, command)?;
+    let hits = decode(builder, &asked, &entries[0], &entries[1..])?;
+    choose(builder, registers.inside, registers.kept, hits)
+}
+
+/// A write goes on; a read does where no word is owed, or this very place owes them.
+#[tactic(auto, using(net_parts::specs::Laws::growing))]
+pub(crate) fn open_gate(
+    builder: &mut Builder,
+    registers: &RegisterNets,
+    place: Net,
+    write: Net,
+    count: u8,
+    room_bits: u8,
+) -> Result<GateNets, NetFault>
+    requires registers { AreRegisterNets builder.old registers.now count room_bits }
+    requires place { IsNetOfWidth builder.old place count }
+    requires write { IsBit builder.old write }
+    ensures owes { IfOk result (λ made. IsBit builder.new made.owes) }
+    ensures gate { IfOk result (λ made. IsBit builder.new made.gate) }
+    ensures owes_is { IfOk result (λ made. Always builder.new (λ cycle. cycle.net made.owes.number ≡ one_if (nat_lt 0 (cycle.net registers.now.owed.number)))) }
+    ensures gate_is { IfOk result (λ made. Always builder.new (λ cycle. is_raised (cycle.net made.gate.number) ≡ opens (cycle.net write.number) (cycle.net registers.now.owed.number) (cycle.net registers.now.owing.number) (cycle.net place.number))) }
+    ensures adds { AddsNets 5 builder.old builder.new }
+    ensures full { result ≡ Err NetFault.TooManyNets → 2 ^ 20 < length builder.old.lines + 5 }
+{
+    let owes = builder.any(registers.owed)?;
+    let free = builder.not(owes)?;
+    let same = builder.eq(registers.owing, place)?;
+    let reads = builder.or(free, same)?;
+    let gate = builder.or(write, reads)?;
+    Ok(GateNets { owes, gate })
+}
