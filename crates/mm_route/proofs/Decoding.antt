@@ -1,16 +1,16 @@
 -- The decoder's equations, one after the other.
 use Rattle.std.proofs.Common.{◌≡◌, ℕ, zero, suc, ◌+◌, ◌-◌, ◌*◌, ◌/◌, ◌%◌, ◌^◌, ◌<◌, ◌≤◌, Bool, true, false, ◌&&◌, ◌==◌, if◌then◌else◌, nat_eq, nat_le, nat_lt, bit_and, List, [], ◌∷◌, length, get_or, take, drop, refl, sym, subst, ap, ◌∙◌, arith}
 use Rattle.std.proofs.lemmas.List.{take_all}
-use Rattle.std.proofs.lemmas.Bool.{eqb-true, eqb-false, eq-eqb, ne_eqb, le-leb, lt-leb, ltb-true, ltb-false}
+use Rattle.std.proofs.lemmas.Bool.{eqb-true, eqb-false, le-leb, lt-leb, ltb-true, ltb-false}
 use Rattle.std.proofs.lemmas.Nat.{pow-add}
 use Rattle.std.proofs.Math.Pow.{pow_mono}
 use Rattle.std.proofs.Math.Nat.{mod-eq_of_lt, div-lt_iff_lt-mul, le-div_iff_mul-le, mul-div_cancel}
 use Rattle.av_base.specs.Word.{IsWord}
-use Rattle.histories.specs.History.{is_raised, one_if}
+use Rattle.histories.specs.History.{one_if}
 use Rattle.mm_route.specs.declared.entry.RouteEntry.{RouteEntry}
 use Rattle.mm_route.specs.Entries.{IsEntry, kind_of, serves, is_inside, holds}
 
-power_some : (b : ℕ) → 0 < 2 ^ b
+pub power_some : (b : ℕ) → 0 < 2 ^ b
 power_some zero = omega arith
 power_some (suc b) = let h = power_some b in omega (arith, h)
 
@@ -38,7 +38,7 @@ by_order t q x size apart above below = by_test (nat_lt q t) refl
         let over = above (ltb-false q t e) in
         ap (λ s. nat_le (t * size) x && s) (lt-leb (suc x) (t * size + size) (omega (arith, over))) ∙ and_low (nat_le (t * size) x)
 
-same_footprint : (t x size : ℕ) → 0 < size → nat_eq (x / size) t ≡ (nat_le (t * size) x && nat_lt x (t * size + size))
+pub same_footprint : (t x size : ℕ) → 0 < size → nat_eq (x / size) t ≡ (nat_le (t * size) x && nat_lt x (t * size + size))
 same_footprint t x size some = by_test (nat_eq (x / size) t) refl
   where
     by_test : (test : Bool) → nat_eq (x / size) t ≡ test → nat_eq (x / size) t ≡ (nat_le (t * size) x && nat_lt x (t * size + size))

@@ -1,8 +1,15 @@
 -- Levels of one bit, and what the makers of a route compute of them.
-use Rattle.std.proofs.Common.{◌≡◌, ℕ, zero, suc, ◌+◌, ◌-◌, ◌*◌, ◌/◌, ◌%◌, ◌^◌, ◌<◌, ◌≤◌, Bool, true, false, not, ◌&&◌, ◌||◌, ◌==◌, if◌then◌else◌, nat_eq, nat_lt, bit_and, bit_or, refl, sym, subst, ap, ◌∙◌, arith}
+use Rattle.std.proofs.Common.{◌≡◌, ℕ, zero, suc, ◌+◌, ◌-◌, ◌/◌, ◌%◌, ◌^◌, ◌<◌, ◌≤◌, Bool, true, false, not, ◌&&◌, ◌||◌, ◌==◌, if◌then◌else◌, nat_eq, nat_lt, bit_and, bit_or, List, [], ◌∷◌, refl, sym, subst, ap, ◌∙◌, arith}
 use Rattle.std.proofs.lemmas.Grind.{common_steps}
+use Rattle.std.proofs.Math.Nat.{mod-eq_of_lt, add-mod_right}
 use Rattle.std.specs.Int.{bit_at}
 use Rattle.histories.specs.History.{is_raised, one_if}
+use Rattle.netlist.specs.Nets.{NetValue}
+use Rattle.netlist.specs.Netlists.{Netlist}
+use Rattle.net_parts.specs.Groups.{TakeAllNext}
+use Rattle.mm_route.specs.declared.registers.RegisterNets.{RegisterNets}
+use Rattle.mm_route.specs.Registers.{registers_of}
+use Rattle.mm_route.specs.Backward.{IsNextOwed}
 
 pub bit_is : (x k here : ℕ) → here ≡ x / 2 ^ k % 2 ^ (k - k + 1) → here ≡ bit_at x k
 bit_is x k here e = let one : k - k + 1 ≡ 1 = omega arith in e ∙ ap (λ n. x / 2 ^ k % 2 ^ n) one
@@ -53,3 +60,98 @@ pub gate_level : (width write owed owing place owes free same reads gate : ℕ) 
 gate_level width write owed owing place owes free same reads gate one h e f g i j =
     ap is_raised (j ∙ ap (bit_or write) (i ∙ ap (λ n. bit_or n same) (f ∙ ap (λ n. 2 ^ n - 1 - owes) one ∙ ap (λ n. 2 ^ 1 - 1 - n) e) ∙ ap (λ n. bit_or (2 ^ 1 - 1 - (if owed == 0 then 0 else 1)) n) g))
     ∙ raised (nat_eq owed 0) (nat_eq owing place) write h
+
+-- ---- what is taken
+
+taken_so : (read write wait : ℕ) → read < 2 → write < 2 → wait < 2 → is_raised (bit_and (bit_or read write) (2 ^ 1 - 1 - wait)) ≡ ((is_raised read || is_raised write) && not (is_raised wait))
+taken_so zero zero zero h k l = refl
+taken_so zero zero (suc zero) h k l = refl
+taken_so zero (suc zero) zero h k l = refl
+taken_so zero (suc zero) (suc zero) h k l = refl
+taken_so (suc zero) zero zero h k l = refl
+taken_so (suc zero) zero (suc zero) h k l = refl
+taken_so (suc zero) (suc zero) zero h k l = refl
+taken_so (suc zero) (suc zero) (suc zero) h k l = refl
+taken_so (suc (suc read)) write wait h k l = absurd (omega arith)
+taken_so read (suc (suc write)) wait h k l = absurd (omega arith)
+taken_so read write (suc (suc wait)) h k l = absurd (omega arith)
+
+pub taken_level : (width read write wait asks ready beat : ℕ) → width ≡ 1 → read < 2 → write < 2 → wait < 2 → asks ≡ bit_or read write → ready ≡ 2 ^ width - 1 - wait → beat ≡ bit_and asks ready →
+    is_raised beat ≡ ((is_raised read || is_raised write) && not (is_raised wait))
+taken_level width read write wait asks ready beat one h k l e f g =
+    ap is_raised (g ∙ ap (λ n. bit_and n ready) e ∙ ap (bit_and (bit_or read write)) (f ∙ ap (λ n. 2 ^ n - 1 - wait) one)) ∙ taken_so read write wait h k l
+
+pub both_raised : (x y z : ℕ) → x < 2 → y < 2 → z ≡ bit_and x y → is_raised z ≡ (is_raised x && is_raised y)
+both_raised zero zero z h k e = ap is_raised e
+both_raised zero (suc zero) z h k e = ap is_raised e
+both_raised (suc zero) zero z h k e = ap is_raised e
+both_raised (suc zero) (suc zero) z h k e = ap is_raised e
+both_raised (suc (suc x)) y z h k e = absurd (omega arith)
+both_raised x (suc (suc y)) z h k e = absurd (omega arith)
+
+-- a choice by a bit
+pub by_raised : {X : Type 0} (bit : ℕ) (t : Bool) (x y : X) → bit < 2 → is_raised bit ≡ t → (if bit == 0 then y else x) ≡ (if t then x else y)
+by_raised zero t x y h e = ap (λ s. if s then x else y) e
+by_raised (suc zero) t x y h e = ap (λ s. if s then x else y) e
+by_raised (suc (suc bit)) t x y h e = absurd (omega arith)
+
+pub level_is : (bit : ℕ) → bit < 2 → one_if (is_raised bit) ≡ bit
+level_is zero h = refl
+level_is (suc zero) h = refl
+level_is (suc (suc bit)) h = absurd (omega arith)
+
+-- ---- the debt
+
+power_two : (bits : ℕ) → 1 ≤ bits → 2 ≤ 2 ^ bits
+power_two zero h = absurd (omega arith)
+power_two (suc zero) h = omega arith
+power_two (suc (suc bits)) h = let k = power_two (suc bits) (omega arith) in omega (arith, k)
+
+pub asked_level : (bits taken count words none asked : ℕ) → 1 ≤ bits → taken < 2 → words ≡ count % 2 ^ bits → none ≡ 0 → asked ≡ (if taken == 0 then none else words) → asked ≡ (if is_raised taken then count else 0) % 2 ^ bits
+asked_level bits zero count words none asked some h e f g = g ∙ f ∙ sym (mod-eq_of_lt (let k = power_two bits some in omega (arith, k)))
+asked_level bits (suc zero) count words none asked some h e f g = g ∙ e
+asked_level bits (suc (suc taken)) count words none asked some h e f g = absurd (omega arith)
+
+wraps : (room sum word : ℕ) → sum < room → word ≤ sum → (sum + (room - word)) % room + word ≡ sum
+wraps room sum word h le =
+    let rest : sum + (room - word) ≡ (sum - word) + room = omega (arith, h, le) in
+    let small : (sum - word) % room ≡ sum - word = mod-eq_of_lt (omega (arith, h)) in
+    let is : (sum + (room - word)) % room ≡ sum - word = ap (λ n. n % room) rest ∙ add-mod_right (sum - word) room ∙ small in
+    omega (arith, is, le)
+
+pub owed_level : (bits wide wider owed asked valid sum word next : ℕ) → 1 ≤ bits → wide ≡ bits → wider ≡ bits → valid < 2 → sum ≡ (owed + asked) % 2 ^ wide → word ≡ valid % 2 ^ bits → next ≡ (sum + (2 ^ wider - word)) % 2 ^ wider →
+    IsNextOwed (2 ^ bits) owed asked (one_if (is_raised valid)) next
+owed_level bits wide wider owed asked valid sum word next some w x h e f g few enough =
+    let two = power_two bits some in
+    let level = level_is valid h in
+    let is_word : word ≡ valid = f ∙ mod-eq_of_lt (omega (arith, two, h)) in
+    let is_sum : sum ≡ owed + asked = e ∙ ap (λ n. (owed + asked) % 2 ^ n) w ∙ mod-eq_of_lt few in
+    let is : next ≡ (owed + asked + (2 ^ bits - valid)) % 2 ^ bits = g ∙ ap (λ n. (sum + (2 ^ n - word)) % 2 ^ n) x ∙ ap (λ n. (n + (2 ^ bits - word)) % 2 ^ bits) is_sum ∙ ap (λ n. (owed + asked + (2 ^ bits - n)) % 2 ^ bits) is_word in
+    let back = wraps (2 ^ bits) (owed + asked) valid few (omega (arith, level, enough)) in
+    ap (λ n. next + n) level ∙ ap (λ n. n + valid) is ∙ back
+
+-- words that fit are not cut
+pub owed_uncut : (room owed asked words next : ℕ) → IsNextOwed room owed (asked % room) words next → IsNextOwed room owed asked words next
+owed_uncut room owed asked words next h few enough =
+    let same : asked % room ≡ asked = mod-eq_of_lt (omega (arith, few)) in
+    (subst (λ n. IsNextOwed room owed n words next) same h) few enough
+
+-- ---- the wait and the word above
+
+wait_so : (gate stall : ℕ) → gate < 2 → stall < 2 → is_raised (bit_or (2 ^ 1 - 1 - gate) stall) ≡ (not (is_raised gate) || is_raised stall)
+wait_so zero zero h k = refl
+wait_so zero (suc zero) h k = refl
+wait_so (suc zero) zero h k = refl
+wait_so (suc zero) (suc zero) h k = refl
+wait_so (suc (suc gate)) stall h k = absurd (omega arith)
+wait_so gate (suc (suc stall)) h k = absurd (omega arith)
+
+pub wait_level : (width gate stall shut wait : ℕ) → width ≡ 1 → gate < 2 → stall < 2 → shut ≡ 2 ^ width - 1 - gate → wait ≡ bit_or shut stall → is_raised wait ≡ (not (is_raised gate) || is_raised stall)
+wait_level width gate stall shut wait one h k e f = ap is_raised (f ∙ ap (λ n. bit_or n stall) (e ∙ ap (λ n. 2 ^ n - 1 - gate) one)) ∙ wait_so gate stall h k
+
+pub three_are : (x y z a : ℕ) → x ≡ a → y ≡ 0 → z ≡ 0 → (x ∷ y ∷ z ∷ []) ≡ (a ∷ 0 ∷ 0 ∷ [])
+three_are x y z a e f g = cc
+
+pub steps_of : (netlist : Netlist) (group next : List NetValue) (registers nexts : RegisterNets) → group ≡ registers_of registers → next ≡ registers_of nexts → TakeAllNext netlist group next →
+    TakeAllNext netlist (registers_of registers) (registers_of nexts)
+steps_of netlist group next registers nexts e f h = subst (λ (g : List NetValue). TakeAllNext netlist g (registers_of nexts)) e (subst (TakeAllNext netlist group) f h)

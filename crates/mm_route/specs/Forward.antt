@@ -11,7 +11,7 @@ use Rattle.command_nets.specs.declared.nets.CommandNets.{CommandNets}
 use Rattle.mm_route.specs.declared.entry.RouteEntry.{RouteEntry}
 use Rattle.mm_route.specs.declared.registers.RegisterNets.{RegisterNets}
 use Rattle.mm_route.specs.declared.route.HeldRoute.{HeldRoute}
-use Rattle.mm_route.specs.Entries.{kind_of, hits}
+use Rattle.mm_route.specs.Entries.{AreEntries, kind_of, hits}
 use Rattle.mm_route.specs.Registers.{registers_of, AreRegisterNets, RegistersStartLow, RegistersWait, register_nets_last, start_lasts, registers_wait_on}
 use Rattle.mm_route.specs.Shown.{AreShownNets, AreShown, shown_nets_last, shown_last}
 
@@ -45,6 +45,7 @@ pub record RouteKeeps (held : HeldRoute) (entries room_bits : ℕ) (netlist : Ne
 pub record RouteForward (entries : List RouteEntry) (host : ℕ) (command : CommandNets) (commands : List CommandNets) (held : HeldRoute) (netlist : Netlist) : Type 0 where
   pub command_is : held.shown.command ≡ command
   pub count : length commands ≡ length entries
+  pub entries_are : AreEntries held.shown.command.address.width entries
   pub nets : AreShownNets netlist held.shown (length entries)
   pub starts : RegistersStartLow netlist held.registers
   pub place : Always netlist (λ cycle. cycle.net held.shown.place.number ≡ place_in cycle entries held.registers held.shown.command)
@@ -67,6 +68,7 @@ pub forward_lasts : (entries : List RouteEntry) (host : ℕ) (command : CommandN
 forward_lasts entries host command commands held old new h e = record {
   command_is = h.command_is;
   count = h.count;
+  entries_are = h.entries_are;
   nets = shown_nets_last old new held.shown (length entries) e h.nets;
   starts = start_lasts old new held.registers e h.starts;
   place = λ cycle v. h.place cycle (e.valuations cycle v);

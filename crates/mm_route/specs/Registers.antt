@@ -1,6 +1,5 @@
 -- The registers of a route: inside a burst or not, the kept place, the owed words, and the place that owes them.
-use Rattle.std.specs.Prelude.{◌≡◌, ℕ, ◌+◌, List, [], ◌∷◌, length}
-use Rattle.std.proofs.Common.{arith}
+use Rattle.std.specs.Prelude.{ℕ, List, [], ◌∷◌}
 use Rattle.netlist.specs.Nets.{NetValue}
 use Rattle.netlist.specs.Netlists.{Netlist, IsWaiting}
 use Rattle.netlist.specs.Longer.{Extends}

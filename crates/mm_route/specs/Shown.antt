@@ -1,6 +1,6 @@
 -- The commands that a route shows, one for each entry.
 use Rattle.std.specs.Prelude.{◌≡◌, ℕ, ◌+◌, ◌*◌, ◌^◌, ◌<◌, Bool, ◌&&◌, ◌==◌, if◌then◌else◌, List, [], ◌∷◌, ◌++◌, length}
-use Rattle.std.proofs.Common.{refl, sym, subst, ap, ◌∙◌, length-append, arith}
+use Rattle.std.proofs.Common.{refl, subst, ap, ◌∙◌, length-append, arith}
 use Rattle.std.specs.Int.{bit_at}
 use Rattle.histories.specs.History.{is_raised}
 use Rattle.netlist.specs.Nets.{NetValue}

@@ -1,14 +1,19 @@
 //! The part behind a host that sends each command to its agent by address, as equations.
 #![tactic(auto)]
 
+mod back;
 mod decoder;
 mod entry;
 mod gate;
+mod laws;
+mod next;
 mod registers;
 mod route;
 mod shown;
 
+pub use back::BackNets;
 pub use entry::RouteEntry;
+pub use laws::route_ignores_answers;
 pub use registers::RegisterNets;
-pub use route::{HeldRoute, emit_route};
+pub use route::{HeldRoute, emit_route, finish_route};
 pub use shown::ShownNets;

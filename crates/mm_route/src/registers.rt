@@ -23,6 +23,15 @@ pub struct RegisterNets {
     pub owing: Net,
 }
 
+impl RegisterNets {
+    /// The nets as a group, in the order of the fields.
+    pub(crate) fn group(&self) -> [Net; 4]
+        ensures { result ≡ registers_of self.now }
+    {
+        [self.inside, self.kept, self.owed, self.owing]
+    }
+}
+
 /// A register of this width that begins at 0.
 fn low(builder: &mut Builder, width: u8) -> Result<Net, NetFault>
     requires some { 1 ≤ width }

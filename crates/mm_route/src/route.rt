@@ -1,18 +1,27 @@
 //! The two calls of a route.
 
-ghost use Rattle.std.specs.Prelude.{◌≡◌, ◌+◌, ◌^◌, ◌<◌, ◌≤◌, length, IfOk};
-ghost use Rattle.net_parts.specs.Growth.{GrowsBy, StillWait, WaitsBeside, AreMadeBetween};
-ghost use Rattle.command_nets.specs.Nets.{AreCommandNets};
+ghost use Rattle.std.specs.Prelude.{◌≡◌, ℕ, ◌+◌, ◌*◌, ◌^◌, ◌<◌, ◌≤◌, List, length, IfOk, OnOk};
+ghost use Rattle.netlist.specs.Netlists.{IsWaiting};
+ghost use Rattle.netlist.specs.Runs.{Always};
+ghost use Rattle.net_parts.specs.Nets.{IsBit};
+ghost use Rattle.net_parts.specs.Growth.{AddsNets, GrowsBy, StillWait, WaitsBeside, WaitsWithout, AreMadeBetween};
+ghost use Rattle.command_nets.specs.Nets.{AreCommandNets, AreAnswerNets};
 ghost use Rattle.mm_route.specs.Entries.{AreEntries};
-ghost use Rattle.mm_route.specs.Shown.{AreCommandsOf, widths_below};
+ghost use Rattle.mm_route.specs.Shown.{AreShownNets, AreCommandsOf, widths_below};
 ghost use Rattle.mm_route.specs.Forward.{owns, forward_nets, RouteKeeps, RouteForward};
+ghost use Rattle.mm_route.specs.Backward.{AreBackNets, WaitsAbove, AnswersAbove, RouteBackward, backward_nets};
+ghost use Rattle.mm_route.specs.Machine.{RunsAsMachine};
+ghost use Rattle.mm_route.specs.declared.entry.RouteEntry.{RouteEntry};
+ghost use Rattle.command_nets.specs.declared.nets.CommandNets.{CommandNets};
 
+use crate::back::{BackNets, pick_answer, pick_wait};
 use crate::entry::RouteEntry;
 use crate::gate::{open_gate, place_now};
+use crate::next::next_nets;
 use crate::registers::{RegisterNets, make_registers};
 use crate::shown::{ShownNets, show_all};
-use command_nets::CommandNets;
-use net_parts::constant;
+use command_nets::{AnswerNets, CommandNets};
+use net_parts::{constant, level, set_all_next};
 use netlist::{Builder, Net, NetFault};
 use std::alloc::Global;
 
@@ -80,4 +89,105 @@ pub fn emit_route(
             owes: open.owes,
         },
     ))
+}
+
+/// What shows the wait above: a command waits where the gate is shut, or where its place waits.
+#[tactic(auto, using(net_parts::specs::Laws::growing))]
+fn wait_above(
+    builder: &mut Builder,
+    shown: &ShownNets,
+    count: u8,
+    backs: &[BackNets],
+    word_bits: u8,
+) -> Result<Net, NetFault>
+    requires shown { AreShownNets builder.old shown.now count }
+    requires count { length backs.now ≡ count }
+    requires backs { AreBackNets builder.old word_bits backs.now }
+    ensures net { IfOk result (λ wait. IsBit builder.new wait) }
+    ensures value { IfOk result (λ wait. Always builder.new (λ cycle. WaitsAbove cycle shown.now backs.now wait)) }
+    ensures adds { AddsNets (3 + 2 * length backs.now) builder.old builder.new }
+    ensures full { result ≡ Err NetFault.TooManyNets → 2 ^ 20 < length builder.old.lines + (3 + 2 * length backs.now) }
+{
+    let low = level(builder, false)?;
+    let stall = pick_wait(builder, shown.place, count, 0, backs, low, word_bits)?;
+    let shut = builder.not(shown.gate)?;
+    builder.or(shut, stall)
+}
+
+/// The words above: those of the place that owes. The default agent gives a word of 0 in each cycle in which it owes one.
+#[tactic(auto, using(net_parts::specs::Laws::growing))]
+fn answer_above(
+    builder: &mut Builder,
+    held: &HeldRoute,
+    count: u8,
+    room_bits: u8,
+    backs: &[BackNets],
+    word_bits: u8,
+) -> Result<AnswerNets, NetFault>
+    requires held { RouteKeeps held.now count room_bits builder.old }
+    requires count { length backs.now ≡ count }
+    requires backs { AreBackNets builder.old word_bits backs.now }
+    requires some { 1 ≤ word_bits }
+    requires few { word_bits ≤ 128 }
+    ensures nets { IfOk result (λ answer. AreAnswerNets builder.new answer word_bits) }
+    ensures value { IfOk result (λ answer. Always builder.new (λ cycle. AnswersAbove cycle held.now backs.now answer)) }
+    ensures adds { AddsNets (2 + 4 * length backs.now) builder.old builder.new }
+    ensures full { result ≡ Err NetFault.TooManyNets → 2 ^ 20 < length builder.old.lines + (2 + 4 * length backs.now) }
+{
+    let word = constant(builder, word_bits, 0)?;
+    let code = constant(builder, 2, 0)?;
+    let none = AnswerNets {
+        valid: held.owes,
+        word,
+        code,
+    };
+    pick_answer(
+        builder,
+        held.registers.owing,
+        count,
+        0,
+        backs,
+        &none,
+        word_bits,
+    )
+}
+
+/// The wait and the words above, from those of each entry in the order of the entries, and the next nets of the registers.
+/// Words have `word_bits` bits; `room_bits` is as it was given to `emit_route`.
+///
+/// `TooManyNets` comes where the module has no room for these nets. After an error the builder is to be dropped: registers stand
+/// in it that wait.
+#[tactic(auto, using(net_parts::specs::Laws::growing))]
+pub fn finish_route(
+    builder: &mut Builder,
+    held: HeldRoute,
+    room_bits: u8,
+    backs: &[BackNets],
+    word_bits: u8,
+) -> Result<(Net, AnswerNets), NetFault>
+    requires held { RouteKeeps held (length backs.now) room_bits builder.old }
+    requires few_entries { length backs.now ≤ 128 }
+    requires backs { AreBackNets builder.old word_bits backs.now }
+    requires some { 1 ≤ word_bits }
+    requires few { word_bits ≤ 128 }
+    requires some_room { 1 ≤ room_bits }
+    requires little_room { room_bits ≤ 128 }
+    ensures wait { IfOk result (λ p. IsBit builder.new p.0) }
+    ensures answer { IfOk result (λ p. AreAnswerNets builder.new p.1 word_bits) }
+    ensures made { IfOk result (λ p. RouteBackward held room_bits backs.now p.0 p.1 builder.new) }
+    ensures machine { IfOk result (λ p. (entries : List RouteEntry) (host : ℕ) (command : CommandNets) (commands : List CommandNets)
+        → RouteForward entries host command commands held builder.new → RunsAsMachine builder.new entries host command commands room_bits backs.now p.0 p.1) }
+    ensures grows { GrowsBy (backward_nets (length backs.now)) builder.old builder.new }
+    ensures waits { (n : ℕ) → ¬ owns held n → IsWaiting builder.old n → IsWaiting builder.new n }
+    ensures no_more_wait { OnOk result (WaitsWithout (owns held) builder.old builder.new) }
+
+    // Memory may run out at any net.
+    ensures full { result ≡ Err NetFault.TooManyNets → 2 ^ 20 < length builder.old.lines + backward_nets (length backs.now) }
+{
+    let count = backs.len() as u8;
+    let wait = wait_above(builder, &held.shown, count, backs, word_bits)?;
+    let answer = answer_above(builder, &held, count, room_bits, backs, word_bits)?;
+    let next = next_nets(builder, &held, count, room_bits, wait, answer.valid)?;
+    set_all_next(builder, &held.registers.group(), &next.group());
+    Ok((wait, answer))
 }

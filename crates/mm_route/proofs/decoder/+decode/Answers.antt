@@ -1,10 +1,9 @@
-use Rattle.std.proofs.Common.{◌≡◌, ℕ, ◌+◌, ◌*◌, ◌∷◌, List, length, sym, subst, ap, ◌∙◌, arith}
-use Rattle.histories.specs.History.{one_if}
+use Rattle.std.proofs.Common.{◌≡◌, ◌∷◌, length, sym, subst, ap, ◌∙◌, arith}
 use Rattle.netlist.specs.Runs.{Always}
 use Rattle.net_parts.specs.Laws.{if_ok}
 use Rattle.mm_route.specs.declared.entry.RouteEntry.{RouteEntry}
 use Rattle.mm_route.specs.Entries.{AreEntries}
-use Rattle.mm_route.specs.Decoder.{hits_in, held_in, asked_lasts}
+use Rattle.mm_route.specs.Decoder.{hits_in, asked_lasts}
 use Rattle.mm_route.proofs.Decoding.{bit_below}
 use Rattle.mm_route.proofs.decoder.+decode.Goals as goal
 

@@ -1,4 +1,4 @@
-use Rattle.std.proofs.Common.{◌≡◌, if◌then◌else◌, ap, ◌∙◌, arith}
+use Rattle.std.proofs.Common.{◌≡◌, ap, ◌∙◌}
 use Rattle.av_base.specs.Word.{Word}
 use Rattle.histories.specs.History.{one_if}
 use Rattle.netlist.specs.Runs.{Always}

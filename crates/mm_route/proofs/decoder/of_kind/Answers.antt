@@ -1,4 +1,4 @@
-use Rattle.std.proofs.Common.{◌≡◌, if◌then◌else◌, arith}
+use Rattle.std.proofs.Common.{◌≡◌, if◌then◌else◌}
 use Rattle.netlist.specs.Runs.{Always}
 use Rattle.net_parts.specs.Laws.{if_ok, bit_fits}
 use Rattle.mm_route.specs.Entries.{serves, kind_of}

@@ -1,4 +1,3 @@
-use Rattle.std.proofs.Common.{◌∙◌, arith}
 use Rattle.net_parts.specs.Laws.{bit_fits, adds_twice, grows_once}
 use Rattle.mm_route.proofs.Levels.{owes_level, gate_level}
 use Rattle.mm_route.proofs.gate.open_gate.Goals as goal

@@ -1,4 +1,4 @@
-use Rattle.std.proofs.Common.{◌≡◌, ℕ, ◌⊎◌, inl, inr, length, sym, subst, ◌∙◌, arith}
+use Rattle.std.proofs.Common.{inl, inr, length, sym, subst, ◌∙◌, arith}
 use Rattle.netlist.specs.Netlists.{IsWaiting}
 use Rattle.mm_route.proofs.registers.make_registers.Goals as goal
 

@@ -1,6 +1,6 @@
-use Rattle.std.proofs.Common.{◌≡◌, ◌+◌, ◌*◌, length, inl, inr, refl, ap, ◌∙◌, subst, sym, arith}
-use Rattle.net_parts.specs.Laws.{extends_twice, net_lasts, adds_twice, adds_grow, adds_fewer, grows_within}
-use Rattle.mm_route.specs.Shown.{command_lasts, shown_are_commands, AreCommandsOf, widths_below, shown_nets_last}
+use Rattle.std.proofs.Common.{refl, subst, arith}
+use Rattle.net_parts.specs.Laws.{extends_twice, net_lasts, adds_twice, adds_grow, grows_within}
+use Rattle.mm_route.specs.Shown.{command_lasts, shown_are_commands, AreCommandsOf, widths_below}
 use Rattle.mm_route.specs.Registers.{register_nets_last, start_lasts, registers_wait_on}
 use Rattle.mm_route.proofs.route.emit_route.Goals as goal
 
@@ -86,6 +86,7 @@ returns-clause-made c =
     record {
       command_is = refl;
       count = c.in_ok-commands.ensures.count;
+      entries_are = c.requires.entries;
       nets = record {
         place = net_lasts _ _ _ _ e2 c.in_ok-place.ensures.net;
         gate = net_lasts _ _ _ _ e1 c.in_ok-open.ensures.gate;

@@ -1,4 +1,4 @@
-use Rattle.std.proofs.Common.{◌≡◌, ◌+◌, ◌*◌, List, sym, subst, ◌∙◌, arith}
+use Rattle.std.proofs.Common.{◌+◌, List, sym, subst, ◌∙◌, arith}
 use Rattle.net_parts.specs.Refusing.{handed_on}
 use Rattle.net_parts.specs.Laws.{adds_fewer}
 use Rattle.command_nets.specs.declared.nets.CommandNets.{CommandNets}

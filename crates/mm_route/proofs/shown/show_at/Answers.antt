@@ -1,5 +1,4 @@
-use Rattle.std.proofs.Common.{◌≡◌, ◌-◌, ◌+◌, ◌<◌, ◌==◌, ◌&&◌, if◌then◌else◌, refl, subst, ap, ◌∙◌, sym, arith}
-use Rattle.std.specs.Int.{bit_at}
+use Rattle.std.proofs.Common.{◌≡◌, ◌-◌, ◌+◌, ◌<◌, ◌==◌, ◌&&◌, if◌then◌else◌, refl, subst, ◌∙◌, sym, arith}
 use Rattle.histories.specs.History.{is_raised}
 use Rattle.net_parts.specs.Laws.{bit_fits, extends_twice, net_lasts, adds_twice, grows_once}
 use Rattle.mm_route.specs.Shown.{command_lasts}

@@ -1,0 +1,130 @@
+//! The next nets of the registers of a route.
+
+ghost use Rattle.std.specs.Prelude.{◌≡◌, ◌+◌, ◌^◌, ◌<◌, ◌≤◌, ◌%◌, ◌==◌, if◌then◌else◌, length, IfOk};
+ghost use Rattle.histories.specs.History.{is_raised, one_if};
+ghost use Rattle.netlist.specs.Netlists.{IsNet};
+ghost use Rattle.netlist.specs.Runs.{Always};
+ghost use Rattle.net_parts.specs.Nets.{IsBit, IsNetOfWidth};
+ghost use Rattle.net_parts.specs.Growth.{AddsNets};
+ghost use Rattle.command_nets.specs.Nets.{AreCommandNets};
+ghost use Rattle.mm_route.specs.Registers.{AreRegisterNets};
+ghost use Rattle.mm_route.specs.Forward.{RouteKeeps};
+ghost use Rattle.mm_route.specs.Backward.{taken_in, reads_in, IsNextOwed, IsNext};
+
+use crate::registers::RegisterNets;
+use crate::route::HeldRoute;
+use command_nets::CommandNets;
+use net_parts::{choose, constant, fit_bits};
+use netlist::{Builder, Net, NetFault};
+
+/// What is taken in a cycle, one bit each.
+#[derive(Clone, Copy)]
+pub(crate) struct TakenNets {
+    pub beat: Net,
+    pub read: Net,
+}
+
+/// Whether a beat is taken above, and whether a read is.
+#[tactic(auto, using(net_parts::specs::Laws::growing))]
+fn taken_bits(
+    builder: &mut Builder,
+    command: &CommandNets,
+    wait: Net,
+) -> Result<TakenNets, NetFault>
+    requires command { AreCommandNets builder.old command.now }
+    requires wait { IsBit builder.old wait }
+    ensures beat { IfOk result (λ taken. IsBit builder.new taken.beat) }
+    ensures read { IfOk result (λ taken. IsBit builder.new taken.read) }
+    ensures beat_is { IfOk result (λ taken. Always builder.new (λ cycle. is_raised (cycle.net taken.beat.number) ≡ taken_in cycle command.now wait)) }
+    ensures read_is { IfOk result (λ taken. Always builder.new (λ cycle. is_raised (cycle.net taken.read.number) ≡ reads_in cycle command.now wait)) }
+    ensures adds { AddsNets 4 builder.old builder.new }
+    ensures full { result ≡ Err NetFault.TooManyNets → 2 ^ 20 < length builder.old.lines + 4 }
+{
+    let asks = builder.or(command.read, command.write)?;
+    let ready = builder.not(wait)?;
+    let beat = builder.and(asks, ready)?;
+    let read = builder.and(beat, command.read)?;
+    Ok(TakenNets { beat, read })
+}
+
+/// The words that a read asks, in so many bits: none where no read is taken.
+#[tactic(auto, using(net_parts::specs::Laws::growing))]
+fn asked_words(
+    builder: &mut Builder,
+    taken: Net,
+    count: Net,
+    room_bits: u8,
+) -> Result<Net, NetFault>
+    requires taken { IsBit builder.old taken }
+    requires count { IsNet builder.old count }
+    requires some { 1 ≤ room_bits }
+    requires few { room_bits ≤ 128 }
+    ensures net { IfOk result (λ asked. IsNetOfWidth builder.new asked room_bits) }
+    ensures value { IfOk result (λ asked. Always builder.new (λ cycle. cycle.net asked.number ≡ (if is_raised (cycle.net taken.number) then cycle.net count.number else 0) % 2 ^ room_bits)) }
+    ensures adds { AddsNets 4 builder.old builder.new }
+    ensures full { result ≡ Err NetFault.TooManyNets → 2 ^ 20 < length builder.old.lines + 4 }
+{
+    let bits = builder.width(count);
+    let words = fit_bits(builder, count, bits, room_bits)?;
+    let none = constant(builder, room_bits, 0)?;
+    choose(builder, taken, words, none)
+}
+
+/// The words that are owed after a cycle.
+#[tactic(auto, using(net_parts::specs::Laws::growing))]
+fn next_owed(
+    builder: &mut Builder,
+    owed: Net,
+    asked: Net,
+    valid: Net,
+    room_bits: u8,
+) -> Result<Net, NetFault>
+    requires owed { IsNetOfWidth builder.old owed room_bits }
+    requires asked { IsNetOfWidth builder.old asked room_bits }
+    requires valid { IsBit builder.old valid }
+    requires some { 1 ≤ room_bits }
+    requires few { room_bits ≤ 128 }
+    ensures net { IfOk result (λ next. IsNetOfWidth builder.new next room_bits) }
+    ensures value { IfOk result (λ next. Always builder.new (λ cycle. IsNextOwed (2 ^ room_bits) (cycle.net owed.number) (cycle.net asked.number) (one_if (is_raised (cycle.net valid.number))) (cycle.net next.number))) }
+    ensures adds { AddsNets 4 builder.old builder.new }
+    ensures full { result ≡ Err NetFault.TooManyNets → 2 ^ 20 < length builder.old.lines + 4 }
+{
+    let sum = builder.add(owed, asked)?;
+    let word = fit_bits(builder, valid, 1, room_bits)?;
+    builder.sub(sum, word)
+}
+
+/// What the registers take as a cycle ends.
+#[tactic(auto, using(net_parts::specs::Laws::growing))]
+pub(crate) fn next_nets(
+    builder: &mut Builder,
+    held: &HeldRoute,
+    count: u8,
+    room_bits: u8,
+    wait: Net,
+    valid: Net,
+) -> Result<RegisterNets, NetFault>
+    requires held { RouteKeeps held.now count room_bits builder.old }
+    requires wait { IsBit builder.old wait }
+    requires valid { IsBit builder.old valid }
+    requires some { 1 ≤ room_bits }
+    requires few { room_bits ≤ 128 }
+    ensures nets { IfOk result (λ next. AreRegisterNets builder.new next count room_bits) }
+    ensures value { IfOk result (λ next. Always builder.new (λ cycle. IsNext cycle held.now room_bits wait valid next)) }
+    ensures adds { AddsNets 14 builder.old builder.new }
+    ensures full { result ≡ Err NetFault.TooManyNets → 2 ^ 20 < length builder.old.lines + 14 }
+{
+    let command = &held.shown.command;
+    let registers = &held.registers;
+    let taken = taken_bits(builder, command, wait)?;
+    let inside = choose(builder, taken.beat, command.more, registers.inside)?;
+    let asked = asked_words(builder, taken.read, command.count, room_bits)?;
+    let owed = next_owed(builder, registers.owed, asked, valid, room_bits)?;
+    let owing = choose(builder, taken.read, held.shown.place, registers.owing)?;
+    Ok(RegisterNets {
+        inside,
+        kept: held.shown.place,
+        owed,
+        owing,
+    })
+}
