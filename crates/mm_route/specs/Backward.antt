@@ -79,7 +79,8 @@ pub record RouteBackward (held : HeldRoute) (room_bits : ℕ) (backs : List Back
 
 -- ---- what stands lasts
 
-pub backward_lasts : (held : HeldRoute) (room_bits : ℕ) (backs : List BackNets) (wait : NetValue) (answer : AnswerNets) (old new : Netlist) → RouteBackward held room_bits backs wait answer old → Extends old new → RouteBackward held room_bits backs wait answer new
+pub backward_lasts : (held : HeldRoute) (room_bits : ℕ) (backs : List BackNets) (wait : NetValue) (answer : AnswerNets) (old new : Netlist) → RouteBackward held room_bits backs wait answer old →
+    Extends old new → RouteBackward held room_bits backs wait answer new
 backward_lasts held room_bits backs wait answer old new h e = record {
   waits = λ cycle v. h.waits cycle (e.valuations cycle v);
   answers = λ cycle v. h.answers cycle (e.valuations cycle v);

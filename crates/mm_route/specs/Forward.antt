@@ -1,6 +1,7 @@
 -- What the first call leaves in a netlist: the registers, the place of the command, the gate, and the commands below.
 use Rattle.std.specs.Prelude.{◌≡◌, ℕ, ◌+◌, ◌*◌, Bool, ◌||◌, ◌==◌, if◌then◌else◌, nat_eq, nat_lt, List, length}
 use Rattle.histories.specs.History.{is_raised, one_if}
+use Rattle.netlist.specs.Nets.{NetValue}
 use Rattle.netlist.specs.Netlists.{Netlist, IsWaiting}
 use Rattle.netlist.specs.Runs.{Cycle, Always}
 use Rattle.netlist.specs.Longer.{Extends}
@@ -24,6 +25,11 @@ place_in cycle entries registers command =
 -- a write goes on; a read does where no word is owed, or this very place owes them
 abbrev pub opens : ℕ → ℕ → ℕ → ℕ → Bool
 opens write owed owing place = is_raised write || nat_eq owed 0 || nat_eq owing place
+
+-- the net is up where the command goes on
+abbrev pub IsGate : Cycle → RegisterNets → NetValue → NetValue → NetValue → Type 0
+IsGate cycle registers write place gate =
+    is_raised (cycle.net gate.number) ≡ opens (cycle.net write.number) (cycle.net registers.owed.number) (cycle.net registers.owing.number) (cycle.net place.number)
 
 -- the numbers of the registers that hold its state
 abbrev pub owns : HeldRoute → ℕ → Type 0
@@ -49,7 +55,7 @@ pub record RouteForward (entries : List RouteEntry) (host : ℕ) (command : Comm
   pub nets : AreShownNets netlist held.shown (length entries)
   pub starts : RegistersStartLow netlist held.registers
   pub place : Always netlist (λ cycle. cycle.net held.shown.place.number ≡ place_in cycle entries held.registers held.shown.command)
-  pub gate : Always netlist (λ cycle. is_raised (cycle.net held.shown.gate.number) ≡ opens (cycle.net held.shown.command.write.number) (cycle.net held.registers.owed.number) (cycle.net held.registers.owing.number) (cycle.net held.shown.place.number))
+  pub gate : Always netlist (λ cycle. IsGate cycle held.registers held.shown.command.write held.shown.place held.shown.gate)
   pub tag : Always netlist (λ cycle. cycle.net held.shown.tag.number ≡ host)
   pub shown : AreShown netlist held.shown 0 commands
 
@@ -64,7 +70,8 @@ keeps_lasts held entries room_bits old new h e w = record {
   owes_is = λ cycle v. h.owes_is cycle (e.valuations cycle v);
 }
 
-pub forward_lasts : (entries : List RouteEntry) (host : ℕ) (command : CommandNets) (commands : List CommandNets) (held : HeldRoute) (old new : Netlist) → RouteForward entries host command commands held old → Extends old new → RouteForward entries host command commands held new
+pub forward_lasts : (entries : List RouteEntry) (host : ℕ) (command : CommandNets) (commands : List CommandNets) (held : HeldRoute) (old new : Netlist) →
+    RouteForward entries host command commands held old → Extends old new → RouteForward entries host command commands held new
 forward_lasts entries host command commands held old new h e = record {
   command_is = h.command_is;
   count = h.count;

@@ -90,7 +90,8 @@ pub shown_last : (a b : Netlist) (shown : ShownNets) (k : ℕ) (made : List Comm
 shown_last a b shown k [] e h = tt
 shown_last a b shown k (first ∷ later) e h = (shown_at_lasts a b shown k first e h.0, shown_last a b shown (k + 1) later e h.1)
 
-pub shown_more : (netlist : Netlist) (shown : ShownNets) (k n : ℕ) (made : List CommandNets) (last : CommandNets) → AreShown netlist shown k made → n ≡ k + length made → IsShownAt netlist shown n last → AreShown netlist shown k (made ++ last ∷ [])
+pub shown_more : (netlist : Netlist) (shown : ShownNets) (k n : ℕ) (made : List CommandNets) (last : CommandNets) → AreShown netlist shown k made → n ≡ k + length made →
+    IsShownAt netlist shown n last → AreShown netlist shown k (made ++ last ∷ [])
 shown_more netlist shown k n [] last h e p = (subst (λ m. IsShownAt netlist shown m last) (e ∙ omega arith) p, tt)
 shown_more netlist shown k n (first ∷ later) last h e p = (h.0, shown_more netlist shown (k + 1) n later last h.1 (omega (arith, e)) p)
 
@@ -117,7 +118,8 @@ pub record AreShownSoFar (old now : Netlist) (shown : ShownNets) (made : List Co
 pub none_shown : (old : Netlist) (shown : ShownNets) → AreShownSoFar old old shown [] 0
 none_shown old shown = record { made_are = tt; count_is = refl; adds = adds_none old }
 
-pub one_more_shown : (old now new : Netlist) (shown : ShownNets) (made : List CommandNets) (last : CommandNets) (count : ℕ) → AreShownSoFar old now shown made count → AddsNets 4 now new → IsShownAt new shown count last → AreShownSoFar old new shown (made ++ last ∷ []) (count + 1)
+pub one_more_shown : (old now new : Netlist) (shown : ShownNets) (made : List CommandNets) (last : CommandNets) (count : ℕ) → AreShownSoFar old now shown made count → AddsNets 4 now new →
+    IsShownAt new shown count last → AreShownSoFar old new shown (made ++ last ∷ []) (count + 1)
 one_more_shown old now new shown made last count h adds p = record {
   made_are = shown_more new shown 0 count made last (shown_last now new shown 0 made adds.grows.extends h.made_are) (let f = h.count_is in omega arith) p;
   count_is = (let e = length-append made (last ∷ []) in let f = h.count_is in omega arith);

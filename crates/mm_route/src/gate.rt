@@ -1,7 +1,7 @@
 //! The place of the command above, and the gate that a read passes.
 
 ghost use Rattle.std.specs.Prelude.{◌≡◌, ◌+◌, ◌*◌, ◌^◌, ◌<◌, ◌≤◌, nat_lt, length, IfOk};
-ghost use Rattle.histories.specs.History.{is_raised, one_if};
+ghost use Rattle.histories.specs.History.{one_if};
 ghost use Rattle.netlist.specs.Runs.{Always};
 ghost use Rattle.net_parts.specs.Nets.{IsBit, IsNetOfWidth};
 ghost use Rattle.net_parts.specs.Growth.{AddsNets};
@@ -9,7 +9,7 @@ ghost use Rattle.command_nets.specs.Nets.{AreCommandNets};
 ghost use Rattle.mm_route.specs.Entries.{AreEntries};
 ghost use Rattle.mm_route.specs.Decoder.{AreAskedNets};
 ghost use Rattle.mm_route.specs.Registers.{AreRegisterNets};
-ghost use Rattle.mm_route.specs.Forward.{place_in, opens};
+ghost use Rattle.mm_route.specs.Forward.{place_in, IsGate};
 
 use crate::decoder::{AskedNets, decode};
 use crate::entry::RouteEntry;
@@ -88,7 +88,7 @@ pub(crate) fn open_gate(
     ensures owes { IfOk result (λ made. IsBit builder.new made.owes) }
     ensures gate { IfOk result (λ made. IsBit builder.new made.gate) }
     ensures owes_is { IfOk result (λ made. Always builder.new (λ cycle. cycle.net made.owes.number ≡ one_if (nat_lt 0 (cycle.net registers.now.owed.number)))) }
-    ensures gate_is { IfOk result (λ made. Always builder.new (λ cycle. is_raised (cycle.net made.gate.number) ≡ opens (cycle.net write.number) (cycle.net registers.now.owed.number) (cycle.net registers.now.owing.number) (cycle.net place.number))) }
+    ensures gate_is { IfOk result (λ made. Always builder.new (λ cycle. IsGate cycle registers.now write place made.gate)) }
     ensures adds { AddsNets 5 builder.old builder.new }
     ensures full { result ≡ Err NetFault.TooManyNets → 2 ^ 20 < length builder.old.lines + 5 }
 {
