@@ -282,8 +282,8 @@ module _ (system : System) (host room room_bits : ℕ) (shape : Shape) (entries 
       valid = λ c lt.
           (ap (λ (xs : List ℕ). is_raised (get_or xs 0 0)) (answers_are c) ∙ option_of (λ (xs : List ℕ). is_raised (get_or xs 0 0)) (state.owing c) _ _
           ∙ ap (λ t. by_option (state.owing c) t (λ a. is_raised ((down a).answers.valid c))) (raised_one (nat_lt 0 (state.owed c))));
-      answer = λ c lt. ap (λ (xs : List ℕ). get_or xs 1 0) (answers_are c) ∙ option_of (λ (xs : List ℕ). get_or xs 1 0) (state.owing c) _ _;
-      code = λ c lt. ap (λ (xs : List ℕ). get_or xs 2 0) (answers_are c) ∙ option_of (λ (xs : List ℕ). get_or xs 2 0) (state.owing c) _ _;
+      answer = λ c lt comes. ap (λ (xs : List ℕ). get_or xs 1 0) (answers_are c) ∙ option_of (λ (xs : List ℕ). get_or xs 1 0) (state.owing c) _ _;
+      code = λ c lt comes. ap (λ (xs : List ℕ). get_or xs 2 0) (answers_are c) ∙ option_of (λ (xs : List ℕ). get_or xs 2 0) (state.owing c) _ _;
     };
   }
 
