@@ -51,6 +51,10 @@ taken_in cycle command wait = (is_raised (cycle.net command.read.number) || is_r
 abbrev pub reads_in : Cycle → CommandNets → NetValue → Bool
 reads_in cycle command wait = taken_in cycle command wait && is_raised (cycle.net command.read.number)
 
+-- the words that a read asks as it is taken
+abbrev pub asked_in : Cycle → CommandNets → NetValue → ℕ
+asked_in cycle command wait = if reads_in cycle command wait then cycle.net command.count.number else 0
+
 -- the words owed after a cycle: those asked more, and one less for a word that comes, if that fits below `room`
 abbrev pub IsNextOwed : ℕ → ℕ → ℕ → ℕ → ℕ → Type 0
 IsNextOwed room owed asked words next = owed + asked < room → words ≤ owed + asked → next + words ≡ owed + asked
@@ -59,7 +63,7 @@ IsNextOwed room owed asked words next = owed + asked < room → words ≤ owed +
 pub record IsNext (cycle : Cycle) (held : HeldRoute) (room_bits : ℕ) (wait valid : NetValue) (next : RegisterNets) : Type 0 where
   pub inside : cycle.net next.inside.number ≡ (if taken_in cycle held.shown.command wait then cycle.net held.shown.command.more.number else cycle.net held.registers.inside.number)
   pub kept : cycle.net next.kept.number ≡ cycle.net held.shown.place.number
-  pub owed : IsNextOwed (2 ^ room_bits) (cycle.net held.registers.owed.number) (if reads_in cycle held.shown.command wait then cycle.net held.shown.command.count.number else 0) (one_if (is_raised (cycle.net valid.number))) (cycle.net next.owed.number)
+  pub owed : IsNextOwed (2 ^ room_bits) (cycle.net held.registers.owed.number) (asked_in cycle held.shown.command wait) (one_if (is_raised (cycle.net valid.number))) (cycle.net next.owed.number)
   pub owing : cycle.net next.owing.number ≡ (if reads_in cycle held.shown.command wait then cycle.net held.shown.place.number else cycle.net held.registers.owing.number)
 
 -- the most nets that the second call makes for so many entries
