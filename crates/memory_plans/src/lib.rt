@@ -11,7 +11,7 @@ ghost use Rattle.link_rules.specs.Plans.{PlanTable, IsPlan};
 ghost use Rattle.mm_runs.specs.Plan.{IsMemoryPlan};
 ghost use Rattle.memory_plans.specs.Systems.{memory_system, HasLink};
 
-pub use routes::{Route, host_routes, routes_are_the_map};
+pub use routes::{host_routes, routes_are_the_map};
 
 /// Every plan keeps all that the theorems on systems of machines ask, and joins no host to an agent twice.
 pub fn plans_are_memory_plans()

@@ -10,22 +10,8 @@ ghost use Rattle.memory_plans.specs.Systems.{memory_system};
 use av_base::{List, NoMemory};
 use iface_roles::{AgentPort, HostPort, proper_records_are_bounded};
 use link_rules::{MemoryLink, Plan, memory_links_are_numbered};
+use memory_sides::Route;
 use std::alloc::Global;
-
-/// The bytes of a host's map that lead to one agent.
-#[derive(Clone, Copy, PartialEq, Eq)]
-pub struct Route {
-    /// The number of the agent.
-    pub agent: u8,
-    /// The address of the first byte.
-    pub base: u32,
-    /// There are 2 to this many bytes.
-    pub bits: u8,
-    /// The agent can be read.
-    pub reads: bool,
-    /// The agent can be written.
-    pub writes: bool,
-}
 
 /// The power of two that a word's bytes are.
 fn word_bits(bytes: u8) -> u8

@@ -7,7 +7,7 @@ use Rattle.std.proofs.Math.Pow.{pow_mono}
 use Rattle.std.proofs.Math.Nat.{mod-eq_of_lt, div-lt_iff_lt-mul, le-div_iff_mul-le, mul-div_cancel}
 use Rattle.av_base.specs.Word.{IsWord}
 use Rattle.histories.specs.History.{one_if}
-use Rattle.mm_route.specs.declared.entry.RouteEntry.{RouteEntry}
+use Rattle.memory_sides.specs.declared.route.Route.{Route}
 use Rattle.mm_route.specs.Entries.{IsEntry, kind_of, serves, is_inside, holds}
 
 pub power_some : (b : ℕ) → 0 < 2 ^ b
@@ -22,7 +22,7 @@ high_fits x width bits h some =
     let same : width - bits + bits ≡ width = omega arith in
     (div-lt_iff_lt-mul (power_some bits)).1 (subst (λ n. x < n) (ap (λ n. 2 ^ n) (sym same) ∙ whole) h)
 
-pub base_is_word : (entry : RouteEntry) (width : ℕ) → IsEntry width entry → entry.bits < width → width ≤ 128 → IsWord (width - entry.bits) (entry.base / 2 ^ entry.bits)
+pub base_is_word : (entry : Route) (width : ℕ) → IsEntry width entry → entry.bits < width → width ≤ 128 → IsWord (width - entry.bits) (entry.base / 2 ^ entry.bits)
 base_is_word entry width h some small = record { some_bit = omega arith; small = omega arith; fits = high_fits entry.base width entry.bits h.within some }
 
 and_low : (t : Bool) → t && false ≡ false
@@ -53,10 +53,10 @@ same_footprint t x size some = by_test (nat_eq (x / size) t) refl
 
 -- ---- whether a footprint holds an address
 
-base_times : (entry : RouteEntry) (width : ℕ) (h : IsEntry width entry) → entry.base / 2 ^ entry.bits ≡ h.footprints
+base_times : (entry : Route) (width : ℕ) (h : IsEntry width entry) → entry.base / 2 ^ entry.bits ≡ h.footprints
 base_times entry width h = ap (λ n. n / 2 ^ entry.bits) h.base ∙ mul-div_cancel h.footprints (power_some entry.bits)
 
-pub high_bits_tell : (entry : RouteEntry) (width address high base inside : ℕ) → IsEntry width entry → entry.bits < width → address < 2 ^ width →
+pub high_bits_tell : (entry : Route) (width address high base inside : ℕ) → IsEntry width entry → entry.bits < width → address < 2 ^ width →
     high ≡ address / 2 ^ entry.bits % 2 ^ (width - 1 - entry.bits + 1) → base ≡ entry.base / 2 ^ entry.bits → inside ≡ (if high == base then 1 else 0) →
     inside ≡ one_if (is_inside entry address)
 high_bits_tell entry width address high base inside h some fits e f g =
@@ -72,7 +72,7 @@ no_multiple zero size limit h le = omega arith
 no_multiple (suc t) size limit h le = absurd (omega (arith, h, le))
 
 -- a footprint of the whole range holds each address
-pub all_inside : (entry : RouteEntry) (width address inside : ℕ) → IsEntry width entry → width ≤ entry.bits → address < 2 ^ width → inside ≡ 1 → inside ≡ one_if (is_inside entry address)
+pub all_inside : (entry : Route) (width address inside : ℕ) → IsEntry width entry → width ≤ entry.bits → address < 2 ^ width → inside ≡ 1 → inside ≡ one_if (is_inside entry address)
 all_inside entry width address inside h le fits e =
     let more : 2 ^ width ≤ 2 ^ entry.bits = pow_mono le in
     let none : entry.base ≡ 0 = h.base ∙ no_multiple h.footprints (2 ^ entry.bits) (2 ^ width) (subst (λ n. n < 2 ^ width) h.base h.within) more in
@@ -91,20 +91,20 @@ and_zero zero h = refl
 and_zero (suc zero) h = refl
 and_zero (suc (suc x)) h = absurd (omega arith)
 
-abbrev gated : RouteEntry → ℕ → ℕ → ℕ
+abbrev gated : Route → ℕ → ℕ → ℕ
 gated entry write inside = if serves entry (kind_of write) then inside else 0
 
-pub if_read : (entry : RouteEntry) (write low inside held : ℕ) → entry.reads ≡ true → entry.writes ≡ false → write < 2 → inside < 2 → low ≡ 1 - write → held ≡ bit_and inside low → held ≡ gated entry write inside
+pub if_read : (entry : Route) (write low inside held : ℕ) → entry.reads ≡ true → entry.writes ≡ false → write < 2 → inside < 2 → low ≡ 1 - write → held ≡ bit_and inside low → held ≡ gated entry write inside
 if_read entry zero low inside held r w h k l e = e ∙ ap (bit_and inside) l ∙ and_one inside k ∙ sym (ap (λ t. if t then inside else 0) r)
 if_read entry (suc zero) low inside held r w h k l e = e ∙ ap (bit_and inside) l ∙ and_zero inside k ∙ sym (ap (λ t. if t then inside else 0) w)
 if_read entry (suc (suc write)) low inside held r w h k l e = absurd (omega arith)
 
-pub if_written : (entry : RouteEntry) (write inside held : ℕ) → entry.reads ≡ false → entry.writes ≡ true → write < 2 → inside < 2 → held ≡ bit_and inside write → held ≡ gated entry write inside
+pub if_written : (entry : Route) (write inside held : ℕ) → entry.reads ≡ false → entry.writes ≡ true → write < 2 → inside < 2 → held ≡ bit_and inside write → held ≡ gated entry write inside
 if_written entry zero inside held r w h k e = e ∙ and_zero inside k ∙ sym (ap (λ t. if t then inside else 0) r)
 if_written entry (suc zero) inside held r w h k e = e ∙ and_one inside k ∙ sym (ap (λ t. if t then inside else 0) w)
 if_written entry (suc (suc write)) inside held r w h k e = absurd (omega arith)
 
-pub kind_held : (entry : RouteEntry) (write address inside held : ℕ) → inside ≡ one_if (is_inside entry address) → held ≡ gated entry write inside → held ≡ one_if (holds entry (kind_of write) address)
+pub kind_held : (entry : Route) (write address inside held : ℕ) → inside ≡ one_if (is_inside entry address) → held ≡ gated entry write inside → held ≡ one_if (holds entry (kind_of write) address)
 kind_held entry write address inside held e f = f ∙ ap (λ n. gated entry write n) e ∙ by_kind (serves entry (kind_of write)) (is_inside entry address)
   where
     by_kind : (s t : Bool) → (if s then one_if t else 0) ≡ one_if (s && t)
@@ -116,6 +116,6 @@ pub bit_below : (width above low bits held more : ℕ) → width ≡ 1 → bits 
 bit_below width above low bits held more one e f g = e ∙ ap (λ n. above * 2 ^ n + low) one ∙ omega (arith, f, g)
 
 -- the first entry and the others are all
-pub split_whole : (entries : List RouteEntry) (d : RouteEntry) → 1 ≤ length entries → get_or entries 0 d ∷ take (length entries - 1) (drop 1 entries) ≡ entries
+pub split_whole : (entries : List Route) (d : Route) → 1 ≤ length entries → get_or entries 0 d ∷ take (length entries - 1) (drop 1 entries) ≡ entries
 split_whole [] d h = absurd (omega arith)
-split_whole (entry ∷ later) d h = ap (λ (xs : List RouteEntry). entry ∷ xs) (take_all (length (entry ∷ later) - 1) later (omega arith))
+split_whole (entry ∷ later) d h = ap (λ (xs : List Route). entry ∷ xs) (take_all (length (entry ∷ later) - 1) later (omega arith))

@@ -8,7 +8,7 @@ use Rattle.netlist.specs.Runs.{Cycle, IsValuation}
 use Rattle.mm_machines.specs.Machines.{Raw}
 use Rattle.command_nets.specs.declared.nets.CommandNets.{CommandNets}
 use Rattle.command_nets.specs.Nets.{ShowSame}
-use Rattle.mm_route.specs.declared.entry.RouteEntry.{RouteEntry}
+use Rattle.memory_sides.specs.declared.route.Route.{Route}
 use Rattle.mm_route.specs.declared.route.HeldRoute.{HeldRoute}
 use Rattle.mm_route.specs.declared.shown.ShownNets.{ShownNets}
 use Rattle.mm_route.specs.Entries.{hits, kind_of}
@@ -69,7 +69,7 @@ shown_alike netlist shown one other v w h place gate tag k (made ∷ later) is =
       shown_alike netlist shown one other v w h place gate tag (k + 1) later is.1,
     )
 
-pub ignores_answers : (entries : List RouteEntry) (host : ℕ) (command : CommandNets) (commands : List CommandNets) (held : HeldRoute) (netlist : Netlist) → RouteForward entries host command commands held netlist →
+pub ignores_answers : (entries : List Route) (host : ℕ) (command : CommandNets) (commands : List CommandNets) (held : HeldRoute) (netlist : Netlist) → RouteForward entries host command commands held netlist →
     (one other : Cycle) → IsValuation netlist one → IsValuation netlist other → ((n : ℕ) → owns held n → one.net n ≡ other.net n) → ShowSame command one other → ShowAllSame commands one other
 ignores_answers entries host command commands held netlist f one other v w state same =
     let h = alike_of held.shown.command one other (subst (λ (c : CommandNets). ShowSame c one other) (sym f.command_is) same) in

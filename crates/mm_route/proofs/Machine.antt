@@ -18,7 +18,7 @@ use Rattle.mm_parts.specs.Route.{RouteState, kind_at, place_now, is_open}
 use Rattle.command_nets.specs.declared.nets.CommandNets.{CommandNets}
 use Rattle.command_nets.specs.declared.nets.AnswerNets.{AnswerNets}
 use Rattle.command_nets.specs.Nets.{port_in}
-use Rattle.mm_route.specs.declared.entry.RouteEntry.{RouteEntry}
+use Rattle.memory_sides.specs.declared.route.Route.{Route}
 use Rattle.mm_route.specs.declared.back.BackNets.{BackNets}
 use Rattle.mm_route.specs.declared.route.HeldRoute.{HeldRoute}
 use Rattle.mm_route.specs.declared.shown.ShownNets.{ShownNets}
@@ -45,11 +45,11 @@ turned_choice false x y = refl
 chosen_raised : {X : Type 0} (bit : ℕ) (x y : X) → (if bit == 0 then y else x) ≡ (if is_raised bit then x else y)
 chosen_raised bit x y = turned_choice (bit == 0) x y ∙ ap (λ t. if t then x else y) (sym (raised_unless bit))
 
-bits_chosen : (t : Bool) (entries : List RouteEntry) (one other : Option ℕ) (x y : ℕ) → x ≡ place_bits entries one → y ≡ place_bits entries other → (if t then x else y) ≡ place_bits entries (if t then one else other)
+bits_chosen : (t : Bool) (entries : List Route) (one other : Option ℕ) (x y : ℕ) → x ≡ place_bits entries one → y ≡ place_bits entries other → (if t then x else y) ≡ place_bits entries (if t then one else other)
 bits_chosen true entries one other x y e f = e
 bits_chosen false entries one other x y e f = f
 
-place_chosen : (t : Bool) (entries : List RouteEntry) (one other : Option ℕ) → IsPlace entries one → IsPlace entries other → IsPlace entries (if t then one else other)
+place_chosen : (t : Bool) (entries : List Route) (one other : Option ℕ) → IsPlace entries one → IsPlace entries other → IsPlace entries (if t then one else other)
 place_chosen true entries one other h k = h
 place_chosen false entries one other h k = k
 
@@ -90,7 +90,7 @@ record IsBelow (run : Run) (c : ℕ) (shape : Shape) (command : CommandNets) (ho
   pub more : port.commands.more c ≡ run.net c command.more.number
   pub tag : port.commands.tag c ≡ host
 
-is_below : (netlist : Netlist) (shown : ShownNets) (shape : Shape) (run : Run) (c host agent : ℕ) (gate : Bool) (k : ℕ) (place : Option ℕ) (entries : List RouteEntry) (commands : List CommandNets) (backs : List BackNets) →
+is_below : (netlist : Netlist) (shown : ShownNets) (shape : Shape) (run : Run) (c host agent : ℕ) (gate : Bool) (k : ℕ) (place : Option ℕ) (entries : List Route) (commands : List CommandNets) (backs : List BackNets) →
     IsValuation netlist (cycle_of run c) → run.net c shown.tag.number ≡ host → is_raised (run.net c shown.gate.number) ≡ gate → length commands ≡ length entries → length backs ≡ length entries →
     BitsFrom k (run.net c shown.place.number) entries place → AreShown netlist shown k commands → (is_agent agent place ≡ true → has_entry entries agent ≡ true) →
     IsBelow run c shape shown.command host (is_agent agent place && gate) (down_at shape run shown.command host entries commands backs agent)
@@ -135,7 +135,7 @@ pick_step : {X : Type 0} (t : Bool) (bit : ℕ) (x y : X) (f : Port → X) (p q 
 pick_step true bit x y f p q e g h = ap (λ n. if n == 0 then x else y) e ∙ sym g
 pick_step false bit x y f p q e g h = ap (λ n. if n == 0 then x else y) e ∙ h refl
 
-picked_is : {X : Type 0} (k bits : ℕ) (entries : List RouteEntry) (commands : List CommandNets) (backs : List BackNets) (place : Option ℕ) (shape : Shape) (run : Run) (command : CommandNets) (host : ℕ) (none : X) (g : BackNets → X) (f : Port → X) →
+picked_is : {X : Type 0} (k bits : ℕ) (entries : List Route) (commands : List CommandNets) (backs : List BackNets) (place : Option ℕ) (shape : Shape) (run : Run) (command : CommandNets) (host : ℕ) (none : X) (g : BackNets → X) (f : Port → X) →
     ((one : CommandNets) (back : BackNets) → f (port_in shape run one back.wait back.answer) ≡ g back) → length commands ≡ length entries → length backs ≡ length entries → BitsFrom k bits entries place → IsPlace entries place →
     picked k bits (map g backs) none ≡ by_option place none (λ a. f (down_at shape run command host entries commands backs a))
 picked_is k bits [] commands [] None shape run command host none g f same l m b p = refl
@@ -153,7 +153,7 @@ picked_is k bits (entry ∷ entries) (one ∷ commands) (back ∷ backs) (Some a
 
 -- ---- the machine
 
-module _ (system : System) (host room room_bits : ℕ) (shape : Shape) (entries : List RouteEntry) (commands : List CommandNets) (backs : List BackNets) (held : HeldRoute) (wait : NetValue) (answer : AnswerNets) (netlist : Netlist)
+module _ (system : System) (host room room_bits : ℕ) (shape : Shape) (entries : List Route) (commands : List CommandNets) (backs : List BackNets) (held : HeldRoute) (wait : NetValue) (answer : AnswerNets) (netlist : Netlist)
     (maps : MapsAs entries held.shown.command.address.width system host shape) (f : RouteForward entries host held.shown.command commands held netlist) (b : RouteBackward held room_bits backs wait answer netlist)
     (same : length backs ≡ length entries) (run : Run) (endless : IsEndlessRun netlist run) where
   valued : (c : ℕ) → IsValuation netlist (cycle_of run c)
@@ -287,7 +287,7 @@ module _ (system : System) (host room room_bits : ℕ) (shape : Shape) (entries 
     };
   }
 
-pub nets_are_a_route : (netlist : Netlist) (entries : List RouteEntry) (host : ℕ) (command : CommandNets) (commands : List CommandNets) (held : HeldRoute) (room_bits : ℕ) (backs : List BackNets) (wait : NetValue) (answer : AnswerNets) →
+pub nets_are_a_route : (netlist : Netlist) (entries : List Route) (host : ℕ) (command : CommandNets) (commands : List CommandNets) (held : HeldRoute) (room_bits : ℕ) (backs : List BackNets) (wait : NetValue) (answer : AnswerNets) →
     RouteForward entries host command commands held netlist → RouteBackward held room_bits backs wait answer netlist → length backs ≡ length entries → RunsAsMachine netlist entries host command commands room_bits backs wait answer
 nets_are_a_route netlist entries host command commands held room_bits backs wait answer f b same =
     subst (λ (c : CommandNets). RunsAsMachine netlist entries host c commands room_bits backs wait answer) f.command_is

@@ -15,7 +15,7 @@ use Rattle.mm_parts.specs.Route.{RouteState, kind_at, IsRouteMachine}
 use Rattle.command_nets.specs.declared.nets.CommandNets.{CommandNets}
 use Rattle.command_nets.specs.declared.nets.AnswerNets.{AnswerNets}
 use Rattle.command_nets.specs.Nets.{port_in, ShowSame}
-use Rattle.mm_route.specs.declared.entry.RouteEntry.{RouteEntry}
+use Rattle.memory_sides.specs.declared.route.Route.{Route}
 use Rattle.mm_route.specs.declared.back.BackNets.{BackNets}
 use Rattle.mm_route.specs.declared.registers.RegisterNets.{RegisterNets}
 use Rattle.mm_route.specs.Entries.{holds}
@@ -23,22 +23,22 @@ use Rattle.mm_route.specs.Entries.{holds}
 -- ---- the map
 
 -- an entry is for this agent
-abbrev pub has_entry : List RouteEntry → ℕ → Bool
+abbrev pub has_entry : List Route → ℕ → Bool
 has_entry [] agent = false
 has_entry (entry ∷ later) agent = nat_eq entry.agent agent || has_entry later agent
 
 -- the place of an address is the agent of exactly those entries that hold it
-abbrev pub AreHeld : List RouteEntry → Kind → ℕ → Option ℕ → Type 0
+abbrev pub AreHeld : List Route → Kind → ℕ → Option ℕ → Type 0
 AreHeld [] kind address place = Unit {0}
 AreHeld (entry ∷ later) kind address place = (is_agent entry.agent place ≡ holds entry kind address) × AreHeld later kind address place
 
 -- each footprint is a whole number of words
-abbrev pub HoldWords : ℕ → List RouteEntry → Type 0
+abbrev pub HoldWords : ℕ → List Route → Type 0
 HoldWords word_bytes [] = Unit {0}
 HoldWords word_bytes (entry ∷ later) = ((words : ℕ) × (2 ^ entry.bits ≡ words * word_bytes)) × HoldWords word_bytes later
 
 -- the entries are the map of this host, for addresses of so many bits; an agent without an entry is the place of none
-pub record MapsAs (entries : List RouteEntry) (width : ℕ) (system : System) (host : ℕ) (shape : Shape) : Type 0 where
+pub record MapsAs (entries : List Route) (width : ℕ) (system : System) (host : ℕ) (shape : Shape) : Type 0 where
   pub bytes : shape.unit_bytes ≡ 1
   pub words : HoldWords shape.word_bytes entries
   pub held : (kind : Kind) (address : ℕ) → address < 2 ^ width → AreHeld entries kind address (system.place host kind address)
@@ -67,7 +67,7 @@ silent_port shape run command host = record {
 }
 
 -- the side of an agent: the nets of its entry, where it has one
-abbrev pub down_at : Shape → Run → CommandNets → ℕ → List RouteEntry → List CommandNets → List BackNets → ℕ → Port
+abbrev pub down_at : Shape → Run → CommandNets → ℕ → List Route → List CommandNets → List BackNets → ℕ → Port
 down_at shape run command host (entry ∷ entries) (made ∷ commands) (back ∷ backs) agent =
     if nat_eq entry.agent agent then port_in shape run made back.wait back.answer
     else down_at shape run command host entries commands backs agent
@@ -106,7 +106,7 @@ pub record RunsAsRoute (system : System) (host room : ℕ) (up : Port) (down : �
   pub is_machine : IsRouteMachine AreZero system host room up down state end
 
 -- in every endless run of each longer netlist, the nets are the machine of a route of each system whose map of this host these entries are
-abbrev pub RunsAsMachine : Netlist → List RouteEntry → ℕ → CommandNets → List CommandNets → ℕ → List BackNets → NetValue → AnswerNets → Type 0
+abbrev pub RunsAsMachine : Netlist → List Route → ℕ → CommandNets → List CommandNets → ℕ → List BackNets → NetValue → AnswerNets → Type 0
 RunsAsMachine netlist entries host command commands room_bits backs wait answer =
     (longer : Netlist) → Extends netlist longer → (run : Run) → IsEndlessRun longer run → (system : System) (shape : Shape) (room end : ℕ) → MapsAs entries command.address.width system host shape → room ≤ 2 ^ room_bits →
     RunsAsRoute system host room (port_in shape run command wait answer) (down_at shape run command host entries commands backs) end

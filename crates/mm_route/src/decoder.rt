@@ -9,7 +9,7 @@ ghost use Rattle.net_parts.specs.Growth.{AddsNets};
 ghost use Rattle.mm_route.specs.Entries.{IsEntry, AreEntries, is_inside, serves, kind_of};
 ghost use Rattle.mm_route.specs.Decoder.{AreAskedNets, held_in, hits_in};
 
-use crate::entry::RouteEntry;
+use memory_sides::Route;
 use av_base::Val;
 use net_parts::level;
 use netlist::{Builder, Net, NetFault};
@@ -26,7 +26,7 @@ pub(crate) struct AskedNets {
 }
 
 /// The high bits of an entry's base, those that name its footprint.
-fn high_base(entry: &RouteEntry, width: u8) -> Val
+fn high_base(entry: &Route, width: u8) -> Val
     requires entry { IsEntry width entry.now }
     requires some { entry.now.bits < width }
     requires small { width ≤ 128 }
@@ -41,7 +41,7 @@ fn is_inside(
     builder: &mut Builder,
     address: Net,
     width: u8,
-    entry: &RouteEntry,
+    entry: &Route,
 ) -> Result<Net, NetFault>
     requires address { IsNetOfWidth builder.old address width }
     requires entry { IsEntry width entry.now }
@@ -64,7 +64,7 @@ fn is_inside(
 fn of_kind(
     builder: &mut Builder,
     asked: &AskedNets,
-    entry: &RouteEntry,
+    entry: &Route,
     inside: Net,
 ) -> Result<Net, NetFault>
     requires asked { AreAskedNets builder.old asked.now }
@@ -88,7 +88,7 @@ fn of_kind(
 
 /// Whether the entry holds the command.
 #[tactic(auto, using(net_parts::specs::Laws::growing))]
-fn hit(builder: &mut Builder, asked: &AskedNets, entry: &RouteEntry) -> Result<Net, NetFault>
+fn hit(builder: &mut Builder, asked: &AskedNets, entry: &Route) -> Result<Net, NetFault>
     requires asked { AreAskedNets builder.old asked.now }
     requires entry { IsEntry asked.now.width entry.now }
     requires small { asked.now.width ≤ 128 }
@@ -106,8 +106,8 @@ fn hit(builder: &mut Builder, asked: &AskedNets, entry: &RouteEntry) -> Result<N
 pub(crate) fn decode(
     builder: &mut Builder,
     asked: &AskedNets,
-    first: &RouteEntry,
-    later: &[RouteEntry],
+    first: &Route,
+    later: &[Route],
 ) -> Result<Net, NetFault>
     requires asked { AreAskedNets builder.old asked.now }
     requires entries { AreEntries asked.now.width (first.now ∷ later.now) }

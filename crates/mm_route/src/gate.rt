@@ -12,7 +12,7 @@ ghost use Rattle.mm_route.specs.Registers.{AreRegisterNets};
 ghost use Rattle.mm_route.specs.Forward.{place_in, IsGate};
 
 use crate::decoder::{AskedNets, decode};
-use crate::entry::RouteEntry;
+use memory_sides::Route;
 use crate::registers::RegisterNets;
 use command_nets::CommandNets;
 use net_parts::choose;
@@ -53,7 +53,7 @@ fn asked_nets(builder: &mut Builder, command: &CommandNets) -> Result<AskedNets,
 pub(crate) fn place_now(
     builder: &mut Builder,
     registers: &RegisterNets,
-    entries: &[RouteEntry],
+    entries: &[Route],
     command: &CommandNets,
     room_bits: u8,
 ) -> Result<Net, NetFault>

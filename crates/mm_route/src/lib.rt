@@ -3,7 +3,6 @@
 
 mod back;
 mod decoder;
-mod entry;
 mod gate;
 mod laws;
 mod next;
@@ -12,7 +11,6 @@ mod route;
 mod shown;
 
 pub use back::BackNets;
-pub use entry::RouteEntry;
 pub use laws::route_ignores_answers;
 pub use registers::RegisterNets;
 pub use route::{HeldRoute, emit_route, finish_route};

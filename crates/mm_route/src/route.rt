@@ -11,11 +11,11 @@ ghost use Rattle.mm_route.specs.Shown.{AreShownNets, AreCommandsOf, widths_below
 ghost use Rattle.mm_route.specs.Forward.{owns, forward_nets, RouteKeeps, RouteForward};
 ghost use Rattle.mm_route.specs.Backward.{AreBackNets, WaitsAbove, AnswersAbove, RouteBackward, backward_nets};
 ghost use Rattle.mm_route.specs.Machine.{RunsAsMachine};
-ghost use Rattle.mm_route.specs.declared.entry.RouteEntry.{RouteEntry};
+ghost use Rattle.memory_sides.specs.declared.route.Route.{Route};
 ghost use Rattle.command_nets.specs.declared.nets.CommandNets.{CommandNets};
 
 use crate::back::{BackNets, pick_answer, pick_wait};
-use crate::entry::RouteEntry;
+use memory_sides::Route;
 use crate::gate::{open_gate, place_now};
 use crate::next::next_nets;
 use crate::registers::{RegisterNets, make_registers};
@@ -44,7 +44,7 @@ pub fn emit_route(
     builder: &mut Builder,
     host: u8,
     tag_bits: u8,
-    entries: &[RouteEntry],
+    entries: &[Route],
     room_bits: u8,
     command: CommandNets,
 ) -> Result<(Vec<CommandNets>, HeldRoute), NetFault>
@@ -175,7 +175,7 @@ pub fn finish_route(
     ensures wait { IfOk result (λ p. IsBit builder.new p.0) }
     ensures answer { IfOk result (λ p. AreAnswerNets builder.new p.1 word_bits) }
     ensures made { IfOk result (λ p. RouteBackward held room_bits backs.now p.0 p.1 builder.new) }
-    ensures machine { IfOk result (λ p. (entries : List RouteEntry) (host : ℕ) (command : CommandNets) (commands : List CommandNets)
+    ensures machine { IfOk result (λ p. (entries : List Route) (host : ℕ) (command : CommandNets) (commands : List CommandNets)
         → RouteForward entries host command commands held builder.new → RunsAsMachine builder.new entries host command commands room_bits backs.now p.0 p.1) }
     ensures grows { GrowsBy (backward_nets (length backs.now)) builder.old builder.new }
     ensures waits { (n : ℕ) → ¬ owns held n → IsWaiting builder.old n → IsWaiting builder.new n }

@@ -4,6 +4,4 @@
 #[cfg(test)]
 mod operations;
 #[cfg(test)]
-mod routes;
-#[cfg(test)]
 mod symbols;

@@ -47,7 +47,7 @@ add_interface_port a a_readdatavalid readdatavalid Output 1
 }
 
 /// A file of this text.
-fn file_of(alloc: Global, text: &[u8]) -> Result<Bytes, Fail>
+pub(crate) fn file_of(alloc: Global, text: &[u8]) -> Result<Bytes, Fail>
     ensures { IfOk result (λ bytes. length bytes < 2 ^ 31) }
 {
     if text.len() > 4096 {

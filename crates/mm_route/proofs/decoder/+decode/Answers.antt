@@ -1,7 +1,7 @@
 use Rattle.std.proofs.Common.{◌≡◌, ◌∷◌, length, sym, subst, ap, ◌∙◌, arith}
 use Rattle.netlist.specs.Runs.{Always}
 use Rattle.net_parts.specs.Laws.{if_ok}
-use Rattle.mm_route.specs.declared.entry.RouteEntry.{RouteEntry}
+use Rattle.memory_sides.specs.declared.route.Route.{Route}
 use Rattle.mm_route.specs.Entries.{AreEntries}
 use Rattle.mm_route.specs.Decoder.{hits_in, asked_lasts}
 use Rattle.mm_route.proofs.Decoding.{bit_below}
@@ -10,7 +10,7 @@ use Rattle.mm_route.proofs.decoder.+decode.Goals as goal
 pub decode-requires : goal.decode-requires
 decode-requires t c =
     let is = c.in-Some.ensures.cases.0 in
-    let fewer = ap (length {A = RouteEntry}) is in
+    let fewer = ap (length {A = Route}) is in
     let d = c.decreases in
     let few = c.requires.few in (
       omega (arith, d, fewer),

@@ -1,10 +1,12 @@
 //! The routes of a host, from scripts.
 
-ghost use Rattle.std.specs.Prelude.{◌^◌, ◌<◌, length, IfOk};
+ghost use Rattle.std.specs.Prelude.{◌^◌, ◌<◌, length};
 
+use crate::steps::file_of;
 use av_base::Bytes;
 use link_rules::Plan;
-use memory_plans::{Route, host_routes};
+use memory_plans::host_routes;
+use memory_sides::Route;
 use std::alloc::Global;
 use std::test::Fail;
 use system_plan::plan_of;
@@ -59,18 +61,6 @@ add_interface_port s1 address address Input 3
 add_interface_port s1 read read Input 1
 add_interface_port s1 readdata readdata Output 16
 "
-}
-
-/// A file of this text.
-fn file_of(alloc: Global, text: &[u8]) -> Result<Bytes, Fail>
-    ensures { IfOk result (λ bytes. length bytes < 2 ^ 31) }
-{
-    if text.len() > 4096 {
-        return Err(Fail::new("the text is too long"));
-    }
-    let mut bytes = Bytes::new(alloc);
-    bytes.append(text)?;
-    Ok(bytes)
 }
 
 fn plan_of_files(
