@@ -1,0 +1,130 @@
+-- Bits, and addresses in bytes.
+use Rattle.std.proofs.Common.{◌≡◌, ℕ, zero, suc, ◌+◌, ◌-◌, ◌*◌, ◌/◌, ◌%◌, ◌^◌, ◌<◌, ◌≤◌, Bool, true, false, not, ◌&&◌, ◌||◌, if◌then◌else◌, ◌==◌, nat_lt, nat_eq, bit_and, bit_or, refl, sym, subst, ap, ◌∙◌, arith}
+use Rattle.std.proofs.Math.Nat.{mod-eq_of_lt, div-lt_iff_lt-mul, zero-mod, mod_self, add-mod_right}
+use Rattle.std.proofs.Math.Pow.{pow_mono}
+use Rattle.std.proofs.lemmas.Nat.{pow-add, pow_pos, div-add-mod'}
+use Rattle.std.proofs.lemmas.Bool.{ne_eqb, ltb-true, ltb-false}
+use Rattle.std.specs.Prelude.{Result, Ok, Err, IfOk}
+use Rattle.histories.specs.History.{is_raised, one_if}
+use Rattle.mm_host.specs.Writes.{beats_of}
+
+pub raised_and : (x y z : ℕ) → x < 2 → y < 2 → z ≡ bit_and x y → is_raised z ≡ (is_raised x && is_raised y)
+raised_and zero zero z h k e = ap is_raised e
+raised_and zero (suc zero) z h k e = ap is_raised e
+raised_and (suc zero) zero z h k e = ap is_raised e
+raised_and (suc zero) (suc zero) z h k e = ap is_raised e
+raised_and (suc (suc x)) y z h k e = absurd (omega arith)
+raised_and zero (suc (suc y)) z h k e = absurd (omega arith)
+raised_and (suc zero) (suc (suc y)) z h k e = absurd (omega arith)
+
+pub raised_or : (x y z : ℕ) → x < 2 → y < 2 → z ≡ bit_or x y → is_raised z ≡ (is_raised x || is_raised y)
+raised_or zero zero z h k e = ap is_raised e
+raised_or zero (suc zero) z h k e = ap is_raised e
+raised_or (suc zero) zero z h k e = ap is_raised e
+raised_or (suc zero) (suc zero) z h k e = ap is_raised e
+raised_or (suc (suc x)) y z h k e = absurd (omega arith)
+raised_or zero (suc (suc y)) z h k e = absurd (omega arith)
+raised_or (suc zero) (suc (suc y)) z h k e = absurd (omega arith)
+
+raised_turned : (x y : ℕ) → x < 2 → y ≡ 2 ^ 1 - 1 - x → is_raised y ≡ not (is_raised x)
+raised_turned zero y h e = ap is_raised e
+raised_turned (suc zero) y h e = ap is_raised e
+raised_turned (suc (suc x)) y h e = absurd (omega arith)
+
+pub raised_not : (w x y : ℕ) → w ≡ 1 → x < 2 → y ≡ 2 ^ w - 1 - x → is_raised y ≡ not (is_raised x)
+raised_not w x y one h e = raised_turned x y h (subst (λ n. y ≡ 2 ^ n - 1 - x) one e)
+
+-- a number without its lowest bits, by a slice
+pub aligned : (n bits low high made : ℕ) → low < bits → n < 2 ^ bits → high ≡ n / 2 ^ low % 2 ^ (bits - 1 - low + 1) → made ≡ high * 2 ^ low → made ≡ n - n % 2 ^ low
+aligned n bits low high made few fits is raised =
+    let width : bits - 1 - low + 1 ≡ bits - low = omega arith in
+    let whole : bits - low + low ≡ bits = omega arith in
+    let split : 2 ^ (bits - low) * 2 ^ low ≡ 2 ^ bits = sym (pow-add 2 (bits - low) low) ∙ ap (λ k. 2 ^ k) whole in
+    let some : 0 < 2 ^ low = pow_pos low in
+    let below : n / 2 ^ low < 2 ^ (bits - low) = (div-lt_iff_lt-mul some).1 (subst (λ k. n < k) (sym split) fits) in
+    let high_is : high ≡ n / 2 ^ low = is ∙ ap (λ k. n / 2 ^ low % 2 ^ k) width ∙ mod-eq_of_lt below in
+    let parts = div-add-mod' n (2 ^ low) in
+    let product : made ≡ n / 2 ^ low * 2 ^ low = raised ∙ ap (λ k. k * 2 ^ low) high_is in
+    omega (arith, parts, product)
+
+pub all_low : (n bits low : ℕ) → bits ≤ low → n < 2 ^ bits → 0 ≡ n - n % 2 ^ low
+all_low n bits low le fits =
+    let more = pow_mono le in
+    let same : n % 2 ^ low ≡ n = mod-eq_of_lt (omega (arith, fits, more)) in
+    omega (arith, same)
+
+pub level_is : (x : ℕ) → x < 2 → x ≡ one_if (is_raised x)
+level_is zero h = refl
+level_is (suc zero) h = refl
+level_is (suc (suc x)) h = absurd (omega arith)
+
+is_some : (u : ℕ) → ◌≡◌ {A = ℕ} (if suc u == 0 then 0 else 1) 1
+is_some u = rw (ne_eqb (suc u) 0 (λ e. absurd (omega (arith, e)))) refl
+
+-- no carry is lost where the sum fits, and nothing is taken from 0
+count_goes : (u t v answers : ℕ) → t < 2 → v < 2 → answers ≡ one_if (is_raised v && is_raised (if u == 0 then 0 else 1)) → u + t < 32 → ((u + t % 32) % 32 + (32 - answers % 32)) % 32 ≡ (u - v) + t
+count_goes zero t zero answers h k e few = (let none : answers ≡ 0 = e in omega (arith, none))
+count_goes zero t (suc zero) answers h k e few = (let none : answers ≡ 0 = e in omega (arith, none))
+count_goes (suc u) t zero answers h k e few = (let none : answers ≡ 0 = e in omega (arith, none))
+count_goes (suc u) t (suc zero) answers h k e few = (let one : answers ≡ 1 = e ∙ ap (λ n. one_if (is_raised n)) (is_some u) in omega (arith, one))
+count_goes u t (suc (suc v)) answers h k e few = absurd (omega arith)
+
+pub next_counted : (u t v some answers more fewer sum next w : ℕ) → w ≡ 5 → t < 2 → v < 2 → answers < 2 → some ≡ (if u == 0 then 0 else 1) → is_raised answers ≡ (is_raised v && is_raised some) →
+    more ≡ t % 32 → fewer ≡ answers % 32 → sum ≡ (u + more) % 2 ^ w → next ≡ (sum + (2 ^ w - fewer)) % 2 ^ w → u + one_if (is_raised t) < 32 → next ≡ (u - one_if (is_raised v)) + one_if (is_raised t)
+next_counted u t v some answers more fewer sum next w five ht hv ha e1 e2 e3 e4 e5 e6 few =
+    let is : answers ≡ one_if (is_raised v && is_raised (if u == 0 then 0 else 1)) = level_is answers ha ∙ ap one_if e2 ∙ ap (λ n. one_if (is_raised v && is_raised n)) e1 in
+    let taken : one_if (is_raised t) ≡ t = sym (level_is t ht) in
+    let came : one_if (is_raised v) ≡ v = sym (level_is v hv) in
+    let room : u + t < 32 = omega arith in
+    let whole : next ≡ ((u + t % 32) % 32 + (32 - answers % 32)) % 32 = e6 ∙ rw (five, e5, five, e3, e4) refl in
+    whole ∙ count_goes u t v answers ht hv is room ∙ omega arith
+
+pub raised_choice : (s a b z : ℕ) → s < 2 → z ≡ (if s == 0 then b else a) → is_raised z ≡ (if is_raised s then is_raised a else is_raised b)
+raised_choice zero a b z h e = ap is_raised e
+raised_choice (suc zero) a b z h e = ap is_raised e
+raised_choice (suc (suc s)) a b z h e = absurd (omega arith)
+
+-- the highest of five bits
+pub top_bit : (u f : ℕ) → u < 2 ^ 5 → f ≡ u / 2 ^ 4 % 2 ^ (4 - 4 + 1) → is_raised f ≡ not (nat_lt u 16)
+top_bit u f h e = by_case (nat_lt u 16) refl
+  where
+    by_case : (t : Bool) → nat_lt u 16 ≡ t → is_raised f ≡ not t
+    by_case true below = (let low = ltb-true u 16 below in let none : f ≡ 0 = omega (arith, low, e) in ap is_raised none)
+    by_case false above = (let high = ltb-false u 16 above in let one : f ≡ 1 = omega (arith, high, e, h) in ap is_raised one)
+
+pub choice_raised : (s a b z : ℕ) → s < 2 → z ≡ (if s == 0 then b else a) → z ≡ (if is_raised s then a else b)
+choice_raised zero a b z h e = e
+choice_raised (suc zero) a b z h e = e
+choice_raised (suc (suc s)) a b z h e = absurd (omega arith)
+
+pub raised_if : (t : Bool) → is_raised (if t then 1 else 0) ≡ t
+raised_if true = refl
+raised_if false = refl
+
+by_any : (t : Bool) (left count some beats : ℕ) → some ≡ (if t then 0 else 1) → beats ≡ (if some == 0 then count else left) → beats ≡ (if t then count else left)
+by_any true left count some beats e f = f ∙ ap (λ n. if n == 0 then count else left) e
+by_any false left count some beats e f = f ∙ ap (λ n. if n == 0 then count else left) e
+
+pub beats_chosen : (left count some beats : ℕ) → some ≡ (if left == 0 then 0 else 1) → beats ≡ (if some == 0 then count else left) → beats ≡ beats_of left count
+beats_chosen left count some beats e f = by_any (nat_eq left 0) left count some beats e f
+
+pub one_fits : (k : ℕ) → 1 ≤ k → 1 < 2 ^ k
+one_fits k some = let two : 2 ^ 1 ≤ 2 ^ k = pow_mono some in omega (arith, two)
+
+fewer_below : (n limit some one fewer : ℕ) → 1 < limit → n < limit → some ≡ (if n == 0 then 0 else 1) → one ≡ some % limit → fewer ≡ (n + (limit - one)) % limit → fewer ≡ n - 1
+fewer_below zero limit some one fewer two fits e1 e2 e3 =
+    let none : one ≡ 0 = e2 ∙ ap (λ k. k % limit) e1 ∙ zero-mod limit in
+    let whole : 0 + (limit - one) ≡ limit = omega (arith, none) in
+    e3 ∙ ap (λ k. k % limit) whole ∙ mod_self limit
+fewer_below (suc n) limit some one fewer two fits e1 e2 e3 =
+    let single : one ≡ 1 = e2 ∙ ap (λ k. k % limit) (e1 ∙ is_some n) ∙ mod-eq_of_lt two in
+    let whole : suc n + (limit - one) ≡ n + limit = omega (arith, single) in
+    e3 ∙ ap (λ k. k % limit) whole ∙ add-mod_right n limit ∙ mod-eq_of_lt (omega arith) ∙ omega arith
+
+pub fewer_is : (n bits some one fewer : ℕ) → 1 ≤ bits → n < 2 ^ bits → some ≡ (if n == 0 then 0 else 1) → one ≡ some % 2 ^ bits → fewer ≡ (n + (2 ^ bits - one)) % 2 ^ bits → fewer ≡ n - 1
+fewer_is n bits some one fewer some_bit fits e1 e2 e3 = fewer_below n (2 ^ bits) some one fewer (one_fits bits some_bit) fits e1 e2 e3
+
+-- two facts of an outcome together
+pub if_both : {X E : Type 0} (r : Result X E) (P Q R : X → Type 0) → ((x : X) → P x → Q x → R x) → IfOk r P → IfOk r Q → IfOk r R
+if_both (Ok x) P Q R f h k = f x h k
+if_both (Err e) P Q R f h k = tt

@@ -1,0 +1,4 @@
+pub mod Hosts
+pub mod Reads
+pub mod Writes
+pub mod Forms

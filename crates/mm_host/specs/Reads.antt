@@ -1,0 +1,100 @@
+-- How the reads of a host are bounded: what two calls leave in a netlist.
+use Rattle.std.specs.Prelude.{◌≡◌, ℕ, ◌+◌, ◌-◌, ◌<◌, Bool, true, false, not, ◌&&◌, ◌||◌, nat_lt, if◌then◌else◌}
+use Rattle.histories.specs.History.{is_raised, one_if}
+use Rattle.iface_roles.specs.declared.records.HostPort.{HostPort}
+use Rattle.netlist.specs.Nets.{NetValue}
+use Rattle.netlist.specs.Netlists.{Netlist}
+use Rattle.netlist.specs.Runs.{Cycle, Run, cycle_of, IsRun, Always}
+use Rattle.netlist.specs.Longer.{Extends}
+use Rattle.net_parts.specs.Nets.{IsBit, IsNetOfWidth, StartsLow}
+use Rattle.net_parts.specs.Laws.{net_lasts}
+use Rattle.mm_host.specs.declared.reads.HeldReads.{HeldReads}
+use Rattle.mm_host.specs.declared.reads.HeldReads.TheVariants.{Never, Asks, Counts}
+
+-- ---- after the first call
+
+-- the numbers of the registers
+abbrev pub owns_reads : HeldReads → ℕ → Type 0
+owns_reads Never n = ⊥
+owns_reads (Asks asked) n = n ≡ asked.number
+owns_reads (Counts unanswered full) n = n ≡ unanswered.number
+
+-- the host's read is shown below while this bit is low
+abbrev pub ShowsUnless : Netlist → NetValue → NetValue → NetValue → Type 0
+ShowsUnless netlist shut read shown = Always netlist (λ cycle. is_raised (cycle.net shown.number) ≡ (is_raised (cycle.net read.number) && not (is_raised (cycle.net shut.number))))
+
+-- the host can't read
+pub record ReadsNever (netlist : Netlist) (port : HostPort) (read shown : NetValue) : Type 0 where
+  pub kind : port.readdatavalid ≡ false
+  pub low : Always netlist (λ cycle. cycle.net read.number ≡ 0)
+  pub shows : shown ≡ read
+
+-- without readdatavalid: a register says that the read that stands was taken below
+pub record ReadsAsk (netlist : Netlist) (port : HostPort) (read shown asked : NetValue) : Type 0 where
+  pub kind : port.readdatavalid ≡ false
+  pub net : IsBit netlist asked
+  pub starts : StartsLow netlist asked
+  pub shows : ShowsUnless netlist asked read shown
+
+-- with readdatavalid and reads of one word: a register counts those that aren't answered, up to 16
+pub record ReadsCount (netlist : Netlist) (port : HostPort) (read shown unanswered full : NetValue) : Type 0 where
+  pub kind : port.readdatavalid ≡ true
+  pub words : port.burst_bits ≡ 0
+  pub net : IsNetOfWidth netlist unanswered 5
+  pub bit : IsBit netlist full
+  pub starts : StartsLow netlist unanswered
+  pub is_full : Always netlist (λ cycle. is_raised (cycle.net full.number) ≡ not (nat_lt (cycle.net unanswered.number) 16))
+  pub shows : ShowsUnless netlist full read shown
+
+abbrev pub AreReadsHeld : Netlist → HostPort → NetValue → NetValue → HeldReads → Type 0
+AreReadsHeld netlist port read shown Never = ReadsNever netlist port read shown
+AreReadsHeld netlist port read shown (Asks asked) = ReadsAsk netlist port read shown asked
+AreReadsHeld netlist port read shown (Counts unanswered full) = ReadsCount netlist port read shown unanswered full
+
+-- ---- after the second call
+
+-- a read is taken below
+abbrev pub takes_in : Cycle → NetValue → NetValue → Bool
+takes_in cycle shown wait = is_raised (cycle.net shown.number) && not (is_raised (cycle.net wait.number))
+
+-- a read waits until its word comes
+pub record AsksOn (netlist : Netlist) (read shown asked wait valid told : NetValue) : Type 0 where
+  pub tells : Always netlist (λ cycle. is_raised (cycle.net told.number) ≡ (if is_raised (cycle.net read.number) then not (is_raised (cycle.net asked.number) && is_raised (cycle.net valid.number)) else is_raised (cycle.net wait.number)))
+  pub next : (run : Run) (cycles : ℕ) → IsRun netlist run cycles → (c : ℕ) → c + 1 < cycles
+      → is_raised (run.net (c + 1) asked.number) ≡ ((is_raised (run.net c asked.number) || takes_in (cycle_of run c) shown wait) && not (is_raised (run.net c valid.number)))
+
+-- a read waits while 16 are unanswered; the count rises where one is taken, and falls where a word comes
+pub record CountsOn (netlist : Netlist) (read shown unanswered full wait valid told : NetValue) : Type 0 where
+  pub tells : Always netlist (λ cycle. is_raised (cycle.net told.number) ≡ ((is_raised (cycle.net full.number) && is_raised (cycle.net read.number)) || is_raised (cycle.net wait.number)))
+  pub next : (run : Run) (cycles : ℕ) → IsRun netlist run cycles → (c : ℕ) → c + 1 < cycles → run.net c unanswered.number + one_if (takes_in (cycle_of run c) shown wait) < 32
+      → run.net (c + 1) unanswered.number ≡ (run.net c unanswered.number - one_if (is_raised (run.net c valid.number))) + one_if (takes_in (cycle_of run c) shown wait)
+
+abbrev pub ReadsGoOn : Netlist → NetValue → NetValue → NetValue → NetValue → NetValue → HeldReads → Type 0
+ReadsGoOn netlist read shown wait valid told Never = told ≡ wait
+ReadsGoOn netlist read shown wait valid told (Asks asked) = AsksOn netlist read shown asked wait valid told
+ReadsGoOn netlist read shown wait valid told (Counts unanswered full) = CountsOn netlist read shown unanswered full wait valid told
+
+-- ---- what stands lasts. No contract reads these proofs; the laws of the host cite them
+
+pub reads_last : (old new : Netlist) (port : HostPort) (read shown : NetValue) (held : HeldReads) → AreReadsHeld old port read shown held → Extends old new → AreReadsHeld new port read shown held
+reads_last old new port read shown Never h e = record { kind = h.kind; low = λ cycle v. h.low cycle (e.valuations cycle v); shows = h.shows }
+reads_last old new port read shown (Asks asked) h e = record {
+  kind = h.kind;
+  net = net_lasts old new asked 1 e h.net;
+  starts = λ run cycles r. h.starts run cycles (e.runs run cycles r);
+  shows = λ cycle v. h.shows cycle (e.valuations cycle v);
+}
+reads_last old new port read shown (Counts unanswered full) h e = record {
+  kind = h.kind;
+  words = h.words;
+  net = net_lasts old new unanswered 5 e h.net;
+  bit = net_lasts old new full 1 e h.bit;
+  starts = λ run cycles r. h.starts run cycles (e.runs run cycles r);
+  is_full = λ cycle v. h.is_full cycle (e.valuations cycle v);
+  shows = λ cycle v. h.shows cycle (e.valuations cycle v);
+}
+
+pub reads_go_on : (old new : Netlist) (read shown wait valid told : NetValue) (held : HeldReads) → ReadsGoOn old read shown wait valid told held → Extends old new → ReadsGoOn new read shown wait valid told held
+reads_go_on old new read shown wait valid told Never h e = h
+reads_go_on old new read shown wait valid told (Asks asked) h e = record { tells = λ cycle v. h.tells cycle (e.valuations cycle v); next = λ run cycles r. h.next run cycles (e.runs run cycles r) }
+reads_go_on old new read shown wait valid told (Counts unanswered full) h e = record { tells = λ cycle v. h.tells cycle (e.valuations cycle v); next = λ run cycles r. h.next run cycles (e.runs run cycles r) }

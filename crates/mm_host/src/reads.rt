@@ -1,0 +1,229 @@
+//! How the reads of a host are bounded, by registers alone.
+
+ghost use Rattle.std.specs.Prelude.{◌≡◌, ℕ, ◌+◌, ◌-◌, ◌^◌, ◌<◌, true, false, not, ◌&&◌, ◌||◌, length, IfOk, OnOk};
+ghost use Rattle.histories.specs.History.{is_raised, one_if};
+ghost use Rattle.iface_roles.specs.Proper.{IsBoundedHost};
+ghost use Rattle.netlist.specs.Netlists.{IsNet, IsWaiting};
+ghost use Rattle.netlist.specs.Runs.{Always};
+ghost use Rattle.net_parts.specs.Nets.{IsBit, IsNetOfWidth};
+ghost use Rattle.net_parts.specs.Growth.{GrowsBy, AddsNets, StillWait, WaitsBeside, WaitsWithout, AreMadeBetween};
+ghost use Rattle.mm_host.specs.Reads.{owns_reads, AreReadsHeld, AsksOn, CountsOn, ReadsGoOn};
+ghost use Rattle.mm_host.specs.Hosts.{ReadsOneWord};
+
+use crate::bits::{both, either, turned, unless};
+use crate::registers::{register, take_next};
+use iface_roles::HostPort;
+use net_parts::{choose, fit_bits};
+use netlist::{Builder, Net, NetFault};
+
+/// What bounds the reads of a host.
+#[derive(Clone, Copy)]
+pub enum HeldReads {
+    /// It can't read.
+    Never,
+    /// A register of one bit: the read that stands was taken below. For a host without `readdatavalid`.
+    Asks { asked: Net },
+    /// A register of five bits, the reads that aren't answered, and its highest bit: they are 16.
+    Counts { unanswered: Net, full: Net },
+}
+
+/// The read that is shown below, and what bounds it.
+#[derive(Clone, Copy)]
+pub(crate) struct ShownRead {
+    pub shown: Net,
+    pub held: HeldReads,
+}
+
+/// Shows a read until it is taken below.
+#[tactic(auto, using(net_parts::specs::Laws::growing))]
+fn hold_asked(builder: &mut Builder, port: &HostPort, read: Net) -> Result<ShownRead, NetFault>
+    requires kind { port.now.readdatavalid ≡ false }
+    requires read { IsBit builder.old read }
+    ensures shown { IfOk result (λ made. IsBit builder.new made.shown) }
+    ensures held { IfOk result (λ made. AreReadsHeld builder.new port.now read made.shown made.held) }
+    ensures owned { IfOk result (λ made. AreMadeBetween (owns_reads made.held) builder.old builder.new) }
+    ensures grows { GrowsBy 4 builder.old builder.new }
+    ensures still_wait { StillWait builder.old builder.new }
+    ensures own_wait { IfOk result (λ made. (n : ℕ) → owns_reads made.held n → IsWaiting builder.new n) }
+    ensures newly { IfOk result (λ made. WaitsBeside (owns_reads made.held) builder.old builder.new) }
+    ensures full { result ≡ Err NetFault.TooManyNets → 2 ^ 20 < length builder.old.lines + 4 }
+{
+    let asked = register(builder, 1)?;
+    let shown = unless(builder, read, asked)?;
+    let held = HeldReads::Asks { asked };
+    Ok(ShownRead { shown, held })
+}
+
+/// Shows a read while fewer than 16 are unanswered.
+#[tactic(auto, using(net_parts::specs::Laws::growing))]
+fn hold_count(builder: &mut Builder, port: &HostPort, read: Net) -> Result<ShownRead, NetFault>
+    requires kind { port.now.readdatavalid ≡ true }
+    requires words { port.now.burst_bits ≡ 0 }
+    requires read { IsBit builder.old read }
+    ensures shown { IfOk result (λ made. IsBit builder.new made.shown) }
+    ensures held { IfOk result (λ made. AreReadsHeld builder.new port.now read made.shown made.held) }
+    ensures owned { IfOk result (λ made. AreMadeBetween (owns_reads made.held) builder.old builder.new) }
+    ensures grows { GrowsBy 4 builder.old builder.new }
+    ensures still_wait { StillWait builder.old builder.new }
+    ensures own_wait { IfOk result (λ made. (n : ℕ) → owns_reads made.held n → IsWaiting builder.new n) }
+    ensures newly { IfOk result (λ made. WaitsBeside (owns_reads made.held) builder.old builder.new) }
+    ensures full { result ≡ Err NetFault.TooManyNets → 2 ^ 20 < length builder.old.lines + 4 }
+{
+    let unanswered = register(builder, 5)?;
+    let full = builder.slice(unanswered, 4, 4)?;
+    let shown = unless(builder, read, full)?;
+    let held = HeldReads::Counts { unanswered, full };
+    Ok(ShownRead { shown, held })
+}
+
+/// Shows the reads of a host below, so far as the registers let them.
+pub(crate) fn hold_reads(
+    builder: &mut Builder,
+    port: &HostPort,
+    read: Net,
+) -> Result<ShownRead, NetFault>
+    requires port { IsBoundedHost port.now }
+    requires words { ReadsOneWord port.now }
+    requires read { IsBit builder.old read }
+    requires none { port.now.reads ≡ false → Always builder.old (λ cycle. cycle.net read.number ≡ 0) }
+    ensures shown { IfOk result (λ made. IsBit builder.new made.shown) }
+    ensures held { IfOk result (λ made. AreReadsHeld builder.new port.now read made.shown made.held) }
+    ensures owned { IfOk result (λ made. AreMadeBetween (owns_reads made.held) builder.old builder.new) }
+    ensures grows { GrowsBy 4 builder.old builder.new }
+    ensures still_wait { StillWait builder.old builder.new }
+    ensures own_wait { IfOk result (λ made. (n : ℕ) → owns_reads made.held n → IsWaiting builder.new n) }
+    ensures newly { IfOk result (λ made. WaitsBeside (owns_reads made.held) builder.old builder.new) }
+    ensures full { result ≡ Err NetFault.TooManyNets → 2 ^ 20 < length builder.old.lines + 4 }
+{
+    if !port.reads {
+        let held = HeldReads::Never;
+        return Ok(ShownRead { shown: read, held });
+    }
+    if port.readdatavalid {
+        hold_count(builder, port, read)
+    } else {
+        hold_asked(builder, port, read)
+    }
+}
+
+/// The count of unanswered reads after a cycle in which a read is taken below, or a word comes. It doesn't fall below 0.
+#[tactic(auto, using(net_parts::specs::Laws::growing))]
+fn next_count(
+    builder: &mut Builder,
+    unanswered: Net,
+    taken: Net,
+    valid: Net,
+) -> Result<Net, NetFault>
+    requires unanswered { IsNetOfWidth builder.old unanswered 5 }
+    requires taken { IsBit builder.old taken }
+    requires valid { IsBit builder.old valid }
+    ensures net { IfOk result (λ next. IsNetOfWidth builder.new next 5) }
+    ensures value { IfOk result (λ next. Always builder.new (λ cycle. cycle.net unanswered.number + one_if (is_raised (cycle.net taken.number)) < 32
+        → cycle.net next.number ≡ (cycle.net unanswered.number - one_if (is_raised (cycle.net valid.number))) + one_if (is_raised (cycle.net taken.number)))) }
+    ensures adds { AddsNets 8 builder.old builder.new }
+    ensures full { result ≡ Err NetFault.TooManyNets → 2 ^ 20 < length builder.old.lines + 8 }
+{
+    let some = builder.any(unanswered)?;
+    let answers = both(builder, valid, some)?;
+    let more = fit_bits(builder, taken, 1, 5)?;
+    let fewer = fit_bits(builder, answers, 1, 5)?;
+    let sum = builder.add(unanswered, more)?;
+    builder.sub(sum, fewer)
+}
+
+/// Sets what asks, and makes the waitrequest that the host is told.
+#[tactic(auto, using(net_parts::specs::Laws::growing))]
+fn finish_asked(
+    builder: &mut Builder,
+    read: Net,
+    shown: Net,
+    asked: Net,
+    wait: Net,
+    valid: Net,
+) -> Result<Net, NetFault>
+    requires read { IsBit builder.old read }
+    requires shown { IsBit builder.old shown }
+    requires asked { IsBit builder.old asked }
+    requires wait { IsBit builder.old wait }
+    requires valid { IsBit builder.old valid }
+    requires waits { IsWaiting builder.old asked.number }
+    ensures told { IfOk result (λ told. IsBit builder.new told) }
+    ensures on { IfOk result (λ told. AsksOn builder.new read shown asked wait valid told) }
+    ensures grows { GrowsBy 12 builder.old builder.new }
+    ensures waits { (n : ℕ) → ¬ (n ≡ asked.number) → IsWaiting builder.old n → IsWaiting builder.new n }
+    ensures no_more_wait { OnOk result (WaitsWithout (λ n. n ≡ asked.number) builder.old builder.new) }
+    ensures full { result ≡ Err NetFault.TooManyNets → 2 ^ 20 < length builder.old.lines + 12 }
+{
+    let answered = both(builder, asked, valid)?;
+    let open = turned(builder, answered)?;
+    let told = choose(builder, read, open, wait)?;
+    let taken = unless(builder, shown, wait)?;
+    let stands = either(builder, asked, taken)?;
+    let next = unless(builder, stands, valid)?;
+    take_next(builder, asked, next);
+    Ok(told)
+}
+
+/// Sets the count of unanswered reads, and makes the waitrequest that the host is told.
+#[tactic(auto, using(net_parts::specs::Laws::growing))]
+fn finish_count(
+    builder: &mut Builder,
+    read: Net,
+    shown: Net,
+    unanswered: Net,
+    full: Net,
+    wait: Net,
+    valid: Net,
+) -> Result<Net, NetFault>
+    requires read { IsBit builder.old read }
+    requires shown { IsBit builder.old shown }
+    requires unanswered { IsNetOfWidth builder.old unanswered 5 }
+    requires full { IsBit builder.old full }
+    requires wait { IsBit builder.old wait }
+    requires valid { IsBit builder.old valid }
+    requires waits { IsWaiting builder.old unanswered.number }
+    ensures told { IfOk result (λ told. IsBit builder.new told) }
+    ensures on { IfOk result (λ told. CountsOn builder.new read shown unanswered full wait valid told) }
+    ensures grows { GrowsBy 12 builder.old builder.new }
+    ensures waits { (n : ℕ) → ¬ (n ≡ unanswered.number) → IsWaiting builder.old n → IsWaiting builder.new n }
+    ensures no_more_wait { OnOk result (WaitsWithout (λ n. n ≡ unanswered.number) builder.old builder.new) }
+    ensures full { result ≡ Err NetFault.TooManyNets → 2 ^ 20 < length builder.old.lines + 12 }
+{
+    let shut = both(builder, full, read)?;
+    let told = either(builder, shut, wait)?;
+    let taken = unless(builder, shown, wait)?;
+    let next = next_count(builder, unanswered, taken, valid)?;
+    take_next(builder, unanswered, next);
+    Ok(told)
+}
+
+/// Sets what bounds the reads, and makes the waitrequest that the host is told.
+pub(crate) fn finish_reads(
+    builder: &mut Builder,
+    port: &HostPort,
+    read: Net,
+    shown: &ShownRead,
+    wait: Net,
+    valid: Net,
+) -> Result<Net, NetFault>
+    requires held { AreReadsHeld builder.old port.now read shown.now.shown shown.now.held }
+    requires read { IsBit builder.old read }
+    requires shown { IsBit builder.old shown.now.shown }
+    requires wait { IsBit builder.old wait }
+    requires valid { IsBit builder.old valid }
+    requires waits { (n : ℕ) → owns_reads shown.now.held n → IsWaiting builder.old n }
+    ensures told { IfOk result (λ told. IsBit builder.new told) }
+    ensures on { IfOk result (λ told. ReadsGoOn builder.new read shown.now.shown wait valid told shown.now.held) }
+    ensures grows { GrowsBy 12 builder.old builder.new }
+    ensures waits { (n : ℕ) → ¬ owns_reads shown.now.held n → IsWaiting builder.old n → IsWaiting builder.new n }
+    ensures no_more_wait { OnOk result (WaitsWithout (owns_reads shown.now.held) builder.old builder.new) }
+    ensures full { result ≡ Err NetFault.TooManyNets → 2 ^ 20 < length builder.old.lines + 12 }
+{
+    match shown.held {
+        HeldReads::Never => Ok(wait),
+        HeldReads::Asks { asked } => finish_asked(builder, read, shown.shown, asked, wait, valid),
+        HeldReads::Counts { unanswered, full } => {
+            finish_count(builder, read, shown.shown, unanswered, full, wait, valid)
+        }
+    }
+}
