@@ -6,6 +6,7 @@ use Rattle.std.proofs.lemmas.Nat.{pow-add, pow_pos, div-add-mod'}
 use Rattle.std.proofs.lemmas.Bool.{ne_eqb, ltb-true, ltb-false}
 use Rattle.std.specs.Prelude.{Result, Ok, Err, IfOk}
 use Rattle.histories.specs.History.{is_raised, one_if}
+use Rattle.net_parts.specs.Growth.{fit_nets}
 use Rattle.mm_host.specs.Writes.{beats_of}
 
 pub raised_and : (x y z : ℕ) → x < 2 → y < 2 → z ≡ bit_and x y → is_raised z ≡ (is_raised x && is_raised y)
@@ -128,3 +129,45 @@ fewer_is n bits some one fewer some_bit fits e1 e2 e3 = fewer_below n (2 ^ bits)
 pub if_both : {X E : Type 0} (r : Result X E) (P Q R : X → Type 0) → ((x : X) → P x → Q x → R x) → IfOk r P → IfOk r Q → IfOk r R
 if_both (Ok x) P Q R f h k = f x h k
 if_both (Err e) P Q R f h k = tt
+
+raised_any : (t : Bool) (some : ℕ) → some ≡ (if t then 0 else 1) → is_raised some ≡ not t
+raised_any true some e = ap is_raised e
+raised_any false some e = ap is_raised e
+
+pub at_most_one : (b : Bool) → one_if b ≤ 1
+at_most_one true = omega arith
+at_most_one false = omega arith
+
+pub and_false : (b : Bool) → (b && false) ≡ false
+and_false true = refl
+and_false false = refl
+
+-- only a read that lacks words gets one
+gets_few : (goes : Bool) (lacks : ℕ) → one_if (goes && not (nat_eq lacks 0)) ≤ lacks
+gets_few goes zero = (let none : one_if (goes && false) ≡ 0 = ap one_if (and_false goes) in omega (arith, none))
+gets_few goes (suc lacks) = (let few = at_most_one (goes && not (nat_eq (suc lacks) 0)) in omega (arith, few))
+
+pub got_counted : (bits got lacks goes last some more step sum zeros next : ℕ) → 1 ≤ bits → last < 2 → more < 2 → some ≡ (if lacks == 0 then 0 else 1) → is_raised more ≡ (is_raised goes && is_raised some) →
+    step ≡ more % 2 ^ bits → sum ≡ (got + step) % 2 ^ bits → zeros ≡ 0 → next ≡ (if last == 0 then sum else zeros) → got + lacks < 2 ^ bits → next ≡ (if is_raised last then 0 else got + one_if (is_raised goes && not (nat_eq lacks 0)))
+got_counted bits got lacks goes last some more step sum zeros next some_bit hl hm e1 e2 e3 e4 e5 e6 room =
+    let two = one_fits bits some_bit in
+    let is : more ≡ one_if (is_raised goes && not (nat_eq lacks 0)) = level_is more hm ∙ ap one_if (e2 ∙ ap (λ t. is_raised goes && t) (raised_any (nat_eq lacks 0) some e1)) in
+    let few = gets_few (is_raised goes) lacks in
+    let step_is : step ≡ more = e3 ∙ mod-eq_of_lt (omega (arith, hm, two)) in
+    let whole : (got + step) % 2 ^ bits ≡ got + step = mod-eq_of_lt (omega (arith, step_is, is, few, room)) in
+    let sum_is : sum ≡ got + one_if (is_raised goes && not (nat_eq lacks 0)) = e4 ∙ whole ∙ ap (λ n. got + n) (step_is ∙ is) in
+    choice_raised last zeros sum next hl e6 ∙ ap (λ n. if is_raised last then n else sum) e5 ∙ ap (λ n. if is_raised last then 0 else n) sum_is
+
+-- no borrow where the difference fits
+pub difference : (beats got limit : ℕ) → beats < limit → got ≤ beats → {lacks : ℕ} → lacks ≡ (beats + (limit - got)) % limit → lacks ≡ beats - got
+difference beats got limit fits few {lacks} e =
+    let whole : beats + (limit - got) ≡ (beats - got) + limit = omega arith in
+    e ∙ ap (λ n. n % limit) whole ∙ add-mod_right (beats - got) limit ∙ mod-eq_of_lt (omega arith)
+
+-- the most nets that fitting takes
+pub fits_in_two : (bits wanted : ℕ) → fit_nets bits wanted ≤ 2
+fits_in_two bits wanted = by_test (bits == wanted)
+  where
+    by_test : (t : Bool) → (if t then 0 else 2) ≤ 2
+    by_test true = omega arith
+    by_test false = omega arith

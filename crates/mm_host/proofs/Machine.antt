@@ -1,8 +1,8 @@
 -- The nets of a host run as its machine.
-use Rattle.std.proofs.Common.{◌≡◌, ℕ, zero, suc, ◌+◌, ◌-◌, ◌<◌, Bool, true, false, not, ◌&&◌, ◌||◌, nat_eq, nat_lt, if◌then◌else◌, List, [], length, Option, Some, None, refl, sym, subst, ap, ◌∙◌, arith}
+use Rattle.std.proofs.Common.{◌≡◌, ℕ, zero, suc, ◌+◌, ◌-◌, ◌<◌, Bool, true, false, not, ◌&&◌, ◌||◌, nat_eq, nat_lt, if◌then◌else◌, List, [], length, ◌++◌, Option, Some, None, refl, sym, subst, ap, ◌∙◌, arith}
 use Rattle.std.specs.Prelude.{◌≤◌, IsTrue, IsFalse}
 use Rattle.std.proofs.lemmas.Bool.{ltb-true}
-use Rattle.histories.specs.History.{is_raised, one_if}
+use Rattle.histories.specs.History.{is_raised, one_if, only_if}
 use Rattle.iface_roles.specs.declared.records.HostPort.{HostPort}
 use Rattle.netlist.specs.Nets.{NetValue}
 use Rattle.netlist.specs.Netlists.{Netlist}
@@ -10,21 +10,26 @@ use Rattle.netlist.specs.Runs.{Cycle, Run, cycle_of, IsEndlessRun, IsValuation}
 use Rattle.net_parts.specs.Laws.{bit_fits, width_fits}
 use Rattle.net_parts.specs.Bits.{of_chosen}
 use Rattle.mm_runs.specs.Views.Responses.{AreZero}
-use Rattle.mm_parts.specs.Queue.{Entry, QueuesReads, entry_at}
+use Rattle.mm_parts.specs.Queue.{Entry, QueuesReads, answered, entry_at}
 use Rattle.mm_parts.specs.Host.{HostState, IsHostMachine}
 use Rattle.memory_sides.specs.Sides.{host_side}
 use Rattle.command_nets.specs.declared.nets.AnswerNets.{AnswerNets}
 use Rattle.command_nets.specs.Nets.{port_in}
 use Rattle.mm_host.specs.declared.nets.HostAnswer.{HostAnswer}
 use Rattle.mm_host.specs.declared.reads.HeldReads.{HeldReads}
-use Rattle.mm_host.specs.declared.reads.HeldReads.TheVariants.{Never, Asks, Counts}
+use Rattle.mm_host.specs.declared.reads.HeldReads.TheVariants.{Never, Asks, Counts, Queues}
 use Rattle.mm_host.specs.declared.writes.HeldWrites.{HeldWrites}
 use Rattle.mm_host.specs.declared.host.HeldHost.{HeldHost}
 use Rattle.mm_host.specs.Hosts.{value_or, host_view}
-use Rattle.mm_host.specs.Reads.{AreReadsHeld, ReadsGoOn}
+use Rattle.mm_host.specs.Reads.{AreReadsHeld, ReadsQueue, ReadsGoOn}
 use Rattle.mm_host.specs.Writes.{AreWritesHeld, WritesGoOn}
 use Rattle.mm_host.specs.Forms.{IsHeld, HostGoesOn, shape_below, valid_of}
 use Rattle.mm_host.proofs.Ignores.{single}
+use Rattle.net_parts.specs.Places.{held_of}
+use Rattle.mm_host.specs.declared.queue.HeldQueue.{HeldQueue}
+use Rattle.mm_host.specs.Queued.{QueuesOn}
+use Rattle.mm_host.proofs.Bursts.{entry, entries_of, entries_count}
+use Rattle.mm_host.proofs.BurstRuns.{counts_at, full_is, step, fits, none_yet}
 use Rattle.mm_host.proofs.Queues.{one_word, words_of, words_count, words_next}
 
 -- ---- bits
@@ -111,11 +116,13 @@ abbrev pub queue_of : HeldReads → Run → ℕ → List Entry
 queue_of Never run c = []
 queue_of (Asks asked) run c = []
 queue_of (Counts unanswered full) run c = words_of (run.net c unanswered.number)
+queue_of (Queues queue) run c = entries_of (run.net c queue.got.number) (held_of (counts_at (cycle_of run c) queue.row))
 
 abbrev pub asked_of : HeldReads → Run → ℕ → Bool
 asked_of Never run c = false
 asked_of (Asks asked) run c = is_raised (run.net c asked.number)
 asked_of (Counts unanswered full) run c = false
+asked_of (Queues queue) run c = false
 
 abbrev pub left_of : Option HeldWrites → Run → ℕ → ℕ
 left_of None run c = 0
@@ -160,25 +167,47 @@ module _ (port : HostPort) (held : HeldHost) (wait : NetValue) (answer : AnswerN
 
   -- ---- reads
 
-  shown_raised : (reads : HeldReads) → AreReadsHeld netlist port held.read held.command.read reads → (c : ℕ) → D c ≡ (R c && not (shut_of port reads run c))
-  shown_raised Never k c = ap (λ (n : NetValue). is_raised (run.net c n.number)) k.shows ∙ sym (and_true (R c)) ∙ rw k.kind refl
-  shown_raised (Asks asked) k c = k.shows (cycle_of run c) (val c) ∙ rw k.kind refl
-  shown_raised (Counts unanswered full) k c =
-      k.shows (cycle_of run c) (val c) ∙ ap (λ t. R c && not t) (k.is_full (cycle_of run c) (val c) ∙ ap (λ n. not (nat_lt n 16)) (sym (words_count (run.net c unanswered.number)))) ∙ rw k.kind refl
+  queue_full : (queue : HeldQueue) → ReadsQueue netlist port held.read held.command.count held.command.read queue → QueuesOn netlist held.read held.command.count held.command.read queue wait answer.valid made.waitrequest → (c : ℕ) →
+      is_raised (run.net c queue.ends.full.number) ≡ not (nat_lt (length (queue_of (Queues queue) run c)) 16)
+  queue_full queue k l c =
+      full_is netlist port held.read held.command.count held.command.read queue wait answer.valid made.waitrequest k.made l run endless (λ c. k.shows (cycle_of run c) (val c)) c
+      ∙ ap (λ n. not (nat_lt n 16)) (sym (entries_count (run.net c queue.got.number) (held_of (counts_at (cycle_of run c) queue.row))))
 
-  told_is : (reads : HeldReads) → AreReadsHeld netlist port held.read held.command.read reads → ReadsGoOn netlist held.read held.command.read wait answer.valid made.waitrequest reads → (c : ℕ) →
+  bursts_on : (queue : HeldQueue) → ReadsQueue netlist port held.read held.command.count held.command.read queue → QueuesOn netlist held.read held.command.count held.command.read queue wait answer.valid made.waitrequest → (end : ℕ) →
+      QueuesReads (port_in (shape_below port) run held.command wait answer) (λ c. run.net c answer.valid.number) (queue_of (Queues queue) run) end
+  bursts_on queue k l end = record {
+    begins = ap (entries_of (run.net 0 queue.got.number)) (none_yet netlist port held.read held.command.count held.command.read queue wait answer.valid made.waitrequest k.made l run endless shows);
+    next = λ c lt.
+        (step netlist port held.read held.command.count held.command.read queue wait answer.valid made.waitrequest k.made l run endless shows c
+        (fits netlist port held.read held.command.count held.command.read queue wait answer.valid made.waitrequest k.made l run endless shows c)).queue
+        ∙ ap (λ t. answered (V c) (queue_of (Queues queue) run c) ++ only_if t (entry (run.net c held.command.count.number))) (sym (read_taken (D c) (W c) (N c)))
+        ∙ ap (λ n. answered (V c) (queue_of (Queues queue) run c) ++ only_if (((D c || W c) && not (N c)) && D c) (record { tag = n; left = run.net c held.command.count.number })) (sym (h.values (cycle_of run c) (val c)).tag);
+  } where
+    shows : (c : ℕ) → D c ≡ (R c && not (is_raised (run.net c queue.ends.full.number)))
+    shows c = k.shows (cycle_of run c) (val c)
+
+  shown_raised : (reads : HeldReads) → AreReadsHeld netlist port held.read held.command.count held.command.read reads → ReadsGoOn netlist held.read held.command.count held.command.read wait answer.valid made.waitrequest reads → (c : ℕ) → D c ≡ (R c && not (shut_of port reads run c))
+  shown_raised Never k l c = ap (λ (n : NetValue). is_raised (run.net c n.number)) k.shows ∙ sym (and_true (R c)) ∙ rw k.kind refl
+  shown_raised (Asks asked) k l c = k.shows (cycle_of run c) (val c) ∙ rw k.kind refl
+  shown_raised (Counts unanswered full) k l c =
+      k.shows (cycle_of run c) (val c) ∙ ap (λ t. R c && not t) (k.is_full (cycle_of run c) (val c) ∙ ap (λ n. not (nat_lt n 16)) (sym (words_count (run.net c unanswered.number)))) ∙ rw k.kind refl
+  shown_raised (Queues queue) k l c = k.shows (cycle_of run c) (val c) ∙ ap (λ t. R c && not t) (queue_full queue k l c) ∙ rw k.kind refl
+
+  told_is : (reads : HeldReads) → AreReadsHeld netlist port held.read held.command.count held.command.read reads → ReadsGoOn netlist held.read held.command.count held.command.read wait answer.valid made.waitrequest reads → (c : ℕ) →
       is_raised (run.net c made.waitrequest.number) ≡ (if R c && not port.readdatavalid then not (asked_of reads run c && V c) else (shut_of port reads run c && R c) || N c)
   told_is Never k l c = rw k.kind (told_never (R c) (N c) _ _ (ap (λ (n : NetValue). is_raised (run.net c n.number)) l) (ap is_raised (k.low (cycle_of run c) (val c))))
   told_is (Asks asked) k l c = rw k.kind (told_asks (R c) _ (V c) (N c) _ (l.tells (cycle_of run c) (val c)))
   told_is (Counts unanswered full) k l c =
       rw k.kind (told_counts (R c) _ _ (N c) _ _ (l.tells (cycle_of run c) (val c)) (k.is_full (cycle_of run c) (val c) ∙ ap (λ n. not (nat_lt n 16)) (sym (words_count (run.net c unanswered.number)))))
+  told_is (Queues queue) k l c = rw k.kind (told_counts (R c) _ _ (N c) _ _ (l.tells (cycle_of run c) (val c)) (queue_full queue k l c))
 
-  quiet_at : (reads : HeldReads) → AreReadsHeld netlist port held.read held.command.read reads → asked_of reads run 0 ≡ false
+  quiet_at : (reads : HeldReads) → AreReadsHeld netlist port held.read held.command.count held.command.read reads → asked_of reads run 0 ≡ false
   quiet_at Never k = refl
   quiet_at (Asks asked) k = ap is_raised (k.starts run 1 (endless 1) (omega arith))
   quiet_at (Counts unanswered full) k = refl
+  quiet_at (Queues queue) k = refl
 
-  asks_on : (reads : HeldReads) → AreReadsHeld netlist port held.read held.command.read reads → ReadsGoOn netlist held.read held.command.read wait answer.valid made.waitrequest reads → IsFalse port.readdatavalid → (c : ℕ) →
+  asks_on : (reads : HeldReads) → AreReadsHeld netlist port held.read held.command.count held.command.read reads → ReadsGoOn netlist held.read held.command.count held.command.read wait answer.valid made.waitrequest reads → IsFalse port.readdatavalid → (c : ℕ) →
       asked_of reads run (suc c) ≡ ((asked_of reads run c || (((D c || W c) && not (N c)) && D c)) && not (V c))
   asks_on Never k l none c =
       (let low : D c ≡ false = ap (λ (n : NetValue). is_raised (run.net c n.number)) k.shows ∙ ap is_raised (k.low (cycle_of run c) (val c)) in
@@ -187,11 +216,13 @@ module _ (port : HostPort) (held : HeldHost) (wait : NetValue) (answer : AnswerN
       ap (λ n. is_raised (run.net n asked.number)) (sym (next_cycle c)) ∙ l.next run (c + 2) (endless (c + 2)) c (omega arith)
       ∙ ap (λ t. (is_raised (run.net c asked.number) || t) && not (V c)) (sym (read_taken (D c) (W c) (N c)))
   asks_on (Counts unanswered full) k l none c = absurd (let some = k.kind in cc)
+  asks_on (Queues queue) k l none c = absurd (let some = k.kind in cc)
 
-  queue_on : (reads : HeldReads) → AreReadsHeld netlist port held.read held.command.read reads → ReadsGoOn netlist held.read held.command.read wait answer.valid made.waitrequest reads → IsTrue port.readdatavalid → (end : ℕ) →
+  queue_on : (reads : HeldReads) → AreReadsHeld netlist port held.read held.command.count held.command.read reads → ReadsGoOn netlist held.read held.command.count held.command.read wait answer.valid made.waitrequest reads → IsTrue port.readdatavalid → (end : ℕ) →
       QueuesReads (port_in (shape_below port) run held.command wait answer) (λ c. run.net c answer.valid.number) (queue_of reads run) end
   queue_on Never k l some end = absurd (let none = k.kind in cc)
   queue_on (Asks asked) k l some end = absurd (let none = k.kind in cc)
+  queue_on (Queues queue) k l some end = bursts_on queue k l end
   queue_on (Counts unanswered full) k l some end = record {
     begins = ap words_of (k.starts run 1 (endless 1) (omega arith));
     next = λ c lt.
@@ -243,7 +274,7 @@ module _ (port : HostPort) (held : HeldHost) (wait : NetValue) (answer : AnswerN
     units = refl;
     bursts = refl;
     read = λ c lt.
-        gated (shut_of port held.reads run c) _ _ (bit_fits netlist held.command.read h.shown (cycle_of run c) (val c)) (bit_fits netlist held.read h.fields.read (cycle_of run c) (val c)) (shown_raised held.reads h.reads c)
+        gated (shut_of port held.reads run c) _ _ (bit_fits netlist held.command.read h.shown (cycle_of run c) (val c)) (bit_fits netlist held.read h.fields.read (cycle_of run c) (val c)) (shown_raised held.reads h.reads g.reads c)
         ∙ ap (λ n. if shut_of port held.reads run c then 0 else n) (read_is c);
     write = λ c lt. write_is c;
     address = λ c lt. (h.values (cycle_of run c) (val c)).address;

@@ -50,7 +50,7 @@ pub record IsHeld (netlist : Netlist) (port : HostPort) (held : HeldHost) : Type
   pub more : IsBit netlist held.command.more
   pub fields : AreFields netlist port (fields_of held)
   pub values : Always netlist (ShowFields port held.nets (fields_of held))
-  pub reads : AreReadsHeld netlist port held.read held.command.read held.reads
+  pub reads : AreReadsHeld netlist port held.read held.command.count held.command.read held.reads
   pub writes : AreWritesHeld netlist port held.command.write held.command.count held.command.more held.writes
   pub apart : (n : ℕ) → owns_reads held.reads n → owns_writes held.writes n → ⊥
 
@@ -85,7 +85,7 @@ abbrev pub valid_of : HostPort → NetValue → Option NetValue
 valid_of port valid = if port.readdatavalid then Some valid else None
 
 pub record HostGoesOn (netlist : Netlist) (held : HeldHost) (port : HostPort) (wait : NetValue) (answer : AnswerNets) (made : HostAnswer) : Type 0 where
-  pub reads : ReadsGoOn netlist held.read held.command.read wait answer.valid made.waitrequest held.reads
+  pub reads : ReadsGoOn netlist held.read held.command.count held.command.read wait answer.valid made.waitrequest held.reads
   pub writes : WritesGoOn netlist held.command.write wait held.writes
   pub word : made.readdata ≡ answer.word
   pub valid : made.readdatavalid ≡ valid_of port answer.valid
@@ -140,14 +140,14 @@ held_lasts old new port held h e = record {
   more = net_lasts old new held.command.more 1 e h.more;
   fields = fields_last old new port (fields_of held) h.fields e;
   values = λ cycle v. h.values cycle (e.valuations cycle v);
-  reads = reads_last old new port held.read held.command.read held.reads h.reads e;
+  reads = reads_last old new port held.read held.command.count held.command.read held.reads h.reads e;
   writes = writes_last old new port held.command.write held.command.count held.command.more held.writes h.writes e;
   apart = h.apart;
 }
 
 pub goes_on_lasts : (old new : Netlist) (held : HeldHost) (port : HostPort) (wait : NetValue) (answer : AnswerNets) (made : HostAnswer) → HostGoesOn old held port wait answer made → Extends old new → HostGoesOn new held port wait answer made
 goes_on_lasts old new held port wait answer made g e = record {
-  reads = reads_go_on old new held.read held.command.read wait answer.valid made.waitrequest held.reads g.reads e;
+  reads = reads_go_on old new held.read held.command.count held.command.read wait answer.valid made.waitrequest held.reads g.reads e;
   writes = writes_go_on old new held.command.write wait held.writes g.writes e;
   word = g.word;
   valid = g.valid;

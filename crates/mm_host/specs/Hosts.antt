@@ -21,10 +21,6 @@ HasNet netlist there bits (Some net) = (there ≡ true) × IsNetOfWidth netlist 
 abbrev pub bursts : HostPort → Bool
 bursts port = not (nat_eq port.burst_bits 0)
 
--- each read has one word
-abbrev pub ReadsOneWord : HostPort → Type 0
-ReadsOneWord port = port.reads ≡ true → port.burst_bits ≡ 0
-
 -- what a host gives
 pub record AreHostNets (netlist : Netlist) (port : HostPort) (nets : HostNets) : Type 0 where
   pub address : IsNetOfWidth netlist nets.address port.address_bits

@@ -9,7 +9,9 @@ use Rattle.netlist.specs.Longer.{Extends}
 use Rattle.net_parts.specs.Nets.{IsBit, IsNetOfWidth, StartsLow}
 use Rattle.net_parts.specs.Laws.{net_lasts}
 use Rattle.mm_host.specs.declared.reads.HeldReads.{HeldReads}
-use Rattle.mm_host.specs.declared.reads.HeldReads.TheVariants.{Never, Asks, Counts}
+use Rattle.mm_host.specs.declared.reads.HeldReads.TheVariants.{Never, Asks, Counts, Queues}
+use Rattle.mm_host.specs.declared.queue.HeldQueue.{HeldQueue}
+use Rattle.mm_host.specs.Queued.{owns_queue, IsQueueMade, QueuesOn, queue_lasts, queue_goes_on}
 
 -- ---- after the first call
 
@@ -18,6 +20,7 @@ abbrev pub owns_reads : HeldReads → ℕ → Type 0
 owns_reads Never n = ⊥
 owns_reads (Asks asked) n = n ≡ asked.number
 owns_reads (Counts unanswered full) n = n ≡ unanswered.number
+owns_reads (Queues queue) n = owns_queue queue n
 
 -- the host's read is shown below while this bit is low
 abbrev pub ShowsUnless : Netlist → NetValue → NetValue → NetValue → Type 0
@@ -46,10 +49,17 @@ pub record ReadsCount (netlist : Netlist) (port : HostPort) (read shown unanswer
   pub is_full : Always netlist (λ cycle. is_raised (cycle.net full.number) ≡ not (nat_lt (cycle.net unanswered.number) 16))
   pub shows : ShowsUnless netlist full read shown
 
-abbrev pub AreReadsHeld : Netlist → HostPort → NetValue → NetValue → HeldReads → Type 0
-AreReadsHeld netlist port read shown Never = ReadsNever netlist port read shown
-AreReadsHeld netlist port read shown (Asks asked) = ReadsAsk netlist port read shown asked
-AreReadsHeld netlist port read shown (Counts unanswered full) = ReadsCount netlist port read shown unanswered full
+-- with readdatavalid and bursts: a row holds the counts of those that aren't answered
+pub record ReadsQueue (netlist : Netlist) (port : HostPort) (read count shown : NetValue) (queue : HeldQueue) : Type 0 where
+  pub kind : port.readdatavalid ≡ true
+  pub made : IsQueueMade netlist port read count queue
+  pub shows : ShowsUnless netlist queue.ends.full read shown
+
+abbrev pub AreReadsHeld : Netlist → HostPort → NetValue → NetValue → NetValue → HeldReads → Type 0
+AreReadsHeld netlist port read count shown Never = ReadsNever netlist port read shown
+AreReadsHeld netlist port read count shown (Asks asked) = ReadsAsk netlist port read shown asked
+AreReadsHeld netlist port read count shown (Counts unanswered full) = ReadsCount netlist port read shown unanswered full
+AreReadsHeld netlist port read count shown (Queues queue) = ReadsQueue netlist port read count shown queue
 
 -- ---- after the second call
 
@@ -69,22 +79,23 @@ pub record CountsOn (netlist : Netlist) (read shown unanswered full wait valid t
   pub next : (run : Run) (cycles : ℕ) → IsRun netlist run cycles → (c : ℕ) → c + 1 < cycles → run.net c unanswered.number + one_if (takes_in (cycle_of run c) shown wait) < 32
       → run.net (c + 1) unanswered.number ≡ (run.net c unanswered.number - one_if (is_raised (run.net c valid.number))) + one_if (takes_in (cycle_of run c) shown wait)
 
-abbrev pub ReadsGoOn : Netlist → NetValue → NetValue → NetValue → NetValue → NetValue → HeldReads → Type 0
-ReadsGoOn netlist read shown wait valid told Never = told ≡ wait
-ReadsGoOn netlist read shown wait valid told (Asks asked) = AsksOn netlist read shown asked wait valid told
-ReadsGoOn netlist read shown wait valid told (Counts unanswered full) = CountsOn netlist read shown unanswered full wait valid told
+abbrev pub ReadsGoOn : Netlist → NetValue → NetValue → NetValue → NetValue → NetValue → NetValue → HeldReads → Type 0
+ReadsGoOn netlist read count shown wait valid told Never = told ≡ wait
+ReadsGoOn netlist read count shown wait valid told (Asks asked) = AsksOn netlist read shown asked wait valid told
+ReadsGoOn netlist read count shown wait valid told (Counts unanswered full) = CountsOn netlist read shown unanswered full wait valid told
+ReadsGoOn netlist read count shown wait valid told (Queues queue) = QueuesOn netlist read count shown queue wait valid told
 
 -- ---- what stands lasts. No contract reads these proofs; the laws of the host cite them
 
-pub reads_last : (old new : Netlist) (port : HostPort) (read shown : NetValue) (held : HeldReads) → AreReadsHeld old port read shown held → Extends old new → AreReadsHeld new port read shown held
-reads_last old new port read shown Never h e = record { kind = h.kind; low = λ cycle v. h.low cycle (e.valuations cycle v); shows = h.shows }
-reads_last old new port read shown (Asks asked) h e = record {
+pub reads_last : (old new : Netlist) (port : HostPort) (read count shown : NetValue) (held : HeldReads) → AreReadsHeld old port read count shown held → Extends old new → AreReadsHeld new port read count shown held
+reads_last old new port read count shown Never h e = record { kind = h.kind; low = λ cycle v. h.low cycle (e.valuations cycle v); shows = h.shows }
+reads_last old new port read count shown (Asks asked) h e = record {
   kind = h.kind;
   net = net_lasts old new asked 1 e h.net;
   starts = λ run cycles r. h.starts run cycles (e.runs run cycles r);
   shows = λ cycle v. h.shows cycle (e.valuations cycle v);
 }
-reads_last old new port read shown (Counts unanswered full) h e = record {
+reads_last old new port read count shown (Counts unanswered full) h e = record {
   kind = h.kind;
   words = h.words;
   net = net_lasts old new unanswered 5 e h.net;
@@ -93,8 +104,10 @@ reads_last old new port read shown (Counts unanswered full) h e = record {
   is_full = λ cycle v. h.is_full cycle (e.valuations cycle v);
   shows = λ cycle v. h.shows cycle (e.valuations cycle v);
 }
+reads_last old new port read count shown (Queues queue) h e = record { kind = h.kind; made = queue_lasts old new port read count queue h.made e; shows = λ cycle v. h.shows cycle (e.valuations cycle v) }
 
-pub reads_go_on : (old new : Netlist) (read shown wait valid told : NetValue) (held : HeldReads) → ReadsGoOn old read shown wait valid told held → Extends old new → ReadsGoOn new read shown wait valid told held
-reads_go_on old new read shown wait valid told Never h e = h
-reads_go_on old new read shown wait valid told (Asks asked) h e = record { tells = λ cycle v. h.tells cycle (e.valuations cycle v); next = λ run cycles r. h.next run cycles (e.runs run cycles r) }
-reads_go_on old new read shown wait valid told (Counts unanswered full) h e = record { tells = λ cycle v. h.tells cycle (e.valuations cycle v); next = λ run cycles r. h.next run cycles (e.runs run cycles r) }
+pub reads_go_on : (old new : Netlist) (read count shown wait valid told : NetValue) (held : HeldReads) → ReadsGoOn old read count shown wait valid told held → Extends old new → ReadsGoOn new read count shown wait valid told held
+reads_go_on old new read count shown wait valid told Never h e = h
+reads_go_on old new read count shown wait valid told (Asks asked) h e = record { tells = λ cycle v. h.tells cycle (e.valuations cycle v); next = λ run cycles r. h.next run cycles (e.runs run cycles r) }
+reads_go_on old new read count shown wait valid told (Counts unanswered full) h e = record { tells = λ cycle v. h.tells cycle (e.valuations cycle v); next = λ run cycles r. h.next run cycles (e.runs run cycles r) }
+reads_go_on old new read count shown wait valid told (Queues queue) h e = queue_goes_on old new read count shown queue wait valid told h e

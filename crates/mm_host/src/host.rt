@@ -7,7 +7,7 @@ ghost use Rattle.netlist.specs.Runs.{Always};
 ghost use Rattle.net_parts.specs.Nets.{IsBit};
 ghost use Rattle.net_parts.specs.Growth.{GrowsBy, AddsNets, StillWait, WaitsBeside, WaitsWithout, AreMadeBetween};
 ghost use Rattle.command_nets.specs.Nets.{AreCommandNets, AreAnswerNets};
-ghost use Rattle.mm_host.specs.Hosts.{AreHostNets, ReadsOneWord, HasNet, value_or};
+ghost use Rattle.mm_host.specs.Hosts.{AreHostNets, HasNet, value_or};
 ghost use Rattle.mm_host.specs.Forms.{owns, command_of, valid_of, IsHeld, IgnoresAnswer, AreAnswersTo, HostGoesOn, RunsAsHost};
 
 use crate::fields::{Fields, make_fields};
@@ -86,7 +86,6 @@ pub fn emit_host(
     nets: &HostNets,
 ) -> Result<HeldHost, NetFault>
     requires port { IsBoundedHost port.now }
-    requires words { ReadsOneWord port.now }
     requires nets { AreHostNets builder.old port.now nets.now }
     ensures nets { IfOk result (λ held. held.nets ≡ nets.now) }
     ensures command { IfOk result (λ held. AreCommandNets builder.new held.command) }
@@ -94,15 +93,15 @@ pub fn emit_host(
     ensures ignores { IfOk result (λ held. IgnoresAnswer builder.new held) }
     ensures owned { IfOk result (λ held. AreMadeBetween (owns held) builder.old builder.new) }
     ensures own_wait { IfOk result (λ held. (n : ℕ) → owns held n → IsWaiting builder.new n) }
-    ensures grows { GrowsBy 20 builder.old builder.new }
+    ensures grows { GrowsBy 51 builder.old builder.new }
     ensures still_wait { StillWait builder.old builder.new }
     ensures newly { IfOk result (λ held. WaitsBeside (owns held) builder.old builder.new) }
 
     // Memory may run out at any net.
-    ensures full { result ≡ Err NetFault.TooManyNets → 2 ^ 20 < length builder.old.lines + 20 }
+    ensures full { result ≡ Err NetFault.TooManyNets → 2 ^ 20 < length builder.old.lines + 51 }
 {
     let fields = make_fields(builder, port, nets)?;
-    let reads = hold_reads(builder, port, fields.read)?;
+    let reads = hold_reads(builder, port, fields.read, fields.count)?;
     let writes = hold_writes(builder, port, fields.write, fields.count)?;
     Ok(HeldHost {
         nets: *nets,
@@ -132,12 +131,12 @@ pub fn finish_host(
     ensures nets { IfOk result (λ made. AreAnswersTo builder.new port.now made) }
     ensures on { IfOk result (λ made. HostGoesOn builder.new held.now port.now wait answer.now made) }
     ensures machine { IfOk result (λ made. RunsAsHost builder.new port.now held.now wait answer.now made) }
-    ensures grows { GrowsBy 20 builder.old builder.new }
+    ensures grows { GrowsBy 109 builder.old builder.new }
     ensures waits { (n : ℕ) → ¬ owns held.now n → IsWaiting builder.old n → IsWaiting builder.new n }
     ensures no_more_wait { OnOk result (WaitsWithout (owns held.now) builder.old builder.new) }
 
     // Memory may run out at any net.
-    ensures full { result ≡ Err NetFault.TooManyNets → 2 ^ 20 < length builder.old.lines + 20 }
+    ensures full { result ≡ Err NetFault.TooManyNets → 2 ^ 20 < length builder.old.lines + 109 }
 {
     let joined = JoinedBeats {
         more: held.command.more,
@@ -155,7 +154,15 @@ pub fn finish_host(
         shown: held.command.read,
         held: held.reads,
     };
-    let waitrequest = finish_reads(builder, port, held.read, &shown, wait, answer.valid)?;
+    let waitrequest = finish_reads(
+        builder,
+        port,
+        held.read,
+        held.command.count,
+        &shown,
+        wait,
+        answer.valid,
+    )?;
     let response = no_response(builder, port)?;
     Ok(HostAnswer {
         waitrequest,

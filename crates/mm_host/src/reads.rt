@@ -3,14 +3,16 @@
 ghost use Rattle.std.specs.Prelude.{◌≡◌, ℕ, ◌+◌, ◌-◌, ◌^◌, ◌<◌, true, false, not, ◌&&◌, ◌||◌, length, IfOk, OnOk};
 ghost use Rattle.histories.specs.History.{is_raised, one_if};
 ghost use Rattle.iface_roles.specs.Proper.{IsBoundedHost};
+ghost use Rattle.netlist.specs.Nets.{NetValue};
 ghost use Rattle.netlist.specs.Netlists.{IsNet, IsWaiting};
 ghost use Rattle.netlist.specs.Runs.{Always};
 ghost use Rattle.net_parts.specs.Nets.{IsBit, IsNetOfWidth};
 ghost use Rattle.net_parts.specs.Growth.{GrowsBy, AddsNets, StillWait, WaitsBeside, WaitsWithout, AreMadeBetween};
 ghost use Rattle.mm_host.specs.Reads.{owns_reads, AreReadsHeld, AsksOn, CountsOn, ReadsGoOn};
-ghost use Rattle.mm_host.specs.Hosts.{ReadsOneWord};
+ghost use Rattle.memory_sides.specs.Sides.{burst_width};
 
 use crate::bits::{both, either, turned, unless};
+use crate::queue::{HeldQueue, finish_queue, make_queue};
 use crate::registers::{register, take_next};
 use iface_roles::HostPort;
 use net_parts::{choose, fit_bits};
@@ -25,6 +27,8 @@ pub enum HeldReads {
     Asks { asked: Net },
     /// A register of five bits, the reads that aren't answered, and its highest bit: they are 16.
     Counts { unanswered: Net, full: Net },
+    /// The registers of reads in bursts that aren't answered.
+    Queues(HeldQueue),
 }
 
 /// The read that is shown below, and what bounds it.
@@ -40,7 +44,7 @@ fn hold_asked(builder: &mut Builder, port: &HostPort, read: Net) -> Result<Shown
     requires kind { port.now.readdatavalid ≡ false }
     requires read { IsBit builder.old read }
     ensures shown { IfOk result (λ made. IsBit builder.new made.shown) }
-    ensures held { IfOk result (λ made. AreReadsHeld builder.new port.now read made.shown made.held) }
+    ensures held { IfOk result (λ made. (count : NetValue) → AreReadsHeld builder.new port.now read count made.shown made.held) }
     ensures owned { IfOk result (λ made. AreMadeBetween (owns_reads made.held) builder.old builder.new) }
     ensures grows { GrowsBy 4 builder.old builder.new }
     ensures still_wait { StillWait builder.old builder.new }
@@ -61,7 +65,7 @@ fn hold_count(builder: &mut Builder, port: &HostPort, read: Net) -> Result<Shown
     requires words { port.now.burst_bits ≡ 0 }
     requires read { IsBit builder.old read }
     ensures shown { IfOk result (λ made. IsBit builder.new made.shown) }
-    ensures held { IfOk result (λ made. AreReadsHeld builder.new port.now read made.shown made.held) }
+    ensures held { IfOk result (λ made. (count : NetValue) → AreReadsHeld builder.new port.now read count made.shown made.held) }
     ensures owned { IfOk result (λ made. AreMadeBetween (owns_reads made.held) builder.old builder.new) }
     ensures grows { GrowsBy 4 builder.old builder.new }
     ensures still_wait { StillWait builder.old builder.new }
@@ -76,33 +80,72 @@ fn hold_count(builder: &mut Builder, port: &HostPort, read: Net) -> Result<Shown
     Ok(ShownRead { shown, held })
 }
 
+/// Reads that this queue bounds.
+fn by_queue(queue: &HeldQueue) -> HeldReads
+    ensures { result ≡ HeldReads.Queues queue.now }
+{
+    HeldReads::Queues(*queue)
+}
+
+/// Shows a read while there is room for its count.
+#[tactic(auto, using(net_parts::specs::Laws::growing))]
+fn hold_queue(
+    builder: &mut Builder,
+    port: &HostPort,
+    read: Net,
+    count: Net,
+) -> Result<ShownRead, NetFault>
+    requires port { IsBoundedHost port.now }
+    requires kind { port.now.readdatavalid ≡ true }
+    requires read { IsBit builder.old read }
+    requires count { IsNetOfWidth builder.old count (burst_width port.now.burst_bits) }
+    ensures shown { IfOk result (λ made. IsBit builder.new made.shown) }
+    ensures held { IfOk result (λ made. AreReadsHeld builder.new port.now read count made.shown made.held) }
+    ensures owned { IfOk result (λ made. AreMadeBetween (owns_reads made.held) builder.old builder.new) }
+    ensures grows { GrowsBy 35 builder.old builder.new }
+    ensures still_wait { StillWait builder.old builder.new }
+    ensures own_wait { IfOk result (λ made. (n : ℕ) → owns_reads made.held n → IsWaiting builder.new n) }
+    ensures newly { IfOk result (λ made. WaitsBeside (owns_reads made.held) builder.old builder.new) }
+    ensures full { result ≡ Err NetFault.TooManyNets → 2 ^ 20 < length builder.old.lines + 35 }
+{
+    let queue = make_queue(builder, port, read, count)?;
+    let made = &queue;
+    let shown = unless(builder, read, made.ends.full)?;
+    let held = by_queue(made);
+    Ok(ShownRead { shown, held })
+}
+
 /// Shows the reads of a host below, so far as the registers let them.
 pub(crate) fn hold_reads(
     builder: &mut Builder,
     port: &HostPort,
     read: Net,
+    count: Net,
 ) -> Result<ShownRead, NetFault>
     requires port { IsBoundedHost port.now }
-    requires words { ReadsOneWord port.now }
     requires read { IsBit builder.old read }
+    requires count { IsNetOfWidth builder.old count (burst_width port.now.burst_bits) }
     requires none { port.now.reads ≡ false → Always builder.old (λ cycle. cycle.net read.number ≡ 0) }
     ensures shown { IfOk result (λ made. IsBit builder.new made.shown) }
-    ensures held { IfOk result (λ made. AreReadsHeld builder.new port.now read made.shown made.held) }
+    ensures held { IfOk result (λ made. AreReadsHeld builder.new port.now read count made.shown made.held) }
     ensures owned { IfOk result (λ made. AreMadeBetween (owns_reads made.held) builder.old builder.new) }
-    ensures grows { GrowsBy 4 builder.old builder.new }
+    ensures grows { GrowsBy 35 builder.old builder.new }
     ensures still_wait { StillWait builder.old builder.new }
     ensures own_wait { IfOk result (λ made. (n : ℕ) → owns_reads made.held n → IsWaiting builder.new n) }
     ensures newly { IfOk result (λ made. WaitsBeside (owns_reads made.held) builder.old builder.new) }
-    ensures full { result ≡ Err NetFault.TooManyNets → 2 ^ 20 < length builder.old.lines + 4 }
+    ensures full { result ≡ Err NetFault.TooManyNets → 2 ^ 20 < length builder.old.lines + 35 }
 {
     if !port.reads {
         let held = HeldReads::Never;
         return Ok(ShownRead { shown: read, held });
     }
-    if port.readdatavalid {
+    if !port.readdatavalid {
+        return hold_asked(builder, port, read);
+    }
+    if port.burst_bits == 0 {
         hold_count(builder, port, read)
     } else {
-        hold_asked(builder, port, read)
+        hold_queue(builder, port, read, count)
     }
 }
 
@@ -202,28 +245,34 @@ pub(crate) fn finish_reads(
     builder: &mut Builder,
     port: &HostPort,
     read: Net,
+    count: Net,
     shown: &ShownRead,
     wait: Net,
     valid: Net,
 ) -> Result<Net, NetFault>
-    requires held { AreReadsHeld builder.old port.now read shown.now.shown shown.now.held }
+    requires port { IsBoundedHost port.now }
+    requires held { AreReadsHeld builder.old port.now read count shown.now.shown shown.now.held }
     requires read { IsBit builder.old read }
+    requires count { IsNetOfWidth builder.old count (burst_width port.now.burst_bits) }
     requires shown { IsBit builder.old shown.now.shown }
     requires wait { IsBit builder.old wait }
     requires valid { IsBit builder.old valid }
     requires waits { (n : ℕ) → owns_reads shown.now.held n → IsWaiting builder.old n }
     ensures told { IfOk result (λ told. IsBit builder.new told) }
-    ensures on { IfOk result (λ told. ReadsGoOn builder.new read shown.now.shown wait valid told shown.now.held) }
-    ensures grows { GrowsBy 12 builder.old builder.new }
+    ensures on { IfOk result (λ told. ReadsGoOn builder.new read count shown.now.shown wait valid told shown.now.held) }
+    ensures grows { GrowsBy 101 builder.old builder.new }
     ensures waits { (n : ℕ) → ¬ owns_reads shown.now.held n → IsWaiting builder.old n → IsWaiting builder.new n }
     ensures no_more_wait { OnOk result (WaitsWithout (owns_reads shown.now.held) builder.old builder.new) }
-    ensures full { result ≡ Err NetFault.TooManyNets → 2 ^ 20 < length builder.old.lines + 12 }
+    ensures full { result ≡ Err NetFault.TooManyNets → 2 ^ 20 < length builder.old.lines + 101 }
 {
     match shown.held {
         HeldReads::Never => Ok(wait),
         HeldReads::Asks { asked } => finish_asked(builder, read, shown.shown, asked, wait, valid),
         HeldReads::Counts { unanswered, full } => {
             finish_count(builder, read, shown.shown, unanswered, full, wait, valid)
+        }
+        HeldReads::Queues(queue) => {
+            finish_queue(builder, port, read, count, shown.shown, &queue, wait, valid)
         }
     }
 }

@@ -47,7 +47,7 @@ returns-clause-held c =
       more = c.in_ok-writes.ensures.more;
       fields = fields_last _ _ _ _ c.in_ok-fields.ensures.fields all;
       values = λ cycle v. c.in_ok-fields.ensures.value cycle (all.valuations cycle v);
-      reads = reads_last _ _ _ _ _ _ c.in_ok-reads.ensures.held more;
+      reads = reads_last _ _ _ _ _ _ _ c.in_ok-reads.ensures.held more;
       writes = c.in_ok-writes.ensures.held;
       apart = λ n o p. (let first = c.in_ok-reads.ensures.owned n o in let second = c.in_ok-writes.ensures.owned n p in omega (arith, first.1, second.0));
     })

@@ -16,7 +16,7 @@ given netlist true net h = (refl, h)
 given netlist false net h = refl
 
 pub finish_reads-requires-clause-held : goal.finish_reads-requires-clause-held
-finish_reads-requires-clause-held c = reads_last _ _ _ _ _ _ c.requires.held.reads c.finish_writes.ensures.grows.extends
+finish_reads-requires-clause-held c = reads_last _ _ _ _ _ _ _ c.requires.held.reads c.finish_writes.ensures.grows.extends
 
 pub returns-in_err-response-clause-waits : goal.returns-in_err-response-clause-waits
 returns-in_err-response-clause-waits c n apart w =
@@ -42,7 +42,7 @@ returns-clause-on c =
     let more = c.no_response.ensures.adds.grows.extends in
     let all = extends_twice _ _ _ c.finish_reads.ensures.grows.extends more in
     record {
-      reads = reads_go_on _ _ c.args.held.now.read c.args.held.now.command.read c.args.wait c.args.answer.now.valid c.in_ok-waitrequest.waitrequest c.args.held.now.reads c.in_ok-waitrequest.ensures.on more;
+      reads = reads_go_on _ _ c.args.held.now.read c.args.held.now.command.count c.args.held.now.command.read c.args.wait c.args.answer.now.valid c.in_ok-waitrequest.waitrequest c.args.held.now.reads c.in_ok-waitrequest.ensures.on more;
       writes = writes_go_on _ _ c.args.held.now.command.write c.args.wait c.args.held.now.writes c.in_ok-finish_writes.ensures.on all;
       word = refl;
       valid = c.valid_of.ensures;

@@ -3,7 +3,7 @@ use Rattle.mm_host.proofs.Levels.{top_bit}
 use Rattle.mm_host.proofs.reads.hold_count.Goals as goal
 
 pub returns-clause-held : goal.returns-clause-held
-returns-clause-held c =
+returns-clause-held c count =
     let more = c.unless.ensures.adds.grows.extends in
     let all = extends_twice _ _ _ c.slice.ensures.extends more in
     record {
