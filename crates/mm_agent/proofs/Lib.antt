@@ -1,0 +1,4 @@
+pub mod Levels
+pub mod Queues
+pub mod Machine
+pub mod Ignores

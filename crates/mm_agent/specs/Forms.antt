@@ -1,0 +1,97 @@
+-- The part next to an agent: what its call leaves in a netlist, and that it runs as the machine of an agent.
+use Rattle.std.specs.Prelude.{◌≡◌, ℕ, ◌<◌, IsTrue, IsFalse, Option, IfSome}
+use Rattle.iface_roles.specs.declared.records.AgentPort.{AgentPort}
+use Rattle.netlist.specs.Nets.{NetValue}
+use Rattle.netlist.specs.Netlists.{Netlist}
+use Rattle.netlist.specs.Runs.{Cycle, Run, IsEndlessRun, IsValuation, Always}
+use Rattle.netlist.specs.Longer.{Extends}
+use Rattle.net_parts.specs.Nets.{IsBit}
+use Rattle.net_parts.specs.Laws.{net_lasts}
+use Rattle.mm_runs.specs.Views.Responses.{AreZero}
+use Rattle.mm_machines.specs.Link.{Port}
+use Rattle.mm_machines.specs.Lines.{TaggedPort, ServesKinds}
+use Rattle.mm_parts.specs.Queue.{takes_read}
+use Rattle.mm_parts.specs.Agent.{AgentState, IsAgentMachine}
+use Rattle.memory_sides.specs.Sides.{agent_side}
+use Rattle.command_nets.specs.declared.nets.CommandNets.{CommandNets}
+use Rattle.command_nets.specs.Nets.{port_in, ShowSame}
+use Rattle.mm_agent.specs.declared.nets.AgentNets.{AgentNets}
+use Rattle.mm_agent.specs.declared.nets.AgentMade.{AgentMade}
+use Rattle.mm_agent.specs.Agents.{AreAgentNets, agent_lasts, IsServed, BearsOneTag, PlacesAddress, GivesAnswer, value_or, read_of, shape_above, bursts, agent_view}
+use Rattle.mm_agent.specs.Reads.{owns_reads, AreReadsHeld, ReadsGoOn, reads_last, reads_go_on}
+
+-- the nets of the part: its bound on reads by `shown`, and its wait by `busy`, the agent's waitrequest
+pub record IsAgentPart (netlist : Netlist) (port : AgentPort) (nets : AgentNets) (command : CommandNets) (made : AgentMade) : Type 0 where
+  pub served : IsServed port
+  pub nets_are : AreAgentNets netlist port nets
+  pub shown : NetValue
+  pub shown_bit : IsBit netlist shown
+  pub read_bit : IsBit netlist command.read
+  pub read : made.read ≡ read_of port shown
+  pub busy : NetValue
+  pub waits : Always netlist (λ cycle. cycle.net busy.number ≡ value_or 0 nets.waitrequest cycle)
+  pub address : Always netlist (λ cycle. PlacesAddress port (cycle.net command.address.number) (value_or 0 made.address cycle))
+  pub answer : Always netlist (GivesAnswer nets made.answer)
+  pub held : AreReadsHeld netlist port command.read shown made.reads
+  pub on : ReadsGoOn netlist command.read shown busy made.answer.valid made.waitrequest made.reads
+  pub one_tag : BearsOneTag netlist command
+  pub tag : made.answer_tag ≡ command.tag
+
+abbrev pub SameLevel : Option NetValue → Cycle → Cycle → Type 0
+SameLevel net one other = IfSome net (λ n. one.net n.number ≡ other.net n.number)
+
+-- the agent is shown the same in both cycles; all else that it is shown is of the command
+pub record ShowSameTo (made : AgentMade) (one other : Cycle) : Type 0 where
+  pub address : SameLevel made.address one other
+  pub read : SameLevel made.read one other
+
+-- what the agent is shown doesn't depend on its waitrequest or its answers in that cycle
+abbrev pub IgnoresAnswer : Netlist → CommandNets → AgentMade → Type 0
+IgnoresAnswer netlist command made =
+    (one other : Cycle) → IsValuation netlist one → IsValuation netlist other
+    → ((n : ℕ) → owns_reads made.reads n → one.net n ≡ other.net n) → ShowSame command one other → ShowSameTo made one other
+
+-- ---- runs
+
+-- the side above
+abbrev pub port_above : AgentPort → CommandNets → AgentMade → Run → Port
+port_above port command made run = port_in (shape_above port) run command made.waitrequest made.answer
+
+abbrev pub tagged_above : AgentPort → CommandNets → AgentMade → Run → TaggedPort
+tagged_above port command made run = record { port = port_above port command made run; answer_tag = λ c. run.net c made.answer_tag.number }
+
+-- what the part asks of the commands: no kind that the agent lacks, and reads of one word where it has no bursts
+pub record AreFitFor (port : AgentPort) (up : Port) (end : ℕ) : Type 0 where
+  pub kinds : ServesKinds (agent_side port) up end
+  pub one_word : IsFalse (bursts port) → (c : ℕ) → c < end → IsTrue (takes_read up c) → up.commands.count c ≡ 1
+
+-- the run has a state with which it is one of the machine of an agent
+pub record IsAgentRun (port : AgentPort) (nets : AgentNets) (command : CommandNets) (made : AgentMade) (run : Run) (end : ℕ) : Type 0 where
+  pub state : AgentState
+  pub machine : IsAgentMachine AreZero (agent_side port) (agent_view port nets command made run) (tagged_above port command made run) state end
+
+-- so is each endless run of each longer netlist in which the commands are fit
+abbrev pub RunsAsAgent : Netlist → AgentPort → AgentNets → CommandNets → AgentMade → Type 0
+RunsAsAgent netlist port nets command made =
+    (longer : Netlist) → Extends netlist longer → (run : Run) → IsEndlessRun longer run
+    → (end : ℕ) → AreFitFor port (port_above port command made run) end → IsAgentRun port nets command made run end
+
+-- ---- what stands lasts. No contract reads a proof of it; the laws of an agent cite it
+
+pub part_lasts : (old new : Netlist) (port : AgentPort) (nets : AgentNets) (command : CommandNets) (made : AgentMade) → IsAgentPart old port nets command made → Extends old new → IsAgentPart new port nets command made
+part_lasts old new port nets command made h e = record {
+  served = h.served;
+  nets_are = agent_lasts old new port nets h.nets_are e;
+  shown = h.shown;
+  shown_bit = net_lasts old new h.shown 1 e h.shown_bit;
+  read_bit = net_lasts old new command.read 1 e h.read_bit;
+  read = h.read;
+  busy = h.busy;
+  waits = λ cycle v. h.waits cycle (e.valuations cycle v);
+  address = λ cycle v. h.address cycle (e.valuations cycle v);
+  answer = λ cycle v. h.answer cycle (e.valuations cycle v);
+  held = reads_last old new port command.read h.shown made.reads h.held e;
+  on = reads_go_on old new command.read h.shown h.busy made.answer.valid made.waitrequest made.reads h.on e;
+  one_tag = record { tag = h.one_tag.tag; always = λ cycle v. h.one_tag.always cycle (e.valuations cycle v) };
+  tag = h.tag;
+}

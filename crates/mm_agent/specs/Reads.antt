@@ -1,0 +1,83 @@
+-- How the reads of an agent are bounded: what two calls leave in a netlist.
+use Rattle.std.specs.Prelude.{◌≡◌, ℕ, ◌+◌, ◌-◌, ◌^◌, ◌<◌, Bool, true, false, not, ◌&&◌, ◌||◌, nat_lt}
+use Rattle.histories.specs.History.{is_raised, one_if}
+use Rattle.iface_roles.specs.declared.records.AgentPort.{AgentPort}
+use Rattle.netlist.specs.Nets.{NetValue}
+use Rattle.netlist.specs.Netlists.{Netlist, IsNet}
+use Rattle.netlist.specs.Runs.{Cycle, Run, cycle_of, IsRun, Always}
+use Rattle.netlist.specs.Longer.{Extends}
+use Rattle.net_parts.specs.Nets.{IsBit, StartsLow}
+use Rattle.net_parts.specs.Laws.{net_lasts}
+use Rattle.memory_sides.specs.Sides.{bound_of}
+use Rattle.mm_agent.specs.declared.reads.HeldReads.{HeldReads}
+use Rattle.mm_agent.specs.declared.reads.HeldReads.TheVariants.{Never, Counts}
+
+-- ---- what is shown
+
+-- the numbers of the registers
+abbrev pub owns_reads : HeldReads → ℕ → Type 0
+owns_reads Never n = ⊥
+owns_reads (Counts unanswered full) n = n ≡ unanswered.number
+
+-- a read is shown while this bit is low
+abbrev pub ShowsUnless : Netlist → NetValue → NetValue → NetValue → Type 0
+ShowsUnless netlist shut read shown = Always netlist (λ cycle. is_raised (cycle.net shown.number) ≡ (is_raised (cycle.net read.number) && not (is_raised (cycle.net shut.number))))
+
+-- the agent can't read
+pub record ReadsNever (port : AgentPort) : Type 0 where
+  pub reads : port.reads ≡ false
+  pub kind : port.readdatavalid ≡ false
+
+-- with readdatavalid: a register counts the reads that aren't answered, up to the agent's bound
+pub record ReadsCount (netlist : Netlist) (port : AgentPort) (read shown unanswered full : NetValue) : Type 0 where
+  pub reads : port.reads ≡ true
+  pub kind : port.readdatavalid ≡ true
+  pub net : IsNet netlist unanswered
+  pub wide : bound_of port < 2 ^ unanswered.width
+  pub bit : IsBit netlist full
+  pub starts : StartsLow netlist unanswered
+  pub is_full : Always netlist (λ cycle. is_raised (cycle.net full.number) ≡ not (nat_lt (cycle.net unanswered.number) (bound_of port)))
+  pub shows : ShowsUnless netlist full read shown
+
+abbrev pub AreReadsHeld : Netlist → AgentPort → NetValue → NetValue → HeldReads → Type 0
+AreReadsHeld netlist port read shown Never = ReadsNever port
+AreReadsHeld netlist port read shown (Counts unanswered full) = ReadsCount netlist port read shown unanswered full
+
+-- ---- what is told above, and how the registers go on
+
+-- a read is taken
+abbrev pub takes_in : Cycle → NetValue → NetValue → Bool
+takes_in cycle shown busy = is_raised (cycle.net shown.number) && not (is_raised (cycle.net busy.number))
+
+-- a count of so many bits falls where a word comes, and rises where a read is taken, if that fits
+abbrev pub IsNextCount : ℕ → ℕ → ℕ → ℕ → ℕ → Type 0
+IsNextCount bits count taken valid next = count + one_if (is_raised taken) < 2 ^ bits → next ≡ (count - one_if (is_raised valid)) + one_if (is_raised taken)
+
+-- a read waits while the agent bears no more, and each beat while the agent is busy
+pub record CountsOn (netlist : Netlist) (read shown unanswered full busy valid told : NetValue) : Type 0 where
+  pub tells : Always netlist (λ cycle. is_raised (cycle.net told.number) ≡ ((is_raised (cycle.net full.number) && is_raised (cycle.net read.number)) || is_raised (cycle.net busy.number)))
+  pub next : (run : Run) (cycles : ℕ) → IsRun netlist run cycles → (c : ℕ) → c + 1 < cycles → run.net c unanswered.number + one_if (takes_in (cycle_of run c) shown busy) < 2 ^ unanswered.width
+      → run.net (c + 1) unanswered.number ≡ (run.net c unanswered.number - one_if (is_raised (run.net c valid.number))) + one_if (takes_in (cycle_of run c) shown busy)
+
+abbrev pub ReadsGoOn : Netlist → NetValue → NetValue → NetValue → NetValue → NetValue → HeldReads → Type 0
+ReadsGoOn netlist read shown busy valid told Never = told ≡ busy
+ReadsGoOn netlist read shown busy valid told (Counts unanswered full) = CountsOn netlist read shown unanswered full busy valid told
+
+-- ---- what stands lasts. No contract reads these proofs; the laws of the agent cite them
+
+pub reads_last : (old new : Netlist) (port : AgentPort) (read shown : NetValue) (held : HeldReads) → AreReadsHeld old port read shown held → Extends old new → AreReadsHeld new port read shown held
+reads_last old new port read shown Never h e = h
+reads_last old new port read shown (Counts unanswered full) h e = record {
+  reads = h.reads;
+  kind = h.kind;
+  net = e.nets unanswered.number unanswered.width h.net;
+  wide = h.wide;
+  bit = net_lasts old new full 1 e h.bit;
+  starts = λ run cycles r. h.starts run cycles (e.runs run cycles r);
+  is_full = λ cycle v. h.is_full cycle (e.valuations cycle v);
+  shows = λ cycle v. h.shows cycle (e.valuations cycle v);
+}
+
+pub reads_go_on : (old new : Netlist) (read shown busy valid told : NetValue) (held : HeldReads) → ReadsGoOn old read shown busy valid told held → Extends old new → ReadsGoOn new read shown busy valid told held
+reads_go_on old new read shown busy valid told Never h e = h
+reads_go_on old new read shown busy valid told (Counts unanswered full) h e = record { tells = λ cycle v. h.tells cycle (e.valuations cycle v); next = λ run cycles r. h.next run cycles (e.runs run cycles r) }

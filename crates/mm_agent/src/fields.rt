@@ -1,0 +1,144 @@
+//! The address that an agent gets, and nets in place of absent ports.
+
+ghost use Rattle.std.specs.Prelude.{◌≡◌, true, false, ◌+◌, ◌*◌, ◌^◌, ◌<◌, ◌≤◌, ◌%◌, length, IfOk, IfSome};
+ghost use Rattle.iface_roles.specs.Proper.{IsBoundedAgent, IsWordSize, span_of};
+ghost use Rattle.netlist.specs.Netlists.{IsNet};
+ghost use Rattle.netlist.specs.Runs.{Always};
+ghost use Rattle.net_parts.specs.Nets.{IsNetOfWidth};
+ghost use Rattle.net_parts.specs.Growth.{AddsNets};
+ghost use Rattle.mm_runs.specs.Commands.{byte_address};
+ghost use Rattle.mm_agent.specs.Agents.{HasNet, has_address, value_or, shape_above, PlacesAddress};
+
+use av_base::Val;
+use iface_roles::AgentPort;
+use netlist::{Builder, Net, NetFault};
+
+/// How many bits of a byte address tell the bytes of a word apart.
+pub(crate) fn lane_bits(word_bytes: u8) -> u8
+    requires { IsWordSize word_bytes }
+    ensures power { word_bytes ≡ 2 ^ result }
+    ensures few { result ≤ 4 }
+{
+    if word_bytes == 1 {
+        0
+    } else if word_bytes == 2 {
+        1
+    } else if word_bytes == 4 {
+        2
+    } else if word_bytes == 8 {
+        3
+    } else {
+        4
+    }
+}
+
+/// The bits of a word.
+pub(crate) fn word_bits(word_bytes: u8) -> u8
+    requires { IsWordSize word_bytes }
+    ensures bits { result ≡ word_bytes * 8 }
+    ensures some { 1 ≤ result }
+    ensures few { result ≤ 128 }
+{
+    word_bytes * 8
+}
+
+/// The net at a port, or one that is always low.
+#[tactic(auto, using(net_parts::specs::Laws::growing))]
+pub(crate) fn given_or_low(
+    builder: &mut Builder,
+    net: Option<Net>,
+    bits: u8,
+) -> Result<Net, NetFault>
+    requires net { IfSome net (λ given. IsNetOfWidth builder.old given bits) }
+    requires some { 1 ≤ bits }
+    requires few { bits ≤ 128 }
+    ensures net { IfOk result (λ made. IsNetOfWidth builder.new made bits) }
+    ensures value { IfOk result (λ made. Always builder.new (λ cycle. cycle.net made.number ≡ value_or 0 net cycle)) }
+    ensures adds { AddsNets 1 builder.old builder.new }
+    ensures full { result ≡ Err NetFault.TooManyNets → 2 ^ 20 < length builder.old.lines + 1 }
+{
+    match net {
+        Some(given) => Ok(given),
+        None => builder.constant(Val::new(bits, 0).unwrap()),
+    }
+}
+
+/// The net with so many zeros below it.
+#[tactic(auto, using(net_parts::specs::Laws::growing))]
+fn raise(builder: &mut Builder, net: Net, zeros: u8) -> Result<Net, NetFault>
+    requires net { IsNet builder.old net }
+    requires few { net.width + zeros ≤ 128 }
+    ensures net { IfOk result (λ made. IsNetOfWidth builder.new made (net.width + zeros)) }
+    ensures value { IfOk result (λ made. Always builder.new (λ cycle. cycle.net made.number ≡ cycle.net net.number * 2 ^ zeros)) }
+    ensures adds { AddsNets 2 builder.old builder.new }
+    ensures full { result ≡ Err NetFault.TooManyNets → 2 ^ 20 < length builder.old.lines + 2 }
+{
+    if zeros == 0 {
+        return Ok(net);
+    }
+    let low = builder.constant(Val::new(zeros, 0).unwrap())?;
+    builder.concat(net, low)
+}
+
+/// The address in the span of an agent that counts bytes: that of a whole word.
+#[tactic(auto, using(net_parts::specs::Laws::growing))]
+fn place_byte(builder: &mut Builder, port: &AgentPort, address: Net) -> Result<Net, NetFault>
+    requires port { IsBoundedAgent port.now }
+    requires counts { port.now.byte_units ≡ true }
+    requires some { 1 ≤ port.now.address_bits }
+    requires address { IsNet builder.old address }
+    requires reaches { span_of port.now ≤ 2 ^ address.width }
+    ensures net { IfOk result (λ made. IsNetOfWidth builder.new made port.now.address_bits) }
+    ensures value { IfOk result (λ made. Always builder.new (λ cycle. PlacesAddress port.now (cycle.net address.number) (cycle.net made.number))) }
+    ensures adds { AddsNets 3 builder.old builder.new }
+    ensures full { result ≡ Err NetFault.TooManyNets → 2 ^ 20 < length builder.old.lines + 3 }
+{
+    let low = lane_bits(port.word_bytes);
+    if port.address_bits <= low {
+        return builder.constant(Val::new(port.address_bits, 0).unwrap());
+    }
+    let high = builder.slice(address, port.address_bits - 1, low)?;
+    raise(builder, high, low)
+}
+
+/// The address in the span of an agent that counts words.
+#[tactic(auto, using(net_parts::specs::Laws::growing))]
+fn place_word(builder: &mut Builder, port: &AgentPort, address: Net) -> Result<Net, NetFault>
+    requires port { IsBoundedAgent port.now }
+    requires counts { port.now.byte_units ≡ false }
+    requires some { 1 ≤ port.now.address_bits }
+    requires address { IsNet builder.old address }
+    requires reaches { span_of port.now ≤ 2 ^ address.width }
+    ensures net { IfOk result (λ made. IsNetOfWidth builder.new made port.now.address_bits) }
+    ensures value { IfOk result (λ made. Always builder.new (λ cycle. PlacesAddress port.now (cycle.net address.number) (cycle.net made.number))) }
+    ensures adds { AddsNets 1 builder.old builder.new }
+    ensures full { result ≡ Err NetFault.TooManyNets → 2 ^ 20 < length builder.old.lines + 1 }
+{
+    let low = lane_bits(port.word_bytes);
+    builder.slice(address, port.address_bits + low - 1, low)
+}
+
+/// The address in the agent's span, in its unit, from one in bytes. Nothing is subtracted, since spans lie at multiples of themselves.
+pub(crate) fn place_address(
+    builder: &mut Builder,
+    port: &AgentPort,
+    address: Net,
+) -> Result<Option<Net>, NetFault>
+    requires port { IsBoundedAgent port.now }
+    requires address { IsNet builder.old address }
+    requires reaches { span_of port.now ≤ 2 ^ address.width }
+    ensures net { IfOk result (λ made. HasNet builder.new (has_address port.now) port.now.address_bits made) }
+    ensures value { IfOk result (λ made. Always builder.new (λ cycle. PlacesAddress port.now (cycle.net address.number) (value_or 0 made cycle))) }
+    ensures adds { AddsNets 3 builder.old builder.new }
+    ensures full { result ≡ Err NetFault.TooManyNets → 2 ^ 20 < length builder.old.lines + 3 }
+{
+    if port.address_bits == 0 {
+        return Ok(None);
+    }
+    let made = if port.byte_units {
+        place_byte(builder, port, address)?
+    } else {
+        place_word(builder, port, address)?
+    };
+    Ok(Some(made))
+}

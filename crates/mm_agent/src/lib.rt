@@ -1,0 +1,14 @@
+//! The equations of the part next to a memory-mapped agent: its address, its bound on unanswered reads, and the tag of each answer.
+#![tactic(auto)]
+
+mod agent;
+mod answers;
+mod bits;
+mod fields;
+mod nets;
+mod reads;
+mod registers;
+
+pub use agent::emit_agent;
+pub use nets::{AgentMade, AgentNets};
+pub use reads::HeldReads;
