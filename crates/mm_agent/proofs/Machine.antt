@@ -10,6 +10,7 @@ use Rattle.netlist.specs.Netlists.{Netlist}
 use Rattle.netlist.specs.Runs.{Cycle, Run, cycle_of, IsEndlessRun, IsValuation}
 use Rattle.net_parts.specs.Laws.{bit_fits, net_fits}
 use Rattle.mm_runs.specs.Views.Responses.{AreZero}
+use Rattle.mm_runs.specs.Commands.{wait_time}
 use Rattle.mm_parts.specs.Queue.{Entry, QueuesReads, takes_read, head_tag}
 use Rattle.mm_parts.specs.Agent.{AgentState, ShowsToAgent, GivesQueued, GivesFixed, IsAgentMachine}
 use Rattle.memory_sides.specs.Sides.{agent_side, bound_of, burst_width}
@@ -112,6 +113,19 @@ reads_none : (reads valid : Bool) → (reads ≡ true → valid ≡ true) → va
 reads_none true valid h e = (let f = h refl in cc)
 reads_none false valid h e = refl
 
+either_zero : (t : Bool) (x y : ℕ) → x ≡ 0 → y ≡ 0 → (if t then x else y) ≡ 0
+either_zero true x y e f = e
+either_zero false x y e f = f
+
+-- without waitrequest and wait states an agent is never busy
+busy_by : (there : Bool) (signal wait : ℕ) → (there ≡ false → signal ≡ 0) → (there ≡ false → wait ≡ 0) → is_raised signal ≡ (if there then is_raised signal else not (nat_eq 0 wait))
+busy_by true signal wait e f = refl
+busy_by false signal wait e f = ap is_raised (e refl) ∙ ap (λ n. not (nat_eq 0 n)) (sym (f refl))
+
+never_stands : (shown : Bool) (wait : ℕ) → wait ≡ 0 → 0 ≡ (if shown && not (nat_eq 0 wait) then 0 + 1 else 0)
+never_stands true wait e = ap (λ n. if not (nat_eq 0 n) then 0 + 1 else 0) (sym e)
+never_stands false wait e = refl
+
 -- ---- the state
 
 abbrev pub queue_of : HeldReads → ℕ → Run → ℕ → List Entry
@@ -205,6 +219,9 @@ module _ (port : AgentPort) (nets : AgentNets) (command : CommandNets) (made : A
   unread : port.reads ≡ false → (c : ℕ) → value_or 0 made.read (cycle_of run c) ≡ 0
   unread none c = ap (λ (o : Option NetValue). value_or 0 o (cycle_of run c)) (h.read ∙ where_not port.reads (Some h.shown) None none)
 
+  no_wait : port.waitrequest ≡ false → (c : ℕ) → wait_time (agent_side port) (agent_view port nets command made run) c ≡ 0
+  no_wait none c = let soon = h.served.waits none in either_zero (is_raised (if port.writes then run.net c command.write.number else 0)) port.write_wait port.read_wait soon.write soon.read
+
   shows_to_agent : (end : ℕ) → AreFitFor port (port_above port command made run) end → ShowsToAgent (agent_side port) (agent_view port nets command made run) (tagged_above port command made run) (state_of made tag run) end
   shows_to_agent end fit = record {
     words = refl;
@@ -222,9 +239,9 @@ module _ (port : AgentPort) (nets : AgentNets) (command : CommandNets) (made : A
     grant = λ c lt. refl;
     wait = λ c lt.
         told_is made.reads h.held h.on c
-        ∙ ap (λ t. (full_of port made.reads tag run c && R c) || t) (busy_is c ∙ sym (where_it_reads port.waitrequest _ _ h.served.waits));
+        ∙ ap (λ t. (full_of port made.reads tag run c && R c) || t) (busy_is c ∙ busy_by port.waitrequest _ _ (λ none. absent netlist port.waitrequest 1 nets.waitrequest none h.nets_are.waitrequest (cycle_of run c)) (λ none. no_wait none c));
     stood_first = refl;
-    stood_next = λ c lt none. absurd (let some = h.served.waits in cc);
+    stood_next = λ c lt none. never_stands _ _ (no_wait none c);
     queues = λ some. queue_on made.reads h.held h.on some end fit;
   }
 

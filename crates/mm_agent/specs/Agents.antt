@@ -33,9 +33,14 @@ has_address port = not (nat_eq port.address_bits 0)
 abbrev pub bursts : AgentPort → Bool
 bursts port = not (nat_eq port.burst_bits 0)
 
+-- no beat stands before it is accepted
+pub record AcceptsAtOnce (port : AgentPort) : Type 0 where
+  pub read : port.read_wait ≡ 0
+  pub write : port.write_wait ≡ 0
+
 -- the agents that are served
 pub record IsServed (port : AgentPort) : Type 0 where
-  pub waits : port.waitrequest ≡ true
+  pub waits : port.waitrequest ≡ false → AcceptsAtOnce port
   pub valid : port.reads ≡ true → port.readdatavalid ≡ true
   pub no_burst : port.burst_bits ≡ 0
 

@@ -20,7 +20,7 @@ use Rattle.mm_agent.specs.declared.nets.AgentMade.{AgentMade}
 use Rattle.mm_agent.specs.Agents.{AreAgentNets, agent_lasts, IsServed, BearsOneTag, PlacesAddress, GivesAnswer, value_or, read_of, shape_above, bursts, agent_view}
 use Rattle.mm_agent.specs.Reads.{owns_reads, AreReadsHeld, ReadsGoOn, reads_last, reads_go_on}
 
--- the nets of the part: its bound on reads by `shown`, and its wait by `busy`, the agent's waitrequest
+-- the nets of the part: its bound on reads by `shown`, and its wait by `busy`, the agent's waitrequest, or low where it has none
 pub record IsAgentPart (netlist : Netlist) (port : AgentPort) (nets : AgentNets) (command : CommandNets) (made : AgentMade) : Type 0 where
   pub served : IsServed port
   pub nets_are : AreAgentNets netlist port nets
