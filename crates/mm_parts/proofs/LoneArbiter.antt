@@ -116,13 +116,16 @@ module _ (seat : Seat) where
 
     pub lone_arbiter : (grant : ℕ → Grant) × IsArbiterMachine (seat ∷ []) hosts up down grant end
     unfolding grant
-    lone_arbiter = (grant, record {
-      shapes = wire.shapes;
-      begins = refl;
-      next = λ c low. refl;
-      shown = λ c low. shown c;
-      wait = λ h c there low asks. waits h c low asks;
-      valid = gives;
-      word = wire.word;
-      code = wire.code;
-    })
+    lone_arbiter = (
+      grant,
+      record {
+        shapes = wire.shapes;
+        begins = refl;
+        next = λ c low. refl;
+        shown = λ c low. shown c;
+        wait = λ h c there low asks. waits h c low asks;
+        valid = gives;
+        word = wire.word;
+        code = wire.code;
+      },
+    )

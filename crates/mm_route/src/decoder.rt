@@ -9,8 +9,8 @@ ghost use Rattle.net_parts.specs.Growth.{AddsNets};
 ghost use Rattle.mm_route.specs.Entries.{IsEntry, AreEntries, is_inside, serves, kind_of};
 ghost use Rattle.mm_route.specs.Decoder.{AreAskedNets, held_in, hits_in};
 
-use memory_sides::Route;
 use av_base::Val;
+use memory_sides::Route;
 use net_parts::level;
 use netlist::{Builder, Net, NetFault};
 
@@ -37,12 +37,7 @@ fn high_base(entry: &Route, width: u8) -> Val
 
 /// Whether the footprint of an entry holds the address.
 #[tactic(auto, using(net_parts::specs::Laws::growing))]
-fn is_inside(
-    builder: &mut Builder,
-    address: Net,
-    width: u8,
-    entry: &Route,
-) -> Result<Net, NetFault>
+fn is_inside(builder: &mut Builder, address: Net, width: u8, entry: &Route) -> Result<Net, NetFault>
     requires address { IsNetOfWidth builder.old address width }
     requires entry { IsEntry width entry.now }
     requires small { width ≤ 128 }

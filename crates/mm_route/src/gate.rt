@@ -12,9 +12,9 @@ ghost use Rattle.mm_route.specs.Registers.{AreRegisterNets};
 ghost use Rattle.mm_route.specs.Forward.{place_in, IsGate};
 
 use crate::decoder::{AskedNets, decode};
-use memory_sides::Route;
 use crate::registers::RegisterNets;
 use command_nets::CommandNets;
+use memory_sides::Route;
 use net_parts::choose;
 use netlist::{Builder, Net, NetFault};
 

@@ -15,12 +15,12 @@ ghost use Rattle.memory_sides.specs.declared.route.Route.{Route};
 ghost use Rattle.command_nets.specs.declared.nets.CommandNets.{CommandNets};
 
 use crate::back::{BackNets, pick_answer, pick_wait};
-use memory_sides::Route;
 use crate::gate::{open_gate, place_now};
 use crate::next::next_nets;
 use crate::registers::{RegisterNets, make_registers};
 use crate::shown::{ShownNets, show_all};
 use command_nets::{AnswerNets, CommandNets};
+use memory_sides::Route;
 use net_parts::{constant, level, set_all_next};
 use netlist::{Builder, Net, NetFault};
 use std::alloc::Global;
