@@ -1,0 +1,25 @@
+-- The routes of the hosts of a plan as what the parts that send commands by address ask of them.
+use Rattle.std.specs.Prelude.{◌≡◌, ℕ}
+use Rattle.iface_roles.specs.declared.records.Finished.TheVariants.{Host}
+use Rattle.iface_roles.specs.declared.records.HostPort.{HostPort}
+use Rattle.address_map.specs.Maps.{hosts_of}
+use Rattle.link_rules.specs.Plans.{PlanTable}
+use Rattle.mm_runs.specs.Views.{Shape}
+use Rattle.memory_plans.specs.Routes.{routes_of}
+use Rattle.memory_plans.specs.Systems.{known_in, memory_system}
+use Rattle.mm_route.specs.Entries.{AreEntries}
+use Rattle.mm_route.specs.Machine.{MapsAs}
+
+-- the host of this number in the plan has these ports
+abbrev pub IsHostOf : PlanTable → ℕ → HostPort → Type 0
+IsHostOf plan host port = known_in plan.system (hosts_of plan.system) host ≡ Host port
+
+-- a shape with the words of the host whose addresses count bytes, as behind the part next to a host
+pub record CountsBytes (port : HostPort) (shape : Shape) : Type 0 where
+  pub words : shape.word_bytes ≡ port.word_bytes
+  pub units : shape.unit_bytes ≡ 1
+
+-- the routes of a host are entries for byte addresses of so many bits, and are the map of the host
+pub record RoutesAreMapped (plan : PlanTable) (host : ℕ) (port : HostPort) (width : ℕ) : Type 0 where
+  pub entries : AreEntries width (routes_of plan.system host)
+  pub maps : (shape : Shape) → CountsBytes port shape → MapsAs (routes_of plan.system host) width (memory_system plan) host shape

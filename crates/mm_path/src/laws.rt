@@ -1,0 +1,28 @@
+//! What every plan gives the parts between its hosts and agents. The functions do nothing; their contracts are the laws.
+
+ghost use Rattle.std.specs.Prelude.{◌≡◌, ◌^◌, ℕ, IsTrue};
+ghost use Rattle.iface_roles.specs.declared.records.HostPort.{HostPort};
+ghost use Rattle.iface_roles.specs.Proper.{range_of};
+ghost use Rattle.link_rules.specs.Plans.{PlanTable, IsPlan};
+ghost use Rattle.memory_plans.specs.Systems.{memory_system};
+ghost use Rattle.mm_awake.specs.Fair.{are_apart};
+ghost use Rattle.mm_path.specs.Maps.{IsHostOf, RoutesAreMapped};
+
+use link_rules::memory_links_are_numbered;
+use memory_plans::{plans_are_memory_plans, routes_are_the_map};
+
+/// The routes of each host are its map, for byte addresses that reach just the range of the host.
+pub fn routes_are_mapped()
+    ensures { (plan : PlanTable) → IsPlan plan → (host : ℕ) (port : HostPort) → IsHostOf plan host port → (width : ℕ) → 2 ^ width ≡ range_of port → RoutesAreMapped plan host port width }
+{
+    plans_are_memory_plans();
+    routes_are_the_map();
+    memory_links_are_numbered();
+}
+
+/// No host is joined to an agent twice.
+pub fn plans_are_apart()
+    ensures { (plan : PlanTable) → IsPlan plan → (agent : ℕ) → IsTrue (are_apart ((memory_system plan).joined agent)) }
+{
+    plans_are_memory_plans();
+}
