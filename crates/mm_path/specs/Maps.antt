@@ -1,8 +1,9 @@
 -- The routes of the hosts of a plan as what the parts that send commands by address ask of them.
 use Rattle.std.specs.Prelude.{◌≡◌, ℕ}
-use Rattle.iface_roles.specs.declared.records.Finished.TheVariants.{Host}
+use Rattle.iface_roles.specs.declared.records.Finished.TheVariants.{Host, Agent}
+use Rattle.iface_roles.specs.declared.records.AgentPort.{AgentPort}
 use Rattle.iface_roles.specs.declared.records.HostPort.{HostPort}
-use Rattle.address_map.specs.Maps.{hosts_of}
+use Rattle.address_map.specs.Maps.{hosts_of, agents_of}
 use Rattle.link_rules.specs.Plans.{PlanTable}
 use Rattle.mm_runs.specs.Views.{Shape}
 use Rattle.memory_plans.specs.Routes.{routes_of}
@@ -13,6 +14,9 @@ use Rattle.mm_route.specs.Machine.{MapsAs}
 -- the host of this number in the plan has these ports
 abbrev pub IsHostOf : PlanTable → ℕ → HostPort → Type 0
 IsHostOf plan host port = known_in plan.system (hosts_of plan.system) host ≡ Host port
+
+abbrev pub IsAgentOf : PlanTable → ℕ → AgentPort → Type 0
+IsAgentOf plan agent port = known_in plan.system (agents_of plan.system) agent ≡ Agent port
 
 -- a shape with the words of the host whose addresses count bytes, as behind the part next to a host
 pub record CountsBytes (port : HostPort) (shape : Shape) : Type 0 where

@@ -1,12 +1,17 @@
 //! What every plan gives the parts between its hosts and agents. The functions do nothing; their contracts are the laws.
 
 ghost use Rattle.std.specs.Prelude.{◌≡◌, ◌^◌, ℕ, IsTrue};
+ghost use Rattle.iface_roles.specs.declared.records.AgentPort.{AgentPort};
 ghost use Rattle.iface_roles.specs.declared.records.HostPort.{HostPort};
 ghost use Rattle.iface_roles.specs.Proper.{range_of};
 ghost use Rattle.link_rules.specs.Plans.{PlanTable, IsPlan};
+ghost use Rattle.mm_machines.specs.Link.{Port};
+ghost use Rattle.mm_machines.specs.Lines.{IsFit};
 ghost use Rattle.memory_plans.specs.Systems.{memory_system};
+ghost use Rattle.mm_agent.specs.Agents.{shape_above};
+ghost use Rattle.mm_agent.specs.Forms.{AreFitFor};
 ghost use Rattle.mm_awake.specs.Fair.{are_apart};
-ghost use Rattle.mm_path.specs.Maps.{IsHostOf, RoutesAreMapped};
+ghost use Rattle.mm_path.specs.Maps.{IsHostOf, IsAgentOf, RoutesAreMapped};
 
 use link_rules::memory_links_are_numbered;
 use memory_plans::{plans_are_memory_plans, routes_are_the_map};
@@ -26,3 +31,8 @@ pub fn plans_are_apart()
 {
     plans_are_memory_plans();
 }
+
+/// Commands that can be given to an agent, in its own shape, are fit for the part next to it.
+pub fn fit_commands_suit_agents()
+    ensures { (plan : PlanTable) (agent : ℕ) (port : AgentPort) → IsAgentOf plan agent port → (up : Port) → up.shape ≡ shape_above port → (end : ℕ) → IsFit (memory_system plan) agent up end → AreFitFor port up end }
+{}

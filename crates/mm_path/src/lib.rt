@@ -3,4 +3,4 @@
 
 mod laws;
 
-pub use laws::{plans_are_apart, routes_are_mapped};
+pub use laws::{fit_commands_suit_agents, plans_are_apart, routes_are_mapped};
