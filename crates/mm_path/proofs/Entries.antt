@@ -47,7 +47,7 @@ turned true false = refl
 turned false true = refl
 turned false false = refl
 
-both : (a b : Bool) → (a && b) ≡ true → (a ≡ true) × (b ≡ true)
+pub both : (a b : Bool) → (a && b) ≡ true → (a ≡ true) × (b ≡ true)
 both true b h = (refl, h)
 both false b h = absurd (let no : false ≡ true = h in cc)
 

@@ -1,16 +1,15 @@
 -- The routes of a host lie in its range.
 use Rattle.std.proofs.Common.{◌≡◌, ℕ, ◌+◌, ◌^◌, ◌<◌, ◌≤◌, zero, suc, Bool, true, false, cond, nat_eq, List, [], ◌∷◌, Some, None, map, filter, length, refl, sym, ap, subst, ◌∙◌, arith}
 use Rattle.std.specs.Prelude.{slice_get, slice_index_or, take}
-use Rattle.std.specs.Option.{option_map_or}
 use Rattle.std.proofs.lemmas.Bool.{ltb-false}
 use Rattle.std.proofs.lemmas.Bool.Decides.{Decides-eqb}
 use Rattle.std.proofs.lemmas.Option.{same_Some, none-some}
 use Rattle.iface_roles.specs.declared.records.HostPort.{HostPort}
 use Rattle.iface_roles.specs.declared.records.Finished.{Finished}
-use Rattle.iface_roles.specs.declared.records.Finished.TheVariants.{Host, Agent, Other}
+use Rattle.iface_roles.specs.declared.records.Finished.TheVariants.{Host, Agent}
 use Rattle.iface_roles.specs.Proper.{range_of}
 use Rattle.system_tables.specs.declared.tables.EndId.{EndId}
-use Rattle.system_tables.specs.Tables.{SystemTable, IsEnd}
+use Rattle.system_tables.specs.Tables.{SystemTable}
 use Rattle.address_map.specs.declared.footprint.Footprint.{Footprint}
 use Rattle.address_map.specs.Footprints.{known_at, footprint_as, footprint_of, footprints, footprint_bytes}
 use Rattle.address_map.specs.MapRules.{breaks_after, ends_past_range}
@@ -23,6 +22,7 @@ use Rattle.memory_plans.specs.Routes.{Route, route_of, routes_among, routes_of, 
 use Rattle.memory_plans.specs.Systems.{known_in, side_of_host, memory_system}
 use Rattle.mm_route.specs.Entries.{IsEntry}
 use Rattle.mm_path.specs.Maps.{IsHostOf, RoutesAreMapped}
+use Rattle.mm_path.proofs.Ends.{known_is, ends_of}
 use Rattle.mm_path.proofs.Entries.{all_entries, words_held, places_held, agents_have}
 
 -- ---- lists
@@ -61,9 +61,6 @@ link_of host (first ∷ links) k route at = by (nat_eq first.host_number host) r
 
 -- ---- hosts
 
-known_is : (system : SystemTable) (end : EndId) (known : Finished) → IsEnd system end known → known_at system end ≡ known
-known_is system end known e = rw (e.instance_is, e.interface_is) e.is
-
 abbrev pub is_host : Finished → Bool
 is_host (Host port) = true
 is_host _ = false
@@ -95,17 +92,12 @@ module _ (plan : PlanTable) (is_plan : IsPlan plan) (numbered : (k : ℕ) (link 
       let base = l.base in
       omega (arith, inside, some, base)
 
-  host_is : (k : ℕ) (link : MemoryLink) → slice_get (memory_links plan.system) k ≡ Some link → known_in plan.system (hosts_of plan.system) link.host_number ≡ Host link.host
-  host_is k link at =
-      let l = numbered k link at in
-      ap (λ o. option_map_or (known_at plan.system) o Other) l.host_is ∙ known_is plan.system l.connection.start (Host link.host) l.host
-
   module _ (host : ℕ) (port : HostPort) (is : IsHostOf plan host port) (width : ℕ) (reach : 2 ^ width ≡ range_of port) where
     route_within : (k : ℕ) (route : Route) → slice_get (routes_of plan.system host) k ≡ Some route → route.base < 2 ^ width
     route_within k route at =
         let h = link_of host (memory_links plan.system) k route at in
         let inside = link_within h.place h.link h.is in
-        let range : range_of h.link.host ≡ range_of port = ap range_at (sym (host_is h.place h.link h.is) ∙ ap (known_in plan.system (hosts_of plan.system)) h.of_host ∙ is) in
+        let range : range_of h.link.host ≡ range_of port = ap range_at (sym (ends_of plan numbered h.place h.link h.is).host ∙ ap (known_in plan.system (hosts_of plan.system)) h.of_host ∙ is) in
         let base : h.link.base ≡ route.base = ap (λ (r : Route). r.base) h.same in
         omega (arith, inside, range, base, reach)
 
@@ -126,11 +118,11 @@ module _ (plan : PlanTable) (is_plan : IsPlan plan) (numbered : (k : ℕ) (link 
       are_mapped = record {
         entries = all_entries width (routes_of plan.system host) entry_is;
         maps = λ shape counts.
-        (let same = word_is ∙ sym counts.words in
-        record {
-          bytes = counts.units;
-          words = words_held (memory_system plan) host (routes_of plan.system host) are shape.word_bytes (word_power shape.word_bytes same) same;
-          held = λ kind address within. places_held (memory_system plan) host (routes_of plan.system host) are kind address;
-          others = λ kind address agent within. agents_have (memory_system plan) host (routes_of plan.system host) are kind address agent;
-        });
+            (let same = word_is ∙ sym counts.words in
+            record {
+              bytes = counts.units;
+              words = words_held (memory_system plan) host (routes_of plan.system host) are shape.word_bytes (word_power shape.word_bytes same) same;
+              held = λ kind address within. places_held (memory_system plan) host (routes_of plan.system host) are kind address;
+              others = λ kind address agent within. agents_have (memory_system plan) host (routes_of plan.system host) are kind address agent;
+            });
       }

@@ -1,4 +1,5 @@
 pub mod Apart
+pub mod Ends
 pub mod Entries
 pub mod Hosts
 pub mod Words

@@ -1,5 +1,5 @@
 -- Reads for an agent without bursts ask for one word.
-use Rattle.std.proofs.Common.{◌≡◌, ℕ, ◌<◌, ◌≤◌, zero, suc, Bool, true, false, not, ◌&&◌, ◌||◌, cond, nat_eq, refl, sym, ap, subst, ◌∙◌, arith, IsTrue}
+use Rattle.std.proofs.Common.{◌≡◌, ℕ, ◌<◌, ◌≤◌, zero, suc, Bool, true, false, not, ◌||◌, cond, nat_eq, refl, sym, ap, subst, ◌∙◌, arith, IsTrue}
 use Rattle.std.specs.Bool.{IsFalse}
 use Rattle.iface_roles.specs.declared.records.AgentPort.{AgentPort}
 use Rattle.histories.specs.History.{is_raised}
@@ -15,10 +15,7 @@ use Rattle.link_rules.specs.Plans.{PlanTable}
 use Rattle.mm_agent.specs.Agents.{bursts, shape_above}
 use Rattle.mm_agent.specs.Forms.{AreFitFor}
 use Rattle.mm_path.specs.Maps.{IsAgentOf}
-
-both : (a b : Bool) → (a && b) ≡ true → (a ≡ true) × (b ≡ true)
-both true b h = (refl, h)
-both false b h = absurd (let no : false ≡ true = h in cc)
+use Rattle.mm_path.proofs.Entries.{both}
 
 -- without burstcount its width counts as 1
 plain_width : (bits : ℕ) → IsFalse (not (nat_eq bits 0)) → burst_width bits ≡ 1

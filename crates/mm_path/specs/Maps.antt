@@ -3,7 +3,9 @@ use Rattle.std.specs.Prelude.{◌≡◌, ℕ}
 use Rattle.iface_roles.specs.declared.records.Finished.TheVariants.{Host, Agent}
 use Rattle.iface_roles.specs.declared.records.AgentPort.{AgentPort}
 use Rattle.iface_roles.specs.declared.records.HostPort.{HostPort}
+use Rattle.iface_roles.specs.Proper.{IsBoundedHost, IsBoundedAgent}
 use Rattle.address_map.specs.Maps.{hosts_of, agents_of}
+use Rattle.link_rules.specs.declared.plan_links.MemoryLink.{MemoryLink}
 use Rattle.link_rules.specs.Plans.{PlanTable}
 use Rattle.mm_runs.specs.Views.{Shape}
 use Rattle.memory_plans.specs.Routes.{routes_of}
@@ -17,6 +19,22 @@ IsHostOf plan host port = known_in plan.system (hosts_of plan.system) host ≡ H
 
 abbrev pub IsAgentOf : PlanTable → ℕ → AgentPort → Type 0
 IsAgentOf plan agent port = known_in plan.system (agents_of plan.system) agent ≡ Agent port
+
+-- there is such a host, and its ports fit the tables
+pub record HasHost (plan : PlanTable) (host : ℕ) : Type 0 where
+  pub port : HostPort
+  pub is : IsHostOf plan host port
+  pub bounded : IsBoundedHost port
+
+pub record HasAgent (plan : PlanTable) (agent : ℕ) : Type 0 where
+  pub port : AgentPort
+  pub is : IsAgentOf plan agent port
+  pub bounded : IsBoundedAgent port
+
+-- the ports of a link are those of its numbers
+pub record JoinsEnds (plan : PlanTable) (link : MemoryLink) : Type 0 where
+  pub host : IsHostOf plan link.host_number link.host
+  pub agent : IsAgentOf plan link.agent_number link.agent
 
 -- a shape with the words of the host whose addresses count bytes, as behind the part next to a host
 pub record CountsBytes (port : HostPort) (shape : Shape) : Type 0 where

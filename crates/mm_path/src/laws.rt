@@ -1,9 +1,12 @@
 //! What every plan gives the parts between its hosts and agents. The functions do nothing; their contracts are the laws.
 
-ghost use Rattle.std.specs.Prelude.{◌≡◌, ◌^◌, ℕ, IsTrue};
+ghost use Rattle.std.specs.Prelude.{◌≡◌, ◌^◌, ◌<◌, ℕ, Some, IsTrue, length, slice_get};
 ghost use Rattle.iface_roles.specs.declared.records.AgentPort.{AgentPort};
 ghost use Rattle.iface_roles.specs.declared.records.HostPort.{HostPort};
 ghost use Rattle.iface_roles.specs.Proper.{range_of};
+ghost use Rattle.address_map.specs.Maps.{hosts_of, agents_of};
+ghost use Rattle.link_rules.specs.declared.plan_links.MemoryLink.{MemoryLink};
+ghost use Rattle.link_rules.specs.PlanLinks.{memory_links};
 ghost use Rattle.link_rules.specs.Plans.{PlanTable, IsPlan};
 ghost use Rattle.mm_machines.specs.Link.{Port};
 ghost use Rattle.mm_machines.specs.Lines.{IsFit};
@@ -11,10 +14,22 @@ ghost use Rattle.memory_plans.specs.Systems.{memory_system};
 ghost use Rattle.mm_agent.specs.Agents.{shape_above};
 ghost use Rattle.mm_agent.specs.Forms.{AreFitFor};
 ghost use Rattle.mm_awake.specs.Fair.{are_apart};
-ghost use Rattle.mm_path.specs.Maps.{IsHostOf, IsAgentOf, RoutesAreMapped};
+ghost use Rattle.mm_path.specs.Maps.{IsHostOf, IsAgentOf, HasHost, HasAgent, JoinsEnds, RoutesAreMapped};
 
-use link_rules::memory_links_are_numbered;
+use iface_roles::proper_records_are_bounded;
+use link_rules::{ends_are_known, memory_links_are_numbered};
 use memory_plans::{plans_are_memory_plans, routes_are_the_map};
+
+/// Each number of a host or an agent stands for ports that fit the tables, and each link joins the ports of its numbers.
+pub fn plans_have_their_ends()
+    ensures hosts { (plan : PlanTable) → IsPlan plan → (host : ℕ) → host < length (hosts_of plan.system) → HasHost plan host }
+    ensures agents { (plan : PlanTable) → IsPlan plan → (agent : ℕ) → agent < length (agents_of plan.system) → HasAgent plan agent }
+    ensures links { (plan : PlanTable) → IsPlan plan → (k : ℕ) (link : MemoryLink) → slice_get (memory_links plan.system) k ≡ Some link → JoinsEnds plan link }
+{
+    proper_records_are_bounded();
+    memory_links_are_numbered();
+    ends_are_known();
+}
 
 /// The routes of each host are its map, for byte addresses that reach just the range of the host.
 pub fn routes_are_mapped()

@@ -3,4 +3,6 @@
 
 mod laws;
 
-pub use laws::{fit_commands_suit_agents, plans_are_apart, routes_are_mapped};
+pub use laws::{
+    fit_commands_suit_agents, plans_are_apart, plans_have_their_ends, routes_are_mapped,
+};
