@@ -10,6 +10,7 @@ ghost use Rattle.net_parts.specs.Growth.{GrowsBy, AddsNets, StillWait, WaitsBesi
 ghost use Rattle.command_nets.specs.Nets.{group_of, AreCommandNets, AreAnswerNets, raw_in};
 ghost use Rattle.command_nets.specs.Groups.{HaveSameWidths, IsOfCommand, StartsEmpty, TakeNextCommand, IsDelayed, IsDelayedAnswer, is_shown, hidden};
 
+use crate::bits::both;
 use crate::nets::{AnswerNets, CommandNets};
 use net_parts::{choose_all, low_register, low_registers, set_all_next};
 use netlist::{Builder, Net, NetFault};
@@ -65,19 +66,6 @@ pub fn set_next_command(builder: &mut Builder, registers: &CommandNets, next: &C
     ensures no_more_wait { WaitsWithout (IsOfCommand registers.now) builder.old builder.new }
 {
     set_all_next(builder, &registers.group(), &next.group());
-}
-
-/// Both of two bits.
-#[tactic(auto, using(net_parts::specs::Laws::growing))]
-pub fn both(builder: &mut Builder, one: Net, other: Net) -> Result<Net, NetFault>
-    requires one { IsBit builder.old one }
-    requires other { IsBit builder.old other }
-    ensures net { IfOk result (λ n. IsBit builder.new n) }
-    ensures value { IfOk result (λ n. Always builder.new (λ cycle. cycle.net n.number ≡ (if is_raised (cycle.net one.number) then cycle.net other.number else 0))) }
-    ensures adds { AddsNets 1 builder.old builder.new }
-    ensures full { result ≡ Err NetFault.TooManyNets → 2 ^ 20 < length builder.old.lines + 1 }
-{
-    builder.and(one, other)
 }
 
 /// Whether a beat is shown.

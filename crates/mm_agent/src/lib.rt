@@ -3,11 +3,9 @@
 
 mod agent;
 mod answers;
-mod bits;
 mod fields;
 mod nets;
 mod reads;
-mod registers;
 
 pub use agent::emit_agent;
 pub use nets::{AgentMade, AgentNets};

@@ -11,8 +11,7 @@ ghost use Rattle.memory_sides.specs.Sides.{bound_of};
 ghost use Rattle.mm_agent.specs.Agents.{IsServed};
 ghost use Rattle.mm_agent.specs.Reads.{owns_reads, AreReadsHeld, CountsOn, ReadsGoOn, IsNextCount};
 
-use crate::bits::{both, either, unless};
-use crate::registers::{register, take_next};
+use command_nets::{both, either, register, take_next, unless};
 use iface_roles::AgentPort;
 use net_parts::{fit_bits, is_above};
 use netlist::{Builder, Net, NetFault};

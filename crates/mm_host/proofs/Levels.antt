@@ -1,5 +1,5 @@
 -- Bits, and addresses in bytes.
-use Rattle.std.proofs.Common.{◌≡◌, ℕ, zero, suc, ◌+◌, ◌-◌, ◌*◌, ◌/◌, ◌%◌, ◌^◌, ◌<◌, ◌≤◌, Bool, true, false, not, ◌&&◌, ◌||◌, if◌then◌else◌, ◌==◌, nat_lt, nat_eq, bit_and, bit_or, refl, sym, subst, ap, ◌∙◌, arith}
+use Rattle.std.proofs.Common.{◌≡◌, ℕ, zero, suc, ◌+◌, ◌-◌, ◌*◌, ◌/◌, ◌%◌, ◌^◌, ◌<◌, ◌≤◌, Bool, true, false, not, ◌&&◌, if◌then◌else◌, ◌==◌, nat_lt, nat_eq, refl, sym, subst, ap, ◌∙◌, arith}
 use Rattle.std.proofs.Math.Nat.{mod-eq_of_lt, div-lt_iff_lt-mul, zero-mod, mod_self, add-mod_right}
 use Rattle.std.proofs.Math.Pow.{pow_mono}
 use Rattle.std.proofs.lemmas.Nat.{pow-add, pow_pos, div-add-mod'}
@@ -8,32 +8,6 @@ use Rattle.std.specs.Prelude.{Result, Ok, Err, IfOk}
 use Rattle.histories.specs.History.{is_raised, one_if}
 use Rattle.net_parts.specs.Growth.{fit_nets}
 use Rattle.mm_host.specs.Writes.{beats_of}
-
-pub raised_and : (x y z : ℕ) → x < 2 → y < 2 → z ≡ bit_and x y → is_raised z ≡ (is_raised x && is_raised y)
-raised_and zero zero z h k e = ap is_raised e
-raised_and zero (suc zero) z h k e = ap is_raised e
-raised_and (suc zero) zero z h k e = ap is_raised e
-raised_and (suc zero) (suc zero) z h k e = ap is_raised e
-raised_and (suc (suc x)) y z h k e = absurd (omega arith)
-raised_and zero (suc (suc y)) z h k e = absurd (omega arith)
-raised_and (suc zero) (suc (suc y)) z h k e = absurd (omega arith)
-
-pub raised_or : (x y z : ℕ) → x < 2 → y < 2 → z ≡ bit_or x y → is_raised z ≡ (is_raised x || is_raised y)
-raised_or zero zero z h k e = ap is_raised e
-raised_or zero (suc zero) z h k e = ap is_raised e
-raised_or (suc zero) zero z h k e = ap is_raised e
-raised_or (suc zero) (suc zero) z h k e = ap is_raised e
-raised_or (suc (suc x)) y z h k e = absurd (omega arith)
-raised_or zero (suc (suc y)) z h k e = absurd (omega arith)
-raised_or (suc zero) (suc (suc y)) z h k e = absurd (omega arith)
-
-raised_turned : (x y : ℕ) → x < 2 → y ≡ 2 ^ 1 - 1 - x → is_raised y ≡ not (is_raised x)
-raised_turned zero y h e = ap is_raised e
-raised_turned (suc zero) y h e = ap is_raised e
-raised_turned (suc (suc x)) y h e = absurd (omega arith)
-
-pub raised_not : (w x y : ℕ) → w ≡ 1 → x < 2 → y ≡ 2 ^ w - 1 - x → is_raised y ≡ not (is_raised x)
-raised_not w x y one h e = raised_turned x y h (subst (λ n. y ≡ 2 ^ n - 1 - x) one e)
 
 -- a number without its lowest bits, by a slice
 pub aligned : (n bits low high made : ℕ) → low < bits → n < 2 ^ bits → high ≡ n / 2 ^ low % 2 ^ (bits - 1 - low + 1) → made ≡ high * 2 ^ low → made ≡ n - n % 2 ^ low

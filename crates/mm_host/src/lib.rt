@@ -1,13 +1,11 @@
 //! The equations of the part next to a memory-mapped host: byte addresses, a bound of 16 on unanswered reads, and the end of each command.
 #![tactic(auto)]
 
-mod bits;
 mod fields;
 mod host;
 mod nets;
 mod queue;
 mod reads;
-mod registers;
 mod writes;
 
 pub use fields::Fields;

@@ -10,9 +10,8 @@ ghost use Rattle.net_parts.specs.Growth.{GrowsBy, AddsNets, StillWait, WaitsBesi
 ghost use Rattle.memory_sides.specs.Sides.{burst_width};
 ghost use Rattle.mm_host.specs.Queued.{owns_queue, AreEnds, IsQueueMade, AnswersOldest, QueuesOn};
 
-use crate::bits::{both, either, unless};
 use crate::fields::count_bits;
-use crate::registers::{register, take_next};
+use command_nets::{both, either, register, take_next, unless};
 use iface_roles::HostPort;
 use net_parts::{PlaceNets, choose, constant, fill_places, fit_bits, last_full, set_places};
 use netlist::{Builder, Net, NetFault};

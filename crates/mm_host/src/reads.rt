@@ -11,9 +11,8 @@ ghost use Rattle.net_parts.specs.Growth.{GrowsBy, AddsNets, StillWait, WaitsBesi
 ghost use Rattle.mm_host.specs.Reads.{owns_reads, AreReadsHeld, AsksOn, CountsOn, ReadsGoOn};
 ghost use Rattle.memory_sides.specs.Sides.{burst_width};
 
-use crate::bits::{both, either, turned, unless};
 use crate::queue::{HeldQueue, finish_queue, make_queue};
-use crate::registers::{register, take_next};
+use command_nets::{both, either, register, take_next, turned, unless};
 use iface_roles::HostPort;
 use net_parts::{choose, fit_bits};
 use netlist::{Builder, Net, NetFault};

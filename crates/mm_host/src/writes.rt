@@ -10,9 +10,8 @@ ghost use Rattle.iface_roles.specs.Proper.{IsBoundedHost};
 ghost use Rattle.memory_sides.specs.Sides.{burst_width};
 ghost use Rattle.mm_host.specs.Writes.{owns_writes, beats_of, AreWritesHeld, LacksBeats, LacksOn, WritesGoOn};
 
-use crate::bits::{turned, unless};
 use crate::fields::count_bits;
-use crate::registers::{register, take_next};
+use command_nets::{register, take_next, turned, unless};
 use iface_roles::HostPort;
 use net_parts::{choose, constant, fit_bits, level};
 use netlist::{Builder, Net, NetFault};

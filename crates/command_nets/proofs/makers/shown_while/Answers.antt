@@ -7,4 +7,4 @@ use Rattle.command_nets.proofs.makers.shown_while.Goals as goal
 pub returns-clause-value : goal.returns-clause-value
 returns-clause-value c cycle v =
     let before = c.both-2.ensures.adds.grows.extends.valuations cycle v in
-    raw_while (is_raised (cycle.net c.args.bit.number)) _ (raw_in cycle c.args.command.now) (c.in_ok-read.ensures.value cycle before) (c.in_ok-write.ensures.value cycle v) refl refl refl refl refl refl
+    raw_while (is_raised (cycle.net c.args.bit.number)) _ (raw_in cycle c.args.command.now) (c.in_ok-read.ensures.level cycle before) (c.in_ok-write.ensures.level cycle v) refl refl refl refl refl refl

@@ -15,4 +15,4 @@ returns-clause-value c =
     (λ n value cycle v. (
     let before = c.both.ensures.adds.grows.extends.valuations cycle v in
     both_are_raised (is_raised (cycle.net c.in_ok-held.held.number)) _ (cycle.net c.args.wait.number) (cycle.net n.number) (c.in_ok-held.ensures.value cycle before) (value cycle v)))
-    c.both.ensures.value
+    c.both.ensures.level

@@ -9,7 +9,7 @@ use av_base::Val;
 use netlist::{Builder, Net, NetFault};
 
 /// A register that begins at 0.
-pub(crate) fn register(builder: &mut Builder, bits: u8) -> Result<Net, NetFault>
+pub fn register(builder: &mut Builder, bits: u8) -> Result<Net, NetFault>
     requires some { 1 ≤ bits }
     requires few { bits ≤ 128 }
     ensures net { IfOk result (λ made. IsNetOfWidth builder.new made bits) }
@@ -26,7 +26,7 @@ pub(crate) fn register(builder: &mut Builder, bits: u8) -> Result<Net, NetFault>
 }
 
 /// Gives a register its next net.
-pub(crate) fn take_next(builder: &mut Builder, register: Net, next: Net)
+pub fn take_next(builder: &mut Builder, register: Net, next: Net)
     requires register { IsNet builder.old register }
     requires waits { IsWaiting builder.old register.number }
     requires next { IsNet builder.old next }

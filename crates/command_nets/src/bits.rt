@@ -10,11 +10,12 @@ use netlist::{Builder, Net, NetFault};
 
 /// High where both bits are.
 #[tactic(auto, using(net_parts::specs::Laws::growing))]
-pub(crate) fn both(builder: &mut Builder, a: Net, b: Net) -> Result<Net, NetFault>
+pub fn both(builder: &mut Builder, a: Net, b: Net) -> Result<Net, NetFault>
     requires a { IsBit builder.old a }
     requires b { IsBit builder.old b }
     ensures net { IfOk result (λ net. IsBit builder.new net) }
     ensures value { IfOk result (λ net. Always builder.new (λ cycle. is_raised (cycle.net net.number) ≡ (is_raised (cycle.net a.number) && is_raised (cycle.net b.number)))) }
+    ensures level { IfOk result (λ net. Always builder.new (λ cycle. cycle.net net.number ≡ (if is_raised (cycle.net a.number) then cycle.net b.number else 0))) }
     ensures adds { AddsNets 1 builder.old builder.new }
     ensures full { result ≡ Err NetFault.TooManyNets → 2 ^ 20 < length builder.old.lines + 1 }
 {
@@ -23,7 +24,7 @@ pub(crate) fn both(builder: &mut Builder, a: Net, b: Net) -> Result<Net, NetFaul
 
 /// High where one of the bits is.
 #[tactic(auto, using(net_parts::specs::Laws::growing))]
-pub(crate) fn either(builder: &mut Builder, a: Net, b: Net) -> Result<Net, NetFault>
+pub fn either(builder: &mut Builder, a: Net, b: Net) -> Result<Net, NetFault>
     requires a { IsBit builder.old a }
     requires b { IsBit builder.old b }
     ensures net { IfOk result (λ net. IsBit builder.new net) }
@@ -36,7 +37,7 @@ pub(crate) fn either(builder: &mut Builder, a: Net, b: Net) -> Result<Net, NetFa
 
 /// High where the bit is low.
 #[tactic(auto, using(net_parts::specs::Laws::growing))]
-pub(crate) fn turned(builder: &mut Builder, a: Net) -> Result<Net, NetFault>
+pub fn turned(builder: &mut Builder, a: Net) -> Result<Net, NetFault>
     requires a { IsBit builder.old a }
     ensures net { IfOk result (λ net. IsBit builder.new net) }
     ensures value { IfOk result (λ net. Always builder.new (λ cycle. is_raised (cycle.net net.number) ≡ not (is_raised (cycle.net a.number)))) }
@@ -48,7 +49,7 @@ pub(crate) fn turned(builder: &mut Builder, a: Net) -> Result<Net, NetFault>
 
 /// High where the first bit is and the second one isn't.
 #[tactic(auto, using(net_parts::specs::Laws::growing))]
-pub(crate) fn unless(builder: &mut Builder, a: Net, b: Net) -> Result<Net, NetFault>
+pub fn unless(builder: &mut Builder, a: Net, b: Net) -> Result<Net, NetFault>
     requires a { IsBit builder.old a }
     requires b { IsBit builder.old b }
     ensures net { IfOk result (λ net. IsBit builder.new net) }
