@@ -1,3 +1,4 @@
 pub mod Nets
 pub mod Groups
 pub mod Levels
+pub mod Ports

@@ -1,6 +1,6 @@
 //! Registers of so many bits, and their next nets.
 
-ghost use Rattle.std.specs.Prelude.{◌≡◌, ℕ, ◌+◌, ◌^◌, ◌<◌, ◌≤◌, length, IfOk};
+ghost use Rattle.std.specs.Prelude.{◌≡◌, ℕ, ◌+◌, ◌^◌, ◌<◌, ◌≤◌, length, IfOk, OnOk};
 ghost use Rattle.netlist.specs.Netlists.{IsNet, IsWaiting};
 ghost use Rattle.net_parts.specs.Nets.{IsNetOfWidth, StartsLow, TakesNext};
 ghost use Rattle.net_parts.specs.Growth.{GrowsBy, StillWait, WaitsBeside, WaitsWithout};
@@ -14,6 +14,7 @@ pub fn register(builder: &mut Builder, bits: u8) -> Result<Net, NetFault>
     requires few { bits ≤ 128 }
     ensures net { IfOk result (λ made. IsNetOfWidth builder.new made bits) }
     ensures number { IfOk result (λ made. made.number ≡ length builder.old.lines) }
+    ensures count { OnOk result (length builder.new.lines ≡ length builder.old.lines + 1) }
     ensures within { IfOk result (λ made. made.number < length builder.new.lines) }
     ensures starts { IfOk result (λ made. StartsLow builder.new made) }
     ensures waits { IfOk result (λ made. IsWaiting builder.new made.number) }

@@ -15,13 +15,12 @@ use Rattle.mm_agent.specs.declared.nets.AgentNets.{AgentNets}
 use Rattle.mm_agent.specs.declared.nets.AgentMade.{AgentMade}
 use Rattle.mm_agent.specs.declared.reads.HeldReads.{HeldReads}
 use Rattle.mm_agent.specs.declared.reads.HeldReads.TheVariants.{Never, Counts}
-use Rattle.mm_agent.specs.Agents.{value_or, shape_above}
+use Rattle.command_nets.specs.Ports.{value_or, SameLevel}
+use Rattle.mm_agent.specs.Agents.{shape_above}
 use Rattle.mm_agent.specs.Reads.{owns_reads, AreReadsHeld}
-use Rattle.mm_agent.specs.Forms.{IsAgentPart, SameLevel, IgnoresAnswer}
-use Rattle.mm_agent.proofs.Levels.{level_is, same_address}
-
-bit_same : (x y : ℕ) → x < 2 → y < 2 → is_raised x ≡ is_raised y → x ≡ y
-bit_same x y h k e = level_is x h ∙ ap one_if e ∙ sym (level_is y k)
+use Rattle.mm_agent.specs.Forms.{IsAgentPart, IgnoresAnswer}
+use Rattle.command_nets.specs.Levels.{bit_same}
+use Rattle.mm_agent.proofs.Levels.{same_address}
 
 of_values : (net : Option NetValue) (one other : Cycle) → value_or 0 net one ≡ value_or 0 net other → SameLevel net one other
 of_values None one other e = tt

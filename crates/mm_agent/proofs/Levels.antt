@@ -6,20 +6,10 @@ use Rattle.std.proofs.Math.Pow.{pow_mono, pow-lt}
 use Rattle.std.proofs.lemmas.Nat.{pow-add, pow_pos, div-add-mod'}
 use Rattle.std.proofs.lemmas.Bool.{ne_eqb, ltb-true, ltb-false}
 use Rattle.histories.specs.History.{is_raised, one_if}
+use Rattle.command_nets.specs.Levels.{level_is, is_some, one_fits}
 use Rattle.mm_agent.specs.Reads.{IsNextCount}
 
-pub level_is : (x : ℕ) → x < 2 → x ≡ one_if (is_raised x)
-level_is zero h = refl
-level_is (suc zero) h = refl
-level_is (suc (suc x)) h = absurd (omega arith)
-
 -- ---- counts
-
-is_some : (u : ℕ) → ◌≡◌ {A = ℕ} (if suc u == 0 then 0 else 1) 1
-is_some u = rw (ne_eqb (suc u) 0 (λ e. absurd (omega (arith, e)))) refl
-
-one_fits : (k : ℕ) → 1 ≤ k → 1 < 2 ^ k
-one_fits k some = let two : 2 ^ 1 ≤ 2 ^ k = pow_mono some in omega (arith, two)
 
 less_by : (s f limit : ℕ) → f ≤ s → s < limit → (s + (limit - f)) % limit ≡ s - f
 less_by s f limit le lt = let e : s + (limit - f) ≡ (s - f) + limit = omega arith in ap (λ k. k % limit) e ∙ add-mod_right (s - f) limit ∙ mod-eq_of_lt (omega arith)

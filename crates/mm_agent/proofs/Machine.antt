@@ -19,7 +19,8 @@ use Rattle.mm_agent.specs.declared.nets.AgentNets.{AgentNets}
 use Rattle.mm_agent.specs.declared.nets.AgentMade.{AgentMade}
 use Rattle.mm_agent.specs.declared.reads.HeldReads.{HeldReads}
 use Rattle.mm_agent.specs.declared.reads.HeldReads.TheVariants.{Never, Counts}
-use Rattle.mm_agent.specs.Agents.{HasNet, value_or, bursts, all_ones, agent_view}
+use Rattle.command_nets.specs.Ports.{HasNet, value_or, all_ones}
+use Rattle.mm_agent.specs.Agents.{bursts, agent_view}
 use Rattle.mm_agent.specs.Reads.{AreReadsHeld, ReadsGoOn}
 use Rattle.mm_agent.specs.Forms.{IsAgentPart, AreFitFor, port_above, tagged_above}
 use Rattle.mm_agent.proofs.Queues.{one_word, words_of, words_count, words_tag, words_next}

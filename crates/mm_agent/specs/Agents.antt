@@ -14,18 +14,9 @@ use Rattle.memory_sides.specs.Sides.{unit_of, burst_width}
 use Rattle.command_nets.specs.declared.nets.CommandNets.{CommandNets}
 use Rattle.command_nets.specs.declared.nets.AnswerNets.{AnswerNets}
 use Rattle.command_nets.specs.Nets.{AreAnswerNets}
+use Rattle.command_nets.specs.Ports.{HasNet, value_or, all_ones, has_lasts}
 use Rattle.mm_agent.specs.declared.nets.AgentNets.{AgentNets}
 use Rattle.mm_agent.specs.declared.nets.AgentMade.{AgentMade}
-
--- a net of so many bits, exactly where there is a port
-abbrev pub HasNet : Netlist → Bool → ℕ → Option NetValue → Type 0
-HasNet netlist there bits None = there ≡ false
-HasNet netlist there bits (Some net) = (there ≡ true) × IsNetOfWidth netlist net bits
-
--- the level at a port in a cycle, this one where there is no port
-abbrev pub value_or : ℕ → Option NetValue → Cycle → ℕ
-value_or level None cycle = level
-value_or level (Some net) cycle = cycle.net net.number
 
 abbrev pub has_address : AgentPort → Bool
 has_address port = not (nat_eq port.address_bits 0)
@@ -80,9 +71,6 @@ pub record AreMadeNets (netlist : Netlist) (port : AgentPort) (command : Command
   pub answer : AreAnswerNets netlist made.answer (port.word_bytes * 8)
   pub answer_tag : IsNetOfWidth netlist made.answer_tag command.tag.width
 
-abbrev pub all_ones : ℕ → ℕ
-all_ones bits = 2 ^ bits - 1
-
 -- what an agent is shown in a run: byte enables that are all ones and the count 1 where it has no such port, and 0 for each other port
 abbrev pub agent_signals : AgentPort → CommandNets → AgentMade → Run → Signals
 agent_signals port command made run = record {
@@ -106,10 +94,6 @@ agent_view port nets command made run = record {
 }
 
 -- ---- what stands lasts. No contract reads these proofs; the laws of an agent cite them
-
-pub has_lasts : (old new : Netlist) (there : Bool) (bits : ℕ) (net : Option NetValue) → HasNet old there bits net → Extends old new → HasNet new there bits net
-has_lasts old new there bits None h e = h
-has_lasts old new there bits (Some net) h e = (h.0, net_lasts old new net bits e h.1)
 
 pub agent_lasts : (old new : Netlist) (port : AgentPort) (nets : AgentNets) → AreAgentNets old port nets → Extends old new → AreAgentNets new port nets
 agent_lasts old new port nets h e = record {

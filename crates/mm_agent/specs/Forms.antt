@@ -15,9 +15,10 @@ use Rattle.mm_parts.specs.Agent.{AgentState, IsAgentMachine}
 use Rattle.memory_sides.specs.Sides.{agent_side}
 use Rattle.command_nets.specs.declared.nets.CommandNets.{CommandNets}
 use Rattle.command_nets.specs.Nets.{port_in, ShowSame}
+use Rattle.command_nets.specs.Ports.{value_or, SameLevel}
 use Rattle.mm_agent.specs.declared.nets.AgentNets.{AgentNets}
 use Rattle.mm_agent.specs.declared.nets.AgentMade.{AgentMade}
-use Rattle.mm_agent.specs.Agents.{AreAgentNets, agent_lasts, IsServed, BearsOneTag, PlacesAddress, GivesAnswer, value_or, read_of, shape_above, bursts, agent_view}
+use Rattle.mm_agent.specs.Agents.{AreAgentNets, agent_lasts, IsServed, BearsOneTag, PlacesAddress, GivesAnswer, read_of, shape_above, bursts, agent_view}
 use Rattle.mm_agent.specs.Reads.{owns_reads, AreReadsHeld, ReadsGoOn, reads_last, reads_go_on}
 
 -- the nets of the part: its bound on reads by `shown`, and its wait by `busy`, the agent's waitrequest, or low where it has none
@@ -36,9 +37,6 @@ pub record IsAgentPart (netlist : Netlist) (port : AgentPort) (nets : AgentNets)
   pub on : ReadsGoOn netlist command.read shown busy made.answer.valid made.waitrequest made.reads
   pub one_tag : BearsOneTag netlist command
   pub tag : made.answer_tag ≡ command.tag
-
-abbrev pub SameLevel : Option NetValue → Cycle → Cycle → Type 0
-SameLevel net one other = IfSome net (λ n. one.net n.number ≡ other.net n.number)
 
 -- the agent is shown the same in both cycles; all else that it is shown is of the command
 pub record ShowSameTo (made : AgentMade) (one other : Cycle) : Type 0 where

@@ -9,6 +9,7 @@ use Rattle.netlist.specs.Longer.{Extends}
 use Rattle.net_parts.specs.Nets.{IsBit, StartsLow}
 use Rattle.net_parts.specs.Laws.{net_lasts}
 use Rattle.memory_sides.specs.Sides.{bound_of}
+use Rattle.command_nets.specs.Ports.{ShowsUnless}
 use Rattle.mm_agent.specs.declared.reads.HeldReads.{HeldReads}
 use Rattle.mm_agent.specs.declared.reads.HeldReads.TheVariants.{Never, Counts}
 
@@ -18,10 +19,6 @@ use Rattle.mm_agent.specs.declared.reads.HeldReads.TheVariants.{Never, Counts}
 abbrev pub owns_reads : HeldReads → ℕ → Type 0
 owns_reads Never n = ⊥
 owns_reads (Counts unanswered full) n = n ≡ unanswered.number
-
--- a read is shown while this bit is low
-abbrev pub ShowsUnless : Netlist → NetValue → NetValue → NetValue → Type 0
-ShowsUnless netlist shut read shown = Always netlist (λ cycle. is_raised (cycle.net shown.number) ≡ (is_raised (cycle.net read.number) && not (is_raised (cycle.net shut.number))))
 
 -- the agent can't read
 pub record ReadsNever (port : AgentPort) : Type 0 where

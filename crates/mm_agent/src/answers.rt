@@ -7,9 +7,9 @@ ghost use Rattle.net_parts.specs.Growth.{AddsNets};
 ghost use Rattle.command_nets.specs.Nets.{AreAnswerNets};
 ghost use Rattle.mm_agent.specs.Agents.{AreAgentNets, GivesAnswer};
 
-use crate::fields::{given_or_low, word_bits};
+use crate::fields::given_or_low;
 use crate::nets::AgentNets;
-use command_nets::AnswerNets;
+use command_nets::{AnswerNets, word_bits};
 use iface_roles::AgentPort;
 use net_parts::constant;
 use netlist::{Builder, NetFault};

@@ -13,15 +13,16 @@ use Rattle.mm_host.specs.declared.reads.HeldReads.{HeldReads}
 use Rattle.mm_host.specs.declared.reads.HeldReads.TheVariants.{Never, Asks, Counts, Queues}
 use Rattle.mm_host.specs.declared.writes.HeldWrites.{HeldWrites}
 use Rattle.mm_host.specs.declared.host.HeldHost.{HeldHost}
-use Rattle.mm_host.specs.Hosts.{HasNet, bursts, all_ones, value_or}
+use Rattle.mm_host.specs.Hosts.{bursts}
 use Rattle.mm_host.specs.Reads.{owns_reads, AreReadsHeld}
 use Rattle.mm_host.specs.Writes.{owns_writes, AreWritesHeld, beats_of}
 use Rattle.net_parts.specs.declared.places.PlaceNets.{PlaceNets}
 use Rattle.net_parts.specs.PlaceRows.{InRow, last_full}
 use Rattle.mm_host.specs.declared.queue.RowEnds.{RowEnds}
 use Rattle.mm_host.specs.Queued.{AreEnds}
-use Rattle.mm_host.specs.Forms.{IsHeld, SameLevel, IgnoresAnswer}
-use Rattle.mm_host.proofs.Levels.{level_is}
+use Rattle.mm_host.specs.Forms.{IsHeld, IgnoresAnswer}
+use Rattle.command_nets.specs.Levels.{bit_same}
+use Rattle.command_nets.specs.Ports.{HasNet, value_or, all_ones, SameLevel}
 
 -- a port that isn't there shows its default
 pub absent : (netlist : Netlist) (there : Bool) (bits : ℕ) (net : Option NetValue) → there ≡ false → HasNet netlist there bits net → (cycle : Cycle) → value_or 0 net cycle ≡ 0
@@ -35,9 +36,6 @@ single netlist port words (Some net) k cycle = absurd (let none : bursts port �
 level_same : (level : ℕ) (net : Option NetValue) (one other : Cycle) → SameLevel net one other → value_or level net one ≡ value_or level net other
 level_same level None one other h = refl
 level_same level (Some net) one other h = h
-
-bit_same : (x y : ℕ) → x < 2 → y < 2 → is_raised x ≡ is_raised y → x ≡ y
-bit_same x y h k e = level_is x h ∙ ap one_if e ∙ sym (level_is y k)
 
 last_in : (first : PlaceNets 1) (rest : List (PlaceNets 1)) → InRow (first ∷ rest) (last_full first rest).number
 last_in first [] = inl (inl refl)

@@ -7,6 +7,7 @@ use Rattle.std.proofs.lemmas.Bool.{ne_eqb, ltb-true, ltb-false}
 use Rattle.std.specs.Prelude.{Result, Ok, Err, IfOk}
 use Rattle.histories.specs.History.{is_raised, one_if}
 use Rattle.net_parts.specs.Growth.{fit_nets}
+use Rattle.command_nets.specs.Levels.{level_is, is_some, one_fits}
 use Rattle.mm_host.specs.Writes.{beats_of}
 
 -- a number without its lowest bits, by a slice
@@ -27,14 +28,6 @@ all_low n bits low le fits =
     let more = pow_mono le in
     let same : n % 2 ^ low ≡ n = mod-eq_of_lt (omega (arith, fits, more)) in
     omega (arith, same)
-
-pub level_is : (x : ℕ) → x < 2 → x ≡ one_if (is_raised x)
-level_is zero h = refl
-level_is (suc zero) h = refl
-level_is (suc (suc x)) h = absurd (omega arith)
-
-is_some : (u : ℕ) → ◌≡◌ {A = ℕ} (if suc u == 0 then 0 else 1) 1
-is_some u = rw (ne_eqb (suc u) 0 (λ e. absurd (omega (arith, e)))) refl
 
 -- no carry is lost where the sum fits, and nothing is taken from 0
 count_goes : (u t v answers : ℕ) → t < 2 → v < 2 → answers ≡ one_if (is_raised v && is_raised (if u == 0 then 0 else 1)) → u + t < 32 → ((u + t % 32) % 32 + (32 - answers % 32)) % 32 ≡ (u - v) + t
@@ -82,9 +75,6 @@ by_any false left count some beats e f = f ∙ ap (λ n. if n == 0 then count el
 
 pub beats_chosen : (left count some beats : ℕ) → some ≡ (if left == 0 then 0 else 1) → beats ≡ (if some == 0 then count else left) → beats ≡ beats_of left count
 beats_chosen left count some beats e f = by_any (nat_eq left 0) left count some beats e f
-
-pub one_fits : (k : ℕ) → 1 ≤ k → 1 < 2 ^ k
-one_fits k some = let two : 2 ^ 1 ≤ 2 ^ k = pow_mono some in omega (arith, two)
 
 fewer_below : (n limit some one fewer : ℕ) → 1 < limit → n < limit → some ≡ (if n == 0 then 0 else 1) → one ≡ some % limit → fewer ≡ (n + (limit - one)) % limit → fewer ≡ n - 1
 fewer_below zero limit some one fewer two fits e1 e2 e3 =

@@ -20,7 +20,8 @@ use Rattle.mm_host.specs.declared.reads.HeldReads.{HeldReads}
 use Rattle.mm_host.specs.declared.reads.HeldReads.TheVariants.{Never, Asks, Counts, Queues}
 use Rattle.mm_host.specs.declared.writes.HeldWrites.{HeldWrites}
 use Rattle.mm_host.specs.declared.host.HeldHost.{HeldHost}
-use Rattle.mm_host.specs.Hosts.{value_or, host_view}
+use Rattle.command_nets.specs.Ports.{value_or}
+use Rattle.mm_host.specs.Hosts.{host_view}
 use Rattle.mm_host.specs.Reads.{AreReadsHeld, ReadsQueue, ReadsGoOn}
 use Rattle.mm_host.specs.Writes.{AreWritesHeld, WritesGoOn}
 use Rattle.mm_host.specs.Forms.{IsHeld, HostGoesOn, shape_below, valid_of}

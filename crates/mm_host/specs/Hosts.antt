@@ -9,14 +9,10 @@ use Rattle.net_parts.specs.Nets.{IsBit, IsNetOfWidth}
 use Rattle.mm_runs.specs.Views.{Signals, HostView}
 use Rattle.mm_runs.specs.Commands.{byte_address}
 use Rattle.memory_sides.specs.Sides.{host_side, burst_width}
+use Rattle.command_nets.specs.Ports.{HasNet, value_or, all_ones}
 use Rattle.mm_host.specs.declared.nets.HostNets.{HostNets}
 use Rattle.mm_host.specs.declared.nets.HostAnswer.{HostAnswer}
 use Rattle.mm_host.specs.declared.fields.Fields.{Fields}
-
--- a net of so many bits, exactly where there is a port
-abbrev pub HasNet : Netlist → Bool → ℕ → Option NetValue → Type 0
-HasNet netlist there bits None = there ≡ false
-HasNet netlist there bits (Some net) = (there ≡ true) × IsNetOfWidth netlist net bits
 
 abbrev pub bursts : HostPort → Bool
 bursts port = not (nat_eq port.burst_bits 0)
@@ -29,14 +25,6 @@ pub record AreHostNets (netlist : Netlist) (port : HostPort) (nets : HostNets) :
   pub writedata : HasNet netlist port.writes (port.word_bytes * 8) nets.writedata
   pub byteenable : HasNet netlist port.enables port.word_bytes nets.byteenable
   pub burstcount : HasNet netlist (bursts port) (burst_width port.burst_bits) nets.burstcount
-
--- the level at a port in a cycle, this one where there is no port
-abbrev pub value_or : ℕ → Option NetValue → Cycle → ℕ
-value_or level None cycle = level
-value_or level (Some net) cycle = cycle.net net.number
-
-abbrev pub all_ones : ℕ → ℕ
-all_ones bits = 2 ^ bits - 1
 
 -- what a host gives in a run: byte enables that are all ones and the count 1 where it has no such port, and 0 for each other port
 abbrev pub host_signals : HostPort → HostNets → Run → Signals

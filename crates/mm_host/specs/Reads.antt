@@ -8,6 +8,7 @@ use Rattle.netlist.specs.Runs.{Cycle, Run, cycle_of, IsRun, Always}
 use Rattle.netlist.specs.Longer.{Extends}
 use Rattle.net_parts.specs.Nets.{IsBit, IsNetOfWidth, StartsLow}
 use Rattle.net_parts.specs.Laws.{net_lasts}
+use Rattle.command_nets.specs.Ports.{ShowsUnless}
 use Rattle.mm_host.specs.declared.reads.HeldReads.{HeldReads}
 use Rattle.mm_host.specs.declared.reads.HeldReads.TheVariants.{Never, Asks, Counts, Queues}
 use Rattle.mm_host.specs.declared.queue.HeldQueue.{HeldQueue}
@@ -21,10 +22,6 @@ owns_reads Never n = ⊥
 owns_reads (Asks asked) n = n ≡ asked.number
 owns_reads (Counts unanswered full) n = n ≡ unanswered.number
 owns_reads (Queues queue) n = owns_queue queue n
-
--- the host's read is shown below while this bit is low
-abbrev pub ShowsUnless : Netlist → NetValue → NetValue → NetValue → Type 0
-ShowsUnless netlist shut read shown = Always netlist (λ cycle. is_raised (cycle.net shown.number) ≡ (is_raised (cycle.net read.number) && not (is_raised (cycle.net shut.number))))
 
 -- the host can't read
 pub record ReadsNever (netlist : Netlist) (port : HostPort) (read shown : NetValue) : Type 0 where

@@ -7,7 +7,8 @@ ghost use Rattle.netlist.specs.Runs.{Always};
 ghost use Rattle.net_parts.specs.Nets.{IsBit};
 ghost use Rattle.net_parts.specs.Growth.{GrowsBy, AddsNets, StillWait, WaitsBeside, WaitsWithout, AreMadeBetween};
 ghost use Rattle.command_nets.specs.Nets.{AreCommandNets, AreAnswerNets};
-ghost use Rattle.mm_host.specs.Hosts.{AreHostNets, HasNet, value_or};
+ghost use Rattle.command_nets.specs.Ports.{HasNet, value_or};
+ghost use Rattle.mm_host.specs.Hosts.{AreHostNets};
 ghost use Rattle.mm_host.specs.Forms.{owns, command_of, valid_of, IsHeld, IgnoresAnswer, AreAnswersTo, HostGoesOn, RunsAsHost};
 
 use crate::fields::{Fields, make_fields};

@@ -7,6 +7,7 @@ use Rattle.histories.specs.History.{is_raised, one_if}
 use Rattle.netlist.specs.Nets.{NetValue}
 use Rattle.netlist.specs.Netlists.{Netlist}
 use Rattle.net_parts.specs.Groups.{TakeAllNext}
+use Rattle.command_nets.specs.Levels.{level_is, one_fits}
 use Rattle.mm_route.specs.declared.registers.RegisterNets.{RegisterNets}
 use Rattle.mm_route.specs.Registers.{registers_of}
 use Rattle.mm_route.specs.Backward.{IsNextOwed}
@@ -81,34 +82,16 @@ pub taken_level : (width read write wait asks ready beat : ℕ) → width ≡ 1 
 taken_level width read write wait asks ready beat one h k l e f g =
     ap is_raised (g ∙ ap (λ n. bit_and n ready) e ∙ ap (bit_and (bit_or read write)) (f ∙ ap (λ n. 2 ^ n - 1 - wait) one)) ∙ taken_so read write wait h k l
 
-pub both_raised : (x y z : ℕ) → x < 2 → y < 2 → z ≡ bit_and x y → is_raised z ≡ (is_raised x && is_raised y)
-both_raised zero zero z h k e = ap is_raised e
-both_raised zero (suc zero) z h k e = ap is_raised e
-both_raised (suc zero) zero z h k e = ap is_raised e
-both_raised (suc zero) (suc zero) z h k e = ap is_raised e
-both_raised (suc (suc x)) y z h k e = absurd (omega arith)
-both_raised x (suc (suc y)) z h k e = absurd (omega arith)
-
 -- a choice by a bit
 pub by_raised : {X : Type 0} (bit : ℕ) (t : Bool) (x y : X) → bit < 2 → is_raised bit ≡ t → (if bit == 0 then y else x) ≡ (if t then x else y)
 by_raised zero t x y h e = ap (λ s. if s then x else y) e
 by_raised (suc zero) t x y h e = ap (λ s. if s then x else y) e
 by_raised (suc (suc bit)) t x y h e = absurd (omega arith)
 
-pub level_is : (bit : ℕ) → bit < 2 → one_if (is_raised bit) ≡ bit
-level_is zero h = refl
-level_is (suc zero) h = refl
-level_is (suc (suc bit)) h = absurd (omega arith)
-
 -- ---- the debt
 
-power_two : (bits : ℕ) → 1 ≤ bits → 2 ≤ 2 ^ bits
-power_two zero h = absurd (omega arith)
-power_two (suc zero) h = omega arith
-power_two (suc (suc bits)) h = let k = power_two (suc bits) (omega arith) in omega (arith, k)
-
 pub asked_level : (bits taken count words none asked : ℕ) → 1 ≤ bits → taken < 2 → words ≡ count % 2 ^ bits → none ≡ 0 → asked ≡ (if taken == 0 then none else words) → asked ≡ (if is_raised taken then count else 0) % 2 ^ bits
-asked_level bits zero count words none asked some h e f g = g ∙ f ∙ sym (mod-eq_of_lt (let k = power_two bits some in omega (arith, k)))
+asked_level bits zero count words none asked some h e f g = g ∙ f ∙ sym (mod-eq_of_lt (let k = one_fits bits some in omega (arith, k)))
 asked_level bits (suc zero) count words none asked some h e f g = g ∙ e
 asked_level bits (suc (suc taken)) count words none asked some h e f g = absurd (omega arith)
 
@@ -122,8 +105,8 @@ wraps room sum word h le =
 pub owed_level : (bits wide wider owed asked valid sum word next : ℕ) → 1 ≤ bits → wide ≡ bits → wider ≡ bits → valid < 2 → sum ≡ (owed + asked) % 2 ^ wide → word ≡ valid % 2 ^ bits → next ≡ (sum + (2 ^ wider - word)) % 2 ^ wider →
     IsNextOwed (2 ^ bits) owed asked (one_if (is_raised valid)) next
 owed_level bits wide wider owed asked valid sum word next some w x h e f g few enough =
-    let two = power_two bits some in
-    let level = level_is valid h in
+    let two = one_fits bits some in
+    let level = sym (level_is valid h) in
     let is_word : word ≡ valid = f ∙ mod-eq_of_lt (omega (arith, two, h)) in
     let is_sum : sum ≡ owed + asked = e ∙ ap (λ n. (owed + asked) % 2 ^ n) w ∙ mod-eq_of_lt few in
     let is : next ≡ (owed + asked + (2 ^ bits - valid)) % 2 ^ bits = g ∙ ap (λ n. (sum + (2 ^ n - word)) % 2 ^ n) x ∙ ap (λ n. (n + (2 ^ bits - word)) % 2 ^ bits) is_sum ∙ ap (λ n. (owed + asked + (2 ^ bits - n)) % 2 ^ bits) is_word in

@@ -12,6 +12,7 @@ use Rattle.net_parts.specs.Growth.{AddsNets}
 use Rattle.net_parts.specs.Laws.{net_lasts, adds_none, adds_twice, adds_fewer}
 use Rattle.command_nets.specs.declared.nets.CommandNets.{CommandNets}
 use Rattle.command_nets.specs.Nets.{AreCommandNets, Widths, widths_of}
+use Rattle.command_nets.specs.Groups.{command_lasts}
 use Rattle.mm_route.specs.declared.shown.ShownNets.{ShownNets}
 
 -- the nets that commands are made of are nets of this netlist
@@ -52,18 +53,6 @@ abbrev pub widths_below : CommandNets → ℕ → Widths
 widths_below command tag = record { address = command.address.width; word = command.word.width; enables = command.enables.width; count = command.count.width; tag = tag }
 
 -- ---- laws. No contract reads a proof of these
-
-pub command_lasts : (a b : Netlist) (command : CommandNets) → Extends a b → AreCommandNets a command → AreCommandNets b command
-command_lasts a b command e h = record {
-  read = net_lasts a b command.read 1 e h.read;
-  write = net_lasts a b command.write 1 e h.write;
-  address = e.nets _ _ h.address;
-  word = e.nets _ _ h.word;
-  enables = e.nets _ _ h.enables;
-  count = e.nets _ _ h.count;
-  more = net_lasts a b command.more 1 e h.more;
-  tag = e.nets _ _ h.tag;
-}
 
 pub shown_nets_last : (a b : Netlist) (shown : ShownNets) (count : ℕ) → Extends a b → AreShownNets a shown count → AreShownNets b shown count
 shown_nets_last a b shown count e h = record {

@@ -1,13 +1,11 @@
 //! The registers of a route.
 
-ghost use Rattle.std.specs.Prelude.{◌≡◌, ℕ, ◌+◌, ◌^◌, ◌<◌, ◌≤◌, length, IfOk, OnOk};
-ghost use Rattle.netlist.specs.Netlists.{IsWaiting};
-ghost use Rattle.net_parts.specs.Nets.{IsNetOfWidth, StartsLow};
+ghost use Rattle.std.specs.Prelude.{◌≡◌, ◌+◌, ◌^◌, ◌<◌, ◌≤◌, length, IfOk};
 ghost use Rattle.net_parts.specs.Groups.{InGroup};
 ghost use Rattle.net_parts.specs.Growth.{GrowsBy, StillWait, WaitsBeside, AreMadeBetween};
 ghost use Rattle.mm_route.specs.Registers.{registers_of, AreRegisterNets, RegistersStartLow, RegistersWait};
 
-use av_base::Val;
+use command_nets::register;
 use netlist::{Builder, Net, NetFault};
 
 /// The registers of a route. They are all low at first.
@@ -32,23 +30,6 @@ impl RegisterNets {
     }
 }
 
-/// A register of this width that begins at 0.
-fn low(builder: &mut Builder, width: u8) -> Result<Net, NetFault>
-    requires some { 1 ≤ width }
-    requires few { width ≤ 128 }
-    ensures net { IfOk result (λ net. IsNetOfWidth builder.new net width) }
-    ensures number { IfOk result (λ net. net.number ≡ length builder.old.lines) }
-    ensures count { OnOk result (length builder.new.lines ≡ length builder.old.lines + 1) }
-    ensures starts { IfOk result (λ net. StartsLow builder.new net) }
-    ensures waits { IfOk result (λ net. IsWaiting builder.new net.number) }
-    ensures grows { GrowsBy 1 builder.old builder.new }
-    ensures still_wait { StillWait builder.old builder.new }
-    ensures newly { WaitsBeside (λ n. n ≡ length builder.old.lines) builder.old builder.new }
-    ensures full { result ≡ Err NetFault.TooManyNets → 2 ^ 20 < length builder.old.lines + 1 }
-{
-    builder.reg(Val::new(width, 0).unwrap())
-}
-
 /// The registers for so many entries and a debt below 2 to the `room_bits` words.
 #[tactic(auto, using(net_parts::specs::Laws::extends_twice))]
 pub(crate) fn make_registers(
@@ -69,10 +50,10 @@ pub(crate) fn make_registers(
     ensures newly { IfOk result (λ made. WaitsBeside (InGroup (registers_of made)) builder.old builder.new) }
     ensures full { result ≡ Err NetFault.TooManyNets → 2 ^ 20 < length builder.old.lines + 4 }
 {
-    let inside = low(builder, 1)?;
-    let kept = low(builder, count)?;
-    let owed = low(builder, room_bits)?;
-    let owing = low(builder, count)?;
+    let inside = register(builder, 1)?;
+    let kept = register(builder, count)?;
+    let owed = register(builder, room_bits)?;
+    let owing = register(builder, count)?;
     Ok(RegisterNets {
         inside,
         kept,

@@ -3,16 +3,13 @@ use Rattle.netlist.specs.Nets.{NetValue}
 use Rattle.netlist.specs.Netlists.{Netlist}
 use Rattle.net_parts.specs.Nets.{IsBit}
 use Rattle.net_parts.specs.Laws.{extends_twice, net_lasts, waiting_within, adds_twice, adds_grow, grows_fewer, grows_twice}
-use Rattle.mm_agent.specs.Agents.{HasNet, has_lasts, agent_lasts}
+use Rattle.command_nets.specs.Ports.{HasNet, has_lasts, given}
+use Rattle.mm_agent.specs.Agents.{agent_lasts}
 use Rattle.mm_agent.specs.Reads.{reads_last}
 use Rattle.mm_agent.specs.Forms.{part_lasts}
 use Rattle.mm_agent.proofs.Machine.{machine}
 use Rattle.mm_agent.proofs.Ignores.{ignores}
 use Rattle.mm_agent.proofs.agent.emit_agent.Goals as goal
-
-given : (netlist : Netlist) (there : Bool) (net : NetValue) → IsBit netlist net → HasNet netlist there 1 (if there then Some net else None)
-given netlist true net h = (refl, h)
-given netlist false net h = refl
 
 pub returns-in_err-waitrequest-clause-grows : goal.returns-in_err-waitrequest-clause-grows
 returns-in_err-waitrequest-clause-grows c = grows_fewer _ _ _ _ (omega arith) (grows_twice _ _ _ _ _ (grows_twice _ _ _ _ _ (adds_grow _ _ _ (adds_twice _ _ _ _ _ (adds_twice _ _ _ _ _ c.place_address.ensures.adds c.give_answer.ensures.adds) c.given_or_low.ensures.adds)) c.hold_reads.ensures.grows) c.finish_reads.ensures.grows)

@@ -2,11 +2,9 @@ use Rattle.std.proofs.Common.{ℕ, ◌^◌, ◌<◌, ◌≤◌, subst, ap, ◌�
 use Rattle.std.proofs.Math.Pow.{pow_mono}
 use Rattle.net_parts.specs.Nets.{IsNetOfWidth}
 use Rattle.net_parts.specs.Laws.{extends_twice, net_lasts, adds_fewer, adds_twice}
-use Rattle.mm_host.specs.Hosts.{value_or}
+use Rattle.command_nets.specs.Levels.{one_fits}
+use Rattle.command_nets.specs.Ports.{value_or}
 use Rattle.mm_host.proofs.fields.make_fields.Goals as goal
-
-one_fits : (k : ℕ) → 1 ≤ k → 1 < 2 ^ k
-one_fits k some = let two : 2 ^ 1 ≤ 2 ^ k = pow_mono some in omega (arith, two)
 
 pub given_or-requires-5-clause-fits : goal.given_or-requires-5-clause-fits
 given_or-requires-5-clause-fits c = one_fits _ c.count_bits.ensures.some

@@ -4,16 +4,12 @@ use Rattle.std.proofs.Common.{Bool, true, false, if◌then◌else◌, Option, So
 use Rattle.netlist.specs.Netlists.{Netlist}
 use Rattle.net_parts.specs.Nets.{IsBit}
 use Rattle.net_parts.specs.Laws.{extends_twice, net_lasts}
-use Rattle.mm_host.specs.Hosts.{HasNet}
+use Rattle.command_nets.specs.Ports.{HasNet, given}
 use Rattle.mm_host.specs.Reads.{reads_last, reads_go_on}
 use Rattle.mm_host.specs.Writes.{writes_go_on}
 use Rattle.mm_host.specs.Forms.{held_lasts, goes_on_lasts}
 use Rattle.mm_host.proofs.Machine.{machine}
 use Rattle.mm_host.proofs.host.finish_host.Goals as goal
-
-given : (netlist : Netlist) (there : Bool) (net : NetValue) → IsBit netlist net → HasNet netlist there 1 (if there then Some net else None)
-given netlist true net h = (refl, h)
-given netlist false net h = refl
 
 pub finish_reads-requires-clause-held : goal.finish_reads-requires-clause-held
 finish_reads-requires-clause-held c = reads_last _ _ _ _ _ _ _ c.requires.held.reads c.finish_writes.ensures.grows.extends

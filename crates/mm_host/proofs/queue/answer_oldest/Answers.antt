@@ -1,7 +1,8 @@
 use Rattle.std.proofs.Common.{◌≡◌, ◌+◌, ◌-◌, ◌<◌, ◌^◌, not, ◌&&◌, nat_eq, if◌then◌else◌, ap, ◌∙◌, arith}
 use Rattle.histories.specs.History.{is_raised, one_if}
 use Rattle.net_parts.specs.Laws.{extends_twice, net_lasts, width_fits, adds_fewer, adds_twice, grows_once}
-use Rattle.mm_host.proofs.Levels.{one_fits, difference, raised_if}
+use Rattle.command_nets.specs.Levels.{one_fits}
+use Rattle.mm_host.proofs.Levels.{difference, raised_if}
 use Rattle.mm_host.proofs.queue.answer_oldest.Goals as goal
 
 pub constant-requires-clause-fits : goal.constant-requires-clause-fits

@@ -2,7 +2,8 @@ use Rattle.std.proofs.Common.{◌≡◌, not, ◌&&◌, nat_eq, if◌then◌else
 use Rattle.histories.specs.History.{is_raised, one_if}
 use Rattle.netlist.specs.Runs.{Always}
 use Rattle.net_parts.specs.Laws.{bit_fits}
-use Rattle.mm_host.proofs.Levels.{level_is, raised_if, one_fits, if_both}
+use Rattle.command_nets.specs.Levels.{level_is, one_fits}
+use Rattle.mm_host.proofs.Levels.{raised_if, if_both}
 use Rattle.mm_host.proofs.writes.joins_next.Goals as goal
 
 pub constant-requires-clause-fits : goal.constant-requires-clause-fits

@@ -2,7 +2,8 @@ use Rattle.std.proofs.Common.{◌&&◌, ap, ◌∙◌}
 use Rattle.histories.specs.History.{is_raised}
 use Rattle.net_parts.specs.Nets.{IsBit}
 use Rattle.net_parts.specs.Laws.{bit_fits, adds_twice, grows_once}
-use Rattle.mm_route.proofs.Levels.{taken_level, both_raised}
+use Rattle.command_nets.specs.Levels.{raised_and}
+use Rattle.mm_route.proofs.Levels.{taken_level}
 use Rattle.mm_route.proofs.next.taken_bits.Goals as goal
 
 pub returns-clause-beat_is : goal.returns-clause-beat_is
@@ -21,7 +22,7 @@ returns-clause-read_is c cycle v4 =
     let v1 = c.in_ok-ready.ensures.extends.valuations cycle v2 in
     let v0 = c.in_ok-asks.ensures.extends.valuations cycle v1 in
     let beat : IsBit c.and.new.self c.in_ok-beat.beat = record { is_net = c.in_ok-beat.ensures.net.0; has_width = c.in_ok-beat.ensures.net.1 ∙ (c.in_ok-asks.ensures.net.1 ∙ c.requires.command.read.has_width) } in
-    both_raised _ _ _ (bit_fits _ _ beat cycle v3) (bit_fits _ _ c.requires.command.read cycle v0) (c.in_ok-read.ensures.value cycle v4).1
+    raised_and _ _ _ (bit_fits _ _ beat cycle v3) (bit_fits _ _ c.requires.command.read cycle v0) (c.in_ok-read.ensures.value cycle v4).1
     ∙ ap (λ t. t && is_raised (cycle.net c.args.command.now.read.number)) (returns-clause-beat_is c cycle v4)
 
 pub returns-clause-adds : goal.returns-clause-adds

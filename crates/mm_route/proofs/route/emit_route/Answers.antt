@@ -1,6 +1,7 @@
 use Rattle.std.proofs.Common.{refl, subst, arith}
 use Rattle.net_parts.specs.Laws.{extends_twice, net_lasts, adds_twice, adds_grow, grows_within}
-use Rattle.mm_route.specs.Shown.{command_lasts, shown_are_commands, AreCommandsOf, widths_below}
+use Rattle.command_nets.specs.Groups.{command_lasts}
+use Rattle.mm_route.specs.Shown.{shown_are_commands, AreCommandsOf, widths_below}
 use Rattle.mm_route.specs.Registers.{register_nets_last, start_lasts, registers_wait_on}
 use Rattle.mm_route.proofs.route.emit_route.Goals as goal
 

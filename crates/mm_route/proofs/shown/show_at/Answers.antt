@@ -1,7 +1,7 @@
 use Rattle.std.proofs.Common.{◌≡◌, ◌-◌, ◌+◌, ◌<◌, ◌==◌, ◌&&◌, if◌then◌else◌, refl, subst, ◌∙◌, sym, arith}
 use Rattle.histories.specs.History.{is_raised}
 use Rattle.net_parts.specs.Laws.{bit_fits, extends_twice, net_lasts, adds_twice, grows_once}
-use Rattle.mm_route.specs.Shown.{command_lasts}
+use Rattle.command_nets.specs.Groups.{command_lasts}
 use Rattle.mm_route.proofs.Levels.{bit_is, bit_at_fits, shown_level}
 use Rattle.mm_route.proofs.shown.show_at.Goals as goal
 

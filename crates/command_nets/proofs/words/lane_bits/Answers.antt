@@ -1,5 +1,5 @@
 use Rattle.std.proofs.Common.{◌≡◌, ℕ, zero, suc, ◌^◌, ◌≤◌, arith}
-use Rattle.mm_agent.proofs.fields.lane_bits.Goals as goal
+use Rattle.command_nets.proofs.words.lane_bits.Goals as goal
 
 sixteen : (bytes k : ℕ) → k ≤ 4 → bytes ≡ 2 ^ k → (bytes ≡ 1 → ⊥) → (bytes ≡ 2 → ⊥) → (bytes ≡ 4 → ⊥) → (bytes ≡ 8 → ⊥) → bytes ≡ 16
 sixteen bytes zero few e a b d f = absurd (a e)
