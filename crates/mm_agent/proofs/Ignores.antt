@@ -1,6 +1,6 @@
 -- What an agent is shown depends on the command and on the registers alone.
-use Rattle.std.proofs.Common.{◌≡◌, ℕ, ◌%◌, refl, ◌<◌, Bool, true, false, not, ◌&&◌, nat_lt, if◌then◌else◌, Option, Some, None, sym, subst, ap, ◌∙◌}
-use Rattle.histories.specs.History.{is_raised, one_if}
+use Rattle.std.proofs.Common.{◌≡◌, ℕ, ◌%◌, refl, Bool, true, false, not, ◌&&◌, nat_lt, if◌then◌else◌, Option, Some, None, sym, subst, ap, ◌∙◌}
+use Rattle.histories.specs.History.{is_raised}
 use Rattle.iface_roles.specs.declared.records.AgentPort.{AgentPort}
 use Rattle.iface_roles.specs.Proper.{IsBoundedAgent, span_of}
 use Rattle.netlist.specs.Nets.{NetValue}

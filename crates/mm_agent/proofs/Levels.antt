@@ -4,7 +4,7 @@ use Rattle.std.proofs.Math.Arith.{mod-mul}
 use Rattle.std.proofs.Math.Nat.{mod-eq_of_lt, add-mod_right, mul-div_cancel, mul-mod_left, max-eq_left, max-eq_right}
 use Rattle.std.proofs.Math.Pow.{pow_mono, pow-lt}
 use Rattle.std.proofs.lemmas.Nat.{pow-add, pow_pos, div-add-mod'}
-use Rattle.std.proofs.lemmas.Bool.{ne_eqb, ltb-true, ltb-false}
+use Rattle.std.proofs.lemmas.Bool.{ltb-true, ltb-false}
 use Rattle.histories.specs.History.{is_raised, one_if}
 use Rattle.command_nets.specs.Levels.{level_is, is_some, one_fits}
 use Rattle.mm_agent.specs.Reads.{IsNextCount}

@@ -1,5 +1,5 @@
 -- The nets at the ports of an agent, what they are in a run, and the nets that are made for it.
-use Rattle.std.specs.Prelude.{◌≡◌, ℕ, ◌-◌, ◌*◌, ◌%◌, ◌^◌, Bool, true, false, not, nat_eq, if◌then◌else◌, Option, Some, None}
+use Rattle.std.specs.Prelude.{◌≡◌, ℕ, ◌*◌, ◌%◌, Bool, true, false, not, nat_eq, if◌then◌else◌, Option, Some, None}
 use Rattle.iface_roles.specs.declared.records.AgentPort.{AgentPort}
 use Rattle.iface_roles.specs.Proper.{span_of}
 use Rattle.netlist.specs.Nets.{NetValue}
@@ -7,7 +7,6 @@ use Rattle.netlist.specs.Netlists.{Netlist}
 use Rattle.netlist.specs.Runs.{Cycle, Run, cycle_of, Always}
 use Rattle.netlist.specs.Longer.{Extends}
 use Rattle.net_parts.specs.Nets.{IsBit, IsNetOfWidth}
-use Rattle.net_parts.specs.Laws.{net_lasts}
 use Rattle.mm_runs.specs.Views.{Shape, Signals, AgentView}
 use Rattle.mm_runs.specs.Commands.{byte_address}
 use Rattle.memory_sides.specs.Sides.{unit_of, burst_width}

@@ -1,5 +1,5 @@
 -- The part next to an agent: what its call leaves in a netlist, and that it runs as the machine of an agent.
-use Rattle.std.specs.Prelude.{◌≡◌, ℕ, ◌<◌, IsTrue, IsFalse, Option, IfSome}
+use Rattle.std.specs.Prelude.{◌≡◌, ℕ, ◌<◌, IsTrue, IsFalse}
 use Rattle.iface_roles.specs.declared.records.AgentPort.{AgentPort}
 use Rattle.netlist.specs.Nets.{NetValue}
 use Rattle.netlist.specs.Netlists.{Netlist}

@@ -1,8 +1,7 @@
 -- The nets at the ports of a host, and what they show.
-use Rattle.std.specs.Prelude.{◌≡◌, ℕ, ◌-◌, ◌*◌, ◌^◌, Bool, true, false, not, nat_eq, Option, Some, None}
+use Rattle.std.specs.Prelude.{◌≡◌, ◌*◌, ◌^◌, Bool, not, nat_eq}
 use Rattle.iface_roles.specs.declared.records.HostPort.{HostPort}
 use Rattle.iface_roles.specs.Proper.{range_of}
-use Rattle.netlist.specs.Nets.{NetValue}
 use Rattle.netlist.specs.Netlists.{Netlist, IsNet}
 use Rattle.netlist.specs.Runs.{Cycle, Run, cycle_of}
 use Rattle.net_parts.specs.Nets.{IsBit, IsNetOfWidth}

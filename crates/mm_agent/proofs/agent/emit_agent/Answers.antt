@@ -1,7 +1,5 @@
-use Rattle.std.proofs.Common.{Bool, true, false, if◌then◌else◌, Option, Some, None, refl, sym, subst, inl, inr, arith}
+use Rattle.std.proofs.Common.{Option, refl, sym, subst, inl, inr, arith}
 use Rattle.netlist.specs.Nets.{NetValue}
-use Rattle.netlist.specs.Netlists.{Netlist}
-use Rattle.net_parts.specs.Nets.{IsBit}
 use Rattle.net_parts.specs.Laws.{extends_twice, net_lasts, waiting_within, adds_twice, adds_grow, grows_fewer, grows_twice}
 use Rattle.command_nets.specs.Ports.{HasNet, has_lasts, given}
 use Rattle.mm_agent.specs.Agents.{agent_lasts}

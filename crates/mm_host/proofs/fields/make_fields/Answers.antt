@@ -1,5 +1,4 @@
-use Rattle.std.proofs.Common.{ℕ, ◌^◌, ◌<◌, ◌≤◌, subst, ap, ◌∙◌, arith}
-use Rattle.std.proofs.Math.Pow.{pow_mono}
+use Rattle.std.proofs.Common.{subst, ap, ◌∙◌, arith}
 use Rattle.net_parts.specs.Nets.{IsNetOfWidth}
 use Rattle.net_parts.specs.Laws.{extends_twice, net_lasts, adds_fewer, adds_twice}
 use Rattle.command_nets.specs.Levels.{one_fits}

@@ -1,8 +1,6 @@
 use Rattle.std.proofs.Common.{refl, inl, inr, sym, subst}
 use Rattle.netlist.specs.Nets.{NetValue}
-use Rattle.std.proofs.Common.{Bool, true, false, if◌then◌else◌, Option, Some, None}
-use Rattle.netlist.specs.Netlists.{Netlist}
-use Rattle.net_parts.specs.Nets.{IsBit}
+use Rattle.std.proofs.Common.{Option}
 use Rattle.net_parts.specs.Laws.{extends_twice, net_lasts}
 use Rattle.command_nets.specs.Ports.{HasNet, given}
 use Rattle.mm_host.specs.Reads.{reads_last, reads_go_on}
