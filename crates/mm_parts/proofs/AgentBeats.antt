@@ -18,7 +18,7 @@ use Rattle.mm_machines.specs.Lines.{ServesKinds}
 use Rattle.mm_parts.specs.Agent.{AgentState, ShowsToAgent, IsAgentPlan}
 use Rattle.mm_parts.proofs.Alike.{AreAlike, alike_append, tag_all, tagged_beats, keeps_all, all_set, filled_are}
 use Rattle.mm_parts.proofs.Alike.AreAlike.{no_beats, one_more}
-use Rattle.mm_parts.proofs.AgentShown.{cut, same_takes, same_burst, address_is, count_is, write_is}
+use Rattle.mm_parts.proofs.AgentShown.{cut, same_takes, same_burst, address_is, count_is, write_is, word_is}
 
 -- a test that all of a list pass, one by one
 last_passes : {A : Type 0} (f : A → Bool) (xs rest whole : List A) (x : A) → (xs ++ x ∷ []) ++ rest ≡ whole → list_all f whole ≡ true → f x ≡ true
@@ -143,7 +143,7 @@ module _ (system : System) (run : Run) (agent : ℕ) (up : TaggedPort) (state : 
           one_more (machine.grant c low) (record {
             kind = refl;
             place = write_place (nat_eq (over c).left 0) refl;
-            word = machine.word c low;
+            word = word_is side view up state end machine plan legal kinds c low e;
             lanes = same_lanes c low (written c) refl (first side.has_enables (acts (written c)) some);
           }) no_beats
         where

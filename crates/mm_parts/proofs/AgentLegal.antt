@@ -132,6 +132,13 @@ module _ (side : AgentSide) (view : AgentView) (up : TaggedPort) (state : AgentS
       by_has true has = machine.write c (omega arith) has ∙ same ∙ sym (machine.write (suc c) low has)
       by_has false has = machine.no_write c (omega arith) has ∙ sym (machine.no_write (suc c) low has)
 
+  same_word : (c : ℕ) → suc c < end → up.commands.word c ≡ up.commands.word (suc c) → view.word c ≡ view.word (suc c)
+  same_word c low same = by_has side.has_write refl
+    where
+      by_has : (b : Bool) → side.has_write ≡ b → view.word c ≡ view.word (suc c)
+      by_has true has = machine.word c (omega arith) has ∙ same ∙ sym (machine.word (suc c) low has)
+      by_has false has = machine.no_word c (omega arith) has ∙ sym (machine.no_word (suc c) low has)
+
   same_enables : (c : ℕ) → suc c < end → up.commands.enables c ≡ up.commands.enables (suc c) → view.enables c ≡ view.enables (suc c)
   same_enables c low same = by_has side.has_enables refl
     where
@@ -147,7 +154,7 @@ module _ (side : AgentSide) (view : AgentView) (up : TaggedPort) (state : AgentS
       let write = same_write c low (ap (λ (l : Levels). l.write) same) in
       let places : view.address c * side.unit_bytes ≡ view.address (suc c) * side.unit_bytes = machine.address c (omega arith) ∙ ap (λ (l : Levels). byte_address up.shape l.address % side.span) same ∙ sym (machine.address (suc c) low) in
       let address = cancel (view.address c) (view.address (suc c)) side.unit_bytes plan.unit places in
-      let word : view.word c ≡ view.word (suc c) = machine.word c (omega arith) ∙ ap (λ (l : Levels). l.word) same ∙ sym (machine.word (suc c) low) in
+      let word = same_word c low (ap (λ (l : Levels). l.word) same) in
       let enables = same_enables c low (ap (λ (l : Levels). l.enables) same) in
       let beats : view.count c ≡ view.count (suc c) = machine.count c (omega arith) ∙ ap (λ (l : Levels). if side.has_burst then l.count else 1) same ∙ sym (machine.count (suc c) low) in
       cc

@@ -1,6 +1,6 @@
 -- What the agent translator shows to the agent in a cycle is what stands above it, and is accepted with it.
 use Rattle.std.proofs.Common.{ℕ, zero, suc, ◌<◌, ◌≤◌, ◌≡◌, ◌-◌, ◌*◌, ◌/◌, ◌%◌, ◌^◌, Bool, true, false, not, ◌&&◌, ◌||◌, IsFalse, if◌then◌else◌, nat_lt, nat_eq, arith, refl, sym, ap, ap₂, ◌∙◌, subst}
-use Rattle.std.proofs.lemmas.Bool.{and_parts, eqb-true}
+use Rattle.std.proofs.lemmas.Bool.{and_parts, eqb-true, false≢true}
 use Rattle.std.proofs.Math.Nat.{mod-mod_of_dvd, dvd-mul_left, mod-eq-zero_of_dvd}
 use Rattle.std.proofs.lemmas.Nat.{div-add-mod'}
 use Rattle.std.proofs.Math.Nat.{zero-mod}
@@ -79,6 +79,16 @@ module _ (side : AgentSide) (view : AgentView) (up : TaggedPort) (state : AgentS
       by_has : (b : Bool) → side.has_write ≡ b → is_raised (view.write c) ≡ is_raised (up.commands.write c)
       by_has true has = ap is_raised (machine.write c low has)
       by_has false has = ap is_raised (machine.no_write c low has) ∙ sym (writes_none (is_raised (up.commands.read c)) (is_raised (up.commands.write c)) side.has_read side.has_write has (kinds c low))
+
+  -- the word of a write is shown
+  pub word_is : (c : ℕ) → c < end → is_raised (up.commands.write c) ≡ true → view.word c ≡ up.commands.word c
+  word_is c low writes = by_has side.has_write refl
+    where
+      by_has : (b : Bool) → side.has_write ≡ b → view.word c ≡ up.commands.word c
+      by_has true has = machine.word c low has
+      by_has false has =
+          let none = writes_none (is_raised (up.commands.read c)) (is_raised (up.commands.write c)) side.has_read side.has_write has (kinds c low) in
+          absurd (false≢true (sym none ∙ writes))
 
   pub shows_is : (c : ℕ) → c < end → shows view.signals c ≡ ((not (full c) && is_raised (up.commands.read c)) || is_raised (up.commands.write c))
   shows_is c low = ap₂ (λ r w. r || w) (read_is c low) (write_is c low)

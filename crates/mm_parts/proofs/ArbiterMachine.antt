@@ -1,5 +1,5 @@
 -- The arbiter machine keeps its line.
-use Rattle.std.proofs.Common.{ℕ, zero, suc, ◌<◌, ◌≤◌, ◌≡◌, ◌-◌, ◌++◌, List, Bool, true, false, not, ◌&&◌, ◌||◌, IsTrue, nat_eq, arith, refl, sym, ap, ap₂, ◌∙◌, subst, length, flat_map, zip, le_of_eq}
+use Rattle.std.proofs.Common.{ℕ, zero, suc, ◌<◌, ◌≤◌, ◌≡◌, ◌-◌, [], ◌∷◌, ◌++◌, List, Bool, true, false, not, ◌&&◌, ◌||◌, IsTrue, nat_eq, arith, refl, sym, ap, ap₂, ◌∙◌, subst, length, flat_map, zip, le_of_eq}
 use Rattle.std.specs.List.{list_all}
 use Rattle.std.proofs.lemmas.Bool.{and_parts}
 use Rattle.std.proofs.lemmas.List.Folds.{list_all-append}
@@ -110,9 +110,21 @@ module _ (system : System) (agent : ℕ) (up : ℕ → Port) (down : TaggedPort)
 
   same_words : (h c : ℕ) → h < system.hosts → c ≤ end → words_at (up h) c ≡ words_with h down c
   same_words h zero there low = refl
-  same_words h (suc c) there low =
-      ap₂ (λ x y. x ++ y) (same_words h c there (omega arith))
-      (ap₂ (λ v w. only_if v w) (machine.valid h c there low) (ap₂ (λ w k. record { word = w; code = k }) (machine.word h c there low) (machine.code h c there low)))
+  same_words h (suc c) there low = ap₂ (λ x y. x ++ y) (same_words h c there (omega arith)) (by_valid (is_raised ((up h).answers.valid c)) refl)
+    where
+      above : Word
+      above = record { word = (up h).answers.word c; code = (up h).answers.code c }
+
+      below : Word
+      below = record { word = down.answers.word c; code = down.answers.code c }
+
+      below_is : (b : Bool) → is_raised ((up h).answers.valid c) ≡ b → only_if (is_raised (down.answers.valid c) && nat_eq (down.answer_tag c) h) below ≡ only_if b below
+      below_is b e = ap (λ b. only_if b below) (sym (machine.valid h c there low) ∙ e)
+
+      by_valid : (b : Bool) → is_raised ((up h).answers.valid c) ≡ b → only_if (is_raised ((up h).answers.valid c)) above ≡ only_if (is_raised (down.answers.valid c) && nat_eq (down.answer_tag c) h) below
+      by_valid true e =
+          ap (λ b. only_if b above) e ∙ ap₂ (λ w k. record { word = w; code = k } ∷ []) (machine.word h c there low e) (machine.code h c there low e) ∙ sym (below_is true e)
+      by_valid false e = ap (λ b. only_if b above) e ∙ sym (below_is false e)
 
   same_answers : (h c : ℕ) → h < system.hosts → c ≤ end → answers_at target (up h) c ≡ answers_with h target down c
   same_answers h c there low =
@@ -139,8 +151,8 @@ arbiter_shorter seats hosts up down grant end c low m = record {
   shown = λ k less. m.shown k (omega arith);
   wait = λ h k there less asks. m.wait h k there (omega arith) asks;
   valid = λ h k there less. m.valid h k there (omega arith);
-  word = λ h k there less. m.word h k there (omega arith);
-  code = λ h k there less. m.code h k there (omega arith);
+  word = λ h k there less valid. m.word h k there (omega arith) valid;
+  code = λ h k there less valid. m.code h k there (omega arith) valid;
 }
 
 pub arbiter_line : (responses : Responses) (system : System) (agent : ℕ) (up : ℕ → Port) (down : TaggedPort) (grant : ℕ → Grant) (end : ℕ) → ((h : ℕ) → IsTrue (is_joined system agent h) → h < system.hosts) →

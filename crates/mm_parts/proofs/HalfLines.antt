@@ -61,7 +61,7 @@ host_shorter responses side view down state end c low m = record {
   asks = λ k less has. m.asks k (omega arith) has;
   queues = λ has. queues_shorter down down.answers.valid state.queue end c low (m.queues has);
   valid = λ k less has. m.valid k (omega arith) has;
-  answer = λ k less. m.answer k (omega arith);
+  answer = λ k less comes. m.answer k (omega arith) comes;
   response = λ k less. m.response k (omega arith);
 }
 

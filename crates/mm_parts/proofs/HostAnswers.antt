@@ -223,7 +223,7 @@ pub carries_answers : (responses : Responses) (system : System) (run : Run) (hos
     IsLegalHost (system.host host) (run.at_host host) end → ReadsWords (system.host host) (run.at_host host) end → AnswersAreOwed down end → HostCarriesAnswers responses system run host down end
 carries_answers responses system run host down state end m legal single owed = record {
   gives = gives responses (system.host host) (run.at_host host) down state end m legal single owed;
-  word = λ c low valid. m.answer c low;
+  word = λ c low valid. m.answer c low valid;
   proper = proper responses (system.host host) (run.at_host host) down state end m legal single owed;
   responds = host_responds responses system run host down state end m;
 }

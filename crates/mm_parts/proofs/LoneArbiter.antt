@@ -1,8 +1,8 @@
 -- A wire from the only host is an arbiter's machine: that host is chosen in each cycle in which it asks.
-use Rattle.std.proofs.Common.{◌≡◌, ◌⊎◌, inl, inr, ℕ, zero, suc, ◌<◌, ◌-◌, Bool, true, false, not, ◌&&◌, ◌||◌, List, [], ◌∷◌, IsTrue, IsFalse, if◌then◌else◌, nat_eq, nat_lt, arith, refl, sym, ap, ap₂, ◌∙◌, subst, Option, Some, None, MatchOption}
+use Rattle.std.proofs.Common.{◌≡◌, ◌⊎◌, inl, inr, ℕ, zero, suc, ◌<◌, Bool, true, false, not, ◌&&◌, ◌||◌, List, [], ◌∷◌, IsTrue, IsFalse, if◌then◌else◌, nat_eq, nat_lt, refl, sym, ap, ◌∙◌, subst, Option, Some, None, MatchOption}
 use Rattle.std.proofs.lemmas.Bool.{eqb-true, eq-eqb, false≢true}
 use Rattle.histories.specs.History.{is_raised}
-use Rattle.ranks.specs.Turns.{Seat, Round, turn_of, last_host, next_asking}
+use Rattle.ranks.specs.Turns.{Seat, Round, turn_of}
 use Rattle.mm_runs.specs.Commands.{shows}
 use Rattle.mm_runs.specs.Order.{is_agent}
 use Rattle.mm_machines.specs.Link.{Port}
@@ -114,6 +114,12 @@ module _ (seat : Seat) where
         others true valid other = ap (λ k. nat_eq k h) (wire.tag c low valid) ∙ turned h seat.host other
         others false valid other = refl
 
+    -- where a word comes to a host, its port is the one below
+    given : (h c : ℕ) → h < hosts → c < end → IsTrue (is_raised ((up h).answers.valid c)) → up h ≡ down.port
+    given h c there low valid = by_host h
+        (λ same. ap up same ∙ wire.one)
+        (λ other. absurd (false≢true (sym (wire.quiet h c there other low) ∙ valid)))
+
     pub lone_arbiter : (grant : ℕ → Grant) × IsArbiterMachine (seat ∷ []) hosts up down grant end
     unfolding grant
     lone_arbiter = (
@@ -125,7 +131,7 @@ module _ (seat : Seat) where
         shown = λ c low. shown c;
         wait = λ h c there low asks. waits h c low asks;
         valid = gives;
-        word = wire.word;
-        code = wire.code;
+        word = λ h c there low valid. ap (λ (port : Port). port.answers.word c) (given h c there low valid);
+        code = λ h c there low valid. ap (λ (port : Port). port.answers.code c) (given h c there low valid);
       },
     )

@@ -49,7 +49,7 @@ module _ (responses : Responses) (side : HostSide) (inputs : HostInputs) (end : 
     asks = λ c low has. ap (λ (r : HostRegisters). r.asked) (next c);
     queues = λ has. record { begins = ap (λ (r : HostRegisters). r.queue) first; next = λ c low. ap (λ (r : HostRegisters). r.queue) (next c) };
     valid = λ c low has. ap (λ b. is_raised (if b then inputs.answers.valid c else 0)) has;
-    answer = λ c low. refl;
+    answer = λ c low comes. refl;
     response = λ c low. refl;
   }
 
@@ -132,8 +132,8 @@ module _ (seats : List Seat) (hosts : ℕ) (inputs : ArbiterInputs) (end : ℕ) 
     shown = λ c low. shows_choice c (chosen (grant c) (asks_now inputs c)).host refl;
     wait = λ h c there low asks. raised _;
     valid = λ h c there low. raised _;
-    word = λ h c there low. refl;
-    code = λ h c there low. refl;
+    word = λ h c there low valid. refl;
+    code = λ h c there low valid. refl;
   }
 
 -- an offset in whole words is one in whole units
@@ -183,7 +183,8 @@ module _ (responses : Responses) (side : AgentSide) (inputs : AgentInputs) (end 
     write = λ c low has. gate side.has_write _ 0 has;
     no_write = λ c low has. shut side.has_write _ 0 has;
     address = λ c low. address_is c;
-    word = λ c low. refl;
+    word = λ c low has. gate side.has_write _ 0 has;
+    no_word = λ c low has. shut side.has_write _ 0 has;
     enables = λ c low has. gate side.has_enables _ _ has;
     all_lanes = λ c low has. ap (λ n. n + 1) (shut side.has_enables _ _ has) ∙ all_ones side.word_bytes;
     count = λ c low. refl;

@@ -131,6 +131,10 @@ module _ (side : AgentSide) (view other_view : AgentView) (up other_up : TaggedP
       let same = machine.address c low ∙ offset ∙ sym (other.address c low) in
       sym (mul-div_cancel (view.address c) plan.unit) ∙ ap (λ n. n / side.unit_bytes) same ∙ mul-div_cancel (other_view.address c) plan.unit
 
+  same_word : (b : Bool) → side.has_write ≡ b → view.word c ≡ other_view.word c
+  same_word true has = machine.word c low has ∙ ap (λ (r : Raw). r.levels.word) above ∙ sym (other.word c low has)
+  same_word false has = machine.no_word c low has ∙ sym (other.no_word c low has)
+
   same_enables : (b : Bool) → side.has_enables ≡ b → view.enables c ≡ other_view.enables c
   same_enables true has = machine.enables c low has ∙ ap (λ (r : Raw). r.levels.enables) above ∙ sym (other.enables c low has)
   same_enables false has = let one = machine.all_lanes c low has in let two = other.all_lanes c low has in omega (arith, one, two)
@@ -139,8 +143,7 @@ module _ (side : AgentSide) (view other_view : AgentView) (up other_up : TaggedP
   agent_same = record {
     levels = same_levels (levels_at view.signals c) (levels_at other_view.signals c)
         (same_read side.has_read refl) (same_write side.has_write refl) same_address
-        (machine.word c low ∙ ap (λ (r : Raw). r.levels.word) above ∙ sym (other.word c low))
-        (same_enables side.has_enables refl)
+        (same_word side.has_write refl) (same_enables side.has_enables refl)
         (machine.count c low ∙ ap (λ (r : Raw). if side.has_burst then r.levels.count else 1) above ∙ sym (other.count c low));
     grant = machine.grant c low ∙ ap (λ (r : Raw). r.tag) above ∙ sym (other.grant c low);
   }

@@ -40,7 +40,8 @@ pub record ShowsToAgent (side : AgentSide) (view : AgentView) (up : TaggedPort) 
   pub no_write : (c : ℕ) → c < end → IsFalse side.has_write → view.write c ≡ 0
   -- the offset in the agent's span, in the agent's unit
   pub address : (c : ℕ) → c < end → view.address c * side.unit_bytes ≡ byte_address up.shape (up.commands.address c) % side.span
-  pub word : (c : ℕ) → c < end → view.word c ≡ up.commands.word c
+  pub word : (c : ℕ) → c < end → IsTrue side.has_write → view.word c ≡ up.commands.word c
+  pub no_word : (c : ℕ) → c < end → IsFalse side.has_write → view.word c ≡ 0
   pub enables : (c : ℕ) → c < end → IsTrue side.has_enables → view.enables c ≡ up.commands.enables c
   pub all_lanes : (c : ℕ) → c < end → IsFalse side.has_enables → view.enables c + 1 ≡ 2 ^ side.word_bytes
   pub count : (c : ℕ) → c < end → view.count c ≡ (if side.has_burst then up.commands.count c else 1)

@@ -36,7 +36,7 @@ agent_view side inputs state = record {
     read = λ c. if side.has_read then (if is_full side state c then 0 else inputs.commands.signals.read c) else 0;
     write = λ c. if side.has_write then inputs.commands.signals.write c else 0;
     address = λ c. (byte_address inputs.shape (inputs.commands.signals.address c) % side.span) / side.unit_bytes;
-    word = inputs.commands.signals.word;
+    word = λ c. if side.has_write then inputs.commands.signals.word c else 0;
     enables = λ c. if side.has_enables then inputs.commands.signals.enables c else 2 ^ side.word_bytes - 1;
     count = λ c. if side.has_burst then inputs.commands.signals.count c else 1;
   };

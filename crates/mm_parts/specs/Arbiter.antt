@@ -21,7 +21,7 @@ pub record IsArbiterMachine (seats : List Seat) (hosts : ℕ) (up : ℕ → Port
   -- the chosen one's beat goes on as it is, with its tag and its `more`; where none is chosen, none is shown
   pub shown : (c : ℕ) → c < end → MatchOption (chosen (grant c) (asks_at up c)).host (IsFalse (shows down.commands.signals c)) (λ host. raw_at down.port c ≡ raw_at (up host) c)
   pub wait : (h c : ℕ) → h < hosts → c < end → IsTrue (shows (up h).commands.signals c) → is_raised ((up h).commands.waitrequest c) ≡ not (chooses grant up c h) || is_raised (down.commands.waitrequest c)
-  -- a word goes to the asker whose tag it bears
+  -- a word goes to the asker whose tag it bears. What stands there without one isn't told
   pub valid : (h c : ℕ) → h < hosts → c < end → is_raised ((up h).answers.valid c) ≡ is_raised (down.answers.valid c) && nat_eq (down.answer_tag c) h
-  pub word : (h c : ℕ) → h < hosts → c < end → (up h).answers.word c ≡ down.answers.word c
-  pub code : (h c : ℕ) → h < hosts → c < end → (up h).answers.code c ≡ down.answers.code c
+  pub word : (h c : ℕ) → h < hosts → c < end → IsTrue (is_raised ((up h).answers.valid c)) → (up h).answers.word c ≡ down.answers.word c
+  pub code : (h c : ℕ) → h < hosts → c < end → IsTrue (is_raised ((up h).answers.valid c)) → (up h).answers.code c ≡ down.answers.code c

@@ -56,7 +56,7 @@ pub record IsHostMachine (responses : Responses) (side : HostSide) (view : HostV
   pub queues : IsTrue side.has_readdatavalid → QueuesReads down down.answers.valid state.queue end
   -- the answers
   pub valid : (c : ℕ) → c < end → IsTrue side.has_readdatavalid → is_raised (view.readdatavalid c) ≡ is_raised (down.answers.valid c)
-  pub answer : (c : ℕ) → c < end → view.readdata c ≡ down.answers.word c
+  pub answer : (c : ℕ) → c < end → IsTrue (is_raised (down.answers.valid c)) → view.readdata c ≡ down.answers.word c
   pub response : (c : ℕ) → c < end → view.response c ≡ response_by responses side down.answers c
 
 -- a host without readdatavalid reads one word at a time: bursts of reads need readdatavalid

@@ -12,5 +12,3 @@ pub record IsLoneWire (host hosts : ℕ) (up : ℕ → Port) (down : TaggedPort)
   pub shapes : (h : ℕ) → h < hosts → (up h).shape ≡ down.shape
   pub silent : (h c : ℕ) → IsFalse (nat_eq h host) → c < end → IsFalse (shows (up h).commands.signals c)
   pub quiet : (h c : ℕ) → h < hosts → IsFalse (nat_eq h host) → c < end → IsFalse (is_raised ((up h).answers.valid c))
-  pub word : (h c : ℕ) → h < hosts → c < end → (up h).answers.word c ≡ down.answers.word c
-  pub code : (h c : ℕ) → h < hosts → c < end → (up h).answers.code c ≡ down.answers.code c
