@@ -70,3 +70,4 @@ pub mod PlanLinks
 pub mod ModestRow
 pub mod SplitCounts
 pub mod WiredSystem
+pub mod WiresFit

@@ -19,14 +19,16 @@ module _ (responses : Responses) (plan : PlainPlan) (outside : Outside) (end : �
       (machines : AreMachines responses (plain_system plan) run (wired_inside responses plan outside registers) (wired_states responses plan outside registers room) end) where
     pub plain_wired : HaveOneShape plan → IsWiredSystem responses (plain_system plan) run (plain_ports responses plan outside registers) (plain_states responses plan outside registers room) end
     plain_wired shape = record {
-      host = machines.host;
-      room = planned.rooms;
-      route = machines.route;
-      arbiter = machines.arbiter;
-      silent = machines.silent;
+      front = record {
+        host = machines.host;
+        room = planned.rooms;
+        route = machines.route;
+        arbiter = machines.arbiter;
+        silent = machines.silent;
+        no_stage = refl;
+        wires = λ h a low there joined. wire_self _;
+        lanes = λ h a low there joined. or_left plan.agent.has_enables _ shape.lanes;
+        idle = λ h a low there none. record { commands = refl; answers = refl };
+      };
       agent = machines.agent;
-      no_stage = refl;
-      wires = λ h a low there joined. wire_self _;
-      lanes = λ h a low there joined. or_left plan.agent.has_enables _ shape.lanes;
-      idle = λ h a low there none. record { commands = refl; answers = refl };
     }

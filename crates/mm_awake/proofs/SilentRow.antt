@@ -6,7 +6,7 @@ use Rattle.histories.specs.Laws.{prefix_refl}
 use Rattle.mm_runs.specs.Views.{System, Run}
 use Rattle.mm_runs.specs.Commands.{shows, burst_before, is_held, words_before, accepts_by}
 use Rattle.mm_machines.specs.Link.{Target, Port, AreLegalAt, AnswersAreOwed, takes, taken_at, shown_at}
-use Rattle.mm_machines.specs.Lines.{KeepsRow, BringsLanes, BringsLanes.made, target_of}
+use Rattle.mm_machines.specs.Lines.{IsFit, KeepsRow, BringsLanes, BringsLanes.made, target_of}
 use Rattle.mm_machines.specs.Paths.{CommandView, AnswerView}
 use Rattle.mm_links.specs.Going.{KeepsGoing, has_link_work}
 use Rattle.mm_awake.specs.Rows.{IsModestRow, ports_of_three, one_beat_lowest}
@@ -59,6 +59,15 @@ module _ (port : Port) (end : ℕ) (quiet : IsQuiet port end) where
     tag = λ c h held. absurd (nothing_held c (omega (arith, h)) held);
     more = λ c h held. absurd (nothing_held c (omega (arith, h)) held);
     joined = λ c h shown. absurd (both_ways _ (quiet c h) shown);
+  }
+
+  -- nothing fits each agent
+  pub quiet_is_fit : (system : System) (agent : ℕ) → IsFit system agent port end
+  quiet_is_fit system agent = record {
+    legal = quiet_is_legal;
+    lanes = λ c h. rw (never_shown c h) (or_right (system.agent agent).has_enables true refl);
+    tags = λ c h shown. absurd (both_ways _ (quiet c h) shown);
+    kinds = λ c h. neither (is_raised (port.commands.read c)) (is_raised (port.commands.write c)) (system.agent agent).has_read (system.agent agent).has_write (quiet c h);
   }
 
 module _ (target : Target) (up down : Port) (end : ℕ) (on : HandsAllOn up down) (quiet : IsQuiet up end) where

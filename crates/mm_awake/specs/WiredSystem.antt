@@ -1,10 +1,10 @@
 -- Systems of hosts, routes, arbiters and agents alone: no link stands between a route and an arbiter, and no stage behind an arbiter.
-use Rattle.std.specs.Prelude.{◌≡◌, ℕ, ◌*◌, ◌<◌, [], not, ◌||◌, IsTrue, IsFalse}
+use Rattle.std.specs.Prelude.{◌≡◌, ℕ, ◌*◌, ◌<◌, ◌≤◌, [], not, ◌||◌, IsTrue, IsFalse}
 use Rattle.mm_runs.specs.Views.{System, Run, Responses}
 use Rattle.mm_runs.specs.Commands.{longest_burst}
 use Rattle.mm_runs.specs.Order.{is_joined}
 use Rattle.mm_machines.specs.Link.{Port}
-use Rattle.mm_machines.specs.Lines.{TaggedPort}
+use Rattle.mm_machines.specs.Lines.{TaggedPort, IsFit}
 use Rattle.mm_machines.specs.Machines.{Stage}
 use Rattle.mm_machines.specs.Turns.{Grant, seats_of}
 use Rattle.mm_parts.specs.Agent.{AgentState, IsAgentMachine}
@@ -31,20 +31,37 @@ pub record WiredStates : Type 0 where
   pub grant : ℕ → ℕ → Grant  -- of an agent in a cycle
   pub agent : ℕ → AgentState
 
--- every part is its machine, and the route of a host leads by wires to the arbiters
-pub record IsWiredSystem (responses : Responses) (system : System) (run : Run) (ports : WiredPorts) (states : WiredStates) (end : ℕ) : Type 0 where
+-- every part above the agents' is its machine, and the route of a host leads by wires to the arbiters
+pub record IsWiredFront (responses : Responses) (system : System) (run : Run) (ports : WiredPorts) (states : WiredStates) (end : ℕ) : Type 0 where
   pub host : (h : ℕ) → h < system.hosts → IsHostMachine responses (system.host h) (run.at_host h) (ports.after_host h) (states.host h) end
   pub room : (h : ℕ) → h < system.hosts → 16 * longest_burst (ports.after_host h).shape.burst_bits < states.room h
   pub route : (h : ℕ) → h < system.hosts → IsRouteMachine responses system h (states.room h) (ports.after_host h) (λ a. ports.after_route h a) (states.route h) end
   pub arbiter : (a : ℕ) → a < system.agents → IsArbiterMachine (seats_of system a) system.hosts (λ h. ports.before_arbiter h a) (ports.before_agent a) (states.grant a) end
   pub silent : (a : ℕ) → a < system.agents → AreSilentPast system.hosts (λ h. ports.before_arbiter h a) end
-  pub agent : (a : ℕ) → a < system.agents → IsAgentMachine responses (system.agent a) (run.at_agent a) (ports.before_agent a) (states.agent a) end
   pub no_stage : system.stages ≡ 0
   -- bursts may be longer at the agent
   pub wires : (h a : ℕ) → h < system.hosts → a < system.agents → IsTrue (is_joined system a h) → IsWire (ports.after_route h a) (ports.before_arbiter h a)
   pub lanes : (h a : ℕ) → h < system.hosts → a < system.agents → IsTrue (is_joined system a h) → IsTrue ((system.agent a).has_enables || not (system.host h).has_enables)
   -- where host and agent aren't joined the words may differ, since nothing is shown
   pub idle : (h a : ℕ) → h < system.hosts → a < system.agents → IsFalse (is_joined system a h) → HandsAllOn (ports.after_route h a) (ports.before_arbiter h a)
+
+-- and so are the parts next to the agents
+pub record IsWiredSystem (responses : Responses) (system : System) (run : Run) (ports : WiredPorts) (states : WiredStates) (end : ℕ) : Type 0 where
+  pub front : IsWiredFront responses system run ports states end
+  pub agent : (a : ℕ) → a < system.agents → IsAgentMachine responses (system.agent a) (run.at_agent a) (ports.before_agent a) (states.agent a) end
+
+-- a run has a state with which the part next to an agent is its machine
+pub record RunsAtAgent (responses : Responses) (system : System) (run : Run) (ports : WiredPorts) (agent end : ℕ) : Type 0 where
+  pub state : AgentState
+  pub machine : IsAgentMachine responses (system.agent agent) (run.at_agent agent) (ports.before_agent agent) state end
+
+-- the part next to an agent is its machine for as long as the commands above it can be given to the agent
+abbrev pub ServeWhatFits : Responses → System → Run → WiredPorts → ℕ → Type 0
+ServeWhatFits responses system run ports end =
+    (a c : ℕ) → a < system.agents → c ≤ end → IsFit system a (ports.before_agent a).port c → RunsAtAgent responses system run ports a c
+
+abbrev pub with_agents : WiredStates → (ℕ → AgentState) → WiredStates
+with_agents states agent = record states { agent = agent }
 
 -- the same boundaries as those of rows of three links, which are wires
 abbrev pub rows_of_wires : WiredPorts → RowPorts

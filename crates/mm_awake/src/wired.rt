@@ -10,7 +10,8 @@ ghost use Rattle.mm_awake.specs.Fair.{are_apart};
 ghost use Rattle.mm_awake.specs.PlainSystem.{AreQuietPast, plain_ports, plain_states};
 ghost use Rattle.mm_awake.specs.Theorem.{ArePlanned, AreMachines};
 ghost use Rattle.mm_awake.specs.RowSystem.{AreRows, boundaries_of};
-ghost use Rattle.mm_awake.specs.WiredSystem.{WiredPorts, WiredStates, IsWiredSystem, rows_of_wires, states_of_wired};
+ghost use Rattle.mm_parts.specs.Agent.{AgentState};
+ghost use Rattle.mm_awake.specs.WiredSystem.{WiredPorts, WiredStates, IsWiredFront, ServeWhatFits, with_agents, IsWiredSystem, rows_of_wires, states_of_wired};
 
 /// A wired system of a plan is one of machines, whose rows of links are wires.
 pub fn wired_systems_have_rows()
@@ -22,6 +23,23 @@ pub fn wired_systems_have_rows()
 {
     crate::built::memory_plans_are_planned();
     mm_parts::plans::plans_suit_machines()
+}
+
+/// The part next to an agent need be its machine only for as long as what it is given fits the agent: behind machines whose hosts and agents are legal all of it does.
+pub fn what_wires_carry_fits()
+    ensures { (responses : Responses) (system : System) (run : Run) (ports : WiredPorts) (states : WiredStates) (end : ℕ)
+        → IsMemoryPlan system → AreViews system run end → IsWiredFront responses system run ports states end → ServeWhatFits responses system run ports end → IsLegalRun system run end
+        → (agent : ℕ → AgentState) × IsWiredSystem responses system run ports (with_agents states agent) end }
+{
+    crate::built::memory_plans_are_planned();
+    mm_parts::plans::plans_suit_machines();
+    mm_parts::lines::host_machine_keeps_its_line();
+    mm_parts::lines::route_machine_keeps_its_line();
+    mm_parts::lines::arbiter_machine_keeps_its_line();
+    mm_parts::lines::agent_machine_keeps_its_line();
+    mm_links::rows::pass_is_a_link();
+    mm_machines::lines::registers_are_a_pipe();
+    mm_machines::settled::lines_settle()
 }
 
 /// So it is safe, never idles, and is fair where no host is joined to an agent twice, as long as its hosts and agents are legal.
