@@ -196,7 +196,7 @@ host_machine system run down state end t h is = record {
   asks = λ c low none. absurd (never (system.host h).has_readdatavalid (one t.has h is) none);
   queues = λ has. t.queues h is;
   valid = λ c low has. same_bool _ _ (each t.valid h is c low);
-  answer = λ c low. eqb-true _ _ (each t.answer h is c low);
+  answer = λ c low comes. eqb-true _ _ (each t.answer h is c low);
   response = λ c low. eqb-true _ _ (each t.response h is c low);
 }
 
@@ -269,8 +269,8 @@ arbiter_machine system up down grant end t a there = record {
   shown = λ c low. by_choice c (chosen (grant a c) (asks_at (λ h. up h a) c)).host (each t.shown a there c low);
   wait = λ h c is low asks. same_bool _ _ (each_pair t.wait a there h c is low);
   valid = λ h c is low. same_bool _ _ (each_pair t.valid a there h c is low);
-  word = λ h c is low. eqb-true _ _ (each_pair t.word a there h c is low);
-  code = λ h c is low. eqb-true _ _ (each_pair t.code a there h c is low);
+  word = λ h c is low valid. eqb-true _ _ (each_pair t.word a there h c is low);
+  code = λ h c is low valid. eqb-true _ _ (each_pair t.code a there h c is low);
 }
   where
     by_choice : (c : ℕ) (o : Option ℕ) → IsTrue (by_option o (not (shows (down a).commands.signals c)) (λ host. same_raws (raw_at (down a).port c) (raw_at (up host a) c))) →
@@ -316,7 +316,8 @@ agent_machine system run up state end t a there = record {
     write = λ c low has. eqb-true _ _ (each t.write a there c low);
     no_write = λ c low none. absurd (never (system.agent a).has_write (one t.has_write a there) none);
     address = λ c low. eqb-true _ _ (each t.address a there c low);
-    word = λ c low. eqb-true _ _ (each t.word a there c low);
+    word = λ c low has. eqb-true _ _ (each t.word a there c low);
+    no_word = λ c low none. absurd (never (system.agent a).has_write (one t.has_write a there) none);
     enables = λ c low has. eqb-true _ _ (under (system.agent a).has_enables _ (each t.enables a there c low) has);
     all_lanes = λ c low none. eqb-true _ _ (under_false (system.agent a).has_enables _ (each t.all_lanes a there c low) none);
     count = λ c low. eqb-true _ _ (each t.count a there c low);
