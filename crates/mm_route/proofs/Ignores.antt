@@ -1,19 +1,22 @@
 -- The commands below don't depend on waits or answers.
-use Rattle.std.proofs.Common.{◌≡◌, ℕ, ◌+◌, ◌&&◌, ◌==◌, if◌then◌else◌, List, [], ◌∷◌, inl, inr, refl, sym, subst, ap, ◌∙◌}
+use Rattle.std.proofs.Common.{◌≡◌, ℕ, ◌+◌, ◌&&◌, ◌==◌, if◌then◌else◌, List, [], ◌∷◌, Option, Some, None, inl, inr, refl, sym, subst, ap, ◌∙◌}
 use Rattle.std.specs.Int.{bit_at}
 use Rattle.histories.specs.History.{is_raised}
 use Rattle.netlist.specs.Nets.{NetValue}
 use Rattle.netlist.specs.Netlists.{Netlist}
 use Rattle.netlist.specs.Runs.{Cycle, IsValuation}
+use Rattle.net_parts.specs.Groups.{InGroup}
 use Rattle.mm_machines.specs.Machines.{Raw}
 use Rattle.command_nets.specs.declared.nets.CommandNets.{CommandNets}
 use Rattle.command_nets.specs.Nets.{ShowSame}
 use Rattle.memory_sides.specs.declared.route.Route.{Route}
+use Rattle.mm_route.specs.declared.registers.LatchNets.{LatchNets}
 use Rattle.mm_route.specs.declared.route.HeldRoute.{HeldRoute}
 use Rattle.mm_route.specs.declared.shown.ShownNets.{ShownNets}
 use Rattle.mm_route.specs.Entries.{hits, kind_of}
 use Rattle.mm_route.specs.Shown.{AreShown}
-use Rattle.mm_route.specs.Forward.{RouteForward, owns, opens}
+use Rattle.mm_route.specs.Registers.{latch_of}
+use Rattle.mm_route.specs.Forward.{RouteForward, owns, opens, latched_in}
 use Rattle.mm_route.specs.Machine.{ShowAllSame}
 
 -- the nets of two commands have the same values in two cycles
@@ -69,22 +72,24 @@ shown_alike netlist shown one other v w h place gate tag k (made ∷ later) is =
       shown_alike netlist shown one other v w h place gate tag (k + 1) later is.1,
     )
 
+same_latched : (latch : Option LatchNets) (one other : Cycle) (x y : ℕ) → ((n : ℕ) → InGroup (latch_of latch) n → one.net n ≡ other.net n) → x ≡ y → latched_in one latch x ≡ latched_in other latch y
+same_latched None one other x y state e = e
+same_latched (Some latch) one other x y state e =
+    ap (λ n. if n == 0 then x else one.net latch.kept.number) (state latch.inside.number (inl refl))
+    ∙ ap (λ n. if other.net latch.inside.number == 0 then n else one.net latch.kept.number) e
+    ∙ ap (λ n. if other.net latch.inside.number == 0 then y else n) (state latch.kept.number (inr (inl refl)))
+
 pub ignores_answers : (entries : List Route) (host : ℕ) (command : CommandNets) (commands : List CommandNets) (held : HeldRoute) (netlist : Netlist) → RouteForward entries host command commands held netlist →
     (one other : Cycle) → IsValuation netlist one → IsValuation netlist other → ((n : ℕ) → owns held n → one.net n ≡ other.net n) → ShowSame command one other → ShowAllSame commands one other
 ignores_answers entries host command commands held netlist f one other v w state same =
     let h = alike_of held.shown.command one other (subst (λ (c : CommandNets). ShowSame c one other) (sym f.command_is) same) in
-    let inside = state held.registers.inside.number (inl refl) in
-    let kept = state held.registers.kept.number (inr (inl refl)) in
-    let owed = state held.registers.owed.number (inr (inr (inl refl))) in
-    let owing = state held.registers.owing.number (inr (inr (inr (inl refl)))) in
+    let owed = state held.registers.owed.number (inl refl) in
+    let owing = state held.registers.owing.number (inr (inl refl)) in
     let command_nets = held.shown.command in
+    let decoded : hits entries (kind_of (one.net command_nets.write.number)) (one.net command_nets.address.number) ≡ hits entries (kind_of (other.net command_nets.write.number)) (other.net command_nets.address.number) =
+    ap (λ n. hits entries (kind_of n) (one.net command_nets.address.number)) h.write ∙ ap (λ n. hits entries (kind_of (other.net command_nets.write.number)) n) h.address in
     let place : one.net held.shown.place.number ≡ other.net held.shown.place.number =
-    f.place one v
-    ∙ ap (λ n. if n == 0 then hits entries (kind_of (one.net command_nets.write.number)) (one.net command_nets.address.number) else one.net held.registers.kept.number) inside
-    ∙ ap (λ n. if other.net held.registers.inside.number == 0 then hits entries (kind_of n) (one.net command_nets.address.number) else one.net held.registers.kept.number) h.write
-    ∙ ap (λ n. if other.net held.registers.inside.number == 0 then hits entries (kind_of (other.net command_nets.write.number)) n else one.net held.registers.kept.number) h.address
-    ∙ ap (λ n. if other.net held.registers.inside.number == 0 then hits entries (kind_of (other.net command_nets.write.number)) (other.net command_nets.address.number) else n) kept
-    ∙ sym (f.place other w) in
+    f.place one v ∙ same_latched held.registers.latch one other _ _ (λ n o. state n (inr (inr o))) decoded ∙ sym (f.place other w) in
     let gate : is_raised (one.net held.shown.gate.number) ≡ is_raised (other.net held.shown.gate.number) =
     f.gate one v
     ∙ ap (λ n. opens n (one.net held.registers.owed.number) (one.net held.registers.owing.number) (one.net held.shown.place.number)) h.write

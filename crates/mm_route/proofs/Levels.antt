@@ -1,15 +1,10 @@
 -- Levels of one bit, and what the makers of a route compute of them.
-use Rattle.std.proofs.Common.{◌≡◌, ℕ, zero, suc, ◌+◌, ◌-◌, ◌/◌, ◌%◌, ◌^◌, ◌<◌, ◌≤◌, Bool, true, false, not, ◌&&◌, ◌||◌, ◌==◌, if◌then◌else◌, nat_eq, nat_lt, bit_and, bit_or, List, [], ◌∷◌, refl, sym, subst, ap, ◌∙◌, arith}
+use Rattle.std.proofs.Common.{◌≡◌, ℕ, zero, suc, ◌+◌, ◌-◌, ◌/◌, ◌%◌, ◌^◌, ◌<◌, ◌≤◌, Bool, true, false, not, ◌&&◌, ◌||◌, ◌==◌, if◌then◌else◌, nat_eq, nat_lt, bit_and, bit_or, [], ◌∷◌, refl, sym, subst, ap, ◌∙◌, arith}
 use Rattle.std.proofs.lemmas.Grind.{common_steps}
 use Rattle.std.proofs.Math.Nat.{mod-eq_of_lt, add-mod_right}
 use Rattle.std.specs.Int.{bit_at}
 use Rattle.histories.specs.History.{is_raised, one_if}
-use Rattle.netlist.specs.Nets.{NetValue}
-use Rattle.netlist.specs.Netlists.{Netlist}
-use Rattle.net_parts.specs.Groups.{TakeAllNext}
 use Rattle.command_nets.specs.Levels.{level_is, one_fits}
-use Rattle.mm_route.specs.declared.registers.RegisterNets.{RegisterNets}
-use Rattle.mm_route.specs.Registers.{registers_of}
 use Rattle.mm_route.specs.Backward.{IsNextOwed}
 
 pub bit_is : (x k here : ℕ) → here ≡ x / 2 ^ k % 2 ^ (k - k + 1) → here ≡ bit_at x k
@@ -134,7 +129,3 @@ wait_level width gate stall shut wait one h k e f = ap is_raised (f ∙ ap (λ n
 
 pub three_are : (x y z a : ℕ) → x ≡ a → y ≡ 0 → z ≡ 0 → (x ∷ y ∷ z ∷ []) ≡ (a ∷ 0 ∷ 0 ∷ [])
 three_are x y z a e f g = cc
-
-pub steps_of : (netlist : Netlist) (group next : List NetValue) (registers nexts : RegisterNets) → group ≡ registers_of registers → next ≡ registers_of nexts → TakeAllNext netlist group next →
-    TakeAllNext netlist (registers_of registers) (registers_of nexts)
-steps_of netlist group next registers nexts e f h = subst (λ (g : List NetValue). TakeAllNext netlist g (registers_of nexts)) e (subst (TakeAllNext netlist group) f h)

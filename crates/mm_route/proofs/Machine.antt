@@ -1,5 +1,5 @@
 -- The nets of a route are its machine.
-use Rattle.std.proofs.Common.{◌≡◌, ℕ, zero, suc, ◌+◌, ◌-◌, ◌*◌, ◌/◌, ◌%◌, ◌^◌, ◌<◌, ◌≤◌, Bool, true, false, not, ◌&&◌, ◌||◌, ◌==◌, if◌then◌else◌, nat_eq, nat_lt, List, [], ◌∷◌, length, map, get_or, Option, Some, None, refl, sym, subst, ap, ◌∙◌, arith}
+use Rattle.std.proofs.Common.{◌≡◌, ℕ, zero, suc, ◌+◌, ◌-◌, ◌*◌, ◌/◌, ◌%◌, ◌^◌, ◌<◌, ◌≤◌, Bool, true, false, not, ◌&&◌, ◌||◌, ◌==◌, if◌then◌else◌, nat_eq, nat_lt, List, [], ◌∷◌, length, map, get_or, Option, Some, None, IfSome, refl, sym, subst, ap, ◌∙◌, arith}
 use Rattle.std.proofs.lemmas.Bool.{eqb-true, eqb-false, le-leb}
 use Rattle.std.specs.Int.{bit_at}
 use Rattle.histories.specs.History.{is_raised, one_if}
@@ -20,13 +20,15 @@ use Rattle.command_nets.specs.declared.nets.AnswerNets.{AnswerNets}
 use Rattle.command_nets.specs.Nets.{port_in}
 use Rattle.memory_sides.specs.declared.route.Route.{Route}
 use Rattle.mm_route.specs.declared.back.BackNets.{BackNets}
+use Rattle.mm_route.specs.declared.registers.LatchNets.{LatchNets}
 use Rattle.mm_route.specs.declared.route.HeldRoute.{HeldRoute}
 use Rattle.mm_route.specs.declared.shown.ShownNets.{ShownNets}
 use Rattle.mm_route.specs.Entries.{place_bits, hits}
 use Rattle.mm_route.specs.Shown.{AreShown}
-use Rattle.mm_route.specs.Forward.{RouteForward, forward_lasts}
-use Rattle.mm_route.specs.Backward.{RouteBackward, backward_lasts, picked, answer_group}
-use Rattle.mm_route.specs.Machine.{has_entry, MapsAs, down_at, state_in, RunsAsRoute, RunsAsMachine}
+use Rattle.mm_route.specs.Registers.{LatchStartsLow}
+use Rattle.mm_route.specs.Forward.{RouteForward, forward_lasts, latched_in}
+use Rattle.mm_route.specs.Backward.{RouteBackward, backward_lasts, picked, answer_group, IsNextLatch, IsNext}
+use Rattle.mm_route.specs.Machine.{has_entry, MapsAs, down_at, inside_at, state_in, RunsAsRoute, RunsAsMachine}
 use Rattle.mm_route.proofs.Places.{IsPlace, default_place, hits_are, none_bits, same_place, BitsFrom, bits_from}
 
 -- ---- levels and choices
@@ -52,6 +54,40 @@ bits_chosen false entries one other x y e f = f
 place_chosen : (t : Bool) (entries : List Route) (one other : Option ℕ) → IsPlace entries one → IsPlace entries other → IsPlace entries (if t then one else other)
 place_chosen true entries one other h k = h
 place_chosen false entries one other h k = k
+
+-- ---- the latch
+
+-- it holds this place as bits
+abbrev pub Latches : Run → ℕ → List Route → Option ℕ → LatchNets → Type 0
+Latches run c entries place latch = run.net c latch.kept.number ≡ place_bits entries place
+
+latched_bits : (latch : Option LatchNets) (run : Run) (c x : ℕ) (entries : List Route) (kept decoded : Option ℕ) → IfSome latch (Latches run c entries kept) → x ≡ place_bits entries decoded →
+    latched_in (cycle_of run c) latch x ≡ place_bits entries (if inside_at run latch c then kept else decoded)
+latched_bits None run c x entries kept decoded h e = e
+latched_bits (Some latch) run c x entries kept decoded h e = chosen_raised (run.net c latch.inside.number) _ _ ∙ bits_chosen (is_raised (run.net c latch.inside.number)) entries kept decoded _ _ h e
+
+latches_first : (latch : Option LatchNets) (netlist : Netlist) (run : Run) (entries : List Route) → IsEndlessRun netlist run → IfSome latch (LatchStartsLow netlist) → IfSome latch (Latches run 0 entries None)
+latches_first None netlist run entries endless h = tt
+latches_first (Some latch) netlist run entries endless h = h.kept run 1 (endless 1) (omega arith) ∙ sym (none_bits entries)
+
+latches_next : (latch : Option LatchNets) (shown : ShownNets) (taken : Bool) (run : Run) (c : ℕ) (entries : List Route) (place : Option ℕ) → IfSome latch (IsNextLatch shown taken (cycle_of run c) (cycle_of run (c + 1))) →
+    run.net c shown.place.number ≡ place_bits entries place → IfSome latch (Latches run (c + 1) entries place)
+latches_next None shown taken run c entries place h e = tt
+latches_next (Some latch) shown taken run c entries place h e = h.kept ∙ e
+
+outside_first : (latch : Option LatchNets) (netlist : Netlist) (run : Run) → IsEndlessRun netlist run → IfSome latch (LatchStartsLow netlist) → inside_at run latch 0 ≡ false
+outside_first None netlist run endless h = refl
+outside_first (Some latch) netlist run endless h = ap is_raised (h.inside run 1 (endless 1) (omega arith))
+
+same_choice : (t : Bool) → (if t then false else false) ≡ false
+same_choice true = refl
+same_choice false = refl
+
+-- where no place is latched, no beat has `more`
+inside_next : (latch : Option LatchNets) (shown : ShownNets) (taken : Bool) (run : Run) (c : ℕ) → IfSome latch (IsNextLatch shown taken (cycle_of run c) (cycle_of run (c + 1))) → (latch ≡ None → run.net c shown.command.more.number ≡ 0) →
+    inside_at run latch (c + 1) ≡ (if taken then is_raised (run.net c shown.command.more.number) else inside_at run latch c)
+inside_next None shown taken run c h single = sym (same_choice taken) ∙ ap (λ n. if taken then is_raised n else false) (sym (single refl))
+inside_next (Some latch) shown taken run c h single = ap is_raised h.inside ∙ of_chosen is_raised taken _ _
 
 one_is : (t : Bool) → (one_if t == 1) ≡ t
 one_is true = refl
@@ -185,10 +221,10 @@ module _ (system : System) (host room room_bits : ℕ) (shape : Shape) (entries 
 
   -- the registers hold the places as bits
   abbrev pub Holds : ℕ → Type 0
-  Holds c = (run.net c held.registers.kept.number ≡ place_bits entries (state.kept c)) × ((run.net c held.registers.owing.number ≡ place_bits entries (state.owing c)) × (IsPlace entries (state.kept c) × IsPlace entries (state.owing c)))
+  Holds c = IfSome held.registers.latch (Latches run c entries (state.kept c)) × ((run.net c held.registers.owing.number ≡ place_bits entries (state.owing c)) × (IsPlace entries (state.kept c) × IsPlace entries (state.owing c)))
 
   place_is : (c : ℕ) → Holds c → run.net c held.shown.place.number ≡ place_bits entries (place c)
-  place_is c h = f.place (cycle_of run c) (valued c) ∙ chosen_raised (run.net c held.registers.inside.number) _ _ ∙ bits_chosen (state.inside c) entries (state.kept c) (decoded c) _ _ h.0 (decoded_bits c)
+  place_is c h = f.place (cycle_of run c) (valued c) ∙ latched_bits held.registers.latch run c _ entries (state.kept c) (decoded c) h.0 (decoded_bits c)
 
   is_place : (c : ℕ) → Holds c → IsPlace entries (place c)
   is_place c h = place_chosen (state.inside c) entries (state.kept c) (decoded c) h.1.1.0 (λ agent e. maps.others (kind_at up c) _ agent (byte_small c) e)
@@ -196,16 +232,18 @@ module _ (system : System) (host room room_bits : ℕ) (shape : Shape) (entries 
   next_of : (c : ℕ) → suc c ≡ c + 1
   next_of c = omega arith
 
+  steps : (c : ℕ) → IsNext held room_bits wait answer.valid (cycle_of run c) (cycle_of run (c + 1))
+  steps c = b.steps run (c + 2) (endless (c + 2)) c (omega arith)
+
   holds : (c : ℕ) → Holds c
   holds zero =
-      (f.starts.kept run 1 (endless 1) (omega arith) ∙ sym (none_bits entries), (f.starts.owing run 1 (endless 1) (omega arith) ∙ sym (none_bits entries), (default_place entries, default_place entries)))
+      (latches_first held.registers.latch netlist run entries endless f.starts.latch, (f.starts.owing run 1 (endless 1) (omega arith) ∙ sym (none_bits entries), (default_place entries, default_place entries)))
   holds (suc c) =
       let h = holds c in
-      let step = b.steps (cycle_of run c) (valued c) in (
-        ap (λ n. run.net n held.registers.kept.number) (next_of c) ∙ b.kept run (c + 2) (endless (c + 2)) c (omega arith) ∙ step.kept ∙ place_is c h,
+      let at = next_of c in (
+        subst (λ n. IfSome held.registers.latch (Latches run n entries (place c))) (sym at) (latches_next held.registers.latch held.shown (takes up c) run c entries (place c) (steps c).latch (place_is c h)),
         (
-          ap (λ n. run.net n held.registers.owing.number) (next_of c) ∙ b.owing run (c + 2) (endless (c + 2)) c (omega arith) ∙ step.owing
-              ∙ bits_chosen (takes_read up c) entries (place c) (state.owing c) _ _ (place_is c h) h.1.0,
+          ap (λ n. run.net n held.registers.owing.number) at ∙ (steps c).debt.owing ∙ bits_chosen (takes_read up c) entries (place c) (state.owing c) _ _ (place_is c h) h.1.0,
           (is_place c h, place_chosen (takes_read up c) entries (place c) (state.owing c) (is_place c h) h.1.1.1),
         ),
       )
@@ -269,15 +307,12 @@ module _ (system : System) (host room room_bits : ℕ) (shape : Shape) (entries 
       more = λ a c lt le. (below a c).more;
       tag = λ a c lt le. (below a c).tag;
       wait = λ c lt. waits_are c;
-      outside = ap is_raised (f.starts.inside run 1 (endless 1) (omega arith));
-      stays = λ c lt. ap (λ n. is_raised (run.net n held.registers.inside.number)) (next_of c) ∙ ap is_raised (b.inside run (c + 2) (endless (c + 2)) c (omega arith) ∙ (b.steps (cycle_of run c) (valued c)).inside) ∙ of_chosen is_raised (takes up c) _ _;
+      outside = outside_first held.registers.latch netlist run endless f.starts.latch;
+      stays = λ c lt. ap (inside_at run held.registers.latch) (next_of c) ∙ inside_next held.registers.latch held.shown (takes up c) run c (steps c).latch (λ none. f.single none (cycle_of run c) (valued c));
       keeps = λ c lt. refl;
       nothing = f.starts.owed run 1 (endless 1) (omega arith);
       nobody = refl;
-      counts = λ c lt few some.
-          (ap (λ n. run.net n held.registers.owed.number + one_if (is_raised (run.net c answer.valid.number))) (next_of c)
-          ∙ ap (λ n. n + one_if (is_raised (run.net c answer.valid.number))) (b.owed run (c + 2) (endless (c + 2)) c (omega arith))
-          ∙ (b.steps (cycle_of run c) (valued c)).owed (omega (arith, few, enough)) some);
+      counts = λ c lt few some. ap (λ n. run.net n held.registers.owed.number + one_if (is_raised (run.net c answer.valid.number))) (next_of c) ∙ (steps c).debt.owed (omega (arith, few, enough)) some;
       owes = λ c lt. refl;
       valid = λ c lt.
           (ap (λ (xs : List ℕ). is_raised (get_or xs 0 0)) (answers_are c) ∙ option_of (λ (xs : List ℕ). is_raised (get_or xs 0 0)) (state.owing c) _ _

@@ -1,10 +1,10 @@
--- What the second call leaves in a netlist: the wait and the word above, and the next nets of the registers.
-use Rattle.std.specs.Prelude.{◌≡◌, ℕ, ◌+◌, ◌*◌, ◌^◌, ◌<◌, ◌≤◌, Bool, not, ◌&&◌, ◌||◌, ◌==◌, if◌then◌else◌, nat_lt, List, [], ◌∷◌, map}
+-- What the second call leaves in a netlist: the wait and the word above, and what the registers take.
+use Rattle.std.specs.Prelude.{◌≡◌, ℕ, ◌+◌, ◌*◌, ◌^◌, ◌<◌, ◌≤◌, Bool, not, ◌&&◌, ◌||◌, ◌==◌, if◌then◌else◌, nat_lt, List, [], ◌∷◌, map, IfSome}
 use Rattle.std.specs.Int.{bit_at}
 use Rattle.histories.specs.History.{is_raised, one_if}
 use Rattle.netlist.specs.Nets.{NetValue}
 use Rattle.netlist.specs.Netlists.{Netlist}
-use Rattle.netlist.specs.Runs.{Cycle, Run, IsRun, Always}
+use Rattle.netlist.specs.Runs.{Cycle, Run, cycle_of, IsRun, Always}
 use Rattle.netlist.specs.Longer.{Extends}
 use Rattle.net_parts.specs.Nets.{IsBit}
 use Rattle.net_parts.specs.Groups.{values_of}
@@ -13,7 +13,7 @@ use Rattle.command_nets.specs.declared.nets.CommandNets.{CommandNets}
 use Rattle.command_nets.specs.declared.nets.AnswerNets.{AnswerNets}
 use Rattle.command_nets.specs.Nets.{AreAnswerNets}
 use Rattle.mm_route.specs.declared.back.BackNets.{BackNets}
-use Rattle.mm_route.specs.declared.registers.RegisterNets.{RegisterNets}
+use Rattle.mm_route.specs.declared.registers.LatchNets.{LatchNets}
 use Rattle.mm_route.specs.declared.route.HeldRoute.{HeldRoute}
 use Rattle.mm_route.specs.declared.shown.ShownNets.{ShownNets}
 
@@ -59,12 +59,24 @@ asked_in cycle command wait = if reads_in cycle command wait then cycle.net comm
 abbrev pub IsNextOwed : ℕ → ℕ → ℕ → ℕ → ℕ → Type 0
 IsNextOwed room owed asked words next = owed + asked < room → words ≤ owed + asked → next + words ≡ owed + asked
 
--- these nets are what the registers take as the cycle ends
-pub record IsNext (cycle : Cycle) (held : HeldRoute) (room_bits : ℕ) (wait valid : NetValue) (next : RegisterNets) : Type 0 where
-  pub inside : cycle.net next.inside.number ≡ (if taken_in cycle held.shown.command wait then cycle.net held.shown.command.more.number else cycle.net held.registers.inside.number)
-  pub kept : cycle.net next.kept.number ≡ cycle.net held.shown.place.number
-  pub owed : IsNextOwed (2 ^ room_bits) (cycle.net held.registers.owed.number) (asked_in cycle held.shown.command wait) (one_if (is_raised (cycle.net valid.number))) (cycle.net next.owed.number)
-  pub owing : cycle.net next.owing.number ≡ (if reads_in cycle held.shown.command wait then cycle.net held.shown.place.number else cycle.net held.registers.owing.number)
+-- what is owed after a cycle, and by which place
+pub record IsNextDebt (cycle : Cycle) (held : HeldRoute) (room_bits : ℕ) (wait valid : NetValue) (words place : ℕ) : Type 0 where
+  pub owed : IsNextOwed (2 ^ room_bits) (cycle.net held.registers.owed.number) (asked_in cycle held.shown.command wait) (one_if (is_raised (cycle.net valid.number))) words
+  pub owing : place ≡ (if reads_in cycle held.shown.command wait then cycle.net held.shown.place.number else cycle.net held.registers.owing.number)
+
+-- a latch after a cycle in which a beat is taken, or none: whether that was inside a burst, and the place
+pub record IsNextLatch (shown : ShownNets) (taken : Bool) (cycle next : Cycle) (latch : LatchNets) : Type 0 where
+  pub inside : next.net latch.inside.number ≡ (if taken then cycle.net shown.command.more.number else cycle.net latch.inside.number)
+  pub kept : next.net latch.kept.number ≡ cycle.net shown.place.number
+
+-- the registers after a cycle
+pub record IsNext (held : HeldRoute) (room_bits : ℕ) (wait valid : NetValue) (cycle next : Cycle) : Type 0 where
+  pub debt : IsNextDebt cycle held room_bits wait valid (next.net held.registers.owed.number) (next.net held.registers.owing.number)
+  pub latch : IfSome held.registers.latch (IsNextLatch held.shown (taken_in cycle held.shown.command wait) cycle next)
+
+-- in each run, of each cycle and the next one
+abbrev pub EachStep : Netlist → (Cycle → Cycle → Type 0) → Type 0
+EachStep netlist P = (run : Run) (cycles : ℕ) → IsRun netlist run cycles → (c : ℕ) → c + 1 < cycles → P (cycle_of run c) (cycle_of run (c + 1))
 
 -- the most nets that the second call makes for so many entries
 abbrev pub backward_nets : ℕ → ℕ
@@ -74,12 +86,7 @@ backward_nets entries = 19 + 6 * entries
 pub record RouteBackward (held : HeldRoute) (room_bits : ℕ) (backs : List BackNets) (wait : NetValue) (answer : AnswerNets) (netlist : Netlist) : Type 0 where
   pub waits : Always netlist (λ cycle. WaitsAbove cycle held.shown backs wait)
   pub answers : Always netlist (λ cycle. AnswersAbove cycle held backs answer)
-  pub next : RegisterNets
-  pub steps : Always netlist (λ cycle. IsNext cycle held room_bits wait answer.valid next)
-  pub inside : (run : Run) (cycles : ℕ) → IsRun netlist run cycles → (c : ℕ) → c + 1 < cycles → run.net (c + 1) held.registers.inside.number ≡ run.net c next.inside.number
-  pub kept : (run : Run) (cycles : ℕ) → IsRun netlist run cycles → (c : ℕ) → c + 1 < cycles → run.net (c + 1) held.registers.kept.number ≡ run.net c next.kept.number
-  pub owed : (run : Run) (cycles : ℕ) → IsRun netlist run cycles → (c : ℕ) → c + 1 < cycles → run.net (c + 1) held.registers.owed.number ≡ run.net c next.owed.number
-  pub owing : (run : Run) (cycles : ℕ) → IsRun netlist run cycles → (c : ℕ) → c + 1 < cycles → run.net (c + 1) held.registers.owing.number ≡ run.net c next.owing.number
+  pub steps : EachStep netlist (IsNext held room_bits wait answer.valid)
 
 -- ---- what stands lasts
 
@@ -88,12 +95,7 @@ pub backward_lasts : (held : HeldRoute) (room_bits : ℕ) (backs : List BackNets
 backward_lasts held room_bits backs wait answer old new h e = record {
   waits = λ cycle v. h.waits cycle (e.valuations cycle v);
   answers = λ cycle v. h.answers cycle (e.valuations cycle v);
-  next = h.next;
-  steps = λ cycle v. h.steps cycle (e.valuations cycle v);
-  inside = λ run cycles r. h.inside run cycles (e.runs run cycles r);
-  kept = λ run cycles r. h.kept run cycles (e.runs run cycles r);
-  owed = λ run cycles r. h.owed run cycles (e.runs run cycles r);
-  owing = λ run cycles r. h.owing run cycles (e.runs run cycles r);
+  steps = λ run cycles r. h.steps run cycles (e.runs run cycles r);
 }
 
 answer_lasts : (a b : Netlist) (answer : AnswerNets) (bits : ℕ) → Extends a b → AreAnswerNets a answer bits → AreAnswerNets b answer bits

@@ -1,5 +1,5 @@
 -- What the first call leaves in a netlist: the registers, the place of the command, the gate, and the commands below.
-use Rattle.std.specs.Prelude.{◌≡◌, ℕ, ◌+◌, ◌*◌, Bool, ◌||◌, ◌==◌, if◌then◌else◌, nat_eq, nat_lt, List, length}
+use Rattle.std.specs.Prelude.{◌≡◌, ℕ, ◌+◌, ◌*◌, Bool, ◌||◌, ◌==◌, if◌then◌else◌, nat_eq, nat_lt, List, length, Option, Some, None}
 use Rattle.histories.specs.History.{is_raised, one_if}
 use Rattle.netlist.specs.Nets.{NetValue}
 use Rattle.netlist.specs.Netlists.{Netlist, IsWaiting}
@@ -10,17 +10,25 @@ use Rattle.net_parts.specs.Groups.{InGroup}
 use Rattle.net_parts.specs.Laws.{net_lasts}
 use Rattle.command_nets.specs.declared.nets.CommandNets.{CommandNets}
 use Rattle.memory_sides.specs.declared.route.Route.{Route}
+use Rattle.mm_route.specs.declared.registers.LatchNets.{LatchNets}
 use Rattle.mm_route.specs.declared.registers.RegisterNets.{RegisterNets}
 use Rattle.mm_route.specs.declared.route.HeldRoute.{HeldRoute}
 use Rattle.mm_route.specs.Entries.{AreEntries, kind_of, hits}
 use Rattle.mm_route.specs.Registers.{registers_of, AreRegisterNets, RegistersStartLow, RegistersWait, register_nets_last, start_lasts, registers_wait_on}
 use Rattle.mm_route.specs.Shown.{AreShownNets, AreShown, shown_nets_last, shown_last}
 
+-- this place, or inside a burst the latched one
+abbrev pub latched_in : Cycle → Option LatchNets → ℕ → ℕ
+latched_in cycle None place = place
+latched_in cycle (Some latch) place = if cycle.net latch.inside.number == 0 then place else cycle.net latch.kept.number
+
 -- the place of the command above, as a bit for each entry: latched inside a burst, else by its address
 abbrev pub place_in : Cycle → List Route → RegisterNets → CommandNets → ℕ
-place_in cycle entries registers command =
-    if cycle.net registers.inside.number == 0 then hits entries (kind_of (cycle.net command.write.number)) (cycle.net command.address.number)
-    else cycle.net registers.kept.number
+place_in cycle entries registers command = latched_in cycle registers.latch (hits entries (kind_of (cycle.net command.write.number)) (cycle.net command.address.number))
+
+-- where no place is latched, each command has one beat
+abbrev pub HasSingleBeats : Netlist → RegisterNets → CommandNets → Type 0
+HasSingleBeats netlist registers command = registers.latch ≡ None → Always netlist (λ cycle. cycle.net command.more.number ≡ 0)
 
 -- a write goes on; a read does where no word is owed, or this very place owes them
 abbrev pub opens : ℕ → ℕ → ℕ → ℕ → Bool
@@ -54,6 +62,7 @@ pub record RouteForward (entries : List Route) (host : ℕ) (command : CommandNe
   pub entries_are : AreEntries held.shown.command.address.width entries
   pub nets : AreShownNets netlist held.shown (length entries)
   pub starts : RegistersStartLow netlist held.registers
+  pub single : HasSingleBeats netlist held.registers held.shown.command
   pub place : Always netlist (λ cycle. cycle.net held.shown.place.number ≡ place_in cycle entries held.registers held.shown.command)
   pub gate : Always netlist (λ cycle. IsGate cycle held.registers held.shown.command.write held.shown.place held.shown.gate)
   pub tag : Always netlist (λ cycle. cycle.net held.shown.tag.number ≡ host)
@@ -78,6 +87,7 @@ forward_lasts entries host command commands held old new h e = record {
   entries_are = h.entries_are;
   nets = shown_nets_last old new held.shown (length entries) e h.nets;
   starts = start_lasts old new held.registers e h.starts;
+  single = λ none cycle v. h.single none cycle (e.valuations cycle v);
   place = λ cycle v. h.place cycle (e.valuations cycle v);
   gate = λ cycle v. h.gate cycle (e.valuations cycle v);
   tag = λ cycle v. h.tag cycle (e.valuations cycle v);

@@ -6,7 +6,7 @@ ghost use Rattle.netlist.specs.Runs.{Always};
 ghost use Rattle.net_parts.specs.Nets.{IsBit, IsNetOfWidth};
 ghost use Rattle.net_parts.specs.Growth.{AddsNets};
 ghost use Rattle.command_nets.specs.Nets.{AreCommandNets};
-ghost use Rattle.mm_route.specs.Entries.{AreEntries};
+ghost use Rattle.mm_route.specs.Entries.{AreEntries, hits, kind_of};
 ghost use Rattle.mm_route.specs.Decoder.{AreAskedNets};
 ghost use Rattle.mm_route.specs.Registers.{AreRegisterNets};
 ghost use Rattle.mm_route.specs.Forward.{place_in, IsGate};
@@ -48,6 +48,26 @@ fn asked_nets(builder: &mut Builder, command: &CommandNets) -> Result<AskedNets,
     })
 }
 
+/// A bit for each entry: whether it holds the command.
+#[tactic(auto, using(net_parts::specs::Laws::growing))]
+fn decode_command(
+    builder: &mut Builder,
+    entries: &[Route],
+    command: &CommandNets,
+) -> Result<Net, NetFault>
+    requires some { 1 ≤ length entries.now }
+    requires few { length entries.now ≤ 128 }
+    requires entries { AreEntries command.now.address.width entries.now }
+    requires command { AreCommandNets builder.old command.now }
+    ensures net { IfOk result (λ bits. IsNetOfWidth builder.new bits (length entries.now)) }
+    ensures value { IfOk result (λ bits. Always builder.new (λ cycle. cycle.net bits.number ≡ hits entries.now (kind_of (cycle.net command.now.write.number)) (cycle.net command.now.address.number))) }
+    ensures adds { AddsNets (1 + 5 * length entries.now) builder.old builder.new }
+    ensures full { result ≡ Err NetFault.TooManyNets → 2 ^ 20 < length builder.old.lines + (1 + 5 * length entries.now) }
+{
+    let asked = asked_nets(builder, command)?;
+    decode(builder, &asked, &entries[0], &entries[1..])
+}
+
 /// The place of the command above, a bit for each entry: latched inside a burst, else by its address.
 #[tactic(auto, using(net_parts::specs::Laws::growing))]
 pub(crate) fn place_now(
@@ -67,9 +87,11 @@ pub(crate) fn place_now(
     ensures adds { AddsNets (2 + 5 * length entries.now) builder.old builder.new }
     ensures full { result ≡ Err NetFault.TooManyNets → 2 ^ 20 < length builder.old.lines + (2 + 5 * length entries.now) }
 {
-    let asked = asked_nets(builder, command)?;
-    let hits = decode(builder, &asked, &entries[0], &entries[1..])?;
-    choose(builder, registers.inside, registers.kept, hits)
+    let hits = decode_command(builder, entries, command)?;
+    match registers.latch {
+        None => Ok(hits),
+        Some(latch) => choose(builder, latch.inside, latch.kept, hits),
+    }
 }
 
 /// A write goes on; a read does where no word is owed, or this very place owes them.

@@ -12,6 +12,6 @@ mod shown;
 
 pub use back::BackNets;
 pub use laws::route_ignores_answers;
-pub use registers::RegisterNets;
+pub use registers::{LatchNets, RegisterNets};
 pub use route::{HeldRoute, emit_route, finish_route};
 pub use shown::ShownNets;

@@ -1,20 +1,23 @@
 //! The next nets of the registers of a route.
 
-ghost use Rattle.std.specs.Prelude.{◌≡◌, ◌+◌, ◌^◌, ◌<◌, ◌≤◌, ◌%◌, ◌==◌, if◌then◌else◌, length, IfOk};
+ghost use Rattle.std.specs.Prelude.{◌≡◌, ℕ, ◌+◌, ◌^◌, ◌<◌, ◌≤◌, ◌%◌, ◌==◌, if◌then◌else◌, length, IfOk, OnOk};
 ghost use Rattle.histories.specs.History.{is_raised, one_if};
-ghost use Rattle.netlist.specs.Netlists.{IsNet};
+ghost use Rattle.netlist.specs.Netlists.{IsNet, IsWaiting};
 ghost use Rattle.netlist.specs.Runs.{Always};
 ghost use Rattle.net_parts.specs.Nets.{IsBit, IsNetOfWidth};
-ghost use Rattle.net_parts.specs.Growth.{AddsNets};
+ghost use Rattle.net_parts.specs.Groups.{InGroup, AreWaiting};
+ghost use Rattle.net_parts.specs.Growth.{AddsNets, GrowsBy, WaitsWithout};
 ghost use Rattle.command_nets.specs.Nets.{AreCommandNets};
-ghost use Rattle.mm_route.specs.Registers.{AreRegisterNets};
-ghost use Rattle.mm_route.specs.Forward.{RouteKeeps};
-ghost use Rattle.mm_route.specs.Backward.{taken_in, reads_in, IsNextOwed, IsNext};
+ghost use Rattle.mm_route.specs.Registers.{latch_of, IsLatch};
+ghost use Rattle.mm_route.specs.Shown.{AreShownNets};
+ghost use Rattle.mm_route.specs.Forward.{owns, RouteKeeps};
+ghost use Rattle.mm_route.specs.Backward.{taken_in, reads_in, IsNextOwed, IsNextDebt, IsNextLatch, IsNext, EachStep};
 
-use crate::registers::RegisterNets;
+use crate::registers::LatchNets;
 use crate::route::HeldRoute;
+use crate::shown::ShownNets;
 use command_nets::CommandNets;
-use net_parts::{choose, constant, fit_bits};
+use net_parts::{choose, constant, fit_bits, set_all_next};
 use netlist::{Builder, Net, NetFault};
 
 /// What is taken in a cycle, one bit each.
@@ -22,6 +25,15 @@ use netlist::{Builder, Net, NetFault};
 pub(crate) struct TakenNets {
     pub beat: Net,
     pub read: Net,
+}
+
+/// What a cycle leaves, of the command that is taken in it.
+#[derive(Clone, Copy)]
+pub(crate) struct NextNets {
+    /// One bit: a beat is taken.
+    pub beat: Net,
+    pub owed: Net,
+    pub owing: Net,
 }
 
 /// Whether a beat is taken above, and whether a read is.
@@ -94,37 +106,94 @@ fn next_owed(
     builder.sub(sum, word)
 }
 
-/// What the registers take as a cycle ends.
+/// What is owed after a cycle, and by which place.
 #[tactic(auto, using(net_parts::specs::Laws::growing))]
-pub(crate) fn next_nets(
+fn next_debt(
     builder: &mut Builder,
     held: &HeldRoute,
     count: u8,
     room_bits: u8,
     wait: Net,
     valid: Net,
-) -> Result<RegisterNets, NetFault>
+) -> Result<NextNets, NetFault>
     requires held { RouteKeeps held.now count room_bits builder.old }
     requires wait { IsBit builder.old wait }
     requires valid { IsBit builder.old valid }
     requires some { 1 ≤ room_bits }
     requires few { room_bits ≤ 128 }
-    ensures nets { IfOk result (λ next. AreRegisterNets builder.new next count room_bits) }
-    ensures value { IfOk result (λ next. Always builder.new (λ cycle. IsNext cycle held.now room_bits wait valid next)) }
-    ensures adds { AddsNets 14 builder.old builder.new }
-    ensures full { result ≡ Err NetFault.TooManyNets → 2 ^ 20 < length builder.old.lines + 14 }
+    ensures beat { IfOk result (λ next. IsBit builder.new next.beat) }
+    ensures owed { IfOk result (λ next. IsNetOfWidth builder.new next.owed room_bits) }
+    ensures owing { IfOk result (λ next. IsNetOfWidth builder.new next.owing count) }
+    ensures beat_is { IfOk result (λ next. Always builder.new (λ cycle. is_raised (cycle.net next.beat.number) ≡ taken_in cycle held.now.shown.command wait)) }
+    ensures value { IfOk result (λ next. Always builder.new (λ cycle. IsNextDebt cycle held.now room_bits wait valid (cycle.net next.owed.number) (cycle.net next.owing.number))) }
+    ensures adds { AddsNets 13 builder.old builder.new }
+    ensures full { result ≡ Err NetFault.TooManyNets → 2 ^ 20 < length builder.old.lines + 13 }
 {
     let command = &held.shown.command;
     let registers = &held.registers;
     let taken = taken_bits(builder, command, wait)?;
-    let inside = choose(builder, taken.beat, command.more, registers.inside)?;
     let asked = asked_words(builder, taken.read, command.count, room_bits)?;
     let owed = next_owed(builder, registers.owed, asked, valid, room_bits)?;
     let owing = choose(builder, taken.read, held.shown.place, registers.owing)?;
-    Ok(RegisterNets {
-        inside,
-        kept: held.shown.place,
+    Ok(NextNets {
+        beat: taken.beat,
         owed,
         owing,
     })
+}
+
+/// Gives what latches a place its next nets, where `beat` says that a beat is taken.
+#[tactic(auto, using(net_parts::specs::Laws::growing))]
+fn step_latch(
+    builder: &mut Builder,
+    latch: LatchNets,
+    shown: &ShownNets,
+    count: u8,
+    beat: Net,
+) -> Result<(), NetFault>
+    requires latch { IsLatch builder.old count latch }
+    requires wait { AreWaiting builder.old (latch_of (Some latch)) }
+    requires shown { AreShownNets builder.old shown.now count }
+    requires beat { IsBit builder.old beat }
+    ensures value { OnOk result (EachStep builder.new (λ cycle next. IsNextLatch shown.now (is_raised (cycle.net beat.number)) cycle next latch)) }
+    ensures grows { GrowsBy 1 builder.old builder.new }
+    ensures waits { (n : ℕ) → ¬ InGroup (latch_of (Some latch)) n → IsWaiting builder.old n → IsWaiting builder.new n }
+    ensures no_more_wait { OnOk result (WaitsWithout (InGroup (latch_of (Some latch))) builder.old builder.new) }
+    ensures full { result ≡ Err NetFault.TooManyNets → 2 ^ 20 < length builder.old.lines + 1 }
+{
+    let inside = choose(builder, beat, shown.command.more, latch.inside)?;
+    let group = [latch.inside, latch.kept];
+    set_all_next(builder, &group, &[inside, shown.place]);
+    Ok(())
+}
+
+/// Gives the registers their next nets.
+#[tactic(auto, using(net_parts::specs::Laws::growing))]
+pub(crate) fn step_registers(
+    builder: &mut Builder,
+    held: &HeldRoute,
+    count: u8,
+    room_bits: u8,
+    wait: Net,
+    valid: Net,
+) -> Result<(), NetFault>
+    requires held { RouteKeeps held.now count room_bits builder.old }
+    requires wait { IsBit builder.old wait }
+    requires valid { IsBit builder.old valid }
+    requires some { 1 ≤ room_bits }
+    requires few { room_bits ≤ 128 }
+    ensures value { OnOk result (EachStep builder.new (IsNext held.now room_bits wait valid)) }
+    ensures grows { GrowsBy 14 builder.old builder.new }
+    ensures waits { (n : ℕ) → ¬ owns held.now n → IsWaiting builder.old n → IsWaiting builder.new n }
+    ensures no_more_wait { OnOk result (WaitsWithout (owns held.now) builder.old builder.new) }
+    ensures full { result ≡ Err NetFault.TooManyNets → 2 ^ 20 < length builder.old.lines + 14 }
+{
+    let registers = &held.registers;
+    let next = next_debt(builder, held, count, room_bits, wait, valid)?;
+    let group = [registers.owed, registers.owing];
+    set_all_next(builder, &group, &[next.owed, next.owing]);
+    match registers.latch {
+        None => Ok(()),
+        Some(latch) => step_latch(builder, latch, &held.shown, count, next.beat),
+    }
 }

@@ -1,6 +1,6 @@
 //! The two calls of a route.
 
-ghost use Rattle.std.specs.Prelude.{◌≡◌, ℕ, ◌+◌, ◌*◌, ◌^◌, ◌<◌, ◌≤◌, List, length, IfOk, OnOk};
+ghost use Rattle.std.specs.Prelude.{◌≡◌, ℕ, ◌+◌, ◌*◌, ◌^◌, ◌<◌, ◌≤◌, false, List, length, is_some, IfOk, OnOk};
 ghost use Rattle.netlist.specs.Netlists.{IsWaiting};
 ghost use Rattle.netlist.specs.Runs.{Always};
 ghost use Rattle.net_parts.specs.Nets.{IsBit};
@@ -16,12 +16,12 @@ ghost use Rattle.command_nets.specs.declared.nets.CommandNets.{CommandNets};
 
 use crate::back::{BackNets, pick_answer, pick_wait};
 use crate::gate::{open_gate, place_now};
-use crate::next::next_nets;
+use crate::next::step_registers;
 use crate::registers::{RegisterNets, make_registers};
 use crate::shown::{ShownNets, show_all};
 use command_nets::{AnswerNets, CommandNets};
 use memory_sides::Route;
-use net_parts::{constant, level, set_all_next};
+use net_parts::{constant, level};
 use netlist::{Builder, Net, NetFault};
 use std::alloc::Global;
 
@@ -35,7 +35,8 @@ pub struct HeldRoute {
 }
 
 /// The commands below a host, one for each entry of its map, in the order of the entries. Each has the host's number as its tag,
-/// of so many bits. The debt of words above is counted in `room_bits` bits.
+/// of so many bits. The debt of words above is counted in `room_bits` bits. A command may have more than one beat where there are
+/// `bursts`.
 ///
 /// `TooManyNets` comes where the module has no room for these nets. After an error the builder is to be dropped: registers may
 /// stand in it that wait.
@@ -46,6 +47,7 @@ pub fn emit_route(
     tag_bits: u8,
     entries: &[Route],
     room_bits: u8,
+    bursts: bool,
     command: CommandNets,
 ) -> Result<(Vec<CommandNets>, HeldRoute), NetFault>
     requires some { 1 ≤ length entries.now }
@@ -57,11 +59,13 @@ pub fn emit_route(
     requires some_room { 1 ≤ room_bits }
     requires little_room { room_bits ≤ 128 }
     requires command { AreCommandNets builder.old command }
+    requires single { bursts ≡ false → Always builder.old (λ cycle. cycle.net command.more.number ≡ 0) }
     ensures commands { IfOk result (λ p. AreCommandsOf builder.new (widths_below command tag_bits) p.0.items) }
     ensures count { IfOk result (λ p. length p.0.items ≡ length entries.now) }
     ensures kept { IfOk result (λ p. RouteKeeps p.1 (length entries.now) room_bits builder.new) }
     ensures owned { IfOk result (λ p. AreMadeBetween (owns p.1) builder.old builder.new) }
     ensures made { IfOk result (λ p. RouteForward entries.now host command p.0.items p.1 builder.new) }
+    ensures latches { IfOk result (λ p. is_some p.1.registers.latch ≡ bursts) }
     ensures grows { GrowsBy (forward_nets (length entries.now)) builder.old builder.new }
     ensures waits { StillWait builder.old builder.new }
     ensures newly { IfOk result (λ p. WaitsBeside (owns p.1) builder.old builder.new) }
@@ -70,7 +74,7 @@ pub fn emit_route(
     ensures full { result ≡ Err NetFault.TooManyNets → 2 ^ 20 < length builder.old.lines + forward_nets (length entries.now) }
 {
     let count = entries.len() as u8;
-    let registers = make_registers(builder, count, room_bits)?;
+    let registers = make_registers(builder, bursts, count, room_bits)?;
     let place = place_now(builder, &registers, entries, &command, room_bits)?;
     let open = open_gate(builder, &registers, place, command.write, count, room_bits)?;
     let tag = constant(builder, tag_bits, host)?;
@@ -187,7 +191,6 @@ pub fn finish_route(
     let count = backs.len() as u8;
     let wait = wait_above(builder, &held.shown, count, backs, word_bits)?;
     let answer = answer_above(builder, &held, count, room_bits, backs, word_bits)?;
-    let next = next_nets(builder, &held, count, room_bits, wait, answer.valid)?;
-    set_all_next(builder, &held.registers.group(), &next.group());
+    step_registers(builder, &held, count, room_bits, wait, answer.valid)?;
     Ok((wait, answer))
 }

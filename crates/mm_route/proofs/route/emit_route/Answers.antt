@@ -1,6 +1,7 @@
-use Rattle.std.proofs.Common.{refl, subst, arith}
+use Rattle.std.proofs.Common.{is_some, refl, sym, subst, ap, ◌∙◌, arith}
 use Rattle.net_parts.specs.Laws.{extends_twice, net_lasts, adds_twice, adds_grow, grows_within}
 use Rattle.command_nets.specs.Groups.{command_lasts}
+use Rattle.mm_route.specs.declared.registers.LatchNets.{LatchNets}
 use Rattle.mm_route.specs.Shown.{shown_are_commands, AreCommandsOf, widths_below}
 use Rattle.mm_route.specs.Registers.{register_nets_last, start_lasts, registers_wait_on}
 use Rattle.mm_route.proofs.route.emit_route.Goals as goal
@@ -95,6 +96,7 @@ returns-clause-made c =
         command = command_lasts _ _ _ e4 c.requires.command;
       };
       starts = start_lasts _ _ _ e3 c.in_ok-registers.ensures.starts;
+      single = λ none cycle v. c.requires.single (sym c.in_ok-registers.ensures.kind ∙ ap (is_some {T = LatchNets}) none) cycle (e4.valuations cycle v);
       place = λ cycle v. c.in_ok-place.ensures.value cycle (e2.valuations cycle v);
       gate = λ cycle v. c.in_ok-open.ensures.gate_is cycle (e1.valuations cycle v);
       tag = λ cycle v. c.in_ok-tag.ensures.value cycle (e0.valuations cycle v);
