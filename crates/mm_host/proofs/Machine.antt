@@ -299,6 +299,6 @@ module _ (port : HostPort) (held : HeldHost) (wait : NetValue) (answer : AnswerN
     asks = λ c lt none. asks_on held.reads h.reads g.reads none c;
     queues = λ some. queue_on held.reads h.reads g.reads some end;
     valid = λ c lt some. valid_is made.readdatavalid g.valid some c;
-    answer = λ c lt. ap (λ (n : NetValue). run.net c n.number) g.word;
+    answer = λ c lt some. ap (λ (n : NetValue). run.net c n.number) g.word;
     response = λ c lt. g.no_response (cycle_of run c) (val c);
   }

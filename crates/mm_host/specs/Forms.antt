@@ -1,5 +1,5 @@
 -- The part next to a host: what its two calls leave in a netlist, and that it runs as the machine of a host.
-use Rattle.std.specs.Prelude.{◌≡◌, ℕ, ◌*◌, if◌then◌else◌, Option, Some, None, ◌⊎◌}
+use Rattle.std.specs.Prelude.{◌≡◌, ℕ, ◌*◌, true, if◌then◌else◌, Option, Some, None, ◌⊎◌}
 use Rattle.iface_roles.specs.declared.records.HostPort.{HostPort}
 use Rattle.netlist.specs.Nets.{NetValue}
 use Rattle.netlist.specs.Netlists.{Netlist}
@@ -89,9 +89,9 @@ pub record HostGoesOn (netlist : Netlist) (held : HeldHost) (port : HostPort) (w
   pub valid : made.readdatavalid ≡ valid_of port answer.valid
   pub no_response : Always netlist (λ cycle. value_or 0 made.response cycle ≡ 0)
 
--- the shape of the side below: addresses count bytes
+-- the shape of the side below: addresses count bytes, and each lane has its enable
 abbrev pub shape_below : HostPort → Shape
-shape_below port = record { word_bytes = port.word_bytes; unit_bytes = 1; burst_bits = burst_width port.burst_bits; has_enables = port.enables }
+shape_below port = record { word_bytes = port.word_bytes; unit_bytes = 1; burst_bits = burst_width port.burst_bits; has_enables = true }
 
 -- the run has a state with which it is one of the machine of a host
 pub record IsHostRun (port : HostPort) (held : HeldHost) (wait : NetValue) (answer : AnswerNets) (made : HostAnswer) (run : Run) (end : ℕ) : Type 0 where
