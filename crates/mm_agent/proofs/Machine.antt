@@ -233,7 +233,8 @@ module _ (port : AgentPort) (nets : AgentNets) (command : CommandNets) (made : A
     write = λ c lt some. where_it_reads port.writes _ _ some;
     no_write = λ c lt none. where_not port.writes _ _ none;
     address = λ c lt. h.address (cycle_of run c) (val c);
-    word = λ c lt. refl;
+    word = λ c lt some. where_it_reads port.writes _ _ some;
+    no_word = λ c lt none. where_not port.writes _ _ none;
     enables = λ c lt some. where_it_reads port.enables _ _ some;
     all_lanes = λ c lt none. ap (λ n. n + 1) (where_not port.enables (run.net c command.enables.number) (all_ones port.word_bytes) none) ∙ all_lanes port.word_bytes;
     count = λ c lt. refl;

@@ -39,15 +39,16 @@ pub record AreAgentNets (netlist : Netlist) (port : AgentPort) (nets : AgentNets
   pub waitrequest : HasNet netlist port.waitrequest 1 nets.waitrequest
   pub readdata : HasNet netlist port.reads (port.word_bytes * 8) nets.readdata
   pub readdatavalid : HasNet netlist port.readdatavalid 1 nets.readdatavalid
+  pub response : HasNet netlist port.response 2 nets.response
 
 -- each command bears this one tag, as where one host is joined
 pub record BearsOneTag (netlist : Netlist) (command : CommandNets) : Type 0 where
   pub tag : ℕ
   pub always : Always netlist (λ cycle. cycle.net command.tag.number ≡ tag)
 
--- the side above: the agent's words and bursts, and addresses that count bytes
+-- the side above: the agent's words and bursts, addresses that count bytes, and an enable for each lane
 abbrev pub shape_above : AgentPort → Shape
-shape_above port = record { word_bytes = port.word_bytes; unit_bytes = 1; burst_bits = burst_width port.burst_bits; has_enables = port.enables }
+shape_above port = record { word_bytes = port.word_bytes; unit_bytes = 1; burst_bits = burst_width port.burst_bits; has_enables = true }
 
 -- `placed`, in the agent's unit, is the offset in its span of the word at a byte address
 abbrev pub PlacesAddress : AgentPort → ℕ → ℕ → Type 0
@@ -76,7 +77,7 @@ agent_signals port command made run = record {
   read = λ c. value_or 0 made.read (cycle_of run c);
   write = λ c. if port.writes then run.net c command.write.number else 0;
   address = λ c. value_or 0 made.address (cycle_of run c);
-  word = λ c. run.net c command.word.number;
+  word = λ c. if port.writes then run.net c command.word.number else 0;
   enables = λ c. if port.enables then run.net c command.enables.number else all_ones port.word_bytes;
   count = λ c. if bursts port then run.net c command.count.number else 1;
 }
@@ -88,7 +89,7 @@ agent_view port nets command made run = record {
   waitrequest = λ c. value_or 0 nets.waitrequest (cycle_of run c);
   readdata = λ c. value_or 0 nets.readdata (cycle_of run c);
   readdatavalid = λ c. value_or 0 nets.readdatavalid (cycle_of run c);
-  response = λ c. 0;
+  response = λ c. value_or 0 nets.response (cycle_of run c);
   grant = λ c. run.net c command.tag.number;
 }
 
@@ -99,4 +100,5 @@ agent_lasts old new port nets h e = record {
   waitrequest = has_lasts old new port.waitrequest 1 nets.waitrequest h.waitrequest e;
   readdata = has_lasts old new port.reads (port.word_bytes * 8) nets.readdata h.readdata e;
   readdatavalid = has_lasts old new port.readdatavalid 1 nets.readdatavalid h.readdatavalid e;
+  response = has_lasts old new port.response 2 nets.response h.response e;
 }

@@ -2,9 +2,11 @@
 
 ghost use Rattle.std.specs.Prelude.{◌≡◌, ℕ, ◌+◌, ◌*◌, ◌^◌, ◌<◌, ◌≤◌, length, IfOk, OnOk};
 ghost use Rattle.iface_roles.specs.Proper.{IsBoundedAgent, span_of};
+ghost use Rattle.net_parts.specs.Nets.{IsRegister};
 ghost use Rattle.net_parts.specs.Growth.{GrowsBy, StillWait};
 ghost use Rattle.command_nets.specs.Nets.{AreCommandNets};
 ghost use Rattle.mm_agent.specs.Agents.{AreAgentNets, IsServed, BearsOneTag, AreMadeNets, read_of};
+ghost use Rattle.mm_agent.specs.Reads.{owns_reads};
 ghost use Rattle.mm_agent.specs.Forms.{IsAgentPart, IgnoresAnswer, RunsAsAgent};
 
 use crate::answers::give_answer;
@@ -41,6 +43,7 @@ pub fn emit_agent(
     requires tag { BearsOneTag builder.old command.now }
     ensures nets { IfOk result (λ made. AreMadeNets builder.new port.now command.now made) }
     ensures part { IfOk result (λ made. IsAgentPart builder.new port.now nets.now command.now made) }
+    ensures registers { IfOk result (λ made. (n : ℕ) → owns_reads made.reads n → IsRegister builder.new n) }
     ensures ignores { IfOk result (λ made. IgnoresAnswer builder.new command.now made) }
     ensures machine { IfOk result (λ made. RunsAsAgent builder.new port.now nets.now command.now made) }
     ensures grows { GrowsBy 24 builder.old builder.new }
@@ -54,6 +57,7 @@ pub fn emit_agent(
     let answer = give_answer(builder, port, nets)?;
     let busy = given_or_low(builder, nets.waitrequest, 1)?;
     let shown = hold_reads(builder, port, command.read)?;
+    builder.well_made();
     let waitrequest = finish_reads(builder, port, command.read, &shown, busy, answer.valid)?;
     Ok(AgentMade {
         address,

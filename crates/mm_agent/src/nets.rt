@@ -12,6 +12,8 @@ pub struct AgentNets {
     pub readdata: Option<Net>,
     /// One bit.
     pub readdatavalid: Option<Net>,
+    /// Two bits; no part reads it yet.
+    pub response: Option<Net>,
 }
 
 /// The nets that are made. What an agent gets beside its address and its `read` is the command's own net.

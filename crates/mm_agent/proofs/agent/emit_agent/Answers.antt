@@ -1,6 +1,6 @@
 use Rattle.std.proofs.Common.{Option, refl, sym, subst, inl, inr, arith}
 use Rattle.netlist.specs.Nets.{NetValue}
-use Rattle.net_parts.specs.Laws.{extends_twice, net_lasts, waiting_within, adds_twice, adds_grow, grows_fewer, grows_twice}
+use Rattle.net_parts.specs.Laws.{extends_twice, net_lasts, waiting_within, waiting_register, register_lasts, adds_twice, adds_grow, grows_fewer, grows_twice}
 use Rattle.command_nets.specs.Ports.{HasNet, has_lasts, given}
 use Rattle.mm_agent.specs.Agents.{agent_lasts}
 use Rattle.mm_agent.specs.Reads.{reads_last}
@@ -8,6 +8,12 @@ use Rattle.mm_agent.specs.Forms.{part_lasts}
 use Rattle.mm_agent.proofs.Machine.{machine}
 use Rattle.mm_agent.proofs.Ignores.{ignores}
 use Rattle.mm_agent.proofs.agent.emit_agent.Goals as goal
+
+pub finish_reads-requires-clause-read : goal.finish_reads-requires-clause-read
+finish_reads-requires-clause-read c =
+    let e3 = extends_twice _ _ _ c.given_or_low.ensures.adds.grows.extends c.hold_reads.ensures.grows.extends in
+    let e2 = extends_twice _ _ _ c.give_answer.ensures.adds.grows.extends e3 in
+    net_lasts _ _ _ _ (extends_twice _ _ _ c.place_address.ensures.adds.grows.extends e2) c.requires.command.read
 
 pub returns-in_err-waitrequest-clause-grows : goal.returns-in_err-waitrequest-clause-grows
 returns-in_err-waitrequest-clause-grows c = grows_fewer _ _ _ _ (omega arith) (grows_twice _ _ _ _ _ (grows_twice _ _ _ _ _ (adds_grow _ _ _ (adds_twice _ _ _ _ _ (adds_twice _ _ _ _ _ c.place_address.ensures.adds c.give_answer.ensures.adds) c.given_or_low.ensures.adds)) c.hold_reads.ensures.grows) c.finish_reads.ensures.grows)
@@ -74,6 +80,9 @@ returns-clause-part c =
       one_tag = record { tag = c.requires.tag.tag; always = λ cycle v. c.requires.tag.always cycle (e0.valuations cycle v) };
       tag = refl;
     }
+
+pub returns-clause-registers : goal.returns-clause-registers
+returns-clause-registers c n o = register_lasts _ _ n c.finish_reads.ensures.grows.extends (waiting_register _ n c.well_made.ensures (c.in_ok-shown.ensures.own_wait n o))
 
 pub returns-clause-ignores : goal.returns-clause-ignores
 returns-clause-ignores c = ignores c.args.port.now c.args.nets.now _ c.args.command.now _ c.requires.port (returns-clause-part c)
