@@ -64,7 +64,7 @@ pub record IsNextDebt (cycle : Cycle) (held : HeldRoute) (room_bits : ℕ) (wait
   pub owed : IsNextOwed (2 ^ room_bits) (cycle.net held.registers.owed.number) (asked_in cycle held.shown.command wait) (one_if (is_raised (cycle.net valid.number))) words
   pub owing : place ≡ (if reads_in cycle held.shown.command wait then cycle.net held.shown.place.number else cycle.net held.registers.owing.number)
 
--- a latch after a cycle in which a beat is taken, or none: whether that was inside a burst, and the place
+-- a latch after a cycle, in which a beat is taken or not: whether that beat had `more` high, and the place
 pub record IsNextLatch (shown : ShownNets) (taken : Bool) (cycle next : Cycle) (latch : LatchNets) : Type 0 where
   pub inside : next.net latch.inside.number ≡ (if taken then cycle.net shown.command.more.number else cycle.net latch.inside.number)
   pub kept : next.net latch.kept.number ≡ cycle.net shown.place.number

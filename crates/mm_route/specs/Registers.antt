@@ -17,21 +17,23 @@ latch_of (Some latch) = latch.inside ∷ latch.kept ∷ []
 abbrev pub registers_of : RegisterNets → List NetValue
 registers_of registers = registers.owed ∷ registers.owing ∷ latch_of registers.latch
 
--- they are nets of this netlist, for so many entries
+-- a latch is of nets of this netlist, for so many entries
 pub record IsLatch (netlist : Netlist) (count : ℕ) (latch : LatchNets) : Type 0 where
   pub inside : IsBit netlist latch.inside
   pub kept : IsNetOfWidth netlist latch.kept count
 
+-- and so are the registers
 pub record AreRegisterNets (netlist : Netlist) (registers : RegisterNets) (count room_bits : ℕ) : Type 0 where
   pub owed : IsNetOfWidth netlist registers.owed room_bits
   pub owing : IsNetOfWidth netlist registers.owing count
   pub latch : IfSome registers.latch (IsLatch netlist count)
 
--- they begin low
+-- a latch begins low
 pub record LatchStartsLow (netlist : Netlist) (latch : LatchNets) : Type 0 where
   pub inside : StartsLow netlist latch.inside
   pub kept : StartsLow netlist latch.kept
 
+-- and so do the registers
 pub record RegistersStartLow (netlist : Netlist) (registers : RegisterNets) : Type 0 where
   pub owed : StartsLow netlist registers.owed
   pub owing : StartsLow netlist registers.owing

@@ -27,10 +27,10 @@ pub(crate) struct TakenNets {
     pub read: Net,
 }
 
-/// What a cycle leaves, of the command that is taken in it.
+/// Whether a beat is taken, and what is owed after the cycle.
 #[derive(Clone, Copy)]
 pub(crate) struct NextNets {
-    /// One bit: a beat is taken.
+    /// One bit.
     pub beat: Net,
     pub owed: Net,
     pub owing: Net,
