@@ -51,7 +51,7 @@ pub both : (a b : Bool) → (a && b) ≡ true → (a ≡ true) × (b ≡ true)
 both true b h = (refl, h)
 both false b h = absurd (let no : false ≡ true = h in cc)
 
-not_true : (a : Bool) → (a ≡ true → ⊥) → a ≡ false
+pub not_true : (a : Bool) → (a ≡ true → ⊥) → a ≡ false
 not_true true h = absurd (h refl)
 not_true false h = refl
 
@@ -69,7 +69,7 @@ pub all_words : (bytes : ℕ) (routes : List Route) → ((k : ℕ) (route : Rout
 all_words bytes [] each = tt
 all_words bytes (route ∷ later) each = (each 0 route refl, all_words bytes later (λ k x at. each (suc k) x at))
 
-has_one : (routes : List Route) (k : ℕ) (route : Route) (agent : ℕ) → slice_get routes k ≡ Some route → route.agent ≡ agent → has_entry routes agent ≡ true
+pub has_one : (routes : List Route) (k : ℕ) (route : Route) (agent : ℕ) → slice_get routes k ≡ Some route → route.agent ≡ agent → has_entry routes agent ≡ true
 has_one [] k route agent at leads = absurd (none-some route at)
 has_one (first ∷ later) zero route agent at leads =
     let own : nat_eq first.agent agent ≡ true = (Decides-eqb first.agent agent).1 (ap (λ (r : Route). r.agent) (same_Some first route at) ∙ leads) in

@@ -1,5 +1,15 @@
 pub mod Apart
+pub mod Boundaries
+pub mod Choices
 pub mod Ends
 pub mod Entries
+pub mod ForestViews
 pub mod Hosts
+pub mod Levels
+pub mod Meets
+pub mod Moments
+pub mod SilentReader
+pub mod Views
+pub mod Ways
+pub mod Wired
 pub mod Words

@@ -2,7 +2,11 @@
 #![tactic(auto)]
 
 mod laws;
+mod served;
+mod tree;
 
 pub use laws::{
     fit_commands_suit_agents, plans_are_apart, plans_have_their_ends, routes_are_mapped,
 };
+pub use served::{trees_are_served, trees_are_wired, trees_ignore_words, trees_show_views};
+pub use tree::{AgentEnd, Branch, Tree};
