@@ -13,3 +13,5 @@ pub mod Views
 pub mod Ways
 pub mod Wired
 pub mod Words
+pub mod Branching
+pub mod Whole

@@ -1,3 +1,5 @@
 pub mod Maps
 pub mod Served
 pub mod Trees
+pub mod Trunks
+pub mod Branches

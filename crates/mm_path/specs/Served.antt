@@ -1,7 +1,6 @@
 -- The hosts of a plan with their agents, all as trees: what a run shows at them, and what their nets are.
 use Rattle.std.specs.Prelude.{◌≡◌, ℕ, ◌<◌, ◌≤◌, nat_lt, if◌then◌else◌, not, ◌||◌, List, [], ◌∷◌, Option, find, nat_eq, IsTrue, slice_get, Some}
 use Rattle.std.specs.Option.{option_map_or}
-use Rattle.iface_roles.specs.declared.records.AgentPort.{AgentPort}
 use Rattle.iface_roles.specs.declared.records.HostPort.{HostPort}
 use Rattle.link_rules.specs.Plans.{PlanTable}
 use Rattle.netlist.specs.Netlists.{Netlist}

@@ -1,6 +1,5 @@
 -- A host with the agents that it alone is joined to: the nets that stand between them, and what they run as.
-use Rattle.std.specs.Prelude.{◌≡◌, ℕ, ◌+◌, ◌*◌, ◌^◌, ◌<◌, ◌≤◌, List, [], ◌∷◌, map}
-use Rattle.iface_roles.specs.declared.records.AgentPort.{AgentPort}
+use Rattle.std.specs.Prelude.{◌≡◌, ℕ, ◌+◌, ◌*◌, ◌≤◌, List, [], ◌∷◌, map}
 use Rattle.iface_roles.specs.declared.records.HostPort.{HostPort}
 use Rattle.iface_roles.specs.Proper.{IsBoundedHost, IsBoundedAgent, range_of, span_of}
 use Rattle.netlist.specs.Netlists.{Netlist}
@@ -8,17 +7,16 @@ use Rattle.net_parts.specs.Nets.{IsRegister}
 use Rattle.memory_sides.specs.declared.route.Route.{Route}
 use Rattle.memory_sides.specs.Sides.{burst_width}
 use Rattle.command_nets.specs.declared.nets.CommandNets.{CommandNets}
-use Rattle.command_nets.specs.Nets.{AreCommandNets, AreAnswerNets, widths_of}
+use Rattle.command_nets.specs.Nets.{AreCommandNets, widths_of}
 use Rattle.mm_route.specs.declared.back.BackNets.{BackNets}
 use Rattle.mm_route.specs.Backward.{backward_nets}
 use Rattle.mm_route.specs.Forward.{RouteForward, forward_nets}
 use Rattle.mm_route.specs.Forward.{owns as owned_by_route}
 use Rattle.mm_route.specs.Machine.{RunsAsMachine}
 use Rattle.mm_route.specs.Shown.{widths_below}
-use Rattle.mm_host.specs.Hosts.{AreHostNets}
 use Rattle.mm_host.specs.Forms.{IsHeld, IgnoresAnswer as HostIgnoresAnswer, AreAnswersTo, RunsAsHost}
 use Rattle.mm_host.specs.Forms.{owns as owned_by_host}
-use Rattle.mm_agent.specs.Agents.{AreAgentNets, AreMadeNets, IsServed, BearsOneTag}
+use Rattle.mm_agent.specs.Agents.{AreAgentNets, AreMadeNets, IsServed}
 use Rattle.mm_agent.specs.Forms.{IgnoresAnswer as AgentIgnoresAnswer, RunsAsAgent}
 use Rattle.mm_agent.specs.Reads.{owns_reads}
 use Rattle.mm_path.specs.declared.tree.AgentEnd.{AgentEnd}

@@ -1,10 +1,14 @@
 //! What stands between the hosts and agents of a plan.
 #![tactic(auto)]
 
+mod branches;
+mod emit;
 mod laws;
 mod served;
 mod tree;
+mod trunk;
 
+pub use emit::emit_tree;
 pub use laws::{
     fit_commands_suit_agents, plans_are_apart, plans_have_their_ends, routes_are_mapped,
 };
