@@ -6,7 +6,7 @@ use Rattle.std.proofs.lemmas.Nat.{pow-add}
 use Rattle.std.proofs.Math.Pow.{pow_mono}
 use Rattle.std.proofs.Math.Nat.{mod-eq_of_lt, div-lt_iff_lt-mul, le-div_iff_mul-le, mul-div_cancel}
 use Rattle.av_base.specs.Word.{IsWord}
-use Rattle.histories.specs.History.{one_if}
+use Rattle.histories.specs.History.{is_raised, one_if}
 use Rattle.memory_sides.specs.declared.route.Route.{Route}
 use Rattle.mm_route.specs.Entries.{IsEntry, kind_of, serves, is_inside, holds}
 
@@ -94,10 +94,10 @@ and_zero (suc (suc x)) h = absurd (omega arith)
 abbrev gated : Route → ℕ → ℕ → ℕ
 gated entry write inside = if serves entry (kind_of write) then inside else 0
 
-pub if_read : (entry : Route) (write low inside held : ℕ) → entry.reads ≡ true → entry.writes ≡ false → write < 2 → inside < 2 → low ≡ 1 - write → held ≡ bit_and inside low → held ≡ gated entry write inside
-if_read entry zero low inside held r w h k l e = e ∙ ap (bit_and inside) l ∙ and_one inside k ∙ sym (ap (λ t. if t then inside else 0) r)
-if_read entry (suc zero) low inside held r w h k l e = e ∙ ap (bit_and inside) l ∙ and_zero inside k ∙ sym (ap (λ t. if t then inside else 0) w)
-if_read entry (suc (suc write)) low inside held r w h k l e = absurd (omega arith)
+pub if_read : (entry : Route) (write low inside held : ℕ) → entry.reads ≡ true → entry.writes ≡ false → write < 2 → low ≡ 1 - write → held ≡ (if is_raised low then inside else 0) → held ≡ gated entry write inside
+if_read entry zero low inside held r w h l e = e ∙ ap (λ n. if is_raised n then inside else 0) l ∙ sym (ap (λ t. if t then inside else 0) r)
+if_read entry (suc zero) low inside held r w h l e = e ∙ ap (λ n. if is_raised n then inside else 0) l ∙ sym (ap (λ t. if t then inside else 0) w)
+if_read entry (suc (suc write)) low inside held r w h l e = absurd (omega arith)
 
 pub if_written : (entry : Route) (write inside held : ℕ) → entry.reads ≡ false → entry.writes ≡ true → write < 2 → inside < 2 → held ≡ bit_and inside write → held ≡ gated entry write inside
 if_written entry zero inside held r w h k e = e ∙ and_zero inside k ∙ sym (ap (λ t. if t then inside else 0) r)

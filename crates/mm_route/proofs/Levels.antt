@@ -39,23 +39,26 @@ shown_level here gate goes (suc (suc level)) made h k l e f = absurd (omega arit
 pub owes_level : (owed owes : ℕ) → owes ≡ (if owed == 0 then 0 else 1) → owes ≡ one_if (nat_lt 0 owed)
 owes_level owed owes e = grind (arith, common_steps)
 
-raised : (t s : Bool) (write : ℕ) → write < 2 → is_raised (bit_or write (bit_or (2 ^ 1 - 1 - (if t then 0 else 1)) (if s then 1 else 0))) ≡ (is_raised write || t || s)
-raised true true zero h = refl
-raised true true (suc zero) h = refl
-raised true false zero h = refl
-raised true false (suc zero) h = refl
-raised false true zero h = refl
-raised false true (suc zero) h = refl
-raised false false zero h = refl
-raised false false (suc zero) h = refl
-raised t s (suc (suc write)) h = absurd (omega arith)
+some_raised : (t : Bool) → not (is_raised (if t then 0 else 1)) ≡ t
+some_raised true = refl
+some_raised false = refl
+
+one_raised : (t : Bool) → is_raised (if t then 1 else 0) ≡ t
+one_raised true = refl
+one_raised false = refl
+
+three_or : (r s t : Bool) → (r || (s || t)) ≡ (r || s || t)
+three_or true s t = refl
+three_or false true t = refl
+three_or false false t = refl
 
 -- the gate's nets, one after the other
-pub gate_level : (width write owed owing place owes free same reads gate : ℕ) → width ≡ 1 → write < 2 → owes ≡ (if owed == 0 then 0 else 1) → free ≡ 2 ^ width - 1 - owes →
-    same ≡ (if owing == place then 1 else 0) → reads ≡ bit_or free same → gate ≡ bit_or write reads → is_raised gate ≡ (is_raised write || nat_eq owed 0 || nat_eq owing place)
-gate_level width write owed owing place owes free same reads gate one h e f g i j =
-    ap is_raised (j ∙ ap (bit_or write) (i ∙ ap (λ n. bit_or n same) (f ∙ ap (λ n. 2 ^ n - 1 - owes) one ∙ ap (λ n. 2 ^ 1 - 1 - n) e) ∙ ap (λ n. bit_or (2 ^ 1 - 1 - (if owed == 0 then 0 else 1)) n) g))
-    ∙ raised (nat_eq owed 0) (nat_eq owing place) write h
+pub gate_level : (write owed owing place owes free same reads gate : ℕ) → owes ≡ (if owed == 0 then 0 else 1) → is_raised free ≡ not (is_raised owes) → same ≡ (if owing == place then 1 else 0) →
+    is_raised reads ≡ (is_raised free || is_raised same) → is_raised gate ≡ (is_raised write || is_raised reads) → is_raised gate ≡ (is_raised write || nat_eq owed 0 || nat_eq owing place)
+gate_level write owed owing place owes free same reads gate e f g h i =
+    let none : is_raised free ≡ nat_eq owed 0 = f ∙ ap (λ n. not (is_raised n)) e ∙ some_raised (nat_eq owed 0) in
+    let here : is_raised same ≡ nat_eq owing place = ap is_raised g ∙ one_raised (nat_eq owing place) in
+    i ∙ ap (λ t. is_raised write || t) (h ∙ ap (λ t. t || is_raised same) none ∙ ap (λ t. nat_eq owed 0 || t) here) ∙ three_or (is_raised write) (nat_eq owed 0) (nat_eq owing place)
 
 -- ---- what is taken
 
@@ -115,17 +118,6 @@ owed_uncut room owed asked words next h few enough =
     (subst (λ n. IsNextOwed room owed n words next) same h) few enough
 
 -- ---- the wait and the word above
-
-wait_so : (gate stall : ℕ) → gate < 2 → stall < 2 → is_raised (bit_or (2 ^ 1 - 1 - gate) stall) ≡ (not (is_raised gate) || is_raised stall)
-wait_so zero zero h k = refl
-wait_so zero (suc zero) h k = refl
-wait_so (suc zero) zero h k = refl
-wait_so (suc zero) (suc zero) h k = refl
-wait_so (suc (suc gate)) stall h k = absurd (omega arith)
-wait_so gate (suc (suc stall)) h k = absurd (omega arith)
-
-pub wait_level : (width gate stall shut wait : ℕ) → width ≡ 1 → gate < 2 → stall < 2 → shut ≡ 2 ^ width - 1 - gate → wait ≡ bit_or shut stall → is_raised wait ≡ (not (is_raised gate) || is_raised stall)
-wait_level width gate stall shut wait one h k e f = ap is_raised (f ∙ ap (λ n. bit_or n stall) (e ∙ ap (λ n. 2 ^ n - 1 - gate) one)) ∙ wait_so gate stall h k
 
 pub three_are : (x y z a : ℕ) → x ≡ a → y ≡ 0 → z ≡ 0 → (x ∷ y ∷ z ∷ []) ≡ (a ∷ 0 ∷ 0 ∷ [])
 three_are x y z a e f g = cc

@@ -1,8 +1,8 @@
 //! The decoder: which entry of the map holds the address of a command.
 
-ghost use Rattle.std.specs.Prelude.{◌≡◌, ◌+◌, ◌-◌, ◌*◌, ◌/◌, ◌^◌, ◌<◌, ◌≤◌, ◌∷◌, length, if◌then◌else◌, IfOk};
+ghost use Rattle.std.specs.Prelude.{◌≡◌, ◌+◌, ◌-◌, ◌*◌, ◌/◌, ◌%◌, ◌^◌, ◌<◌, ◌≤◌, ◌∷◌, length, if◌then◌else◌, IfOk};
 ghost use Rattle.av_base.specs.Word.{word};
-ghost use Rattle.histories.specs.History.{one_if};
+ghost use Rattle.histories.specs.History.{is_raised, one_if};
 ghost use Rattle.netlist.specs.Runs.{Always};
 ghost use Rattle.net_parts.specs.Nets.{IsBit, IsNetOfWidth};
 ghost use Rattle.net_parts.specs.Growth.{AddsNets};
@@ -10,6 +10,7 @@ ghost use Rattle.mm_route.specs.Entries.{IsEntry, AreEntries, is_inside, serves,
 ghost use Rattle.mm_route.specs.Decoder.{AreAskedNets, held_in, hits_in};
 
 use av_base::Val;
+use command_nets::both;
 use memory_sides::Route;
 use net_parts::level;
 use netlist::{Builder, Net, NetFault};
@@ -35,6 +36,19 @@ fn high_base(entry: &Route, width: u8) -> Val
     Val::new(width - entry.bits, u128::from(entry.base) >> entry.bits).unwrap()
 }
 
+/// The high bits of an address, those that name a footprint of 2 to the `bits` bytes.
+#[tactic(auto, using(net_parts::specs::Laws::growing))]
+fn high_bits(builder: &mut Builder, address: Net, width: u8, bits: u8) -> Result<Net, NetFault>
+    requires address { IsNetOfWidth builder.old address width }
+    requires some { bits < width }
+    ensures net { IfOk result (λ high. IsNetOfWidth builder.new high (width - bits)) }
+    ensures value { IfOk result (λ high. Always builder.new (λ cycle. cycle.net high.number ≡ cycle.net address.number / 2 ^ bits % 2 ^ (width - 1 - bits + 1))) }
+    ensures adds { AddsNets 1 builder.old builder.new }
+    ensures full { result ≡ Err NetFault.TooManyNets → 2 ^ 20 < length builder.old.lines + 1 }
+{
+    builder.slice(address, width - 1, bits)
+}
+
 /// Whether the footprint of an entry holds the address.
 #[tactic(auto, using(net_parts::specs::Laws::growing))]
 fn is_inside(builder: &mut Builder, address: Net, width: u8, entry: &Route) -> Result<Net, NetFault>
@@ -49,9 +63,22 @@ fn is_inside(builder: &mut Builder, address: Net, width: u8, entry: &Route) -> R
     if entry.bits >= width {
         return level(builder, true);
     }
-    let high = builder.slice(address, width - 1, entry.bits)?;
+    let high = high_bits(builder, address, width, entry.bits)?;
     let base = builder.constant(high_base(entry, width))?;
     builder.eq(high, base)
+}
+
+/// The bit where the command is no write, and low else.
+#[tactic(auto, using(net_parts::specs::Laws::growing))]
+fn where_read(builder: &mut Builder, asked: &AskedNets, inside: Net) -> Result<Net, NetFault>
+    requires asked { AreAskedNets builder.old asked.now }
+    requires inside { IsBit builder.old inside }
+    ensures net { IfOk result (λ held. IsBit builder.new held) }
+    ensures value { IfOk result (λ held. Always builder.new (λ cycle. cycle.net held.number ≡ (if is_raised (cycle.net asked.now.no_write.number) then cycle.net inside.number else 0))) }
+    ensures adds { AddsNets 1 builder.old builder.new }
+    ensures full { result ≡ Err NetFault.TooManyNets → 2 ^ 20 < length builder.old.lines + 1 }
+{
+    both(builder, asked.no_write, inside)
 }
 
 /// The bit where the agent of the entry has the command's kind, and low else.
@@ -73,7 +100,7 @@ fn of_kind(
         if entry.writes {
             return Ok(inside);
         }
-        return builder.and(inside, asked.no_write);
+        return where_read(builder, asked, inside);
     }
     if entry.writes {
         return builder.and(inside, asked.write);

@@ -1,7 +1,7 @@
 //! The place of the command above, and the gate that a read passes.
 
-ghost use Rattle.std.specs.Prelude.{◌≡◌, ◌+◌, ◌*◌, ◌^◌, ◌<◌, ◌≤◌, nat_lt, length, IfOk};
-ghost use Rattle.histories.specs.History.{one_if};
+ghost use Rattle.std.specs.Prelude.{◌≡◌, ◌+◌, ◌*◌, ◌^◌, ◌<◌, ◌≤◌, ◌||◌, ◌==◌, if◌then◌else◌, nat_lt, length, IfOk};
+ghost use Rattle.histories.specs.History.{is_raised, one_if};
 ghost use Rattle.netlist.specs.Runs.{Always};
 ghost use Rattle.net_parts.specs.Nets.{IsBit, IsNetOfWidth};
 ghost use Rattle.net_parts.specs.Growth.{AddsNets};
@@ -13,7 +13,7 @@ ghost use Rattle.mm_route.specs.Forward.{place_in, IsGate};
 
 use crate::decoder::{AskedNets, decode};
 use crate::registers::RegisterNets;
-use command_nets::CommandNets;
+use command_nets::{CommandNets, either, turned};
 use memory_sides::Route;
 use net_parts::choose;
 use netlist::{Builder, Net, NetFault};
@@ -94,6 +94,38 @@ pub(crate) fn place_now(
     }
 }
 
+/// Whether this very place owes the words.
+#[tactic(auto, using(net_parts::specs::Laws::growing))]
+fn owes_here(
+    builder: &mut Builder,
+    registers: &RegisterNets,
+    place: Net,
+    count: u8,
+    room_bits: u8,
+) -> Result<Net, NetFault>
+    requires registers { AreRegisterNets builder.old registers.now count room_bits }
+    requires place { IsNetOfWidth builder.old place count }
+    ensures net { IfOk result (λ same. IsBit builder.new same) }
+    ensures value { IfOk result (λ same. Always builder.new (λ cycle. cycle.net same.number ≡ (if cycle.net registers.now.owing.number == cycle.net place.number then 1 else 0))) }
+    ensures adds { AddsNets 1 builder.old builder.new }
+    ensures full { result ≡ Err NetFault.TooManyNets → 2 ^ 20 < length builder.old.lines + 1 }
+{
+    builder.eq(registers.owing, place)
+}
+
+/// The limiter: a read goes on where no word is owed, or where the same place owes them.
+#[tactic(auto, using(net_parts::specs::Laws::growing))]
+fn may_read(builder: &mut Builder, free: Net, same: Net) -> Result<Net, NetFault>
+    requires free { IsBit builder.old free }
+    requires same { IsBit builder.old same }
+    ensures net { IfOk result (λ reads. IsBit builder.new reads) }
+    ensures value { IfOk result (λ reads. Always builder.new (λ cycle. is_raised (cycle.net reads.number) ≡ (is_raised (cycle.net free.number) || is_raised (cycle.net same.number)))) }
+    ensures adds { AddsNets 1 builder.old builder.new }
+    ensures full { result ≡ Err NetFault.TooManyNets → 2 ^ 20 < length builder.old.lines + 1 }
+{
+    either(builder, free, same)
+}
+
 /// A write goes on; a read does where no word is owed, or this very place owes them.
 #[tactic(auto, using(net_parts::specs::Laws::growing))]
 pub(crate) fn open_gate(
@@ -115,9 +147,9 @@ pub(crate) fn open_gate(
     ensures full { result ≡ Err NetFault.TooManyNets → 2 ^ 20 < length builder.old.lines + 5 }
 {
     let owes = builder.any(registers.owed)?;
-    let free = builder.not(owes)?;
-    let same = builder.eq(registers.owing, place)?;
-    let reads = builder.or(free, same)?;
-    let gate = builder.or(write, reads)?;
+    let free = turned(builder, owes)?;
+    let same = owes_here(builder, registers, place, count, room_bits)?;
+    let reads = may_read(builder, free, same)?;
+    let gate = either(builder, write, reads)?;
     Ok(GateNets { owes, gate })
 }

@@ -3,6 +3,7 @@
 
 mod back;
 mod decoder;
+mod default_agent;
 mod gate;
 mod laws;
 mod next;

@@ -1,27 +1,30 @@
 //! The two calls of a route.
 
-ghost use Rattle.std.specs.Prelude.{◌≡◌, ℕ, ◌+◌, ◌*◌, ◌^◌, ◌<◌, ◌≤◌, false, List, length, is_some, IfOk, OnOk};
+ghost use Rattle.std.specs.Prelude.{◌≡◌, ℕ, ◌+◌, ◌*◌, ◌^◌, ◌<◌, ◌≤◌, false, ◌||◌, List, length, is_some, IfOk, OnOk};
+ghost use Rattle.histories.specs.History.{is_raised};
 ghost use Rattle.netlist.specs.Netlists.{IsWaiting};
 ghost use Rattle.netlist.specs.Runs.{Always};
 ghost use Rattle.net_parts.specs.Nets.{IsBit};
+ghost use Rattle.net_parts.specs.Groups.{values_of};
 ghost use Rattle.net_parts.specs.Growth.{AddsNets, GrowsBy, StillWait, WaitsBeside, WaitsWithout, AreMadeBetween};
 ghost use Rattle.command_nets.specs.Nets.{AreCommandNets, AreAnswerNets};
 ghost use Rattle.mm_route.specs.Entries.{AreEntries};
 ghost use Rattle.mm_route.specs.Shown.{AreShownNets, AreCommandsOf, widths_below};
 ghost use Rattle.mm_route.specs.Forward.{owns, forward_nets, RouteKeeps, RouteForward};
-ghost use Rattle.mm_route.specs.Backward.{AreBackNets, WaitsAbove, AnswersAbove, RouteBackward, backward_nets};
+ghost use Rattle.mm_route.specs.Backward.{AreBackNets, answer_group, picked, answers_in, WaitsAbove, AnswersAbove, RouteBackward, backward_nets};
 ghost use Rattle.mm_route.specs.Machine.{RunsAsMachine};
 ghost use Rattle.memory_sides.specs.declared.route.Route.{Route};
 ghost use Rattle.command_nets.specs.declared.nets.CommandNets.{CommandNets};
 
 use crate::back::{BackNets, pick_answer, pick_wait};
+use crate::default_agent::{default_wait, default_word};
 use crate::gate::{open_gate, place_now};
 use crate::next::step_registers;
 use crate::registers::{RegisterNets, make_registers};
 use crate::shown::{ShownNets, show_all};
-use command_nets::{AnswerNets, CommandNets};
+use command_nets::{AnswerNets, CommandNets, either, turned};
 use memory_sides::Route;
-use net_parts::{constant, level};
+use net_parts::constant;
 use netlist::{Builder, Net, NetFault};
 use std::alloc::Global;
 
@@ -95,7 +98,20 @@ pub fn emit_route(
     ))
 }
 
-/// What shows the wait above: a command waits where the gate is shut, or where its place waits.
+/// A command waits where the gate is shut, or where its place stalls.
+#[tactic(auto, using(net_parts::specs::Laws::growing))]
+fn shut_or_stalled(builder: &mut Builder, shut: Net, stall: Net) -> Result<Net, NetFault>
+    requires shut { IsBit builder.old shut }
+    requires stall { IsBit builder.old stall }
+    ensures net { IfOk result (λ wait. IsBit builder.new wait) }
+    ensures value { IfOk result (λ wait. Always builder.new (λ cycle. is_raised (cycle.net wait.number) ≡ (is_raised (cycle.net shut.number) || is_raised (cycle.net stall.number)))) }
+    ensures adds { AddsNets 1 builder.old builder.new }
+    ensures full { result ≡ Err NetFault.TooManyNets → 2 ^ 20 < length builder.old.lines + 1 }
+{
+    either(builder, shut, stall)
+}
+
+/// What shows the wait above.
 #[tactic(auto, using(net_parts::specs::Laws::growing))]
 fn wait_above(
     builder: &mut Builder,
@@ -112,10 +128,34 @@ fn wait_above(
     ensures adds { AddsNets (3 + 2 * length backs.now) builder.old builder.new }
     ensures full { result ≡ Err NetFault.TooManyNets → 2 ^ 20 < length builder.old.lines + (3 + 2 * length backs.now) }
 {
-    let low = level(builder, false)?;
-    let stall = pick_wait(builder, shown.place, count, 0, backs, low, word_bits)?;
-    let shut = builder.not(shown.gate)?;
-    builder.or(shut, stall)
+    let none = default_wait(builder)?;
+    let stall = pick_wait(builder, shown.place, count, 0, backs, none, word_bits)?;
+    let shut = turned(builder, shown.gate)?;
+    shut_or_stalled(builder, shut, stall)
+}
+
+/// The words of the place that owes, and these where no entry's does.
+#[tactic(auto, using(net_parts::specs::Laws::growing))]
+fn owed_answer(
+    builder: &mut Builder,
+    held: &HeldRoute,
+    count: u8,
+    room_bits: u8,
+    backs: &[BackNets],
+    none: &AnswerNets,
+    word_bits: u8,
+) -> Result<AnswerNets, NetFault>
+    requires held { RouteKeeps held.now count room_bits builder.old }
+    requires count { length backs.now ≡ count }
+    requires backs { AreBackNets builder.old word_bits backs.now }
+    requires none { AreAnswerNets builder.old none.now word_bits }
+    ensures nets { IfOk result (λ made. AreAnswerNets builder.new made word_bits) }
+    ensures value { IfOk result (λ made. Always builder.new (λ cycle. values_of cycle (answer_group made) ≡ picked 0 (cycle.net held.now.registers.owing.number) (answers_in cycle backs.now) (values_of cycle (answer_group none.now)))) }
+    ensures adds { AddsNets (4 * length backs.now) builder.old builder.new }
+    ensures full { result ≡ Err NetFault.TooManyNets → 2 ^ 20 < length builder.old.lines + 4 * length backs.now }
+{
+    let owing = held.registers.owing;
+    pick_answer(builder, owing, count, 0, backs, none, word_bits)
 }
 
 /// The words above: those of the place that owes. The default agent gives a word of 0 in each cycle in which it owes one.
@@ -138,22 +178,14 @@ fn answer_above(
     ensures adds { AddsNets (2 + 4 * length backs.now) builder.old builder.new }
     ensures full { result ≡ Err NetFault.TooManyNets → 2 ^ 20 < length builder.old.lines + (2 + 4 * length backs.now) }
 {
-    let word = constant(builder, word_bits, 0)?;
+    let word = default_word(builder, word_bits)?;
     let code = constant(builder, 2, 0)?;
     let none = AnswerNets {
         valid: held.owes,
         word,
         code,
     };
-    pick_answer(
-        builder,
-        held.registers.owing,
-        count,
-        0,
-        backs,
-        &none,
-        word_bits,
-    )
+    owed_answer(builder, held, count, room_bits, backs, &none, word_bits)
 }
 
 /// The wait and the words above, from those of each entry in the order of the entries, and the next nets of the registers.

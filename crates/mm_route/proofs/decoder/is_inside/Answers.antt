@@ -19,7 +19,7 @@ returns-clause-value c =
     (λ inside value cycle v3. (
     let v2 = c.eq.ensures.extends.valuations cycle v3 in
     let v1 = c.in_ok-base.ensures.extends.valuations cycle v2 in
-    let v0 = c.in_ok-high.ensures.extends.valuations cycle v1 in
-    high_bits_tell c.args.entry.now c.args.width _ _ _ _ c.requires.entry c.if-entry-width.false (width_fits _ _ _ c.requires.address cycle v0) (c.in_ok-high.ensures.value cycle v1).1
+    let v0 = c.high_bits.ensures.adds.grows.extends.valuations cycle v1 in
+    high_bits_tell c.args.entry.now c.args.width _ _ _ _ c.requires.entry c.if-entry-width.false (width_fits _ _ _ c.requires.address cycle v0) (c.in_ok-high.ensures.value cycle v1)
     ((c.in_ok-base.ensures.value cycle v2).1 ∙ ap (λ (w : Word). w.bits) c.high_base.ensures) (value cycle v3).1))
     c.eq.ensures.value
