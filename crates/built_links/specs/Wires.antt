@@ -1,5 +1,5 @@
--- Which connections are built so far: each stream, and the only one of a host to an agent, if the agent fills the host's range. Which streams are wires.
-use Rattle.std.specs.Prelude.{ℕ, ◌+◌, Bool, true, false, not, ◌&&◌, ◌==◌, nat_le, length, take, count_by, Option, slice_get}
+-- Which connections are built so far: each stream, and those of hosts to agents that no other host is joined to, without adapters. Which streams are wires.
+use Rattle.std.specs.Prelude.{ℕ, Bool, true, false, not, ◌&&◌, ◌||◌, ◌==◌, nat_le, List, length, filter, take, count_by, Option, slice_get}
 use Rattle.std.specs.List.{position_from}
 use Rattle.std.specs.Option.{option_map_or}
 use Rattle.iface_roles.specs.declared.records.HostPort.{HostPort}
@@ -7,9 +7,11 @@ use Rattle.iface_roles.specs.declared.records.AgentPort.{AgentPort}
 use Rattle.iface_roles.specs.declared.records.Finished.{Finished}
 use Rattle.iface_roles.specs.declared.records.Finished.TheVariants.{Host, Agent, Source, Sink}
 use Rattle.system_tables.specs.declared.tables.Connection.{Connection}
+use Rattle.system_tables.specs.declared.tables.EndId.{EndId}
 use Rattle.system_tables.specs.Tables.{SystemTable}
 use Rattle.address_map.specs.Footprints.{known_at}
-use Rattle.address_map.specs.Maps.{mm_connections}
+use Rattle.address_map.specs.Ends.{is_same_end}
+use Rattle.address_map.specs.Maps.{is_mm}
 use Rattle.link_rules.specs.Links.{streams_of}
 use Rattle.link_rules.specs.declared.plan_links.StreamLink.{StreamLink}
 use Rattle.stream_runs.specs.Ends.{Declared}
@@ -35,31 +37,30 @@ abbrev pub is_wire_stream : Declared → Declared → ℕ → Bool
 is_wire_stream source sink fifo =
     has_same_beats source sink && nat_le source.max_channel sink.max_channel && has_plain_ready source sink && (fifo == 0)
 
--- a host of 32-bit words that counts bytes and answers by `readdatavalid`, without bursts
-abbrev pub is_wire_host : HostPort → Bool
-is_wire_host host =
-    (host.word_bytes == 4) && host.byte_units && host.reads && host.writes && host.waitrequest && host.readdatavalid && (host.burst_bits == 0) && not host.response
+-- the connection joins a host to this agent
+abbrev pub leads_to : EndId → Connection → Bool
+leads_to agent connection = is_mm connection.kind && is_same_end connection.end agent
 
--- an agent of 32-bit words that counts words and answers by `readdatavalid`, without bursts; it bears at most 16 unanswered reads
-abbrev pub is_wire_agent : AgentPort → Bool
-is_wire_agent agent =
-    (agent.word_bytes == 4) && not agent.byte_units && agent.reads && agent.writes && agent.waitrequest && agent.readdatavalid && (agent.burst_bits == 0)
-    && not agent.response && nat_le 1 agent.address_bits && nat_le agent.address_bits 30 && nat_le agent.pending 16
+abbrev pub connections_to : SystemTable → EndId → List Connection
+connections_to system agent = filter (leads_to agent) system.connections
 
--- the agent fills the host's whole range, and both have byte enables or neither has
-abbrev pub fills_range : HostPort → AgentPort → Bool
-fills_range host agent = (host.address_bits == agent.address_bits + 2) && both_or_neither host.enables agent.enables
+-- no other connection leads to its agent
+abbrev pub is_only_of_agent : SystemTable → Connection → Bool
+is_only_of_agent system connection = length (connections_to system connection.end) == 1
 
-abbrev pub is_wire_memory : HostPort → AgentPort → Bool
-is_wire_memory host agent = is_wire_host host && is_wire_agent agent && fills_range host agent
+-- each beat of the host is one of the agent: words of one width, no bursts at either end, and byte enables at the agent where the host has them
+abbrev pub is_plain_pair : HostPort → AgentPort → Bool
+is_plain_pair host agent =
+    (host.word_bytes == agent.word_bytes) && (host.burst_bits == 0) && (agent.burst_bits == 0) && (agent.enables || not host.enables)
 
--- it is the only connection of a host to an agent, its base is 0, and there are no pipeline stages
-abbrev pub is_only : SystemTable → Connection → Bool
-is_only system connection = (length (mm_connections system) == 1) && (connection.base == 0) && (system.stages == 0)
+-- the agent says by `waitrequest` when it takes a command, and by `readdatavalid` when it gives a word
+abbrev pub is_plain_agent : AgentPort → Bool
+is_plain_agent agent = agent.waitrequest && (agent.readdatavalid || not agent.reads)
 
 abbrev pub is_built_as : SystemTable → Connection → Finished → Finished → Bool
 is_built_as system connection (Source source) (Sink sink) = true
-is_built_as system connection (Host host) (Agent agent) = is_only system connection && is_wire_memory host agent
+is_built_as system connection (Host host) (Agent agent) =
+    is_only_of_agent system connection && is_plain_pair host agent && is_plain_agent agent && (system.stages == 0)
 is_built_as system connection _ _ = false
 
 -- the connection is one of those that are built

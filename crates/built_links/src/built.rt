@@ -1,12 +1,11 @@
 ghost use Rattle.std.specs.Prelude.{◌≡◌, length};
 ghost use Rattle.system_tables.specs.Tables.{IsLogic};
-ghost use Rattle.address_map.specs.Maps.{is_mm, mm_connections};
 ghost use Rattle.st_timing.specs.Ends.{declared};
-ghost use Rattle.built_links.specs.Wires.{has_same_beats, has_plain_ready, is_wire_stream, is_wire_host, is_wire_agent, fills_range, is_wire_memory, is_only, is_built, pending_of};
+ghost use Rattle.built_links.specs.Wires.{has_same_beats, has_plain_ready, is_wire_stream, leads_to, connections_to, is_only_of_agent, is_plain_pair, is_plain_agent, is_built, pending_of};
 
 use iface_roles::{AgentPort, Finished, HostPort, Kind, SinkPort, SourcePort};
 use link_rules::Plan;
-use system_tables::Connection;
+use system_tables::{Connection, EndId};
 
 fn has_same_beats(source: &SourcePort, sink: &SinkPort) -> bool
     ensures { result ≡ has_same_beats (declared source.now) (declared sink.now) }
@@ -37,73 +36,47 @@ pub fn is_wire_stream(source: &SourcePort, sink: &SinkPort, fifo: u8) -> bool
         && fifo == 0
 }
 
-fn is_wire_host(host: &HostPort) -> bool
-    ensures { result ≡ is_wire_host host.now }
+fn leads_to(agent: EndId, connection: &Connection) -> bool
+    ensures { result ≡ leads_to agent connection.now }
 {
-    host.word_bytes == 4
-        && host.byte_units
-        && host.reads
-        && host.writes
-        && host.waitrequest
-        && host.readdatavalid
-        && host.burst_bits == 0
-        && !host.response
+    matches!(connection.kind, Kind::Mm) && connection.end == agent
 }
 
-fn is_wire_agent(agent: &AgentPort) -> bool
-    ensures { result ≡ is_wire_agent agent.now }
-{
-    agent.word_bytes == 4
-        && !agent.byte_units
-        && agent.reads
-        && agent.writes
-        && agent.waitrequest
-        && agent.readdatavalid
-        && agent.burst_bits == 0
-        && !agent.response
-        && 1 <= agent.address_bits
-        && agent.address_bits <= 30
-        && agent.pending <= 16
-}
-
-fn fills_range(host: &HostPort, agent: &AgentPort) -> bool
-    ensures { result ≡ fills_range host.now agent.now }
-{
-    u16::from(host.address_bits) == u16::from(agent.address_bits) + 2
-        && host.enables == agent.enables
-}
-
-/// Whether an agent of 32-bit words fills the whole range of a host of 32-bit words.
-fn is_wire_memory(host: &HostPort, agent: &AgentPort) -> bool
-    ensures { result ≡ is_wire_memory host.now agent.now }
-{
-    is_wire_host(host) && is_wire_agent(agent) && fills_range(host, agent)
-}
-
-fn is_mm(connection: &Connection) -> bool
-    ensures { result ≡ is_mm connection.now.kind }
-{
-    matches!(connection.kind, Kind::Mm)
-}
-
-/// How many connections of hosts to agents there are.
-fn mm_count(plan: &Plan) -> usize
-    ensures { result ≡ length (mm_connections plan.now.system) }
+/// How many hosts are joined to an agent.
+fn host_count(plan: &Plan, agent: EndId) -> usize
+    ensures { result ≡ length (connections_to plan.now.system agent) }
 {
     let mut count = 0;
     for connection in plan.connections() {
-        if is_mm(connection) {
+        if leads_to(agent, connection) {
             count += 1;
         }
     }
     count
 }
 
-/// Whether it is the only connection of a host to an agent, with base 0 and without pipeline stages.
-fn is_only(plan: &Plan, connection: Connection) -> bool
-    ensures { result ≡ is_only plan.now.system connection }
+/// Whether no other connection leads to its agent.
+fn is_only_of_agent(plan: &Plan, connection: Connection) -> bool
+    ensures { result ≡ is_only_of_agent plan.now.system connection }
 {
-    mm_count(plan) == 1 && connection.base == 0 && plan.stages() == 0
+    host_count(plan, connection.end) == 1
+}
+
+/// Whether each beat of the host is one of the agent.
+fn is_plain_pair(host: &HostPort, agent: &AgentPort) -> bool
+    ensures { result ≡ is_plain_pair host.now agent.now }
+{
+    host.word_bytes == agent.word_bytes
+        && host.burst_bits == 0
+        && agent.burst_bits == 0
+        && (agent.enables || !host.enables)
+}
+
+/// Whether the agent says when it takes a command, and when it gives a word.
+fn is_plain_agent(agent: &AgentPort) -> bool
+    ensures { result ≡ is_plain_agent agent.now }
+{
+    agent.waitrequest && (agent.readdatavalid || !agent.reads)
 }
 
 /// Whether the connection is one of those that are built so far.
@@ -116,7 +89,10 @@ fn is_built(plan: &Plan, connection: Connection) -> bool
     match (start, end) {
         (Finished::Source(_), Finished::Sink(_)) => true,
         (Finished::Host(host), Finished::Agent(agent)) => {
-            is_only(plan, connection) && is_wire_memory(&host, &agent)
+            is_only_of_agent(plan, connection)
+                && is_plain_pair(&host, &agent)
+                && is_plain_agent(&agent)
+                && plan.stages() == 0
         }
         _ => false,
     }
