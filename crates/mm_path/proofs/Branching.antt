@@ -18,13 +18,11 @@ use Rattle.mm_route.specs.Backward.{AreBackNets}
 use Rattle.mm_agent.specs.Agents.{agent_lasts}
 use Rattle.mm_path.specs.declared.tree.AgentEnd.{AgentEnd}
 use Rattle.mm_path.specs.declared.tree.Branch.{Branch}
+use Rattle.mm_path.specs.Lasting.{end_lasts}
 use Rattle.mm_path.specs.Trees.{IsEndFor, AreEndsFor, AreBranches, end_of, commands_of, backs_of}
 use Rattle.mm_path.specs.Branches.{Suits, AreBranchesMade}
 
 -- ---- in a longer netlist
-
-end_lasts : (old new : Netlist) (port : HostPort) (route : Route) (end : AgentEnd) → IsEndFor old port route end → Extends old new → IsEndFor new port route end
-end_lasts old new port route end h e = record { number = h.number; bounded = h.bounded; served = h.served; same_words = h.same_words; span = h.span; nets = agent_lasts old new end.port end.nets h.nets e }
 
 pub ends_last : (old new : Netlist) (port : HostPort) (routes : List Route) (ends : List AgentEnd) → AreEndsFor old port routes ends → Extends old new → AreEndsFor new port routes ends
 ends_last old new port [] [] h e = tt

@@ -7,7 +7,7 @@ use Rattle.std.proofs.lemmas.Option.{same_Some, none-some}
 use Rattle.iface_roles.specs.declared.records.HostPort.{HostPort}
 use Rattle.iface_roles.specs.declared.records.Finished.{Finished}
 use Rattle.iface_roles.specs.declared.records.Finished.TheVariants.{Host, Agent}
-use Rattle.iface_roles.specs.Proper.{range_of}
+use Rattle.iface_roles.specs.Proper.{range_of, span_of}
 use Rattle.system_tables.specs.declared.tables.EndId.{EndId}
 use Rattle.system_tables.specs.Tables.{SystemTable}
 use Rattle.address_map.specs.declared.footprint.Footprint.{Footprint}
@@ -76,8 +76,8 @@ host_below system (end ∷ ends) (suc k) port is = let below = host_below system
 
 module _ (plan : PlanTable) (is_plan : IsPlan plan) (numbered : (k : ℕ) (link : MemoryLink) → slice_get (memory_links plan.system) k ≡ Some link → IsMemoryLink plan.system link) where
   -- by rule A3 a link ends within the range of its host
-  link_within : (k : ℕ) (link : MemoryLink) → slice_get (memory_links plan.system) k ≡ Some link → link.base < range_of link.host
-  link_within k link at =
+  link_ends : (k : ℕ) (link : MemoryLink) → slice_get (memory_links plan.system) k ≡ Some link → (link.base + footprint_bytes link.host link.agent ≤ range_of link.host) × (1 ≤ footprint_bytes link.host link.agent)
+  link_ends k link at =
       let l = numbered k link at in
       let c = l.connection in
       let f : Footprint = record { host = c.start; range = range_of link.host; base = c.base; bytes = footprint_bytes link.host link.agent; reads = link.agent.reads; writes = link.agent.writes } in
@@ -90,7 +90,14 @@ module _ (plan : PlanTable) (is_plan : IsPlan plan) (numbered : (k : ℕ) (link 
       let inside : f.base + f.bytes ≤ f.range = ltb-false f.range (f.base + f.bytes) within in
       let some : 1 ≤ f.bytes = (is_plan.maps.placed.fit link.connection f there).some in
       let base = l.base in
-      omega (arith, inside, some, base)
+      (omega (arith, inside, base), some)
+
+  link_within : (k : ℕ) (link : MemoryLink) → slice_get (memory_links plan.system) k ≡ Some link → link.base < range_of link.host
+  link_within k link at = let ends = link_ends k link at in omega (arith, ends.0, ends.1)
+
+  -- and so does its agent's span
+  pub spans_end : (k : ℕ) (link : MemoryLink) → slice_get (memory_links plan.system) k ≡ Some link → span_of link.agent ≤ range_of link.host
+  spans_end k link at = let ends = link_ends k link at in omega (arith, ends.0)
 
   module _ (host : ℕ) (port : HostPort) (is : IsHostOf plan host port) (width : ℕ) (reach : 2 ^ width ≡ range_of port) where
     route_within : (k : ℕ) (route : Route) → slice_get (routes_of plan.system host) k ≡ Some route → route.base < 2 ^ width

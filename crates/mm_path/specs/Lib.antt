@@ -3,3 +3,4 @@ pub mod Served
 pub mod Trees
 pub mod Trunks
 pub mod Branches
+pub mod Lasting

@@ -1,9 +1,9 @@
 //! What every plan gives the parts between its hosts and agents. The functions do nothing; their contracts are the laws.
 
-ghost use Rattle.std.specs.Prelude.{◌≡◌, ◌^◌, ◌<◌, ℕ, Some, IsTrue, length, slice_get};
+ghost use Rattle.std.specs.Prelude.{◌≡◌, ◌^◌, ◌<◌, ◌≤◌, ℕ, Some, IsTrue, length, slice_get};
 ghost use Rattle.iface_roles.specs.declared.records.AgentPort.{AgentPort};
 ghost use Rattle.iface_roles.specs.declared.records.HostPort.{HostPort};
-ghost use Rattle.iface_roles.specs.Proper.{range_of};
+ghost use Rattle.iface_roles.specs.Proper.{range_of, span_of};
 ghost use Rattle.address_map.specs.Maps.{hosts_of, agents_of};
 ghost use Rattle.link_rules.specs.declared.plan_links.MemoryLink.{MemoryLink};
 ghost use Rattle.link_rules.specs.PlanLinks.{memory_links};
@@ -37,6 +37,13 @@ pub fn routes_are_mapped()
 {
     plans_are_memory_plans();
     routes_are_the_map();
+    memory_links_are_numbered();
+}
+
+/// The span of an agent is within the range of each host that is joined to it.
+pub fn spans_fit_ranges()
+    ensures { (plan : PlanTable) → IsPlan plan → (k : ℕ) (link : MemoryLink) → slice_get (memory_links plan.system) k ≡ Some link → span_of link.agent ≤ range_of link.host }
+{
     memory_links_are_numbered();
 }
 
