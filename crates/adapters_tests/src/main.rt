@@ -8,7 +8,6 @@ mod lines;
 mod paths;
 mod stages;
 mod timings;
-mod wires;
 
 use channels::push_channels;
 use formats::push_format;
@@ -18,7 +17,6 @@ use stages::push_named_stage;
 use std::alloc::Global;
 use std::io;
 use timings::push_timing;
-use wires::push_wire;
 
 /// Appends what is said of a row.
 fn push_answer(alloc: Global, text: &mut String, row: &str) -> Result<(), NetFault> {
@@ -28,8 +26,7 @@ fn push_answer(alloc: Global, text: &mut String, row: &str) -> Result<(), NetFau
         "timing" => push_timing(alloc, text, words),
         "format" => push_format(alloc, text, words),
         "channels" => push_channels(alloc, text, words),
-        "path" => push_path(alloc, text, words),
-        _ => push_wire(alloc, text, words),
+        _ => push_path(alloc, text, words),
     }
 }
 

@@ -52,7 +52,7 @@ pub record IsOnlyAnswer (task : Task) (files : List (List ℕ)) (answer : Exit) 
 
 -- the text that a task writes of a plan
 abbrev pub IsTextOf : Task → PlanTable → List ℕ → Type 0
-IsTextOf Generate plan text = (netlist : Netlist) × IsInterconnect plan.system netlist × (text ≡ text_of netlist)
+IsTextOf Generate plan text = (netlist : Netlist) × IsInterconnect plan netlist × (text ≡ text_of netlist)
 IsTextOf Check plan text = text ≡ map_text plan
 
 -- the files state a plan, none of whose connections is in the task's way, and this is its text

@@ -65,7 +65,7 @@ fn load_files<S: Shelf>(alloc: Global, shelf: &mut S, words: usize) -> Result<Li
 /// The Verilog text of the interconnect of a plan.
 fn interconnect_text(alloc: Global, plan: &Plan) -> Result<Bytes, NoMemory>
     requires { pending_of plan.now.system ≡ None }
-    ensures { IfOk result (λ text. (netlist : Netlist) × IsInterconnect plan.now.system netlist × (text ≡ text_of netlist)) }
+    ensures { IfOk result (λ text. (netlist : Netlist) × IsInterconnect plan.now netlist × (text ≡ text_of netlist)) }
 {
     let built = build(alloc, plan)?;
     write_module(alloc, &built.module)

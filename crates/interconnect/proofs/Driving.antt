@@ -1,10 +1,9 @@
--- What drives the outputs of a connection, one after the other, and what stays as a netlist grows.
+-- What drives the ports of an end, one after the other, and what stays as a netlist grows.
 use Rattle.std.proofs.Common.{◌≡◌, ◌≢◌, ◌⊎◌, inl, inr, ℕ, zero, suc, ◌+◌, ◌<◌, ◌≤◌, Bool, true, false, List, [], ◌∷◌, slice_get, Option, Some, None, refl, sym, ap, subst, ◌∙◌, arith}
-use Rattle.std.specs.Prelude.{IfSome, option_map, if◌then◌else◌}
+use Rattle.std.specs.Prelude.{IfSome, option_map}
 use Rattle.std.proofs.lemmas.Bool.{false≢true}
 use Rattle.std.proofs.lemmas.Option.{slice_get-map}
 use Rattle.system_tables.specs.declared.tables.EndId.{EndId}
-use Rattle.system_tables.specs.declared.tables.Connection.{Connection}
 use Rattle.system_tables.specs.Tables.{SystemTable}
 use Rattle.netlist.specs.declared.line.Line.{Line}
 use Rattle.netlist.specs.declared.line.Memory.{Memory}
@@ -18,10 +17,10 @@ use Rattle.net_parts.specs.Nets.{IsNetOfWidth}
 use Rattle.port_tables.specs.declared.roles.PortRole.{PortRole}
 use Rattle.port_tables.specs.Lists.{Among, among_at, at_among}
 use Rattle.port_tables.specs.Ends.{IsAnEnd}
-use Rattle.port_tables.specs.Ports.{is_forward, ends_of, ports_of}
+use Rattle.port_tables.specs.Ports.{ends_of, ports_of}
 use Rattle.port_tables.specs.PortMaps.{IsPortIf, HasKnownPorts, port_at}
 use Rattle.interconnect.specs.declared.outputs.Output.{Output}
-use Rattle.interconnect.specs.Outputs.{IsInput, input_at, output_of, outputs_by, output_end, output_at, HaveOwnRoles, HasSameNets, MayDrive, MayDriveAll, IsDrivenAs, AreDriven, AreDrivenBelow, IsNoOutputBelow}
+use Rattle.interconnect.specs.Outputs.{IsInput, input_at, output_of, outputs_by, HaveOwnRoles, HasSameNets, MayDrive, MayDriveAt, IsDrivenAs, AreDrivenAt, AreDrivenBelow, IsNoPortOf, IsNoOutputBelow}
 use Rattle.interconnect.specs.Streams.{low_line}
 
 -- ---- numbers
@@ -32,7 +31,7 @@ nat_cases zero (suc b) = inl (omega arith)
 nat_cases (suc a) zero = inr (omega arith)
 nat_cases (suc a) (suc b) = elim (nat_cases a b) [ inl h ↦ inl (omega arith) | inr h ↦ inr (omega arith) ]
 
--- ---- the ends of a connection
+-- ---- ends
 
 pub is_an_end : (system : SystemTable) (end : EndId) → Among end (ends_of system) → IsAnEnd system end
 is_an_end system end a = let at = at_among (ends_of system) end a in (at.place, at.is)
@@ -40,26 +39,10 @@ is_an_end system end a = let at = at_among (ends_of system) end a in (at.place, 
 pub is_among : (system : SystemTable) (end : EndId) → IsAnEnd system end → Among end (ends_of system)
 is_among system end h = among_at (ends_of system) h.0 end h.1
 
-pub output_among : (system : SystemTable) (connection : Connection) (r : PortRole) → Among connection.start (ends_of system) → Among connection.end (ends_of system) → Among (output_end connection r) (ends_of system)
-output_among system connection r start end = by_way (is_forward r)
-  where
-    by_way : (b : Bool) → Among (if b then connection.end else connection.start) (ends_of system)
-    by_way true = end
-    by_way false = start
-
-pub output_an_end : (system : SystemTable) (connection : Connection) (r : PortRole) → IsAnEnd system connection.start → IsAnEnd system connection.end → IsAnEnd system (output_end connection r)
-output_an_end system connection r start end =
-    is_an_end system (output_end connection r) (output_among system connection r (is_among system connection.start start) (is_among system connection.end end))
-
--- the end that was found for an output
-pub end_there : (system : SystemTable) (connection : Connection) (r : PortRole) (end : EndId) → IsAnEnd system connection.start → IsAnEnd system connection.end → end ≡ output_end connection r → IsAnEnd system end
-end_there system connection r end from to e = let is = output_an_end system connection r from to in (is.0, is.1 ∙ ap Some (sym e))
-
--- the ends of a connection whose outputs are driven
-pub record AreEnds (system : SystemTable) (connection : Connection) : Type 0 where
-  pub ports : HasKnownPorts system
-  pub start : Among connection.start (ends_of system)
-  pub end : Among connection.end (ends_of system)
+-- a port of one end is none of another's
+pub other_port : (system : SystemTable) (a b : EndId) (r : PortRole) (k : ℕ) → HasKnownPorts system → Among a (ends_of system) → Among b (ends_of system) → (a ≡ b → ⊥) → port_at system b r ≡ Some k
+    → IsNoPortOf system a k
+other_port system a b r k h mine other apart there s here = apart (h.one_role a b s r k mine other here there).end
 
 -- ---- inputs
 
@@ -141,29 +124,28 @@ each_among P (y ∷ xs) x h (inl e) = subst P e h.0
 each_among P (y ∷ xs) x h (inr a) = each_among P xs x h.1 a
 
 -- each of these nets may drive its output
-pub may_by : (system : SystemTable) (connection : Connection) (net : PortRole → NetValue) (roles : List PortRole) (netlist : Netlist)
-    → ((n : ℕ) (r : PortRole) → slice_get roles n ≡ Some r → IfSome (output_at system connection r) (MayDrive netlist (net r))) → MayDriveAll system connection (outputs_by net roles) netlist
-may_by system connection net roles netlist h n o e =
+pub may_by : (system : SystemTable) (end : EndId) (net : PortRole → NetValue) (roles : List PortRole) (netlist : Netlist)
+    → ((n : ℕ) (r : PortRole) → slice_get roles n ≡ Some r → IfSome (port_at system end r) (MayDrive netlist (net r))) → MayDriveAt system end (outputs_by net roles) netlist
+may_by system end net roles netlist h n o e =
     let there = role_at net roles n o e in
     let other : slice_get (outputs_by net roles) n ≡ Some (output_of o.role (net o.role)) =
     slice_get-map (λ (r : PortRole). output_of r (net r)) roles n ∙ ap (option_map (λ (r : PortRole). output_of r (net r))) there in
     let is : output_of o.role (net o.role) ≡ o = cc in
-    subst (λ (o : Output). IfSome (output_at system connection o.role) (MayDrive netlist o.net)) is (h n o.role there)
+    subst (λ (o : Output). IfSome (port_at system end o.role) (MayDrive netlist o.net)) is (h n o.role there)
 
 -- the output of a role is driven by its net
-pub role_driven : (system : SystemTable) (connection : Connection) (net : PortRole → NetValue) (roles : List PortRole) (netlist : Netlist) → AreDriven system connection (outputs_by net roles) netlist
-    → (n : ℕ) (r : PortRole) → slice_get roles n ≡ Some r → IfSome (output_at system connection r) (λ port. driver_of netlist port ≡ Some (net r).number)
-role_driven system connection net roles netlist h n r e =
+pub role_driven : (system : SystemTable) (end : EndId) (net : PortRole → NetValue) (roles : List PortRole) (netlist : Netlist) → AreDrivenAt system end (outputs_by net roles) netlist
+    → (n : ℕ) (r : PortRole) → slice_get roles n ≡ Some r → IfSome (port_at system end r) (λ port. driver_of netlist port ≡ Some (net r).number)
+role_driven system end net roles netlist h n r e =
     h n (output_of r (net r)) (slice_get-map (λ (r : PortRole). output_of r (net r)) roles n ∙ ap (option_map (λ (r : PortRole). output_of r (net r))) e)
 
 -- ---- one output after the other
 
 -- a port that is this output is none of the earlier ones
-no_earlier : (system : SystemTable) (connection : Connection) (outputs : List Output) (i k : ℕ) (o : Output) → AreEnds system connection → HaveOwnRoles outputs → slice_get outputs i ≡ Some o
-    → output_at system connection o.role ≡ Some k → IsNoOutputBelow i system connection outputs k
-no_earlier system connection outputs i k o h own e here n s below f there =
-    let same = (h.ports.one_role (output_end connection s.role) (output_end connection o.role) s.role o.role k
-    (output_among system connection s.role h.start h.end) (output_among system connection o.role h.start h.end) there here).role in
+no_earlier : (system : SystemTable) (end : EndId) (outputs : List Output) (i k : ℕ) (o : Output) → HasKnownPorts system → Among end (ends_of system) → HaveOwnRoles outputs → slice_get outputs i ≡ Some o
+    → port_at system end o.role ≡ Some k → IsNoOutputBelow i system end outputs k
+no_earlier system end outputs i k o h among own e here n s below f there =
+    let same = (h.one_role end end s.role o.role k among among there here).role in
     let places = own n i s o f e same in
     absurd (omega (arith, places, below))
 
@@ -171,7 +153,7 @@ same_net : (old new : Netlist) (net : NetValue) → HasSameNets old new → IsNe
 same_net old new net same is = subst (λ (ls : List Line). option_map (λ (l : Line). l.width) (slice_get ls net.number) ≡ Some net.width) (sym same.lines) is
 
 -- a net that could drive its output at first still can
-still_can : (old now : Netlist) (net : NetValue) (o : Option ℕ) → HasSameNets old now → ((k : ℕ) → o ≡ Some k → driver_of now k ≡ driver_of old k) → IfSome o (MayDrive old net) → IfSome o (MayDrive now net)
+pub still_can : (old now : Netlist) (net : NetValue) (o : Option ℕ) → HasSameNets old now → ((k : ℕ) → o ≡ Some k → driver_of now k ≡ driver_of old k) → IfSome o (MayDrive old net) → IfSome o (MayDrive now net)
 still_can old now net None same kept can = tt
 still_can old now net (Some k) same kept can =
     record {
@@ -181,16 +163,16 @@ still_can old now net (Some k) same kept can =
     }
 
 -- how far the outputs are driven
-pub record AreDrivenTo (count : ℕ) (system : SystemTable) (connection : Connection) (outputs : List Output) (old now : Netlist) : Type 0 where
+pub record AreDrivenTo (count : ℕ) (system : SystemTable) (end : EndId) (outputs : List Output) (old now : Netlist) : Type 0 where
   pub same : HasSameNets old now
   pub extends : Extends old now
-  pub driven : AreDrivenBelow count system connection outputs now
-  pub others : (k : ℕ) → IsNoOutputBelow count system connection outputs k → driver_of now k ≡ driver_of old k
+  pub driven : AreDrivenBelow count system end outputs now
+  pub others : (k : ℕ) → IsNoOutputBelow count system end outputs k → driver_of now k ≡ driver_of old k
 
-pub may_drive : (system : SystemTable) (connection : Connection) (outputs : List Output) (old now : Netlist) (i : ℕ) (o : Output) → AreEnds system connection → HaveOwnRoles outputs
-    → slice_get outputs i ≡ Some o → MayDriveAll system connection outputs old → AreDrivenTo i system connection outputs old now → IfSome (output_at system connection o.role) (MayDrive now o.net)
-may_drive system connection outputs old now i o h own e can to =
-    still_can old now o.net (output_at system connection o.role) to.same (λ k here. to.others k (no_earlier system connection outputs i k o h own e here)) (can i o e)
+pub may_drive : (system : SystemTable) (end : EndId) (outputs : List Output) (old now : Netlist) (i : ℕ) (o : Output) → HasKnownPorts system → Among end (ends_of system) → HaveOwnRoles outputs
+    → slice_get outputs i ≡ Some o → MayDriveAt system end outputs old → AreDrivenTo i system end outputs old now → IfSome (port_at system end o.role) (MayDrive now o.net)
+may_drive system end outputs old now i o h among own e can to =
+    still_can old now o.net (port_at system end o.role) to.same (λ k here. to.others k (no_earlier system end outputs i k o h among own e here)) (can i o e)
 
 -- one output is driven
 pub record IsDrivenStep (o : Option ℕ) (net : NetValue) (old new : Netlist) : Type 0 where
@@ -198,6 +180,9 @@ pub record IsDrivenStep (o : Option ℕ) (net : NetValue) (old new : Netlist) : 
   pub extends : Extends old new
   pub driver : IfSome o (λ k. driver_of new k ≡ Some net.number)
   pub others : (k : ℕ) → o ≢ Some k → driver_of new k ≡ driver_of old k
+
+pub same-refl : (a : Netlist) → HasSameNets a a
+same-refl a = record { name = refl; ports = refl; lines = refl; memories = refl }
 
 pub same-trans : (a b c : Netlist) → HasSameNets a b → HasSameNets b c → HasSameNets a c
 same-trans a b c one other =
@@ -240,18 +225,18 @@ still_driven : (o : Option ℕ) (net : NetValue) (old new : Netlist) → Extends
 still_driven None net old new h is = tt
 still_driven (Some k) net old new h is = h.keeps.drivers k net.number is
 
-pub one_more_driven : KeepsOn → (system : SystemTable) (connection : Connection) (outputs : List Output) (old now new : Netlist) (i : ℕ) (o : Output) → slice_get outputs i ≡ Some o
-    → AreDrivenTo i system connection outputs old now → IsDrivenStep (output_at system connection o.role) o.net now new → AreDrivenTo (i + 1) system connection outputs old new
-one_more_driven law system connection outputs old now new i o e to step =
+pub one_more_driven : KeepsOn → (system : SystemTable) (end : EndId) (outputs : List Output) (old now new : Netlist) (i : ℕ) (o : Output) → slice_get outputs i ≡ Some o
+    → AreDrivenTo i system end outputs old now → IsDrivenStep (port_at system end o.role) o.net now new → AreDrivenTo (i + 1) system end outputs old new
+one_more_driven law system end outputs old now new i o e to step =
     record {
       same = same-trans old now new to.same step.same;
       extends = extends_twice old now new to.extends step.extends;
       driven = λ n s below f. elim (nat_cases n i) [
-        | inl earlier ↦ still_driven (output_at system connection s.role) s.net now new step.extends (to.driven n s earlier f)
+        | inl earlier ↦ still_driven (port_at system end s.role) s.net now new step.extends (to.driven n s earlier f)
         | inr later ↦ (let same : n ≡ i = omega arith in
             let there : slice_get outputs i ≡ Some s = subst (λ (m : ℕ). slice_get outputs m ≡ Some s) same f in
             let one : o ≡ s = cc in
-            subst (λ (s : Output). IsDrivenAs system connection s new) one step.driver)
+            subst (λ (s : Output). IsDrivenAs system end s new) one step.driver)
       ];
       others = λ k none. step.others k (λ here. none i o (omega arith) e here) ∙ to.others k (λ n s below f there. none n s (omega (arith, below)) f there);
     }
@@ -269,11 +254,22 @@ step_as old new o p net e same extends driver others =
       others = λ k none. others k (λ is. none (sym e ∙ is));
     }
 
+-- nets drive the ports of these roles at an end, and no other port changed
+pub record IsDrivenOver (system : SystemTable) (end : EndId) (outputs : List Output) (old new : Netlist) : Type 0 where
+  pub same : HasSameNets old new
+  pub extends : Extends old new
+  pub driven : AreDrivenAt system end outputs new
+  pub others : (k : ℕ) → IsNoPortOf system end k → driver_of new k ≡ driver_of old k
+
+pub undriven_where : (netlist : Netlist) (o : Option ℕ) → ((k : ℕ) → o ≡ Some k → driver_of netlist k ≡ None) → IfSome o (λ k. driver_of netlist k ≡ None)
+undriven_where netlist None h = tt
+undriven_where netlist (Some k) h = h k refl
+
 -- ---- what stays
 
 -- all outputs stay driven in a longer netlist
-pub stay_driven : (system : SystemTable) (connection : Connection) (outputs : List Output) (old new : Netlist) → Extends old new → AreDriven system connection outputs old → AreDriven system connection outputs new
-stay_driven system connection outputs old new h driven n o e = still_driven (output_at system connection o.role) o.net old new h (driven n o e)
+pub stay_driven : (system : SystemTable) (end : EndId) (outputs : List Output) (old new : Netlist) → Extends old new → AreDrivenAt system end outputs old → AreDrivenAt system end outputs new
+stay_driven system end outputs old new h driven n o e = still_driven (port_at system end o.role) o.net old new h (driven n o e)
 
 -- an output that isn't driven yet stays so
 pub stays_undriven : (old new : Netlist) (o : Option ℕ) → ((k : ℕ) → o ≡ Some k → driver_of new k ≡ driver_of old k) → IfSome o (λ k. driver_of old k ≡ None) → IfSome o (λ k. driver_of new k ≡ None)

@@ -9,7 +9,9 @@ use Rattle.system_tables.specs.declared.tables.EndId.{EndId}
 use Rattle.system_tables.specs.Tables.{SystemTable}
 use Rattle.address_map.specs.Footprints.{known_at}
 use Rattle.link_rules.specs.declared.plan_links.StreamLink.{StreamLink}
+use Rattle.address_map.specs.Maps.{hosts_of}
 use Rattle.link_rules.specs.Links.{streams_of}
+use Rattle.link_rules.specs.Plans.{PlanTable}
 use Rattle.link_rules.specs.PlanLinks.{IsStreamLink}
 use Rattle.netlist.specs.declared.line.PortLine.{PortLine}
 use Rattle.netlist.specs.Nets.{NetValue, net_of}
@@ -28,7 +30,7 @@ use Rattle.port_tables.specs.PortMaps.{HasKnownPorts, port_at, IsPortIf}
 use Rattle.built_links.specs.Wires.{is_wire_at, wires_before}
 use Rattle.interconnect.specs.Streams.{low_line}
 use Rattle.interconnect.specs.Outputs.{IsInputIf, input_at}
-use Rattle.interconnect.specs.Joins.{AreInputs, wire_nets, low_at, AddsStream, IsJoinedUpTo}
+use Rattle.interconnect.specs.Joins.{AreInputs, wire_nets, low_at, AddsStream, HasLows, IsJoinedUpTo}
 use Rattle.port_tables.specs.EndFacts.{known_is}
 use Rattle.interconnect.proofs.Forms.{wire_is}
 use Rattle.port_tables.specs.Numbering.{plan_end}
@@ -223,12 +225,14 @@ ready_if system end sink netlist net h read =
     let here = ready_input system end sink h in
     bit_if (ports_of system) netlist sink.ready (port_at system end role.Ready) net (ready_port system end sink h) (read.net_is 1 here) (read.is 1 here)
 
-pub path_room : (system : SystemTable) (number : ℕ) (netlist : Netlist) → HasKnownPorts system → number < length (streams_of system) → IsJoinedUpTo system number netlist → length netlist.lines + most_nets ≤ 2 ^ 20
-path_room system number netlist h inside upto =
+pub path_room : (plan : PlanTable) (number : ℕ) (netlist : Netlist) → HasKnownPorts plan.system → number < length (streams_of plan.system) → IsJoinedUpTo plan (length (hosts_of plan.system)) number netlist
+    → length netlist.lines + most_nets ≤ 2 ^ 20
+path_room plan number netlist h inside upto =
     let few = upto.few in
     let inputs = h.few_inputs in
+    let hosts = h.planned.few_hosts in
     let streams = h.planned.few_streams in
-    omega (arith, few, inputs, streams, inside)
+    omega (arith, few, inputs, hosts, streams, inside)
 
 -- ---- what was added
 
@@ -240,16 +244,16 @@ low_known system number place low false e f = absurd (let none : Some low ≡ No
 
 pub adds_wire : WiresAreServed → (system : SystemTable) (number : ℕ) (link : StreamLink) (low : NetValue) (netlist : Netlist) (from : SourceNets) (ready : Option NetValue) (made : PathNets) → HasKnownPorts system
     → IsStreamLink system number link → IsBoundedStream link.source → AreInputs system link.source_end (declared link.source) from → AreSourceNets netlist (declared link.source) from
-    → IsRead system netlist link.sink_end role.Ready ready → Some low ≡ low_at system number link.connection → IsJoinedUpTo system number netlist → made ≡ wire_nets from ready low
+    → IsRead system netlist link.sink_end role.Ready ready → Some low ≡ low_at system number link.connection → HasLows system netlist → made ≡ wire_nets from ready low
     → AddsStream system link (Some low) netlist netlist made
-adds_wire law system number link low netlist from ready made h at bounded inputs nets read low_is upto is =
+adds_wire law system number link low netlist from ready made h at bounded inputs nets read low_is lows is =
     let source = declared link.source in
     let sink = declared link.sink in
     let end = sink_of system number link h at in
     let known = low_known system number link.connection low (is_wire_at system link.connection) refl low_is in
     let wire = wire_is source sink link.fifo (sym (wire_test system number link at) ∙ known.0) in
     let there = ready_if system link.sink_end link.sink netlist ready end read in
-    let line = upto.lows (wires_before system number) (wire_below system number link.connection at.place_is known.0) in
+    let line = lows (wires_before system number) (wire_below system number link.connection at.place_is known.0) in
     let number_is : low.number ≡ input_count (ports_of system) + wires_before system number = ap (λ (n : NetValue). n.number) known.1 in
     record {
       from = from;

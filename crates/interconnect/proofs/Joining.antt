@@ -1,6 +1,6 @@
 -- One more stream joined: what the steps of building ask for and leave.
-use Rattle.std.proofs.Common.{◌≡◌, ◌⊎◌, inl, inr, ℕ, zero, suc, ◌+◌, ◌*◌, ◌<◌, Bool, true, false, List, [], ◌∷◌, length, slice_get, Option, Some, None, refl, sym, ap, subst, ◌∙◌, arith}
-use Rattle.std.specs.Prelude.{nat_lt, if◌then◌else◌}
+use Rattle.std.proofs.Common.{◌≡◌, ◌⊎◌, inl, inr, ℕ, zero, suc, ◌+◌, ◌*◌, ◌<◌, ◌≤◌, Bool, true, false, List, [], ◌∷◌, length, slice_get, Option, Some, None, refl, sym, ap, subst, ◌∙◌, arith}
+use Rattle.std.specs.Prelude.{IfSome, nat_lt, if◌then◌else◌}
 use Rattle.std.proofs.lemmas.Bool.Decides.{Decides-ltb}
 use Rattle.iface_roles.specs.declared.records.Finished.TheVariants.{Source, Sink}
 use Rattle.iface_roles.specs.declared.records.StreamPort.{StreamPort}
@@ -8,15 +8,17 @@ use Rattle.system_tables.specs.declared.tables.Connection.{Connection}
 use Rattle.system_tables.specs.declared.tables.EndId.{EndId}
 use Rattle.system_tables.specs.Tables.{SystemTable}
 use Rattle.address_map.specs.Footprints.{known_at}
+use Rattle.address_map.specs.Maps.{hosts_of, agents_of}
 use Rattle.link_rules.specs.declared.plan_links.StreamLink.{StreamLink}
 use Rattle.link_rules.specs.Links.{streams_of}
+use Rattle.link_rules.specs.Plans.{PlanTable}
 use Rattle.link_rules.specs.PlanLinks.{IsStreamLink}
 use Rattle.netlist.specs.declared.line.Line.{Line}
 use Rattle.netlist.specs.Nets.{NetValue}
 use Rattle.netlist.specs.Netlists.{Netlist, driver_of, input_count}
 use Rattle.netlist.specs.Longer.{Extends}
 use Rattle.stream_runs.specs.Ends.{Declared}
-use Rattle.net_parts.specs.Laws.{extends_twice}
+use Rattle.net_parts.specs.Laws.{extends_twice, net_lasts}
 use Rattle.net_parts.specs.Nets.{IsNetOfWidth, IsBit}
 use Rattle.st_timing.specs.Ends.{declared}
 use Rattle.stream_path.specs.Ends.{IsNetWhere, ArePathNets}
@@ -25,18 +27,19 @@ use Rattle.stream_path.specs.declared.ends.PathNets.{PathNets}
 use Rattle.port_tables.specs.declared.roles.PortRole.{PortRole}
 use Rattle.port_tables.specs.declared.roles.PortRole.TheVariants as role
 use Rattle.port_tables.specs.Ports.{bits_if, port_of, is_forward, ports_of}
-use Rattle.port_tables.specs.PortMaps.{IsPortIf, HasKnownPorts}
+use Rattle.port_tables.specs.PortMaps.{IsPortIf, HasKnownPorts, port_at}
 use Rattle.port_tables.specs.Ends.{IsStreamPlace}
 use Rattle.port_tables.specs.EndFacts.{IsPlanned}
 use Rattle.port_tables.specs.Numbering.{stream_number, distinct_streams}
 use Rattle.port_tables.specs.Lists.{among_at, Distinct}
-use Rattle.interconnect.specs.declared.outputs.Output.{Output}
 use Rattle.interconnect.specs.Streams.{IsStream}
-use Rattle.interconnect.specs.Outputs.{input_at, output_end, output_at, HaveOwnRoles, HasSameNets, MayDriveAll, AreDriven, IsNoOutput, AreUndriven}
-use Rattle.interconnect.specs.Joins.{output_roles, net_for, path_outputs, low_at, AreInputs, AddsStream, IsJoinedStream, IsJoinedUpTo}
-use Rattle.interconnect.proofs.Driving.{nat_cases, output_among, can_drive, own_roles, each_at, may_by, KeepsOn, stay_driven, stays_undriven, same_drivers, low_stays, waiting_as, unwritten_as}
-use Rattle.interconnect.proofs.StreamEnds.{start_among, finish_among, stream_ends_among, connection_of, link_place}
-use Rattle.interconnect.proofs.MemoryJoins.{memory_stays}
+use Rattle.interconnect.specs.declared.outputs.Output.{Output}
+use Rattle.interconnect.specs.Outputs.{input_at, HaveOwnRoles, HasSameNets, MayDrive, MayDriveAt, AreDrivenAt, IsNoPortOf, AreUndriven}
+use Rattle.interconnect.specs.Joins.{source_roles, sink_roles, net_for, source_outputs, sink_outputs, low_at, AreInputs, AddsStream, IsJoinedStream, IsFree, IsJoinedUpTo}
+use Rattle.interconnect.proofs.Driving.{nat_cases, can_drive, own_roles, each_at, may_by, KeepsOn, IsDrivenOver, undriven_where, other_port, same-trans, stay_driven, stays_undriven, same_drivers, low_stays, waiting_as, unwritten_as}
+use Rattle.interconnect.proofs.StreamEnds.{start_among, finish_among, stream_ends_among, link_place}
+use Rattle.interconnect.proofs.Apart.{sort, IsEndOf, host_end, agent_end, other_sort}
+use Rattle.interconnect.proofs.HostJoins.{host_stays}
 
 -- ---- outputs
 
@@ -51,6 +54,14 @@ output_width source sink role.StartOfPacket = bits_if sink.packets 1
 output_width source sink role.EndOfPacket = bits_if sink.packets 1
 output_width source sink role.Empty = sink.empty_bits
 output_width source sink _ = 1
+
+-- the roles at both ends
+abbrev pub output_roles : List PortRole
+output_roles = role.Ready ∷ sink_roles
+
+-- the end at which an output of a role stands
+abbrev pub output_at : SystemTable → Connection → PortRole → Option ℕ
+output_at system connection r = port_at system (if is_forward r then connection.end else connection.start) r
 
 -- what holds of the role of each output
 each_output : (P : PortRole → Type 0) → P role.Ready → P role.Valid → P role.Data → P role.Channel → P role.Error → P role.StartOfPacket → P role.EndOfPacket → P role.Empty → P role.Dropped
@@ -102,40 +113,56 @@ widths_are netlist source sink made nets =
     (net_there netlist made.beat.empty sink.empty_bits nets.empty)
     (λ some. nets.dropped)
 
-pub may_drive_all : (system : SystemTable) (number : ℕ) (connection : Connection) (netlist : Netlist) (made : PathNets) → HasKnownPorts system → (at : IsStreamPlace system number connection) → netlist.ports ≡ ports_of system
-    → ArePathNets netlist (declared at.sink_port) made → AreUndriven system connection netlist → MayDriveAll system connection (path_outputs made) netlist
-may_drive_all system number connection netlist made h at ports nets undriven =
-    may_by system connection (net_for made) output_roles netlist
-    (λ n r e. can_drive netlist (ports_of system) (output_width (declared at.source_port) (declared at.sink_port) r) (net_for made r) (output_at system connection r) ports
-    (outputs_are system number connection h at n r e) (widths_are netlist (declared at.source_port) (declared at.sink_port) made nets n r e) (undriven r))
+-- so they may drive these outputs, where nothing does
+pub source_may : (system : SystemTable) (number : ℕ) (connection : Connection) (netlist : Netlist) (made : PathNets) → HasKnownPorts system → (at : IsStreamPlace system number connection) → netlist.ports ≡ ports_of system
+    → ArePathNets netlist (declared at.sink_port) made → AreUndriven system connection.start netlist → MayDriveAt system connection.start (source_outputs made) netlist
+source_may system number connection netlist made h at ports nets undriven =
+    may_by system connection.start (net_for made) source_roles netlist
+    (each_source (λ r. IfSome (port_at system connection.start r) (MayDrive netlist (net_for made r)))
+    (can_drive netlist (ports_of system) (output_width source sink role.Ready) (net_for made role.Ready) (port_at system connection.start role.Ready) ports
+    (outputs_are system number connection h at 0 role.Ready refl) (widths_are netlist source sink made nets 0 role.Ready refl) (undriven role.Ready)))
+  where
+    source : Declared
+    source = declared at.source_port
 
--- the place of a role among the outputs
+    sink : Declared
+    sink = declared at.sink_port
+
+    each_source : (P : PortRole → Type 0) → P role.Ready → (n : ℕ) (r : PortRole) → slice_get source_roles n ≡ Some r → P r
+    each_source P a n r is = each_at P source_roles n r (a, tt) is
+
+pub sink_may : (system : SystemTable) (number : ℕ) (connection : Connection) (netlist : Netlist) (made : PathNets) → HasKnownPorts system → (at : IsStreamPlace system number connection) → netlist.ports ≡ ports_of system
+    → ArePathNets netlist (declared at.sink_port) made → AreUndriven system connection.end netlist → MayDriveAt system connection.end (sink_outputs made) netlist
+sink_may system number connection netlist made h at ports nets undriven =
+    may_by system connection.end (net_for made) sink_roles netlist
+    (λ n r is. each_at (λ (r : PortRole). IfSome (port_at system connection.end r) (MayDrive netlist (net_for made r))) sink_roles n r
+    (can 0 role.Valid refl refl, (can 1 role.Data refl refl, (can 2 role.Channel refl refl, (can 3 role.Error refl refl, (can 4 role.StartOfPacket refl refl, (can 5 role.EndOfPacket refl refl, (can 6 role.Empty refl refl, (can 7 role.Dropped refl refl, tt)))))))) is)
+  where
+    can : (n : ℕ) (r : PortRole) → slice_get sink_roles n ≡ Some r → is_forward r ≡ true → IfSome (port_at system connection.end r) (MayDrive netlist (net_for made r))
+    can n r is forward =
+        let here : output_at system connection r ≡ port_at system connection.end r = ap (λ (b : Bool). port_at system (if b then connection.end else connection.start) r) forward in
+        can_drive netlist (ports_of system) (output_width (declared at.source_port) (declared at.sink_port) r) (net_for made r) (port_at system connection.end r) ports
+        (subst (IsPortIf (ports_of system) true (output_width (declared at.source_port) (declared at.sink_port) r)) here (outputs_are system number connection h at (suc n) r is))
+        (widths_are netlist (declared at.source_port) (declared at.sink_port) made nets (suc n) r is) (undriven r)
+
+-- the place of a role among the outputs of a sink
 abbrev place_of : PortRole → ℕ
-place_of role.Ready = 0
-place_of role.Valid = 1
-place_of role.Data = 2
-place_of role.Channel = 3
-place_of role.Error = 4
-place_of role.StartOfPacket = 5
-place_of role.EndOfPacket = 6
-place_of role.Empty = 7
-place_of _ = 8
+place_of role.Valid = 0
+place_of role.Data = 1
+place_of role.Channel = 2
+place_of role.Error = 3
+place_of role.StartOfPacket = 4
+place_of role.EndOfPacket = 5
+place_of role.Empty = 6
+place_of _ = 7
 
-pub path_roles : (made : PathNets) → HaveOwnRoles (path_outputs made)
-path_roles made = own_roles (net_for made) place_of output_roles (refl, (refl, (refl, (refl, (refl, (refl, (refl, (refl, (refl, tt)))))))))
+pub source_own : (made : PathNets) → HaveOwnRoles (source_outputs made)
+source_own made = own_roles (net_for made) (λ r. 0) source_roles (refl, tt)
+
+pub sink_own : (made : PathNets) → HaveOwnRoles (sink_outputs made)
+sink_own made = own_roles (net_for made) place_of sink_roles (refl, (refl, (refl, (refl, (refl, (refl, (refl, (refl, tt))))))))
 
 -- ---- one stream more
-
--- the steps: what stands between the ends, and its nets drive the outputs
-pub record AreSteps (system : SystemTable) (number : ℕ) (link : StreamLink) (connection : Connection) (old middle new : Netlist) (made : PathNets) : Type 0 where
-  pub ports : HasKnownPorts system
-  pub is : IsStreamLink system number link
-  pub connection_is : slice_get system.connections link.connection ≡ Some connection
-  pub adds : AddsStream system link (low_at system number link.connection) old middle made
-  pub same : HasSameNets middle new
-  pub extends : Extends middle new
-  pub driven : AreDriven system connection (path_outputs made) new
-  pub others : (k : ℕ) → IsNoOutput system connection k → driver_of new k ≡ driver_of middle k
 
 -- a stream stays joined in a longer netlist
 pub stays_joined : KeepsOn → (system : SystemTable) (old new : Netlist) (number place : ℕ) (connection : Connection) (source : StreamPort) (sink : StreamPort) → Extends old new
@@ -148,7 +175,8 @@ stays_joined law system old new number place connection source sink h j =
       from_are = j.from_are;
       ready_is = j.ready_is;
       serves = λ longer extends run cycles is legal. j.serves longer (extends_twice old new longer h extends) run cycles is legal;
-      driven = stay_driven system connection (path_outputs j.made) old new h j.driven;
+      source_driven = stay_driven system connection.start (source_outputs j.made) old new h j.source_driven;
+      sink_driven = stay_driven system connection.end (sink_outputs j.made) old new h j.sink_driven;
       wire = j.wire;
     }
 
@@ -175,24 +203,59 @@ one_stream_by system m n a b source sink h at is ends =
     ] in
     one_place (streams_of system) m n at.place (distinct_streams system) at.place_is (is.place_is ∙ ap Some (sym places))
 
-shared_end : (a b : Connection) (r : PortRole) → output_end a r ≡ output_end b r → (a.start ≡ b.start) ⊎ (a.end ≡ b.end)
-shared_end a b r = by_way (is_forward r)
-  where
-    by_way : (forward : Bool) → (if forward then a.end else a.start) ≡ (if forward then b.end else b.start) → (a.start ≡ b.start) ⊎ (a.end ≡ b.end)
-    by_way true e = inr e
-    by_way false e = inl e
+source_end : (system : SystemTable) (n : ℕ) (connection : Connection) (source : StreamPort) (sink : StreamPort) → IsStream system n connection source sink → IsEndOf system connection.start 2
+source_end system n connection source sink is = record { among = (stream_ends_among system n connection source sink is).0; sort_is = ap sort is.source_is }
 
--- an output of another stream is none of this one's
-other_output : (system : SystemTable) (m n k : ℕ) (a b : Connection) (source : StreamPort) (sink : StreamPort) (r : PortRole) → HasKnownPorts system → IsStreamPlace system m a → IsStream system n b source sink → m < n
-    → output_at system b r ≡ Some k → IsNoOutput system a k
-other_output system m n k a b source sink r h at is less here s there =
-    let ends = stream_ends_among system n b source sink is in
-    let mine = output_among system a s (start_among system m a at) (finish_among system m a at) in
-    let other = output_among system b r ends.0 ends.1 in
-    let one = h.one_role (output_end a s) (output_end b r) s r k mine other there here in
-    let shared : output_end a r ≡ output_end b r = ap (output_end a) (sym one.role) ∙ one.end in
-    let numbers = one_stream_by system m n a b source sink h.planned at is (shared_end a b r shared) in
-    absurd (omega (arith, numbers, less))
+sink_end : (system : SystemTable) (n : ℕ) (connection : Connection) (source : StreamPort) (sink : StreamPort) → IsStream system n connection source sink → IsEndOf system connection.end 3
+sink_end system n connection source sink is = record { among = (stream_ends_among system n connection source sink is).1; sort_is = ap sort is.sink_is }
+
+-- an end of a stream that isn't joined yet
+pub record IsOfStream (system : SystemTable) (number : ℕ) (connection : Connection) (end : EndId) (n : ℕ) : Type 0 where
+  pub place : IsStreamPlace system number connection
+  pub is_end : IsEndOf system end n
+  pub either : ((end ≡ connection.start) × (n ≡ 2)) ⊎ ((end ≡ connection.end) × (n ≡ 3))
+
+pub of_source : (system : SystemTable) (number : ℕ) (connection : Connection) → IsStreamPlace system number connection → IsOfStream system number connection connection.start 2
+of_source system number connection at = record {
+  place = at;
+  is_end = record { among = start_among system number connection at; sort_is = ap sort at.source_is };
+  either = inl (refl, refl);
+}
+
+pub of_sink : (system : SystemTable) (number : ℕ) (connection : Connection) → IsStreamPlace system number connection → IsOfStream system number connection connection.end 3
+of_sink system number connection at = record {
+  place = at;
+  is_end = record { among = finish_among system number connection at; sort_is = ap sort at.sink_is };
+  either = inr (refl, refl);
+}
+
+-- no port of it is driven yet
+pub stream_undriven : (plan : PlanTable) (hosts number : ℕ) (connection : Connection) (end : EndId) (n : ℕ) (netlist : Netlist) → HasKnownPorts plan.system → IsJoinedUpTo plan hosts number netlist
+    → IsOfStream plan.system number connection end n → AreUndriven plan.system end netlist
+stream_undriven plan hosts number connection end n netlist h upto is r =
+    undriven_where netlist (port_at plan.system end r) (λ k here. upto.rest k (record {
+      of_hosts = λ x other below e. other_sort plan.system other end 0 n k r h (host_end plan.system other h.planned (among_at (hosts_of plan.system) x other e)) is.is_end (λ same. (let big = at_least in omega (arith, same, big))) here;
+      of_agents = λ x link other at below e. other_sort plan.system other end 1 n k r h (agent_end plan.system other h.planned (among_at (agents_of plan.system) link.agent_number other e)) is.is_end (λ same. (let big = at_least in omega (arith, same, big))) here;
+      of_sources = λ m a source sink below at. elim is.either [
+        | inl mine ↦ other_port plan.system a.start end r k h (stream_ends_among plan.system m a source sink at).0 is.is_end.among
+            (λ same. (let one = one_stream_by plan.system number m connection a source sink h.planned is.place at (inl (sym mine.0 ∙ sym same)) in omega (arith, one, below))) here
+        | inr mine ↦ other_sort plan.system a.start end 2 n k r h (source_end plan.system m a source sink at) is.is_end (λ same. (let big = mine.1 in omega (arith, same, big))) here
+      ];
+      of_sinks = λ m a source sink below at. elim is.either [
+        | inl mine ↦ other_sort plan.system a.end end 3 n k r h (sink_end plan.system m a source sink at) is.is_end (λ same. (let big = mine.1 in omega (arith, same, big))) here
+        | inr mine ↦ other_port plan.system a.end end r k h (stream_ends_among plan.system m a source sink at).1 is.is_end.among
+            (λ same. (let one = one_stream_by plan.system number m connection a source sink h.planned is.place at (inr (sym mine.0 ∙ sym same)) in omega (arith, one, below))) here
+      ];
+    }))
+  where
+    at_least : 2 ≤ n
+    at_least = elim is.either [ inl mine ↦ (let e = mine.1 in omega (arith, e)) | inr mine ↦ (let e = mine.1 in omega (arith, e)) ]
+
+-- the ends of a stream are apart
+pub ends_apart : (system : SystemTable) (number : ℕ) (connection : Connection) → IsStreamPlace system number connection → connection.start ≡ connection.end → ⊥
+ends_apart system number connection at same =
+    let both : 2 ≡ 3 = sym (ap sort at.source_is) ∙ ap (λ (e : EndId). sort (known_at system e)) same ∙ ap sort at.sink_is in
+    omega (arith, both)
 
 -- the stream of a number is one
 record IsSameStream (system : SystemTable) (number place : ℕ) (a b : Connection) (source : StreamPort) (sink : StreamPort) (at : IsStreamPlace system number b) : Type 0 where
@@ -215,20 +278,49 @@ one_stream_of system number place a b source sink at e is =
     let sinks : Sink at.sink_port ≡ Sink sink = sym at.sink_is ∙ ap (λ (c : Connection). known_at system c.end) same ∙ is.sink_is in
     record { place_is = cc; connection_is = same; source_is = cc; sink_is = cc }
 
+-- the steps: what stands between the ends, and its nets drive the outputs at the source and at the sink
+pub record AreSteps (plan : PlanTable) (number : ℕ) (link : StreamLink) (old middle half new : Netlist) (made : PathNets) : Type 0 where
+  pub ports : HasKnownPorts plan.system
+  pub is : IsStreamLink plan.system number link
+  pub adds : AddsStream plan.system link (low_at plan.system number link.connection) old middle made
+  pub source : IsDrivenOver plan.system link.source_end (source_outputs made) middle half
+  pub sink : IsDrivenOver plan.system link.sink_end (sink_outputs made) half new
+
+-- the nets of a path stay its nets
+where_lasts : (old new : Netlist) (b : Bool) (width : ℕ) (net : NetValue) → Extends old new → IsNetWhere b width old net → IsNetWhere b width new net
+where_lasts old new true width net e is = net_lasts old new net width e is
+where_lasts old new false width net e is = is
+
+path_nets_last : (old new : Netlist) (sink : Declared) (made : PathNets) → Extends old new → ArePathNets old sink made → ArePathNets new sink made
+path_nets_last old new sink made e nets =
+    record {
+      ready = net_lasts old new made.ready 1 e nets.ready;
+      valid = net_lasts old new made.beat.valid 1 e nets.valid;
+      word = net_lasts old new made.beat.word (sink.symbols * sink.symbol_bits) e nets.word;
+      channel = where_lasts old new (nat_lt 0 sink.channel_bits) sink.channel_bits made.beat.channel e nets.channel;
+      error = where_lasts old new (nat_lt 0 sink.error_bits) sink.error_bits made.beat.error e nets.error;
+      startofpacket = net_lasts old new made.beat.first 1 e nets.startofpacket;
+      endofpacket = net_lasts old new made.beat.last 1 e nets.endofpacket;
+      empty = where_lasts old new (nat_lt 0 sink.empty_bits) sink.empty_bits made.beat.empty e nets.empty;
+      dropped = net_lasts old new made.dropped 1 e nets.dropped;
+    }
+
 -- the new stream is joined
-newly_joined : (system : SystemTable) (number : ℕ) (link : StreamLink) (connection : Connection) (old middle new : Netlist) (made : PathNets) → KeepsOn → AreSteps system number link connection old middle new made
-    → IsJoinedStream system new number link.connection connection link.source link.sink
-newly_joined system number link connection old middle new made law s =
-    let of = connection_of system number link connection s.is s.connection_is in
+newly_joined : (plan : PlanTable) (number : ℕ) (link : StreamLink) (old middle half new : Netlist) (made : PathNets) → (s : AreSteps plan number link old middle half new made)
+    → IsJoinedStream plan.system new number link.connection s.is.connection link.source link.sink
+newly_joined plan number link old middle half new made s =
+    let system = plan.system in
+    let all = extends_twice middle half new s.source.extends s.sink.extends in
     record {
       from = s.adds.from;
       ready = s.adds.ready;
       made = made;
-      from_are = subst (λ (end : EndId). AreInputs system end (declared link.source) s.adds.from) (sym of.start) s.adds.from_are;
-      ready_is = subst (λ (end : EndId). s.adds.ready ≡ input_at system end role.Ready 1) (sym of.end) s.adds.ready_is;
-      serves = subst (λ (fifo : ℕ). ServesInLonger (declared link.source) (declared link.sink) fifo s.adds.from s.adds.ready made new) (sym of.fifo)
-          (λ longer extends run cycles is legal. s.adds.serves longer (extends_twice middle new longer s.extends extends) run cycles is legal);
-      driven = s.driven;
+      from_are = subst (λ (end : EndId). AreInputs system end (declared link.source) s.adds.from) (sym s.is.start) s.adds.from_are;
+      ready_is = subst (λ (end : EndId). s.adds.ready ≡ input_at system end role.Ready 1) (sym s.is.end) s.adds.ready_is;
+      serves = subst (λ (fifo : ℕ). ServesInLonger (declared link.source) (declared link.sink) fifo s.adds.from s.adds.ready made new) (sym s.is.fifo)
+          (λ longer extends run cycles is legal. s.adds.serves longer (extends_twice middle new longer all extends) run cycles is legal);
+      source_driven = subst (λ (end : EndId). AreDrivenAt system end (source_outputs made) new) (sym s.is.start) (stay_driven system link.source_end (source_outputs made) half new s.sink.extends s.source.driven);
+      sink_driven = subst (λ (end : EndId). AreDrivenAt system end (sink_outputs made) new) (sym s.is.end) s.sink.driven;
       wire = s.adds.wire;
     }
 
@@ -240,17 +332,28 @@ joined_as system netlist number place a b source sink at e j =
     (subst (λ (t : StreamPort). IsJoinedStream system netlist number at.place b source t) e.sink_is
     (subst (λ (s : StreamPort). IsJoinedStream system netlist number at.place b s at.sink_port) e.source_is j)))
 
-pub one_more_joined : (system : SystemTable) (number : ℕ) (link : StreamLink) (connection : Connection) (old middle new : Netlist) (made : PathNets) → KeepsOn → AreSteps system number link connection old middle new made
-    → IsJoinedUpTo system number old → IsJoinedUpTo system (number + 1) new
+-- the stream of a link
+pub link_is_stream : (system : SystemTable) (number : ℕ) (link : StreamLink) → IsPlanned system → (is : IsStreamLink system number link) → IsStream system number is.connection link.source link.sink
 unfolding link_place
-one_more_joined system number link connection old middle new made law s upto =
-    let at = link_place system number link connection s.ports.planned s.is s.connection_is in
+link_is_stream system number link h is =
+    let at = link_place system number link is.connection h is is.connection_is in
+    record { place = link.connection; place_is = is.place_is; connection_is = is.connection_is; source_is = at.source_is; sink_is = at.sink_is }
+
+pub one_more_joined : (plan : PlanTable) (hosts number : ℕ) (link : StreamLink) (old middle half new : Netlist) (made : PathNets) → KeepsOn → AreSteps plan number link old middle half new made
+    → IsJoinedUpTo plan hosts number old → IsJoinedUpTo plan hosts (number + 1) new
+unfolding link_place
+one_more_joined plan hosts number link old middle half new made law s upto =
+    let system = plan.system in
+    let connection = s.is.connection in
+    let at = link_place system number link connection s.ports.planned s.is s.is.connection_is in
+    let stream = link_is_stream system number link s.ports.planned s.is in
     let grows = s.adds.grows in
-    let whole = extends_twice old middle new grows.extends s.extends in
+    let same = same-trans middle half new s.source.same s.sink.same in
+    let whole = extends_twice old half new (extends_twice old middle half grows.extends s.source.extends) s.sink.extends in
     record {
       name = whole.keeps.name ∙ upto.name;
       ports = whole.keeps.ports ∙ upto.ports;
-      memory = λ k a host agent is. memory_stays system old new a host agent whole (upto.memory k a host agent is);
+      memory = λ h below. host_stays system old new h whole (upto.memory h below);
       lows = λ n below. low_stays old new (input_count (ports_of system) + n) whole (upto.lows n below);
       joined = λ n place a source sink below e is. elim (nat_cases n number) [
         | inl earlier ↦ stays_joined law system old new n place a source sink whole (upto.joined n place a source sink earlier e is)
@@ -258,42 +361,75 @@ one_more_joined system number link connection old middle new made law s upto =
             let there = subst (λ (m : ℕ). slice_get (streams_of system) m ≡ Some place) same e in
             let here = subst (λ (m : ℕ). IsStream system m a source sink) same is in
             subst (λ (m : ℕ). IsJoinedStream system new m place a source sink) (sym same)
-            (joined_as system new number place a connection source sink at (one_stream_of system number place a connection source sink at there here) (newly_joined system number link connection old middle new made law s)))
+            (joined_as system new number place a connection source sink at (one_stream_of system number place a connection source sink at there here) (newly_joined plan number link old middle half new made s)))
       ];
-      rest = λ n a source sink above is r. stays_undriven old new (output_at system a r)
-          (λ k here. s.others k (other_output system number n k connection a source sink r s.ports at is (omega (arith, above)) here) ∙ same_drivers old middle k grows.drivers)
-          (upto.rest n a source sink (omega (arith, above)) is r);
-      clocked = λ n w. upto.clocked n (s.adds.no_more_wait n (waiting_as middle new n s.same.lines w));
-      written = λ m w. upto.written m (unwritten_as old middle m grows.memories (unwritten_as middle new m s.same.memories w));
-      few = (let most = grows.most in let lines = ap (λ (ls : List Line). length ls) s.same.lines in let before = upto.few in omega (arith, most, lines, before));
+      rest = λ k free.
+          s.sink.others k (subst (λ (end : EndId). IsNoPortOf system end k) s.is.end (free.of_sinks number connection link.source link.sink (omega arith) stream))
+          ∙ s.source.others k (subst (λ (end : EndId). IsNoPortOf system end k) s.is.start (free.of_sources number connection link.source link.sink (omega arith) stream))
+          ∙ same_drivers old middle k grows.drivers
+          ∙ upto.rest k (record {
+            of_hosts = free.of_hosts;
+            of_agents = free.of_agents;
+            of_sources = λ n a source sink below is. free.of_sources n a source sink (omega (arith, below)) is;
+            of_sinks = λ n a source sink below is. free.of_sinks n a source sink (omega (arith, below)) is;
+          });
+      clocked = λ n w. upto.clocked n (s.adds.no_more_wait n (waiting_as middle new n same.lines w));
+      written = λ m w. upto.written m (unwritten_as old middle m grows.memories (unwritten_as middle new m same.memories w));
+      few = (let most = grows.most in let lines = ap (λ (ls : List Line). length ls) same.lines in let before = upto.few in omega (arith, most, lines, before));
     }
 
--- the outputs of the stream whose turn it is may be driven
-pub may_drive_now : (system : SystemTable) (number : ℕ) (link : StreamLink) (connection : Connection) (old middle : Netlist) (low : Option NetValue) (made : PathNets) → HasKnownPorts system
-    → IsStreamLink system number link → slice_get system.connections link.connection ≡ Some connection → IsJoinedUpTo system number old → AddsStream system link low old middle made
-    → (outputs : List Output) → outputs ≡ path_outputs made → MayDriveAll system connection outputs middle
+-- the ports of the stream whose turn it is may be driven
+pub source_may_now : (plan : PlanTable) (hosts number : ℕ) (link : StreamLink) (old middle : Netlist) (low : Option NetValue) (made : PathNets) → HasKnownPorts plan.system
+    → IsStreamLink plan.system number link → IsJoinedUpTo plan hosts number old → AddsStream plan.system link low old middle made → (outputs : List Output) → outputs ≡ source_outputs made
+    → MayDriveAt plan.system link.source_end outputs middle
 unfolding link_place
-may_drive_now system number link connection old middle low made h is e upto adds outputs same =
-    let at = link_place system number link connection h.planned is e in
-    let stream : IsStream system number connection link.source link.sink =
-    record { place = link.connection; place_is = is.place_is; connection_is = e; source_is = at.source_is; sink_is = at.sink_is } in
-    subst (λ (os : List Output). MayDriveAll system connection os middle) (sym same)
-    (may_drive_all system number connection middle made h at (adds.grows.extends.keeps.ports ∙ upto.ports) adds.nets
-    (λ r. stays_undriven old middle (output_at system connection r) (λ k here. same_drivers old middle k adds.grows.drivers) (upto.rest number connection link.source link.sink (omega arith) stream r)))
+source_may_now plan hosts number link old middle low made h is upto adds outputs same =
+    let system = plan.system in
+    let at = link_place system number link is.connection h.planned is is.connection_is in
+    let undriven = stream_undriven plan hosts number is.connection is.connection.start 2 old h upto (of_source system number is.connection at) in
+    subst (λ (os : List Output). MayDriveAt system link.source_end os middle) (sym same)
+    (subst (λ (end : EndId). MayDriveAt system end (source_outputs made) middle) is.start
+    (source_may system number is.connection middle made h at (adds.grows.extends.keeps.ports ∙ upto.ports) adds.nets
+    (λ r. stays_undriven old middle (port_at system is.connection.start r) (λ k here. same_drivers old middle k adds.grows.drivers) (undriven r))))
 
--- so is the stream joined once they are driven
-pub one_more_driven : (system : SystemTable) (number : ℕ) (link : StreamLink) (connection : Connection) (old middle new : Netlist) (low : Option NetValue) (made : PathNets) (outputs : List Output) → KeepsOn → HasKnownPorts system
-    → IsStreamLink system number link → slice_get system.connections link.connection ≡ Some connection → AddsStream system link low old middle made → low ≡ low_at system number link.connection → outputs ≡ path_outputs made
-    → HasSameNets middle new → Extends middle new → AreDriven system connection outputs new → ((k : ℕ) → IsNoOutput system connection k → driver_of new k ≡ driver_of middle k)
-    → IsJoinedUpTo system number old → IsJoinedUpTo system (number + 1) new
-one_more_driven system number link connection old middle new low made outputs law h is e adds lows same nets extends driven others upto =
-    one_more_joined system number link connection old middle new made law (record {
+pub sink_may_now : (plan : PlanTable) (hosts number : ℕ) (link : StreamLink) (old middle half : Netlist) (low : Option NetValue) (made : PathNets) → HasKnownPorts plan.system
+    → IsStreamLink plan.system number link → IsJoinedUpTo plan hosts number old → AddsStream plan.system link low old middle made → IsDrivenOver plan.system link.source_end (source_outputs made) middle half
+    → (outputs : List Output) → outputs ≡ sink_outputs made → MayDriveAt plan.system link.sink_end outputs half
+unfolding link_place
+sink_may_now plan hosts number link old middle half low made h is upto adds over outputs same =
+    let system = plan.system in
+    let connection = is.connection in
+    let at = link_place system number link connection h.planned is is.connection_is in
+    let undriven = stream_undriven plan hosts number connection connection.end 3 old h upto (of_sink system number connection at) in
+    subst (λ (os : List Output). MayDriveAt system link.sink_end os half) (sym same)
+    (subst (λ (end : EndId). MayDriveAt system end (sink_outputs made) half) is.end
+    (sink_may system number connection half made h at (over.extends.keeps.ports ∙ adds.grows.extends.keeps.ports ∙ upto.ports) (path_nets_last middle half (declared link.sink) made over.extends adds.nets)
+    (λ r. stays_undriven old half (port_at system connection.end r)
+    (λ k here. over.others k (subst (λ (end : EndId). IsNoPortOf system end k) is.start
+    (other_port system connection.start connection.end r k h (start_among system number connection at) (finish_among system number connection at) (ends_apart system number connection at) here))
+    ∙ same_drivers old middle k adds.grows.drivers) (undriven r))))
+
+-- the outputs at the source are driven, and those at the sink
+pub source_over : (system : SystemTable) (number : ℕ) (link : StreamLink) (made : PathNets) (outputs : List Output) (old new : Netlist) → IsStreamLink system number link → outputs ≡ source_outputs made → HasSameNets old new
+    → Extends old new → AreDrivenAt system link.source_end outputs new → ((k : ℕ) → IsNoPortOf system link.source_end k → driver_of new k ≡ driver_of old k)
+    → IsDrivenOver system link.source_end (source_outputs made) old new
+source_over system number link made outputs old new l is same extends driven others =
+    record { same = same; extends = extends; driven = subst (λ (os : List Output). AreDrivenAt system link.source_end os new) is driven; others = others }
+
+pub sink_over : (system : SystemTable) (number : ℕ) (link : StreamLink) (made : PathNets) (outputs : List Output) (old new : Netlist) → IsStreamLink system number link → outputs ≡ sink_outputs made → HasSameNets old new
+    → Extends old new → AreDrivenAt system link.sink_end outputs new → ((k : ℕ) → IsNoPortOf system link.sink_end k → driver_of new k ≡ driver_of old k)
+    → IsDrivenOver system link.sink_end (sink_outputs made) old new
+sink_over system number link made outputs old new l is same extends driven others =
+    record { same = same; extends = extends; driven = subst (λ (os : List Output). AreDrivenAt system link.sink_end os new) is driven; others = others }
+
+pub stream_joined : KeepsOn → (plan : PlanTable) (hosts number : ℕ) (link : StreamLink) (old middle half new : Netlist) (low : Option NetValue) (made : PathNets) → HasKnownPorts plan.system → IsStreamLink plan.system number link
+    → AddsStream plan.system link low old middle made → low ≡ low_at plan.system number link.connection → IsDrivenOver plan.system link.source_end (source_outputs made) middle half
+    → IsDrivenOver plan.system link.sink_end (sink_outputs made) half new → IsJoinedUpTo plan hosts number old → IsJoinedUpTo plan hosts (number + 1) new
+stream_joined law plan hosts number link old middle half new low made h is adds lows source sink upto =
+    one_more_joined plan hosts number link old middle half new made law (record {
       ports = h;
       is = is;
-      connection_is = e;
-      adds = subst (λ (net : Option NetValue). AddsStream system link net old middle made) lows adds;
-      same = nets;
-      extends = extends;
-      driven = subst (λ (os : List Output). AreDriven system connection os new) same driven;
-      others = others;
+      adds = subst (λ (net : Option NetValue). AddsStream plan.system link net old middle made) lows adds;
+      source = source;
+      sink = sink;
     }) upto

@@ -31,12 +31,12 @@ use Rattle.port_tables.specs.PortMaps.{IsPortIf, HasKnownPorts, port_at}
 use Rattle.port_tables.specs.Ends.{IsStreamPlace}
 use Rattle.built_links.specs.Wires.{is_wire_stream, is_wire_as, is_wire_at, wires_before}
 use Rattle.interconnect.specs.Streams.{end_signals, dropped_signal, ServesStream, IsDrivenBy, IsJoined, IsWired, low_line}
-use Rattle.interconnect.specs.Outputs.{input_at, output_at}
-use Rattle.interconnect.specs.Joins.{wire_nets, output_roles, net_for, low_at, IsJoinedStream}
+use Rattle.interconnect.specs.Outputs.{input_at}
+use Rattle.interconnect.specs.Joins.{wire_nets, source_roles, sink_roles, net_for, low_at, IsJoinedStream}
 use Rattle.interconnect.proofs.Forms.{IsWire, wire_is}
-use Rattle.interconnect.proofs.Driving.{role_driven, extends-refl}
+use Rattle.interconnect.proofs.Driving.{each_at, role_driven, extends-refl}
 use Rattle.interconnect.proofs.StreamEnds.{start_among, finish_among}
-use Rattle.interconnect.proofs.Joining.{output_width, outputs_are}
+use Rattle.interconnect.proofs.Joining.{output_roles, output_at, output_width, outputs_are}
 use Rattle.interconnect.proofs.Shown.{shown, shown_at, output_shown, input_shown, bits_lt, driven_some, no_input}
 use Rattle.interconnect.proofs.WireNets.{same_signals}
 
@@ -53,7 +53,15 @@ pub record IsJoinedIn (system : SystemTable) (number : ℕ) (connection : Connec
 
 driven_role : (system : SystemTable) (number : ℕ) (connection : Connection) (netlist : Netlist) (j : IsJoinedIn system number connection netlist) (n : ℕ) (r : PortRole) → slice_get output_roles n ≡ Some r
     → IfSome (output_at system connection r) (λ port. driver_of netlist port ≡ Some (net_for j.joined.made r).number)
-driven_role system number connection netlist j = role_driven system connection (net_for j.joined.made) output_roles netlist j.joined.driven
+driven_role system number connection netlist j n r is =
+    each_at (λ (r : PortRole). IfSome (output_at system connection r) (λ port. driver_of netlist port ≡ Some (net_for j.joined.made r).number)) output_roles n r
+    (source 0 role.Ready refl, (sink 0 role.Valid refl, (sink 1 role.Data refl, (sink 2 role.Channel refl, (sink 3 role.Error refl, (sink 4 role.StartOfPacket refl, (sink 5 role.EndOfPacket refl, (sink 6 role.Empty refl, (sink 7 role.Dropped refl, tt))))))))) is
+  where
+    source : (n : ℕ) (r : PortRole) → slice_get source_roles n ≡ Some r → IfSome (port_at system connection.start r) (λ port. driver_of netlist port ≡ Some (net_for j.joined.made r).number)
+    source = role_driven system connection.start (net_for j.joined.made) source_roles netlist j.joined.source_driven
+
+    sink : (n : ℕ) (r : PortRole) → slice_get sink_roles n ≡ Some r → IfSome (port_at system connection.end r) (λ port. driver_of netlist port ≡ Some (net_for j.joined.made r).number)
+    sink = role_driven system connection.end (net_for j.joined.made) sink_roles netlist j.joined.sink_driven
 
 -- what stands at an output of a stream, and what at an input
 out : (system : SystemTable) (number : ℕ) (connection : Connection) (netlist : Netlist) (run : Run) (n : ℕ) (r : PortRole) (end : EndId) (present : Bool) (j : IsJoinedIn system number connection netlist)

@@ -15,7 +15,7 @@ use Rattle.port_tables.specs.declared.roles.PortRole.{PortRole}
 use Rattle.port_tables.specs.Ports.{role_word, bits_if, port_name, name_at, ports_of}
 use Rattle.port_tables.specs.PortMaps.{IsPortIf, port_at}
 
-no_driver : (netlist : Netlist) (k w : ℕ) → IsWellMade netlist → IsInputPort netlist.ports k w → (o : Option ℕ) → driver_of netlist k ≡ o → o ≡ None
+pub no_driver : (netlist : Netlist) (k w : ℕ) → IsWellMade netlist → IsInputPort netlist.ports k w → (o : Option ℕ) → driver_of netlist k ≡ o → o ≡ None
 no_driver netlist k w h i None e = refl
 no_driver netlist k w h i (Some n) e =
     let d = (h.drivers k n e).port in

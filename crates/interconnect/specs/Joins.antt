@@ -1,12 +1,14 @@
--- How far a module is built: which of its nets are those of the ends of streams, and what drives their outputs.
+-- How far a module is built: which hosts and streams are joined, and what drives the outputs at their ends.
 use Rattle.std.specs.Prelude.{◌≡◌, ℕ, zero, suc, ◌+◌, ◌*◌, ◌<◌, ◌≤◌, Bool, true, false, List, [], ◌∷◌, ◌++◌, length, Option, Some, None, unwrap_or, if◌then◌else◌, IfSome, slice_get}
-use Rattle.iface_roles.specs.declared.records.HostPort.{HostPort}
-use Rattle.iface_roles.specs.declared.records.AgentPort.{AgentPort}
 use Rattle.iface_roles.specs.declared.records.StreamPort.{StreamPort}
 use Rattle.system_tables.specs.declared.tables.EndId.{EndId}
 use Rattle.system_tables.specs.declared.tables.Connection.{Connection}
 use Rattle.system_tables.specs.Tables.{SystemTable}
+use Rattle.address_map.specs.Maps.{hosts_of, agents_of}
 use Rattle.link_rules.specs.Links.{streams_of}
+use Rattle.link_rules.specs.PlanLinks.{memory_links}
+use Rattle.link_rules.specs.Plans.{PlanTable}
+use Rattle.link_rules.specs.declared.plan_links.MemoryLink.{MemoryLink}
 use Rattle.link_rules.specs.declared.plan_links.StreamLink.{StreamLink}
 use Rattle.netlist.specs.declared.line.Line.{Line}
 use Rattle.netlist.specs.Nets.{NetValue, net_of}
@@ -24,9 +26,8 @@ use Rattle.port_tables.specs.Ports.{ports_of, module_name}
 use Rattle.interconnect.specs.declared.outputs.Output.{Output}
 use Rattle.built_links.specs.Wires.{is_wire_at, wires_before}
 use Rattle.interconnect.specs.Streams.{IsStream, low_line}
-use Rattle.interconnect.specs.Memory.{IsMemory}
-use Rattle.interconnect.specs.Outputs.{input_at, outputs_by, AreDriven, AreUndriven}
-use Rattle.interconnect.specs.MemoryNets.{IsJoinedMemory}
+use Rattle.interconnect.specs.Outputs.{input_at, outputs_by, AreDrivenAt, IsNoPortOf}
+use Rattle.interconnect.specs.Hosts.{most_tree_nets, HasJoinedHost}
 
 -- ---- the nets of a stream
 
@@ -57,9 +58,12 @@ wire_nets from ready low =
       dropped = low;
     }
 
--- the roles of the outputs of a stream
-abbrev pub output_roles : List PortRole
-output_roles = role.Ready ∷ role.Valid ∷ role.Data ∷ role.Channel ∷ role.Error ∷ role.StartOfPacket ∷ role.EndOfPacket ∷ role.Empty ∷ role.Dropped ∷ []
+-- the roles of the outputs at a source, and at a sink
+abbrev pub source_roles : List PortRole
+source_roles = role.Ready ∷ []
+
+abbrev pub sink_roles : List PortRole
+sink_roles = role.Valid ∷ role.Data ∷ role.Channel ∷ role.Error ∷ role.StartOfPacket ∷ role.EndOfPacket ∷ role.Empty ∷ role.Dropped ∷ []
 
 -- the net that drives the output of a role
 abbrev pub net_for : PathNets → PortRole → NetValue
@@ -74,8 +78,11 @@ net_for made role.Empty = made.beat.empty
 net_for made _ = made.dropped
 
 -- what drives the outputs of a stream
-abbrev pub path_outputs : PathNets → List Output
-path_outputs made = outputs_by (net_for made) output_roles
+abbrev pub source_outputs : PathNets → List Output
+source_outputs made = outputs_by (net_for made) source_roles
+
+abbrev pub sink_outputs : PathNets → List Output
+sink_outputs made = outputs_by (net_for made) sink_roles
 
 -- ---- one stream
 
@@ -107,7 +114,8 @@ pub record IsJoinedStream (system : SystemTable) (netlist : Netlist) (number pla
   pub from_are : AreInputs system connection.start (declared source) from
   pub ready_is : ready ≡ input_at system connection.end role.Ready 1
   pub serves : ServesInLonger (declared source) (declared sink) connection.fifo from ready made netlist
-  pub driven : AreDriven system connection (path_outputs made) netlist
+  pub source_driven : AreDrivenAt system connection.start (source_outputs made) netlist
+  pub sink_driven : AreDrivenAt system connection.end (sink_outputs made) netlist
   pub wire : IfSome (low_at system number place) (λ net. made ≡ wire_nets from ready net)
 
 -- ---- all streams
@@ -146,16 +154,25 @@ pub record IsBegun (system : SystemTable) (netlist : Netlist) : Type 0 where
   pub written : IsWritten netlist
   pub few : length netlist.lines ≤ input_count (ports_of system) + length (streams_of system)
 
--- each host is joined to its agent and the streams below this number are joined; no output of the others is driven
-pub record IsJoinedUpTo (system : SystemTable) (number : ℕ) (netlist : Netlist) : Type 0 where
-  pub name : netlist.name ≡ module_name system
-  pub ports : netlist.ports ≡ ports_of system
-  pub lows : HasLows system netlist
-  pub memory : (k : ℕ) (connection : Connection) (host : HostPort) (agent : AgentPort) → IsMemory system k connection host agent
-      → IsJoinedMemory system netlist connection host agent
-  pub joined : (n place : ℕ) (connection : Connection) (source : StreamPort) (sink : StreamPort) → n < number → slice_get (streams_of system) n ≡ Some place
-      → IsStream system n connection source sink → IsJoinedStream system netlist n place connection source sink
-  pub rest : (n : ℕ) (connection : Connection) (source : StreamPort) (sink : StreamPort) → number ≤ n → IsStream system n connection source sink → AreUndriven system connection netlist
+-- ---- hosts and streams
+
+-- the port is none of the hosts and streams below these numbers, nor of the agents of these hosts
+pub record IsFree (plan : PlanTable) (hosts streams : ℕ) (port : ℕ) : Type 0 where
+  pub of_hosts : (h : ℕ) (end : EndId) → h < hosts → slice_get (hosts_of plan.system) h ≡ Some end → IsNoPortOf plan.system end port
+  pub of_agents : (k : ℕ) (link : MemoryLink) (end : EndId) → slice_get (memory_links plan.system) k ≡ Some link → link.host_number < hosts → slice_get (agents_of plan.system) link.agent_number ≡ Some end
+      → IsNoPortOf plan.system end port
+  pub of_sources : (n : ℕ) (connection : Connection) (source : StreamPort) (sink : StreamPort) → n < streams → IsStream plan.system n connection source sink → IsNoPortOf plan.system connection.start port
+  pub of_sinks : (n : ℕ) (connection : Connection) (source : StreamPort) (sink : StreamPort) → n < streams → IsStream plan.system n connection source sink → IsNoPortOf plan.system connection.end port
+
+-- the hosts and streams below these numbers are joined; no other port is driven
+pub record IsJoinedUpTo (plan : PlanTable) (hosts streams : ℕ) (netlist : Netlist) : Type 0 where
+  pub name : netlist.name ≡ module_name plan.system
+  pub ports : netlist.ports ≡ ports_of plan.system
+  pub lows : HasLows plan.system netlist
+  pub memory : (h : ℕ) → h < hosts → HasJoinedHost plan.system netlist h
+  pub joined : (n place : ℕ) (connection : Connection) (source : StreamPort) (sink : StreamPort) → n < streams → slice_get (streams_of plan.system) n ≡ Some place
+      → IsStream plan.system n connection source sink → IsJoinedStream plan.system netlist n place connection source sink
+  pub rest : (port : ℕ) → IsFree plan hosts streams port → driver_of netlist port ≡ None
   pub clocked : IsClocked netlist
   pub written : IsWritten netlist
-  pub few : length netlist.lines ≤ input_count (ports_of system) + 15 + length (streams_of system) + number * most_nets
+  pub few : length netlist.lines ≤ input_count (ports_of plan.system) + length (streams_of plan.system) + hosts * most_tree_nets + streams * most_nets

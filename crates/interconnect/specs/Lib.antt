@@ -1,6 +1,6 @@
 pub mod Streams
 pub mod Memory
 pub mod Outputs
-pub mod MemoryNets
+pub mod Hosts
 pub mod Joins
 pub mod Interconnect

@@ -1,12 +1,11 @@
--- The ports at the ends of a connection: the nets of those that the module reads, and what drives the others.
-use Rattle.std.specs.Prelude.{◌≡◌, ℕ, ◌<◌, List, map, Option, Some, None, option_map, if◌then◌else◌, IfSome, slice_get}
+-- The ports at an end: the nets of those that the module reads, and what drives the others.
+use Rattle.std.specs.Prelude.{◌≡◌, ℕ, ◌<◌, List, map, Option, Some, None, option_map, IfSome, slice_get}
 use Rattle.system_tables.specs.declared.tables.EndId.{EndId}
-use Rattle.system_tables.specs.declared.tables.Connection.{Connection}
 use Rattle.system_tables.specs.Tables.{SystemTable}
 use Rattle.netlist.specs.Nets.{NetValue, net_of}
 use Rattle.netlist.specs.Netlists.{Netlist, IsNet, IsInputPort, IsOutputPort, driver_of, input_net}
 use Rattle.port_tables.specs.declared.roles.PortRole.{PortRole}
-use Rattle.port_tables.specs.Ports.{is_forward, ports_of}
+use Rattle.port_tables.specs.Ports.{ports_of}
 use Rattle.port_tables.specs.PortMaps.{port_at}
 use Rattle.interconnect.specs.declared.outputs.Output.{Output}
 
@@ -35,14 +34,6 @@ output_of role net = record { role = role; net = net }
 abbrev pub outputs_by : (PortRole → NetValue) → List PortRole → List Output
 outputs_by net roles = map (λ role. output_of role (net role)) roles
 
--- the end at which an output of a role stands
-abbrev pub output_end : Connection → PortRole → EndId
-output_end connection role = if is_forward role then connection.end else connection.start
-
--- the output port of a role, where there is one
-abbrev pub output_at : SystemTable → Connection → PortRole → Option ℕ
-output_at system connection role = port_at system (output_end connection role) role
-
 -- no two are of one role
 abbrev pub HaveOwnRoles : List Output → Type 0
 HaveOwnRoles outputs = (m n : ℕ) (a b : Output) → slice_get outputs m ≡ Some a → slice_get outputs n ≡ Some b → a.role ≡ b.role → m ≡ n
@@ -62,33 +53,33 @@ pub record MayDrive (netlist : Netlist) (net : NetValue) (port : ℕ) : Type 0 w
   pub is_net : IsNet netlist net
   pub undriven : driver_of netlist port ≡ None
 
--- each net may drive the port of its role, where there is one
-abbrev pub MayDriveAll : SystemTable → Connection → List Output → Netlist → Type 0
-MayDriveAll system connection outputs netlist =
-    (n : ℕ) (o : Output) → slice_get outputs n ≡ Some o → IfSome (output_at system connection o.role) (MayDrive netlist o.net)
+-- each net may drive the port of its role at the end, where there is one
+abbrev pub MayDriveAt : SystemTable → EndId → List Output → Netlist → Type 0
+MayDriveAt system end outputs netlist =
+    (n : ℕ) (o : Output) → slice_get outputs n ≡ Some o → IfSome (port_at system end o.role) (MayDrive netlist o.net)
 
 -- the port of this role is driven by its net, where there is one
-abbrev pub IsDrivenAs : SystemTable → Connection → Output → Netlist → Type 0
-IsDrivenAs system connection o netlist = IfSome (output_at system connection o.role) (λ port. driver_of netlist port ≡ Some o.net.number)
+abbrev pub IsDrivenAs : SystemTable → EndId → Output → Netlist → Type 0
+IsDrivenAs system end o netlist = IfSome (port_at system end o.role) (λ port. driver_of netlist port ≡ Some o.net.number)
 
 -- the ports of these roles are driven, each by its net
-abbrev pub AreDriven : SystemTable → Connection → List Output → Netlist → Type 0
-AreDriven system connection outputs netlist = (n : ℕ) (o : Output) → slice_get outputs n ≡ Some o → IsDrivenAs system connection o netlist
+abbrev pub AreDrivenAt : SystemTable → EndId → List Output → Netlist → Type 0
+AreDrivenAt system end outputs netlist = (n : ℕ) (o : Output) → slice_get outputs n ≡ Some o → IsDrivenAs system end o netlist
 
 -- those of the first ones are
-abbrev pub AreDrivenBelow : ℕ → SystemTable → Connection → List Output → Netlist → Type 0
-AreDrivenBelow count system connection outputs netlist =
-    (n : ℕ) (o : Output) → n < count → slice_get outputs n ≡ Some o → IsDrivenAs system connection o netlist
+abbrev pub AreDrivenBelow : ℕ → SystemTable → EndId → List Output → Netlist → Type 0
+AreDrivenBelow count system end outputs netlist =
+    (n : ℕ) (o : Output) → n < count → slice_get outputs n ≡ Some o → IsDrivenAs system end o netlist
 
--- the port is no output of the connection
-abbrev pub IsNoOutput : SystemTable → Connection → ℕ → Type 0
-IsNoOutput system connection port = (role : PortRole) → ¬ (output_at system connection role ≡ Some port)
+-- the port is none of the end's
+abbrev pub IsNoPortOf : SystemTable → EndId → ℕ → Type 0
+IsNoPortOf system end port = (role : PortRole) → ¬ (port_at system end role ≡ Some port)
 
 -- it is none of the first of these
-abbrev pub IsNoOutputBelow : ℕ → SystemTable → Connection → List Output → ℕ → Type 0
-IsNoOutputBelow count system connection outputs port =
-    (n : ℕ) (o : Output) → n < count → slice_get outputs n ≡ Some o → ¬ (output_at system connection o.role ≡ Some port)
+abbrev pub IsNoOutputBelow : ℕ → SystemTable → EndId → List Output → ℕ → Type 0
+IsNoOutputBelow count system end outputs port =
+    (n : ℕ) (o : Output) → n < count → slice_get outputs n ≡ Some o → ¬ (port_at system end o.role ≡ Some port)
 
--- no output of the connection is driven
-abbrev pub AreUndriven : SystemTable → Connection → Netlist → Type 0
-AreUndriven system connection netlist = (role : PortRole) → IfSome (output_at system connection role) (λ port. driver_of netlist port ≡ None)
+-- no port of the end is driven
+abbrev pub AreUndriven : SystemTable → EndId → Netlist → Type 0
+AreUndriven system end netlist = (role : PortRole) → IfSome (port_at system end role) (λ port. driver_of netlist port ≡ None)

@@ -1,7 +1,7 @@
 //! From an accepted plan to its module, for the plans that are built so far.
 #![tactic(auto)]
 
-mod memory;
+mod hosts;
 mod outputs;
 mod streams;
 mod whole;

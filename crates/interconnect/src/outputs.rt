@@ -5,12 +5,12 @@ ghost use Rattle.net_parts.specs.Nets.{IsNetOfWidth};
 ghost use Rattle.port_tables.specs.Ends.{IsAnEnd};
 ghost use Rattle.port_tables.specs.Ports.{ports_of};
 ghost use Rattle.port_tables.specs.PortMaps.{entries_of};
-ghost use Rattle.interconnect.specs.Outputs.{IsInputIf, IsInput, input_at, output_of, output_end, HaveOwnRoles, HasSameNets, MayDrive, MayDriveAll, AreDriven, IsNoOutput};
+ghost use Rattle.interconnect.specs.Outputs.{IsInputIf, IsInput, input_at, output_of, HaveOwnRoles, HasSameNets, MayDrive, MayDriveAt, AreDrivenAt, IsNoPortOf};
 
 use link_rules::Plan;
 use netlist::{Builder, Net};
 use port_tables::{PortMap, PortRole, ports_are_known};
-use system_tables::{Connection, EndId};
+use system_tables::EndId;
 
 /// The net of the input port of a role at an end, where there is one.
 pub(crate) fn input_of(
@@ -82,39 +82,26 @@ fn drive(builder: &mut Builder, port: Option<u32>, net: Net)
     }
 }
 
-/// The end at which an output of a role stands.
-fn output_end(connection: Connection, role: PortRole) -> EndId
-    ensures { result ≡ output_end connection role }
-{
-    if role.is_forward() {
-        connection.end
-    } else {
-        connection.start
-    }
-}
-
-/// Lets nets drive the outputs of a connection, each that of its role.
-pub(crate) fn drive_outputs(
+/// Lets nets drive ports of an end, each that of its role.
+pub(crate) fn drive_at(
     builder: &mut Builder,
     plan: &Plan,
     ports: &PortMap,
-    connection: Connection,
+    end: EndId,
     outputs: &[Output],
 )
-    requires start { IsAnEnd plan.now.system connection.start }
-    requires end { IsAnEnd plan.now.system connection.end }
+    requires end { IsAnEnd plan.now.system end }
     requires map { ports.now.entries ≡ entries_of plan.now.system }
     requires roles { HaveOwnRoles outputs.now }
-    requires can { MayDriveAll plan.now.system connection outputs.now builder.old }
+    requires can { MayDriveAt plan.now.system end outputs.now builder.old }
     ensures same { HasSameNets builder.old builder.new }
     ensures extends { Extends builder.old builder.new }
-    ensures driven { AreDriven plan.now.system connection outputs.now builder.new }
-    ensures others { (k : ℕ) → IsNoOutput plan.now.system connection k → driver_of builder.new k ≡ driver_of builder.old k }
+    ensures driven { AreDrivenAt plan.now.system end outputs.now builder.new }
+    ensures others { (k : ℕ) → IsNoPortOf plan.now.system end k → driver_of builder.new k ≡ driver_of builder.old k }
 {
     ports_are_known(plan);
     netlist::keeps();
     for output in outputs {
-        let end = output_end(connection, output.role);
         let port = ports.port_at(plan, end, output.role);
         drive(builder, port, output.net);
     }

@@ -2,6 +2,7 @@ ghost use Rattle.std.specs.Prelude.{◌≡◌, ℕ, ◌+◌, ◌^◌, ◌<◌, �
 ghost use Rattle.iface_roles.specs.declared.records.StreamPort.{StreamPort};
 ghost use Rattle.iface_roles.specs.declared.records.Finished.TheVariants.{Source};
 ghost use Rattle.address_map.specs.Footprints.{known_at};
+ghost use Rattle.address_map.specs.Maps.{hosts_of};
 ghost use Rattle.link_rules.specs.Links.{streams_of};
 ghost use Rattle.link_rules.specs.PlanLinks.{IsStreamLink};
 ghost use Rattle.netlist.specs.Nets.{net_of};
@@ -16,9 +17,9 @@ ghost use Rattle.port_tables.specs.Ports.{ports_of, module_name};
 ghost use Rattle.port_tables.specs.PortMaps.{entries_of};
 ghost use Rattle.built_links.specs.Wires.{is_wire_link, wires_before};
 ghost use Rattle.interconnect.specs.Streams.{low_line};
-ghost use Rattle.interconnect.specs.Joins.{AreInputs, wire_nets, path_outputs, AddsLow, AddsStream, IsLowOf, with_lows, AreLows, IsJoinedUpTo};
+ghost use Rattle.interconnect.specs.Joins.{AreInputs, wire_nets, source_outputs, sink_outputs, AddsLow, AddsStream, IsLowOf, with_lows, AreLows, IsJoinedUpTo};
 
-use crate::outputs::{Output, drive_outputs, input_of};
+use crate::outputs::{Output, drive_at, input_of};
 use av_base::{List, NoMemory, Val};
 use built_links::is_wire_stream;
 use iface_roles::{SinkPort, SourcePort, proper_records_are_bounded};
@@ -158,7 +159,7 @@ fn stream_nets(
     requires link { IsStreamLink plan.now.system number link.now }
     requires map { ports.now.entries ≡ entries_of plan.now.system }
     requires low { IsLowOf plan.now.system number low }
-    requires joined { IsJoinedUpTo plan.now.system number builder.old }
+    requires joined { IsJoinedUpTo plan.now (length (hosts_of plan.now.system)) number builder.old }
     ensures { IfOk result (AddsStream plan.now.system link.now low builder.old builder.new) }
 {
     // the law of a wire, which the contract rests on
@@ -181,12 +182,18 @@ fn stream_nets(
     }
 }
 
-/// What drives the outputs of a stream.
-fn path_outputs(made: &PathNets) -> [Output; 9]
-    ensures { result ≡ path_outputs made.now }
+/// What drives the outputs at a source.
+fn source_outputs(made: &PathNets) -> [Output; 1]
+    ensures { result ≡ source_outputs made.now }
+{
+    [Output::new(PortRole::Ready, made.ready)]
+}
+
+/// What drives the outputs at a sink.
+fn sink_outputs(made: &PathNets) -> [Output; 8]
+    ensures { result ≡ sink_outputs made.now }
 {
     [
-        Output::new(PortRole::Ready, made.ready),
         Output::new(PortRole::Valid, made.beat.valid),
         Output::new(PortRole::Data, made.beat.word),
         Output::new(PortRole::Channel, made.beat.channel),
@@ -210,16 +217,22 @@ fn join_stream(
     requires inside { number < length (streams_of plan.now.system) }
     requires map { ports.now.entries ≡ entries_of plan.now.system }
     requires low { IsLowOf plan.now.system number low }
-    requires joined { IsJoinedUpTo plan.now.system number builder.old }
-    ensures { OnOk result (IsJoinedUpTo plan.now.system (number + 1) builder.new) }
+    requires joined { IsJoinedUpTo plan.now (length (hosts_of plan.now.system)) number builder.old }
+    ensures { OnOk result (IsJoinedUpTo plan.now (length (hosts_of plan.now.system)) (number + 1) builder.new) }
 {
     ports_are_known(plan);
     netlist::keeps();
     streams_are_numbered();
     let link = &plan.stream_links()[number];
-    let connection = plan.connections()[link.connection as usize];
     let made = stream_nets(alloc, builder, plan, ports, number, link, low)?;
-    drive_outputs(builder, plan, ports, connection, &path_outputs(&made));
+    drive_at(
+        builder,
+        plan,
+        ports,
+        link.source_end,
+        &source_outputs(&made),
+    );
+    drive_at(builder, plan, ports, link.sink_end, &sink_outputs(&made));
     Ok(())
 }
 
@@ -233,8 +246,8 @@ pub(crate) fn join_streams(
 ) -> Result<(), NoMemory>
     requires map { ports.now.entries ≡ entries_of plan.now.system }
     requires lows { AreLows plan.now.system (length (streams_of plan.now.system)) lows.now }
-    requires joined { IsJoinedUpTo plan.now.system 0 builder.old }
-    ensures { OnOk result (IsJoinedUpTo plan.now.system (length (streams_of plan.now.system)) builder.new) }
+    requires joined { IsJoinedUpTo plan.now (length (hosts_of plan.now.system)) 0 builder.old }
+    ensures { OnOk result (IsJoinedUpTo plan.now (length (hosts_of plan.now.system)) (length (streams_of plan.now.system)) builder.new) }
 {
     for number in 0..plan.streams().len() {
         join_stream(alloc, builder, plan, ports, number, lows[number])?;

@@ -50,7 +50,7 @@ path_nets-requires-clause-ready c =
 
 pub path_nets-requires-clause-room : goal.path_nets-requires-clause-room
 path_nets-requires-clause-room c =
-    path_room c.args.plan.now.system c.args.number c.args.builder.now c.ports_are_known.ensures
+    path_room c.args.plan.now c.args.number c.args.builder.now c.ports_are_known.ensures
     (slice_get_within (streams_of c.args.plan.now.system) c.args.number c.args.link.now.connection c.requires.link.place_is) c.requires.joined
 
 -- what holds of a result that is there
@@ -67,7 +67,7 @@ returns-in-Some c =
     subst (λ (low : Option NetValue). AddsStream system link low c.args.builder.now c.args.builder.now c.wire_nets.result) (sym c.in-Some.is)
     (adds_wire c.wire_is_served.ensures.served system c.args.number link c.in-Some.low c.args.builder.now c.source_nets-from.result c.input_of-ready.result c.wire_nets.result
     c.ports_are_known.ensures at (c.proper_records_are_bounded.ensures.source link.source at.source_proper) (c.source_nets-from.ensures.inputs link.source known) (c.source_nets-from.ensures.nets link.source known)
-    (record { net_is = c.input_of-ready.ensures.net; is = c.input_of-ready.ensures.is }) (sym c.in-Some.is ∙ c.requires.low link.connection at.place_is) c.requires.joined c.wire_nets.ensures)
+    (record { net_is = c.input_of-ready.ensures.net; is = c.input_of-ready.ensures.is }) (sym c.in-Some.is ∙ c.requires.low link.connection at.place_is) c.requires.joined.lows c.wire_nets.ensures)
 
 pub returns-in-None : goal.returns-in-None
 returns-in-None c =

@@ -1,29 +1,72 @@
 use Rattle.std.proofs.Common.{sym, subst}
 use Rattle.interconnect.specs.Interconnect.{IsInterconnect}
 use Rattle.interconnect.proofs.LowNets.{begins}
-use Rattle.interconnect.proofs.Modules.{all_driven, interconnect_is}
+use Rattle.interconnect.proofs.Modules.{IsWhole, all_driven, interconnect_is}
 use Rattle.interconnect.proofs.whole.build.Goals as goal
 
-pub join_memory-requires-clause-begun : goal.join_memory-requires-clause-begun
-join_memory-requires-clause-begun c =
+pub join_hosts-requires-clause-begun : goal.join_hosts-requires-clause-begun
+join_hosts-requires-clause-begun c =
     begins c.args.plan.now.system c.in_ok-builder.builder c.low_nets.new.builder c.in_ok-builder.ensures.started c.in_ok-lows.ensures.lines c.in_ok-lows.ensures.no_more_wait c.in_ok-builder.ensures.clocked c.in_ok-builder.ensures.written
     c.in_ok-builder.ensures.undriven
 
 pub finish-module-requires-clause-driven : goal.finish-module-requires-clause-driven
 finish-module-requires-clause-driven c =
-    all_driven c.args.plan.now.system c.join_streams.new.builder (record {
+    let plan = c.args.plan.now in
+    let is_plan = c.well_made.ensures in
+    let whole : IsWhole plan c.join_streams.new.builder = record {
       known = c.ports_are_known.ensures;
       bounded = c.proper_records_are_bounded.ensures.sink;
+      laws = record {
+        is_plan = is_plan;
+        none = c.requires;
+        numbered = c.memory_links_are_numbered.ensures.links plan.system is_plan.system;
+        each = c.memory_links_are_numbered.ensures.each plan.system is_plan.system;
+        one = λ side. c.ends_have_one_number.ensures.one plan.system side;
+        joined = λ side. c.ends_are_joined.ensures plan.system side;
+        apart = c.plans_are_memory_plans.ensures.apart plan is_plan;
+        spans = c.spans_fit_ranges.ensures plan is_plan;
+        bounded_host = c.proper_records_are_bounded.ensures.host;
+        bounded_agent = c.proper_records_are_bounded.ensures.agent;
+      };
       upto = c.in_ok-join_streams.ensures;
-      well_made = c.well_made.ensures;
-    })
+      well_made = c.well_made-2.ensures;
+    } in
+    all_driven plan c.join_streams.new.builder whole
 
 pub returns-clause-module : goal.returns-clause-module
 returns-clause-module c =
-    subst (IsInterconnect c.args.plan.now.system) (sym c.finish-module.ensures.same)
-    (interconnect_is c.args.plan.now.system c.join_streams.new.builder c.bounded_wire_is_safe.ensures.safe c.bounded_wire_is_safe.ensures.plan c.memory_is_read_back.ensures (record {
+    let plan = c.args.plan.now in
+    let is_plan = c.well_made.ensures in
+    let whole : IsWhole plan c.join_streams.new.builder = record {
       known = c.ports_are_known.ensures;
       bounded = c.proper_records_are_bounded.ensures.sink;
+      laws = record {
+        is_plan = is_plan;
+        none = c.requires;
+        numbered = c.memory_links_are_numbered.ensures.links plan.system is_plan.system;
+        each = c.memory_links_are_numbered.ensures.each plan.system is_plan.system;
+        one = λ side. c.ends_have_one_number.ensures.one plan.system side;
+        joined = λ side. c.ends_are_joined.ensures plan.system side;
+        apart = c.plans_are_memory_plans.ensures.apart plan is_plan;
+        spans = c.spans_fit_ranges.ensures plan is_plan;
+        bounded_host = c.proper_records_are_bounded.ensures.host;
+        bounded_agent = c.proper_records_are_bounded.ensures.agent;
+      };
       upto = c.in_ok-join_streams.ensures;
-      well_made = c.well_made.ensures;
-    }))
+      well_made = c.well_made-2.ensures;
+    } in
+    subst (IsInterconnect plan) (sym c.finish-module.ensures.same)
+    (interconnect_is plan c.join_streams.new.builder (record {
+      kept = c.plans_are_memory_plans.ensures.kept plan is_plan;
+      safe = c.trees_are_served.ensures.safe plan is_plan;
+      awake = c.trees_are_served.ensures.awake plan is_plan;
+      fair = c.trees_are_served.ensures.fair plan is_plan;
+      ignores = c.trees_ignore_words.ensures plan is_plan;
+    }) (record {
+      turned = c.same_beginnings.ensures.turned;
+      legal = c.same_beginnings.ensures.legal;
+      safe = c.same_beginnings.ensures.safe;
+      awake = c.same_beginnings.ensures.awake;
+      fair = c.same_beginnings.ensures.fair;
+      reads = c.memory_is_read_back.ensures;
+    }) (c.goes_on.ensures c.join_streams.new.builder c.well_made-2.ensures) whole)
