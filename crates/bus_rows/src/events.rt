@@ -1,0 +1,111 @@
+//! What is told of a run.
+
+use crate::rules::{Rule, push_broken};
+use crate::signals::Command;
+use std::alloc::AllocError;
+
+/// What happens in a cycle.
+#[derive(Clone, Copy)]
+pub enum Event {
+    /// An agent accepts a beat; its lanes are told where the agent has byte enables.
+    Accepts {
+        agent: u32,
+        command: Command,
+        enables: bool,
+    },
+    /// The host is given a word.
+    Gets {
+        word: u128,
+    },
+}
+
+/// An event and its cycle.
+#[derive(Clone, Copy)]
+pub struct Moment {
+    pub cycle: u32,
+    pub event: Event,
+}
+
+/// The first rule that was broken, and its cycle.
+#[derive(Clone, Copy)]
+pub struct Breach {
+    pub cycle: u32,
+    pub rule: Rule,
+}
+
+#[derive(Drop)]
+pub struct Tally {
+    pub moments: Vec<Moment>,
+    /// How many accesses the host hasn't got accepted.
+    pub left: usize,
+    /// How many words it still waits for.
+    pub unanswered: u32,
+    pub breach: Option<Breach>,
+}
+
+/// Appends the beat that an agent accepts.
+fn push_beat(text: &mut String, agent: u32, command: &Command) -> Result<(), AllocError> {
+    let address = command.address;
+    if command.read {
+        write!(text, "agent {agent} reads {address:x}")
+    } else {
+        let word = command.word;
+        write!(text, "agent {agent} writes {word:x} to {address:x}")
+    }
+}
+
+fn push_event(text: &mut String, event: Event) -> Result<(), AllocError> {
+    match event {
+        Event::Accepts {
+            agent,
+            command,
+            enables,
+        } => {
+            push_beat(text, agent, &command)?;
+            if !enables {
+                return Ok(());
+            }
+            let lanes = command.lanes;
+            write!(text, " in lanes {lanes:x}")
+        }
+        Event::Gets { word } => write!(text, "the host gets {word:x}"),
+    }
+}
+
+/// Appends what is left at the end.
+fn push_left(text: &mut String, tally: &Tally) -> Result<(), AllocError> {
+    let Tally {
+        left,
+        unanswered,
+        ..
+    } = *tally;
+    match (left, unanswered) {
+        (0, 0) => text.push_str("nothing left"),
+        (_, 0) => write!(text, "{left} not accepted left"),
+        (0, _) => write!(text, "{unanswered} unanswered left"),
+        _ => write!(text, "{left} not accepted and {unanswered} unanswered left"),
+    }
+}
+
+/// Appends whether the rules were kept.
+fn push_breach(text: &mut String, breach: Option<Breach>) -> Result<(), AllocError> {
+    match breach {
+        None => text.push_str(", the rules were kept"),
+        Some(Breach { cycle, rule }) => {
+            write!(text, ", a rule was broken in cycle {cycle}: ")?;
+            push_broken(text, rule)
+        }
+    }
+}
+
+/// Appends what came of a run, a line for each event.
+pub fn push_tally(text: &mut String, tally: &Tally) -> Result<(), AllocError> {
+    for moment in tally.moments.as_slice() {
+        let cycle = moment.cycle;
+        write!(text, "\n  {cycle} ")?;
+        push_event(text, moment.event)?;
+    }
+    text.push_str("\n  ")?;
+    push_left(text, tally)?;
+    push_breach(text, tally.breach)
+}

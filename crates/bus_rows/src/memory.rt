@@ -1,0 +1,141 @@
+//! An agent that keeps to what it declares: a memory.
+
+use crate::ends::Agent;
+use crate::rules::Rule;
+use crate::signals::{Answer, Command};
+use std::alloc::{AllocError, Global};
+
+/// A word, and its place or its cycle.
+#[derive(Clone, Copy)]
+struct Word {
+    at: u128,
+    word: u128,
+}
+
+/// The agent, as a cycle begins.
+#[derive(Drop)]
+pub struct Memory {
+    /// What was written, the latest last.
+    written: Vec<Word>,
+    /// The words of the reads that were accepted, each with the cycle in which it is given.
+    owed: Vec<Word>,
+    given: usize,
+    /// The beat that it has let wait.
+    waiting: Option<Command>,
+}
+
+/// The bits of lanes.
+fn bits_of(lanes: u128) -> u128 {
+    let mut bits = 0u128;
+    for lane in 0u32..16 {
+        if lanes.checked_shr(lane).unwrap_or(0) & 1 == 1 {
+            bits |= 0xffu128.checked_shl(lane.saturating_mul(8)).unwrap_or(0);
+        }
+    }
+    bits
+}
+
+impl Memory {
+    pub fn new(alloc: Global) -> Memory {
+        Memory {
+            written: Vec::new(alloc),
+            owed: Vec::new(alloc),
+            given: 0,
+            waiting: None,
+        }
+    }
+
+    /// The word with this number.
+    fn word_at(&self, agent: &Agent, number: u128) -> u128 {
+        let mut word = agent.first.wrapping_add(number) & agent.shape.full_word();
+        for written in self.written.as_slice() {
+            if written.at == number {
+                word = written.word;
+            }
+        }
+        word
+    }
+
+    /// What the agent gives. Where no word comes, each bit at its port is set.
+    pub fn gives(&self, agent: &Agent, cycle: u32) -> Answer {
+        let next = match self.owed.get(self.given) {
+            Some(owed) if owed.at <= u128::from(cycle) => Some(owed.word),
+            _ => None,
+        };
+        Answer {
+            wait: match agent.wait {
+                Some(pattern) => pattern.is_high(cycle),
+                None => false,
+            },
+            valid: next.is_some(),
+            word: next.unwrap_or(agent.shape.full_word()),
+        }
+    }
+
+    /// A beat is accepted.
+    fn accepts(&mut self, agent: &Agent, command: &Command, cycle: u32) -> Result<(), AllocError> {
+        let number = agent.word_number(command.address);
+        let word = self.word_at(agent, number);
+        if command.read {
+            let at = u128::from(cycle).saturating_add(u128::from(agent.latency));
+            self.owed.push(Word { at, word })?;
+        }
+        if command.write {
+            let bits = bits_of(command.lanes);
+            let word = (word & !bits) | (command.word & bits);
+            self.written.push(Word { at: number, word })?;
+        }
+        Ok(())
+    }
+
+    /// The cycle ends; says whether the beat that the agent sees is accepted.
+    pub fn sees(
+        &mut self,
+        agent: &Agent,
+        command: &Command,
+        answer: &Answer,
+        cycle: u32,
+    ) -> Result<bool, AllocError> {
+        if answer.valid {
+            self.given = self.given.saturating_add(1);
+        }
+        if !command.is_shown() {
+            self.waiting = None;
+            return Ok(false);
+        }
+        if answer.wait {
+            self.waiting = Some(*command);
+            return Ok(false);
+        }
+        self.waiting = None;
+        self.accepts(agent, command, cycle)?;
+        Ok(true)
+    }
+
+    /// The rule that is broken by what the agent of this number sees.
+    pub fn judges(&self, agent: &Agent, number: u32, command: &Command) -> Option<Rule> {
+        let changed = match self.waiting {
+            Some(waiting) => waiting != *command,
+            None => false,
+        };
+        let bytes = if agent.shape.counts_words {
+            1
+        } else {
+            u128::from(agent.shape.word_bytes())
+        };
+        if changed {
+            Some(Rule::Held { agent: number })
+        } else if command.read && command.write {
+            Some(Rule::OneKind { agent: number })
+        } else if command.is_shown() && command.address.checked_rem(bytes).unwrap_or(0) != 0 {
+            Some(Rule::Aligned { agent: number })
+        } else {
+            None
+        }
+    }
+
+    /// Whether more reads are unanswered than the agent bears.
+    pub fn bears_too_many(&self, agent: &Agent) -> bool {
+        self.owed.len().saturating_sub(self.given) > usize::from(agent.bound())
+    }
+}
