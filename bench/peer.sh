@@ -1,6 +1,6 @@
 #!/usr/bin/env bash
 # Gives the emitted text of each example to Icarus Verilog and Verilator, as far as they are installed, and says whether they
-# take it without a word; and runs the top level of examples/top. Not part of the gate.
+# take it without a word; and runs the benches of examples/top and examples/control. Not part of the gate.
 set -eu
 top=$(cd -- "$(dirname -- "$0")/.." && pwd)
 folder=$(mktemp -d)
@@ -31,23 +31,22 @@ show() {
   take "$text" verilator --lint-only
 }
 
-# The top level of examples/top: its bench passes, and prints the waves that its README shows.
-run_board() {
+# A folder of examples with a bench, the name of its system, and its Verilog: the bench passes, and prints the waves of its README.
+run_bench() {
+  local example=$1 name=$2
+  shift 2
   if ! command -v iverilog >/dev/null; then
-    echo "iverilog isn't installed, so the bench of examples/top wasn't run"
+    echo "iverilog isn't installed, so the bench of examples/$example wasn't run"
     return
   fi
-  (
-    cd "$top/examples/top"
-    iverilog -g2005 -Wall -o "$folder/board" bench.v board.v master.v memory.v counter.v display.v "$folder/board.v"
-  ) >"$folder/said" 2>&1 || { cat "$folder/said"; exit 1; }
-  vvp "$folder/board" >"$folder/waves"
+  (cd "$top/examples/$example" && iverilog -g2005 -Wall -o "$folder/$name" "$@" "$folder/$name.v") >"$folder/said" 2>&1 || { cat "$folder/said"; exit 1; }
+  vvp "$folder/$name" >"$folder/waves"
   # the block of the README that begins with the cycles
-  sed -n '/^cycle /,/^```$/{/^```$/d;p}' "$top/examples/top/README.md" | diff - "$folder/waves" || {
-    echo "the bench of examples/top prints other waves than its README shows"
+  sed -n '/^cycle /,/^```$/{/^```$/d;p}' "$top/examples/$example/README.md" | diff - "$folder/waves" || {
+    echo "the bench of examples/$example prints other waves than its README shows"
     exit 1
   }
-  echo "the bench of examples/top passes, with the waves of its README"
+  echo "the bench of examples/$example passes, with the waves of its README"
 }
 
 show one one.tcl gen.tcl chk.tcl
@@ -55,4 +54,6 @@ show bus bus.tcl master.tcl memory.tcl
 show stream stream.tcl camera.tcl scaler.tcl
 show stream packets.tcl tuner.tcl framer.tcl voices.tcl mixer.tcl
 show top board.tcl master.tcl memory.tcl counter.tcl display.tcl
-run_board
+run_bench top board bench.v board.v master.v memory.v counter.v display.v
+show control control.tcl cpu.tcl ram.tcl flash.tcl port.tcl
+run_bench control control bench.v control.v cpu.v ram.v flash.v port.v

@@ -1,0 +1,107 @@
+#!/usr/bin/env python3
+"""Runs two modules of one header side by side over random inputs, by Icarus Verilog: lockstep.py OURS THEIRS FOLDER.
+
+Agents give a word only where they owe one, as the rules ask, since the two may differ where a word comes that nobody asked.
+What an output shows counts only where it means something: a host's word where it is valid, a command where it is shown.
+"""
+import re
+import subprocess
+import sys
+from pathlib import Path
+
+CYCLES = 40000
+
+
+def ports_of(text):
+    """The ports of a module: (direction, bits, name)."""
+    header = text[: text.index(");")]
+    found = re.findall(r"(input|output)\s+(?:wire\s+)?(?:\[(\d+):0\]\s+)?([\w$]+)", header)
+    return [(way, int(high or 0) + 1, name) for way, high, name in found]
+
+
+def renamed(text, name):
+    return re.sub(r"\bmodule\s+[\w$]+", f"module {name}", text, count=1)
+
+
+def end_of(name):
+    return name.rsplit("$", 1)
+
+
+def bench(ports):
+    inputs = [p for p in ports if p[0] == "input" and p[2] not in ("clk", "reset")]
+    outputs = [p for p in ports if p[0] == "output"]
+    lines = ["module bench;", "  reg clk = 0, reset = 1; integer cycle, errors = 0;"]
+    flat = lambda name: name.replace("$", "_")
+    for _, bits, name in inputs:
+        lines.append(f"  reg [{bits - 1}:0] {flat(name)} = 0;")
+    for _, bits, name in outputs:
+        lines.append(f"  wire [{bits - 1}:0] a_{flat(name)}, b_{flat(name)};")
+    for which in "ab":
+        joined = [".clk(clk)", ".reset(reset)"] + [f".{n}({flat(n)})" for _, _, n in inputs] + [f".{n}({which}_{flat(n)})" for _, _, n in outputs]
+        lines.append(f"  {'ours' if which == 'a' else 'theirs'} {which} ({', '.join(joined)});")
+    names = {n for _, _, n in ports}
+    agents = sorted({end_of(n)[0] for _, _, n in outputs if end_of(n)[1] == "grant"})
+    hosts = sorted({end_of(n)[0] for w, _, n in outputs if end_of(n)[1] == "waitrequest"})
+    for agent in agents:
+        lines.append(f"  integer owed_{flat(agent)} = 0;")
+    for host in hosts:
+        lines.append(f"  reg stands_{flat(host)} = 0;")
+    lines += ["  initial begin", "    #5 clk = 1; #1 reset = 0;", f"    for (cycle = 0; cycle < {CYCLES}; cycle = cycle + 1) begin"]
+    for host in hosts:
+        h = flat(host)
+        lines.append(f"      if (!stands_{h}) begin")
+        for _, bits, name in inputs:
+            if end_of(name)[0] == host:
+                role = end_of(name)[1]
+                if role in ("read", "write"):
+                    continue
+                lines.append(f"        {flat(name)} = $random;")
+                if role == "address":
+                    lines.append(f"        if ($random & 3) {flat(name)} = {flat(name)} & {bits}'h33ff;")
+        lines.append(f"        case ($random & 3) 0: begin {h}_read = 0; {h}_write = 0; end 1: begin {h}_read = 0; {h}_write = 1; end default: begin {h}_read = 1; {h}_write = 0; end endcase")
+        lines.append("      end")
+    for agent in agents:
+        a = flat(agent)
+        lines.append(f"      {a}_waitrequest = ($random & 3) == 0;")
+        lines.append(f"      {a}_readdata = $random;")
+        lines.append(f"      {a}_readdatavalid = owed_{a} > 0 && ($random & 1);")
+    lines.append("      #4 clk = 0;")
+    for _, _, name in outputs:
+        end, role = end_of(name)
+        f = flat(name)
+        e = flat(end)
+        if role in ("readdata",):
+            when = f"a_{e}_readdatavalid"
+        elif role in ("address", "writedata", "byteenable", "grant"):
+            shows = [f"a_{e}_{k}" for k in ("read", "write") if f"{end}${k}" in names]
+            if role in ("writedata", "byteenable"):
+                shows = [s for s in shows if s.endswith("write")]
+            when = " || ".join(shows) or "1"
+        elif role == "waitrequest":
+            when = f"{e}_read || {e}_write"
+        else:
+            when = "1"
+        lines.append(f"      if (({when}) && a_{f} !== b_{f}) begin errors = errors + 1; if (errors < 5) $display(\"cycle %0d: {name} %h %h\", cycle, a_{f}, b_{f}); end")
+    for agent in agents:
+        a = flat(agent)
+        lines.append(f"      owed_{a} = owed_{a} + (a_{a}_read && !{a}_waitrequest) - {a}_readdatavalid;")
+    for host in hosts:
+        h = flat(host)
+        lines.append(f"      stands_{h} = ({h}_read || {h}_write) && a_{h}_waitrequest;")
+    lines += ["      #5 clk = 1; #1;", "    end", '    if (errors == 0) $display("same over %0d cycles", cycle); else $display("%0d differences", errors);', "    $finish;", "  end", "endmodule"]
+    return "\n".join(lines) + "\n"
+
+
+def main():
+    ours, theirs, folder = Path(sys.argv[1]).read_text(), Path(sys.argv[2]).read_text(), Path(sys.argv[3])
+    (folder / "ours.v").write_text(renamed(ours, "ours"))
+    (folder / "theirs.v").write_text(renamed(theirs, "theirs"))
+    (folder / "lockstep.v").write_text(bench(ports_of(ours)))
+    subprocess.run(["iverilog", "-g2005", "-o", folder / "lockstep", folder / "lockstep.v", folder / "ours.v", folder / "theirs.v"], check=True)
+    said = subprocess.run(["vvp", folder / "lockstep"], check=True, capture_output=True, text=True).stdout
+    print(said, end="")
+    if not said.rstrip().startswith("same"):
+        sys.exit(1)
+
+
+main()
