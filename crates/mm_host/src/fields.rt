@@ -119,6 +119,20 @@ pub(crate) fn in_bytes(
     }
 }
 
+/// The byte enables of a host: all ones where it has none.
+#[tactic(auto, using(net_parts::specs::Laws::growing))]
+fn given_enables(builder: &mut Builder, port: &HostPort, nets: &HostNets) -> Result<Net, NetFault>
+    requires port { IsBoundedHost port.now }
+    requires nets { IfSome nets.now.byteenable (λ given. IsNetOfWidth builder.old given port.now.word_bytes) }
+    ensures net { IfOk result (λ made. IsNetOfWidth builder.new made port.now.word_bytes) }
+    ensures value { IfOk result (λ made. Always builder.new (λ cycle. cycle.net made.number ≡ value_or (all_ones port.now.word_bytes) nets.now.byteenable cycle)) }
+    ensures adds { AddsNets 1 builder.old builder.new }
+    ensures full { result ≡ Err NetFault.TooManyNets → 2 ^ 20 < length builder.old.lines + 1 }
+{
+    let bytes = port.word_bytes;
+    given_or(builder, nets.byteenable, bytes, ones(bytes))
+}
+
 /// Makes them, each from its port, or as a constant where the host has none.
 #[tactic(auto, using(net_parts::specs::Laws::growing))]
 pub(crate) fn make_fields(
@@ -138,7 +152,7 @@ pub(crate) fn make_fields(
     let write = given_or(builder, nets.write, 1, 0)?;
     let address = in_bytes(builder, port, nets.address)?;
     let word = given_or(builder, nets.writedata, word_bits(bytes), 0)?;
-    let enables = given_or(builder, nets.byteenable, bytes, ones(bytes))?;
+    let enables = given_enables(builder, port, nets)?;
     let count = given_or(builder, nets.burstcount, count_bits(port), 1)?;
     let tag = given_or(builder, None, 1, 0)?;
     Ok(Fields {

@@ -1,6 +1,6 @@
 //! How the reads of a host are bounded, by registers alone.
 
-ghost use Rattle.std.specs.Prelude.{◌≡◌, ℕ, ◌+◌, ◌-◌, ◌^◌, ◌<◌, true, false, not, ◌&&◌, ◌||◌, length, IfOk, OnOk};
+ghost use Rattle.std.specs.Prelude.{◌≡◌, ℕ, ◌+◌, ◌-◌, ◌/◌, ◌%◌, ◌^◌, ◌<◌, true, false, not, ◌&&◌, ◌||◌, ◌==◌, if◌then◌else◌, length, IfOk, OnOk};
 ghost use Rattle.histories.specs.History.{is_raised, one_if};
 ghost use Rattle.iface_roles.specs.Proper.{IsBoundedHost};
 ghost use Rattle.netlist.specs.Nets.{NetValue};
@@ -57,6 +57,18 @@ fn hold_asked(builder: &mut Builder, port: &HostPort, read: Net) -> Result<Shown
     Ok(ShownRead { shown, held })
 }
 
+/// Whether 16 reads are unanswered: the highest bit of their count.
+#[tactic(auto, using(net_parts::specs::Laws::growing))]
+fn are_sixteen(builder: &mut Builder, unanswered: Net) -> Result<Net, NetFault>
+    requires unanswered { IsNetOfWidth builder.old unanswered 5 }
+    ensures net { IfOk result (λ full. IsBit builder.new full) }
+    ensures value { IfOk result (λ full. Always builder.new (λ cycle. cycle.net full.number ≡ cycle.net unanswered.number / 16 % 2)) }
+    ensures adds { AddsNets 1 builder.old builder.new }
+    ensures full { result ≡ Err NetFault.TooManyNets → 2 ^ 20 < length builder.old.lines + 1 }
+{
+    builder.slice(unanswered, 4, 4)
+}
+
 /// Shows a read while fewer than 16 are unanswered.
 #[tactic(auto, using(net_parts::specs::Laws::growing))]
 fn hold_count(builder: &mut Builder, port: &HostPort, read: Net) -> Result<ShownRead, NetFault>
@@ -73,7 +85,7 @@ fn hold_count(builder: &mut Builder, port: &HostPort, read: Net) -> Result<Shown
     ensures full { result ≡ Err NetFault.TooManyNets → 2 ^ 20 < length builder.old.lines + 4 }
 {
     let unanswered = register(builder, 5)?;
-    let full = builder.slice(unanswered, 4, 4)?;
+    let full = are_sixteen(builder, unanswered)?;
     let shown = unless(builder, read, full)?;
     let held = HeldReads::Counts { unanswered, full };
     Ok(ShownRead { shown, held })
@@ -173,6 +185,25 @@ fn next_count(
     builder.sub(sum, fewer)
 }
 
+/// The waitrequest of a host that waits for its word: a read while it is unanswered, and a write as long as it waits below.
+#[tactic(auto, using(net_parts::specs::Laws::growing))]
+fn wait_for_word(
+    builder: &mut Builder,
+    read: Net,
+    unanswered: Net,
+    wait: Net,
+) -> Result<Net, NetFault>
+    requires read { IsBit builder.old read }
+    requires unanswered { IsBit builder.old unanswered }
+    requires wait { IsBit builder.old wait }
+    ensures net { IfOk result (λ told. IsBit builder.new told) }
+    ensures value { IfOk result (λ told. Always builder.new (λ cycle. cycle.net told.number ≡ (if cycle.net read.number == 0 then cycle.net wait.number else cycle.net unanswered.number))) }
+    ensures adds { AddsNets 1 builder.old builder.new }
+    ensures full { result ≡ Err NetFault.TooManyNets → 2 ^ 20 < length builder.old.lines + 1 }
+{
+    choose(builder, read, unanswered, wait)
+}
+
 /// Sets what asks, and makes the waitrequest that the host is told.
 #[tactic(auto, using(net_parts::specs::Laws::growing))]
 fn finish_asked(
@@ -198,7 +229,7 @@ fn finish_asked(
 {
     let answered = both(builder, asked, valid)?;
     let open = turned(builder, answered)?;
-    let told = choose(builder, read, open, wait)?;
+    let told = wait_for_word(builder, read, open, wait)?;
     let taken = unless(builder, shown, wait)?;
     let stands = either(builder, asked, taken)?;
     let next = unless(builder, stands, valid)?;
