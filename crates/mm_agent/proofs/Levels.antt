@@ -73,11 +73,10 @@ in_span a m bytes some byte =
     sym (ap (λ k. k % (m * bytes)) word ∙ scaled (a / bytes) m bytes some byte)
 
 -- an agent that counts words
-pub word_placed : (a bits low bytes made : ℕ) (units : Bool) → units ≡ false → 1 ≤ bits → bytes ≡ 2 ^ low → made ≡ a / 2 ^ low % 2 ^ (bits + low - 1 - low + 1) →
+pub word_placed : (a bits low bytes made : ℕ) (units : Bool) → units ≡ false → bytes ≡ 2 ^ low → made ≡ a / 2 ^ low % 2 ^ bits →
     made * (if units then 1 else bytes) ≡ (a * 1 - (a * 1) % bytes) % (if units then max (2 ^ bits) bytes else 2 ^ bits * bytes)
-word_placed a bits low bytes made units words some power is =
-    let width : bits + low - 1 - low + 1 ≡ bits = omega arith in
-    let made_is : made ≡ a / bytes % 2 ^ bits = is ∙ ap (λ k. a / 2 ^ low % 2 ^ k) width ∙ ap (λ k. a / k % 2 ^ bits) (sym power) in
+word_placed a bits low bytes made units words power is =
+    let made_is : made ≡ a / bytes % 2 ^ bits = is ∙ ap (λ k. a / k % 2 ^ bits) (sym power) in
     let byte : 0 < bytes = subst (λ k. 0 < k) (sym power) (pow_pos low) in
     rw words (ap (λ k. k * bytes) made_is ∙ in_span a (2 ^ bits) bytes (pow_pos bits) byte)
 

@@ -1,10 +1,12 @@
 //! The part next to an agent: what the agent is shown, and what stands above.
 
-ghost use Rattle.std.specs.Prelude.{◌≡◌, ℕ, ◌+◌, ◌*◌, ◌^◌, ◌<◌, ◌≤◌, length, IfOk, OnOk};
+ghost use Rattle.std.specs.Prelude.{◌≡◌, ℕ, ◌+◌, ◌*◌, ◌^◌, ◌<◌, ◌≤◌, length, IfOk, IfSome, OnOk};
 ghost use Rattle.iface_roles.specs.Proper.{IsBoundedAgent, span_of};
-ghost use Rattle.net_parts.specs.Nets.{IsRegister};
-ghost use Rattle.net_parts.specs.Growth.{GrowsBy, StillWait};
+ghost use Rattle.netlist.specs.Runs.{Always};
+ghost use Rattle.net_parts.specs.Nets.{IsBit, IsRegister};
+ghost use Rattle.net_parts.specs.Growth.{GrowsBy, AddsNets, StillWait};
 ghost use Rattle.command_nets.specs.Nets.{AreCommandNets};
+ghost use Rattle.command_nets.specs.Ports.{value_or};
 ghost use Rattle.mm_agent.specs.Agents.{AreAgentNets, IsServed, BearsOneTag, AreMadeNets, read_of};
 ghost use Rattle.mm_agent.specs.Reads.{owns_reads};
 ghost use Rattle.mm_agent.specs.Forms.{IsAgentPart, IgnoresAnswer, RunsAsAgent};
@@ -22,6 +24,18 @@ fn read_of(port: &AgentPort, shown: Net) -> Option<Net>
     ensures { result ≡ read_of port.now shown }
 {
     if port.reads { Some(shown) } else { None }
+}
+
+/// High while the agent doesn't accept what it is shown.
+#[tactic(auto, using(net_parts::specs::Laws::growing))]
+fn busy_of(builder: &mut Builder, nets: &AgentNets) -> Result<Net, NetFault>
+    requires nets { IfSome nets.now.waitrequest (λ wait. IsBit builder.old wait) }
+    ensures net { IfOk result (λ busy. IsBit builder.new busy) }
+    ensures value { IfOk result (λ busy. Always builder.new (λ cycle. cycle.net busy.number ≡ value_or 0 nets.now.waitrequest cycle)) }
+    ensures adds { AddsNets 1 builder.old builder.new }
+    ensures full { result ≡ Err NetFault.TooManyNets → 2 ^ 20 < length builder.old.lines + 1 }
+{
+    given_or_low(builder, nets.waitrequest, 1)
 }
 
 /// Makes what an agent is shown of a command in bytes, and the wait and the answers above, from the nets at its ports.
@@ -55,7 +69,7 @@ pub fn emit_agent(
 {
     let address = place_address(builder, port, command.address)?;
     let answer = give_answer(builder, port, nets)?;
-    let busy = given_or_low(builder, nets.waitrequest, 1)?;
+    let busy = busy_of(builder, nets)?;
     let shown = hold_reads(builder, port, command.read)?;
     builder.well_made();
     let waitrequest = finish_reads(builder, port, command.read, &shown, busy, answer.valid)?;

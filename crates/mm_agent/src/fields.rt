@@ -1,6 +1,6 @@
 //! The address that an agent gets, and nets in place of absent ports.
 
-ghost use Rattle.std.specs.Prelude.{◌≡◌, true, false, ◌+◌, ◌*◌, ◌^◌, ◌<◌, ◌≤◌, ◌%◌, length, IfOk, IfSome};
+ghost use Rattle.std.specs.Prelude.{◌≡◌, true, false, ◌+◌, ◌*◌, ◌^◌, ◌<◌, ◌≤◌, ◌/◌, ◌%◌, length, IfOk, IfSome};
 ghost use Rattle.iface_roles.specs.Proper.{IsBoundedAgent, span_of};
 ghost use Rattle.netlist.specs.Netlists.{IsNet};
 ghost use Rattle.netlist.specs.Runs.{Always};
@@ -34,6 +34,21 @@ pub(crate) fn given_or_low(
         Some(given) => Ok(given),
         None => builder.constant(Val::new(bits, 0).unwrap()),
     }
+}
+
+/// So many bits of the net above its lowest ones.
+#[tactic(auto, using(net_parts::specs::Laws::growing))]
+fn bits_above(builder: &mut Builder, net: Net, low: u8, bits: u8) -> Result<Net, NetFault>
+    requires net { IsNet builder.old net }
+    requires some { 1 ≤ bits }
+    requires inside { low + bits ≤ net.width }
+    requires few { low + bits ≤ 128 }
+    ensures net { IfOk result (λ made. IsNetOfWidth builder.new made bits) }
+    ensures value { IfOk result (λ made. Always builder.new (λ cycle. cycle.net made.number ≡ cycle.net net.number / 2 ^ low % 2 ^ bits)) }
+    ensures adds { AddsNets 1 builder.old builder.new }
+    ensures full { result ≡ Err NetFault.TooManyNets → 2 ^ 20 < length builder.old.lines + 1 }
+{
+    builder.slice(net, low + bits - 1, low)
 }
 
 /// The address in the span of an agent that counts bytes: that of a whole word.
@@ -71,7 +86,7 @@ fn place_word(builder: &mut Builder, port: &AgentPort, address: Net) -> Result<N
     ensures full { result ≡ Err NetFault.TooManyNets → 2 ^ 20 < length builder.old.lines + 1 }
 {
     let low = lane_bits(port.word_bytes);
-    builder.slice(address, port.address_bits + low - 1, low)
+    bits_above(builder, address, low, port.address_bits)
 }
 
 /// The address in the agent's span, in its unit, from one in bytes. Nothing is subtracted, since spans lie at multiples of themselves.

@@ -42,6 +42,14 @@ fn bound_on(port: &AgentPort) -> u8
     if port.pending == 0 { 1 } else { port.pending }
 }
 
+/// The most unanswered reads with which an agent takes another one.
+fn most_before_another(port: &AgentPort) -> u32
+    requires { IsBoundedAgent port.now }
+    ensures most { result + 1 ≡ bound_of port.now }
+{
+    u32::from(bound_on(port) - 1)
+}
+
 /// How many bits a count up to this bound needs.
 fn bits_to(bound: u8) -> u8
     requires { bound ≤ 64 }
@@ -82,10 +90,9 @@ fn hold_count(builder: &mut Builder, port: &AgentPort, read: Net) -> Result<Show
     ensures newly { IfOk result (λ made. WaitsBeside (owns_reads made.held) builder.old builder.new) }
     ensures full { result ≡ Err NetFault.TooManyNets → 2 ^ 20 < length builder.old.lines + 5 }
 {
-    let bound = bound_on(port);
-    let bits = bits_to(bound);
+    let bits = bits_to(bound_on(port));
     let unanswered = register(builder, bits)?;
-    let full = is_above(builder, unanswered, bits, u32::from(bound - 1))?;
+    let full = is_above(builder, unanswered, bits, most_before_another(port))?;
     let shown = unless(builder, read, full)?;
     let held = HeldReads::Counts { unanswered, full };
     Ok(ShownRead { shown, held })

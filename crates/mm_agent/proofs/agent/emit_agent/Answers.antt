@@ -11,25 +11,25 @@ use Rattle.mm_agent.proofs.agent.emit_agent.Goals as goal
 
 pub finish_reads-requires-clause-read : goal.finish_reads-requires-clause-read
 finish_reads-requires-clause-read c =
-    let e3 = extends_twice _ _ _ c.given_or_low.ensures.adds.grows.extends c.hold_reads.ensures.grows.extends in
+    let e3 = extends_twice _ _ _ c.busy_of.ensures.adds.grows.extends c.hold_reads.ensures.grows.extends in
     let e2 = extends_twice _ _ _ c.give_answer.ensures.adds.grows.extends e3 in
     net_lasts _ _ _ _ (extends_twice _ _ _ c.place_address.ensures.adds.grows.extends e2) c.requires.command.read
 
 pub returns-in_err-waitrequest-clause-grows : goal.returns-in_err-waitrequest-clause-grows
-returns-in_err-waitrequest-clause-grows c = grows_fewer _ _ _ _ (omega arith) (grows_twice _ _ _ _ _ (grows_twice _ _ _ _ _ (adds_grow _ _ _ (adds_twice _ _ _ _ _ (adds_twice _ _ _ _ _ c.place_address.ensures.adds c.give_answer.ensures.adds) c.given_or_low.ensures.adds)) c.hold_reads.ensures.grows) c.finish_reads.ensures.grows)
+returns-in_err-waitrequest-clause-grows c = grows_fewer _ _ _ _ (omega arith) (grows_twice _ _ _ _ _ (grows_twice _ _ _ _ _ (adds_grow _ _ _ (adds_twice _ _ _ _ _ (adds_twice _ _ _ _ _ c.place_address.ensures.adds c.give_answer.ensures.adds) c.busy_of.ensures.adds)) c.hold_reads.ensures.grows) c.finish_reads.ensures.grows)
 
 pub returns-clause-grows : goal.returns-clause-grows
-returns-clause-grows c = grows_fewer _ _ _ _ (omega arith) (grows_twice _ _ _ _ _ (grows_twice _ _ _ _ _ (adds_grow _ _ _ (adds_twice _ _ _ _ _ (adds_twice _ _ _ _ _ c.place_address.ensures.adds c.give_answer.ensures.adds) c.given_or_low.ensures.adds)) c.hold_reads.ensures.grows) c.finish_reads.ensures.grows)
+returns-clause-grows c = grows_fewer _ _ _ _ (omega arith) (grows_twice _ _ _ _ _ (grows_twice _ _ _ _ _ (adds_grow _ _ _ (adds_twice _ _ _ _ _ (adds_twice _ _ _ _ _ c.place_address.ensures.adds c.give_answer.ensures.adds) c.busy_of.ensures.adds)) c.hold_reads.ensures.grows) c.finish_reads.ensures.grows)
 
 pub returns-in_err-waitrequest-clause-waits : goal.returns-in_err-waitrequest-clause-waits
 returns-in_err-waitrequest-clause-waits c n w =
-    let before = c.given_or_low.ensures.adds.grows.waits n (c.give_answer.ensures.adds.grows.waits n (c.place_address.ensures.adds.grows.waits n w)) in
+    let before = c.busy_of.ensures.adds.grows.waits n (c.give_answer.ensures.adds.grows.waits n (c.place_address.ensures.adds.grows.waits n w)) in
     let within = waiting_within _ n before in
     c.finish_reads.ensures.waits n (λ o. (let made = c.in_ok-shown.ensures.owned n o in omega (arith, made.0, within))) (c.hold_reads.ensures.still_wait n before)
 
 pub returns-clause-waits : goal.returns-clause-waits
 returns-clause-waits c n w =
-    let before = c.given_or_low.ensures.adds.grows.waits n (c.give_answer.ensures.adds.grows.waits n (c.place_address.ensures.adds.grows.waits n w)) in
+    let before = c.busy_of.ensures.adds.grows.waits n (c.give_answer.ensures.adds.grows.waits n (c.place_address.ensures.adds.grows.waits n w)) in
     let within = waiting_within _ n before in
     c.finish_reads.ensures.waits n (λ o. (let made = c.in_ok-shown.ensures.owned n o in omega (arith, made.0, within))) (c.hold_reads.ensures.still_wait n before)
 
@@ -37,7 +37,7 @@ pub returns-clause-no_more_wait : goal.returns-clause-no_more_wait
 returns-clause-no_more_wait c n w =
     let late = c.in_ok-waitrequest.ensures.no_more_wait n w in
     elim (c.in_ok-shown.ensures.newly n late.0) [
-      | inl before ↦ c.place_address.ensures.adds.grows.no_more_wait n (c.give_answer.ensures.adds.grows.no_more_wait n (c.given_or_low.ensures.adds.grows.no_more_wait n before))
+      | inl before ↦ c.place_address.ensures.adds.grows.no_more_wait n (c.give_answer.ensures.adds.grows.no_more_wait n (c.busy_of.ensures.adds.grows.no_more_wait n before))
       | inr own ↦ absurd (late.1 own)
     ]
 
@@ -45,7 +45,7 @@ pub returns-clause-nets : goal.returns-clause-nets
 returns-clause-nets c =
     let e4 = c.finish_reads.ensures.grows.extends in
     let e3 = extends_twice _ _ _ c.hold_reads.ensures.grows.extends e4 in
-    let e2 = extends_twice _ _ _ c.given_or_low.ensures.adds.grows.extends e3 in
+    let e2 = extends_twice _ _ _ c.busy_of.ensures.adds.grows.extends e3 in
     let e1 = extends_twice _ _ _ c.give_answer.ensures.adds.grows.extends e2 in
     let e0 = extends_twice _ _ _ c.place_address.ensures.adds.grows.extends e1 in
     let answer = c.in_ok-answer.ensures.nets in
@@ -61,7 +61,7 @@ pub returns-clause-part : goal.returns-clause-part
 returns-clause-part c =
     let e4 = c.finish_reads.ensures.grows.extends in
     let e3 = extends_twice _ _ _ c.hold_reads.ensures.grows.extends e4 in
-    let e2 = extends_twice _ _ _ c.given_or_low.ensures.adds.grows.extends e3 in
+    let e2 = extends_twice _ _ _ c.busy_of.ensures.adds.grows.extends e3 in
     let e1 = extends_twice _ _ _ c.give_answer.ensures.adds.grows.extends e2 in
     let e0 = extends_twice _ _ _ c.place_address.ensures.adds.grows.extends e1 in
     record {

@@ -12,11 +12,11 @@ reaches bits low bytes width units counts power h =
     let whole : 2 ^ (bits + low) ≡ 2 ^ bits * bytes = pow-add 2 bits low ∙ ap (λ k. 2 ^ bits * k) (sym power) in
     width_reaches (bits + low) width (omega (arith, span, whole))
 
-pub slice-requires-clause-inside : goal.slice-requires-clause-inside
-slice-requires-clause-inside c = let all = reaches _ _ _ _ _ c.requires.counts c.lane_bits-low.ensures.power c.requires.reaches in omega (arith, all, c.requires.some)
+pub bits_above-requires-clause-inside : goal.bits_above-requires-clause-inside
+bits_above-requires-clause-inside c = let all = reaches _ _ _ _ _ c.requires.counts c.lane_bits-low.ensures.power c.requires.reaches in omega (arith, all)
 
 pub returns-clause-value : goal.returns-clause-value
 returns-clause-value c =
-    if_ok c.slice.result _ (λ made. Always c.slice.new.self (λ cycle. PlacesAddress c.args.port.now (cycle.net c.args.address.number) (cycle.net made.number)))
-    (λ made value cycle v. word_placed _ _ c.lane_bits-low.result _ _ _ c.requires.counts c.requires.some c.lane_bits-low.ensures.power (value cycle v).1)
-    c.slice.ensures.value
+    if_ok c.bits_above.result _ (λ made. Always c.bits_above.new.builder (λ cycle. PlacesAddress c.args.port.now (cycle.net c.args.address.number) (cycle.net made.number)))
+    (λ made value cycle v. word_placed _ _ c.lane_bits-low.result _ _ _ c.requires.counts c.lane_bits-low.ensures.power (value cycle v))
+    c.bits_above.ensures.value
