@@ -1,8 +1,7 @@
-use Rattle.std.proofs.Common.{subst, ap, ◌∙◌, arith}
+use Rattle.std.proofs.Common.{subst, arith}
 use Rattle.net_parts.specs.Nets.{IsNetOfWidth}
 use Rattle.net_parts.specs.Laws.{extends_twice, net_lasts, adds_fewer, adds_twice}
 use Rattle.command_nets.specs.Levels.{one_fits}
-use Rattle.command_nets.specs.Ports.{value_or}
 use Rattle.mm_host.proofs.fields.make_fields.Goals as goal
 
 pub given_or-requires-4-clause-fits : goal.given_or-requires-4-clause-fits
