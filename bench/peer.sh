@@ -51,6 +51,7 @@ run_bench() {
 
 show one one.tcl gen.tcl chk.tcl
 show bus bus.tcl master.tcl memory.tcl
+show pair pair.tcl master.tcl memory.tcl
 show stream stream.tcl camera.tcl scaler.tcl
 show stream packets.tcl tuner.tcl framer.tcl voices.tcl mixer.tcl
 show top board.tcl master.tcl memory.tcl counter.tcl display.tcl
