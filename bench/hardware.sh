@@ -26,8 +26,10 @@ compare() {
   local name=$2 text=$folder/$2.v by_hand=$top/bench/by_hand/$2.v ours theirs
   (cd "$top/examples/$1" && "$top/avalon" generate "${@:3}") >"$text"
   "$top/bench/lockstep.py" "$text" "$by_hand" "$folder"
-  read -ra ours < <(cells_of "$text" "${name}_interconnect")
-  read -ra theirs < <(cells_of "$by_hand" "${name}_interconnect")
+  ours=$(cells_of "$text" "${name}_interconnect")
+  theirs=$(cells_of "$by_hand" "${name}_interconnect")
+  read -ra ours <<<"$ours"
+  read -ra theirs <<<"$theirs"
   echo "$name: ${ours[0]} logic cells and ${ours[1]} flip-flops; by hand ${theirs[0]} and ${theirs[1]}"
   fits "${ours[0]}" "${theirs[0]}" && fits "${ours[1]}" "${theirs[1]}" || { echo "$name takes more than one and a half times as many"; exit 1; }
 }

@@ -50,14 +50,15 @@ def bench(ports):
     for host in hosts:
         h = flat(host)
         lines.append(f"      if (!stands_{h}) begin")
-        for _, bits, name in inputs:
+        for _, _, name in inputs:
             if end_of(name)[0] == host:
                 role = end_of(name)[1]
                 if role in ("read", "write"):
                     continue
                 lines.append(f"        {flat(name)} = $random;")
                 if role == "address":
-                    lines.append(f"        if ($random & 3) {flat(name)} = {flat(name)} & {bits}'h33ff;")
+                    # few high bits, so that most addresses are near a base
+                    lines.append(f"        if ($random & 3) {flat(name)} = {flat(name)} & $random & $random;")
         lines.append(f"        case ($random & 3) 0: begin {h}_read = 0; {h}_write = 0; end 1: begin {h}_read = 0; {h}_write = 1; end default: begin {h}_read = 1; {h}_write = 0; end endcase")
         lines.append("      end")
     for agent in agents:
