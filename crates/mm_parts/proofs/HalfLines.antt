@@ -81,13 +81,13 @@ host_commands responses system run host down state end machine single c low lega
     record {
       in_order = in_order responses (system.host host) (run.at_host host) down state c m legal s owed;
       held = held responses (system.host host) (run.at_host host) down state c m legal s owed;
-      legal = legal_below responses (system.host host) (run.at_host host) down state c m legal s owed;
+      legal = legal_below responses (system.host host) (run.at_host host) down state c m legal;
     }
 
 pub host_single : (responses : Responses) (system : System) (run : Run) (host : ℕ) (down : Port) (state : HostState) (end : ℕ) → IsHostMachine responses (system.host host) (run.at_host host) down state end → ReadsWords (system.host host) (run.at_host host) end →
     (c : ℕ) → c ≤ end → IsLegalHost (system.host host) (run.at_host host) c → AnswersAreOwed down (c - 1) → AreSingle down c
 host_single responses system run host down state end machine single c low legal owed =
-    single_below responses (system.host host) (run.at_host host) down state c (host_shorter responses (system.host host) (run.at_host host) down state end c low machine) legal (reads_shorter (system.host host) (run.at_host host) end c low single) owed
+    single_below responses (system.host host) (run.at_host host) down state c (host_shorter responses (system.host host) (run.at_host host) down state end c low machine) legal
 
 pub host_debt : (responses : Responses) (system : System) (run : Run) (host : ℕ) (down : Port) (state : HostState) (end : ℕ) → IsHostMachine responses (system.host host) (run.at_host host) down state end → ReadsWords (system.host host) (run.at_host host) end →
     (room : ℕ) → 16 * longest_burst down.shape.burst_bits < room → (c : ℕ) → c ≤ end → IsLegalHost (system.host host) (run.at_host host) c → AnswersAreOwed down (c - 1) → OwesBelow room down c

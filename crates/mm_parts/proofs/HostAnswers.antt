@@ -78,7 +78,7 @@ module _ (responses : Responses) (side : HostSide) (view : HostView) (down : Por
         where
           by_both : (r v : Bool) → is_raised (view.read c) ≡ r → is_raised (down.answers.valid c) ≡ v → (is_raised (view.read c) && not (is_raised (view.waitrequest c))) ≡ is_raised (down.answers.valid c)
           by_both true v r vv =
-              let accepts : not (is_raised (view.waitrequest c)) ≡ state.asked c && is_raised (down.answers.valid c) = sym (ap (λ r. (r || is_raised (view.write c)) && not (is_raised (view.waitrequest c))) r) ∙ read_accepts responses side view down state end machine legal single early has c low r in
+              let accepts : not (is_raised (view.waitrequest c)) ≡ state.asked c && is_raised (down.answers.valid c) = sym (ap (λ r. (r || is_raised (view.write c)) && not (is_raised (view.waitrequest c))) r) ∙ read_accepts responses side view down state end machine legal has c low r in
               ap₂ (λ r w. r && w) r accepts ∙ ap (λ a. a && is_raised (down.answers.valid c)) ((asks has c low).asked) ∙ by_word v vv
             where
               by_word : (v : Bool) → is_raised (down.answers.valid c) ≡ v → (owes c && is_raised (down.answers.valid c)) ≡ is_raised (down.answers.valid c)
@@ -123,12 +123,12 @@ module _ (responses : Responses) (side : HostSide) (view : HostView) (down : Por
 
   pub lens_valid : side.has_readdatavalid ≡ true → (c : ℕ) → c ≤ end → map (λ (e : Entry). e.left) (entries (taken_at down c)) ≡ accepted_by c
   lens_valid has zero low = refl
-  lens_valid has (suc c) low = lens (suc c) low ∙ ap (λ b. accepted_by (suc c) ++ lens_of (only_if b (from_host (own responses side view down state end machine legal single early c)))) (never has (suc c)) ∙ append-nil (accepted_by (suc c))
+  lens_valid has (suc c) low = lens (suc c) low ∙ ap (λ b. accepted_by (suc c) ++ lens_of (only_if b (from_host (own responses side view down state end machine legal c)))) (never has (suc c)) ∙ append-nil (accepted_by (suc c))
 
   -- ---- with readdatavalid: the queue holds at most 16 reads
 
   legal_down : AreLegalAt down end
-  legal_down = legal_below responses side view down state end machine legal single early
+  legal_down = legal_below responses side view down state end machine legal
 
   owed_words : (c : ℕ) → suc c < end → words (suc c) ≤ words_of (entries (taken_at down c))
   owed_words c low = let few = owed c (omega arith) in let asked = owed_is (taken_at down c) in omega (arith, few, asked)
@@ -178,13 +178,13 @@ module _ (responses : Responses) (side : HostSide) (view : HostView) (down : Por
       omega (arith, sums, asked, count, stands)
     where
       one : (b : Bool) → owes (suc c) ≡ b → total (lens_of (standing_read responses side view down state end machine legal single early (suc c))) ≡ one_if (owes (suc c))
-      one false e = ap (λ b. total (lens_of (only_if b (from_host (own responses side view down state end machine legal single early c))))) e ∙ sym (ap one_if e)
+      one false e = ap (λ b. total (lens_of (only_if b (from_host (own responses side view down state end machine legal c))))) e ∙ sym (ap one_if e)
       one true e =
           let s = stands_on_host responses side view down state end machine legal single early c low e in
           let count = single has c low s.0 in
-          ap (λ b. total (lens_of (only_if b (from_host (own responses side view down state end machine legal single early c))))) e ∙ is_read (is_raised (view.write c)) refl s.0 count ∙ sym (ap one_if e)
+          ap (λ b. total (lens_of (only_if b (from_host (own responses side view down state end machine legal c))))) e ∙ is_read (is_raised (view.write c)) refl s.0 count ∙ sym (ap one_if e)
         where
-          is_read : (w : Bool) → is_raised (view.write c) ≡ w → is_raised (view.read c) ≡ true → view.count c ≡ 1 → total (lens_of (from_host (own responses side view down state end machine legal single early c) ∷ [])) ≡ 1
+          is_read : (w : Bool) → is_raised (view.write c) ≡ w → is_raised (view.read c) ≡ true → view.count c ≡ 1 → total (lens_of (from_host (own responses side view down state end machine legal c) ∷ [])) ≡ 1
           is_read true w r n = let one = legal.one_kind c low in let bad : ⊥ = cc in absurd bad
           is_read false w r n = rw w (let sum = length-map (numbers 0 (view.count c)) (read_beat side.shape (levels_at view.signals c)) ∙ numbers_length 0 (view.count c) in omega (arith, sum, n))
 

@@ -57,7 +57,7 @@ module _ (responses : Responses) (side : HostSide) (view : HostView) (down : Por
   -- ---- with readdatavalid: the queue holds at most 16 reads
 
   legal_down : AreLegalAt down end
-  legal_down = legal_below responses side view down state end machine legal single owed
+  legal_down = legal_below responses side view down state end machine legal
 
   owed_words : (c : ℕ) → suc c < end → words (suc c) ≤ words_of (entries (taken_at down c))
   owed_words c low = let few = owed c (omega arith) in let asked = owed_is (taken_at down c) in omega (arith, few, asked)

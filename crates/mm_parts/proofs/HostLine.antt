@@ -92,7 +92,7 @@ gate_of_zero true level none = refl
 gate_of_zero false level none = none
 
 module _ (responses : Responses) (side : HostSide) (view : HostView) (down : Port) (state : HostState) (end : ℕ) (machine : IsHostMachine responses side view down state end)
-    (legal : IsLegalHost side view end) (single : ReadsWords side view end) (owed : AnswersAreOwed down (end - 1)) where
+    (legal : IsLegalHost side view end) where
   abbrev shut : ℕ → Bool
   shut c = is_shut side state c
 
@@ -201,12 +201,6 @@ module _ (responses : Responses) (side : HostSide) (view : HostView) (down : Por
       plain true = refl
       plain false = refl
 
-  -- ---- without readdatavalid: a read that was taken below stands at the host until its word comes
-
-  abbrev pub stands_taken : ℕ → Bool
-  stands_taken zero = false
-  stands_taken (suc c) = not side.has_readdatavalid && (if stands_taken c then not (is_raised (down.answers.valid c)) else takes_read down c)
-
   pub valid_takes : side.has_readdatavalid ≡ true → (c : ℕ) → c < end → takes down c ≡ accepts c
   valid_takes has c low =
       let wait : is_raised (view.waitrequest c) ≡ (shut c && is_raised (view.read c)) || is_raised (down.commands.waitrequest c) =
@@ -228,242 +222,8 @@ module _ (responses : Responses) (side : HostSide) (view : HostView) (down : Por
   shut_is : side.has_readdatavalid ≡ false → (c : ℕ) → shut c ≡ state.asked c
   shut_is has c = ap (λ h. if h then not (nat_lt (length (state.queue c)) 16) else state.asked c) has
 
-  pub standing_next : side.has_readdatavalid ≡ false → (c : ℕ) → stands_taken (suc c) ≡ (if stands_taken c then not (is_raised (down.answers.valid c)) else takes_read down c)
-  standing_next has c = ap (λ h. not h && (if stands_taken c then not (is_raised (down.answers.valid c)) else takes_read down c)) has
-
-  -- the register, and how many words are owed
-  pub record Asks (c : ℕ) : Type 0 where
-    pub asked : state.asked c ≡ stands_taken c
-    pub count : length (read_beats (taken_at down c)) ≡ words_before down.answers.valid c + one_if (stands_taken c)
-
-  abbrev hidden_read : ℕ → Bool
-  hidden_read c = takes_read down c
-
-  pub no_read : side.has_readdatavalid ≡ false → (c : ℕ) → c < end → state.asked c ≡ true → takes_read down c ≡ false
-  no_read has c low asked = ap (λ r. takes down c && r) (read_is c low ∙ ap (λ b. not b && is_raised (view.read c)) (shut_is has c ∙ asked)) ∙ nothing (takes down c)
-
-  pub asked_now : (c : ℕ) → c < end → length (read_beats (only_if (takes down c) (marked_at down c))) ≡ (if takes_read down c then view.count c else 0)
-  asked_now c low = by_all (takes down c) (is_raised (down.commands.read c)) (is_raised (down.commands.write c)) refl refl refl
-    where
-      by_all : (t r w : Bool) → takes down c ≡ t → is_raised (down.commands.read c) ≡ r → is_raised (down.commands.write c) ≡ w → length (read_beats (only_if (takes down c) (marked_at down c))) ≡ (if takes_read down c then view.count c else 0)
-      by_all false r w t rr ww = rw t refl
-      by_all true true true t rr ww =
-          let both = still_one (shut c) (is_raised (view.read c)) (is_raised (view.write c)) (legal.one_kind c low) in
-          let read = sym (read_is c low) ∙ rr in
-          let write = sym (write_is c low) ∙ ww in
-          let bad : ⊥ = cc in
-          absurd bad
-      by_all true true false t rr ww = rw (t, rr, ww) (length-append (map (read_beat down.shape (levels_at down.commands.signals c)) (numbers 0 (down.commands.count c))) [] ∙ plus (length-map (numbers 0 (down.commands.count c)) (read_beat down.shape (levels_at down.commands.signals c)) ∙ numbers_length 0 (down.commands.count c) ∙ machine.count c low))
-        where
-          plus : {n k : ℕ} → n ≡ k → n + 0 ≡ k
-          plus e = omega (arith, e)
-      by_all true false true t rr ww = rw (t, rr, ww) refl
-      by_all true false false t rr ww = let shown = (and_parts (shows down.commands.signals c) (not (is_raised (down.commands.waitrequest c))) t).0 in let bad : ⊥ = cc in absurd bad
-
-  pub read_shown : (c : ℕ) → c < end → takes_read down c ≡ true → is_raised (view.read c) ≡ true
-  read_shown c low taken = (and_parts (not (shut c)) (is_raised (view.read c)) (sym (read_is c low) ∙ (and_parts (takes down c) (is_raised (down.commands.read c)) taken).1)).1
-
-  next_asks : side.has_readdatavalid ≡ false → (c : ℕ) → suc c < end → Asks c → Asks (suc c)
-  next_asks has c low a = by_all (stands_taken c) (is_raised (down.answers.valid c)) (takes_read down c) refl refl refl
-    where
-      more : length (read_beats (taken_at down (suc c))) ≡ length (read_beats (taken_at down c)) + (if takes_read down c then view.count c else 0)
-      more = reads_more down c ∙ ap (λ n. length (read_beats (taken_at down c)) + n) (asked_now c (omega arith))
-
-      word : words_before down.answers.valid (suc c) ≡ words_before down.answers.valid c + one_if (is_raised (down.answers.valid c))
-      word = word_more down.answers.valid c
-
-      few : words_before down.answers.valid (suc c) ≤ length (read_beats (taken_at down c))
-      few = owed c (omega arith)
-
-      reg : (k v t : Bool) → state.asked c ≡ k → is_raised (down.answers.valid c) ≡ v → takes_read down c ≡ t → state.asked (suc c) ≡ ((k || t) && not v)
-      reg k v t kk vv tt' = machine.asks c low has ∙ ap₂ (λ k v. (k || takes_read down c) && not v) kk vv ∙ ap (λ t. (k || t) && not v) tt'
-
-      next : (k v t : Bool) → stands_taken c ≡ k → is_raised (down.answers.valid c) ≡ v → takes_read down c ≡ t → stands_taken (suc c) ≡ (if k then not v else t)
-      next k v t kk vv tt' = standing_next has c ∙ ap₂ (λ k v. if k then not v else takes_read down c) kk vv ∙ ap (λ t. if k then not v else t) tt'
-
-      by_all : (k v t : Bool) → stands_taken c ≡ k → is_raised (down.answers.valid c) ≡ v → takes_read down c ≡ t → Asks (suc c)
-      by_all true v true kk vv t = let none = no_read has c (omega arith) (a.asked ∙ kk) in let bad : ⊥ = cc in absurd bad
-      by_all true true false kk vv t =
-          let count = a.count ∙ ap (λ b. words_before down.answers.valid c + one_if b) kk in
-          let sum = more ∙ ap (λ b. length (read_beats (taken_at down c)) + (if b then view.count c else 0)) t in
-          let words = word ∙ ap (λ b. words_before down.answers.valid c + one_if b) vv in
-          let after = next true true false kk vv t in
-          record { asked = reg true true false (a.asked ∙ kk) vv t ∙ sym after; count = (let last = ap one_if after in omega (arith, count, sum, words, last)) }
-      by_all true false false kk vv t =
-          let count = a.count ∙ ap (λ b. words_before down.answers.valid c + one_if b) kk in
-          let sum = more ∙ ap (λ b. length (read_beats (taken_at down c)) + (if b then view.count c else 0)) t in
-          let words = word ∙ ap (λ b. words_before down.answers.valid c + one_if b) vv in
-          let after = next true false false kk vv t in
-          record { asked = reg true false false (a.asked ∙ kk) vv t ∙ sym after; count = (let last = ap one_if after in omega (arith, count, sum, words, last)) }
-      by_all false true t kk vv tt' =
-          let count = a.count ∙ ap (λ b. words_before down.answers.valid c + one_if b) kk in
-          let words = word ∙ ap (λ b. words_before down.answers.valid c + one_if b) vv in
-          absurd (omega (arith, count, words, few))
-      by_all false false true kk vv t =
-          let count = a.count ∙ ap (λ b. words_before down.answers.valid c + one_if b) kk in
-          let one = single has c (omega arith) (read_shown c (omega arith) t) in
-          let sum = more ∙ ap (λ b. length (read_beats (taken_at down c)) + (if b then view.count c else 0)) t in
-          let words = word ∙ ap (λ b. words_before down.answers.valid c + one_if b) vv in
-          let after = next false false true kk vv t in
-          record { asked = reg false false true (a.asked ∙ kk) vv t ∙ sym after; count = (let last = ap one_if after in omega (arith, count, sum, words, last, one)) }
-      by_all false false false kk vv t =
-          let count = a.count ∙ ap (λ b. words_before down.answers.valid c + one_if b) kk in
-          let sum = more ∙ ap (λ b. length (read_beats (taken_at down c)) + (if b then view.count c else 0)) t in
-          let words = word ∙ ap (λ b. words_before down.answers.valid c + one_if b) vv in
-          let after = next false false false kk vv t in
-          record { asked = reg false false false (a.asked ∙ kk) vv t ∙ sym after; count = (let last = ap one_if after in omega (arith, count, sum, words, last)) }
-
-  pub asks_at : side.has_readdatavalid ≡ false → (c : ℕ) → c < end → Asks c
-  asks_at has zero low = record { asked = machine.quiet; count = refl }
-  asks_at has (suc c) low = next_asks has c low (asks_at has c (omega arith))
-
-  pub without : (c : ℕ) → stands_taken c ≡ true → side.has_readdatavalid ≡ false
-  without zero e = cc
-  without (suc c) e = by_test side.has_readdatavalid refl
-    where
-      by_test : (b : Bool) → side.has_readdatavalid ≡ b → side.has_readdatavalid ≡ false
-      by_test false h = h
-      by_test true h = let parts = and_parts (not side.has_readdatavalid) (if stands_taken c then not (is_raised (down.answers.valid c)) else takes_read down c) e in let bad : ⊥ = cc in absurd bad
-
-  -- the read that is owed stands at the host
-  stands_from : (c : ℕ) → c < end → (stands_taken c ≡ true → is_raised (view.read c) ≡ true) → stands_taken (suc c) ≡ true → (is_raised (view.read c) ≡ true) × (accepts c ≡ false)
-  stands_from c low go e = by_kept (stands_taken c) refl go
-    where
-      has : side.has_readdatavalid ≡ false
-      has = without (suc c) e
-
-      by_kept : (b : Bool) → stands_taken c ≡ b → (stands_taken c ≡ true → is_raised (view.read c) ≡ true) → (is_raised (view.read c) ≡ true) × (accepts c ≡ false)
-      by_kept true k go =
-          let read = go k in
-          let quiet : not (is_raised (down.answers.valid c)) ≡ true = sym (standing_next has c ∙ ap (λ b. if b then not (is_raised (down.answers.valid c)) else takes_read down c) k) ∙ e in
-          (read, read_accepts has c low read ∙ ap (λ v. state.asked c && v) (lower (is_raised (down.answers.valid c)) quiet) ∙ nothing (state.asked c))
-        where
-          lower : (b : Bool) → not b ≡ true → b ≡ false
-          lower true e = sym e
-          lower false e = refl
-      by_kept false k go =
-          let taken : takes_read down c ≡ true = sym (standing_next has c ∙ ap (λ b. if b then not (is_raised (down.answers.valid c)) else takes_read down c) k) ∙ e in
-          let read = read_shown c low taken in
-          (read, read_accepts has c low read ∙ ap (λ b. b && is_raised (down.answers.valid c)) ((asks_at has c low).asked ∙ k))
-
-  pub read_stands : (c : ℕ) → c < end → stands_taken c ≡ true → is_raised (view.read c) ≡ true
-  read_stands zero low e = cc
-  read_stands (suc c) low e =
-      let s = stands_from c (omega arith) (λ k. read_stands c (omega arith) k) e in
-      let held : is_held view.signals (host_accepts view) c ≡ true = ap₂ (λ r t. (r || is_raised (view.write c)) && not t) s.0 s.1 in
-      ap (λ (l : Levels). is_raised l.read) (sym (legal.held c low held)) ∙ s.0
-
-  pub stands_on_host : (c : ℕ) → c < end → stands_taken (suc c) ≡ true → (is_raised (view.read c) ≡ true) × (accepts c ≡ false)
-  stands_on_host c low e = stands_from c low (λ k. read_stands c low k) e
-
-  -- ---- what is taken below is what is accepted, and the read that stands
-
-  abbrev pub standing_read : ℕ → List Sent
-  standing_read zero = []
-  standing_read (suc c) = only_if (stands_taken (suc c)) (from_host (own c))
-
-  abbrev pub all_accepted_by : ℕ → List Sent
-  all_accepted_by c = sent_by (accepted side.shape view.signals (host_accepts view) c)
-
   own_keeps : (c : ℕ) → suc c < end → is_held view.signals (host_accepts view) c ≡ true → own c ≡ own (suc c)
   own_keeps c low held = ((legal_keeps side.shape view.signals (host_accepts view) end (accepts_shows view.signals view.waitrequest) legal).held c low held).1
-
-  standing_is : (c : ℕ) → c < end → standing_read c ≡ only_if (stands_taken c) (from_host (own c))
-  standing_is zero low = refl
-  standing_is (suc c) low = by_test (stands_taken (suc c)) refl
-    where
-      by_test : (b : Bool) → stands_taken (suc c) ≡ b → only_if (stands_taken (suc c)) (from_host (own c)) ≡ only_if (stands_taken (suc c)) (from_host (own (suc c)))
-      by_test false e = rw e refl
-      by_test true e =
-          let s = stands_on_host c (omega arith) e in
-          let held : is_held view.signals (host_accepts view) c ≡ true = ap₂ (λ r t. (r || is_raised (view.write c)) && not t) s.0 s.1 in
-          ap (λ t. only_if (stands_taken (suc c)) (from_host t)) (own_keeps c low held)
-
-  -- one cycle: what goes below, what is accepted, and what stands before and behind
-  balance : (c : ℕ) → c < end → (x : Sent) → only_if (stands_taken c) x ++ only_if (takes down c) x ≡ only_if (accepts c) x ++ only_if (stands_taken (suc c)) x
-  balance c low x = by_valid side.has_readdatavalid refl
-    where
-      by_valid : (b : Bool) → side.has_readdatavalid ≡ b → only_if (stands_taken c) x ++ only_if (takes down c) x ≡ only_if (accepts c) x ++ only_if (stands_taken (suc c)) x
-      by_valid true has =
-          let none : stands_taken c ≡ false = never c in
-          let after : stands_taken (suc c) ≡ false = never (suc c) in
-          ap₂ (λ a b. only_if a x ++ only_if b x) none (valid_takes has c low) ∙ sym (ap (λ b. only_if (accepts c) x ++ only_if b x) after ∙ append-nil (only_if (accepts c) x))
-        where
-          never : (c : ℕ) → stands_taken c ≡ false
-          never c = by_test (stands_taken c) refl
-            where
-              by_test : (b : Bool) → stands_taken c ≡ b → stands_taken c ≡ false
-              by_test false e = e
-              by_test true e = let not_has = without c e in let bad : ⊥ = cc in absurd bad
-      by_valid false has = by_kept (stands_taken c) (is_raised (view.read c)) (is_raised (view.write c)) refl refl refl
-        where
-          by_kept : (k r w : Bool) → stands_taken c ≡ k → is_raised (view.read c) ≡ r → is_raised (view.write c) ≡ w → only_if (stands_taken c) x ++ only_if (takes down c) x ≡ only_if (accepts c) x ++ only_if (stands_taken (suc c)) x
-          by_kept true r w k rr ww =
-              let read = read_stands c low k in
-              let asked : state.asked c ≡ true = (asks_at has c low).asked ∙ k in
-              let quiet : is_raised (view.write c) ≡ false = alone (is_raised (view.read c)) (is_raised (view.write c)) read (legal.one_kind c low) in
-              let none : takes down c ≡ false = ap (λ s. s && not (is_raised (down.commands.waitrequest c))) (shows_is c low ∙ ap₂ (λ s w. (not s && is_raised (view.read c)) || w) (shut_is has c ∙ asked) quiet) in
-              let accepted_now : accepts c ≡ is_raised (down.answers.valid c) = read_accepts has c low read ∙ ap (λ b. b && is_raised (down.answers.valid c)) asked in
-              let after : stands_taken (suc c) ≡ not (is_raised (down.answers.valid c)) = standing_next has c ∙ ap (λ b. if b then not (is_raised (down.answers.valid c)) else takes_read down c) k in
-              ap₂ (λ a b. only_if a x ++ only_if b x) k none ∙ one (is_raised (down.answers.valid c)) ∙ sym (ap₂ (λ a b. only_if a x ++ only_if b x) accepted_now after)
-            where
-              alone : (r w : Bool) → r ≡ true → not (r && w) ≡ true → w ≡ false
-              alone true true e k = sym k
-              alone true false e k = refl
-              alone false w e k = cc
-
-              one : (v : Bool) → x ∷ [] ≡ only_if v x ++ only_if (not v) x
-              one true = refl
-              one false = refl
-          by_kept false true w k rr ww =
-              let asked : state.asked c ≡ false = (asks_at has c low).asked ∙ k in
-              let none : accepts c ≡ false = read_accepts has c low rr ∙ ap (λ b. b && is_raised (down.answers.valid c)) asked in
-              let shown : is_raised (down.commands.read c) ≡ true = read_is c low ∙ ap₂ (λ s r. not s && r) (shut_is has c ∙ asked) rr in
-              let after : stands_taken (suc c) ≡ takes down c = standing_next has c ∙ ap (λ b. if b then not (is_raised (down.answers.valid c)) else takes_read down c) k ∙ ap (λ r. takes down c && r) shown ∙ whole (takes down c) in
-              ap (λ a. only_if a x ++ only_if (takes down c) x) k ∙ sym (ap₂ (λ a b. only_if a x ++ only_if b x) none after)
-            where
-              whole : (b : Bool) → (b && true) ≡ b
-              whole true = refl
-              whole false = refl
-          by_kept false false w k rr ww =
-              let hidden : is_raised (down.commands.read c) ≡ false = read_is c low ∙ ap (λ r. not (shut c) && r) rr ∙ nothing (not (shut c)) in
-              let after : stands_taken (suc c) ≡ false = standing_next has c ∙ ap (λ b. if b then not (is_raised (down.answers.valid c)) else takes_read down c) k ∙ ap (λ r. takes down c && r) hidden ∙ nothing (takes down c) in
-              ap (λ a. only_if a x ++ only_if (takes down c) x) k ∙ ap (λ t. only_if t x) (same w ww) ∙ sym (ap (λ b. only_if (accepts c) x ++ only_if b x) after ∙ append-nil (only_if (accepts c) x))
-            where
-              same : (w : Bool) → is_raised (view.write c) ≡ w → takes down c ≡ accepts c
-              same true ww = write_takes c low ww
-              same false ww =
-                  ap (λ s. s && not (is_raised (down.commands.waitrequest c))) (shows_is c low ∙ ap₂ (λ r w. (not (shut c) && r) || w) rr ww ∙ calm (not (shut c))) ∙ sym (ap₂ (λ r w. (r || w) && not (is_raised (view.waitrequest c))) rr ww)
-                where
-                  calm : (b : Bool) → ((b && false) || false) ≡ false
-                  calm true = refl
-                  calm false = refl
-
-  sent_if : (b : Bool) (c : ℕ) → c < end → map from_port (only_if b (marked_at down c)) ≡ only_if b (from_host (own c))
-  sent_if true c low = ap (λ x. x ∷ []) (same_sent c low)
-  sent_if false c low = refl
-
-  host_if : (b : Bool) (c : ℕ) → map from_host (only_if b (own c)) ≡ only_if b (from_host (own c))
-  host_if true c = refl
-  host_if false c = refl
-
-  pub taken_same : (c : ℕ) → c ≤ end → sent_of (taken_at down c) ≡ all_accepted_by c ++ standing_read c
-  taken_same zero low = refl
-  taken_same (suc c) low =
-      map-append from_port (taken_at down c) (only_if (takes down c) (marked_at down c))
-      ∙ ap₂ (λ a b. a ++ b) (taken_same c (omega arith) ∙ ap (λ l. all_accepted_by c ++ l) (standing_is c low)) (sent_if (takes down c) c low)
-      ∙ append_assoc (all_accepted_by c) (only_if (stands_taken c) (from_host (own c))) (only_if (takes down c) (from_host (own c)))
-      ∙ ap (λ l. all_accepted_by c ++ l) (balance c low (from_host (own c)))
-      ∙ sym (append_assoc (all_accepted_by c) (only_if (accepts c) (from_host (own c))) (only_if (stands_taken (suc c)) (from_host (own c))))
-      ∙ ap (λ l. (all_accepted_by c ++ l) ++ only_if (stands_taken (suc c)) (from_host (own c))) (sym (host_if (accepts c) c))
-      ∙ ap (λ l. l ++ only_if (stands_taken (suc c)) (from_host (own c))) (sym (map-append from_host (accepted side.shape view.signals (host_accepts view) c) (only_if (accepts c) (own c))))
-
-  pub held : (c : ℕ) → c ≤ end → length (accepted side.shape view.signals (host_accepts view) c) ≤ length (taken_at down c) + 0
-  held c low =
-      let same = ap length (taken_same c low) ∙ length-append (all_accepted_by c) (standing_read c) in
-      let one : length (sent_of (taken_at down c)) ≡ length (taken_at down c) = length-map (taken_at down c) _ in
-      let other : length (all_accepted_by c) ≡ length (accepted side.shape view.signals (host_accepts view) c) = length-map (accepted side.shape view.signals (host_accepts view) c) _ in
-      omega (arith, same, one, other)
 
   -- ---- what is shown below is legal
 
@@ -579,64 +339,6 @@ module _ (responses : Responses) (side : HostSide) (view : HostView) (down : Por
   pub legal_below : AreLegalAt down end
   legal_below = legal_when_shown down.shape down.commands down.answers end fit_below held_below
 
-  -- ---- what is shown below is the front of what the host presents
-
-  pub in_order : (c : ℕ) → c ≤ end → IsPrefix (sent_of (shown_at down c)) (sent_by (presented side.shape view.signals (host_accepts view) c))
-  in_order zero low = prefix_refl []
-  in_order (suc c) low =
-      let under = shown_is_accepted_and_standing _ _ (marked_at down) end (suc c) (marked_keeps down end legal_below) low in
-      let over = shown_is_accepted_and_standing _ _ own end (suc c) (legal_keeps side.shape view.signals (host_accepts view) end (accepts_shows view.signals view.waitrequest) legal) low in
-      let left : sent_of (shown_at down (suc c)) ≡ all_accepted_by (suc c) ++ (standing_read (suc c) ++ only_if (is_held down.commands.signals (takes down) c) (from_host (own c))) =
-      ap sent_of under ∙ map-append from_port (taken_at down (suc c)) (only_if (is_held down.commands.signals (takes down) c) (marked_at down c))
-      ∙ ap₂ (λ a b. a ++ b) (taken_same (suc c) low) (sent_if (is_held down.commands.signals (takes down) c) c low) ∙ append_assoc (all_accepted_by (suc c)) (standing_read (suc c)) (only_if (is_held down.commands.signals (takes down) c) (from_host (own c))) in
-      let right : sent_by (presented side.shape view.signals (host_accepts view) (suc c)) ≡ all_accepted_by (suc c) ++ only_if (is_held view.signals (host_accepts view) c) (from_host (own c)) =
-      ap sent_by over ∙ map-append from_host (accepted side.shape view.signals (host_accepts view) (suc c)) (only_if (is_held view.signals (host_accepts view) c) (own c)) ∙ ap (λ l. all_accepted_by (suc c) ++ l) (host_if (is_held view.signals (host_accepts view) c) c) in
-      subst (λ l. IsPrefix l (sent_by (presented side.shape view.signals (host_accepts view) (suc c)))) (sym left)
-      (subst (IsPrefix (all_accepted_by (suc c) ++ (standing_read (suc c) ++ only_if (is_held down.commands.signals (takes down) c) (from_host (own c))))) (sym right) (behind (all_accepted_by (suc c)) (by_both (stands_taken (suc c)) (is_held down.commands.signals (takes down) c) refl refl)))
-    where
-      behind : (front : List Sent) {xs ys : List Sent} → IsPrefix xs ys → IsPrefix (front ++ xs) (front ++ ys)
-      behind [] p = p
-      behind (x ∷ front) p = let q = behind front p in record { rest = q.rest; joins = ap (λ l. x ∷ l) q.joins }
-
-      stands : is_held view.signals (host_accepts view) c ≡ true → (l : List Sent) → l ≡ from_host (own c) ∷ [] → IsPrefix l (only_if (is_held view.signals (host_accepts view) c) (from_host (own c)))
-      stands held l e = subst (λ b. IsPrefix l (only_if b (from_host (own c)))) (sym held) (subst (λ l. IsPrefix l (from_host (own c) ∷ [])) (sym e) (prefix_refl _))
-
-      by_both : (k h : Bool) → stands_taken (suc c) ≡ k → is_held down.commands.signals (takes down) c ≡ h → IsPrefix (only_if (stands_taken (suc c)) (from_host (own c)) ++ only_if (is_held down.commands.signals (takes down) c) (from_host (own c))) (only_if (is_held view.signals (host_accepts view) c) (from_host (own c)))
-      by_both false false k h = subst (λ l. IsPrefix l (only_if (is_held view.signals (host_accepts view) c) (from_host (own c)))) (sym (ap₂ (λ a b. only_if a (from_host (own c)) ++ only_if b (from_host (own c))) k h)) (record { rest = _; joins = refl })
-      by_both true false k h =
-          let s = stands_on_host c low k in
-          stands (ap₂ (λ r t. (r || is_raised (view.write c)) && not t) s.0 s.1) (only_if (stands_taken (suc c)) (from_host (own c)) ++ only_if (is_held down.commands.signals (takes down) c) (from_host (own c))) (ap₂ (λ a b. only_if a (from_host (own c)) ++ only_if b (from_host (own c))) k h)
-      by_both false true k h =
-          let parts = and_parts (shows down.commands.signals c) (not (takes down c)) h in
-          stands (ap₂ (λ s a. s && not a) (shown_up c low parts.0) (waits_above c low parts.0 (not-true (takes down c) parts.1))) (only_if (stands_taken (suc c)) (from_host (own c)) ++ only_if (is_held down.commands.signals (takes down) c) (from_host (own c))) (ap₂ (λ a b. only_if a (from_host (own c)) ++ only_if b (from_host (own c))) k h)
-      by_both true true k h = absurd (apart (stands_taken c) refl)
-        where
-          has : side.has_readdatavalid ≡ false
-          has = without (suc c) k
-
-          parts : (shows down.commands.signals c ≡ true) × (not (takes down c) ≡ true)
-          parts = and_parts (shows down.commands.signals c) (not (takes down c)) h
-
-          -- a read that is owed is hidden below, and one that is taken now doesn't wait below
-          apart : (b : Bool) → stands_taken c ≡ b → ⊥
-          apart true e =
-              let asked : state.asked c ≡ true = (asks_at has c low).asked ∙ e in
-              let read = read_stands c low e in
-              let quiet : is_raised (view.write c) ≡ false = alone (is_raised (view.read c)) (is_raised (view.write c)) read (legal.one_kind c low) in
-              let hidden : shows down.commands.signals c ≡ false = shows_is c low ∙ ap₂ (λ s w. (not s && is_raised (view.read c)) || w) (shut_is has c ∙ asked) quiet in
-              let shown = parts.0 in
-              cc
-            where
-              alone : (r w : Bool) → r ≡ true → not (r && w) ≡ true → w ≡ false
-              alone true true e k = sym k
-              alone true false e k = refl
-              alone false w e k = cc
-          apart false e =
-              let taken : takes_read down c ≡ true = sym (standing_next has c ∙ ap (λ b. if b then not (is_raised (down.answers.valid c)) else takes_read down c) e) ∙ k in
-              let took = (and_parts (takes down c) (is_raised (down.commands.read c)) taken).0 in
-              let none = not-true (takes down c) parts.1 in
-              cc
-
   -- `more` is high on all beats of a command but its last, and no tag is shown
   pub single_below : AreSingle down end
   single_below c low shown =
@@ -646,13 +348,313 @@ module _ (responses : Responses) (side : HostSide) (view : HostView) (down : Por
       one true = refl
       one false = refl
 
-  -- a read is taken only where fewer than 16 are unanswered
-  pub free_to_read : side.has_readdatavalid ≡ true → (c : ℕ) → c < end → takes_read down c ≡ true → length (state.queue c) < 16
-  free_to_read has c low taken =
-      let seen = sym (read_is c low) ∙ (and_parts (takes down c) (is_raised (down.commands.read c)) taken).1 in
-      let gate = (and_parts (not (is_shut side state c)) (is_raised (view.read c)) seen).0 in
-      ltb-true (length (state.queue c)) 16 (twice (nat_lt (length (state.queue c)) 16) (ap (λ h. not (if h then not (nat_lt (length (state.queue c)) 16) else state.asked c)) (sym has) ∙ gate))
-    where
-      twice : (b : Bool) → not (not b) ≡ true → b ≡ true
-      twice true e = refl
-      twice false e = e
+  -- what is taken below, where words come for reads alone
+  module _ (single : ReadsWords side view end) (owed : AnswersAreOwed down (end - 1)) where
+    -- ---- without readdatavalid: a read that was taken below stands at the host until its word comes
+
+    abbrev pub stands_taken : ℕ → Bool
+    stands_taken zero = false
+    stands_taken (suc c) = not side.has_readdatavalid && (if stands_taken c then not (is_raised (down.answers.valid c)) else takes_read down c)
+
+    pub standing_next : side.has_readdatavalid ≡ false → (c : ℕ) → stands_taken (suc c) ≡ (if stands_taken c then not (is_raised (down.answers.valid c)) else takes_read down c)
+    standing_next has c = ap (λ h. not h && (if stands_taken c then not (is_raised (down.answers.valid c)) else takes_read down c)) has
+
+    -- the register, and how many words are owed
+    pub record Asks (c : ℕ) : Type 0 where
+      pub asked : state.asked c ≡ stands_taken c
+      pub count : length (read_beats (taken_at down c)) ≡ words_before down.answers.valid c + one_if (stands_taken c)
+
+    abbrev hidden_read : ℕ → Bool
+    hidden_read c = takes_read down c
+
+    pub no_read : side.has_readdatavalid ≡ false → (c : ℕ) → c < end → state.asked c ≡ true → takes_read down c ≡ false
+    no_read has c low asked = ap (λ r. takes down c && r) (read_is c low ∙ ap (λ b. not b && is_raised (view.read c)) (shut_is has c ∙ asked)) ∙ nothing (takes down c)
+
+    pub asked_now : (c : ℕ) → c < end → length (read_beats (only_if (takes down c) (marked_at down c))) ≡ (if takes_read down c then view.count c else 0)
+    asked_now c low = by_all (takes down c) (is_raised (down.commands.read c)) (is_raised (down.commands.write c)) refl refl refl
+      where
+        by_all : (t r w : Bool) → takes down c ≡ t → is_raised (down.commands.read c) ≡ r → is_raised (down.commands.write c) ≡ w → length (read_beats (only_if (takes down c) (marked_at down c))) ≡ (if takes_read down c then view.count c else 0)
+        by_all false r w t rr ww = rw t refl
+        by_all true true true t rr ww =
+            let both = still_one (shut c) (is_raised (view.read c)) (is_raised (view.write c)) (legal.one_kind c low) in
+            let read = sym (read_is c low) ∙ rr in
+            let write = sym (write_is c low) ∙ ww in
+            let bad : ⊥ = cc in
+            absurd bad
+        by_all true true false t rr ww = rw (t, rr, ww) (length-append (map (read_beat down.shape (levels_at down.commands.signals c)) (numbers 0 (down.commands.count c))) [] ∙ plus (length-map (numbers 0 (down.commands.count c)) (read_beat down.shape (levels_at down.commands.signals c)) ∙ numbers_length 0 (down.commands.count c) ∙ machine.count c low))
+          where
+            plus : {n k : ℕ} → n ≡ k → n + 0 ≡ k
+            plus e = omega (arith, e)
+        by_all true false true t rr ww = rw (t, rr, ww) refl
+        by_all true false false t rr ww = let shown = (and_parts (shows down.commands.signals c) (not (is_raised (down.commands.waitrequest c))) t).0 in let bad : ⊥ = cc in absurd bad
+
+    pub read_shown : (c : ℕ) → c < end → takes_read down c ≡ true → is_raised (view.read c) ≡ true
+    read_shown c low taken = (and_parts (not (shut c)) (is_raised (view.read c)) (sym (read_is c low) ∙ (and_parts (takes down c) (is_raised (down.commands.read c)) taken).1)).1
+
+    next_asks : side.has_readdatavalid ≡ false → (c : ℕ) → suc c < end → Asks c → Asks (suc c)
+    next_asks has c low a = by_all (stands_taken c) (is_raised (down.answers.valid c)) (takes_read down c) refl refl refl
+      where
+        more : length (read_beats (taken_at down (suc c))) ≡ length (read_beats (taken_at down c)) + (if takes_read down c then view.count c else 0)
+        more = reads_more down c ∙ ap (λ n. length (read_beats (taken_at down c)) + n) (asked_now c (omega arith))
+
+        word : words_before down.answers.valid (suc c) ≡ words_before down.answers.valid c + one_if (is_raised (down.answers.valid c))
+        word = word_more down.answers.valid c
+
+        few : words_before down.answers.valid (suc c) ≤ length (read_beats (taken_at down c))
+        few = owed c (omega arith)
+
+        reg : (k v t : Bool) → state.asked c ≡ k → is_raised (down.answers.valid c) ≡ v → takes_read down c ≡ t → state.asked (suc c) ≡ ((k || t) && not v)
+        reg k v t kk vv tt' = machine.asks c low has ∙ ap₂ (λ k v. (k || takes_read down c) && not v) kk vv ∙ ap (λ t. (k || t) && not v) tt'
+
+        next : (k v t : Bool) → stands_taken c ≡ k → is_raised (down.answers.valid c) ≡ v → takes_read down c ≡ t → stands_taken (suc c) ≡ (if k then not v else t)
+        next k v t kk vv tt' = standing_next has c ∙ ap₂ (λ k v. if k then not v else takes_read down c) kk vv ∙ ap (λ t. if k then not v else t) tt'
+
+        by_all : (k v t : Bool) → stands_taken c ≡ k → is_raised (down.answers.valid c) ≡ v → takes_read down c ≡ t → Asks (suc c)
+        by_all true v true kk vv t = let none = no_read has c (omega arith) (a.asked ∙ kk) in let bad : ⊥ = cc in absurd bad
+        by_all true true false kk vv t =
+            let count = a.count ∙ ap (λ b. words_before down.answers.valid c + one_if b) kk in
+            let sum = more ∙ ap (λ b. length (read_beats (taken_at down c)) + (if b then view.count c else 0)) t in
+            let words = word ∙ ap (λ b. words_before down.answers.valid c + one_if b) vv in
+            let after = next true true false kk vv t in
+            record { asked = reg true true false (a.asked ∙ kk) vv t ∙ sym after; count = (let last = ap one_if after in omega (arith, count, sum, words, last)) }
+        by_all true false false kk vv t =
+            let count = a.count ∙ ap (λ b. words_before down.answers.valid c + one_if b) kk in
+            let sum = more ∙ ap (λ b. length (read_beats (taken_at down c)) + (if b then view.count c else 0)) t in
+            let words = word ∙ ap (λ b. words_before down.answers.valid c + one_if b) vv in
+            let after = next true false false kk vv t in
+            record { asked = reg true false false (a.asked ∙ kk) vv t ∙ sym after; count = (let last = ap one_if after in omega (arith, count, sum, words, last)) }
+        by_all false true t kk vv tt' =
+            let count = a.count ∙ ap (λ b. words_before down.answers.valid c + one_if b) kk in
+            let words = word ∙ ap (λ b. words_before down.answers.valid c + one_if b) vv in
+            absurd (omega (arith, count, words, few))
+        by_all false false true kk vv t =
+            let count = a.count ∙ ap (λ b. words_before down.answers.valid c + one_if b) kk in
+            let one = single has c (omega arith) (read_shown c (omega arith) t) in
+            let sum = more ∙ ap (λ b. length (read_beats (taken_at down c)) + (if b then view.count c else 0)) t in
+            let words = word ∙ ap (λ b. words_before down.answers.valid c + one_if b) vv in
+            let after = next false false true kk vv t in
+            record { asked = reg false false true (a.asked ∙ kk) vv t ∙ sym after; count = (let last = ap one_if after in omega (arith, count, sum, words, last, one)) }
+        by_all false false false kk vv t =
+            let count = a.count ∙ ap (λ b. words_before down.answers.valid c + one_if b) kk in
+            let sum = more ∙ ap (λ b. length (read_beats (taken_at down c)) + (if b then view.count c else 0)) t in
+            let words = word ∙ ap (λ b. words_before down.answers.valid c + one_if b) vv in
+            let after = next false false false kk vv t in
+            record { asked = reg false false false (a.asked ∙ kk) vv t ∙ sym after; count = (let last = ap one_if after in omega (arith, count, sum, words, last)) }
+
+    pub asks_at : side.has_readdatavalid ≡ false → (c : ℕ) → c < end → Asks c
+    asks_at has zero low = record { asked = machine.quiet; count = refl }
+    asks_at has (suc c) low = next_asks has c low (asks_at has c (omega arith))
+
+    pub without : (c : ℕ) → stands_taken c ≡ true → side.has_readdatavalid ≡ false
+    without zero e = cc
+    without (suc c) e = by_test side.has_readdatavalid refl
+      where
+        by_test : (b : Bool) → side.has_readdatavalid ≡ b → side.has_readdatavalid ≡ false
+        by_test false h = h
+        by_test true h = let parts = and_parts (not side.has_readdatavalid) (if stands_taken c then not (is_raised (down.answers.valid c)) else takes_read down c) e in let bad : ⊥ = cc in absurd bad
+
+    -- the read that is owed stands at the host
+    stands_from : (c : ℕ) → c < end → (stands_taken c ≡ true → is_raised (view.read c) ≡ true) → stands_taken (suc c) ≡ true → (is_raised (view.read c) ≡ true) × (accepts c ≡ false)
+    stands_from c low go e = by_kept (stands_taken c) refl go
+      where
+        has : side.has_readdatavalid ≡ false
+        has = without (suc c) e
+
+        by_kept : (b : Bool) → stands_taken c ≡ b → (stands_taken c ≡ true → is_raised (view.read c) ≡ true) → (is_raised (view.read c) ≡ true) × (accepts c ≡ false)
+        by_kept true k go =
+            let read = go k in
+            let quiet : not (is_raised (down.answers.valid c)) ≡ true = sym (standing_next has c ∙ ap (λ b. if b then not (is_raised (down.answers.valid c)) else takes_read down c) k) ∙ e in
+            (read, read_accepts has c low read ∙ ap (λ v. state.asked c && v) (lower (is_raised (down.answers.valid c)) quiet) ∙ nothing (state.asked c))
+          where
+            lower : (b : Bool) → not b ≡ true → b ≡ false
+            lower true e = sym e
+            lower false e = refl
+        by_kept false k go =
+            let taken : takes_read down c ≡ true = sym (standing_next has c ∙ ap (λ b. if b then not (is_raised (down.answers.valid c)) else takes_read down c) k) ∙ e in
+            let read = read_shown c low taken in
+            (read, read_accepts has c low read ∙ ap (λ b. b && is_raised (down.answers.valid c)) ((asks_at has c low).asked ∙ k))
+
+    pub read_stands : (c : ℕ) → c < end → stands_taken c ≡ true → is_raised (view.read c) ≡ true
+    read_stands zero low e = cc
+    read_stands (suc c) low e =
+        let s = stands_from c (omega arith) (λ k. read_stands c (omega arith) k) e in
+        let held : is_held view.signals (host_accepts view) c ≡ true = ap₂ (λ r t. (r || is_raised (view.write c)) && not t) s.0 s.1 in
+        ap (λ (l : Levels). is_raised l.read) (sym (legal.held c low held)) ∙ s.0
+
+    pub stands_on_host : (c : ℕ) → c < end → stands_taken (suc c) ≡ true → (is_raised (view.read c) ≡ true) × (accepts c ≡ false)
+    stands_on_host c low e = stands_from c low (λ k. read_stands c low k) e
+
+    -- ---- what is taken below is what is accepted, and the read that stands
+
+    abbrev pub standing_read : ℕ → List Sent
+    standing_read zero = []
+    standing_read (suc c) = only_if (stands_taken (suc c)) (from_host (own c))
+
+    abbrev pub all_accepted_by : ℕ → List Sent
+    all_accepted_by c = sent_by (accepted side.shape view.signals (host_accepts view) c)
+
+    standing_is : (c : ℕ) → c < end → standing_read c ≡ only_if (stands_taken c) (from_host (own c))
+    standing_is zero low = refl
+    standing_is (suc c) low = by_test (stands_taken (suc c)) refl
+      where
+        by_test : (b : Bool) → stands_taken (suc c) ≡ b → only_if (stands_taken (suc c)) (from_host (own c)) ≡ only_if (stands_taken (suc c)) (from_host (own (suc c)))
+        by_test false e = rw e refl
+        by_test true e =
+            let s = stands_on_host c (omega arith) e in
+            let held : is_held view.signals (host_accepts view) c ≡ true = ap₂ (λ r t. (r || is_raised (view.write c)) && not t) s.0 s.1 in
+            ap (λ t. only_if (stands_taken (suc c)) (from_host t)) (own_keeps c low held)
+
+    -- one cycle: what goes below, what is accepted, and what stands before and behind
+    balance : (c : ℕ) → c < end → (x : Sent) → only_if (stands_taken c) x ++ only_if (takes down c) x ≡ only_if (accepts c) x ++ only_if (stands_taken (suc c)) x
+    balance c low x = by_valid side.has_readdatavalid refl
+      where
+        by_valid : (b : Bool) → side.has_readdatavalid ≡ b → only_if (stands_taken c) x ++ only_if (takes down c) x ≡ only_if (accepts c) x ++ only_if (stands_taken (suc c)) x
+        by_valid true has =
+            let none : stands_taken c ≡ false = never c in
+            let after : stands_taken (suc c) ≡ false = never (suc c) in
+            ap₂ (λ a b. only_if a x ++ only_if b x) none (valid_takes has c low) ∙ sym (ap (λ b. only_if (accepts c) x ++ only_if b x) after ∙ append-nil (only_if (accepts c) x))
+          where
+            never : (c : ℕ) → stands_taken c ≡ false
+            never c = by_test (stands_taken c) refl
+              where
+                by_test : (b : Bool) → stands_taken c ≡ b → stands_taken c ≡ false
+                by_test false e = e
+                by_test true e = let not_has = without c e in let bad : ⊥ = cc in absurd bad
+        by_valid false has = by_kept (stands_taken c) (is_raised (view.read c)) (is_raised (view.write c)) refl refl refl
+          where
+            by_kept : (k r w : Bool) → stands_taken c ≡ k → is_raised (view.read c) ≡ r → is_raised (view.write c) ≡ w → only_if (stands_taken c) x ++ only_if (takes down c) x ≡ only_if (accepts c) x ++ only_if (stands_taken (suc c)) x
+            by_kept true r w k rr ww =
+                let read = read_stands c low k in
+                let asked : state.asked c ≡ true = (asks_at has c low).asked ∙ k in
+                let quiet : is_raised (view.write c) ≡ false = alone (is_raised (view.read c)) (is_raised (view.write c)) read (legal.one_kind c low) in
+                let none : takes down c ≡ false = ap (λ s. s && not (is_raised (down.commands.waitrequest c))) (shows_is c low ∙ ap₂ (λ s w. (not s && is_raised (view.read c)) || w) (shut_is has c ∙ asked) quiet) in
+                let accepted_now : accepts c ≡ is_raised (down.answers.valid c) = read_accepts has c low read ∙ ap (λ b. b && is_raised (down.answers.valid c)) asked in
+                let after : stands_taken (suc c) ≡ not (is_raised (down.answers.valid c)) = standing_next has c ∙ ap (λ b. if b then not (is_raised (down.answers.valid c)) else takes_read down c) k in
+                ap₂ (λ a b. only_if a x ++ only_if b x) k none ∙ one (is_raised (down.answers.valid c)) ∙ sym (ap₂ (λ a b. only_if a x ++ only_if b x) accepted_now after)
+              where
+                alone : (r w : Bool) → r ≡ true → not (r && w) ≡ true → w ≡ false
+                alone true true e k = sym k
+                alone true false e k = refl
+                alone false w e k = cc
+
+                one : (v : Bool) → x ∷ [] ≡ only_if v x ++ only_if (not v) x
+                one true = refl
+                one false = refl
+            by_kept false true w k rr ww =
+                let asked : state.asked c ≡ false = (asks_at has c low).asked ∙ k in
+                let none : accepts c ≡ false = read_accepts has c low rr ∙ ap (λ b. b && is_raised (down.answers.valid c)) asked in
+                let shown : is_raised (down.commands.read c) ≡ true = read_is c low ∙ ap₂ (λ s r. not s && r) (shut_is has c ∙ asked) rr in
+                let after : stands_taken (suc c) ≡ takes down c = standing_next has c ∙ ap (λ b. if b then not (is_raised (down.answers.valid c)) else takes_read down c) k ∙ ap (λ r. takes down c && r) shown ∙ whole (takes down c) in
+                ap (λ a. only_if a x ++ only_if (takes down c) x) k ∙ sym (ap₂ (λ a b. only_if a x ++ only_if b x) none after)
+              where
+                whole : (b : Bool) → (b && true) ≡ b
+                whole true = refl
+                whole false = refl
+            by_kept false false w k rr ww =
+                let hidden : is_raised (down.commands.read c) ≡ false = read_is c low ∙ ap (λ r. not (shut c) && r) rr ∙ nothing (not (shut c)) in
+                let after : stands_taken (suc c) ≡ false = standing_next has c ∙ ap (λ b. if b then not (is_raised (down.answers.valid c)) else takes_read down c) k ∙ ap (λ r. takes down c && r) hidden ∙ nothing (takes down c) in
+                ap (λ a. only_if a x ++ only_if (takes down c) x) k ∙ ap (λ t. only_if t x) (same w ww) ∙ sym (ap (λ b. only_if (accepts c) x ++ only_if b x) after ∙ append-nil (only_if (accepts c) x))
+              where
+                same : (w : Bool) → is_raised (view.write c) ≡ w → takes down c ≡ accepts c
+                same true ww = write_takes c low ww
+                same false ww =
+                    ap (λ s. s && not (is_raised (down.commands.waitrequest c))) (shows_is c low ∙ ap₂ (λ r w. (not (shut c) && r) || w) rr ww ∙ calm (not (shut c))) ∙ sym (ap₂ (λ r w. (r || w) && not (is_raised (view.waitrequest c))) rr ww)
+                  where
+                    calm : (b : Bool) → ((b && false) || false) ≡ false
+                    calm true = refl
+                    calm false = refl
+
+    sent_if : (b : Bool) (c : ℕ) → c < end → map from_port (only_if b (marked_at down c)) ≡ only_if b (from_host (own c))
+    sent_if true c low = ap (λ x. x ∷ []) (same_sent c low)
+    sent_if false c low = refl
+
+    host_if : (b : Bool) (c : ℕ) → map from_host (only_if b (own c)) ≡ only_if b (from_host (own c))
+    host_if true c = refl
+    host_if false c = refl
+
+    pub taken_same : (c : ℕ) → c ≤ end → sent_of (taken_at down c) ≡ all_accepted_by c ++ standing_read c
+    taken_same zero low = refl
+    taken_same (suc c) low =
+        map-append from_port (taken_at down c) (only_if (takes down c) (marked_at down c))
+        ∙ ap₂ (λ a b. a ++ b) (taken_same c (omega arith) ∙ ap (λ l. all_accepted_by c ++ l) (standing_is c low)) (sent_if (takes down c) c low)
+        ∙ append_assoc (all_accepted_by c) (only_if (stands_taken c) (from_host (own c))) (only_if (takes down c) (from_host (own c)))
+        ∙ ap (λ l. all_accepted_by c ++ l) (balance c low (from_host (own c)))
+        ∙ sym (append_assoc (all_accepted_by c) (only_if (accepts c) (from_host (own c))) (only_if (stands_taken (suc c)) (from_host (own c))))
+        ∙ ap (λ l. (all_accepted_by c ++ l) ++ only_if (stands_taken (suc c)) (from_host (own c))) (sym (host_if (accepts c) c))
+        ∙ ap (λ l. l ++ only_if (stands_taken (suc c)) (from_host (own c))) (sym (map-append from_host (accepted side.shape view.signals (host_accepts view) c) (only_if (accepts c) (own c))))
+
+    pub held : (c : ℕ) → c ≤ end → length (accepted side.shape view.signals (host_accepts view) c) ≤ length (taken_at down c) + 0
+    held c low =
+        let same = ap length (taken_same c low) ∙ length-append (all_accepted_by c) (standing_read c) in
+        let one : length (sent_of (taken_at down c)) ≡ length (taken_at down c) = length-map (taken_at down c) _ in
+        let other : length (all_accepted_by c) ≡ length (accepted side.shape view.signals (host_accepts view) c) = length-map (accepted side.shape view.signals (host_accepts view) c) _ in
+        omega (arith, same, one, other)
+
+    -- ---- what is shown below is the front of what the host presents
+
+    pub in_order : (c : ℕ) → c ≤ end → IsPrefix (sent_of (shown_at down c)) (sent_by (presented side.shape view.signals (host_accepts view) c))
+    in_order zero low = prefix_refl []
+    in_order (suc c) low =
+        let under = shown_is_accepted_and_standing _ _ (marked_at down) end (suc c) (marked_keeps down end legal_below) low in
+        let over = shown_is_accepted_and_standing _ _ own end (suc c) (legal_keeps side.shape view.signals (host_accepts view) end (accepts_shows view.signals view.waitrequest) legal) low in
+        let left : sent_of (shown_at down (suc c)) ≡ all_accepted_by (suc c) ++ (standing_read (suc c) ++ only_if (is_held down.commands.signals (takes down) c) (from_host (own c))) =
+        ap sent_of under ∙ map-append from_port (taken_at down (suc c)) (only_if (is_held down.commands.signals (takes down) c) (marked_at down c))
+        ∙ ap₂ (λ a b. a ++ b) (taken_same (suc c) low) (sent_if (is_held down.commands.signals (takes down) c) c low) ∙ append_assoc (all_accepted_by (suc c)) (standing_read (suc c)) (only_if (is_held down.commands.signals (takes down) c) (from_host (own c))) in
+        let right : sent_by (presented side.shape view.signals (host_accepts view) (suc c)) ≡ all_accepted_by (suc c) ++ only_if (is_held view.signals (host_accepts view) c) (from_host (own c)) =
+        ap sent_by over ∙ map-append from_host (accepted side.shape view.signals (host_accepts view) (suc c)) (only_if (is_held view.signals (host_accepts view) c) (own c)) ∙ ap (λ l. all_accepted_by (suc c) ++ l) (host_if (is_held view.signals (host_accepts view) c) c) in
+        subst (λ l. IsPrefix l (sent_by (presented side.shape view.signals (host_accepts view) (suc c)))) (sym left)
+        (subst (IsPrefix (all_accepted_by (suc c) ++ (standing_read (suc c) ++ only_if (is_held down.commands.signals (takes down) c) (from_host (own c))))) (sym right) (behind (all_accepted_by (suc c)) (by_both (stands_taken (suc c)) (is_held down.commands.signals (takes down) c) refl refl)))
+      where
+        behind : (front : List Sent) {xs ys : List Sent} → IsPrefix xs ys → IsPrefix (front ++ xs) (front ++ ys)
+        behind [] p = p
+        behind (x ∷ front) p = let q = behind front p in record { rest = q.rest; joins = ap (λ l. x ∷ l) q.joins }
+
+        stands : is_held view.signals (host_accepts view) c ≡ true → (l : List Sent) → l ≡ from_host (own c) ∷ [] → IsPrefix l (only_if (is_held view.signals (host_accepts view) c) (from_host (own c)))
+        stands held l e = subst (λ b. IsPrefix l (only_if b (from_host (own c)))) (sym held) (subst (λ l. IsPrefix l (from_host (own c) ∷ [])) (sym e) (prefix_refl _))
+
+        by_both : (k h : Bool) → stands_taken (suc c) ≡ k → is_held down.commands.signals (takes down) c ≡ h → IsPrefix (only_if (stands_taken (suc c)) (from_host (own c)) ++ only_if (is_held down.commands.signals (takes down) c) (from_host (own c))) (only_if (is_held view.signals (host_accepts view) c) (from_host (own c)))
+        by_both false false k h = subst (λ l. IsPrefix l (only_if (is_held view.signals (host_accepts view) c) (from_host (own c)))) (sym (ap₂ (λ a b. only_if a (from_host (own c)) ++ only_if b (from_host (own c))) k h)) (record { rest = _; joins = refl })
+        by_both true false k h =
+            let s = stands_on_host c low k in
+            stands (ap₂ (λ r t. (r || is_raised (view.write c)) && not t) s.0 s.1) (only_if (stands_taken (suc c)) (from_host (own c)) ++ only_if (is_held down.commands.signals (takes down) c) (from_host (own c))) (ap₂ (λ a b. only_if a (from_host (own c)) ++ only_if b (from_host (own c))) k h)
+        by_both false true k h =
+            let parts = and_parts (shows down.commands.signals c) (not (takes down c)) h in
+            stands (ap₂ (λ s a. s && not a) (shown_up c low parts.0) (waits_above c low parts.0 (not-true (takes down c) parts.1))) (only_if (stands_taken (suc c)) (from_host (own c)) ++ only_if (is_held down.commands.signals (takes down) c) (from_host (own c))) (ap₂ (λ a b. only_if a (from_host (own c)) ++ only_if b (from_host (own c))) k h)
+        by_both true true k h = absurd (apart (stands_taken c) refl)
+          where
+            has : side.has_readdatavalid ≡ false
+            has = without (suc c) k
+
+            parts : (shows down.commands.signals c ≡ true) × (not (takes down c) ≡ true)
+            parts = and_parts (shows down.commands.signals c) (not (takes down c)) h
+
+            -- a read that is owed is hidden below, and one that is taken now doesn't wait below
+            apart : (b : Bool) → stands_taken c ≡ b → ⊥
+            apart true e =
+                let asked : state.asked c ≡ true = (asks_at has c low).asked ∙ e in
+                let read = read_stands c low e in
+                let quiet : is_raised (view.write c) ≡ false = alone (is_raised (view.read c)) (is_raised (view.write c)) read (legal.one_kind c low) in
+                let hidden : shows down.commands.signals c ≡ false = shows_is c low ∙ ap₂ (λ s w. (not s && is_raised (view.read c)) || w) (shut_is has c ∙ asked) quiet in
+                let shown = parts.0 in
+                cc
+              where
+                alone : (r w : Bool) → r ≡ true → not (r && w) ≡ true → w ≡ false
+                alone true true e k = sym k
+                alone true false e k = refl
+                alone false w e k = cc
+            apart false e =
+                let taken : takes_read down c ≡ true = sym (standing_next has c ∙ ap (λ b. if b then not (is_raised (down.answers.valid c)) else takes_read down c) e) ∙ k in
+                let took = (and_parts (takes down c) (is_raised (down.commands.read c)) taken).0 in
+                let none = not-true (takes down c) parts.1 in
+                cc
+
+    -- a read is taken only where fewer than 16 are unanswered
+    pub free_to_read : side.has_readdatavalid ≡ true → (c : ℕ) → c < end → takes_read down c ≡ true → length (state.queue c) < 16
+    free_to_read has c low taken =
+        let seen = sym (read_is c low) ∙ (and_parts (takes down c) (is_raised (down.commands.read c)) taken).1 in
+        let gate = (and_parts (not (is_shut side state c)) (is_raised (view.read c)) seen).0 in
+        ltb-true (length (state.queue c)) 16 (twice (nat_lt (length (state.queue c)) 16) (ap (λ h. not (if h then not (nat_lt (length (state.queue c)) 16) else state.asked c)) (sym has) ∙ gate))
+      where
+        twice : (b : Bool) → not (not b) ≡ true → b ≡ true
+        twice true e = refl
+        twice false e = e

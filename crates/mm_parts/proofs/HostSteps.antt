@@ -46,8 +46,8 @@ module _ (responses : Responses) (system : System) (run : Run) (host : ℕ) (dow
   -- with readdatavalid the queue holds the reads that aren't fully answered
   queue_length : side.has_readdatavalid ≡ true → (c : ℕ) → c < end → nat_lt (length (state.queue c)) 16 ≡ has_room system run host c
   queue_length has c low =
-      let holds = queue_holds down end (legal_below responses side view down state end m legal single early) down.answers.valid state.queue (m.queues has) owed_words c low in
-      let count = unreached_is (entries (taken_at down c)) (words_before down.answers.valid c) (all_ask down end (legal_below responses side view down state end m legal single early) c (omega (arith, low))) in
+      let holds = queue_holds down end (legal_below responses side view down state end m legal) down.answers.valid state.queue (m.queues has) owed_words c low in
+      let count = unreached_is (entries (taken_at down c)) (words_before down.answers.valid c) (all_ask down end (legal_below responses side view down state end m legal) c (omega (arith, low))) in
       ap (λ q. nat_lt (length q) 16) holds
       ∙ ap (λ n. nat_lt n 16) (sym count ∙ ap₂ (λ l w. unreached l w) (lens_valid responses side view down state end m legal single owed has c (omega (arith, low))) (sym (given_is responses side view down state end m legal single owed c (omega (arith, low)))))
     where
@@ -99,8 +99,8 @@ module _ (responses : Responses) (system : System) (run : Run) (host : ℕ) (dow
       read_alone false = refl
 
       by_both : (w h : Bool) → is_raised (view.write c) ≡ w → side.has_readdatavalid ≡ h → host_accepts view c ≡ passes_on system run host down c
-      by_both true h w has = sym (write_takes responses side view down state end m legal single early c low w) ∙ sym (ap (λ w. if w || side.has_readdatavalid then takes down c else is_raised (down.answers.valid c)) w)
-      by_both false true w has = sym (valid_takes responses side view down state end m legal single early has c low) ∙ sym (ap₂ (λ w h. if w || h then takes down c else is_raised (down.answers.valid c)) w has)
+      by_both true h w has = sym (write_takes responses side view down state end m legal c low w) ∙ sym (ap (λ w. if w || side.has_readdatavalid then takes down c else is_raised (down.answers.valid c)) w)
+      by_both false true w has = sym (valid_takes responses side view down state end m legal has c low) ∙ sym (ap₂ (λ w h. if w || h then takes down c else is_raised (down.answers.valid c)) w has)
       by_both false false w has =
           ap (λ w. (is_raised (view.read c) || w) && not (is_raised (view.waitrequest c))) w
           ∙ ap (λ r. r && not (is_raised (view.waitrequest c))) (read_alone (is_raised (view.read c)))
@@ -114,15 +114,15 @@ module _ (responses : Responses) (system : System) (run : Run) (host : ℕ) (dow
     one_word = single;
     bytes = m.words;
     shown = λ c low.
-        shows_is responses side view down state end m legal single early c low
+        shows_is responses side view down state end m legal c low
         ∙ ap (λ s. (not s && is_raised (view.read c)) || is_raised (view.write c)) (shut_is c low)
         ∙ gate_is (is_raised (view.read c)) (is_raised (view.write c)) (may_read system run host down c);
     accepts = accepted;
-    same = λ c low shown. same_transfer responses side view down state end m legal single early c low;
+    same = λ c low shown. same_transfer responses side view down state end m legal c low;
     level = λ c low shown. ap is_raised (m.write c low);
     more = λ c low shown.
-        ap is_raised (m.more c low) ∙ raised_one _ ∙ ap not (ends_is responses side view down state end m legal single early c low)
-        ∙ sym (ap (λ (t : Transfer). not t.ends) (same_transfer responses side view down state end m legal single early c low));
+        ap is_raised (m.more c low) ∙ raised_one _ ∙ ap not (ends_is responses side view down state end m legal c low)
+        ∙ sym (ap (λ (t : Transfer). not t.ends) (same_transfer responses side view down state end m legal c low));
     gives = λ c low. gives responses side view down state end m legal single owed c low;
     owed = owed;
   }

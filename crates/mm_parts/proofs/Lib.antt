@@ -30,6 +30,7 @@ mod HostLine
 mod HalfLines
 mod RouteLimits
 mod RouteCodes
+mod JoinedBeats
 mod HostAnswers
 mod HostDebts
 mod ArbiterSteps

@@ -14,3 +14,4 @@ pub mod SystemRun
 pub mod Steps
 pub mod Ahead
 pub mod Lone
+pub mod Joins

@@ -1,6 +1,7 @@
 //! Hosts, routes, arbiters and agents as machines: the lines that they keep, and their runs.
 #![tactic(auto)]
 
+pub mod joins;
 pub mod lines;
 pub mod moments;
 pub mod plans;
