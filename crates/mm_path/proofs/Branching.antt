@@ -1,25 +1,22 @@
 -- The branches of a tree: the commands of the routes suit the agents, and what is made of them is what a tree asks.
-use Rattle.std.proofs.Common.{◌≡◌, ℕ, zero, suc, ◌+◌, ◌*◌, ◌^◌, ◌<◌, ◌≤◌, List, [], ◌∷◌, get_or, length, map, refl, sym, subst, ap, ◌∙◌, arith}
+use Rattle.std.proofs.Common.{◌≡◌, ℕ, zero, suc, ◌*◌, ◌^◌, ◌<◌, ◌≤◌, List, [], ◌∷◌, get_or, length, map, refl, sym, subst, ap, ◌∙◌, arith}
 use Rattle.std.specs.List.{AllZip}
 use Rattle.std.proofs.lemmas.List.{length-map}
 use Rattle.iface_roles.specs.declared.records.HostPort.{HostPort}
 use Rattle.iface_roles.specs.Proper.{range_of, span_of}
-use Rattle.netlist.specs.Nets.{NetValue}
 use Rattle.netlist.specs.Netlists.{Netlist}
-use Rattle.netlist.specs.Runs.{Always}
 use Rattle.netlist.specs.Longer.{Extends}
 use Rattle.memory_sides.specs.declared.route.Route.{Route}
 use Rattle.command_nets.specs.declared.nets.CommandNets.{CommandNets}
 use Rattle.command_nets.specs.Nets.{Widths, AreAnswerNets}
 use Rattle.command_nets.specs.Groups.{command_lasts}
-use Rattle.mm_route.specs.declared.shown.ShownNets.{ShownNets}
-use Rattle.mm_route.specs.Shown.{AreShown, AreCommandsOf, widths_below}
+use Rattle.mm_route.specs.Shown.{AreCommandsOf, widths_below}
+use Rattle.mm_route.specs.Forward.{BearTag}
 use Rattle.mm_route.specs.Backward.{AreBackNets}
-use Rattle.mm_agent.specs.Agents.{agent_lasts}
 use Rattle.mm_path.specs.declared.tree.AgentEnd.{AgentEnd}
 use Rattle.mm_path.specs.declared.tree.Branch.{Branch}
 use Rattle.mm_path.specs.Lasting.{end_lasts}
-use Rattle.mm_path.specs.Trees.{IsEndFor, AreEndsFor, AreBranches, end_of, commands_of, backs_of}
+use Rattle.mm_path.specs.Trees.{AreEndsFor, AreBranches, end_of, commands_of, backs_of}
 use Rattle.mm_path.specs.Branches.{Suits, AreBranchesMade}
 
 -- ---- in a longer netlist
@@ -52,25 +49,25 @@ zipped_at R (a ∷ xs) (b ∷ ys) h (suc k) x y lt e f = zipped_at R xs ys h.1 k
 
 -- ---- what is given
 
-module _ (netlist : Netlist) (port : HostPort) (above : CommandNets) (shown : ShownNets) (number : ℕ) (reaches : 2 ^ above.address.width ≡ range_of port) (tag : Always netlist (λ cycle. cycle.net shown.tag.number ≡ number)) where
+module _ (netlist : Netlist) (port : HostPort) (above : CommandNets) (number : ℕ) (reaches : 2 ^ above.address.width ≡ range_of port) where
   -- the commands of a route suit the agents at its ends
-  pub commands_suit : (k : ℕ) (routes : List Route) (ends : List AgentEnd) (commands : List CommandNets) → AreEndsFor netlist port routes ends → AreCommandsOf netlist (widths_below above 4) commands → AreShown netlist shown k commands →
+  pub commands_suit : (routes : List Route) (ends : List AgentEnd) (commands : List CommandNets) → AreEndsFor netlist port routes ends → AreCommandsOf netlist (widths_below above 4) commands → BearTag netlist number commands →
       length commands ≡ length routes → AllZip (Suits netlist) ends commands
-  commands_suit k [] [] [] h w s e = tt
-  commands_suit k [] [] (command ∷ commands) h w s e = absurd (omega (arith, e))
-  commands_suit k [] (end ∷ ends) commands h w s e = absurd h
-  commands_suit k (route ∷ routes) [] commands h w s e = absurd h
-  commands_suit k (route ∷ routes) (end ∷ ends) [] h w s e = absurd (omega (arith, e))
-  commands_suit k (route ∷ routes) (end ∷ ends) (command ∷ commands) h w s e = (
+  commands_suit [] [] [] h w s e = tt
+  commands_suit [] [] (command ∷ commands) h w s e = absurd (omega (arith, e))
+  commands_suit [] (end ∷ ends) commands h w s e = absurd h
+  commands_suit (route ∷ routes) [] commands h w s e = absurd h
+  commands_suit (route ∷ routes) (end ∷ ends) [] h w s e = absurd (omega (arith, e))
+  commands_suit (route ∷ routes) (end ∷ ends) (command ∷ commands) h w s e = (
     record {
       bounded = h.0.bounded;
       served = h.0.served;
       nets = h.0.nets;
       command_nets = w.0.0;
       reaches = subst (λ n. span_of end.port ≤ n) (sym (ap (λ n. 2 ^ n) (ap (λ (x : Widths). x.address) w.0.1) ∙ reaches)) h.0.span;
-      tag = record { tag = number; always = λ cycle v. ap (λ (n : NetValue). cycle.net n.number) s.0.tag ∙ tag cycle v };
+      tag = record { tag = number; always = s.0 };
     },
-    commands_suit (k + 1) routes ends commands h.1 w.1 s.1 (omega (arith, e)),
+    commands_suit routes ends commands h.1 w.1 s.1 (omega (arith, e)),
   )
 
 -- ---- what is made

@@ -1,20 +1,20 @@
 -- The branch of a tree that leads to an agent, and the side that the route has there.
-use Rattle.std.proofs.Common.{◌≡◌, ℕ, ◌+◌, zero, suc, Bool, true, false, ◌||◌, cond, nat_eq, List, [], ◌∷◌, Some, refl, sym, ap, ◌∙◌}
+use Rattle.std.proofs.Common.{◌≡◌, ℕ, zero, suc, Bool, true, false, ◌||◌, cond, nat_eq, List, [], ◌∷◌, Some, refl, sym, subst, ap, ◌∙◌}
 use Rattle.std.specs.Prelude.{slice_get}
 use Rattle.std.proofs.lemmas.Bool.{eqb-true, false≢true}
 use Rattle.std.proofs.lemmas.Option.{same_Some, none-some}
 use Rattle.iface_roles.specs.declared.records.HostPort.{HostPort}
 use Rattle.netlist.specs.Netlists.{Netlist}
-use Rattle.netlist.specs.Runs.{Cycle, Run}
+use Rattle.netlist.specs.Runs.{Cycle, Run, Always}
 use Rattle.mm_runs.specs.Views.{Shape}
+use Rattle.mm_machines.specs.Paths.{AnswerView}
 use Rattle.mm_machines.specs.Link.{Port}
 use Rattle.memory_sides.specs.declared.route.Route.{Route}
 use Rattle.memory_plans.specs.Routes.{HasRoute}
 use Rattle.command_nets.specs.declared.nets.CommandNets.{CommandNets}
 use Rattle.command_nets.specs.Nets.{port_in, ShowSame}
-use Rattle.mm_route.specs.declared.shown.ShownNets.{ShownNets}
 use Rattle.mm_route.specs.Machine.{has_entry, down_at, silent_port, ShowAllSame}
-use Rattle.mm_route.specs.Shown.{AreShown}
+use Rattle.mm_route.specs.Forward.{BearTag}
 use Rattle.mm_path.specs.declared.tree.Branch.{Branch}
 use Rattle.mm_path.specs.Trees.{IsBranch, AreBranches, commands_of, backs_of}
 use Rattle.mm_path.specs.Served.{branch_to}
@@ -31,7 +31,7 @@ pub record Leads (netlist : Netlist) (host : HostPort) (above : CommandNets) (ro
   pub found : branch_to agent branches ≡ Some branch
   pub number : branch.number ≡ agent
   pub made : IsBranch netlist host above route branch
-  pub down : (shape : Shape) (run : Run) (command : CommandNets) (number : ℕ) → down_at shape run command number routes (commands_of branches) (backs_of branches) agent ≡ side_of shape run branch
+  pub down : (shape : Shape) (run : Run) (command : CommandNets) (number : ℕ) (others : ℕ → AnswerView) → down_at shape run command number others routes (commands_of branches) (backs_of branches) agent ≡ side_of shape run branch
 
 module _ (netlist : Netlist) (host : HostPort) (above : CommandNets) (agent : ℕ) where
   -- an agent with an entry has its branch
@@ -52,7 +52,7 @@ module _ (netlist : Netlist) (host : HostPort) (above : CommandNets) (agent : �
         found = ap (λ b. cond b (Some branch) (branch_to agent branches)) own;
         number = eqb-true branch.number agent own;
         made = are.0;
-        down = λ shape run command number. ap (λ b. cond b (side_of shape run branch) (down_at shape run command number routes (commands_of branches) (backs_of branches) agent)) (sym same ∙ own);
+        down = λ shape run command number others. ap (λ b. cond b (side_of shape run branch) (down_at shape run command number others routes (commands_of branches) (backs_of branches) agent)) (sym same ∙ own);
       }
       by false other later =
           let one = later (sym (ap (λ b. b || has_entry routes agent) (sym same ∙ other)) ∙ has) in
@@ -64,22 +64,22 @@ module _ (netlist : Netlist) (host : HostPort) (above : CommandNets) (agent : �
             found = ap (λ b. cond b (Some branch) (branch_to agent branches)) other ∙ one.found;
             number = one.number;
             made = one.made;
-            down = λ shape run command number. ap (λ b. cond b (side_of shape run branch) (down_at shape run command number routes (commands_of branches) (backs_of branches) agent)) (sym same ∙ other) ∙ one.down shape run command number;
+            down = λ shape run command number others. ap (λ b. cond b (side_of shape run branch) (down_at shape run command number others routes (commands_of branches) (backs_of branches) agent)) (sym same ∙ other) ∙ one.down shape run command number others;
           }
 
   -- nothing is shown to an agent without one
-  pub leads_nowhere : (routes : List Route) (branches : List Branch) → AreBranches netlist host above routes branches → has_entry routes agent ≡ false → (shape : Shape) (run : Run) (command : CommandNets) (number : ℕ) →
-      down_at shape run command number routes (commands_of branches) (backs_of branches) agent ≡ silent_port shape run command number
-  leads_nowhere [] [] are none shape run command number = refl
-  leads_nowhere [] (branch ∷ branches) are none shape run command number = absurd are
-  leads_nowhere (route ∷ routes) [] are none shape run command number = absurd are
-  leads_nowhere (route ∷ routes) (branch ∷ branches) are none shape run command number = by (nat_eq route.agent agent) refl (λ later. leads_nowhere routes branches are.1 later shape run command number)
+  pub leads_nowhere : (routes : List Route) (branches : List Branch) → AreBranches netlist host above routes branches → has_entry routes agent ≡ false → (shape : Shape) (run : Run) (command : CommandNets) (number : ℕ) (others : ℕ → AnswerView) →
+      down_at shape run command number others routes (commands_of branches) (backs_of branches) agent ≡ silent_port shape run command number (others agent)
+  leads_nowhere [] [] are none shape run command number others = refl
+  leads_nowhere [] (branch ∷ branches) are none shape run command number others = absurd are
+  leads_nowhere (route ∷ routes) [] are none shape run command number others = absurd are
+  leads_nowhere (route ∷ routes) (branch ∷ branches) are none shape run command number others = by (nat_eq route.agent agent) refl (λ later. leads_nowhere routes branches are.1 later shape run command number others)
     where
-      by : (b : Bool) → nat_eq route.agent agent ≡ b → (has_entry routes agent ≡ false → down_at shape run command number routes (commands_of branches) (backs_of branches) agent ≡ silent_port shape run command number) →
-          cond (nat_eq route.agent agent) (side_of shape run branch) (down_at shape run command number routes (commands_of branches) (backs_of branches) agent) ≡ silent_port shape run command number
+      by : (b : Bool) → nat_eq route.agent agent ≡ b → (has_entry routes agent ≡ false → down_at shape run command number others routes (commands_of branches) (backs_of branches) agent ≡ silent_port shape run command number (others agent)) →
+          cond (nat_eq route.agent agent) (side_of shape run branch) (down_at shape run command number others routes (commands_of branches) (backs_of branches) agent) ≡ silent_port shape run command number (others agent)
       by true own later = absurd (false≢true (sym none ∙ ap (λ b. b || has_entry routes agent) own))
       by false other later =
-          ap (λ b. cond b (side_of shape run branch) (down_at shape run command number routes (commands_of branches) (backs_of branches) agent)) other
+          ap (λ b. cond b (side_of shape run branch) (down_at shape run command number others routes (commands_of branches) (backs_of branches) agent)) other
           ∙ later (sym (ap (λ b. b || has_entry routes agent) other) ∙ none)
 
 -- an entry for an agent is one of the routes
@@ -99,8 +99,8 @@ same_at [] k branch one other at same = absurd (none-some branch at)
 same_at (first ∷ later) zero branch one other at same = let is = same_Some first branch at in rw (← is) same.0
 same_at (first ∷ later) (suc k) branch one other at same = same_at later k branch one other at same.1
 
--- each bears the tag of the route
-pub tag_at : (netlist : Netlist) (shown : ShownNets) (branches : List Branch) (start k : ℕ) (branch : Branch) → slice_get branches k ≡ Some branch → AreShown netlist shown start (commands_of branches) → branch.command.tag ≡ shown.tag
-tag_at netlist shown [] start k branch at are = absurd (none-some branch at)
-tag_at netlist shown (first ∷ later) start zero branch at are = ap (λ (b : Branch). b.command.tag) (sym (same_Some first branch at)) ∙ are.0.tag
-tag_at netlist shown (first ∷ later) start (suc k) branch at are = tag_at netlist shown later (start + 1) k branch at are.1
+-- each bears the tag of all
+pub tag_at : (netlist : Netlist) (tag : ℕ) (branches : List Branch) (k : ℕ) (branch : Branch) → slice_get branches k ≡ Some branch → BearTag netlist tag (commands_of branches) → Always netlist (λ cycle. cycle.net branch.command.tag.number ≡ tag)
+tag_at netlist tag [] k branch at bear = absurd (none-some branch at)
+tag_at netlist tag (first ∷ later) zero branch at bear = subst (λ (b : Branch). Always netlist (λ cycle. cycle.net b.command.tag.number ≡ tag)) (same_Some first branch at) bear.0
+tag_at netlist tag (first ∷ later) (suc k) branch at bear = tag_at netlist tag later k branch at bear.1

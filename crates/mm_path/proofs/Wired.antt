@@ -34,7 +34,7 @@ use Rattle.mm_awake.specs.WiredSystem.{WiredPorts, WiredStates, IsWiredFront, Se
 use Rattle.mm_path.specs.Maps.{IsHostOf, IsAgentOf, RoutesAreMapped}
 use Rattle.mm_path.specs.Trees.{room_bits}
 use Rattle.mm_path.specs.Served.{Forest, IsForest, seen_at_host, seen_at_branch, seen_at_agent, seen_in}
-use Rattle.mm_path.proofs.Boundaries.{LoneIsWire, tagged_at, below_host, below_route, ports_in, above_is, is_host, wires, idle, silent, arbiter}
+use Rattle.mm_path.proofs.Boundaries.{LoneIsWire, tagged_at, below_host, no_answers, below_route, ports_in, above_is, is_host, wires, idle, silent, arbiter}
 use Rattle.mm_path.proofs.Choices.{choose}
 use Rattle.mm_path.proofs.Meets.{Meets, meets, no_entry, host_is, seen_host, agent_is, agent_known, seen_is}
 use Rattle.mm_path.proofs.SilentReader.{no_word, never_reads, seen_as_machine}
@@ -113,7 +113,7 @@ module _ (plan : PlanTable) (planned : IsMemoryPlan (memory_system plan)) (route
       (mapped h port (is.port h low) (forest.tree h).held.command.address.width (is.tree h low).held.fields.reaches).maps (shape_below port) (record { words = refl; units = refl })
 
   route_run : (h : ℕ) → h < (memory_system plan).hosts → RunsAsRoute (memory_system plan) h (room h) (below_host (forest.port h) (forest.tree h) run) (below_route plan forest run h) end
-  route_run h low = (is.tree h low).route_runs longer extends run endless (memory_system plan) (shape_below (forest.port h)) (room h) end (maps h low) (le_refl (room h))
+  route_run h low = (is.tree h low).route_runs longer extends run endless (memory_system plan) (shape_below (forest.port h)) no_answers (room h) end (maps h low) (le_refl (room h))
 
   some_room : (h : ℕ) → 0 < room h
   some_room h = pow_pos (room_bits (forest.port h))

@@ -15,7 +15,7 @@ use Rattle.mm_agent.specs.Agents.{agent_lasts}
 use Rattle.mm_path.specs.declared.tree.AgentEnd.{AgentEnd}
 use Rattle.mm_path.specs.declared.tree.Branch.{Branch}
 use Rattle.mm_path.specs.declared.tree.Tree.{Tree}
-use Rattle.mm_path.specs.Trees.{IsEndFor, end_of, IsBranch, AreBranches, commands_of, IsTree}
+use Rattle.mm_path.specs.Trees.{IsEndFor, end_of, AreBranches, commands_of, IsTree}
 use Rattle.mm_path.specs.Branches.{branch_lasts}
 
 pub end_lasts : (old new : Netlist) (port : HostPort) (route : Route) (end : AgentEnd) → IsEndFor old port route end → Extends old new → IsEndFor new port route end

@@ -22,6 +22,10 @@ high_fits x width bits h some =
     let same : width - bits + bits ≡ width = omega arith in
     (div-lt_iff_lt-mul (power_some bits)).1 (subst (λ n. x < n) (ap (λ n. 2 ^ n) (sym same) ∙ whole) h)
 
+-- the bits above the lowest ones
+pub upper_bits : (x high width bits : ℕ) → bits < width → high ≡ x / 2 ^ bits % 2 ^ (width - 1 - bits + 1) → high ≡ x / 2 ^ bits % 2 ^ (width - bits)
+upper_bits x high width bits some e = let same : width - 1 - bits + 1 ≡ width - bits = omega arith in e ∙ ap (λ n. x / 2 ^ bits % 2 ^ n) same
+
 pub base_is_word : (entry : Route) (width : ℕ) → IsEntry width entry → entry.bits < width → width ≤ 128 → IsWord (width - entry.bits) (entry.base / 2 ^ entry.bits)
 base_is_word entry width h some small = record { some_bit = omega arith; small = omega arith; fits = high_fits entry.base width entry.bits h.within some }
 
@@ -57,11 +61,10 @@ base_times : (entry : Route) (width : ℕ) (h : IsEntry width entry) → entry.b
 base_times entry width h = ap (λ n. n / 2 ^ entry.bits) h.base ∙ mul-div_cancel h.footprints (power_some entry.bits)
 
 pub high_bits_tell : (entry : Route) (width address high base inside : ℕ) → IsEntry width entry → entry.bits < width → address < 2 ^ width →
-    high ≡ address / 2 ^ entry.bits % 2 ^ (width - 1 - entry.bits + 1) → base ≡ entry.base / 2 ^ entry.bits → inside ≡ (if high == base then 1 else 0) →
+    high ≡ address / 2 ^ entry.bits % 2 ^ (width - entry.bits) → base ≡ entry.base / 2 ^ entry.bits → inside ≡ (if high == base then 1 else 0) →
     inside ≡ one_if (is_inside entry address)
 high_bits_tell entry width address high base inside h some fits e f g =
-    let bits : width - 1 - entry.bits + 1 ≡ width - entry.bits = omega arith in
-    let is_high : high ≡ address / 2 ^ entry.bits = e ∙ ap (λ n. address / 2 ^ entry.bits % 2 ^ n) bits ∙ mod-eq_of_lt (high_fits address width entry.bits fits some) in
+    let is_high : high ≡ address / 2 ^ entry.bits = e ∙ mod-eq_of_lt (high_fits address width entry.bits fits some) in
     let is_base : base ≡ h.footprints = f ∙ base_times entry width h in
     g ∙ ap (λ n. if n == base then 1 else 0) is_high ∙ ap (λ n. if address / 2 ^ entry.bits == n then 1 else 0) is_base
     ∙ ap one_if (same_footprint h.footprints address (2 ^ entry.bits) (power_some entry.bits)
@@ -72,12 +75,15 @@ no_multiple zero size limit h le = omega arith
 no_multiple (suc t) size limit h le = absurd (omega (arith, h, le))
 
 -- a footprint of the whole range holds each address
-pub all_inside : (entry : Route) (width address inside : ℕ) → IsEntry width entry → width ≤ entry.bits → address < 2 ^ width → inside ≡ 1 → inside ≡ one_if (is_inside entry address)
-all_inside entry width address inside h le fits e =
+pub whole_inside : (entry : Route) (width address : ℕ) → IsEntry width entry → width ≤ entry.bits → address < 2 ^ width → is_inside entry address ≡ true
+whole_inside entry width address h le fits =
     let more : 2 ^ width ≤ 2 ^ entry.bits = pow_mono le in
     let none : entry.base ≡ 0 = h.base ∙ no_multiple h.footprints (2 ^ entry.bits) (2 ^ width) (subst (λ n. n < 2 ^ width) h.base h.within) more in
-    e ∙ sym (ap one_if (ap (λ s. s && nat_lt address (entry.base + 2 ^ entry.bits)) (le-leb entry.base address (omega (arith, none)))
-    ∙ le-leb (suc address) (entry.base + 2 ^ entry.bits) (omega (arith, fits, more))))
+    ap (λ s. s && nat_lt address (entry.base + 2 ^ entry.bits)) (le-leb entry.base address (omega (arith, none)))
+    ∙ le-leb (suc address) (entry.base + 2 ^ entry.bits) (omega (arith, fits, more))
+
+pub all_inside : (entry : Route) (width address inside : ℕ) → IsEntry width entry → width ≤ entry.bits → address < 2 ^ width → inside ≡ 1 → inside ≡ one_if (is_inside entry address)
+all_inside entry width address inside h le fits e = e ∙ sym (ap one_if (whole_inside entry width address h le fits))
 
 -- ---- the kind of the command
 

@@ -12,11 +12,15 @@ use Rattle.command_nets.specs.Nets.{ShowSame}
 use Rattle.memory_sides.specs.declared.route.Route.{Route}
 use Rattle.mm_route.specs.declared.registers.LatchNets.{LatchNets}
 use Rattle.mm_route.specs.declared.route.HeldRoute.{HeldRoute}
+use Rattle.mm_route.specs.declared.route.HeldRoute.TheVariants.{Wired, Routed}
+use Rattle.mm_route.specs.declared.router.HeldRouter.{HeldRouter}
 use Rattle.mm_route.specs.declared.shown.ShownNets.{ShownNets}
+use Rattle.mm_route.specs.declared.wire.HeldWire.{HeldWire}
 use Rattle.mm_route.specs.Entries.{hits, kind_of}
 use Rattle.mm_route.specs.Shown.{AreShown}
 use Rattle.mm_route.specs.Registers.{latch_of}
-use Rattle.mm_route.specs.Forward.{RouteForward, owns, opens, latched_in}
+use Rattle.mm_route.specs.Wire.{WireForward, below_wire}
+use Rattle.mm_route.specs.Forward.{RouteForward, owns, RouterForward, router_owns, opens, latched_in}
 use Rattle.mm_route.specs.Machine.{ShowAllSame}
 
 -- the nets of two commands have the same values in two cycles
@@ -79,9 +83,9 @@ same_latched (Some latch) one other x y state e =
     ∙ ap (λ n. if other.net latch.inside.number == 0 then n else one.net latch.kept.number) e
     ∙ ap (λ n. if other.net latch.inside.number == 0 then y else n) (state latch.kept.number (inr (inl refl)))
 
-pub ignores_answers : (entries : List Route) (host : ℕ) (command : CommandNets) (commands : List CommandNets) (held : HeldRoute) (netlist : Netlist) → RouteForward entries host command commands held netlist →
-    (one other : Cycle) → IsValuation netlist one → IsValuation netlist other → ((n : ℕ) → owns held n → one.net n ≡ other.net n) → ShowSame command one other → ShowAllSame commands one other
-ignores_answers entries host command commands held netlist f one other v w state same =
+router_ignores : (entries : List Route) (host : ℕ) (command : CommandNets) (commands : List CommandNets) (held : HeldRouter) (netlist : Netlist) → RouterForward entries host command commands held netlist →
+    (one other : Cycle) → IsValuation netlist one → IsValuation netlist other → ((n : ℕ) → router_owns held n → one.net n ≡ other.net n) → ShowSame command one other → ShowAllSame commands one other
+router_ignores entries host command commands held netlist f one other v w state same =
     let h = alike_of held.shown.command one other (subst (λ (c : CommandNets). ShowSame c one other) (sym f.command_is) same) in
     let owed = state held.registers.owed.number (inl refl) in
     let owing = state held.registers.owing.number (inr (inl refl)) in
@@ -98,3 +102,15 @@ ignores_answers entries host command commands held netlist f one other v w state
     ∙ ap (λ n. opens (other.net command_nets.write.number) (other.net held.registers.owed.number) (other.net held.registers.owing.number) n) place
     ∙ sym (f.gate other w) in
     shown_alike netlist held.shown one other v w h place gate (f.tag one v ∙ sym (f.tag other w)) 0 commands f.shown
+
+wire_ignores : (entries : List Route) (host : ℕ) (command : CommandNets) (commands : List CommandNets) (wire : HeldWire) (netlist : Netlist) → WireForward entries host command commands wire netlist →
+    (one other : Cycle) → IsValuation netlist one → IsValuation netlist other → ShowSame command one other → ShowAllSame commands one other
+wire_ignores entries host command commands wire netlist f one other v w same =
+    let h = alike_of wire.command one other (subst (λ (c : CommandNets). ShowSame c one other) (sym f.command_is) same) in
+    let below = same_raw (below_wire wire) one other (record { read = h.read; write = h.write; address = h.address; word = h.word; enables = h.enables; count = h.count; more = h.more }) (f.tag one v ∙ sym (f.tag other w)) in
+    subst (λ (made : List CommandNets). ShowAllSame made one other) (sym f.only) (below, tt)
+
+pub ignores_answers : (entries : List Route) (host : ℕ) (command : CommandNets) (commands : List CommandNets) (held : HeldRoute) (netlist : Netlist) → RouteForward entries host command commands held netlist →
+    (one other : Cycle) → IsValuation netlist one → IsValuation netlist other → ((n : ℕ) → owns held n → one.net n ≡ other.net n) → ShowSame command one other → ShowAllSame commands one other
+ignores_answers entries host command commands (Wired wire) netlist f one other v w state same = wire_ignores entries host command commands wire netlist f.made one other v w same
+ignores_answers entries host command commands (Routed router) netlist f one other v w state same = router_ignores entries host command commands router netlist f.made one other v w state same

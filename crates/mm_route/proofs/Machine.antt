@@ -1,4 +1,4 @@
--- The nets of a route are its machine.
+-- The nets of a router are the machine of a route.
 use Rattle.std.proofs.Common.{◌≡◌, ℕ, zero, suc, ◌+◌, ◌-◌, ◌*◌, ◌/◌, ◌%◌, ◌^◌, ◌<◌, ◌≤◌, Bool, true, false, not, ◌&&◌, ◌||◌, ◌==◌, if◌then◌else◌, nat_eq, nat_lt, List, [], ◌∷◌, length, map, get_or, Option, Some, None, IfSome, refl, sym, subst, ap, ◌∙◌, arith}
 use Rattle.std.proofs.lemmas.Bool.{eqb-true, eqb-false, le-leb}
 use Rattle.std.specs.Int.{bit_at}
@@ -12,6 +12,7 @@ use Rattle.net_parts.specs.Groups.{values_of}
 use Rattle.mm_runs.specs.Views.{System, Shape}
 use Rattle.mm_runs.specs.Commands.{byte_address}
 use Rattle.mm_runs.specs.Order.{is_agent}
+use Rattle.mm_machines.specs.Paths.{AnswerView}
 use Rattle.mm_machines.specs.Link.{Port, takes}
 use Rattle.mm_parts.specs.Queue.{takes_read, by_option}
 use Rattle.mm_parts.specs.Route.{RouteState, kind_at, place_now, is_open}
@@ -21,13 +22,13 @@ use Rattle.command_nets.specs.Nets.{port_in}
 use Rattle.memory_sides.specs.declared.route.Route.{Route}
 use Rattle.mm_route.specs.declared.back.BackNets.{BackNets}
 use Rattle.mm_route.specs.declared.registers.LatchNets.{LatchNets}
-use Rattle.mm_route.specs.declared.route.HeldRoute.{HeldRoute}
+use Rattle.mm_route.specs.declared.router.HeldRouter.{HeldRouter}
 use Rattle.mm_route.specs.declared.shown.ShownNets.{ShownNets}
 use Rattle.mm_route.specs.Entries.{place_bits, hits}
 use Rattle.mm_route.specs.Shown.{AreShown}
 use Rattle.mm_route.specs.Registers.{LatchStartsLow}
-use Rattle.mm_route.specs.Forward.{RouteForward, forward_lasts, latched_in}
-use Rattle.mm_route.specs.Backward.{RouteBackward, backward_lasts, picked, answer_group, IsNextLatch, IsNext}
+use Rattle.mm_route.specs.Forward.{RouterForward, router_forward_lasts, latched_in}
+use Rattle.mm_route.specs.Backward.{RouterBackward, router_backward_lasts, picked, answer_group, IsNextLatch, IsNext}
 use Rattle.mm_route.specs.Machine.{has_entry, MapsAs, down_at, inside_at, state_in, RunsAsRoute, RunsAsMachine}
 use Rattle.mm_route.proofs.Places.{IsPlace, default_place, hits_are, none_bits, same_place, BitsFrom, bits_from}
 
@@ -97,7 +98,7 @@ raised_one : (t : Bool) → is_raised (one_if t) ≡ t
 raised_one true = refl
 raised_one false = refl
 
-option_of : {X Y : Type 0} (h : X → Y) (place : Option ℕ) (none : X) (some : ℕ → X) → h (by_option place none some) ≡ by_option place (h none) (λ a. h (some a))
+pub option_of : {X Y : Type 0} (h : X → Y) (place : Option ℕ) (none : X) (some : ℕ → X) → h (by_option place none some) ≡ by_option place (h none) (λ a. h (some a))
 option_of h None none some = refl
 option_of h (Some a) none some = refl
 
@@ -106,7 +107,7 @@ same_member a b e = ap (λ (o : Option ℕ). by_option o 0 (λ x. x)) e
 
 -- ---- the side of an agent
 
-choose_port : (P : Port → Type 0) (t : Bool) (p q : Port) → (t ≡ true → P p) → (t ≡ false → P q) → P (if t then p else q)
+pub choose_port : (P : Port → Type 0) (t : Bool) (p q : Port) → (t ≡ true → P p) → (t ≡ false → P q) → P (if t then p else q)
 choose_port P true p q f g = f refl
 choose_port P false p q f g = g refl
 
@@ -115,7 +116,7 @@ silent_low true gate level f = (let e = f refl in cc)
 silent_low false gate level f = refl
 
 -- what an agent's side shows in a cycle: the command above, where it goes here
-record IsBelow (run : Run) (c : ℕ) (shape : Shape) (command : CommandNets) (host : ℕ) (here : Bool) (port : Port) : Type 0 where
+pub record IsBelow (run : Run) (c : ℕ) (shape : Shape) (command : CommandNets) (host : ℕ) (here : Bool) (port : Port) : Type 0 where
   pub shape_is : port.shape ≡ shape
   pub read : port.commands.read c ≡ (if here then run.net c command.read.number else 0)
   pub write : port.commands.write c ≡ (if here then run.net c command.write.number else 0)
@@ -126,11 +127,11 @@ record IsBelow (run : Run) (c : ℕ) (shape : Shape) (command : CommandNets) (ho
   pub more : port.commands.more c ≡ run.net c command.more.number
   pub tag : port.commands.tag c ≡ host
 
-is_below : (netlist : Netlist) (shown : ShownNets) (shape : Shape) (run : Run) (c host agent : ℕ) (gate : Bool) (k : ℕ) (place : Option ℕ) (entries : List Route) (commands : List CommandNets) (backs : List BackNets) →
+is_below : (netlist : Netlist) (shown : ShownNets) (shape : Shape) (others : ℕ → AnswerView) (run : Run) (c host agent : ℕ) (gate : Bool) (k : ℕ) (place : Option ℕ) (entries : List Route) (commands : List CommandNets) (backs : List BackNets) →
     IsValuation netlist (cycle_of run c) → run.net c shown.tag.number ≡ host → is_raised (run.net c shown.gate.number) ≡ gate → length commands ≡ length entries → length backs ≡ length entries →
     BitsFrom k (run.net c shown.place.number) entries place → AreShown netlist shown k commands → (is_agent agent place ≡ true → has_entry entries agent ≡ true) →
-    IsBelow run c shape shown.command host (is_agent agent place && gate) (down_at shape run shown.command host entries commands backs agent)
-is_below netlist shown shape run c host agent gate k place [] commands backs v tag opened l m bits made some = record {
+    IsBelow run c shape shown.command host (is_agent agent place && gate) (down_at shape run shown.command host others entries commands backs agent)
+is_below netlist shown shape others run c host agent gate k place [] commands backs v tag opened l m bits made some = record {
   shape_is = refl;
   read = silent_low (is_agent agent place) gate _ some;
   write = silent_low (is_agent agent place) gate _ some;
@@ -141,10 +142,10 @@ is_below netlist shown shape run c host agent gate k place [] commands backs v t
   more = refl;
   tag = refl;
 }
-is_below netlist shown shape run c host agent gate k place (entry ∷ entries) [] backs v tag opened l m bits made some = absurd (omega (arith, l))
-is_below netlist shown shape run c host agent gate k place (entry ∷ entries) (one ∷ commands) [] v tag opened l m bits made some = absurd (omega (arith, m))
-is_below netlist shown shape run c host agent gate k place (entry ∷ entries) (one ∷ commands) (back ∷ backs) v tag opened l m bits made some =
-    choose_port (IsBelow run c shape shown.command host (is_agent agent place && gate)) (nat_eq entry.agent agent) (port_in shape run one back.wait back.answer) (down_at shape run shown.command host entries commands backs agent)
+is_below netlist shown shape others run c host agent gate k place (entry ∷ entries) [] backs v tag opened l m bits made some = absurd (omega (arith, l))
+is_below netlist shown shape others run c host agent gate k place (entry ∷ entries) (one ∷ commands) [] v tag opened l m bits made some = absurd (omega (arith, m))
+is_below netlist shown shape others run c host agent gate k place (entry ∷ entries) (one ∷ commands) (back ∷ backs) v tag opened l m bits made some =
+    choose_port (IsBelow run c shape shown.command host (is_agent agent place && gate)) (nat_eq entry.agent agent) (port_in shape run one back.wait back.answer) (down_at shape run shown.command host others entries commands backs agent)
     (λ is.
     (let bit : (bit_at (run.net c shown.place.number) k == 1) ≡ is_agent agent place =
     ap (λ n. n == 1) bits.0 ∙ one_is (is_agent entry.agent place) ∙ ap (λ n. is_agent n place) (eqb-true entry.agent agent is) in
@@ -162,7 +163,7 @@ is_below netlist shown shape run c host agent gate k place (entry ∷ entries) (
       more = ap at made.0.more;
       tag = ap at made.0.tag ∙ tag;
     }))
-    (λ other. is_below netlist shown shape run c host agent gate (k + 1) place entries commands backs v tag opened (omega (arith, l)) (omega (arith, m)) bits.1 made.1
+    (λ other. is_below netlist shown shape others run c host agent gate (k + 1) place entries commands backs v tag opened (omega (arith, l)) (omega (arith, m)) bits.1 made.1
     (λ here. subst (λ t. (t || has_entry entries agent) ≡ true) other (some here)))
 
 -- ---- what is picked
@@ -171,26 +172,26 @@ pick_step : {X : Type 0} (t : Bool) (bit : ℕ) (x y : X) (f : Port → X) (p q 
 pick_step true bit x y f p q e g h = ap (λ n. if n == 0 then x else y) e ∙ sym g
 pick_step false bit x y f p q e g h = ap (λ n. if n == 0 then x else y) e ∙ h refl
 
-picked_is : {X : Type 0} (k bits : ℕ) (entries : List Route) (commands : List CommandNets) (backs : List BackNets) (place : Option ℕ) (shape : Shape) (run : Run) (command : CommandNets) (host : ℕ) (none : X) (g : BackNets → X) (f : Port → X) →
+picked_is : {X : Type 0} (k bits : ℕ) (entries : List Route) (commands : List CommandNets) (backs : List BackNets) (place : Option ℕ) (shape : Shape) (others : ℕ → AnswerView) (run : Run) (command : CommandNets) (host : ℕ) (none : X) (g : BackNets → X) (f : Port → X) →
     ((one : CommandNets) (back : BackNets) → f (port_in shape run one back.wait back.answer) ≡ g back) → length commands ≡ length entries → length backs ≡ length entries → BitsFrom k bits entries place → IsPlace entries place →
-    picked k bits (map g backs) none ≡ by_option place none (λ a. f (down_at shape run command host entries commands backs a))
-picked_is k bits [] commands [] None shape run command host none g f same l m b p = refl
-picked_is k bits [] commands [] (Some a) shape run command host none g f same l m b p = absurd (let e = p a refl in cc)
-picked_is k bits [] commands (back ∷ backs) place shape run command host none g f same l m b p = absurd (omega (arith, m))
-picked_is k bits (entry ∷ entries) [] backs place shape run command host none g f same l m b p = absurd (omega (arith, l))
-picked_is k bits (entry ∷ entries) (one ∷ commands) [] place shape run command host none g f same l m b p = absurd (omega (arith, m))
-picked_is k bits (entry ∷ entries) (one ∷ commands) (back ∷ backs) None shape run command host none g f same l m b p =
+    picked k bits (map g backs) none ≡ by_option place none (λ a. f (down_at shape run command host others entries commands backs a))
+picked_is k bits [] commands [] None shape others run command host none g f same l m b p = refl
+picked_is k bits [] commands [] (Some a) shape others run command host none g f same l m b p = absurd (let e = p a refl in cc)
+picked_is k bits [] commands (back ∷ backs) place shape others run command host none g f same l m b p = absurd (omega (arith, m))
+picked_is k bits (entry ∷ entries) [] backs place shape others run command host none g f same l m b p = absurd (omega (arith, l))
+picked_is k bits (entry ∷ entries) (one ∷ commands) [] place shape others run command host none g f same l m b p = absurd (omega (arith, m))
+picked_is k bits (entry ∷ entries) (one ∷ commands) (back ∷ backs) None shape others run command host none g f same l m b p =
     ap (λ n. if n == 0 then picked (k + 1) bits (map g backs) none else g back) b.0
-    ∙ picked_is (k + 1) bits entries commands backs None shape run command host none g f same (omega (arith, l)) (omega (arith, m)) b.1 (default_place entries)
-picked_is k bits (entry ∷ entries) (one ∷ commands) (back ∷ backs) (Some a) shape run command host none g f same l m b p =
-    pick_step (nat_eq entry.agent a) (bit_at bits k) (picked (k + 1) bits (map g backs) none) (g back) f (port_in shape run one back.wait back.answer) (down_at shape run command host entries commands backs a) b.0 (same one back)
-    (λ other. picked_is (k + 1) bits entries commands backs (Some a) shape run command host none g f same (omega (arith, l)) (omega (arith, m)) b.1
+    ∙ picked_is (k + 1) bits entries commands backs None shape others run command host none g f same (omega (arith, l)) (omega (arith, m)) b.1 (default_place entries)
+picked_is k bits (entry ∷ entries) (one ∷ commands) (back ∷ backs) (Some a) shape others run command host none g f same l m b p =
+    pick_step (nat_eq entry.agent a) (bit_at bits k) (picked (k + 1) bits (map g backs) none) (g back) f (port_in shape run one back.wait back.answer) (down_at shape run command host others entries commands backs a) b.0 (same one back)
+    (λ other. picked_is (k + 1) bits entries commands backs (Some a) shape others run command host none g f same (omega (arith, l)) (omega (arith, m)) b.1
     (λ agent e. subst (λ n. has_entry entries n ≡ true) (same_member a agent e) (subst (λ t. (t || has_entry entries a) ≡ true) other (p a refl))))
 
 -- ---- the machine
 
-module _ (system : System) (host room room_bits : ℕ) (shape : Shape) (entries : List Route) (commands : List CommandNets) (backs : List BackNets) (held : HeldRoute) (wait : NetValue) (answer : AnswerNets) (netlist : Netlist)
-    (maps : MapsAs entries held.shown.command.address.width system host shape) (f : RouteForward entries host held.shown.command commands held netlist) (b : RouteBackward held room_bits backs wait answer netlist)
+module _ (system : System) (host room room_bits : ℕ) (shape : Shape) (others : ℕ → AnswerView) (entries : List Route) (commands : List CommandNets) (backs : List BackNets) (held : HeldRouter) (wait : NetValue) (answer : AnswerNets) (netlist : Netlist)
+    (maps : MapsAs entries held.shown.command.address.width system host shape) (f : RouterForward entries host held.shown.command commands held netlist) (b : RouterBackward held room_bits backs wait answer netlist)
     (same : length backs ≡ length entries) (run : Run) (endless : IsEndlessRun netlist run) where
   valued : (c : ℕ) → IsValuation netlist (cycle_of run c)
   valued c = (endless (c + 1)).valuations c (omega arith)
@@ -265,10 +266,10 @@ module _ (system : System) (host room room_bits : ℕ) (shape : Shape) (entries 
   owing_from c = bits_from 0 _ entries (state.owing c) (whole _ ∙ (holds c).1.0)
 
   abbrev pub down : ℕ → Port
-  down = down_at shape run held.shown.command host entries commands backs
+  down = down_at shape run held.shown.command host others entries commands backs
 
   below : (a c : ℕ) → IsBelow run c shape held.shown.command host (is_agent a (place c) && is_open system host up state c) (down a)
-  below a c = is_below netlist held.shown shape run c host a (is_open system host up state c) 0 (place c) entries commands backs (valued c) (f.tag (cycle_of run c) (valued c)) (gate_is c) f.count same (place_from c) f.shown
+  below a c = is_below netlist held.shown shape others run c host a (is_open system host up state c) 0 (place c) entries commands backs (valued c) (f.tag (cycle_of run c) (valued c)) (gate_is c) f.count same (place_from c) f.shown
       (λ here. agent_here (place c) (is_place c (holds c)) here)
     where
       agent_here : (p : Option ℕ) → IsPlace entries p → is_agent a p ≡ true → has_entry entries a ≡ true
@@ -280,7 +281,7 @@ module _ (system : System) (host room room_bits : ℕ) (shape : Shape) (entries 
       b.waits (cycle_of run c) (valued c)
       ∙ ap (λ t. not t || is_raised (picked 0 (run.net c held.shown.place.number) (map (λ (back : BackNets). run.net c back.wait.number) backs) 0)) (gate_is c)
       ∙ ap (λ t. not (is_open system host up state c) || t)
-      (ap is_raised (picked_is 0 (run.net c held.shown.place.number) entries commands backs (place c) shape run held.shown.command host 0 (λ (back : BackNets). run.net c back.wait.number) (λ port. port.commands.waitrequest c)
+      (ap is_raised (picked_is 0 (run.net c held.shown.place.number) entries commands backs (place c) shape others run held.shown.command host 0 (λ (back : BackNets). run.net c back.wait.number) (λ port. port.commands.waitrequest c)
       (λ one back. refl) f.count same (place_from c) (is_place c (holds c)))
       ∙ option_of is_raised (place c) 0 (λ a. (down a).commands.waitrequest c))
 
@@ -290,7 +291,7 @@ module _ (system : System) (host room room_bits : ℕ) (shape : Shape) (entries 
   answers_are : (c : ℕ) → (run.net c answer.valid.number ∷ run.net c answer.word.number ∷ run.net c answer.code.number ∷ []) ≡ by_option (state.owing c) (one_if (nat_lt 0 (state.owed c)) ∷ 0 ∷ 0 ∷ []) (λ a. answered_by (down a) c)
   answers_are c =
       b.answers (cycle_of run c) (valued c)
-      ∙ picked_is 0 (run.net c held.registers.owing.number) entries commands backs (state.owing c) shape run held.shown.command host (one_if (nat_lt 0 (state.owed c)) ∷ 0 ∷ 0 ∷ [])
+      ∙ picked_is 0 (run.net c held.registers.owing.number) entries commands backs (state.owing c) shape others run held.shown.command host (one_if (nat_lt 0 (state.owed c)) ∷ 0 ∷ 0 ∷ [])
       (λ (back : BackNets). values_of (cycle_of run c) (answer_group back.answer)) (λ port. answered_by port c) (λ one back. refl) f.count same (owing_from c) (holds c).1.1.1
 
   pub runs_as_route : (end : ℕ) → room ≤ 2 ^ room_bits → RunsAsRoute system host room up down end
@@ -322,12 +323,12 @@ module _ (system : System) (host room room_bits : ℕ) (shape : Shape) (entries 
     };
   }
 
-pub nets_are_a_route : (netlist : Netlist) (entries : List Route) (host : ℕ) (command : CommandNets) (commands : List CommandNets) (held : HeldRoute) (room_bits : ℕ) (backs : List BackNets) (wait : NetValue) (answer : AnswerNets) →
-    RouteForward entries host command commands held netlist → RouteBackward held room_bits backs wait answer netlist → length backs ≡ length entries → RunsAsMachine netlist entries host command commands room_bits backs wait answer
-nets_are_a_route netlist entries host command commands held room_bits backs wait answer f b same =
+pub nets_are_a_router : (netlist : Netlist) (entries : List Route) (host : ℕ) (command : CommandNets) (commands : List CommandNets) (held : HeldRouter) (room_bits : ℕ) (backs : List BackNets) (wait : NetValue) (answer : AnswerNets) →
+    RouterForward entries host command commands held netlist → RouterBackward held room_bits backs wait answer netlist → length backs ≡ length entries → RunsAsMachine netlist entries host command commands room_bits backs wait answer
+nets_are_a_router netlist entries host command commands held room_bits backs wait answer f b same =
     subst (λ (c : CommandNets). RunsAsMachine netlist entries host c commands room_bits backs wait answer) f.command_is
-    (λ longer e run endless system shape room end maps enough. runs_as_route system host room room_bits shape entries commands backs held wait answer longer maps (forward_lasts entries host held.shown.command commands held netlist longer here e)
-    (backward_lasts held room_bits backs wait answer netlist longer b e) same run endless end enough)
+    (λ longer e run endless system shape others room end maps enough. runs_as_route system host room room_bits shape others entries commands backs held wait answer longer maps (router_forward_lasts entries host held.shown.command commands held netlist longer here e)
+    (router_backward_lasts held room_bits backs wait answer netlist longer b e) same run endless end enough)
   where
-    here : RouteForward entries host held.shown.command commands held netlist
-    here = subst (λ (c : CommandNets). RouteForward entries host c commands held netlist) (sym f.command_is) f
+    here : RouterForward entries host held.shown.command commands held netlist
+    here = subst (λ (c : CommandNets). RouterForward entries host c commands held netlist) (sym f.command_is) f

@@ -1,21 +1,24 @@
 -- What the second call leaves in a netlist: the wait and the word above, and what the registers take.
-use Rattle.std.specs.Prelude.{◌≡◌, ℕ, ◌+◌, ◌*◌, ◌^◌, ◌<◌, ◌≤◌, Bool, not, ◌&&◌, ◌||◌, ◌==◌, if◌then◌else◌, nat_lt, List, [], ◌∷◌, map, IfSome}
+use Rattle.std.specs.Prelude.{◌≡◌, ℕ, ◌+◌, ◌*◌, ◌^◌, ◌<◌, ◌≤◌, Bool, not, ◌||◌, ◌==◌, if◌then◌else◌, nat_lt, List, [], ◌∷◌, map, IfSome}
 use Rattle.std.specs.Int.{bit_at}
 use Rattle.histories.specs.History.{is_raised, one_if}
 use Rattle.netlist.specs.Nets.{NetValue}
 use Rattle.netlist.specs.Netlists.{Netlist}
-use Rattle.netlist.specs.Runs.{Cycle, Run, cycle_of, IsRun, Always}
+use Rattle.netlist.specs.Runs.{Cycle, Always}
 use Rattle.netlist.specs.Longer.{Extends}
 use Rattle.net_parts.specs.Nets.{IsBit}
 use Rattle.net_parts.specs.Groups.{values_of}
 use Rattle.net_parts.specs.Laws.{net_lasts}
-use Rattle.command_nets.specs.declared.nets.CommandNets.{CommandNets}
 use Rattle.command_nets.specs.declared.nets.AnswerNets.{AnswerNets}
 use Rattle.command_nets.specs.Nets.{AreAnswerNets}
 use Rattle.mm_route.specs.declared.back.BackNets.{BackNets}
 use Rattle.mm_route.specs.declared.registers.LatchNets.{LatchNets}
 use Rattle.mm_route.specs.declared.route.HeldRoute.{HeldRoute}
+use Rattle.mm_route.specs.declared.route.HeldRoute.TheVariants.{Wired, Routed}
+use Rattle.mm_route.specs.declared.router.HeldRouter.{HeldRouter}
 use Rattle.mm_route.specs.declared.shown.ShownNets.{ShownNets}
+use Rattle.mm_route.specs.Taken.{taken_in, reads_in, asked_in, EachStep}
+use Rattle.mm_route.specs.Wire.{WireBackward, wire_backward_lasts}
 
 -- what comes back from each entry is of this netlist, and its words have so many bits
 abbrev pub AreBackNets : Netlist → ℕ → List BackNets → Type 0
@@ -41,26 +44,15 @@ abbrev pub WaitsAbove : Cycle → ShownNets → List BackNets → NetValue → T
 WaitsAbove cycle shown backs wait = is_raised (cycle.net wait.number) ≡ (not (is_raised (cycle.net shown.gate.number)) || is_raised (picked 0 (cycle.net shown.place.number) (waits_in cycle backs) 0))
 
 -- the answer above is that of the place that owes; the default agent gives a word of 0 while words are owed
-abbrev pub AnswersAbove : Cycle → HeldRoute → List BackNets → AnswerNets → Type 0
+abbrev pub AnswersAbove : Cycle → HeldRouter → List BackNets → AnswerNets → Type 0
 AnswersAbove cycle held backs answer = values_of cycle (answer_group answer) ≡ picked 0 (cycle.net held.registers.owing.number) (answers_in cycle backs) (one_if (nat_lt 0 (cycle.net held.registers.owed.number)) ∷ 0 ∷ 0 ∷ [])
-
--- a beat is taken
-abbrev pub taken_in : Cycle → CommandNets → NetValue → Bool
-taken_in cycle command wait = (is_raised (cycle.net command.read.number) || is_raised (cycle.net command.write.number)) && not (is_raised (cycle.net wait.number))
-
-abbrev pub reads_in : Cycle → CommandNets → NetValue → Bool
-reads_in cycle command wait = taken_in cycle command wait && is_raised (cycle.net command.read.number)
-
--- the words that a read asks as it is taken
-abbrev pub asked_in : Cycle → CommandNets → NetValue → ℕ
-asked_in cycle command wait = if reads_in cycle command wait then cycle.net command.count.number else 0
 
 -- the words owed after a cycle: those asked more, and one less for a word that comes, if that fits below `room`
 abbrev pub IsNextOwed : ℕ → ℕ → ℕ → ℕ → ℕ → Type 0
 IsNextOwed room owed asked words next = owed + asked < room → words ≤ owed + asked → next + words ≡ owed + asked
 
 -- what is owed after a cycle, and by which place
-pub record IsNextDebt (cycle : Cycle) (held : HeldRoute) (room_bits : ℕ) (wait valid : NetValue) (words place : ℕ) : Type 0 where
+pub record IsNextDebt (cycle : Cycle) (held : HeldRouter) (room_bits : ℕ) (wait valid : NetValue) (words place : ℕ) : Type 0 where
   pub owed : IsNextOwed (2 ^ room_bits) (cycle.net held.registers.owed.number) (asked_in cycle held.shown.command wait) (one_if (is_raised (cycle.net valid.number))) words
   pub owing : place ≡ (if reads_in cycle held.shown.command wait then cycle.net held.shown.place.number else cycle.net held.registers.owing.number)
 
@@ -70,33 +62,39 @@ pub record IsNextLatch (shown : ShownNets) (taken : Bool) (cycle next : Cycle) (
   pub kept : next.net latch.kept.number ≡ cycle.net shown.place.number
 
 -- the registers after a cycle
-pub record IsNext (held : HeldRoute) (room_bits : ℕ) (wait valid : NetValue) (cycle next : Cycle) : Type 0 where
+pub record IsNext (held : HeldRouter) (room_bits : ℕ) (wait valid : NetValue) (cycle next : Cycle) : Type 0 where
   pub debt : IsNextDebt cycle held room_bits wait valid (next.net held.registers.owed.number) (next.net held.registers.owing.number)
   pub latch : IfSome held.registers.latch (IsNextLatch held.shown (taken_in cycle held.shown.command wait) cycle next)
-
--- in each run, of each cycle and the next one
-abbrev pub EachStep : Netlist → (Cycle → Cycle → Type 0) → Type 0
-EachStep netlist P = (run : Run) (cycles : ℕ) → IsRun netlist run cycles → (c : ℕ) → c + 1 < cycles → P (cycle_of run c) (cycle_of run (c + 1))
 
 -- the most nets that the second call makes for so many entries
 abbrev pub backward_nets : ℕ → ℕ
 backward_nets entries = 19 + 6 * entries
 
--- after the second call
-pub record RouteBackward (held : HeldRoute) (room_bits : ℕ) (backs : List BackNets) (wait : NetValue) (answer : AnswerNets) (netlist : Netlist) : Type 0 where
+-- after the second call, of a router
+pub record RouterBackward (held : HeldRouter) (room_bits : ℕ) (backs : List BackNets) (wait : NetValue) (answer : AnswerNets) (netlist : Netlist) : Type 0 where
   pub waits : Always netlist (λ cycle. WaitsAbove cycle held.shown backs wait)
   pub answers : Always netlist (λ cycle. AnswersAbove cycle held backs answer)
   pub steps : EachStep netlist (IsNext held room_bits wait answer.valid)
 
+-- after the second call
+abbrev pub RouteBackward : HeldRoute → ℕ → List BackNets → NetValue → AnswerNets → Netlist → Type 0
+RouteBackward (Wired wire) room_bits backs wait answer netlist = WireBackward wire backs wait answer netlist
+RouteBackward (Routed router) room_bits backs wait answer netlist = RouterBackward router room_bits backs wait answer netlist
+
 -- ---- what stands lasts
 
-pub backward_lasts : (held : HeldRoute) (room_bits : ℕ) (backs : List BackNets) (wait : NetValue) (answer : AnswerNets) (old new : Netlist) → RouteBackward held room_bits backs wait answer old →
-    Extends old new → RouteBackward held room_bits backs wait answer new
-backward_lasts held room_bits backs wait answer old new h e = record {
+pub router_backward_lasts : (held : HeldRouter) (room_bits : ℕ) (backs : List BackNets) (wait : NetValue) (answer : AnswerNets) (old new : Netlist) → RouterBackward held room_bits backs wait answer old →
+    Extends old new → RouterBackward held room_bits backs wait answer new
+router_backward_lasts held room_bits backs wait answer old new h e = record {
   waits = λ cycle v. h.waits cycle (e.valuations cycle v);
   answers = λ cycle v. h.answers cycle (e.valuations cycle v);
   steps = λ run cycles r. h.steps run cycles (e.runs run cycles r);
 }
+
+pub backward_lasts : (held : HeldRoute) (room_bits : ℕ) (backs : List BackNets) (wait : NetValue) (answer : AnswerNets) (old new : Netlist) → RouteBackward held room_bits backs wait answer old →
+    Extends old new → RouteBackward held room_bits backs wait answer new
+backward_lasts (Wired wire) room_bits backs wait answer old new h e = wire_backward_lasts wire backs wait answer old new h e
+backward_lasts (Routed router) room_bits backs wait answer old new h e = router_backward_lasts router room_bits backs wait answer old new h e
 
 answer_lasts : (a b : Netlist) (answer : AnswerNets) (bits : ℕ) → Extends a b → AreAnswerNets a answer bits → AreAnswerNets b answer bits
 answer_lasts a b answer bits e h = record { valid = net_lasts a b answer.valid 1 e h.valid; word = net_lasts a b answer.word bits e h.word; code = net_lasts a b answer.code 2 e h.code }

@@ -1,5 +1,6 @@
 -- The entries of the map of one host: which addresses each agent holds.
-use Rattle.std.specs.Prelude.{◌≡◌, ℕ, ◌+◌, ◌*◌, ◌^◌, ◌<◌, Bool, ◌&&◌, if◌then◌else◌, nat_le, nat_lt, List, [], ◌∷◌, Option}
+use Rattle.std.specs.Prelude.{◌≡◌, ℕ, ◌+◌, ◌*◌, ◌^◌, ◌<◌, Bool, true, false, ◌&&◌, if◌then◌else◌, nat_le, nat_lt, List, [], ◌∷◌, length, Option}
+use Rattle.std.proofs.Common.{refl}
 use Rattle.histories.specs.History.{is_raised, one_if}
 use Rattle.mm_runs.specs.Views.{Kind}
 use Rattle.mm_runs.specs.Views.Kind.{Reads, Writes}
@@ -39,3 +40,16 @@ hits (entry ∷ later) kind address = one_if (holds entry kind address) + 2 * hi
 abbrev pub place_bits : List Route → Option ℕ → ℕ
 place_bits [] place = 0
 place_bits (entry ∷ later) place = one_if (is_agent entry.agent place) + 2 * place_bits later place
+
+-- one agent alone, that reads and writes, holds each address of so many bits: its base is 0 then
+abbrev pub is_lone : List Route → ℕ → Bool
+is_lone [] width = false
+is_lone (entry ∷ []) width = entry.reads && entry.writes && nat_le width entry.bits
+is_lone (entry ∷ other ∷ later) width = false
+
+-- ---- laws. No contract reads a proof of these
+
+pub one_entry : (entries : List Route) (width : ℕ) → is_lone entries width ≡ true → length entries ≡ 1
+one_entry [] width lone = cc
+one_entry (entry ∷ []) width lone = refl
+one_entry (entry ∷ other ∷ later) width lone = cc

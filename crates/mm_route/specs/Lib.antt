@@ -2,6 +2,9 @@ pub mod Entries
 pub mod Decoder
 pub mod Shown
 pub mod Registers
+pub mod Taken
+pub mod Wire
 pub mod Forward
 pub mod Backward
+pub mod Lone
 pub mod Machine

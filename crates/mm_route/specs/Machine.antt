@@ -9,6 +9,7 @@ use Rattle.mm_runs.specs.Views.{System, Shape, Kind}
 use Rattle.mm_runs.specs.Views.Responses.{AreZero}
 use Rattle.mm_runs.specs.Commands.{byte_address}
 use Rattle.mm_runs.specs.Order.{is_agent}
+use Rattle.mm_machines.specs.Paths.{AnswerView}
 use Rattle.mm_machines.specs.Link.{Port}
 use Rattle.mm_parts.specs.Queue.{takes_read}
 use Rattle.mm_parts.specs.Route.{RouteState, kind_at, IsRouteMachine}
@@ -47,9 +48,9 @@ pub record MapsAs (entries : List Route) (width : ℕ) (system : System) (host :
 
 -- ---- the sides below
 
--- the side of an agent without an entry: nothing is shown there
-abbrev pub silent_port : Shape → Run → CommandNets → ℕ → Port
-silent_port shape run command host = record {
+-- the side of an agent without an entry: nothing is shown there, whatever it answers
+abbrev pub silent_port : Shape → Run → CommandNets → ℕ → AnswerView → Port
+silent_port shape run command host answers = record {
   shape = shape;
   commands = record {
     signals = record {
@@ -64,15 +65,15 @@ silent_port shape run command host = record {
     tag = λ c. host;
     waitrequest = λ c. 0;
   };
-  answers = record { valid = λ c. 0; word = λ c. 0; code = λ c. 0 };
+  answers = answers;
 }
 
--- the side of an agent: the nets of its entry, where it has one
-abbrev pub down_at : Shape → Run → CommandNets → ℕ → List Route → List CommandNets → List BackNets → ℕ → Port
-down_at shape run command host (entry ∷ entries) (made ∷ commands) (back ∷ backs) agent =
+-- the side of an agent: the nets of its entry, where it has one. `others` is what each agent without one answers
+abbrev pub down_at : Shape → Run → CommandNets → ℕ → (ℕ → AnswerView) → List Route → List CommandNets → List BackNets → ℕ → Port
+down_at shape run command host others (entry ∷ entries) (made ∷ commands) (back ∷ backs) agent =
     if nat_eq entry.agent agent then port_in shape run made back.wait back.answer
-    else down_at shape run command host entries commands backs agent
-down_at shape run command host entries commands backs agent = silent_port shape run command host
+    else down_at shape run command host others entries commands backs agent
+down_at shape run command host others entries commands backs agent = silent_port shape run command host (others agent)
 
 -- ---- the state
 
@@ -111,11 +112,12 @@ pub record RunsAsRoute (system : System) (host room : ℕ) (up : Port) (down : �
   pub state : RouteState
   pub is_machine : IsRouteMachine AreZero system host room up down state end
 
--- in every endless run of each longer netlist, the nets are the machine of a route of each system whose map of this host these entries are
+-- in every endless run of each longer netlist, the nets are the machine of a route of each system whose map of this host these entries are,
+-- whatever agents without an entry answer
 abbrev pub RunsAsMachine : Netlist → List Route → ℕ → CommandNets → List CommandNets → ℕ → List BackNets → NetValue → AnswerNets → Type 0
 RunsAsMachine netlist entries host command commands room_bits backs wait answer =
-    (longer : Netlist) → Extends netlist longer → (run : Run) → IsEndlessRun longer run → (system : System) (shape : Shape) (room end : ℕ) → MapsAs entries command.address.width system host shape → room ≤ 2 ^ room_bits →
-    RunsAsRoute system host room (port_in shape run command wait answer) (down_at shape run command host entries commands backs) end
+    (longer : Netlist) → Extends netlist longer → (run : Run) → IsEndlessRun longer run → (system : System) (shape : Shape) (others : ℕ → AnswerView) (room end : ℕ) → MapsAs entries command.address.width system host shape → room ≤ 2 ^ room_bits →
+    RunsAsRoute system host room (port_in shape run command wait answer) (down_at shape run command host others entries commands backs) end
 
 -- these commands show the same in both cycles
 abbrev pub ShowAllSame : List CommandNets → Cycle → Cycle → Type 0

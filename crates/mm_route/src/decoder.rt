@@ -37,12 +37,12 @@ fn high_base(entry: &Route, width: u8) -> Val
 }
 
 /// The high bits of an address, those that name a footprint of 2 to the `bits` bytes.
-#[tactic(auto, using(net_parts::specs::Laws::growing))]
+#[tactic(auto, using(net_parts::specs::Laws::growing, crate::proofs::Decoding::upper_bits))]
 fn high_bits(builder: &mut Builder, address: Net, width: u8, bits: u8) -> Result<Net, NetFault>
     requires address { IsNetOfWidth builder.old address width }
     requires some { bits < width }
     ensures net { IfOk result (λ high. IsNetOfWidth builder.new high (width - bits)) }
-    ensures value { IfOk result (λ high. Always builder.new (λ cycle. cycle.net high.number ≡ cycle.net address.number / 2 ^ bits % 2 ^ (width - 1 - bits + 1))) }
+    ensures value { IfOk result (λ high. Always builder.new (λ cycle. cycle.net high.number ≡ cycle.net address.number / 2 ^ bits % 2 ^ (width - bits))) }
     ensures adds { AddsNets 1 builder.old builder.new }
     ensures full { result ≡ Err NetFault.TooManyNets → 2 ^ 20 < length builder.old.lines + 1 }
 {

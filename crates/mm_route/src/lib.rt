@@ -9,10 +9,14 @@ mod laws;
 mod next;
 mod registers;
 mod route;
+mod router;
 mod shown;
+mod wire;
 
 pub use back::BackNets;
 pub use laws::route_ignores_answers;
 pub use registers::{LatchNets, RegisterNets};
 pub use route::{HeldRoute, emit_route, finish_route};
+pub use router::HeldRouter;
 pub use shown::ShownNets;
+pub use wire::HeldWire;

@@ -10,11 +10,12 @@ ghost use Rattle.net_parts.specs.Growth.{AddsNets, GrowsBy, WaitsWithout};
 ghost use Rattle.command_nets.specs.Nets.{AreCommandNets};
 ghost use Rattle.mm_route.specs.Registers.{latch_of, IsLatch};
 ghost use Rattle.mm_route.specs.Shown.{AreShownNets};
-ghost use Rattle.mm_route.specs.Forward.{owns, RouteKeeps};
-ghost use Rattle.mm_route.specs.Backward.{taken_in, reads_in, IsNextOwed, IsNextDebt, IsNextLatch, IsNext, EachStep};
+ghost use Rattle.mm_route.specs.Forward.{router_owns, RouterKeeps};
+ghost use Rattle.mm_route.specs.Taken.{taken_in, reads_in, EachStep};
+ghost use Rattle.mm_route.specs.Backward.{IsNextOwed, IsNextDebt, IsNextLatch, IsNext};
 
 use crate::registers::LatchNets;
-use crate::route::HeldRoute;
+use crate::router::HeldRouter;
 use crate::shown::ShownNets;
 use command_nets::CommandNets;
 use net_parts::{choose, constant, fit_bits, set_all_next};
@@ -110,13 +111,13 @@ fn next_owed(
 #[tactic(auto, using(net_parts::specs::Laws::growing))]
 fn next_debt(
     builder: &mut Builder,
-    held: &HeldRoute,
+    held: &HeldRouter,
     count: u8,
     room_bits: u8,
     wait: Net,
     valid: Net,
 ) -> Result<NextNets, NetFault>
-    requires held { RouteKeeps held.now count room_bits builder.old }
+    requires held { RouterKeeps held.now count room_bits builder.old }
     requires wait { IsBit builder.old wait }
     requires valid { IsBit builder.old valid }
     requires some { 1 ≤ room_bits }
@@ -171,21 +172,21 @@ fn step_latch(
 #[tactic(auto, using(net_parts::specs::Laws::growing))]
 pub(crate) fn step_registers(
     builder: &mut Builder,
-    held: &HeldRoute,
+    held: &HeldRouter,
     count: u8,
     room_bits: u8,
     wait: Net,
     valid: Net,
 ) -> Result<(), NetFault>
-    requires held { RouteKeeps held.now count room_bits builder.old }
+    requires held { RouterKeeps held.now count room_bits builder.old }
     requires wait { IsBit builder.old wait }
     requires valid { IsBit builder.old valid }
     requires some { 1 ≤ room_bits }
     requires few { room_bits ≤ 128 }
     ensures value { OnOk result (EachStep builder.new (IsNext held.now room_bits wait valid)) }
     ensures grows { GrowsBy 14 builder.old builder.new }
-    ensures waits { (n : ℕ) → ¬ owns held.now n → IsWaiting builder.old n → IsWaiting builder.new n }
-    ensures no_more_wait { OnOk result (WaitsWithout (owns held.now) builder.old builder.new) }
+    ensures waits { (n : ℕ) → ¬ router_owns held.now n → IsWaiting builder.old n → IsWaiting builder.new n }
+    ensures no_more_wait { OnOk result (WaitsWithout (router_owns held.now) builder.old builder.new) }
     ensures full { result ≡ Err NetFault.TooManyNets → 2 ^ 20 < length builder.old.lines + 14 }
 {
     let registers = &held.registers;

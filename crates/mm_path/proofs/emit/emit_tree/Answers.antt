@@ -5,7 +5,7 @@ use Rattle.net_parts.specs.Refusing.{handed_on}
 use Rattle.net_parts.specs.Laws.{grows_twice, grows_within, waiting_within}
 use Rattle.mm_route.specs.declared.back.BackNets.{BackNets}
 use Rattle.mm_route.specs.Backward.{AreBackNets}
-use Rattle.mm_route.specs.Forward.{forward_lasts}
+use Rattle.mm_route.specs.Forward.{forward_lasts, as_many_commands, commands_bear}
 use Rattle.mm_route.specs.Machine.{RunsAsMachine}
 use Rattle.mm_path.specs.Trees.{room_bits, backs_of}
 use Rattle.mm_path.specs.Trunks.{IsTrunk, trunk_lasts}
@@ -17,10 +17,13 @@ use Rattle.mm_path.proofs.emit.emit_tree.Goals as goal
 pub emit_branches-requires : goal.emit_branches-requires
 emit_branches-requires c =
     let made = c.in_ok-commands.ensures in
+    let trunk = c.in_ok-commands.trunk in
+    let many = as_many_commands c.args.routes.now c.args.number trunk.host.command c.in_ok-commands.commands.items trunk.route c.begin_trunk.new.builder made.forward in
+    let bear = commands_bear c.args.routes.now c.args.number trunk.host.command c.in_ok-commands.commands.items trunk.route c.begin_trunk.new.builder made.forward in
     record {
       suit = subst (λ (cs : List CommandNets). AllZip (Suits c.begin_trunk.new.builder) c.args.ends.now cs) (sym c.deref.ensures.value)
-          (commands_suit c.begin_trunk.new.builder c.args.port.now c.in_ok-commands.trunk.host.command c.in_ok-commands.trunk.route.shown c.args.number made.trunk.held.fields.reaches made.forward.tag
-          0 c.args.routes.now c.args.ends.now c.in_ok-commands.commands.items (ends_last _ _ _ _ _ c.requires.ends c.begin_trunk.ensures.grows.extends) made.commands made.forward.shown made.forward.count);
+          (commands_suit c.begin_trunk.new.builder c.args.port.now c.in_ok-commands.trunk.host.command c.args.number made.trunk.held.fields.reaches
+          c.args.routes.now c.args.ends.now c.in_ok-commands.commands.items (ends_last _ _ _ _ _ c.requires.ends c.begin_trunk.ensures.grows.extends) made.commands bear many);
     }
 
 pub returns-in_err-branches-clause-grows : goal.returns-in_err-branches-clause-grows
@@ -39,7 +42,7 @@ returns-in_err-backs-clause-grows c = let many = as_many_ends _ _ _ _ c.requires
 pub finish_trunk-requires-clause-trunk : goal.finish_trunk-requires-clause-trunk
 finish_trunk-requires-clause-trunk c =
     let backs : c.deref-2.result.now ≡ backs_of c.in_ok-branches.branches = c.deref-2.ensures.value ∙ c.in_ok-backs.ensures ∙ ap backs_of c.as_slice.ensures in
-    let many = ap (length {A = BackNets}) backs ∙ as_many_backs c.in_ok-branches.branches c.in_ok-commands.commands.items (c.in_ok-branches.ensures.commands ∙ c.deref.ensures.value) ∙ c.in_ok-commands.ensures.forward.count in
+    let many = ap (length {A = BackNets}) backs ∙ as_many_backs c.in_ok-branches.branches c.in_ok-commands.commands.items (c.in_ok-branches.ensures.commands ∙ c.deref.ensures.value) ∙ as_many_commands _ _ _ _ c.in_ok-commands.trunk.route _ c.in_ok-commands.ensures.forward in
     subst (λ n. IsTrunk c.emit_branches.new.builder c.args.port.now n c.in_ok-commands.trunk) (sym many)
     (trunk_lasts _ _ _ _ _ c.in_ok-commands.ensures.trunk c.emit_branches.ensures.grows.extends (λ n o w. c.emit_branches.ensures.waits n w))
 
@@ -54,14 +57,14 @@ pub returns-in_err-told-clause-grows : goal.returns-in_err-told-clause-grows
 returns-in_err-told-clause-grows c =
     let many = as_many_ends _ _ _ _ c.requires.ends in
     let backs : c.deref-2.result.now ≡ backs_of c.in_ok-branches.branches = c.deref-2.ensures.value ∙ c.in_ok-backs.ensures ∙ ap backs_of c.as_slice.ensures in
-    let few = ap (length {A = BackNets}) backs ∙ as_many_backs c.in_ok-branches.branches c.in_ok-commands.commands.items (c.in_ok-branches.ensures.commands ∙ c.deref.ensures.value) ∙ c.in_ok-commands.ensures.forward.count in
+    let few = ap (length {A = BackNets}) backs ∙ as_many_backs c.in_ok-branches.branches c.in_ok-commands.commands.items (c.in_ok-branches.ensures.commands ∙ c.deref.ensures.value) ∙ as_many_commands _ _ _ _ c.in_ok-commands.trunk.route _ c.in_ok-commands.ensures.forward in
     grows_within _ _ _ _ _ _ (grows_twice _ _ _ _ _ c.begin_trunk.ensures.grows c.emit_branches.ensures.grows) c.finish_trunk.ensures.grows (omega (arith, many, few))
 
 pub returns-clause-grows : goal.returns-clause-grows
 returns-clause-grows c =
     let many = as_many_ends _ _ _ _ c.requires.ends in
     let backs : c.deref-2.result.now ≡ backs_of c.in_ok-branches.branches = c.deref-2.ensures.value ∙ c.in_ok-backs.ensures ∙ ap backs_of c.as_slice.ensures in
-    let few = ap (length {A = BackNets}) backs ∙ as_many_backs c.in_ok-branches.branches c.in_ok-commands.commands.items (c.in_ok-branches.ensures.commands ∙ c.deref.ensures.value) ∙ c.in_ok-commands.ensures.forward.count in
+    let few = ap (length {A = BackNets}) backs ∙ as_many_backs c.in_ok-branches.branches c.in_ok-commands.commands.items (c.in_ok-branches.ensures.commands ∙ c.deref.ensures.value) ∙ as_many_commands _ _ _ _ c.in_ok-commands.trunk.route _ c.in_ok-commands.ensures.forward in
     grows_within _ _ _ _ _ _ (grows_twice _ _ _ _ _ c.begin_trunk.ensures.grows c.emit_branches.ensures.grows) c.finish_trunk.ensures.grows (omega (arith, many, few))
 
 pub returns-in_err-told-clause-waits : goal.returns-in_err-told-clause-waits

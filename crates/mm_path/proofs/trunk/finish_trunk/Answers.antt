@@ -4,11 +4,12 @@ use Rattle.netlist.specs.Netlists.{Netlist, IsWellMade}
 use Rattle.net_parts.specs.Nets.{IsRegister}
 use Rattle.net_parts.specs.Laws.{extends_twice, register_lasts, waiting_register, grows_twice}
 use Rattle.command_nets.specs.Nets.{AreAnswerNets}
-use Rattle.mm_route.specs.Forward.{RouteKeeps, forward_lasts}
+use Rattle.mm_route.specs.Forward.{RouteKeeps, forward_lasts, owned_wait}
 use Rattle.mm_route.specs.Backward.{AreBackNets}
 use Rattle.mm_route.specs.Machine.{RunsAsMachine}
 use Rattle.mm_host.specs.Forms.{held_lasts}
 use Rattle.mm_path.specs.declared.trunk.Trunk.{Trunk}
+use Rattle.mm_path.specs.Trees.{room_bits}
 use Rattle.mm_path.specs.Trunks.{owns, IsTrunk}
 use Rattle.mm_path.proofs.trunk.finish_trunk.Goals as goal
 
@@ -34,7 +35,7 @@ returns-clause-route c entries host command commands f longer e =
 
 are_registers : (netlist : Netlist) (port : HostPort) (routes : ℕ) (trunk : Trunk) → IsTrunk netlist port routes trunk → IsWellMade netlist → (n : ℕ) → owns trunk n → IsRegister netlist n
 are_registers netlist port routes trunk h made n (inl host) = waiting_register netlist n made (h.host_waits n host)
-are_registers netlist port routes trunk h made n (inr route) = waiting_register netlist n made (h.keeps.waits.wait n route)
+are_registers netlist port routes trunk h made n (inr route) = waiting_register netlist n made (owned_wait trunk.route routes (room_bits port) netlist h.keeps n route)
 
 pub returns-in_err-wait-clause-registers : goal.returns-in_err-wait-clause-registers
 returns-in_err-wait-clause-registers c n o = register_lasts _ _ n c.finish_route.ensures.grows.extends (are_registers _ _ _ _ c.requires.trunk c.well_made.ensures n o)

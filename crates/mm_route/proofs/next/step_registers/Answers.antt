@@ -4,15 +4,16 @@ use Rattle.netlist.specs.Runs.{Cycle, cycle_of}
 use Rattle.net_parts.specs.Groups.{InGroup, AreWaiting, values_of}
 use Rattle.net_parts.specs.Laws.{on_ok, extends_twice}
 use Rattle.mm_route.specs.declared.registers.LatchNets.{LatchNets}
-use Rattle.mm_route.specs.declared.route.HeldRoute.{HeldRoute}
+use Rattle.mm_route.specs.declared.router.HeldRouter.{HeldRouter}
 use Rattle.mm_route.specs.Registers.{latch_of, IsLatch, register_nets_last, registers_wait_on}
 use Rattle.mm_route.specs.Shown.{shown_nets_last}
-use Rattle.mm_route.specs.Backward.{taken_in, EachStep, IsNext, IsNextLatch, IsNextDebt}
+use Rattle.mm_route.specs.Taken.{taken_in, EachStep}
+use Rattle.mm_route.specs.Backward.{IsNext, IsNextLatch, IsNextDebt}
 use Rattle.mm_route.proofs.Latches.{debt_of, debt_within, latch_within, in_neither, debt_waits, latch_waits}
 use Rattle.mm_route.proofs.next.step_registers.Goals as goal
 
 -- the debt's registers take these nets
-debt_taken : (cycle next : Cycle) (held : HeldRoute) (room_bits : ℕ) (wait valid owed owing : NetValue) → values_of next (debt_of held.registers) ≡ values_of cycle (owed ∷ owing ∷ []) →
+debt_taken : (cycle next : Cycle) (held : HeldRouter) (room_bits : ℕ) (wait valid owed owing : NetValue) → values_of next (debt_of held.registers) ≡ values_of cycle (owed ∷ owing ∷ []) →
     IsNextDebt cycle held room_bits wait valid (cycle.net owed.number) (cycle.net owing.number) → IsNextDebt cycle held room_bits wait valid (next.net held.registers.owed.number) (next.net held.registers.owing.number)
 debt_taken cycle next held room_bits wait valid owed owing e h = subst (λ (xs : List ℕ). IsNextDebt cycle held room_bits wait valid (get_or xs 0 0) (get_or xs 1 0)) (sym e) h
 

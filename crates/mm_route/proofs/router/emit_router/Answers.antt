@@ -4,7 +4,7 @@ use Rattle.command_nets.specs.Groups.{command_lasts}
 use Rattle.mm_route.specs.declared.registers.LatchNets.{LatchNets}
 use Rattle.mm_route.specs.Shown.{shown_are_commands, AreCommandsOf, widths_below}
 use Rattle.mm_route.specs.Registers.{register_nets_last, start_lasts, registers_wait_on}
-use Rattle.mm_route.proofs.route.emit_route.Goals as goal
+use Rattle.mm_route.proofs.router.emit_router.Goals as goal
 
 pub place_now-requires-clause-command : goal.place_now-requires-clause-command
 place_now-requires-clause-command c = command_lasts _ _ _ c.make_registers.ensures.grows.extends c.requires.command

@@ -1,17 +1,17 @@
 use Rattle.std.proofs.Common.{ap, ◌∙◌}
 use Rattle.netlist.specs.Runs.{Always}
 use Rattle.net_parts.specs.Laws.{if_ok, extends_twice}
-use Rattle.mm_route.specs.Forward.{keeps_lasts}
+use Rattle.mm_route.specs.Forward.{router_keeps_last}
 use Rattle.mm_route.specs.Backward.{AnswersAbove, picked, answers_in, backs_last}
 use Rattle.mm_route.proofs.Levels.{three_are}
-use Rattle.mm_route.proofs.route.answer_above.Goals as goal
+use Rattle.mm_route.proofs.router.answer_above.Goals as goal
 
 pub owed_answer-requires-clause-backs : goal.owed_answer-requires-clause-backs
 owed_answer-requires-clause-backs c = backs_last _ _ _ _ (extends_twice _ _ _ c.default_word.ensures.adds.grows.extends c.constant.ensures.adds.grows.extends) c.requires.backs
 
 pub owed_answer-requires-clause-held : goal.owed_answer-requires-clause-held
 owed_answer-requires-clause-held c =
-    keeps_lasts _ _ _ _ _ c.requires.held (extends_twice _ _ _ c.default_word.ensures.adds.grows.extends c.constant.ensures.adds.grows.extends) (λ n o w. c.constant.ensures.adds.grows.waits n (c.default_word.ensures.adds.grows.waits n w))
+    router_keeps_last _ _ _ _ _ c.requires.held (extends_twice _ _ _ c.default_word.ensures.adds.grows.extends c.constant.ensures.adds.grows.extends) (λ n o w. c.constant.ensures.adds.grows.waits n (c.default_word.ensures.adds.grows.waits n w))
 
 pub returns-clause-value : goal.returns-clause-value
 returns-clause-value c =

@@ -3,7 +3,7 @@ use Rattle.histories.specs.History.{is_raised}
 use Rattle.netlist.specs.Runs.{Always}
 use Rattle.net_parts.specs.Laws.{if_ok, adds_twice, adds_fewer}
 use Rattle.mm_route.specs.Backward.{WaitsAbove, picked, waits_in, backs_last}
-use Rattle.mm_route.proofs.route.wait_above.Goals as goal
+use Rattle.mm_route.proofs.router.wait_above.Goals as goal
 
 pub pick_wait-requires-clause-backs : goal.pick_wait-requires-clause-backs
 pick_wait-requires-clause-backs c = backs_last _ _ _ _ c.default_wait.ensures.adds.grows.extends c.requires.backs
