@@ -10,7 +10,7 @@ use Rattle.mm_runs.specs.Commands.{byte_address}
 use Rattle.memory_sides.specs.Sides.{host_side, burst_width}
 use Rattle.mm_machines.specs.Machines.{Raw}
 use Rattle.mm_host.specs.declared.reads.HeldReads.{HeldReads}
-use Rattle.mm_host.specs.declared.reads.HeldReads.TheVariants.{Never, Asks, Counts, Queues}
+use Rattle.mm_host.specs.declared.reads.HeldReads.TheVariants.{Never, Asks, Counts, Queues, Unbounded}
 use Rattle.mm_host.specs.declared.writes.HeldWrites.{HeldWrites}
 use Rattle.mm_host.specs.declared.host.HeldHost.{HeldHost}
 use Rattle.mm_host.specs.Hosts.{bursts}
@@ -55,6 +55,7 @@ module _ (netlist : Netlist) (port : HostPort) (one other : Cycle) (v : IsValuat
   read_same read count shown (Queues queue) k state e =
       (let full_same : one.net queue.ends.full.number ≡ other.net queue.ends.full.number = state queue.ends.full.number (inl (in_row queue.row queue.ends k.made.ends)) in
       k.shows one v ∙ ap (λ n. is_raised n && not (is_raised (one.net queue.ends.full.number))) e ∙ ap (λ n. is_raised (other.net read.number) && not (is_raised n)) full_same ∙ sym (k.shows other w))
+  read_same read count shown Unbounded k state e = ap (λ (n : NetValue). is_raised (one.net n.number)) k.shows ∙ ap is_raised e ∙ sym (ap (λ (n : NetValue). is_raised (other.net n.number)) k.shows)
 
   more_same : (write count more : NetValue) (writes : Option HeldWrites) → AreWritesHeld netlist port write count more writes → ((n : ℕ) → owns_writes writes n → one.net n ≡ other.net n) → one.net write.number ≡ other.net write.number → one.net count.number ≡ other.net count.number → one.net more.number ≡ other.net more.number
   more_same write count more None k state e f = k.low one v ∙ sym (k.low other w)

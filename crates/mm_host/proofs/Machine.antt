@@ -1,7 +1,7 @@
 -- The nets of a host run as its machine.
 use Rattle.std.proofs.Common.{◌≡◌, ℕ, zero, suc, ◌+◌, ◌-◌, ◌<◌, Bool, true, false, not, ◌&&◌, ◌||◌, nat_eq, nat_lt, if◌then◌else◌, List, [], length, ◌++◌, Option, Some, None, refl, sym, subst, ap, ◌∙◌, arith}
 use Rattle.std.specs.Prelude.{◌≤◌, IsTrue, IsFalse}
-use Rattle.std.proofs.lemmas.Bool.{ltb-true}
+use Rattle.std.proofs.lemmas.Bool.{ltb-true, lt-ltb}
 use Rattle.histories.specs.History.{is_raised, one_if, only_if}
 use Rattle.iface_roles.specs.declared.records.HostPort.{HostPort}
 use Rattle.netlist.specs.Nets.{NetValue}
@@ -17,14 +17,14 @@ use Rattle.command_nets.specs.declared.nets.AnswerNets.{AnswerNets}
 use Rattle.command_nets.specs.Nets.{port_in}
 use Rattle.mm_host.specs.declared.nets.HostAnswer.{HostAnswer}
 use Rattle.mm_host.specs.declared.reads.HeldReads.{HeldReads}
-use Rattle.mm_host.specs.declared.reads.HeldReads.TheVariants.{Never, Asks, Counts, Queues}
+use Rattle.mm_host.specs.declared.reads.HeldReads.TheVariants.{Never, Asks, Counts, Queues, Unbounded}
 use Rattle.mm_host.specs.declared.writes.HeldWrites.{HeldWrites}
 use Rattle.mm_host.specs.declared.host.HeldHost.{HeldHost}
 use Rattle.command_nets.specs.Ports.{value_or}
 use Rattle.mm_host.specs.Hosts.{host_view}
-use Rattle.mm_host.specs.Reads.{AreReadsHeld, ReadsQueue, ReadsGoOn}
+use Rattle.mm_host.specs.Reads.{AreReadsHeld, ReadsQueue, ReadsGoOn, is_unbounded, unanswered_in}
 use Rattle.mm_host.specs.Writes.{AreWritesHeld, WritesGoOn}
-use Rattle.mm_host.specs.Forms.{IsHeld, HostGoesOn, shape_below, valid_of}
+use Rattle.mm_host.specs.Forms.{IsHeld, HostGoesOn, IsBoundedBelow, shape_below, valid_of}
 use Rattle.mm_host.proofs.Ignores.{single}
 use Rattle.net_parts.specs.Places.{held_of}
 use Rattle.mm_host.specs.declared.queue.HeldQueue.{HeldQueue}
@@ -113,27 +113,34 @@ room shown wait read u e fits = by_case (nat_lt u 16) refl
 
 -- ---- the state
 
-abbrev pub queue_of : HeldReads → Run → ℕ → List Entry
-queue_of Never run c = []
-queue_of (Asks asked) run c = []
-queue_of (Counts unanswered full) run c = words_of (run.net c unanswered.number)
-queue_of (Queues queue) run c = entries_of (run.net c queue.got.number) (held_of (counts_at (cycle_of run c) queue.row))
+-- `unbounded` is the number of unanswered reads where no register has it
+abbrev pub queue_of : HeldReads → (ℕ → ℕ) → Run → ℕ → List Entry
+queue_of Never unbounded run c = []
+queue_of (Asks asked) unbounded run c = []
+queue_of (Counts unanswered full) unbounded run c = words_of (run.net c unanswered.number)
+queue_of (Queues queue) unbounded run c = entries_of (run.net c queue.got.number) (held_of (counts_at (cycle_of run c) queue.row))
+queue_of Unbounded unbounded run c = words_of (unbounded c)
 
 abbrev pub asked_of : HeldReads → Run → ℕ → Bool
 asked_of Never run c = false
 asked_of (Asks asked) run c = is_raised (run.net c asked.number)
 asked_of (Counts unanswered full) run c = false
 asked_of (Queues queue) run c = false
+asked_of Unbounded run c = false
 
 abbrev pub left_of : Option HeldWrites → Run → ℕ → ℕ
 left_of None run c = 0
 left_of (Some held) run c = run.net c held.left.number
 
-abbrev pub state_of : HeldHost → Run → HostState
-state_of held run = record { queue = queue_of held.reads run; left = left_of held.writes run; asked = asked_of held.reads run }
+abbrev pub state_of : HeldHost → (ℕ → ℕ) → Run → HostState
+state_of held unbounded run = record { queue = queue_of held.reads unbounded run; left = left_of held.writes run; asked = asked_of held.reads run }
 
-abbrev shut_of : HostPort → HeldReads → Run → ℕ → Bool
-shut_of port reads run c = if port.readdatavalid then not (nat_lt (length (queue_of reads run c)) 16) else asked_of reads run c
+abbrev shut_of : HostPort → HeldReads → (ℕ → ℕ) → Run → ℕ → Bool
+shut_of port reads unbounded run c = if port.readdatavalid then not (nat_lt (length (queue_of reads unbounded run c)) 16) else asked_of reads run c
+
+-- fewer than 16 shut no read out
+open_below : (n : ℕ) → n < 16 → not (nat_lt (length (words_of n)) 16) ≡ false
+open_below n few = ap not (ap (λ k. nat_lt k 16) (words_count n) ∙ lt-ltb n 16 few)
 
 module _ (port : HostPort) (held : HeldHost) (wait : NetValue) (answer : AnswerNets) (made : HostAnswer) (netlist : Netlist) (h : IsHeld netlist port held) (g : HostGoesOn netlist held port wait answer made) (run : Run) (endless : IsEndlessRun netlist run) where
   val : (c : ℕ) → IsValuation netlist (cycle_of run c)
@@ -166,47 +173,54 @@ module _ (port : HostPort) (held : HeldHost) (wait : NetValue) (answer : AnswerN
   abbrev V : ℕ → Bool
   V c = is_raised (run.net c answer.valid.number)
 
+  -- the reads that are taken below and aren't answered
+  abbrev U : ℕ → ℕ
+  U c = unanswered_in run held.command.read wait answer.valid c
+
   -- ---- reads
 
   queue_full : (queue : HeldQueue) → ReadsQueue netlist port held.read held.command.count held.command.read queue → QueuesOn netlist held.read held.command.count held.command.read queue wait answer.valid made.waitrequest → (c : ℕ) →
-      is_raised (run.net c queue.ends.full.number) ≡ not (nat_lt (length (queue_of (Queues queue) run c)) 16)
+      is_raised (run.net c queue.ends.full.number) ≡ not (nat_lt (length (queue_of (Queues queue) U run c)) 16)
   queue_full queue k l c =
       full_is netlist port held.read held.command.count held.command.read queue wait answer.valid made.waitrequest k.made l run endless (λ c. k.shows (cycle_of run c) (val c)) c
       ∙ ap (λ n. not (nat_lt n 16)) (sym (entries_count (run.net c queue.got.number) (held_of (counts_at (cycle_of run c) queue.row))))
 
   bursts_on : (queue : HeldQueue) → ReadsQueue netlist port held.read held.command.count held.command.read queue → QueuesOn netlist held.read held.command.count held.command.read queue wait answer.valid made.waitrequest → (end : ℕ) →
-      QueuesReads (port_in (shape_below port) run held.command wait answer) (λ c. run.net c answer.valid.number) (queue_of (Queues queue) run) end
+      QueuesReads (port_in (shape_below port) run held.command wait answer) (λ c. run.net c answer.valid.number) (queue_of (Queues queue) U run) end
   bursts_on queue k l end = record {
     begins = ap (entries_of (run.net 0 queue.got.number)) (none_yet netlist port held.read held.command.count held.command.read queue wait answer.valid made.waitrequest k.made l run endless shows);
     next = λ c lt.
         (step netlist port held.read held.command.count held.command.read queue wait answer.valid made.waitrequest k.made l run endless shows c
         (fits netlist port held.read held.command.count held.command.read queue wait answer.valid made.waitrequest k.made l run endless shows c)).queue
-        ∙ ap (λ t. answered (V c) (queue_of (Queues queue) run c) ++ only_if t (entry (run.net c held.command.count.number))) (sym (read_taken (D c) (W c) (N c)))
-        ∙ ap (λ n. answered (V c) (queue_of (Queues queue) run c) ++ only_if (((D c || W c) && not (N c)) && D c) (record { tag = n; left = run.net c held.command.count.number })) (sym (h.values (cycle_of run c) (val c)).tag);
+        ∙ ap (λ t. answered (V c) (queue_of (Queues queue) U run c) ++ only_if t (entry (run.net c held.command.count.number))) (sym (read_taken (D c) (W c) (N c)))
+        ∙ ap (λ n. answered (V c) (queue_of (Queues queue) U run c) ++ only_if (((D c || W c) && not (N c)) && D c) (record { tag = n; left = run.net c held.command.count.number })) (sym (h.values (cycle_of run c) (val c)).tag);
   } where
     shows : (c : ℕ) → D c ≡ (R c && not (is_raised (run.net c queue.ends.full.number)))
     shows c = k.shows (cycle_of run c) (val c)
 
-  shown_raised : (reads : HeldReads) → AreReadsHeld netlist port held.read held.command.count held.command.read reads → ReadsGoOn netlist held.read held.command.count held.command.read wait answer.valid made.waitrequest reads → (c : ℕ) → D c ≡ (R c && not (shut_of port reads run c))
-  shown_raised Never k l c = ap (λ (n : NetValue). is_raised (run.net c n.number)) k.shows ∙ sym (and_true (R c)) ∙ rw k.kind refl
-  shown_raised (Asks asked) k l c = k.shows (cycle_of run c) (val c) ∙ rw k.kind refl
-  shown_raised (Counts unanswered full) k l c =
+  shown_raised : (reads : HeldReads) → AreReadsHeld netlist port held.read held.command.count held.command.read reads → ReadsGoOn netlist held.read held.command.count held.command.read wait answer.valid made.waitrequest reads → (c : ℕ) → (IsTrue (is_unbounded reads) → U c < 16) → D c ≡ (R c && not (shut_of port reads U run c))
+  shown_raised Never k l c few = ap (λ (n : NetValue). is_raised (run.net c n.number)) k.shows ∙ sym (and_true (R c)) ∙ rw k.kind refl
+  shown_raised (Asks asked) k l c few = k.shows (cycle_of run c) (val c) ∙ rw k.kind refl
+  shown_raised (Counts unanswered full) k l c few =
       k.shows (cycle_of run c) (val c) ∙ ap (λ t. R c && not t) (k.is_full (cycle_of run c) (val c) ∙ ap (λ n. not (nat_lt n 16)) (sym (words_count (run.net c unanswered.number)))) ∙ rw k.kind refl
-  shown_raised (Queues queue) k l c = k.shows (cycle_of run c) (val c) ∙ ap (λ t. R c && not t) (queue_full queue k l c) ∙ rw k.kind refl
+  shown_raised (Queues queue) k l c few = k.shows (cycle_of run c) (val c) ∙ ap (λ t. R c && not t) (queue_full queue k l c) ∙ rw k.kind refl
+  shown_raised Unbounded k l c few = ap (λ (n : NetValue). is_raised (run.net c n.number)) k.shows ∙ sym (and_true (R c)) ∙ ap (λ t. R c && not t) (sym (open_below (U c) (few refl))) ∙ rw k.kind refl
 
-  told_is : (reads : HeldReads) → AreReadsHeld netlist port held.read held.command.count held.command.read reads → ReadsGoOn netlist held.read held.command.count held.command.read wait answer.valid made.waitrequest reads → (c : ℕ) →
-      is_raised (run.net c made.waitrequest.number) ≡ (if R c && not port.readdatavalid then not (asked_of reads run c && V c) else (shut_of port reads run c && R c) || N c)
-  told_is Never k l c = rw k.kind (told_never (R c) (N c) _ _ (ap (λ (n : NetValue). is_raised (run.net c n.number)) l) (ap is_raised (k.low (cycle_of run c) (val c))))
-  told_is (Asks asked) k l c = rw k.kind (told_asks (R c) _ (V c) (N c) _ (l.tells (cycle_of run c) (val c)))
-  told_is (Counts unanswered full) k l c =
+  told_is : (reads : HeldReads) → AreReadsHeld netlist port held.read held.command.count held.command.read reads → ReadsGoOn netlist held.read held.command.count held.command.read wait answer.valid made.waitrequest reads → (c : ℕ) → (IsTrue (is_unbounded reads) → U c < 16) →
+      is_raised (run.net c made.waitrequest.number) ≡ (if R c && not port.readdatavalid then not (asked_of reads run c && V c) else (shut_of port reads U run c && R c) || N c)
+  told_is Never k l c few = rw k.kind (told_never (R c) (N c) _ _ (ap (λ (n : NetValue). is_raised (run.net c n.number)) l) (ap is_raised (k.low (cycle_of run c) (val c))))
+  told_is (Asks asked) k l c few = rw k.kind (told_asks (R c) _ (V c) (N c) _ (l.tells (cycle_of run c) (val c)))
+  told_is (Counts unanswered full) k l c few =
       rw k.kind (told_counts (R c) _ _ (N c) _ _ (l.tells (cycle_of run c) (val c)) (k.is_full (cycle_of run c) (val c) ∙ ap (λ n. not (nat_lt n 16)) (sym (words_count (run.net c unanswered.number)))))
-  told_is (Queues queue) k l c = rw k.kind (told_counts (R c) _ _ (N c) _ _ (l.tells (cycle_of run c) (val c)) (queue_full queue k l c))
+  told_is (Queues queue) k l c few = rw k.kind (told_counts (R c) _ _ (N c) _ _ (l.tells (cycle_of run c) (val c)) (queue_full queue k l c))
+  told_is Unbounded k l c few = rw k.kind (told_counts (R c) false _ (N c) _ _ (ap (λ (n : NetValue). is_raised (run.net c n.number)) l) (sym (open_below (U c) (few refl))))
 
   quiet_at : (reads : HeldReads) → AreReadsHeld netlist port held.read held.command.count held.command.read reads → asked_of reads run 0 ≡ false
   quiet_at Never k = refl
   quiet_at (Asks asked) k = ap is_raised (k.starts run 1 (endless 1) (omega arith))
   quiet_at (Counts unanswered full) k = refl
   quiet_at (Queues queue) k = refl
+  quiet_at Unbounded k = refl
 
   asks_on : (reads : HeldReads) → AreReadsHeld netlist port held.read held.command.count held.command.read reads → ReadsGoOn netlist held.read held.command.count held.command.read wait answer.valid made.waitrequest reads → IsFalse port.readdatavalid → (c : ℕ) →
       asked_of reads run (suc c) ≡ ((asked_of reads run c || (((D c || W c) && not (N c)) && D c)) && not (V c))
@@ -218,9 +232,17 @@ module _ (port : HostPort) (held : HeldHost) (wait : NetValue) (answer : AnswerN
       ∙ ap (λ t. (is_raised (run.net c asked.number) || t) && not (V c)) (sym (read_taken (D c) (W c) (N c)))
   asks_on (Counts unanswered full) k l none c = absurd (let some = k.kind in cc)
   asks_on (Queues queue) k l none c = absurd (let some = k.kind in cc)
+  asks_on Unbounded k l none c = absurd (let some = k.kind in cc)
+
+  -- a host without bursts asks for one word
+  one_entry : port.burst_bits ≡ 0 → (c : ℕ) → entry_at (port_in (shape_below port) run held.command wait answer) c ≡ one_word
+  one_entry words c = entries (h.values (cycle_of run c) (val c)).tag (count_is c ∙ single netlist port words held.nets.burstcount h.host.burstcount (cycle_of run c))
+    where
+      entries : {tag count : ℕ} → tag ≡ 0 → count ≡ 1 → ◌≡◌ {A = Entry} (record { tag = tag; left = count }) one_word
+      entries {tag} {count} e f = ap (λ n. record { tag = n; left = count }) e ∙ ap (λ n. record { tag = 0; left = n }) f
 
   queue_on : (reads : HeldReads) → AreReadsHeld netlist port held.read held.command.count held.command.read reads → ReadsGoOn netlist held.read held.command.count held.command.read wait answer.valid made.waitrequest reads → IsTrue port.readdatavalid → (end : ℕ) →
-      QueuesReads (port_in (shape_below port) run held.command wait answer) (λ c. run.net c answer.valid.number) (queue_of reads run) end
+      QueuesReads (port_in (shape_below port) run held.command wait answer) (λ c. run.net c answer.valid.number) (queue_of reads U run) end
   queue_on Never k l some end = absurd (let none = k.kind in cc)
   queue_on (Asks asked) k l some end = absurd (let none = k.kind in cc)
   queue_on (Queues queue) k l some end = bursts_on queue k l end
@@ -230,15 +252,13 @@ module _ (port : HostPort) (held : HeldHost) (wait : NetValue) (answer : AnswerN
         (let cycle : Cycle = cycle_of run c in
         let v = val c in
         let few = room (D c) (N c) (R c) (run.net c unanswered.number) (k.shows cycle v ∙ ap (λ t. R c && not t) (k.is_full cycle v)) (width_fits netlist unanswered 5 k.net cycle v) in
-        let entry : entry_at (port_in (shape_below port) run held.command wait answer) c ≡ one_word = entries (h.values cycle v).tag (count_is c ∙ one_beat c) in
-        words_next (run.net c unanswered.number) (run.net (suc c) unanswered.number) (V c) (D c && not (N c)) _ _ (read_taken (D c) (W c) (N c)) entry
+        words_next (run.net c unanswered.number) (run.net (suc c) unanswered.number) (V c) (D c && not (N c)) _ _ (read_taken (D c) (W c) (N c)) (one_entry k.words c)
         (ap (λ n. run.net n unanswered.number) (sym (next_cycle c)) ∙ l.next run (c + 2) (endless (c + 2)) c (omega arith) few));
-  } where
-    entries : {tag count : ℕ} → tag ≡ 0 → count ≡ 1 → ◌≡◌ {A = Entry} (record { tag = tag; left = count }) one_word
-    entries {tag} {count} e f = ap (λ n. record { tag = n; left = count }) e ∙ ap (λ n. record { tag = 0; left = n }) f
-
-    one_beat : (c : ℕ) → value_or 1 held.nets.burstcount (cycle_of run c) ≡ 1
-    one_beat c = single netlist port k.words held.nets.burstcount h.host.burstcount (cycle_of run c)
+  }
+  queue_on Unbounded k l some end = record {
+    begins = refl;
+    next = λ c lt. words_next (U c) (U (suc c)) (V c) (D c && not (N c)) _ _ (read_taken (D c) (W c) (N c)) (one_entry k.words c) refl;
+  }
 
   -- ---- writes
 
@@ -269,14 +289,14 @@ module _ (port : HostPort) (held : HeldHost) (wait : NetValue) (answer : AnswerN
   valid_is : (valid : Option NetValue) → valid ≡ valid_of port answer.valid → IsTrue port.readdatavalid → (c : ℕ) → is_raised (value_or 0 valid (cycle_of run c)) ≡ V c
   valid_is valid e some c = ap (λ (o : Option NetValue). is_raised (value_or 0 o (cycle_of run c))) (e ∙ ap (λ t. if t then Some answer.valid else None) some)
 
-  pub machine : (end : ℕ) → IsHostMachine AreZero (host_side port) (host_view port held.nets made run) (port_in (shape_below port) run held.command wait answer) (state_of held run) end
-  machine end = record {
+  pub machine : (end : ℕ) → IsBoundedBelow held wait answer run end → IsHostMachine AreZero (host_side port) (host_view port held.nets made run) (port_in (shape_below port) run held.command wait answer) (state_of held U run) end
+  machine end few = record {
     words = refl;
     units = refl;
     bursts = refl;
     read = λ c lt.
-        gated (shut_of port held.reads run c) _ _ (bit_fits netlist held.command.read h.shown (cycle_of run c) (val c)) (bit_fits netlist held.read h.fields.read (cycle_of run c) (val c)) (shown_raised held.reads h.reads g.reads c)
-        ∙ ap (λ n. if shut_of port held.reads run c then 0 else n) (read_is c);
+        gated (shut_of port held.reads U run c) _ _ (bit_fits netlist held.command.read h.shown (cycle_of run c) (val c)) (bit_fits netlist held.read h.fields.read (cycle_of run c) (val c)) (shown_raised held.reads h.reads g.reads c (λ some. few some c lt))
+        ∙ ap (λ n. if shut_of port held.reads U run c then 0 else n) (read_is c);
     write = λ c lt. write_is c;
     address = λ c lt. (h.values (cycle_of run c) (val c)).address;
     word = λ c lt. (h.values (cycle_of run c) (val c)).word;
@@ -288,8 +308,8 @@ module _ (port : HostPort) (held : HeldHost) (wait : NetValue) (answer : AnswerN
         (more_is held.writes h.writes c));
     tag = λ c lt. (h.values (cycle_of run c) (val c)).tag;
     wait = λ c lt.
-        subst (λ r. is_raised (run.net c made.waitrequest.number) ≡ (if is_raised r && not port.readdatavalid then not (asked_of held.reads run c && V c) else (shut_of port held.reads run c && is_raised r) || N c)) (read_is c)
-        (told_is held.reads h.reads g.reads c);
+        subst (λ r. is_raised (run.net c made.waitrequest.number) ≡ (if is_raised r && not port.readdatavalid then not (asked_of held.reads run c && V c) else (shut_of port held.reads U run c && is_raised r) || N c)) (read_is c)
+        (told_is held.reads h.reads g.reads c (λ some. few some c lt));
     starts = left_at held.writes h.writes;
     lasts = λ c lt.
         subst (λ w. left_of held.writes run (suc c) ≡ (if ((D c || W c) && not (N c)) && is_raised w then (if nat_eq (left_of held.writes run c) 0 then value_or 1 held.nets.burstcount (cycle_of run c) - 1 else left_of held.writes run c - 1) else left_of held.writes run c)) (write_is c)

@@ -1,5 +1,5 @@
 -- The part next to a host: what its two calls leave in a netlist, and that it runs as the machine of a host.
-use Rattle.std.specs.Prelude.{◌≡◌, ℕ, ◌*◌, true, if◌then◌else◌, Option, Some, None, ◌⊎◌}
+use Rattle.std.specs.Prelude.{◌≡◌, ℕ, ◌*◌, ◌<◌, true, false, if◌then◌else◌, Option, Some, None, ◌⊎◌, IsTrue}
 use Rattle.iface_roles.specs.declared.records.HostPort.{HostPort}
 use Rattle.netlist.specs.Nets.{NetValue}
 use Rattle.netlist.specs.Netlists.{Netlist}
@@ -20,7 +20,7 @@ use Rattle.mm_host.specs.declared.nets.HostAnswer.{HostAnswer}
 use Rattle.mm_host.specs.declared.fields.Fields.{Fields}
 use Rattle.mm_host.specs.declared.host.HeldHost.{HeldHost}
 use Rattle.mm_host.specs.Hosts.{AreHostNets, AreFields, ShowFields, host_view}
-use Rattle.mm_host.specs.Reads.{owns_reads, AreReadsHeld, ReadsGoOn, reads_last, reads_go_on}
+use Rattle.mm_host.specs.Reads.{owns_reads, AreReadsHeld, ReadsGoOn, is_unbounded, unanswered_in, reads_last, reads_go_on}
 use Rattle.mm_host.specs.Writes.{owns_writes, AreWritesHeld, WritesGoOn, writes_last, writes_go_on}
 
 -- ---- after the first call
@@ -102,6 +102,21 @@ pub record IsHostRun (port : HostPort) (held : HeldHost) (wait : NetValue) (answ
 abbrev pub RunsAsHost : Netlist → HostPort → HeldHost → NetValue → AnswerNets → HostAnswer → Type 0
 RunsAsHost netlist port held wait answer made =
     (longer : Netlist) → Extends netlist longer → (run : Run) → IsEndlessRun longer run → (end : ℕ) → IsHostRun port held wait answer made run end
+
+-- where nothing next to the host bounds its reads, fewer than 16 are unanswered in each cycle before `end`
+abbrev pub IsBoundedBelow : HeldHost → NetValue → AnswerNets → Run → ℕ → Type 0
+IsBoundedBelow held wait answer run end =
+    IsTrue (is_unbounded held.reads) → (c : ℕ) → c < end → unanswered_in run held.command.read wait answer.valid c < 16
+
+-- each endless run of each longer netlist is one of the machine of a host while its reads are bounded
+abbrev pub RunsAsHostWhile : Netlist → HostPort → HeldHost → NetValue → AnswerNets → HostAnswer → Type 0
+RunsAsHostWhile netlist port held wait answer made =
+    (longer : Netlist) → Extends netlist longer → (run : Run) → IsEndlessRun longer run → (end : ℕ)
+    → IsBoundedBelow held wait answer run end → IsHostRun port held wait answer made run end
+
+-- a host whose reads are bounded next to it runs whatever stands below
+pub bounded_hosts_run : (netlist : Netlist) (port : HostPort) (held : HeldHost) (wait : NetValue) (answer : AnswerNets) (made : HostAnswer) → is_unbounded held.reads ≡ false → RunsAsHostWhile netlist port held wait answer made → RunsAsHost netlist port held wait answer made
+bounded_hosts_run netlist port held wait answer made bounded h longer e run endless end = h longer e run endless end (λ some. absurd (let none = bounded in cc))
 
 -- ---- what stands lasts. No contract reads these proofs; the laws of a host cite them
 

@@ -1,5 +1,5 @@
 -- The nets at the ports of a host, and what they show.
-use Rattle.std.specs.Prelude.{◌≡◌, ◌*◌, ◌^◌, Bool, not, nat_eq}
+use Rattle.std.specs.Prelude.{◌≡◌, ◌*◌, ◌^◌, Bool, not, ◌&&◌, nat_eq}
 use Rattle.iface_roles.specs.declared.records.HostPort.{HostPort}
 use Rattle.iface_roles.specs.Proper.{range_of}
 use Rattle.netlist.specs.Netlists.{Netlist, IsNet}
@@ -15,6 +15,10 @@ use Rattle.mm_host.specs.declared.fields.Fields.{Fields}
 
 abbrev pub bursts : HostPort → Bool
 bursts port = not (nat_eq port.burst_bits 0)
+
+-- the host may have several reads unanswered, each of one word
+abbrev pub reads_words : HostPort → Bool
+reads_words port = port.readdatavalid && nat_eq port.burst_bits 0
 
 -- what a host gives
 pub record AreHostNets (netlist : Netlist) (port : HostPort) (nets : HostNets) : Type 0 where

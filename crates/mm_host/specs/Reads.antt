@@ -1,5 +1,5 @@
 -- How the reads of a host are bounded: what two calls leave in a netlist.
-use Rattle.std.specs.Prelude.{◌≡◌, ℕ, ◌+◌, ◌-◌, ◌<◌, Bool, true, false, not, ◌&&◌, ◌||◌, nat_lt, if◌then◌else◌}
+use Rattle.std.specs.Prelude.{◌≡◌, ℕ, zero, suc, ◌+◌, ◌-◌, ◌<◌, Bool, true, false, not, ◌&&◌, ◌||◌, nat_lt, if◌then◌else◌}
 use Rattle.histories.specs.History.{is_raised, one_if}
 use Rattle.iface_roles.specs.declared.records.HostPort.{HostPort}
 use Rattle.netlist.specs.Nets.{NetValue}
@@ -10,7 +10,7 @@ use Rattle.net_parts.specs.Nets.{IsBit, IsNetOfWidth, StartsLow}
 use Rattle.net_parts.specs.Laws.{net_lasts}
 use Rattle.command_nets.specs.Ports.{ShowsUnless}
 use Rattle.mm_host.specs.declared.reads.HeldReads.{HeldReads}
-use Rattle.mm_host.specs.declared.reads.HeldReads.TheVariants.{Never, Asks, Counts, Queues}
+use Rattle.mm_host.specs.declared.reads.HeldReads.TheVariants.{Never, Asks, Counts, Queues, Unbounded}
 use Rattle.mm_host.specs.declared.queue.HeldQueue.{HeldQueue}
 use Rattle.mm_host.specs.Queued.{owns_queue, IsQueueMade, QueuesOn, queue_lasts, queue_goes_on}
 
@@ -22,6 +22,7 @@ owns_reads Never n = ⊥
 owns_reads (Asks asked) n = n ≡ asked.number
 owns_reads (Counts unanswered full) n = n ≡ unanswered.number
 owns_reads (Queues queue) n = owns_queue queue n
+owns_reads Unbounded n = ⊥
 
 -- the host can't read
 pub record ReadsNever (netlist : Netlist) (port : HostPort) (read shown : NetValue) : Type 0 where
@@ -52,17 +53,38 @@ pub record ReadsQueue (netlist : Netlist) (port : HostPort) (read count shown : 
   pub made : IsQueueMade netlist port read count queue
   pub shows : ShowsUnless netlist queue.ends.full read shown
 
+-- with readdatavalid and reads of one word, fewer than 16 unanswered by what stands below: they go on as they are
+pub record ReadsGoBy (port : HostPort) (read shown : NetValue) : Type 0 where
+  pub kind : port.readdatavalid ≡ true
+  pub words : port.burst_bits ≡ 0
+  pub shows : shown ≡ read
+
 abbrev pub AreReadsHeld : Netlist → HostPort → NetValue → NetValue → NetValue → HeldReads → Type 0
 AreReadsHeld netlist port read count shown Never = ReadsNever netlist port read shown
 AreReadsHeld netlist port read count shown (Asks asked) = ReadsAsk netlist port read shown asked
 AreReadsHeld netlist port read count shown (Counts unanswered full) = ReadsCount netlist port read shown unanswered full
 AreReadsHeld netlist port read count shown (Queues queue) = ReadsQueue netlist port read count shown queue
+AreReadsHeld netlist port read count shown Unbounded = ReadsGoBy port read shown
+
+-- nothing here bounds the reads
+abbrev pub is_unbounded : HeldReads → Bool
+is_unbounded Never = false
+is_unbounded (Asks asked) = false
+is_unbounded (Counts unanswered full) = false
+is_unbounded (Queues queue) = false
+is_unbounded Unbounded = true
 
 -- ---- after the second call
 
 -- a read is taken below
 abbrev pub takes_in : Cycle → NetValue → NetValue → Bool
 takes_in cycle shown wait = is_raised (cycle.net shown.number) && not (is_raised (cycle.net wait.number))
+
+-- the reads that are taken below and aren't answered as a cycle begins, where each is of one word
+abbrev pub unanswered_in : Run → NetValue → NetValue → NetValue → ℕ → ℕ
+unanswered_in run shown wait valid zero = 0
+unanswered_in run shown wait valid (suc c) =
+    (unanswered_in run shown wait valid c - one_if (is_raised (run.net c valid.number))) + one_if (takes_in (cycle_of run c) shown wait)
 
 -- a read waits until its word comes
 pub record AsksOn (netlist : Netlist) (read shown asked wait valid told : NetValue) : Type 0 where
@@ -81,6 +103,7 @@ ReadsGoOn netlist read count shown wait valid told Never = told ≡ wait
 ReadsGoOn netlist read count shown wait valid told (Asks asked) = AsksOn netlist read shown asked wait valid told
 ReadsGoOn netlist read count shown wait valid told (Counts unanswered full) = CountsOn netlist read shown unanswered full wait valid told
 ReadsGoOn netlist read count shown wait valid told (Queues queue) = QueuesOn netlist read count shown queue wait valid told
+ReadsGoOn netlist read count shown wait valid told Unbounded = told ≡ wait
 
 -- ---- what stands lasts. No contract reads these proofs; the laws of the host cite them
 
@@ -102,9 +125,11 @@ reads_last old new port read count shown (Counts unanswered full) h e = record {
   shows = λ cycle v. h.shows cycle (e.valuations cycle v);
 }
 reads_last old new port read count shown (Queues queue) h e = record { kind = h.kind; made = queue_lasts old new port read count queue h.made e; shows = λ cycle v. h.shows cycle (e.valuations cycle v) }
+reads_last old new port read count shown Unbounded h e = h
 
 pub reads_go_on : (old new : Netlist) (read count shown wait valid told : NetValue) (held : HeldReads) → ReadsGoOn old read count shown wait valid told held → Extends old new → ReadsGoOn new read count shown wait valid told held
 reads_go_on old new read count shown wait valid told Never h e = h
 reads_go_on old new read count shown wait valid told (Asks asked) h e = record { tells = λ cycle v. h.tells cycle (e.valuations cycle v); next = λ run cycles r. h.next run cycles (e.runs run cycles r) }
 reads_go_on old new read count shown wait valid told (Counts unanswered full) h e = record { tells = λ cycle v. h.tells cycle (e.valuations cycle v); next = λ run cycles r. h.next run cycles (e.runs run cycles r) }
 reads_go_on old new read count shown wait valid told (Queues queue) h e = queue_goes_on old new read count shown queue wait valid told h e
+reads_go_on old new read count shown wait valid told Unbounded h e = h

@@ -1,6 +1,6 @@
 //! The part next to a host: the command that it hands on, and what the host is told.
 
-ghost use Rattle.std.specs.Prelude.{◌≡◌, ℕ, ◌+◌, ◌*◌, ◌^◌, ◌<◌, length, IfOk, OnOk};
+ghost use Rattle.std.specs.Prelude.{◌≡◌, ℕ, ◌+◌, ◌*◌, ◌^◌, ◌<◌, ◌&&◌, length, IfOk, OnOk};
 ghost use Rattle.iface_roles.specs.Proper.{IsBoundedHost};
 ghost use Rattle.netlist.specs.Netlists.{IsWaiting};
 ghost use Rattle.netlist.specs.Runs.{Always};
@@ -8,8 +8,9 @@ ghost use Rattle.net_parts.specs.Nets.{IsBit};
 ghost use Rattle.net_parts.specs.Growth.{GrowsBy, AddsNets, StillWait, WaitsBeside, WaitsWithout, AreMadeBetween};
 ghost use Rattle.command_nets.specs.Nets.{AreCommandNets, AreAnswerNets};
 ghost use Rattle.command_nets.specs.Ports.{HasNet, value_or};
-ghost use Rattle.mm_host.specs.Hosts.{AreHostNets};
-ghost use Rattle.mm_host.specs.Forms.{owns, command_of, valid_of, IsHeld, IgnoresAnswer, AreAnswersTo, HostGoesOn, RunsAsHost};
+ghost use Rattle.mm_host.specs.Hosts.{reads_words, AreHostNets};
+ghost use Rattle.mm_host.specs.Reads.{is_unbounded};
+ghost use Rattle.mm_host.specs.Forms.{owns, command_of, valid_of, IsHeld, IgnoresAnswer, AreAnswersTo, HostGoesOn, RunsAsHostWhile};
 
 use crate::fields::{Fields, make_fields};
 use crate::nets::{HostAnswer, HostNets};
@@ -79,18 +80,21 @@ fn no_response(builder: &mut Builder, port: &HostPort) -> Result<Option<Net>, Ne
 
 /// Makes the command that a host hands on, in bytes, from the nets at its ports.
 ///
+/// `bounded`: what stands below never lets 16 reads of a host without bursts go unanswered, so that nothing here has to bound them.
 /// After an error the builder is to be dropped: registers may stand in it that wait.
 #[tactic(auto, using(net_parts::specs::Laws::growing))]
 pub fn emit_host(
     builder: &mut Builder,
     port: &HostPort,
     nets: &HostNets,
+    bounded: bool,
 ) -> Result<HeldHost, NetFault>
     requires port { IsBoundedHost port.now }
     requires nets { AreHostNets builder.old port.now nets.now }
     ensures nets { IfOk result (λ held. held.nets ≡ nets.now) }
     ensures command { IfOk result (λ held. AreCommandNets builder.new held.command) }
     ensures held { IfOk result (λ held. IsHeld builder.new port.now held) }
+    ensures unbounded { IfOk result (λ held. is_unbounded held.reads ≡ (reads_words port.now && bounded)) }
     ensures ignores { IfOk result (λ held. IgnoresAnswer builder.new held) }
     ensures owned { IfOk result (λ held. AreMadeBetween (owns held) builder.old builder.new) }
     ensures own_wait { IfOk result (λ held. (n : ℕ) → owns held n → IsWaiting builder.new n) }
@@ -102,7 +106,7 @@ pub fn emit_host(
     ensures full { result ≡ Err NetFault.TooManyNets → 2 ^ 20 < length builder.old.lines + 51 }
 {
     let fields = make_fields(builder, port, nets)?;
-    let reads = hold_reads(builder, port, fields.read, fields.count)?;
+    let reads = hold_reads(builder, port, fields.read, fields.count, bounded)?;
     let writes = hold_writes(builder, port, fields.write, fields.count)?;
     Ok(HeldHost {
         nets: *nets,
@@ -131,7 +135,7 @@ pub fn finish_host(
     requires answer { AreAnswerNets builder.old answer.now (port.now.word_bytes * 8) }
     ensures nets { IfOk result (λ made. AreAnswersTo builder.new port.now made) }
     ensures on { IfOk result (λ made. HostGoesOn builder.new held.now port.now wait answer.now made) }
-    ensures machine { IfOk result (λ made. RunsAsHost builder.new port.now held.now wait answer.now made) }
+    ensures machine { IfOk result (λ made. RunsAsHostWhile builder.new port.now held.now wait answer.now made) }
     ensures grows { GrowsBy 109 builder.old builder.new }
     ensures waits { (n : ℕ) → ¬ owns held.now n → IsWaiting builder.old n → IsWaiting builder.new n }
     ensures no_more_wait { OnOk result (WaitsWithout (owns held.now) builder.old builder.new) }

@@ -8,7 +8,8 @@ ghost use Rattle.netlist.specs.Netlists.{IsNet, IsWaiting};
 ghost use Rattle.netlist.specs.Runs.{Always};
 ghost use Rattle.net_parts.specs.Nets.{IsBit, IsNetOfWidth};
 ghost use Rattle.net_parts.specs.Growth.{GrowsBy, AddsNets, StillWait, WaitsBeside, WaitsWithout, AreMadeBetween};
-ghost use Rattle.mm_host.specs.Reads.{owns_reads, AreReadsHeld, AsksOn, CountsOn, ReadsGoOn};
+ghost use Rattle.mm_host.specs.Hosts.{reads_words};
+ghost use Rattle.mm_host.specs.Reads.{owns_reads, AreReadsHeld, AsksOn, CountsOn, ReadsGoOn, is_unbounded};
 ghost use Rattle.memory_sides.specs.Sides.{burst_width};
 
 use crate::queue::{HeldQueue, finish_queue, make_queue};
@@ -28,6 +29,8 @@ pub enum HeldReads {
     Counts { unanswered: Net, full: Net },
     /// The registers of reads in bursts that aren't answered.
     Queues(HeldQueue),
+    /// Nothing here: what stands below never lets 16 of its reads, of one word each, go unanswered.
+    Unbounded,
 }
 
 /// The read that is shown below, and what bounds it.
@@ -44,6 +47,7 @@ fn hold_asked(builder: &mut Builder, port: &HostPort, read: Net) -> Result<Shown
     requires read { IsBit builder.old read }
     ensures shown { IfOk result (λ made. IsBit builder.new made.shown) }
     ensures held { IfOk result (λ made. (count : NetValue) → AreReadsHeld builder.new port.now read count made.shown made.held) }
+    ensures unbounded { IfOk result (λ made. is_unbounded made.held ≡ false) }
     ensures owned { IfOk result (λ made. AreMadeBetween (owns_reads made.held) builder.old builder.new) }
     ensures grows { GrowsBy 4 builder.old builder.new }
     ensures still_wait { StillWait builder.old builder.new }
@@ -77,6 +81,7 @@ fn hold_count(builder: &mut Builder, port: &HostPort, read: Net) -> Result<Shown
     requires read { IsBit builder.old read }
     ensures shown { IfOk result (λ made. IsBit builder.new made.shown) }
     ensures held { IfOk result (λ made. (count : NetValue) → AreReadsHeld builder.new port.now read count made.shown made.held) }
+    ensures unbounded { IfOk result (λ made. is_unbounded made.held ≡ false) }
     ensures owned { IfOk result (λ made. AreMadeBetween (owns_reads made.held) builder.old builder.new) }
     ensures grows { GrowsBy 4 builder.old builder.new }
     ensures still_wait { StillWait builder.old builder.new }
@@ -112,6 +117,7 @@ fn hold_queue(
     requires count { IsNetOfWidth builder.old count (burst_width port.now.burst_bits) }
     ensures shown { IfOk result (λ made. IsBit builder.new made.shown) }
     ensures held { IfOk result (λ made. AreReadsHeld builder.new port.now read count made.shown made.held) }
+    ensures unbounded { IfOk result (λ made. is_unbounded made.held ≡ false) }
     ensures owned { IfOk result (λ made. AreMadeBetween (owns_reads made.held) builder.old builder.new) }
     ensures grows { GrowsBy 35 builder.old builder.new }
     ensures still_wait { StillWait builder.old builder.new }
@@ -126,12 +132,13 @@ fn hold_queue(
     Ok(ShownRead { shown, held })
 }
 
-/// Shows the reads of a host below, so far as the registers let them.
+/// Shows the reads of a host below, so far as the registers let them. Reads of one word need none where what stands below bounds them.
 pub(crate) fn hold_reads(
     builder: &mut Builder,
     port: &HostPort,
     read: Net,
     count: Net,
+    bounded: bool,
 ) -> Result<ShownRead, NetFault>
     requires port { IsBoundedHost port.now }
     requires read { IsBit builder.old read }
@@ -139,6 +146,7 @@ pub(crate) fn hold_reads(
     requires none { port.now.reads ≡ false → Always builder.old (λ cycle. cycle.net read.number ≡ 0) }
     ensures shown { IfOk result (λ made. IsBit builder.new made.shown) }
     ensures held { IfOk result (λ made. AreReadsHeld builder.new port.now read count made.shown made.held) }
+    ensures unbounded { IfOk result (λ made. is_unbounded made.held ≡ (reads_words port.now && bounded)) }
     ensures owned { IfOk result (λ made. AreMadeBetween (owns_reads made.held) builder.old builder.new) }
     ensures grows { GrowsBy 35 builder.old builder.new }
     ensures still_wait { StillWait builder.old builder.new }
@@ -153,11 +161,14 @@ pub(crate) fn hold_reads(
     if !port.readdatavalid {
         return hold_asked(builder, port, read);
     }
-    if port.burst_bits == 0 {
-        hold_count(builder, port, read)
-    } else {
-        hold_queue(builder, port, read, count)
+    if port.burst_bits != 0 {
+        return hold_queue(builder, port, read, count);
     }
+    if bounded {
+        let held = HeldReads::Unbounded;
+        return Ok(ShownRead { shown: read, held });
+    }
+    hold_count(builder, port, read)
 }
 
 /// The count of unanswered reads after a cycle in which a read is taken below, or a word comes. It doesn't fall below 0.
@@ -296,7 +307,7 @@ pub(crate) fn finish_reads(
     ensures full { result ≡ Err NetFault.TooManyNets → 2 ^ 20 < length builder.old.lines + 101 }
 {
     match shown.held {
-        HeldReads::Never => Ok(wait),
+        HeldReads::Never | HeldReads::Unbounded => Ok(wait),
         HeldReads::Asks { asked } => finish_asked(builder, read, shown.shown, asked, wait, valid),
         HeldReads::Counts { unanswered, full } => {
             finish_count(builder, read, shown.shown, unanswered, full, wait, valid)

@@ -1,5 +1,6 @@
 pub mod Apart
 pub mod Boundaries
+pub mod Bounded
 pub mod Choices
 pub mod Ends
 pub mod Entries
@@ -8,6 +9,7 @@ pub mod Hosts
 pub mod Levels
 pub mod Meets
 pub mod Moments
+pub mod SameCount
 pub mod SilentReader
 pub mod Views
 pub mod Ways

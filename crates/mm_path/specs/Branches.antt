@@ -13,7 +13,7 @@ use Rattle.command_nets.specs.Nets.{AreCommandNets}
 use Rattle.command_nets.specs.Groups.{command_lasts, answer_lasts}
 use Rattle.command_nets.specs.Ports.{has_lasts}
 use Rattle.mm_agent.specs.Agents.{AreAgentNets, AreMadeNets, IsServed, BearsOneTag, has_address, agent_lasts}
-use Rattle.mm_agent.specs.Forms.{IgnoresAnswer, RunsAsAgent}
+use Rattle.mm_agent.specs.Forms.{IsAgentPart, IgnoresAnswer, RunsAsAgent, part_lasts}
 use Rattle.mm_agent.specs.Reads.{owns_reads}
 use Rattle.mm_path.specs.declared.tree.AgentEnd.{AgentEnd}
 use Rattle.mm_path.specs.declared.tree.Branch.{Branch}
@@ -31,6 +31,7 @@ pub record Suits (netlist : Netlist) (end : AgentEnd) (command : CommandNets) : 
 -- the part next to the agent of a branch stands, and runs as its machine
 pub record IsBranchMade (netlist : Netlist) (branch : Branch) : Type 0 where
   pub made : AreMadeNets netlist branch.port branch.command branch.made
+  pub part : IsAgentPart netlist branch.port branch.nets branch.command branch.made
   pub tag : branch.made.answer_tag ≡ branch.command.tag
   pub registers : (n : ℕ) → owns_reads branch.made.reads n → IsRegister netlist n
   pub ignores : IgnoresAnswer netlist branch.command branch.made
@@ -69,15 +70,19 @@ suits_last old new end command h e = record {
   tag = record { tag = h.tag.tag; always = λ cycle v. h.tag.always cycle (e.valuations cycle v) };
 }
 
-pub branch_lasts : (old new : Netlist) (branch : Branch) → IsBranchMade old branch → Extends old new → IsBranchMade new branch
+pub made_nets_last : (old new : Netlist) (branch : Branch) → AreMadeNets old branch.port branch.command branch.made → Extends old new → AreMadeNets new branch.port branch.command branch.made
+made_nets_last old new branch h e = record {
+  address = has_lasts old new (has_address branch.port) branch.port.address_bits branch.made.address h.address e;
+  read = has_lasts old new branch.port.reads 1 branch.made.read h.read e;
+  waitrequest = net_lasts old new branch.made.waitrequest 1 e h.waitrequest;
+  answer = answer_lasts old new branch.made.answer (branch.port.word_bytes * 8) e h.answer;
+  answer_tag = net_lasts old new branch.made.answer_tag branch.command.tag.width e h.answer_tag;
+}
+
+branch_lasts : (old new : Netlist) (branch : Branch) → IsBranchMade old branch → Extends old new → IsBranchMade new branch
 branch_lasts old new branch h e = record {
-  made = record {
-    address = has_lasts old new (has_address branch.port) branch.port.address_bits branch.made.address h.made.address e;
-    read = has_lasts old new branch.port.reads 1 branch.made.read h.made.read e;
-    waitrequest = net_lasts old new branch.made.waitrequest 1 e h.made.waitrequest;
-    answer = answer_lasts old new branch.made.answer (branch.port.word_bytes * 8) e h.made.answer;
-    answer_tag = net_lasts old new branch.made.answer_tag branch.command.tag.width e h.made.answer_tag;
-  };
+  made = made_nets_last old new branch h.made e;
+  part = part_lasts old new branch.port branch.nets branch.command branch.made h.part e;
   tag = h.tag;
   registers = λ n o. register_lasts old new n e (h.registers n o);
   ignores = λ one other v w. h.ignores one other (e.valuations one v) (e.valuations other w);

@@ -16,7 +16,7 @@ use Rattle.mm_path.specs.declared.tree.AgentEnd.{AgentEnd}
 use Rattle.mm_path.specs.declared.tree.Branch.{Branch}
 use Rattle.mm_path.specs.declared.tree.Tree.{Tree}
 use Rattle.mm_path.specs.Trees.{IsEndFor, end_of, AreBranches, commands_of, IsTree}
-use Rattle.mm_path.specs.Branches.{branch_lasts}
+use Rattle.mm_path.specs.Branches.{made_nets_last}
 
 pub end_lasts : (old new : Netlist) (port : HostPort) (route : Route) (end : AgentEnd) → IsEndFor old port route end → Extends old new → IsEndFor new port route end
 end_lasts old new port route end h e = record { number = h.number; bounded = h.bounded; served = h.served; same_words = h.same_words; span = h.span; nets = agent_lasts old new end.port end.nets h.nets e }
@@ -34,17 +34,16 @@ branches_last old new port above [] [] h e = tt
 branches_last old new port above [] (branch ∷ branches) h e = absurd h
 branches_last old new port above (route ∷ routes) [] h e = absurd h
 branches_last old new port above (route ∷ routes) (branch ∷ branches) h e =
-    let b = h.0 in
-    let part = branch_lasts old new branch (record { made = b.made; tag = b.tag; registers = b.registers; ignores = b.ignores; runs = b.runs }) e in (
+    let b = h.0 in (
       record {
         end = end_lasts old new port route (end_of branch) b.end e;
         command = command_lasts old new branch.command e b.command;
         widths = b.widths;
-        made = part.made;
-        tag = part.tag;
-        registers = part.registers;
-        ignores = part.ignores;
-        runs = part.runs;
+        made = made_nets_last old new branch b.made e;
+        tag = b.tag;
+        registers = λ n o. register_lasts old new n e (b.registers n o);
+        ignores = λ one other v w. b.ignores one other (e.valuations one v) (e.valuations other w);
+        runs = λ longer f. b.runs longer (extends_twice old new longer e f);
       },
       branches_last old new port above routes branches h.1 e,
     )

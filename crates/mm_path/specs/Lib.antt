@@ -3,4 +3,5 @@ pub mod Served
 pub mod Trees
 pub mod Trunks
 pub mod Branches
+pub mod Bounds
 pub mod Lasting

@@ -7,6 +7,7 @@ ghost use Rattle.mm_route.specs.Entries.{AreEntries};
 ghost use Rattle.mm_host.specs.Hosts.{AreHostNets};
 ghost use Rattle.mm_path.specs.Trees.{AreEndsFor, IsTree, end_of, tree_nets};
 
+use crate::bounds::agents_bound;
 use crate::branches::{backs_of, emit_branches};
 use crate::tree::{AgentEnd, Tree};
 use crate::trunk::{begin_trunk, finish_trunk};
@@ -46,7 +47,8 @@ pub fn emit_tree(
     // Memory may run out at any net.
     ensures full { result ≡ Err NetFault.TooManyNets → 2 ^ 20 < length builder.old.lines + tree_nets (length routes.now) }
 {
-    let (commands, trunk) = begin_trunk(alloc, builder, number, port, nets, routes)?;
+    let bounded = agents_bound(port, routes, ends);
+    let (commands, trunk) = begin_trunk(alloc, builder, number, port, nets, routes, bounded)?;
     let branches = emit_branches(alloc, builder, ends, &commands)?;
     let backs = backs_of(alloc, branches.as_slice())?;
     let told = finish_trunk(builder, port, &trunk, &backs)?;

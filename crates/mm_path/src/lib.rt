@@ -1,6 +1,7 @@
 //! What stands between the hosts and agents of a plan.
 #![tactic(auto)]
 
+mod bounds;
 mod branches;
 mod emit;
 mod laws;

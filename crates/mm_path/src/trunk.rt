@@ -1,19 +1,21 @@
 //! The host of a tree and its route, which wait for what the branches tell.
 
-ghost use Rattle.std.specs.Prelude.{◌≡◌, ℕ, ◌+◌, ◌*◌, ◌^◌, ◌<◌, ◌≤◌, List, length, IfOk, OnOk};
+ghost use Rattle.std.specs.Prelude.{◌≡◌, ℕ, ◌+◌, ◌*◌, ◌^◌, ◌<◌, ◌≤◌, ◌&&◌, true, List, length, IfOk, OnOk};
 ghost use Rattle.iface_roles.specs.Proper.{IsBoundedHost, range_of};
 ghost use Rattle.netlist.specs.Netlists.{IsWaiting};
 ghost use Rattle.net_parts.specs.Nets.{IsBit, IsRegister};
 ghost use Rattle.net_parts.specs.Growth.{GrowsBy, StillWait, WaitsBeside, WaitsWithout, AreMadeBetween};
 ghost use Rattle.memory_sides.specs.declared.route.Route.{Route};
 ghost use Rattle.command_nets.specs.declared.nets.CommandNets.{CommandNets};
-ghost use Rattle.mm_route.specs.Entries.{AreEntries};
+ghost use Rattle.mm_route.specs.Entries.{AreEntries, is_lone};
 ghost use Rattle.mm_route.specs.Shown.{AreCommandsOf, widths_below};
 ghost use Rattle.mm_route.specs.Forward.{RouteForward, forward_nets};
 ghost use Rattle.mm_route.specs.Backward.{AreBackNets, backward_nets};
+ghost use Rattle.mm_route.specs.Lone.{RunsAsWire};
 ghost use Rattle.mm_route.specs.Machine.{RunsAsMachine};
-ghost use Rattle.mm_host.specs.Hosts.{AreHostNets};
-ghost use Rattle.mm_host.specs.Forms.{AreAnswersTo, RunsAsHost};
+ghost use Rattle.mm_host.specs.Hosts.{reads_words, AreHostNets};
+ghost use Rattle.mm_host.specs.Reads.{is_unbounded};
+ghost use Rattle.mm_host.specs.Forms.{AreAnswersTo, RunsAsHostWhile};
 ghost use Rattle.mm_path.specs.Trees.{room_bits};
 ghost use Rattle.mm_path.specs.Trunks.{owns, IsTrunk};
 
@@ -57,7 +59,7 @@ fn room_bits(port: &HostPort) -> u8
     }
 }
 
-/// Makes the commands of a host for its routes, in their order.
+/// Makes the commands of a host for its routes, in their order. `bounded`: the agents never let 16 reads of one word go unanswered.
 ///
 /// After an error the builder is to be dropped: registers may stand in it that wait.
 pub(crate) fn begin_trunk(
@@ -67,6 +69,7 @@ pub(crate) fn begin_trunk(
     port: &HostPort,
     nets: &HostNets,
     routes: &[Route],
+    bounded: bool,
 ) -> Result<(Vec<CommandNets>, Trunk), NetFault>
     requires number { number < 16 }
     requires port { IsBoundedHost port.now }
@@ -76,6 +79,7 @@ pub(crate) fn begin_trunk(
     requires entries { (width : ℕ) → 2 ^ width ≡ range_of port.now → AreEntries width routes.now }
     ensures nets { IfOk result (λ p. p.1.host.nets ≡ nets.now) }
     ensures trunk { IfOk result (λ p. IsTrunk builder.new port.now (length routes.now) p.1) }
+    ensures unbounded { IfOk result (λ p. is_unbounded p.1.host.reads ≡ (reads_words port.now && bounded)) }
     ensures forward { IfOk result (λ p. RouteForward routes.now number p.1.host.command p.0.items p.1.route builder.new) }
     ensures commands { IfOk result (λ p. AreCommandsOf builder.new (widths_below p.1.host.command 4) p.0.items) }
     ensures owned { IfOk result (λ p. AreMadeBetween (owns p.1) builder.old builder.new) }
@@ -84,7 +88,7 @@ pub(crate) fn begin_trunk(
     ensures newly { IfOk result (λ p. WaitsBeside (owns p.1) builder.old builder.new) }
     ensures full { result ≡ Err NetFault.TooManyNets → 2 ^ 20 < length builder.old.lines + (51 + forward_nets (length routes.now)) }
 {
-    let host = emit_host(builder, port, nets)?;
+    let host = emit_host(builder, port, nets, bounded)?;
     let (commands, route) = emit_route(
         alloc,
         builder,
@@ -112,10 +116,13 @@ pub(crate) fn finish_trunk(
     requires few { length backs.now ≤ 128 }
     requires backs { AreBackNets builder.old (port.now.word_bytes * 8) backs.now }
     ensures told { IfOk result (λ told. AreAnswersTo builder.new port.now told.host) }
-    ensures host { IfOk result (λ told. RunsAsHost builder.new port.now trunk.now.host told.wait told.answer told.host) }
+    ensures host { IfOk result (λ told. RunsAsHostWhile builder.new port.now trunk.now.host told.wait told.answer told.host) }
     ensures route { IfOk result (λ told. (entries : List Route) (host : ℕ) (command : CommandNets) (commands : List CommandNets)
         → RouteForward entries host command commands trunk.now.route builder.old
         → RunsAsMachine builder.new entries host command commands (room_bits port.now) backs.now told.wait told.answer) }
+    ensures lone { IfOk result (λ told. (entries : List Route) (host : ℕ) (command : CommandNets) (commands : List CommandNets)
+        → RouteForward entries host command commands trunk.now.route builder.old
+        → is_lone entries command.address.width ≡ true → RunsAsWire builder.new trunk.now.route command commands backs.now told.wait told.answer) }
     ensures registers { (n : ℕ) → owns trunk.now n → IsRegister builder.new n }
     ensures grows { GrowsBy (backward_nets (length backs.now) + 109) builder.old builder.new }
     ensures waits { (n : ℕ) → ¬ owns trunk.now n → IsWaiting builder.old n → IsWaiting builder.new n }

@@ -16,7 +16,7 @@ mod wire;
 pub use back::BackNets;
 pub use laws::route_ignores_answers;
 pub use registers::{LatchNets, RegisterNets};
-pub use route::{HeldRoute, emit_route, finish_route};
+pub use route::{HeldRoute, emit_route, finish_route, is_lone};
 pub use router::HeldRouter;
 pub use shown::ShownNets;
 pub use wire::HeldWire;

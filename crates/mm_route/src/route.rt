@@ -33,7 +33,7 @@ pub enum HeldRoute {
 }
 
 /// Whether one agent alone reads and writes at each address of so many bits.
-fn is_lone(entries: &[Route], width: u8) -> bool
+pub fn is_lone(entries: &[Route], width: u8) -> bool
     ensures { result ≡ is_lone entries.now width }
 {
     match entries {

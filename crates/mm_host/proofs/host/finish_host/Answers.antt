@@ -44,10 +44,10 @@ returns-clause-on c =
     }
 
 pub returns-clause-machine : goal.returns-clause-machine
-returns-clause-machine c longer e run endless end =
+returns-clause-machine c longer e run endless end few =
     let more = c.no_response.ensures.adds.grows.extends in
     let all = extends_twice _ _ _ c.finish_writes.ensures.grows.extends (extends_twice _ _ _ c.finish_reads.ensures.grows.extends (extends_twice _ _ _ more e)) in
     record {
       state = _;
-      machine = machine c.args.port.now c.args.held.now c.args.wait c.args.answer.now _ longer (held_lasts _ _ _ _ c.requires.held all) (goes_on_lasts _ _ _ _ _ _ _ (returns-clause-on c) e) run endless end;
+      machine = machine c.args.port.now c.args.held.now c.args.wait c.args.answer.now _ longer (held_lasts _ _ _ _ c.requires.held all) (goes_on_lasts _ _ _ _ _ _ _ (returns-clause-on c) e) run endless end few;
     }

@@ -6,6 +6,6 @@ pub returns-then-not-port-2-clause-held : goal.returns-then-not-port-2-clause-he
 returns-then-not-port-2-clause-held c =
     if_ok c.hold_asked.result _ (λ made. AreReadsHeld c.hold_asked.new.builder c.args.port.now c.args.read c.args.count made.shown made.held) (λ made held. held c.args.count) c.hold_asked.ensures.held
 
-pub returns-then-port-eq0-clause-held : goal.returns-then-port-eq0-clause-held
-returns-then-port-eq0-clause-held c =
+pub returns-clause-held : goal.returns-clause-held
+returns-clause-held c =
     if_ok c.hold_count.result _ (λ made. AreReadsHeld c.hold_count.new.builder c.args.port.now c.args.read c.args.count made.shown made.held) (λ made held. held c.args.count) c.hold_count.ensures.held

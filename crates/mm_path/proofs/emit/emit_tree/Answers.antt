@@ -7,10 +7,12 @@ use Rattle.mm_route.specs.declared.back.BackNets.{BackNets}
 use Rattle.mm_route.specs.Backward.{AreBackNets}
 use Rattle.mm_route.specs.Forward.{forward_lasts, as_many_commands, commands_bear}
 use Rattle.mm_route.specs.Machine.{RunsAsMachine}
+use Rattle.mm_route.specs.Lone.{RunsAsWire}
 use Rattle.mm_path.specs.Trees.{room_bits, backs_of}
 use Rattle.mm_path.specs.Trunks.{IsTrunk, trunk_lasts}
-use Rattle.mm_path.specs.Branches.{Suits}
+use Rattle.mm_path.specs.Branches.{Suits, branches_last}
 use Rattle.mm_path.proofs.Branching.{ends_last, as_many_ends, commands_suit, branches_of, backs_are, as_many_backs}
+use Rattle.mm_path.proofs.Bounded.{host_runs}
 use Rattle.mm_path.proofs.Whole.{tree_is}
 use Rattle.mm_path.proofs.emit.emit_tree.Goals as goal
 
@@ -86,6 +88,8 @@ pub returns-clause-tree : goal.returns-clause-tree
 returns-clause-tree c =
     let made = c.in_ok-commands.ensures in
     let backs : c.deref-2.result.now ≡ backs_of c.in_ok-branches.branches = c.deref-2.ensures.value ∙ c.in_ok-backs.ensures ∙ ap backs_of c.as_slice.ensures in
+    let commands = c.in_ok-branches.ensures.commands ∙ c.deref.ensures.value in
+    let forward = forward_lasts _ _ _ _ _ _ _ made.forward c.emit_branches.ensures.grows.extends in
     tree_is c.begin_trunk.new.builder c.emit_branches.new.builder c.finish_trunk.new.builder c.args.number c.args.port.now c.args.routes.now c.args.ends.now c.in_ok-commands.commands.items c.in_ok-commands.trunk c.in_ok-branches.branches c.in_ok-told.told
     (record {
       bounded = c.requires.port;
@@ -96,12 +100,18 @@ returns-clause-tree c =
       commands_are = made.commands;
       grows = c.emit_branches.ensures.grows.extends;
       of_ends = c.in_ok-branches.ensures.ends;
-      of_commands = c.in_ok-branches.ensures.commands ∙ c.deref.ensures.value;
+      of_commands = commands;
       made = c.in_ok-branches.ensures.made;
       ends_grow = c.finish_trunk.ensures.grows.extends;
       told_is = c.in_ok-told.ensures.told;
-      host = c.in_ok-told.ensures.host;
+      host = host_runs c.finish_trunk.new.builder c.args.port.now c.in_ok-commands.trunk.host c.in_ok-told.told.host c.args.routes.now c.args.ends.now c.in_ok-branches.branches c.in_ok-commands.trunk.route c.in_ok-told.told.wait c.in_ok-told.told.answer
+          c.agents_bound-bounded.result made.unbounded (c.agents_bound-bounded.ensures _ made.trunk.held.fields.reaches) c.in_ok-branches.ensures.ends (branches_last _ _ _ c.in_ok-branches.ensures.made c.finish_trunk.ensures.grows.extends)
+          (λ lone.
+          subst (λ (cs : List CommandNets). RunsAsWire c.finish_trunk.new.builder c.in_ok-commands.trunk.route c.in_ok-commands.trunk.host.command cs (backs_of c.in_ok-branches.branches) c.in_ok-told.told.wait c.in_ok-told.told.answer) (sym commands)
+          (subst (λ (bs : List BackNets). RunsAsWire c.finish_trunk.new.builder c.in_ok-commands.trunk.route c.in_ok-commands.trunk.host.command c.in_ok-commands.commands.items bs c.in_ok-told.told.wait c.in_ok-told.told.answer) backs
+          (c.in_ok-told.ensures.lone c.args.routes.now c.args.number c.in_ok-commands.trunk.host.command c.in_ok-commands.commands.items forward lone)))
+          c.in_ok-told.ensures.host;
       route = subst (λ (bs : List BackNets). RunsAsMachine c.finish_trunk.new.builder c.args.routes.now c.args.number c.in_ok-commands.trunk.host.command c.in_ok-commands.commands.items (room_bits c.args.port.now) bs c.in_ok-told.told.wait c.in_ok-told.told.answer) backs
-          (c.in_ok-told.ensures.route c.args.routes.now c.args.number c.in_ok-commands.trunk.host.command c.in_ok-commands.commands.items (forward_lasts _ _ _ _ _ _ _ made.forward c.emit_branches.ensures.grows.extends));
+          (c.in_ok-told.ensures.route c.args.routes.now c.args.number c.in_ok-commands.trunk.host.command c.in_ok-commands.commands.items forward);
       registers = c.finish_trunk.ensures.registers;
     })

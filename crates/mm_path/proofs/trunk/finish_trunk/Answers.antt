@@ -6,6 +6,7 @@ use Rattle.net_parts.specs.Laws.{extends_twice, register_lasts, waiting_register
 use Rattle.command_nets.specs.Nets.{AreAnswerNets}
 use Rattle.mm_route.specs.Forward.{RouteKeeps, forward_lasts, owned_wait}
 use Rattle.mm_route.specs.Backward.{AreBackNets}
+use Rattle.mm_route.specs.Wire.{lone_lasts}
 use Rattle.mm_route.specs.Machine.{RunsAsMachine}
 use Rattle.mm_host.specs.Forms.{held_lasts}
 use Rattle.mm_path.specs.declared.trunk.Trunk.{Trunk}
@@ -32,6 +33,11 @@ pub returns-clause-route : goal.returns-clause-route
 returns-clause-route c entries host command commands f longer e =
     subst (λ bits. RunsAsMachine c.finish_route.new.builder entries host command commands bits c.args.backs.now c.in_ok-wait.wait c.in_ok-wait.answer) c.room_bits.ensures.bits
     (c.in_ok-wait.ensures.machine entries host command commands (forward_lasts _ _ _ _ _ _ _ f c.finish_route.ensures.grows.extends)) longer (extends_twice _ _ _ c.finish_host.ensures.grows.extends e)
+
+pub returns-clause-lone : goal.returns-clause-lone
+returns-clause-lone c entries host command commands f lone =
+    let w = c.in_ok-wait.ensures.lone entries host command commands (forward_lasts _ _ _ _ _ _ _ f c.finish_route.ensures.grows.extends) lone in
+    record { wire = w.wire; held_is = w.held_is; below = w.below; only_command = w.only_command; back = w.back; only_back = w.only_back; lone = lone_lasts _ _ _ _ _ _ _ _ w.lone c.finish_host.ensures.grows.extends }
 
 are_registers : (netlist : Netlist) (port : HostPort) (routes : ℕ) (trunk : Trunk) → IsTrunk netlist port routes trunk → IsWellMade netlist → (n : ℕ) → owns trunk n → IsRegister netlist n
 are_registers netlist port routes trunk h made n (inl host) = waiting_register netlist n made (h.host_waits n host)
