@@ -4,5 +4,6 @@ mod LineBetween
 mod Raised
 mod RowLaw
 mod StageLaw
+mod StagesAsPipe
 mod StagesInRow
 mod StraightChain

@@ -1,4 +1,5 @@
 pub mod Form
+pub mod Boundaries
 pub mod ChainNets
 pub mod Lines
 pub mod MaybeNets

@@ -71,3 +71,4 @@ pub mod ModestRow
 pub mod SplitCounts
 pub mod WiredSystem
 pub mod WiresFit
+pub mod PipeStages

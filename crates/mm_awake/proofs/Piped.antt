@@ -1,5 +1,5 @@
 -- In a pipe of stages each boundary carries legal commands, owed answers and words under the tags of their reads.
-use Rattle.std.proofs.Common.{ℕ, zero, suc, ◌<◌, ◌≤◌, ◌≡◌, ◌+◌, ◌-◌, [], ◌++◌, arith, refl, sym, ap, ap₂, ◌∙◌, subst}
+use Rattle.std.proofs.Common.{ℕ, zero, suc, ◌<◌, ◌≤◌, ◌≡◌, ◌+◌, ◌-◌, [], ◌++◌, arith, sym, ap, ap₂, ◌∙◌, subst}
 use Rattle.histories.specs.History.{IsPrefix, only_if, is_raised}
 use Rattle.histories.specs.Laws.{prefix_refl, prefix_trans, prefix_length, prefix_flat_map, prefix_filter, before_extends}
 use Rattle.mm_runs.specs.Legal.{Word}
@@ -10,6 +10,7 @@ use Rattle.mm_machines.specs.Shorter.{legal_at_before}
 use Rattle.mm_machines.specs.SideLaws.{taken_is_shown, same_counts}
 use Rattle.mm_awake.specs.Theorem.{IsStageBetween}
 use Rattle.mm_awake.proofs.Owed.{all_words, all_asked}
+use Rattle.mm_awake.proofs.StageLine.{words_are}
 
 pub record StageLaws : Type 0 where
   pub link : (stage : Stage) → RunsAsStage stage → (target : Target) (end : ℕ) → 0 < stage.shape.word_bytes → KeepsLinkLaw target stage.depth (above stage) (below stage) end
@@ -17,14 +18,9 @@ pub record StageLaws : Type 0 where
 
 module _ (laws : StageLaws) (target : Target) (lower : ℕ → TaggedPort) (stage : ℕ → Stage) (n end : ℕ) (is : (i : ℕ) → i < n → IsStageBetween (stage i) (lower (suc i)) (lower i)) (some : 0 < (lower 0).shape.word_bytes)
     (top : AreLegalAt (lower n).port end) (bottom : AreTaggedInOrder (lower 0) end) where
-  -- all words are as large
-  words_are : (i : ℕ) → i ≤ n → (lower i).shape.word_bytes ≡ (lower 0).shape.word_bytes
-  words_are zero low = refl
-  words_are (suc i) low = ap (λ (p : Port). p.shape.word_bytes) (sym (is i low).up_is) ∙ ap (λ (p : Port). p.shape.word_bytes) (is i low).down_is ∙ words_are i (omega (arith, low))
-
   law : (i : ℕ) → i < n → KeepsLinkLaw target (stage i).depth (lower (suc i)).port (lower i).port end
   law i low =
-      let here = laws.link (stage i) (is i low).runs target end (large (stage i).shape.word_bytes (lower 0).shape.word_bytes (ap (λ (p : Port). p.shape.word_bytes) (is i low).down_is ∙ words_are i (omega (arith, low))) some) in
+      let here = laws.link (stage i) (is i low).runs target end (large (stage i).shape.word_bytes (lower 0).shape.word_bytes (ap (λ (p : Port). p.shape.word_bytes) (is i low).down_is ∙ words_are lower stage n is i (omega (arith, low))) some) in
       subst (λ p. KeepsLinkLaw target (stage i).depth p (lower i).port end) (is i low).up_is (subst (λ p. KeepsLinkLaw target (stage i).depth (above (stage i)) p end) (is i low).down_is here)
     where
       large : (a b : ℕ) → a ≡ b → 0 < b → 0 < a

@@ -3,7 +3,7 @@ use Rattle.std.proofs.Common.{ℕ, refl}
 use Rattle.std.proofs.lemmas.Bool.{or_left}
 use Rattle.mm_runs.specs.Views.{Run, Responses}
 use Rattle.mm_parts.specs.SystemRun.{PlainPlan, HaveOneShape, Outside, Registers, plain_system, registers_of, ports_run}
-use Rattle.mm_awake.specs.PlainSystem.{wired_inside, wired_states, plain_ports, plain_states}
+use Rattle.mm_awake.specs.PlainSystem.{wired_inside, wired_states, plain_ports}
 use Rattle.mm_awake.specs.WiredSystem.{IsWiredSystem}
 use Rattle.mm_awake.specs.Theorem.{ArePlanned, AreMachines}
 use Rattle.mm_awake.proofs.Widened.{wire_self}
@@ -17,7 +17,7 @@ module _ (responses : Responses) (plan : PlainPlan) (outside : Outside) (end : �
 
   module _ (planned : ArePlanned (plain_system plan) (wired_inside responses plan outside registers) (wired_states responses plan outside registers room))
       (machines : AreMachines responses (plain_system plan) run (wired_inside responses plan outside registers) (wired_states responses plan outside registers room) end) where
-    pub plain_wired : HaveOneShape plan → IsWiredSystem responses (plain_system plan) run (plain_ports responses plan outside registers) (plain_states responses plan outside registers room) end
+    pub plain_wired : HaveOneShape plan → IsWiredSystem responses (plain_system plan) run (plain_ports responses plan outside registers) (wired_states responses plan outside registers room) end
     plain_wired shape = record {
       front = record {
         host = machines.host;
@@ -25,7 +25,7 @@ module _ (responses : Responses) (plan : PlainPlan) (outside : Outside) (end : �
         route = machines.route;
         arbiter = machines.arbiter;
         silent = machines.silent;
-        no_stage = refl;
+        stage = machines.stage;
         wires = λ h a low there joined. wire_self _;
         lanes = λ h a low there joined. or_left plan.agent.has_enables _ shape.lanes;
         idle = λ h a low there none. record { commands = refl; answers = refl };

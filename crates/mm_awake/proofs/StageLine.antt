@@ -34,17 +34,19 @@ pub hold_is : (n : ℕ) → hold_of n ≡ 2 * n
 hold_is zero = refl
 hold_is (suc n) = let more = hold_is n in omega (arith, more)
 
+-- all words of a pipe are as large
+pub words_are : (lower : ℕ → TaggedPort) (stage : ℕ → Stage) (stages : ℕ) → ((i : ℕ) → i < stages → IsStageBetween (stage i) (lower (suc i)) (lower i)) → (i : ℕ) → i ≤ stages → (lower i).shape.word_bytes ≡ (lower 0).shape.word_bytes
+words_are lower stage stages between zero low = refl
+words_are lower stage stages between (suc i) low =
+    ap (λ (p : Port). p.shape.word_bytes) (sym (between i low).up_is) ∙ ap (λ (p : Port). p.shape.word_bytes) (between i low).down_is ∙ words_are lower stage stages between i (omega (arith, low))
+
 module _ (laws : PipeLaws) (system : System) (agent end : ℕ) (lower : ℕ → TaggedPort) (stage : ℕ → Stage) (stages : ℕ) (between : (i : ℕ) → i < stages → IsStageBetween (stage i) (lower (suc i)) (lower i))
     (some : 0 < (lower 0).shape.word_bytes) where
-  words_are : (i : ℕ) → i ≤ stages → (lower i).shape.word_bytes ≡ (lower 0).shape.word_bytes
-  words_are zero low = refl
-  words_are (suc i) low = ap (λ (p : Port). p.shape.word_bytes) (sym (between i low).up_is) ∙ ap (λ (p : Port). p.shape.word_bytes) (between i low).down_is ∙ words_are i (omega (arith, low))
-
   stage_line : (i : ℕ) → i < stages → IsPipeLine system agent 2 1 (lower (suc i)) (lower i) end
   stage_line i low =
       let is = between i low in
       let size : (stage i).shape.word_bytes ≡ (lower i).shape.word_bytes = ap (λ (p : Port). p.shape.word_bytes) is.down_is in
-      let same = words_are i (omega (arith, low)) in
+      let same = words_are lower stage stages between i (omega (arith, low)) in
       let line = laws.one (stage i) (lower (suc i)).answer_tag (lower i).answer_tag is.runs is.tags (omega (arith, size, same, some)) system agent end in
       more_room system agent (stage i).depth 2 1 (lower (suc i)) (lower i) end is.few
       (subst (λ p. IsPipeLine system agent (stage i).depth 1 (record { port = p; answer_tag = (lower (suc i)).answer_tag }) (lower i) end) is.up_is

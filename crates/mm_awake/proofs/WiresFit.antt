@@ -1,5 +1,5 @@
 -- What wires carry from routes to agents fits the agents: every part in front of them keeps its line, and they keep theirs as long as it does.
-use Rattle.std.proofs.Common.{ℕ, zero, suc, ◌≡◌, ◌<◌, ◌≤◌, ◌*◌, ◌/◌, ◌&&◌, ◌||◌, min, Bool, true, false, [], arith, refl, sym, ap, ap₂, subst, ◌∙◌, le_refl, if◌then◌else◌, nat_lt, Option, Some, None, IsTrue, IsFalse}
+use Rattle.std.proofs.Common.{ℕ, zero, suc, ◌≡◌, ◌<◌, ◌≤◌, ◌*◌, ◌/◌, ◌&&◌, ◌||◌, min, Bool, true, false, [], arith, refl, sym, ap, ap₂, ◌∙◌, le_refl, if◌then◌else◌, nat_lt, Option, Some, None, IsTrue, IsFalse}
 use Rattle.std.proofs.lemmas.Bool.{both_ways, eqb-true, ltb-true, ltb-false}
 use Rattle.histories.specs.History.{is_raised}
 use Rattle.mm_runs.specs.Views.{System, Run, Responses}
@@ -19,11 +19,12 @@ use Rattle.mm_parts.specs.Route.{RouteState, IsRouteMachine, IsRoutePlan, is_ope
 use Rattle.mm_links.specs.Links.{IsLink, pass_form}
 use Rattle.mm_awake.specs.RowSystem.{boundaries_of}
 use Rattle.mm_awake.specs.Theorem.{ArePlanned}
-use Rattle.mm_awake.specs.WiredSystem.{WiredPorts, WiredStates, IsWiredFront, IsWiredSystem, ServeWhatFits, rows_of_wires, states_of_wired, with_agents}
+use Rattle.mm_awake.specs.WiredSystem.{WiredPorts, WiredStates, IsWiredFront, IsWiredSystem, ServeWhatFits, before_agent, rows_of_wires, with_agents}
 use Rattle.mm_awake.proofs.Enables.{lanes_placed}
 use Rattle.mm_awake.proofs.SilentRow.{IsQuiet, quiet_is_fit, silent_row, silent_lanes}
 use Rattle.mm_awake.proofs.Widened.{wire_link}
-use Rattle.mm_awake.proofs.WiredSystem.{top_wire}
+use Rattle.mm_awake.proofs.StageLine.{PipeLaws, hold_of, hold_is, pipe_line}
+use Rattle.mm_awake.proofs.WiredSystem.{pipe_words, top_wire}
 
 -- ---- a route shows something to agents alone that its host is joined to
 
@@ -67,24 +68,24 @@ pub record Laws : Type 0 where
   pub agent : (responses : Responses) (system : System) (run : Run) (agent : ℕ) (up : TaggedPort) (state : AgentState) (end : ℕ) → IsAgentPlan (system.agent agent) → IsAgentMachine responses (system.agent agent) (run.at_agent agent) up state end →
       IsAgentLine responses system run agent 0 up end
   pub wire : (target : Target) (port : Port) (end : ℕ) → 0 < port.shape.word_bytes → IsLink (pass_form target) port port end
-  pub pipe : (system : System) (agent : ℕ) (port : TaggedPort) (end : ℕ) → IsPipeLine system agent 0 0 port port end
+  pub pipes : PipeLaws
   pub settle : (responses : Responses) (system : System) (run : Run) (inside : Inside) (holds : Holds) (end : ℕ) (wired : Wired responses system run inside holds end) → IsLegalRun system run end → IsSettled system run inside wired.room end
 
 module _ (laws : Laws) (responses : Responses) (system : System) (run : Run) (ports : WiredPorts) (states : WiredStates) (end : ℕ) (is_plan : IsMemoryPlan system)
-    (plan : ArePlanned system (boundaries_of (rows_of_wires ports)) (states_of_wired ports states)) (one_word : (h : ℕ) → h < system.hosts → ReadsWords (system.host h) (run.at_host h) end) (views : AreViews system run end)
+    (plan : ArePlanned system (boundaries_of (rows_of_wires ports)) states) (one_word : (h : ℕ) → h < system.hosts → ReadsWords (system.host h) (run.at_host h) end) (views : AreViews system run end)
     (front : IsWiredFront responses system run ports states end) (serve : ServeWhatFits responses system run ports end) (legal : IsLegalRun system run end) where
   -- nothing has been shown at first: so the part next to an agent is a machine then
-  agent_words : (a : ℕ) → a < system.agents → (ports.before_agent a).shape.word_bytes ≡ (system.agent a).word_bytes
-  agent_words a there = (serve a 0 there (omega arith) (quiet_is_fit (ports.before_agent a).port 0 (λ c low. absurd (omega (arith, low))) system a)).machine.commands.words
+  agent_words : (a : ℕ) → a < system.agents → (before_agent ports a).shape.word_bytes ≡ (system.agent a).word_bytes
+  agent_words a there = (serve a 0 there (omega arith) (quiet_is_fit (before_agent ports a).port 0 (λ c low. absurd (omega (arith, low))) system a)).machine.commands.words
 
-  agent_line : (a : ℕ) → a < system.agents → IsAgentLine responses system run a 0 (ports.before_agent a) end
+  agent_line : (a : ℕ) → a < system.agents → IsAgentLine responses system run a 0 (before_agent ports a) end
   agent_line a there = record {
     commands = λ c low fit proper. (line_at c low fit).commands c (le_refl c) fit proper;
     answers = λ c low fit proper. (line_at c low fit).answers c (le_refl c) fit proper;
   }
     where
-      line_at : (c : ℕ) → c ≤ end → IsFit system a (ports.before_agent a).port c → IsAgentLine responses system run a 0 (ports.before_agent a) c
-      line_at c low fit = let runs = serve a c there low fit in laws.agent responses system run a (ports.before_agent a) runs.state c (plan.agents a there) runs.machine
+      line_at : (c : ℕ) → c ≤ end → IsFit system a (before_agent ports a).port c → IsAgentLine responses system run a 0 (before_agent ports a) c
+      line_at c low fit = let runs = serve a c there low fit in laws.agent responses system run a (before_agent ports a) runs.state c (plan.agents a there) runs.machine
 
   quiet_top : (h a : ℕ) → h < system.hosts → a < system.agents → IsFalse (is_joined system a h) → IsQuiet (ports.after_route h a) end
   quiet_top h a low there none = quiet_apart responses system h (states.room h) (ports.after_host h) (ports.after_route h) (states.route h) end (plan.places h low) (front.route h low) a there none
@@ -122,15 +123,21 @@ module _ (laws : Laws) (responses : Responses) (system : System) (run : Run) (po
 
   row_words : (h a : ℕ) → h < system.hosts → a < system.agents → pieces (ports.after_route h a).shape (ports.before_arbiter h a).shape ≤ pieces (system.host h).shape (system.agent a).shape
   row_words h a low there =
-      let bottom : (ports.before_arbiter h a).shape.word_bytes ≡ (system.agent a).shape.word_bytes = ap (λ s. s.word_bytes) ((front.arbiter a there).shapes h low) ∙ agent_words a there in
+      let bottom : (ports.before_arbiter h a).shape.word_bytes ≡ (system.agent a).shape.word_bytes = ap (λ s. s.word_bytes) ((front.arbiter a there).shapes h low) ∙ pipe_words responses system run ports states end is_plan front a there ∙ agent_words a there in
       let same = ap₂ {C = ℕ} (λ m n. m / min m n) (top_words h a low there) bottom in
       omega (arith, same)
 
+  pipe_of : (a : ℕ) → a < system.agents → IsPipeLine system a (hold_of system.stages) system.stages (ports.lower a system.stages) (before_agent ports a) end
+  pipe_of a there =
+      let own = agent_words a there in
+      let some = (plan.agents a there).word in
+      pipe_line laws.pipes system a end (ports.lower a) (states.stage a) system.stages (λ i low. front.stage a i there low) (omega (arith, own, some))
+
   abbrev inside : Inside
-  inside = record { after_host = ports.after_host; after_route = ports.after_route; before_arbiter = ports.before_arbiter; after_arbiter = ports.before_agent; before_agent = ports.before_agent }
+  inside = record { after_host = ports.after_host; after_route = ports.after_route; before_arbiter = ports.before_arbiter; after_arbiter = λ a. ports.lower a system.stages; before_agent = before_agent ports }
 
   abbrev holds : Holds
-  holds = record { host = 0; route = 0; links = 0; arbiter = 0; pipe = 0; agent = 0 }
+  holds = record { host = 0; route = 0; links = 0; arbiter = 0; pipe = hold_of system.stages; agent = 0 }
 
   wired : Wired responses system run inside holds end
   wired = record {
@@ -138,23 +145,23 @@ module _ (laws : Laws) (responses : Responses) (system : System) (run : Run) (po
     placed = λ h t a low place. (plan.places h low).agents _ _ a place;
     joined = plan.joined;
     words = row_words;
-    few = omega arith;
+    few = (let few = hold_is system.stages in omega (arith, few));
     host = λ h low. laws.host responses system run h (states.room h) (ports.after_host h) (states.host h) end (front.room h low) (one_word h low) (front.host h low);
     route = λ h low. laws.route responses system h (states.room h) (ports.after_host h) (ports.after_route h) (states.route h) end (plan.places h low) (front.route h low);
     links = row_line;
     lanes = row_lanes;
-    arbiter = λ a there. laws.arbiter responses system a (λ h. ports.before_arbiter h a) (ports.before_agent a) (states.grant a) end (plan.joined a) (front.arbiter a there);
-    pipe = λ a there. subst (λ n. IsPipeLine system a 0 n (ports.before_agent a) (ports.before_agent a) end) (sym front.no_stage) (laws.pipe system a (ports.before_agent a) end);
+    arbiter = λ a there. laws.arbiter responses system a (λ h. ports.before_arbiter h a) (ports.lower a system.stages) (states.grant a) end (plan.joined a) (front.arbiter a there);
+    pipe = pipe_of;
     agent = agent_line;
   }
 
-  fits : (a : ℕ) → a < system.agents → IsFit system a (ports.before_agent a).port end
+  fits : (a : ℕ) → a < system.agents → IsFit system a (before_agent ports a).port end
   fits = (laws.settle responses system run inside holds end wired legal).before_agent
 
   -- an agent past those of the system may have any state
   record IsServed (a : ℕ) : Type 0 where
     state : AgentState
-    machine : a < system.agents → IsAgentMachine responses (system.agent a) (run.at_agent a) (ports.before_agent a) state end
+    machine : a < system.agents → IsAgentMachine responses (system.agent a) (run.at_agent a) (before_agent ports a) state end
 
   served : (a : ℕ) → IsServed a
   served a = by_place (nat_lt a system.agents) refl
@@ -176,7 +183,7 @@ module _ (laws : Laws) (responses : Responses) (system : System) (run : Run) (po
         route = front.route;
         arbiter = front.arbiter;
         silent = front.silent;
-        no_stage = front.no_stage;
+        stage = front.stage;
         wires = front.wires;
         lanes = front.lanes;
         idle = front.idle;

@@ -14,3 +14,4 @@ pub mod RowSystem
 pub mod RowRun
 pub mod LinkSystem
 pub mod WiredSystem
+pub mod PipeStages

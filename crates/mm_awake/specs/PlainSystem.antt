@@ -4,7 +4,7 @@ use Rattle.mm_runs.specs.Views.{Responses}
 use Rattle.mm_runs.specs.Commands.{shows}
 use Rattle.mm_machines.specs.Link.{Port}
 use Rattle.mm_parts.specs.SystemRun.{PlainPlan, Outside, Registers, after_host, before_arbiter, before_agent, states_run}
-use Rattle.mm_awake.specs.WiredSystem.{WiredPorts, WiredStates, no_stage}
+use Rattle.mm_awake.specs.WiredSystem.{WiredPorts, no_stage}
 use Rattle.mm_awake.specs.RowSystem.{RowPorts}
 use Rattle.mm_awake.specs.Theorem.{Boundaries, States, LinkRanks}
 
@@ -43,10 +43,5 @@ module _ (responses : Responses) (plan : PlainPlan) (outside : Outside) (registe
     after_host = after_host responses plan outside registers;
     after_route = before_arbiter responses plan outside registers;
     before_arbiter = before_arbiter responses plan outside registers;
-    before_agent = before_agent responses plan outside registers;
+    lower = λ a i. before_agent responses plan outside registers a;
   }
-
-  abbrev pub plain_states : (ℕ → ℕ) → WiredStates
-  plain_states room =
-      let states = states_run responses plan outside registers in
-      record { host = states.host; route = states.route; room = room; grant = states.arbiter; agent = states.agent }

@@ -1,18 +1,18 @@
--- Systems of hosts, routes, arbiters and agents alone: no link stands between a route and an arbiter, and no stage behind an arbiter.
-use Rattle.std.specs.Prelude.{◌≡◌, ℕ, ◌*◌, ◌<◌, ◌≤◌, [], not, ◌||◌, IsTrue, IsFalse}
+-- Systems of hosts, routes, arbiters, stages and agents alone: no link stands between a route and an arbiter.
+use Rattle.std.specs.Prelude.{ℕ, suc, ◌*◌, ◌<◌, ◌≤◌, [], not, ◌||◌, IsTrue, IsFalse}
 use Rattle.mm_runs.specs.Views.{System, Run, Responses}
 use Rattle.mm_runs.specs.Commands.{longest_burst}
 use Rattle.mm_runs.specs.Order.{is_joined}
 use Rattle.mm_machines.specs.Link.{Port}
 use Rattle.mm_machines.specs.Lines.{TaggedPort, IsFit}
 use Rattle.mm_machines.specs.Machines.{Stage}
-use Rattle.mm_machines.specs.Turns.{Grant, seats_of}
+use Rattle.mm_machines.specs.Turns.{seats_of}
 use Rattle.mm_parts.specs.Agent.{AgentState, IsAgentMachine}
 use Rattle.mm_parts.specs.Arbiter.{IsArbiterMachine}
-use Rattle.mm_parts.specs.Host.{HostState, IsHostMachine}
-use Rattle.mm_parts.specs.Route.{RouteState, IsRouteMachine}
+use Rattle.mm_parts.specs.Host.{IsHostMachine}
+use Rattle.mm_parts.specs.Route.{IsRouteMachine}
 use Rattle.mm_parts.specs.Steps.{AreSilentPast}
-use Rattle.mm_awake.specs.Theorem.{States}
+use Rattle.mm_awake.specs.Theorem.{States, IsStageBetween}
 use Rattle.mm_awake.specs.RowSystem.{RowPorts}
 use Rattle.mm_awake.specs.Wires.{IsWire, HandsAllOn}
 
@@ -21,24 +21,23 @@ pub record WiredPorts : Type 0 where
   pub after_host : ℕ → Port
   pub after_route : ℕ → ℕ → Port
   pub before_arbiter : ℕ → ℕ → Port
-  pub before_agent : ℕ → TaggedPort
+  pub lower : ℕ → ℕ → TaggedPort  -- of an agent: 0 is before its part, `stages` behind the arbiter
 
--- the registers of the parts
-pub record WiredStates : Type 0 where
-  pub host : ℕ → HostState
-  pub route : ℕ → RouteState
-  pub room : ℕ → ℕ  -- more words than the reads of a host may owe
-  pub grant : ℕ → ℕ → Grant  -- of an agent in a cycle
-  pub agent : ℕ → AgentState
+abbrev pub before_agent : WiredPorts → ℕ → TaggedPort
+before_agent ports a = ports.lower a 0
+
+-- the registers of the parts, and the stages of the pipes
+abbrev pub WiredStates : Type 0
+WiredStates = States
 
 -- every part above the agents' is its machine, and the route of a host leads by wires to the arbiters
 pub record IsWiredFront (responses : Responses) (system : System) (run : Run) (ports : WiredPorts) (states : WiredStates) (end : ℕ) : Type 0 where
   pub host : (h : ℕ) → h < system.hosts → IsHostMachine responses (system.host h) (run.at_host h) (ports.after_host h) (states.host h) end
   pub room : (h : ℕ) → h < system.hosts → 16 * longest_burst (ports.after_host h).shape.burst_bits < states.room h
   pub route : (h : ℕ) → h < system.hosts → IsRouteMachine responses system h (states.room h) (ports.after_host h) (λ a. ports.after_route h a) (states.route h) end
-  pub arbiter : (a : ℕ) → a < system.agents → IsArbiterMachine (seats_of system a) system.hosts (λ h. ports.before_arbiter h a) (ports.before_agent a) (states.grant a) end
+  pub arbiter : (a : ℕ) → a < system.agents → IsArbiterMachine (seats_of system a) system.hosts (λ h. ports.before_arbiter h a) (ports.lower a system.stages) (states.grant a) end
   pub silent : (a : ℕ) → a < system.agents → AreSilentPast system.hosts (λ h. ports.before_arbiter h a) end
-  pub no_stage : system.stages ≡ 0
+  pub stage : (a i : ℕ) → a < system.agents → i < system.stages → IsStageBetween (states.stage a i) (ports.lower a (suc i)) (ports.lower a i)
   -- bursts may be longer at the agent
   pub wires : (h a : ℕ) → h < system.hosts → a < system.agents → IsTrue (is_joined system a h) → IsWire (ports.after_route h a) (ports.before_arbiter h a)
   pub lanes : (h a : ℕ) → h < system.hosts → a < system.agents → IsTrue (is_joined system a h) → IsTrue ((system.agent a).has_enables || not (system.host h).has_enables)
@@ -48,17 +47,17 @@ pub record IsWiredFront (responses : Responses) (system : System) (run : Run) (p
 -- and so are the parts next to the agents
 pub record IsWiredSystem (responses : Responses) (system : System) (run : Run) (ports : WiredPorts) (states : WiredStates) (end : ℕ) : Type 0 where
   pub front : IsWiredFront responses system run ports states end
-  pub agent : (a : ℕ) → a < system.agents → IsAgentMachine responses (system.agent a) (run.at_agent a) (ports.before_agent a) (states.agent a) end
+  pub agent : (a : ℕ) → a < system.agents → IsAgentMachine responses (system.agent a) (run.at_agent a) (before_agent ports a) (states.agent a) end
 
 -- a run has a state with which the part next to an agent is its machine
 pub record RunsAtAgent (responses : Responses) (system : System) (run : Run) (ports : WiredPorts) (agent end : ℕ) : Type 0 where
   pub state : AgentState
-  pub machine : IsAgentMachine responses (system.agent agent) (run.at_agent agent) (ports.before_agent agent) state end
+  pub machine : IsAgentMachine responses (system.agent agent) (run.at_agent agent) (before_agent ports agent) state end
 
 -- the part next to an agent is its machine for as long as the commands above it can be given to the agent
 abbrev pub ServeWhatFits : Responses → System → Run → WiredPorts → ℕ → Type 0
 ServeWhatFits responses system run ports end =
-    (a c : ℕ) → a < system.agents → c ≤ end → IsFit system a (ports.before_agent a).port c → RunsAtAgent responses system run ports a c
+    (a c : ℕ) → a < system.agents → c ≤ end → IsFit system a (before_agent ports a).port c → RunsAtAgent responses system run ports a c
 
 abbrev pub with_agents : WiredStates → (ℕ → AgentState) → WiredStates
 with_agents states agent = record states { agent = agent }
@@ -71,24 +70,14 @@ rows_of_wires ports = record {
   below_cutter = ports.before_arbiter;
   above_dropper = ports.before_arbiter;
   before_arbiter = ports.before_arbiter;
-  lower = λ a i. ports.before_agent a;
+  lower = ports.lower;
 }
 
--- no stage is there: this one is of no boundary
+-- where no stage is there: this one is of no boundary
 abbrev pub no_stage : Port → Stage
 no_stage port = record {
   depth = 0;
   shape = port.shape;
   sides = record { commands_above = port.commands; answers_above = port.answers; commands_below = port.commands; answers_below = port.answers };
   queue = λ c. [];
-}
-
-abbrev pub states_of_wired : WiredPorts → WiredStates → States
-states_of_wired ports states = record {
-  host = states.host;
-  route = states.route;
-  room = states.room;
-  grant = states.grant;
-  stage = λ a i. no_stage (ports.before_agent a).port;
-  agent = states.agent;
 }

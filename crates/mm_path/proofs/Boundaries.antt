@@ -81,7 +81,7 @@ ports_in plan forest run = record {
   after_host = λ h. below_host (forest.port h) (forest.tree h) run;
   after_route = below_route plan forest run;
   before_arbiter = above_arbiter plan forest run;
-  before_agent = above_agent plan forest run;
+  lower = λ a i. above_agent plan forest run a;
 }
 
 -- whatever seats an arbiter of a lone host has

@@ -30,7 +30,7 @@ use Rattle.mm_route.specs.Machine.{MapsAs, RunsAsRoute}
 use Rattle.mm_host.specs.Forms.{shape_below}
 use Rattle.mm_agent.specs.Agents.{shape_above}
 use Rattle.mm_agent.specs.Forms.{AreFitFor}
-use Rattle.mm_awake.specs.WiredSystem.{WiredPorts, WiredStates, IsWiredFront, ServeWhatFits, with_agents, IsWiredSystem}
+use Rattle.mm_awake.specs.WiredSystem.{WiredPorts, WiredStates, IsWiredFront, ServeWhatFits, before_agent, no_stage, with_agents, IsWiredSystem}
 use Rattle.mm_path.specs.Maps.{IsHostOf, IsAgentOf, RoutesAreMapped}
 use Rattle.mm_path.specs.Trees.{room_bits}
 use Rattle.mm_path.specs.Served.{Forest, IsForest, seen_at_host, seen_at_branch, seen_at_agent, seen_in}
@@ -145,13 +145,13 @@ module _ (plan : PlanTable) (planned : IsMemoryPlan (memory_system plan)) (route
       (λ h low. (let route = route_run h low in (route.state, route.is_machine)))
 
   pub grants_run : (grant : ℕ → ℕ → Grant) × ((a : ℕ) → a < (memory_system plan).agents →
-      IsArbiterMachine (seats_of (memory_system plan) a) (memory_system plan).hosts (λ h. ports.before_arbiter h a) (ports.before_agent a) (grant a) end)
+      IsArbiterMachine (seats_of (memory_system plan) a) (memory_system plan).hosts (λ h. ports.before_arbiter h a) (before_agent ports a) (grant a) end)
   grants_run =
-      choose {X = ℕ → Grant} (λ a grant. IsArbiterMachine (seats_of (memory_system plan) a) (memory_system plan).hosts (λ h. ports.before_arbiter h a) (ports.before_agent a) grant end) (memory_system plan).agents no_grant
+      choose {X = ℕ → Grant} (λ a grant. IsArbiterMachine (seats_of (memory_system plan) a) (memory_system plan).hosts (λ h. ports.before_arbiter h a) (before_agent ports a) grant end) (memory_system plan).agents no_grant
       (λ a low. arbiter plan netlist forest is run a (met a low) longer extends endless end lone)
 
   abbrev pub states : WiredStates
-  states = record { host = hosts_run.0; route = routes_run.0; room = room; grant = grants_run.0; agent = λ a. no_agent_state }
+  states = record { host = hosts_run.0; route = routes_run.0; room = room; grant = grants_run.0; stage = λ a i. no_stage (before_agent ports a).port; agent = λ a. no_agent_state }
 
   lanes_at : (h a : ℕ) → h < (memory_system plan).hosts → a < (memory_system plan).agents → IsTrue (is_joined (memory_system plan) a h) → IsTrue (((memory_system plan).agent a).has_enables || not ((memory_system plan).host h).has_enables)
   lanes_at h a low there joined =
@@ -168,7 +168,7 @@ module _ (plan : PlanTable) (planned : IsMemoryPlan (memory_system plan)) (route
     route = routes_run.1;
     arbiter = grants_run.1;
     silent = λ a there. silent plan netlist forest is run a (met a there) end;
-    no_stage = is.stages;
+    stage = λ a i there few. (let none = is.stages in absurd (omega (arith, few, none)));
     wires = λ h a low there joined. wires plan netlist forest is run a (met a there) h joined;
     lanes = lanes_at;
     idle = λ h a low there apart. idle plan netlist forest is run a (met a there) h low apart (no_entry plan planned routed netlist forest is h a low apart);
