@@ -8,8 +8,7 @@ use Rattle.net_parts.specs.Nets.{IsBit, IsNetOfWidth}
 use Rattle.memory_sides.specs.declared.route.Route.{Route}
 use Rattle.mm_route.specs.Entries.{AreEntries}
 use Rattle.mm_host.specs.Hosts.{AreHostNets}
-use Rattle.mm_agent.specs.Agents.{IsServed}
-use Rattle.mm_path.specs.Trees.{IsEndFor, AreEndsFor}
+use Rattle.mm_path.specs.Trees.{IsServed, IsEndFor, AreEndsFor}
 use Rattle.adapters_tests.specs.Ends.{reader, end_with}
 
 -- a host that reads words of four bytes

@@ -27,7 +27,7 @@ use Rattle.link_rules.specs.Plans.{PlanTable, IsPlan}
 use Rattle.memory_sides.specs.declared.route.Route.{Route}
 use Rattle.memory_plans.specs.Routes.{route_of, routes_of}
 use Rattle.memory_plans.specs.Systems.{known_in, memory_system}
-use Rattle.mm_agent.specs.Agents.{IsServed}
+use Rattle.mm_path.specs.Trees.{IsServed}
 use Rattle.mm_path.specs.Served.{IsAlone}
 use Rattle.port_tables.specs.EndFacts.{IsPlanned, planned, known_is}
 use Rattle.port_tables.specs.Numbering.{mm_kind}

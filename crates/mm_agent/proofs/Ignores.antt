@@ -14,7 +14,7 @@ use Rattle.command_nets.specs.declared.nets.CommandNets.{CommandNets}
 use Rattle.mm_agent.specs.declared.nets.AgentNets.{AgentNets}
 use Rattle.mm_agent.specs.declared.nets.AgentMade.{AgentMade}
 use Rattle.mm_agent.specs.declared.reads.HeldReads.{HeldReads}
-use Rattle.mm_agent.specs.declared.reads.HeldReads.TheVariants.{Never, Counts}
+use Rattle.mm_agent.specs.declared.reads.HeldReads.TheVariants.{Never, Counts, Row}
 use Rattle.command_nets.specs.Ports.{value_or, SameLevel}
 use Rattle.mm_agent.specs.Agents.{shape_above}
 use Rattle.mm_agent.specs.Reads.{owns_reads, AreReadsHeld}
@@ -33,12 +33,15 @@ where_there false shown one other e = tt
 module _ (netlist : Netlist) (port : AgentPort) (one other : Cycle) (v : IsValuation netlist one) (w : IsValuation netlist other) where
   raised_same : (read shown : NetValue) (reads : HeldReads) → AreReadsHeld netlist port read shown reads → ((n : ℕ) → owns_reads reads n → one.net n ≡ other.net n) → one.net read.number ≡ other.net read.number → port.reads ≡ true → is_raised (one.net shown.number) ≡ is_raised (other.net shown.number)
   raised_same read shown Never k state e some = absurd (let none = k.reads in cc)
+  raised_same read shown (Row row) k state e some =
+      (let same : shown ≡ read = k.shows in
+      ap (λ (n : NetValue). is_raised (one.net n.number)) same ∙ ap is_raised e ∙ sym (ap (λ (n : NetValue). is_raised (other.net n.number)) same))
   raised_same read shown (Counts unanswered full) k state e some =
       (let full_same : is_raised (one.net full.number) ≡ is_raised (other.net full.number) = k.is_full one v ∙ ap (λ n. not (nat_lt n (bound_of port))) (state unanswered.number refl) ∙ sym (k.is_full other w) in
       k.shows one v ∙ ap (λ n. is_raised n && not (is_raised (one.net full.number))) e ∙ ap (λ t. is_raised (other.net read.number) && not t) full_same ∙ sym (k.shows other w))
 
-pub ignores : (port : AgentPort) (nets : AgentNets) (netlist : Netlist) (command : CommandNets) (made : AgentMade) → IsBoundedAgent port → IsAgentPart netlist port nets command made → IgnoresAnswer netlist command made
-ignores port nets netlist command made bounded h one other v w state same =
+pub ignores : (several : Bool) (port : AgentPort) (nets : AgentNets) (netlist : Netlist) (command : CommandNets) (made : AgentMade) → IsBoundedAgent port → IsAgentPart netlist several port nets command made → IgnoresAnswer netlist command made
+ignores several port nets netlist command made bounded h one other v w state same =
     let address : one.net command.address.number ≡ other.net command.address.number = ap (λ (r : Raw). r.levels.address) same in
     let read : one.net command.read.number ≡ other.net command.read.number = ap (λ (r : Raw). r.levels.read) same in
     let offset : ℕ → ℕ = λ n. byte_address (shape_above port) n % span_of port in

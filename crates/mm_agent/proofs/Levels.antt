@@ -6,6 +6,7 @@ use Rattle.std.proofs.Math.Pow.{pow_mono, pow-lt}
 use Rattle.std.proofs.lemmas.Nat.{pow-add, pow_pos, div-add-mod'}
 use Rattle.std.proofs.lemmas.Bool.{ltb-true, ltb-false}
 use Rattle.histories.specs.History.{is_raised, one_if}
+use Rattle.net_parts.specs.Growth.{fit_nets}
 use Rattle.command_nets.specs.Levels.{level_is, is_some, one_fits}
 use Rattle.mm_agent.specs.Reads.{IsNextCount}
 
@@ -36,6 +37,13 @@ next_counted w u t v some answers more fewer sum next bit ht hv ha e1 e2 e3 e4 e
     let same = off.1 in
     let whole : next ≡ (u + t) - answers = e6 ∙ ap (λ k. (k + (2 ^ w - fewer)) % 2 ^ w) sum_is ∙ ap (λ k. ((u + t) + (2 ^ w - k)) % 2 ^ w) fewer_is ∙ less_by (u + t) answers (2 ^ w) (omega (arith, within)) (omega (arith, few, taken)) in
     omega (arith, whole, within, same, taken)
+
+few_by : (t : Bool) → (if t then 0 else 2) ≤ 2
+few_by true = omega arith
+few_by false = omega arith
+
+pub fit_few : (bits wanted : ℕ) → fit_nets bits wanted ≤ 2
+fit_few bits wanted = few_by (bits == wanted)
 
 -- as many as the bound
 pub full_bit : (n bound f : ℕ) → 1 ≤ bound → f ≡ (if nat_lt (bound - 1) n then 1 else 0) → is_raised f ≡ not (nat_lt n bound)

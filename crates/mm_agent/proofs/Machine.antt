@@ -1,28 +1,37 @@
 -- The nets of an agent run as its machine.
-use Rattle.std.proofs.Common.{◌≡◌, ℕ, zero, suc, ◌+◌, ◌-◌, ◌*◌, ◌^◌, ◌<◌, ◌≤◌, Bool, true, false, not, ◌&&◌, ◌||◌, nat_eq, nat_lt, if◌then◌else◌, List, [], length, Option, Some, None, refl, sym, ap, ◌∙◌, arith}
-use Rattle.std.specs.Prelude.{IsFalse}
+use Rattle.std.proofs.Common.{◌≡◌, ℕ, zero, suc, ◌+◌, ◌-◌, ◌*◌, ◌^◌, ◌<◌, ◌≤◌, Bool, true, false, not, ◌&&◌, ◌||◌, nat_eq, nat_lt, if◌then◌else◌, List, [], length, min, Option, Some, None, refl, sym, ap, ◌∙◌, arith}
+use Rattle.std.specs.Prelude.{IsFalse, MatchOption}
 use Rattle.std.proofs.lemmas.Bool.{ltb-true}
 use Rattle.std.proofs.lemmas.Nat.{pow_pos}
 use Rattle.histories.specs.History.{is_raised, one_if}
 use Rattle.iface_roles.specs.declared.records.AgentPort.{AgentPort}
 use Rattle.netlist.specs.Nets.{NetValue}
 use Rattle.netlist.specs.Netlists.{Netlist}
-use Rattle.netlist.specs.Runs.{Cycle, Run, cycle_of, IsEndlessRun, IsValuation}
+use Rattle.netlist.specs.Runs.{Cycle, Run, cycle_of, IsEndlessRun, IsValuation, Always}
 use Rattle.net_parts.specs.Laws.{bit_fits, net_fits}
+use Rattle.net_parts.specs.Histories.{earlier}
+use Rattle.net_parts.specs.HistoryLaw.{history_bits}
 use Rattle.mm_runs.specs.Views.Responses.{AreZero}
-use Rattle.mm_runs.specs.Commands.{wait_time}
+use Rattle.mm_runs.specs.Commands.{shows, stood_before}
+use Rattle.mm_machines.specs.Link.{Port}
 use Rattle.mm_parts.specs.Queue.{Entry, QueuesReads, takes_read, head_tag}
-use Rattle.mm_parts.specs.Agent.{AgentState, ShowsToAgent, GivesQueued, GivesFixed, IsAgentMachine}
+use Rattle.mm_parts.specs.Agent.{AgentState, ShowsToAgent, GivesQueued, GivesFixed, IsAgentMachine, row_places}
 use Rattle.memory_sides.specs.Sides.{agent_side, bound_of, burst_width}
 use Rattle.command_nets.specs.declared.nets.CommandNets.{CommandNets}
 use Rattle.mm_agent.specs.declared.nets.AgentNets.{AgentNets}
 use Rattle.mm_agent.specs.declared.nets.AgentMade.{AgentMade}
 use Rattle.mm_agent.specs.declared.reads.HeldReads.{HeldReads}
-use Rattle.mm_agent.specs.declared.reads.HeldReads.TheVariants.{Never, Counts}
+use Rattle.mm_agent.specs.declared.reads.HeldReads.TheVariants.{Never, Counts, Row}
+use Rattle.mm_agent.specs.declared.waits.HeldWait.{HeldWait}
+use Rattle.mm_agent.specs.declared.waits.HeldWait.TheVariants.{Given, Soon, Counts as Stands}
 use Rattle.command_nets.specs.Ports.{HasNet, value_or, all_ones}
-use Rattle.mm_agent.specs.Agents.{bursts, agent_view}
+use Rattle.mm_agent.specs.Agents.{bursts, BearsOneTag, GivesAnswer, agent_signals, agent_view}
 use Rattle.mm_agent.specs.Reads.{AreReadsHeld, ReadsGoOn}
+use Rattle.mm_agent.specs.Answers.{AreAnswersGiven, IsAnswerTag}
+use Rattle.mm_agent.specs.Waits.{wait_by, shows_beat, IsWaitHeld, WaitGoesOn}
 use Rattle.mm_agent.specs.Forms.{IsAgentPart, AreFitFor, port_above, tagged_above}
+use Rattle.mm_agent.proofs.Waiting.{eq_capped, stood_capped, still_none, soon_accepted}
+use Rattle.mm_agent.proofs.Rows.{row_at, row_filled, row_tagged, row_late}
 use Rattle.mm_agent.proofs.Queues.{one_word, words_of, words_count, words_tag, words_next}
 
 -- ---- bits
@@ -53,6 +62,13 @@ read_taken false true true false = refl
 read_taken false true false true = refl
 read_taken false true false false = refl
 read_taken false false full busy = refl
+
+plain_taken : (read write busy : Bool) → (((read || write) && not busy) && read) ≡ (read && not busy)
+plain_taken true write true = refl
+plain_taken true write false = refl
+plain_taken false true true = refl
+plain_taken false true false = refl
+plain_taken false false busy = refl
 
 and_second : (a b : Bool) → (a && b) ≡ true → b ≡ true
 and_second true b e = e
@@ -110,36 +126,46 @@ where_not false x y e = refl
 all_lanes : (bytes : ℕ) → 2 ^ bytes - 1 + 1 ≡ 2 ^ bytes
 all_lanes bytes = let some = pow_pos bytes in omega (arith, some)
 
-reads_none : (reads valid : Bool) → (reads ≡ true → valid ≡ true) → valid ≡ false → reads ≡ false
-reads_none true valid h e = (let f = h refl in cc)
-reads_none false valid h e = refl
-
-either_zero : (t : Bool) (x y : ℕ) → x ≡ 0 → y ≡ 0 → (if t then x else y) ≡ 0
-either_zero true x y e f = e
-either_zero false x y e f = f
-
--- without waitrequest and wait states an agent is never busy
-busy_by : (there : Bool) (signal wait : ℕ) → (there ≡ false → signal ≡ 0) → (there ≡ false → wait ≡ 0) → is_raised signal ≡ (if there then is_raised signal else not (nat_eq 0 wait))
-busy_by true signal wait e f = refl
-busy_by false signal wait e f = ap is_raised (e refl) ∙ ap (λ n. not (nat_eq 0 n)) (sym (f refl))
-
-never_stands : (shown : Bool) (wait : ℕ) → wait ≡ 0 → 0 ≡ (if shown && not (nat_eq 0 wait) then 0 + 1 else 0)
-never_stands true wait e = ap (λ n. if not (nat_eq 0 n) then 0 + 1 else 0) (sym e)
-never_stands false wait e = refl
+where_there : (there : Bool) (shown : NetValue) (cycle : Cycle) → value_or 0 (if there then Some shown else None) cycle ≡ (if there then cycle.net shown.number else 0)
+where_there true shown cycle = refl
+where_there false shown cycle = refl
 
 -- ---- the state
 
 abbrev pub queue_of : HeldReads → ℕ → Run → ℕ → List Entry
 queue_of Never tag run c = []
 queue_of (Counts unanswered full) tag run c = words_of tag (run.net c unanswered.number)
+queue_of (Row row) tag run c = []
 
-abbrev pub state_of : AgentMade → ℕ → Run → AgentState
-state_of made tag run = record { queue = queue_of made.reads tag run; row = λ c place. None; stood = λ c. 0 }
+abbrev pub row_of : HeldReads → Port → ℕ → ℕ → Option ℕ
+row_of Never up c place = None
+row_of (Counts unanswered full) up c place = None
+row_of (Row row) up c place = row_at up c place
+
+abbrev pub state_by : HeldReads → AgentPort → AgentNets → CommandNets → AgentMade → ℕ → Run → AgentState
+state_by reads port nets command made tag run =
+    record { queue = queue_of reads tag run; row = row_of reads (port_above port command made run); stood = stood_before (agent_side port) (agent_view port nets command made run) }
+
+abbrev pub state_of : AgentPort → AgentNets → CommandNets → AgentMade → ℕ → Run → AgentState
+state_of port nets command made tag run = state_by made.reads port nets command made tag run
 
 abbrev full_of : AgentPort → HeldReads → ℕ → Run → ℕ → Bool
 full_of port reads tag run c = port.readdatavalid && not (nat_lt (length (queue_of reads tag run c)) (bound_of port))
 
-module _ (port : AgentPort) (nets : AgentNets) (command : CommandNets) (made : AgentMade) (netlist : Netlist) (h : IsAgentPart netlist port nets command made) (run : Run) (endless : IsEndlessRun netlist run) where
+-- the tag of all commands, where it is one
+abbrev pub tag_of : (several : Bool) (netlist : Netlist) (command : CommandNets) → (several ≡ false → BearsOneTag netlist command) → ℕ
+tag_of true netlist command one = 0
+tag_of false netlist command one = (one refl).tag
+
+bears : (several : Bool) (netlist : Netlist) (command : CommandNets) (one : several ≡ false → BearsOneTag netlist command) → several ≡ false → Always netlist (λ cycle. cycle.net command.tag.number ≡ tag_of several netlist command one)
+bears true netlist command one e = cc
+bears false netlist command one e = (one refl).always
+
+never_true : (t : Bool) → (t ≡ true → ⊥) → t ≡ false
+never_true true h = absurd (h refl)
+never_true false h = refl
+
+module _ (several : Bool) (port : AgentPort) (nets : AgentNets) (command : CommandNets) (made : AgentMade) (netlist : Netlist) (h : IsAgentPart netlist several port nets command made) (run : Run) (endless : IsEndlessRun netlist run) where
   val : (c : ℕ) → IsValuation netlist (cycle_of run c)
   val c = (endless (c + 1)).valuations c (omega arith)
 
@@ -147,7 +173,7 @@ module _ (port : AgentPort) (nets : AgentNets) (command : CommandNets) (made : A
   next_cycle c = omega arith
 
   abbrev pub tag : ℕ
-  tag = h.one_tag.tag
+  tag = tag_of several netlist command h.one_tag
 
   abbrev R : ℕ → Bool
   R c = is_raised (run.net c command.read.number)
@@ -164,6 +190,10 @@ module _ (port : AgentPort) (nets : AgentNets) (command : CommandNets) (made : A
   abbrev V : ℕ → Bool
   V c = is_raised (run.net c made.answer.valid.number)
 
+  -- reads of several hosts aren't counted
+  one_host : (unanswered full : NetValue) → AreReadsHeld netlist port command.read h.shown (Counts unanswered full) → several ≡ false
+  one_host unanswered full k = never_true several (λ e. (let fixed = h.served.fixed e k.reads in let queued = k.kind in cc))
+
   full_is : (unanswered full : NetValue) → AreReadsHeld netlist port command.read h.shown (Counts unanswered full) → (c : ℕ) → is_raised (run.net c full.number) ≡ full_of port (Counts unanswered full) tag run c
   full_is unanswered full k c =
       k.is_full (cycle_of run c) (val c) ∙ ap (λ n. not (nat_lt n (bound_of port))) (sym (words_count tag (run.net c unanswered.number)))
@@ -174,23 +204,66 @@ module _ (port : AgentPort) (nets : AgentNets) (command : CommandNets) (made : A
   read_is (Counts unanswered full) k some c =
       gated (full_of port (Counts unanswered full) tag run c) _ _ (bit_fits netlist h.shown h.shown_bit (cycle_of run c) (val c)) (bit_fits netlist command.read h.read_bit (cycle_of run c) (val c))
       (k.shows (cycle_of run c) (val c) ∙ ap (λ t. R c && not t) (full_is unanswered full k c))
+  read_is (Row row) k some c = ap (λ (n : NetValue). run.net c n.number) k.shows ∙ sym (ap (λ t. if t && not (nat_lt 0 (bound_of port)) then 0 else run.net c command.read.number) k.kind)
 
   told_is : (reads : HeldReads) → AreReadsHeld netlist port command.read h.shown reads → ReadsGoOn netlist command.read h.shown h.busy made.answer.valid made.waitrequest reads → (c : ℕ) →
       is_raised (run.net c made.waitrequest.number) ≡ ((full_of port reads tag run c && R c) || N c)
   told_is Never k l c =
       ap (λ (n : NetValue). is_raised (run.net c n.number)) l ∙ sym (ap (λ t. ((t && not (nat_lt 0 (bound_of port))) && R c) || N c) k.kind)
   told_is (Counts unanswered full) k l c = l.tells (cycle_of run c) (val c) ∙ ap (λ t. (t && R c) || N c) (full_is unanswered full k c)
+  told_is (Row row) k l c = ap (λ (n : NetValue). is_raised (run.net c n.number)) l.tells ∙ sym (ap (λ t. ((t && not (nat_lt 0 (bound_of port))) && R c) || N c) k.kind)
 
-  busy_is : (c : ℕ) → N c ≡ is_raised (value_or 0 nets.waitrequest (cycle_of run c))
-  busy_is c = ap is_raised (h.waits (cycle_of run c) (val c))
+  -- for how many cycles the beat has stood
+  abbrev stood : ℕ → ℕ
+  stood c = stood_before (agent_side port) (agent_view port nets command made run) c
 
-  valid_is : (c : ℕ) → V c ≡ is_raised (value_or 0 nets.readdatavalid (cycle_of run c))
-  valid_is c = ap is_raised ((h.answer (cycle_of run c) (val c)).valid)
+  abbrev shown_beat : ℕ → Bool
+  shown_beat c = shows_beat port (run.net c h.shown.number) (run.net c command.write.number)
 
-  queue_on : (reads : HeldReads) → AreReadsHeld netlist port command.read h.shown reads → ReadsGoOn netlist command.read h.shown h.busy made.answer.valid made.waitrequest reads → port.readdatavalid ≡ true → (end : ℕ) →
+  abbrev wait_at : ℕ → ℕ
+  wait_at c = wait_by port (run.net c command.write.number)
+
+  beat_is : (c : ℕ) → shows (agent_signals port command made run) c ≡ shown_beat c
+  beat_is c = ap (λ n. is_raised n || is_raised (if port.writes then run.net c command.write.number else 0)) (ap (λ (o : Option NetValue). value_or 0 o (cycle_of run c)) h.read ∙ where_there port.reads h.shown (cycle_of run c))
+
+  stood_on : (c : ℕ) → stood (suc c) ≡ (if shown_beat c && not (nat_eq (stood c) (wait_at c)) then stood c + 1 else 0)
+  stood_on c = ap (λ t. if t && not (nat_eq (stood c) (wait_at c)) then stood c + 1 else 0) (beat_is c)
+
+  busy_is : (held : HeldWait) → IsWaitHeld netlist port nets.waitrequest command.write h.busy held → WaitGoesOn netlist port h.shown command.write h.busy held → (c : ℕ) → N c ≡ (if port.waitrequest then is_raised (value_or 0 nets.waitrequest (cycle_of run c)) else not (nat_eq (stood c) (wait_at c)))
+  busy_is Given k l c = sym (where_it_reads port.waitrequest _ _ k.waits ∙ ap (λ (o : Option NetValue). is_raised (value_or 0 o (cycle_of run c))) k.is)
+  busy_is Soon k l c =
+      k.is_busy (cycle_of run c) (val c)
+      ∙ ap (λ n. not (nat_eq n (wait_at c))) (sym (still_none wait_at shown_beat stood refl (λ d. soon_accepted port.reads port.writes port.read_wait port.write_wait (run.net d h.shown.number) (run.net d command.write.number) k.soon) stood_on c))
+      ∙ sym (where_not port.waitrequest _ _ k.waits)
+  busy_is (Stands register) k l c =
+      k.is_busy (cycle_of run c) (val c)
+      ∙ ap (λ n. not (nat_eq n (wait_at c))) counted
+      ∙ ap not (eq_capped (stood c) (wait_at c) top (few c))
+      ∙ sym (where_not port.waitrequest _ _ k.waits)
+    where
+      top : ℕ
+      top = 2 ^ register.width - 1
+
+      few : (d : ℕ) → wait_at d < top
+      few d = (let some = k.fits (run.net d command.write.number) in omega (arith, some))
+
+      moves : (d : ℕ) → run.net (suc d) register.number ≡ (if shown_beat d && not (nat_eq (run.net d register.number) (wait_at d)) then min (run.net d register.number + 1) top else 0)
+      moves d =
+          ap (λ n. run.net n register.number) (sym (next_cycle d))
+          ∙ l.next run (d + 2) (endless (d + 2)) d (omega arith)
+          ∙ ap (λ t. if shown_beat d && t then min (run.net d register.number + 1) top else 0) (k.is_busy (cycle_of run d) (val d))
+
+      counted : run.net c register.number ≡ min (stood c) top
+      counted = stood_capped wait_at shown_beat (λ d. run.net d register.number) stood top few (k.starts run 1 (endless 1) (omega arith)) refl moves stood_on c
+
+  valid_is : Always netlist (GivesAnswer nets made.answer) → (c : ℕ) → V c ≡ is_raised (value_or 0 nets.readdatavalid (cycle_of run c))
+  valid_is gives c = ap is_raised ((gives (cycle_of run c) (val c)).valid)
+
+  queue_on : (reads : HeldReads) → AreReadsHeld netlist port command.read h.shown reads → ReadsGoOn netlist command.read h.shown h.busy made.answer.valid made.waitrequest reads → AreAnswersGiven netlist port nets made.answer reads → port.readdatavalid ≡ true → (end : ℕ) →
       AreFitFor port (port_above port command made run) end → QueuesReads (port_above port command made run) (λ c. value_or 0 nets.readdatavalid (cycle_of run c)) (queue_of reads tag run) end
-  queue_on Never k l some end fit = absurd (let none = k.kind in cc)
-  queue_on (Counts unanswered full) k l some end fit = record {
+  queue_on (Row row) k l g some end fit = absurd (let none = k.kind in cc)
+  queue_on Never k l g some end fit = absurd (let none = k.kind in cc)
+  queue_on (Counts unanswered full) k l g some end fit = record {
     begins = ap (words_of tag) (k.starts run 1 (endless 1) (omega arith));
     next = λ c lt.
         (let cycle : Cycle = cycle_of run c in
@@ -200,9 +273,9 @@ module _ (port : AgentPort) (nets : AgentNets) (command : CommandNets) (made : A
         let takes : takes_read (port_above port command made run) c ≡ (D c && not (N c)) =
         ap (λ t. ((R c || W c) && not t) && R c) (l.tells cycle v) ∙ read_taken (R c) (W c) (is_raised (run.net c full.number)) (N c) ∙ ap (λ t. t && not (N c)) (sym shows) in
         words_next tag (run.net c unanswered.number) (run.net (suc c) unanswered.number) (is_raised (value_or 0 nets.readdatavalid cycle)) (D c && not (N c)) _ _ takes
-        (λ taken. entries (h.one_tag.always cycle v) (fit.one_word no_burst c (omega arith) taken))
+        (λ taken. entries (bears several netlist command h.one_tag (one_host unanswered full k) cycle v) (fit.one_word no_burst c (omega arith) taken))
         (ap (λ n. run.net n unanswered.number) (sym (next_cycle c)) ∙ l.next run (c + 2) (endless (c + 2)) c (omega arith) few
-        ∙ ap (λ t. (run.net c unanswered.number - one_if t) + one_if (D c && not (N c))) (valid_is c)));
+        ∙ ap (λ t. (run.net c unanswered.number - one_if t) + one_if (D c && not (N c))) (valid_is g c)));
   } where
     entries : {t count : ℕ} → t ≡ tag → count ≡ 1 → ◌≡◌ {A = Entry} (record { tag = t; left = count }) (one_word tag)
     entries {t} {count} e f = ap (λ n. record { tag = n; left = count }) e ∙ ap (λ n. record { tag = tag; left = n }) f
@@ -212,6 +285,7 @@ module _ (port : AgentPort) (nets : AgentNets) (command : CommandNets) (made : A
 
   tag_is : (reads : HeldReads) → (c : ℕ) → run.net c made.answer_tag.number ≡ tag → 0 < length (queue_of reads tag run c) → run.net c made.answer_tag.number ≡ head_tag (queue_of reads tag run c)
   tag_is Never c e some = absurd (omega arith)
+  tag_is (Row row) c e some = absurd (omega arith)
   tag_is (Counts unanswered full) c e some = e ∙ words_tag tag (run.net c unanswered.number) some
 
   shown_is : port.reads ≡ true → (c : ℕ) → value_or 0 made.read (cycle_of run c) ≡ run.net c h.shown.number
@@ -220,10 +294,7 @@ module _ (port : AgentPort) (nets : AgentNets) (command : CommandNets) (made : A
   unread : port.reads ≡ false → (c : ℕ) → value_or 0 made.read (cycle_of run c) ≡ 0
   unread none c = ap (λ (o : Option NetValue). value_or 0 o (cycle_of run c)) (h.read ∙ where_not port.reads (Some h.shown) None none)
 
-  no_wait : port.waitrequest ≡ false → (c : ℕ) → wait_time (agent_side port) (agent_view port nets command made run) c ≡ 0
-  no_wait none c = let soon = h.served.waits none in either_zero (is_raised (if port.writes then run.net c command.write.number else 0)) port.write_wait port.read_wait soon.write soon.read
-
-  shows_to_agent : (end : ℕ) → AreFitFor port (port_above port command made run) end → ShowsToAgent (agent_side port) (agent_view port nets command made run) (tagged_above port command made run) (state_of made tag run) end
+  shows_to_agent : (end : ℕ) → AreFitFor port (port_above port command made run) end → ShowsToAgent (agent_side port) (agent_view port nets command made run) (tagged_above port command made run) (state_of port nets command made tag run) end
   shows_to_agent end fit = record {
     words = refl;
     bursts = refl;
@@ -241,42 +312,75 @@ module _ (port : AgentPort) (nets : AgentNets) (command : CommandNets) (made : A
     grant = λ c lt. refl;
     wait = λ c lt.
         told_is made.reads h.held h.on c
-        ∙ ap (λ t. (full_of port made.reads tag run c && R c) || t) (busy_is c ∙ busy_by port.waitrequest _ _ (λ none. absent netlist port.waitrequest 1 nets.waitrequest none h.nets_are.waitrequest (cycle_of run c)) (λ none. no_wait none c));
+        ∙ ap (λ t. (full_of port made.reads tag run c && R c) || t) (busy_is made.wait h.wait_held h.wait_on c);
     stood_first = refl;
-    stood_next = λ c lt none. never_stands _ _ (no_wait none c);
-    queues = λ some. queue_on made.reads h.held h.on some end fit;
+    stood_next = λ c lt none. refl;
+    queues = λ some. queue_on made.reads h.held h.on h.answers some end fit;
   }
 
-  gives_queued : (end : ℕ) → GivesQueued AreZero (agent_view port nets command made run) (tagged_above port command made run) (state_of made tag run) end
-  gives_queued end = record {
-    valid = λ c lt. valid_is c;
-    word = λ c lt. (h.answer (cycle_of run c) (val c)).word;
-    code = λ c lt. (h.answer (cycle_of run c) (val c)).code;
-    tag = λ c lt some. tag_is made.reads c (ap (λ (n : NetValue). run.net c n.number) h.tag ∙ h.one_tag.always (cycle_of run c) (val c)) some;
+  -- the tag of an answer
+  one_tag : several ≡ false → (c : ℕ) → run.net c made.answer_tag.number ≡ tag
+  one_tag one c = ap (λ (n : NetValue). run.net c n.number) (h.tag one) ∙ bears several netlist command h.one_tag one (cycle_of run c) (val c)
+
+  abbrev last : ℕ
+  last = row_places (agent_side port) - 1
+
+  tag_in_row : (t : Bool) (row : NetValue) → several ≡ t → IsAnswerTag netlist t port command.tag (Row row) made.answer_tag → (c : ℕ) → MatchOption (row_at (port_above port command made run) c last) (Unit {0}) (λ x. run.net c made.answer_tag.number ≡ x)
+  tag_in_row false row is made_so c = row_tagged (port_above port command made run) tag (run.net c made.answer_tag.number) (λ d. bears several netlist command h.one_tag is (cycle_of run d) (val d)) (one_tag is c) c last
+  tag_in_row true row is made_so c =
+      (let places : row_places (agent_side port) ≡ suc last = omega arith in
+      row_late (port_above port command made run) (run.net c made.answer_tag.number) c last (made_so.value run (c + 1) (endless (c + 1)) c (omega arith) ∙ ap (λ n. earlier (λ d. run.net d command.tag.number) n c) places))
+
+  gives_queued : (reads : HeldReads) → AreReadsHeld netlist port command.read h.shown reads → AreAnswersGiven netlist port nets made.answer reads → (end : ℕ) → port.readdatavalid ≡ true →
+      GivesQueued AreZero (agent_view port nets command made run) (tagged_above port command made run) (state_by reads port nets command made tag run) end
+  gives_queued Never k g end queued = absurd (let none = k.kind in cc)
+  gives_queued (Row row) k g end queued = absurd (let none = k.kind in cc)
+  gives_queued (Counts unanswered full) k g end queued = record {
+    valid = λ c lt. valid_is g c;
+    word = λ c lt. (g (cycle_of run c) (val c)).word;
+    code = λ c lt. (g (cycle_of run c) (val c)).code;
+    tag = λ c lt some. tag_is (Counts unanswered full) c (one_tag (one_host unanswered full k) c) some;
   }
 
+  gives_fixed : (reads : HeldReads) → AreReadsHeld netlist port command.read h.shown reads → ReadsGoOn netlist command.read h.shown h.busy made.answer.valid made.waitrequest reads → AreAnswersGiven netlist port nets made.answer reads → IsAnswerTag netlist several port command.tag reads made.answer_tag → (end : ℕ) →
+      AreFitFor port (port_above port command made run) end → port.readdatavalid ≡ false → GivesFixed AreZero (agent_side port) (agent_view port nets command made run) (tagged_above port command made run) (state_by reads port nets command made tag run) end
+  gives_fixed (Counts unanswered full) k l g a end fit unqueued = absurd (let some = k.kind in cc)
   -- an agent that can't read answers nothing
-  gives_none : (end : ℕ) → AreFitFor port (port_above port command made run) end → port.readdatavalid ≡ false → GivesFixed AreZero (agent_side port) (agent_view port nets command made run) (tagged_above port command made run) (state_of made tag run) end
-  gives_none end fit unqueued = record {
+  gives_fixed Never k l g a end fit unqueued = record {
     empty = λ i. refl;
-    first = λ c lt. sym (where_not (takes_read (port_above port command made run) c) _ _ (and_false _ (R c) (not_served (R c) port.reads _ (fit.kinds c (omega arith)) none)));
+    first = λ c lt. sym (where_not (takes_read (port_above port command made run) c) _ _ (and_false _ (R c) (not_served (R c) port.reads _ (fit.kinds c (omega arith)) k.reads)));
     next = λ c i lt. refl;
-    valid = λ c lt. valid_is c ∙ ap is_raised (absent netlist port.readdatavalid 1 nets.readdatavalid unqueued h.nets_are.readdatavalid (cycle_of run c));
+    valid = λ c lt. valid_is g c ∙ ap is_raised (absent netlist port.readdatavalid 1 nets.readdatavalid unqueued h.nets_are.readdatavalid (cycle_of run c));
     tag = λ c lt. tt;
-    word = λ c lt late. (h.answer (cycle_of run c) (val c)).word;
-    code = λ c lt late. (h.answer (cycle_of run c) (val c)).code;
-    word_late = λ c lt soon. (h.answer (cycle_of run (suc c)) (val (suc c))).word ∙ no_word (suc c) ∙ sym (no_word c);
-    code_late = λ c lt soon. (h.answer (cycle_of run (suc c)) (val (suc c))).code;
+    word = λ c lt late. (g (cycle_of run c) (val c)).word;
+    code = λ c lt late. (g (cycle_of run c) (val c)).code;
+    word_late = λ c lt soon. (g (cycle_of run (suc c)) (val (suc c))).word ∙ no_word (suc c) ∙ sym (no_word c);
+    code_late = λ c lt soon. (g (cycle_of run (suc c)) (val (suc c))).code;
   } where
-    none : port.reads ≡ false
-    none = reads_none port.reads port.readdatavalid h.served.valid unqueued
-
     no_word : (c : ℕ) → value_or 0 nets.readdata (cycle_of run c) ≡ 0
-    no_word c = absent netlist port.reads (port.word_bytes * 8) nets.readdata none h.nets_are.readdata (cycle_of run c)
+    no_word c = absent netlist port.reads (port.word_bytes * 8) nets.readdata k.reads h.nets_are.readdata (cycle_of run c)
+  gives_fixed (Row row) k l g a end fit unqueued = record {
+    empty = λ i. refl;
+    first = λ c lt. refl;
+    next = λ c i lt. refl;
+    valid = λ c lt.
+        ap is_raised (g.valid (cycle_of run c) (val c) ∙ history_bits netlist row l.taken run endless k.starts l.takes c last (let width = k.net.has_width in omega (arith, width)))
+        ∙ row_filled (port_above port command made run) (λ d. run.net d l.taken.number) taken c last;
+    tag = λ c lt. tag_in_row several row refl a c;
+    word = λ c lt late. g.word.soon late (cycle_of run c) (val c);
+    code = λ c lt late. g.code (cycle_of run c) (val c);
+    word_late = λ c lt soon. ap (λ n. run.net n made.answer.word.number) (sym (next_cycle c)) ∙ g.word.late soon run (c + 2) (endless (c + 2)) c (omega arith);
+    code_late = λ c lt soon. g.code (cycle_of run (suc c)) (val (suc c));
+  } where
+    taken : (d : ℕ) → is_raised (run.net d l.taken.number) ≡ takes_read (port_above port command made run) d
+    taken d =
+        l.is_taken (cycle_of run d) (val d)
+        ∙ ap (λ (n : NetValue). is_raised (run.net d n.number) && not (N d)) k.shows
+        ∙ sym (ap (λ (n : NetValue). ((R d || W d) && not (is_raised (run.net d n.number))) && R d) l.tells ∙ plain_taken (R d) (W d) (N d))
 
-  pub machine : (end : ℕ) → AreFitFor port (port_above port command made run) end → IsAgentMachine AreZero (agent_side port) (agent_view port nets command made run) (tagged_above port command made run) (state_of made tag run) end
+  pub machine : (end : ℕ) → AreFitFor port (port_above port command made run) end → IsAgentMachine AreZero (agent_side port) (agent_view port nets command made run) (tagged_above port command made run) (state_of port nets command made tag run) end
   machine end fit = record {
     commands = shows_to_agent end fit;
-    queued = λ some. gives_queued end;
-    fixed = gives_none end fit;
+    queued = gives_queued made.reads h.held h.answers end;
+    fixed = gives_fixed made.reads h.held h.on h.answers h.answer_tag end fit;
   }

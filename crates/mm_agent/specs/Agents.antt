@@ -28,11 +28,10 @@ pub record AcceptsAtOnce (port : AgentPort) : Type 0 where
   pub read : port.read_wait ≡ 0
   pub write : port.write_wait ≡ 0
 
--- the agents that are served
-pub record IsServed (port : AgentPort) : Type 0 where
-  pub waits : port.waitrequest ≡ false → AcceptsAtOnce port
-  pub valid : port.reads ≡ true → port.readdatavalid ≡ true
+-- the agents that are served: without bursts, and where commands of several tags come, without readdatavalid
+pub record IsServed (several : Bool) (port : AgentPort) : Type 0 where
   pub no_burst : port.burst_bits ≡ 0
+  pub fixed : several ≡ true → port.reads ≡ true → port.readdatavalid ≡ false
 
 -- what an agent gives
 pub record AreAgentNets (netlist : Netlist) (port : AgentPort) (nets : AgentNets) : Type 0 where

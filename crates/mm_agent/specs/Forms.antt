@@ -1,5 +1,5 @@
 -- The part next to an agent: what its call leaves in a netlist, and that it runs as the machine of an agent.
-use Rattle.std.specs.Prelude.{◌≡◌, ℕ, ◌<◌, IsTrue, IsFalse}
+use Rattle.std.specs.Prelude.{◌≡◌, ℕ, ◌+◌, ◌<◌, Bool, true, false, ◌⊎◌, IsTrue, IsFalse}
 use Rattle.iface_roles.specs.declared.records.AgentPort.{AgentPort}
 use Rattle.netlist.specs.Nets.{NetValue}
 use Rattle.netlist.specs.Netlists.{Netlist}
@@ -18,25 +18,41 @@ use Rattle.command_nets.specs.Nets.{port_in, ShowSame}
 use Rattle.command_nets.specs.Ports.{value_or, SameLevel}
 use Rattle.mm_agent.specs.declared.nets.AgentNets.{AgentNets}
 use Rattle.mm_agent.specs.declared.nets.AgentMade.{AgentMade}
-use Rattle.mm_agent.specs.Agents.{AreAgentNets, agent_lasts, IsServed, BearsOneTag, PlacesAddress, GivesAnswer, read_of, shape_above, bursts, agent_view}
+use Rattle.mm_agent.specs.Agents.{AreAgentNets, agent_lasts, AcceptsAtOnce, IsServed, BearsOneTag, PlacesAddress, GivesAnswer, read_of, shape_above, bursts, agent_view}
 use Rattle.mm_agent.specs.Reads.{owns_reads, AreReadsHeld, ReadsGoOn, reads_last, reads_go_on}
+use Rattle.mm_agent.specs.Answers.{tag_nets, AreAnswersGiven, IsAnswerTag, answers_last, answer_tag_lasts}
+use Rattle.mm_agent.specs.Waits.{owns_wait, IsWaitHeld, WaitGoesOn, wait_lasts, wait_goes_on}
 
--- the nets of the part: its bound on reads by `shown`, and its wait by `busy`, the agent's waitrequest, or low where it has none
-pub record IsAgentPart (netlist : Netlist) (port : AgentPort) (nets : AgentNets) (command : CommandNets) (made : AgentMade) : Type 0 where
-  pub served : IsServed port
+-- the most nets that a part takes
+abbrev pub agent_nets : Bool → ℕ
+agent_nets several = 39 + tag_nets several
+
+-- the numbers of its registers
+abbrev pub owns : AgentMade → ℕ → Type 0
+owns made n = owns_reads made.reads n ⊎ owns_wait made.wait n
+
+-- the nets of the part: its bound on reads by `shown`, and its wait by `busy`
+pub record IsAgentPart (netlist : Netlist) (several : Bool) (port : AgentPort) (nets : AgentNets) (command : CommandNets) (made : AgentMade) : Type 0 where
+  pub served : IsServed several port
   pub nets_are : AreAgentNets netlist port nets
   pub shown : NetValue
   pub shown_bit : IsBit netlist shown
   pub read_bit : IsBit netlist command.read
   pub read : made.read ≡ read_of port shown
   pub busy : NetValue
-  pub waits : Always netlist (λ cycle. cycle.net busy.number ≡ value_or 0 nets.waitrequest cycle)
+  -- the agent's waitrequest, or low where it has none and accepts at once
+  pub waits : (port.waitrequest ≡ false → AcceptsAtOnce port) → Always netlist (λ cycle. cycle.net busy.number ≡ value_or 0 nets.waitrequest cycle)
+  pub wait_held : IsWaitHeld netlist port nets.waitrequest command.write busy made.wait
+  pub wait_on : WaitGoesOn netlist port shown command.write busy made.wait
   pub address : Always netlist (λ cycle. PlacesAddress port (cycle.net command.address.number) (value_or 0 made.address cycle))
-  pub answer : Always netlist (GivesAnswer nets made.answer)
+  -- with readdatavalid, or where it can't read, words go on in their cycle
+  pub answer : (port.reads ≡ true → port.readdatavalid ≡ true) → Always netlist (GivesAnswer nets made.answer)
+  pub answers : AreAnswersGiven netlist port nets made.answer made.reads
   pub held : AreReadsHeld netlist port command.read shown made.reads
   pub on : ReadsGoOn netlist command.read shown busy made.answer.valid made.waitrequest made.reads
-  pub one_tag : BearsOneTag netlist command
-  pub tag : made.answer_tag ≡ command.tag
+  pub one_tag : several ≡ false → BearsOneTag netlist command
+  pub tag : several ≡ false → made.answer_tag ≡ command.tag
+  pub answer_tag : IsAnswerTag netlist several port command.tag made.reads made.answer_tag
 
 -- the agent is shown the same in both cycles; all else that it is shown is of the command
 pub record ShowSameTo (made : AgentMade) (one other : Cycle) : Type 0 where
@@ -76,8 +92,8 @@ RunsAsAgent netlist port nets command made =
 
 -- ---- what stands lasts. No contract reads a proof of it; the laws of an agent cite it
 
-pub part_lasts : (old new : Netlist) (port : AgentPort) (nets : AgentNets) (command : CommandNets) (made : AgentMade) → IsAgentPart old port nets command made → Extends old new → IsAgentPart new port nets command made
-part_lasts old new port nets command made h e = record {
+pub part_lasts : (old new : Netlist) (several : Bool) (port : AgentPort) (nets : AgentNets) (command : CommandNets) (made : AgentMade) → IsAgentPart old several port nets command made → Extends old new → IsAgentPart new several port nets command made
+part_lasts old new several port nets command made h e = record {
   served = h.served;
   nets_are = agent_lasts old new port nets h.nets_are e;
   shown = h.shown;
@@ -85,11 +101,15 @@ part_lasts old new port nets command made h e = record {
   read_bit = net_lasts old new command.read 1 e h.read_bit;
   read = h.read;
   busy = h.busy;
-  waits = λ cycle v. h.waits cycle (e.valuations cycle v);
+  waits = λ served cycle v. h.waits served cycle (e.valuations cycle v);
+  wait_held = wait_lasts old new port nets.waitrequest command.write h.busy made.wait h.wait_held e;
+  wait_on = wait_goes_on old new port h.shown command.write h.busy made.wait h.wait_on e;
   address = λ cycle v. h.address cycle (e.valuations cycle v);
-  answer = λ cycle v. h.answer cycle (e.valuations cycle v);
+  answer = λ served cycle v. h.answer served cycle (e.valuations cycle v);
+  answers = answers_last old new port nets made.answer made.reads h.answers e;
   held = reads_last old new port command.read h.shown made.reads h.held e;
   on = reads_go_on old new command.read h.shown h.busy made.answer.valid made.waitrequest made.reads h.on e;
-  one_tag = record { tag = h.one_tag.tag; always = λ cycle v. h.one_tag.always cycle (e.valuations cycle v) };
+  one_tag = λ one. (let bears = h.one_tag one in record { tag = bears.tag; always = λ cycle v. bears.always cycle (e.valuations cycle v) });
   tag = h.tag;
+  answer_tag = answer_tag_lasts old new several port command.tag made.reads made.answer_tag h.answer_tag e;
 }

@@ -1,3 +1,5 @@
 pub mod Agents
 pub mod Reads
+pub mod Waits
+pub mod Answers
 pub mod Forms

@@ -6,12 +6,14 @@ use Rattle.netlist.specs.Nets.{NetValue}
 use Rattle.netlist.specs.Netlists.{Netlist, IsNet}
 use Rattle.netlist.specs.Runs.{Cycle, Run, cycle_of, IsRun, Always}
 use Rattle.netlist.specs.Longer.{Extends}
-use Rattle.net_parts.specs.Nets.{IsBit, StartsLow}
+use Rattle.net_parts.specs.Nets.{IsBit, IsNetOfWidth, StartsLow}
+use Rattle.net_parts.specs.Histories.{TakesBit, takes_lasts}
 use Rattle.net_parts.specs.Laws.{net_lasts}
-use Rattle.memory_sides.specs.Sides.{bound_of}
+use Rattle.mm_parts.specs.Agent.{row_places}
+use Rattle.memory_sides.specs.Sides.{agent_side, bound_of}
 use Rattle.command_nets.specs.Ports.{ShowsUnless}
 use Rattle.mm_agent.specs.declared.reads.HeldReads.{HeldReads}
-use Rattle.mm_agent.specs.declared.reads.HeldReads.TheVariants.{Never, Counts}
+use Rattle.mm_agent.specs.declared.reads.HeldReads.TheVariants.{Never, Counts, Row}
 
 -- ---- what is shown
 
@@ -19,6 +21,7 @@ use Rattle.mm_agent.specs.declared.reads.HeldReads.TheVariants.{Never, Counts}
 abbrev pub owns_reads : HeldReads → ℕ → Type 0
 owns_reads Never n = ⊥
 owns_reads (Counts unanswered full) n = n ≡ unanswered.number
+owns_reads (Row row) n = n ≡ row.number
 
 -- the agent can't read
 pub record ReadsNever (port : AgentPort) : Type 0 where
@@ -36,9 +39,24 @@ pub record ReadsCount (netlist : Netlist) (port : AgentPort) (read shown unanswe
   pub is_full : Always netlist (λ cycle. is_raised (cycle.net full.number) ≡ not (nat_lt (cycle.net unanswered.number) (bound_of port)))
   pub shows : ShowsUnless netlist full read shown
 
+-- with fixed latency: a register has a bit for each cycle between a read and its word
+pub record ReadsRow (netlist : Netlist) (port : AgentPort) (read shown row : NetValue) : Type 0 where
+  pub reads : port.reads ≡ true
+  pub kind : port.readdatavalid ≡ false
+  pub net : IsNetOfWidth netlist row (row_places (agent_side port))
+  pub starts : StartsLow netlist row
+  pub shows : shown ≡ read
+
 abbrev pub AreReadsHeld : Netlist → AgentPort → NetValue → NetValue → HeldReads → Type 0
 AreReadsHeld netlist port read shown Never = ReadsNever port
 AreReadsHeld netlist port read shown (Counts unanswered full) = ReadsCount netlist port read shown unanswered full
+AreReadsHeld netlist port read shown (Row row) = ReadsRow netlist port read shown row
+
+-- the register of a row is a net of this netlist
+abbrev pub IsRowThere : Netlist → AgentPort → HeldReads → Type 0
+IsRowThere netlist port Never = Unit {0}
+IsRowThere netlist port (Counts unanswered full) = Unit {0}
+IsRowThere netlist port (Row row) = IsNetOfWidth netlist row (row_places (agent_side port))
 
 -- ---- what is told above, and how the registers go on
 
@@ -56,9 +74,17 @@ pub record CountsOn (netlist : Netlist) (read shown unanswered full busy valid t
   pub next : (run : Run) (cycles : ℕ) → IsRun netlist run cycles → (c : ℕ) → c + 1 < cycles → run.net c unanswered.number + one_if (takes_in (cycle_of run c) shown busy) < 2 ^ unanswered.width
       → run.net (c + 1) unanswered.number ≡ (run.net c unanswered.number - one_if (is_raised (run.net c valid.number))) + one_if (takes_in (cycle_of run c) shown busy)
 
+-- each read that is taken goes along the row, and a beat waits while the agent is busy
+pub record RowGoesOn (netlist : Netlist) (shown row busy told : NetValue) : Type 0 where
+  pub tells : told ≡ busy
+  pub taken : NetValue
+  pub is_taken : Always netlist (λ cycle. is_raised (cycle.net taken.number) ≡ takes_in cycle shown busy)
+  pub takes : TakesBit netlist row taken
+
 abbrev pub ReadsGoOn : Netlist → NetValue → NetValue → NetValue → NetValue → NetValue → HeldReads → Type 0
 ReadsGoOn netlist read shown busy valid told Never = told ≡ busy
 ReadsGoOn netlist read shown busy valid told (Counts unanswered full) = CountsOn netlist read shown unanswered full busy valid told
+ReadsGoOn netlist read shown busy valid told (Row row) = RowGoesOn netlist shown row busy told
 
 -- ---- what stands lasts. No contract reads these proofs; the laws of the agent cite them
 
@@ -74,7 +100,14 @@ reads_last old new port read shown (Counts unanswered full) h e = record {
   is_full = λ cycle v. h.is_full cycle (e.valuations cycle v);
   shows = λ cycle v. h.shows cycle (e.valuations cycle v);
 }
+reads_last old new port read shown (Row row) h e = record { reads = h.reads; kind = h.kind; net = net_lasts old new row (row_places (agent_side port)) e h.net; starts = λ run cycles r. h.starts run cycles (e.runs run cycles r); shows = h.shows }
+
+pub row_is_there : (netlist : Netlist) (port : AgentPort) (read shown : NetValue) (held : HeldReads) → AreReadsHeld netlist port read shown held → IsRowThere netlist port held
+row_is_there netlist port read shown Never h = tt
+row_is_there netlist port read shown (Counts unanswered full) h = tt
+row_is_there netlist port read shown (Row row) h = h.net
 
 pub reads_go_on : (old new : Netlist) (read shown busy valid told : NetValue) (held : HeldReads) → ReadsGoOn old read shown busy valid told held → Extends old new → ReadsGoOn new read shown busy valid told held
 reads_go_on old new read shown busy valid told Never h e = h
 reads_go_on old new read shown busy valid told (Counts unanswered full) h e = record { tells = λ cycle v. h.tells cycle (e.valuations cycle v); next = λ run cycles r. h.next run cycles (e.runs run cycles r) }
+reads_go_on old new read shown busy valid told (Row row) h e = record { tells = h.tells; taken = h.taken; is_taken = λ cycle v. h.is_taken cycle (e.valuations cycle v); takes = takes_lasts old new row h.taken e h.takes }

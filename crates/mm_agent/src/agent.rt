@@ -1,20 +1,18 @@
 //! The part next to an agent: what the agent is shown, and what stands above.
 
-ghost use Rattle.std.specs.Prelude.{◌≡◌, ℕ, ◌+◌, ◌*◌, ◌^◌, ◌<◌, ◌≤◌, length, IfOk, IfSome, OnOk};
+ghost use Rattle.std.specs.Prelude.{◌≡◌, ℕ, false, ◌+◌, ◌^◌, ◌<◌, ◌≤◌, length, IfOk, OnOk};
 ghost use Rattle.iface_roles.specs.Proper.{IsBoundedAgent, span_of};
-ghost use Rattle.netlist.specs.Runs.{Always};
-ghost use Rattle.net_parts.specs.Nets.{IsBit, IsRegister};
-ghost use Rattle.net_parts.specs.Growth.{GrowsBy, AddsNets, StillWait};
+ghost use Rattle.net_parts.specs.Nets.{IsRegister};
+ghost use Rattle.net_parts.specs.Growth.{GrowsBy, StillWait};
 ghost use Rattle.command_nets.specs.Nets.{AreCommandNets};
-ghost use Rattle.command_nets.specs.Ports.{value_or};
 ghost use Rattle.mm_agent.specs.Agents.{AreAgentNets, IsServed, BearsOneTag, AreMadeNets, read_of};
-ghost use Rattle.mm_agent.specs.Reads.{owns_reads};
-ghost use Rattle.mm_agent.specs.Forms.{IsAgentPart, IgnoresAnswer, RunsAsAgent};
+ghost use Rattle.mm_agent.specs.Forms.{agent_nets, owns, IsAgentPart, IgnoresAnswer, RunsAsAgent};
 
-use crate::answers::give_answer;
-use crate::fields::{given_or_low, place_address};
+use crate::answers::{answer_tag, give_answer};
+use crate::fields::place_address;
 use crate::nets::{AgentMade, AgentNets};
 use crate::reads::{finish_reads, hold_reads};
+use crate::waits::{finish_wait, hold_wait};
 use command_nets::CommandNets;
 use iface_roles::AgentPort;
 use netlist::{Builder, Net, NetFault};
@@ -26,21 +24,9 @@ fn read_of(port: &AgentPort, shown: Net) -> Option<Net>
     if port.reads { Some(shown) } else { None }
 }
 
-/// High while the agent doesn't accept what it is shown.
-#[tactic(auto, using(net_parts::specs::Laws::growing))]
-fn busy_of(builder: &mut Builder, nets: &AgentNets) -> Result<Net, NetFault>
-    requires nets { IfSome nets.now.waitrequest (λ wait. IsBit builder.old wait) }
-    ensures net { IfOk result (λ busy. IsBit builder.new busy) }
-    ensures value { IfOk result (λ busy. Always builder.new (λ cycle. cycle.net busy.number ≡ value_or 0 nets.now.waitrequest cycle)) }
-    ensures adds { AddsNets 1 builder.old builder.new }
-    ensures full { result ≡ Err NetFault.TooManyNets → 2 ^ 20 < length builder.old.lines + 1 }
-{
-    given_or_low(builder, nets.waitrequest, 1)
-}
-
 /// Makes what an agent is shown of a command in bytes, and the wait and the answers above, from the nets at its ports.
 ///
-/// The agent has `waitrequest` or no wait states, no bursts, and `readdatavalid` where it reads; all commands bear one tag.
+/// The agent has no bursts. Where commands of several hosts come, it has no readdatavalid either; else all commands bear one tag.
 /// After an error the builder is to be dropped: a register may stand in it that waits.
 #[tactic(auto, using(net_parts::specs::Laws::growing))]
 pub fn emit_agent(
@@ -48,37 +34,43 @@ pub fn emit_agent(
     port: &AgentPort,
     nets: &AgentNets,
     command: &CommandNets,
+    several: bool,
 ) -> Result<AgentMade, NetFault>
     requires port { IsBoundedAgent port.now }
-    requires served { IsServed port.now }
+    requires served { IsServed several port.now }
     requires nets { AreAgentNets builder.old port.now nets.now }
     requires command { AreCommandNets builder.old command.now }
     requires reaches { span_of port.now ≤ 2 ^ command.now.address.width }
-    requires tag { BearsOneTag builder.old command.now }
+    requires tag { several ≡ false → BearsOneTag builder.old command.now }
     ensures nets { IfOk result (λ made. AreMadeNets builder.new port.now command.now made) }
-    ensures part { IfOk result (λ made. IsAgentPart builder.new port.now nets.now command.now made) }
-    ensures registers { IfOk result (λ made. (n : ℕ) → owns_reads made.reads n → IsRegister builder.new n) }
+    ensures part { IfOk result (λ made. IsAgentPart builder.new several port.now nets.now command.now made) }
+    ensures one_tag { IfOk result (λ made. several ≡ false → made.answer_tag ≡ command.now.tag) }
+    ensures registers { IfOk result (λ made. (n : ℕ) → owns made n → IsRegister builder.new n) }
     ensures ignores { IfOk result (λ made. IgnoresAnswer builder.new command.now made) }
     ensures machine { IfOk result (λ made. RunsAsAgent builder.new port.now nets.now command.now made) }
-    ensures grows { GrowsBy 24 builder.old builder.new }
+    ensures grows { GrowsBy (agent_nets several) builder.old builder.new }
     ensures waits { StillWait builder.old builder.new }
     ensures no_more_wait { OnOk result (StillWait builder.new builder.old) }
 
     // Memory may run out at any net.
-    ensures full { result ≡ Err NetFault.TooManyNets → 2 ^ 20 < length builder.old.lines + 24 }
+    ensures full { result ≡ Err NetFault.TooManyNets → 2 ^ 20 < length builder.old.lines + agent_nets several }
 {
     let address = place_address(builder, port, command.address)?;
-    let answer = give_answer(builder, port, nets)?;
-    let busy = busy_of(builder, nets)?;
+    let told = hold_wait(builder, port, nets.waitrequest, command.write)?;
     let shown = hold_reads(builder, port, command.read)?;
+    let answer = give_answer(builder, port, nets, &shown.held)?;
     builder.well_made();
+    let busy = told.busy;
     let waitrequest = finish_reads(builder, port, command.read, &shown, busy, answer.valid)?;
+    finish_wait(builder, port, shown.shown, command.write, &told)?;
+    let answer_tag = answer_tag(builder, port, several, command.tag, &shown.held)?;
     Ok(AgentMade {
         address,
         read: read_of(port, shown.shown),
         waitrequest,
         answer,
-        answer_tag: command.tag,
+        answer_tag,
         reads: shown.held,
+        wait: told.held,
     })
 }

@@ -1,22 +1,31 @@
 //! The words that an agent gives.
 
-ghost use Rattle.std.specs.Prelude.{◌≡◌, ◌+◌, ◌*◌, ◌^◌, ◌<◌, length, IfOk};
+ghost use Rattle.std.specs.Prelude.{◌≡◌, true, false, ◌+◌, ◌*◌, ◌^◌, ◌<◌, ◌≤◌, length, IfOk, OnOk};
 ghost use Rattle.iface_roles.specs.Proper.{IsBoundedAgent};
+ghost use Rattle.netlist.specs.Netlists.{IsNet};
 ghost use Rattle.netlist.specs.Runs.{Always};
-ghost use Rattle.net_parts.specs.Growth.{AddsNets};
+ghost use Rattle.net_parts.specs.Nets.{IsNetOfWidth};
+ghost use Rattle.net_parts.specs.Growth.{GrowsBy, AddsNets, StillWait};
+ghost use Rattle.mm_parts.specs.Agent.{row_places};
+ghost use Rattle.memory_sides.specs.Sides.{agent_side};
+ghost use Rattle.command_nets.specs.Groups.{IsDelayed};
 ghost use Rattle.command_nets.specs.Nets.{AreAnswerNets};
+ghost use Rattle.command_nets.specs.Ports.{HasNet};
 ghost use Rattle.mm_agent.specs.Agents.{AreAgentNets, GivesAnswer};
+ghost use Rattle.mm_agent.specs.Answers.{tag_nets, GivesRowWord, GivesRow, AreAnswersGiven, IsEarlier, IsAnswerTag};
+ghost use Rattle.mm_agent.specs.Reads.{IsRowThere};
 
 use crate::fields::given_or_low;
 use crate::nets::AgentNets;
-use command_nets::{AnswerNets, word_bits};
+use crate::reads::{HeldReads, places_of};
+use command_nets::{AnswerNets, take_next, word_bits};
 use iface_roles::AgentPort;
-use net_parts::constant;
-use netlist::{Builder, NetFault};
+use net_parts::{bit_before, constant, low_register};
+use netlist::{Builder, Net, NetFault};
 
 /// Hands on each word in its cycle. The response is always 0.
 #[tactic(auto, using(net_parts::specs::Laws::growing))]
-pub(crate) fn give_answer(
+fn give_words(
     builder: &mut Builder,
     port: &AgentPort,
     nets: &AgentNets,
@@ -32,4 +41,131 @@ pub(crate) fn give_answer(
     let word = given_or_low(builder, nets.readdata, word_bits(port.word_bytes))?;
     let code = constant(builder, 2, 0)?;
     Ok(AnswerNets { valid, word, code })
+}
+
+/// A register that shows in each cycle what a net showed in the one before.
+#[tactic(auto, using(net_parts::specs::Laws::growing))]
+fn delay(builder: &mut Builder, from: Net) -> Result<Net, NetFault>
+    requires { IsNet builder.old from }
+    ensures net { IfOk result (λ late. IsNetOfWidth builder.new late from.width) }
+    ensures value { IfOk result (IsDelayed builder.new from) }
+    ensures grows { GrowsBy 1 builder.old builder.new }
+    ensures still_wait { StillWait builder.old builder.new }
+    ensures no_more_wait { OnOk result (StillWait builder.new builder.old) }
+    ensures full { result ≡ Err NetFault.TooManyNets → 2 ^ 20 < length builder.old.lines + 1 }
+{
+    let late = low_register(builder, from)?;
+    take_next(builder, late, from);
+    Ok(late)
+}
+
+/// A net that shows in each cycle what a net showed so many cycles before.
+#[tactic(auto, using(net_parts::specs::Laws::growing))]
+fn delay_for(builder: &mut Builder, from: Net, count: u8) -> Result<Net, NetFault>
+    requires { IsNet builder.old from }
+    ensures net { IfOk result (λ late. IsNetOfWidth builder.new late from.width) }
+    ensures value { IfOk result (λ late. IsEarlier builder.new from late count) }
+    ensures grows { GrowsBy count builder.old builder.new }
+    ensures still_wait { StillWait builder.old builder.new }
+    ensures no_more_wait { OnOk result (StillWait builder.new builder.old) }
+    ensures full { result ≡ Err NetFault.TooManyNets → 2 ^ 20 < length builder.old.lines + count }
+{
+    if count == 0 {
+        return Ok(from);
+    }
+    let late = delay_for(builder, from, count - 1)?;
+    delay(builder, late)
+}
+
+/// The tag of each answer: where commands bear several tags, the one that went along the row.
+pub(crate) fn answer_tag(
+    builder: &mut Builder,
+    port: &AgentPort,
+    several: bool,
+    tag: Net,
+    held: &HeldReads,
+) -> Result<Net, NetFault>
+    requires port { IsBoundedAgent port.now }
+    requires tag { IsNet builder.old tag }
+    ensures net { IfOk result (λ made. IsNetOfWidth builder.new made tag.width) }
+    ensures value { IfOk result (IsAnswerTag builder.new several port.now tag held.now) }
+    ensures grows { GrowsBy (tag_nets several) builder.old builder.new }
+    ensures still_wait { StillWait builder.old builder.new }
+    ensures no_more_wait { OnOk result (StillWait builder.new builder.old) }
+    ensures full { result ≡ Err NetFault.TooManyNets → 2 ^ 20 < length builder.old.lines + tag_nets several }
+{
+    if !several {
+        return Ok(tag);
+    }
+    match held {
+        HeldReads::Never | HeldReads::Counts { .. } => Ok(tag),
+        HeldReads::Row { .. } => delay_for(builder, tag, places_of(port)),
+    }
+}
+
+/// The word of a row, at latency 0 a cycle after it came.
+#[tactic(auto, using(net_parts::specs::Laws::growing))]
+fn row_word(builder: &mut Builder, port: &AgentPort, readdata: Option<Net>) -> Result<Net, NetFault>
+    requires port { IsBoundedAgent port.now }
+    requires readdata { HasNet builder.old port.now.reads (port.now.word_bytes * 8) readdata }
+    ensures net { IfOk result (λ word. IsNetOfWidth builder.new word (port.now.word_bytes * 8)) }
+    ensures value { IfOk result (GivesRowWord builder.new port.now readdata) }
+    ensures grows { GrowsBy 2 builder.old builder.new }
+    ensures still_wait { StillWait builder.old builder.new }
+    ensures no_more_wait { OnOk result (StillWait builder.new builder.old) }
+    ensures full { result ≡ Err NetFault.TooManyNets → 2 ^ 20 < length builder.old.lines + 2 }
+{
+    let word = given_or_low(builder, readdata, word_bits(port.word_bytes))?;
+    if port.read_latency == 0 {
+        delay(builder, word)
+    } else {
+        Ok(word)
+    }
+}
+
+/// Answers each read whose bit is at the end of the row.
+#[tactic(auto, using(net_parts::specs::Laws::growing))]
+fn give_row(
+    builder: &mut Builder,
+    port: &AgentPort,
+    nets: &AgentNets,
+    row: Net,
+) -> Result<AnswerNets, NetFault>
+    requires port { IsBoundedAgent port.now }
+    requires nets { AreAgentNets builder.old port.now nets.now }
+    requires row { IsNetOfWidth builder.old row (row_places (agent_side port.now)) }
+    ensures nets { IfOk result (λ made. AreAnswerNets builder.new made (port.now.word_bytes * 8)) }
+    ensures value { IfOk result (λ made. GivesRow builder.new port.now nets.now made row) }
+    ensures grows { GrowsBy 4 builder.old builder.new }
+    ensures still_wait { StillWait builder.old builder.new }
+    ensures no_more_wait { OnOk result (StillWait builder.new builder.old) }
+    ensures full { result ≡ Err NetFault.TooManyNets → 2 ^ 20 < length builder.old.lines + 4 }
+{
+    let valid = bit_before(builder, row, places_of(port))?;
+    let code = constant(builder, 2, 0)?;
+    let word = row_word(builder, port, nets.readdata)?;
+    Ok(AnswerNets { valid, word, code })
+}
+
+/// Answers the reads, by the agent's readdatavalid or at its fixed latency.
+pub(crate) fn give_answer(
+    builder: &mut Builder,
+    port: &AgentPort,
+    nets: &AgentNets,
+    held: &HeldReads,
+) -> Result<AnswerNets, NetFault>
+    requires port { IsBoundedAgent port.now }
+    requires nets { AreAgentNets builder.old port.now nets.now }
+    requires row { IsRowThere builder.old port.now held.now }
+    ensures nets { IfOk result (λ made. AreAnswerNets builder.new made (port.now.word_bytes * 8)) }
+    ensures value { IfOk result (λ made. AreAnswersGiven builder.new port.now nets.now made held.now) }
+    ensures grows { GrowsBy 4 builder.old builder.new }
+    ensures still_wait { StillWait builder.old builder.new }
+    ensures no_more_wait { OnOk result (StillWait builder.new builder.old) }
+    ensures full { result ≡ Err NetFault.TooManyNets → 2 ^ 20 < length builder.old.lines + 4 }
+{
+    match held {
+        HeldReads::Never | HeldReads::Counts { .. } => give_words(builder, port, nets),
+        HeldReads::Row { row } => give_row(builder, port, nets, *row),
+    }
 }

@@ -1,4 +1,4 @@
-//! The equations of the part next to a memory-mapped agent: its address, its bound on unanswered reads, and the tag of each answer.
+//! The equations of the part next to a memory-mapped agent: its address, its wait, its bound on unanswered reads, and the tag of each answer.
 #![tactic(auto)]
 
 mod agent;
@@ -6,7 +6,9 @@ mod answers;
 mod fields;
 mod nets;
 mod reads;
+mod waits;
 
 pub use agent::emit_agent;
 pub use nets::{AgentMade, AgentNets};
 pub use reads::HeldReads;
+pub use waits::HeldWait;

@@ -7,13 +7,13 @@ ghost use Rattle.netlist.specs.Netlists.{IsNet, IsWaiting};
 ghost use Rattle.netlist.specs.Runs.{Always};
 ghost use Rattle.net_parts.specs.Nets.{IsBit, IsNetOfWidth};
 ghost use Rattle.net_parts.specs.Growth.{GrowsBy, AddsNets, StillWait, WaitsBeside, WaitsWithout, AreMadeBetween};
-ghost use Rattle.memory_sides.specs.Sides.{bound_of};
-ghost use Rattle.mm_agent.specs.Agents.{IsServed};
-ghost use Rattle.mm_agent.specs.Reads.{owns_reads, AreReadsHeld, CountsOn, ReadsGoOn, IsNextCount};
+ghost use Rattle.mm_parts.specs.Agent.{row_places};
+ghost use Rattle.memory_sides.specs.Sides.{agent_side, bound_of};
+ghost use Rattle.mm_agent.specs.Reads.{owns_reads, AreReadsHeld, CountsOn, RowGoesOn, ReadsGoOn, IsNextCount};
 
 use command_nets::{both, either, register, take_next, unless};
 use iface_roles::AgentPort;
-use net_parts::{fit_bits, is_above};
+use net_parts::{fit_bits, is_above, set_history};
 use netlist::{Builder, Net, NetFault};
 
 /// What bounds the reads of an agent.
@@ -23,6 +23,8 @@ pub enum HeldReads {
     Never,
     /// A register that counts the reads that aren't answered, and whether they are as many as the agent bears.
     Counts { unanswered: Net, full: Net },
+    /// A register with a bit for each cycle between a read and its word.
+    Row { row: Net },
 }
 
 /// The read that the agent is shown, and what bounds it.
@@ -98,6 +100,41 @@ fn hold_count(builder: &mut Builder, port: &AgentPort, read: Net) -> Result<Show
     Ok(ShownRead { shown, held })
 }
 
+/// How many cycles after its acceptance a read's word goes up, at fixed latency.
+pub(crate) fn places_of(port: &AgentPort) -> u8
+    requires { IsBoundedAgent port.now }
+    ensures places { result ≡ row_places (agent_side port.now) }
+    ensures some { 1 ≤ result }
+    ensures few { result ≤ 63 }
+{
+    if port.read_latency == 0 {
+        1
+    } else {
+        port.read_latency
+    }
+}
+
+/// Shows each read, with a row of bits from it to its word.
+#[tactic(auto, using(net_parts::specs::Laws::growing))]
+fn hold_row(builder: &mut Builder, port: &AgentPort, read: Net) -> Result<ShownRead, NetFault>
+    requires port { IsBoundedAgent port.now }
+    requires reads { port.now.reads ≡ true }
+    requires kind { port.now.readdatavalid ≡ false }
+    requires read { IsBit builder.old read }
+    ensures shown { IfOk result (λ made. IsBit builder.new made.shown) }
+    ensures held { IfOk result (λ made. AreReadsHeld builder.new port.now read made.shown made.held) }
+    ensures owned { IfOk result (λ made. AreMadeBetween (owns_reads made.held) builder.old builder.new) }
+    ensures grows { GrowsBy 1 builder.old builder.new }
+    ensures still_wait { StillWait builder.old builder.new }
+    ensures own_wait { IfOk result (λ made. (n : ℕ) → owns_reads made.held n → IsWaiting builder.new n) }
+    ensures newly { IfOk result (λ made. WaitsBeside (owns_reads made.held) builder.old builder.new) }
+    ensures full { result ≡ Err NetFault.TooManyNets → 2 ^ 20 < length builder.old.lines + 1 }
+{
+    let row = register(builder, places_of(port))?;
+    let held = HeldReads::Row { row };
+    Ok(ShownRead { shown: read, held })
+}
+
 /// Shows the reads, so far as the registers let them.
 pub(crate) fn hold_reads(
     builder: &mut Builder,
@@ -105,7 +142,6 @@ pub(crate) fn hold_reads(
     read: Net,
 ) -> Result<ShownRead, NetFault>
     requires port { IsBoundedAgent port.now }
-    requires served { IsServed port.now }
     requires read { IsBit builder.old read }
     ensures shown { IfOk result (λ made. IsBit builder.new made.shown) }
     ensures held { IfOk result (λ made. AreReadsHeld builder.new port.now read made.shown made.held) }
@@ -116,11 +152,13 @@ pub(crate) fn hold_reads(
     ensures newly { IfOk result (λ made. WaitsBeside (owns_reads made.held) builder.old builder.new) }
     ensures full { result ≡ Err NetFault.TooManyNets → 2 ^ 20 < length builder.old.lines + 5 }
 {
-    if port.reads {
-        hold_count(builder, port, read)
-    } else {
+    if !port.reads {
         let held = HeldReads::Never;
         Ok(ShownRead { shown: read, held })
+    } else if port.readdatavalid {
+        hold_count(builder, port, read)
+    } else {
+        hold_row(builder, port, read)
     }
 }
 
@@ -182,6 +220,25 @@ fn finish_count(
     Ok(told)
 }
 
+/// Lets each read that is taken go along the row.
+#[tactic(auto, using(net_parts::specs::Laws::growing))]
+fn finish_row(builder: &mut Builder, shown: Net, row: Net, busy: Net) -> Result<Net, NetFault>
+    requires shown { IsBit builder.old shown }
+    requires row { IsNet builder.old row }
+    requires busy { IsBit builder.old busy }
+    requires waits { IsWaiting builder.old row.number }
+    ensures told { IfOk result (λ told. IsBit builder.new told) }
+    ensures on { IfOk result (RowGoesOn builder.new shown row busy) }
+    ensures grows { GrowsBy 4 builder.old builder.new }
+    ensures waits { (n : ℕ) → ¬ (n ≡ row.number) → IsWaiting builder.old n → IsWaiting builder.new n }
+    ensures no_more_wait { OnOk result (WaitsWithout (λ n. n ≡ row.number) builder.old builder.new) }
+    ensures full { result ≡ Err NetFault.TooManyNets → 2 ^ 20 < length builder.old.lines + 4 }
+{
+    let taken = unless(builder, shown, busy)?;
+    set_history(builder, row, taken)?;
+    Ok(busy)
+}
+
 /// Sets what bounds the reads, and makes the waitrequest for the part above. The agent doesn't accept what it is shown while `busy` is high.
 pub(crate) fn finish_reads(
     builder: &mut Builder,
@@ -209,5 +266,6 @@ pub(crate) fn finish_reads(
         HeldReads::Counts { unanswered, full } => {
             finish_count(builder, read, shown.shown, unanswered, full, busy, valid)
         }
+        HeldReads::Row { row } => finish_row(builder, shown.shown, row, busy),
     }
 }

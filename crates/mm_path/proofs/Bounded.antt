@@ -1,5 +1,5 @@
 -- The only agent of a host bounds its reads: a host behind a wire to an agent that bears few has few unanswered, in each run.
-use Rattle.std.proofs.Common.{◌≡◌, ℕ, ◌<◌, ◌≤◌, Bool, true, not, ◌&&◌, ◌||◌, nat_lt, nat_eq, List, [], ◌∷◌, map, sym, subst, ap, ◌∙◌, arith}
+use Rattle.std.proofs.Common.{◌≡◌, ℕ, ◌<◌, ◌≤◌, Bool, true, false, not, ◌&&◌, ◌||◌, nat_lt, nat_eq, List, [], ◌∷◌, map, sym, subst, ap, ◌∙◌, arith}
 use Rattle.std.proofs.lemmas.Bool.{ltb-true, and_parts}
 use Rattle.histories.specs.History.{is_raised}
 use Rattle.iface_roles.specs.declared.records.AgentPort.{AgentPort}
@@ -26,7 +26,7 @@ use Rattle.mm_host.specs.Hosts.{reads_words}
 use Rattle.mm_host.specs.Reads.{is_unbounded, unanswered_in}
 use Rattle.mm_host.specs.Forms.{RunsAsHost, RunsAsHostWhile}
 use Rattle.mm_agent.specs.declared.reads.HeldReads.{HeldReads}
-use Rattle.mm_agent.specs.declared.reads.HeldReads.TheVariants.{Never, Counts}
+use Rattle.mm_agent.specs.declared.reads.HeldReads.TheVariants.{Never, Counts, Row}
 use Rattle.mm_agent.specs.Reads.{AreReadsHeld, ReadsGoOn}
 use Rattle.mm_agent.specs.Forms.{IsAgentPart, part_lasts}
 use Rattle.mm_path.specs.declared.tree.AgentEnd.{AgentEnd}
@@ -42,12 +42,13 @@ counted : (netlist : Netlist) (port : AgentPort) (read shown busy came told owin
     EachStep netlist (λ cycle next. is_raised (next.net owing.number) ≡ (is_raised (cycle.net owing.number) || (is_raised (cycle.net read.number) && not (is_raised (cycle.net told.number))))) →
     (run : Run) → IsEndlessRun netlist run → (c : ℕ) → unanswered_in run read told valid c ≤ bound_of port
 counted netlist port read shown busy came told owing valid Never h g kind starts owed owes run endless c = absurd (let none = h.kind in cc)
+counted netlist port read shown busy came told owing valid (Row row) h g kind starts owed owes run endless c = absurd (let none = h.kind in cc)
 counted netlist port read shown busy came told owing valid (Counts unanswered full) h g kind starts owed owes run endless c =
     few_unanswered netlist port read shown unanswered full busy came told h g owing valid starts owed owes run endless c
 
 -- of the nets of a branch behind a wire
 behind_wire : (netlist : Netlist) (branch : Branch) (wire : HeldWire) (command : CommandNets) (wait : NetValue) (answer : AnswerNets) →
-    IsAgentPart netlist branch.port branch.nets branch.command branch.made → branch.port.readdatavalid ≡ true →
+    IsAgentPart netlist false branch.port branch.nets branch.command branch.made → branch.port.readdatavalid ≡ true →
     IsLoneRoute netlist wire command branch.command (record { wait = branch.made.waitrequest; answer = branch.made.answer }) wait answer →
     (run : Run) → IsEndlessRun netlist run → (c : ℕ) → unanswered_in run command.read wait answer.valid c ≤ bound_of branch.port
 behind_wire netlist branch wire command wait answer part kind lone run endless c =
@@ -74,7 +75,7 @@ behind_few done longer (branch ∷ []) route command wait answer few made w e ru
     let bears = and_parts (branch.port.readdatavalid && nat_eq branch.port.burst_bits 0) (nat_lt (bound_of branch.port) 16) few in
     let kind = (and_parts branch.port.readdatavalid (nat_eq branch.port.burst_bits 0) bears.0).0 in
     let lone : IsLoneRoute done w.wire command branch.command back wait answer = subst (λ (b : BackNets). IsLoneRoute done w.wire command branch.command b wait answer) back_is (subst (λ (below : CommandNets). IsLoneRoute done w.wire command below w.back wait answer) below_is w.lone) in
-    let most = behind_wire longer branch w.wire command wait answer (part_lasts done longer branch.port branch.nets branch.command branch.made made.0.part e) kind (lone_lasts done longer w.wire command branch.command back wait answer lone e) run endless c in
+    let most = behind_wire longer branch w.wire command wait answer (part_lasts done longer false branch.port branch.nets branch.command branch.made made.0.part e) kind (lone_lasts done longer w.wire command branch.command back wait answer lone e) run endless c in
     let below = ltb-true (bound_of branch.port) 16 bears.1 in
     omega (arith, most, below)
 

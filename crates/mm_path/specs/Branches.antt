@@ -1,5 +1,5 @@
 -- The branches of a tree, each the part next to an agent behind a command: what is given, and what is made.
-use Rattle.std.specs.Prelude.{◌≡◌, ℕ, ◌+◌, ◌*◌, ◌^◌, ◌<◌, ◌≤◌, List, [], ◌∷◌, ◌++◌, length, map, take}
+use Rattle.std.specs.Prelude.{◌≡◌, ℕ, ◌+◌, ◌*◌, ◌^◌, ◌<◌, ◌≤◌, List, [], ◌∷◌, ◌++◌, length, map, take, false}
 use Rattle.std.proofs.Common.{get_or, refl, sym, subst, ap, ◌∙◌, arith}
 use Rattle.std.proofs.lemmas.List.{map-append, take_more}
 use Rattle.iface_roles.specs.Proper.{IsBoundedAgent, span_of}
@@ -12,12 +12,12 @@ use Rattle.command_nets.specs.declared.nets.CommandNets.{CommandNets}
 use Rattle.command_nets.specs.Nets.{AreCommandNets}
 use Rattle.command_nets.specs.Groups.{command_lasts, answer_lasts}
 use Rattle.command_nets.specs.Ports.{has_lasts}
-use Rattle.mm_agent.specs.Agents.{AreAgentNets, AreMadeNets, IsServed, BearsOneTag, has_address, agent_lasts}
-use Rattle.mm_agent.specs.Forms.{IsAgentPart, IgnoresAnswer, RunsAsAgent, part_lasts}
+use Rattle.mm_agent.specs.Agents.{AreAgentNets, AreMadeNets, BearsOneTag, has_address, agent_lasts}
+use Rattle.mm_agent.specs.Forms.{agent_nets, IsAgentPart, IgnoresAnswer, RunsAsAgent, part_lasts}
 use Rattle.mm_agent.specs.Reads.{owns_reads}
 use Rattle.mm_path.specs.declared.tree.AgentEnd.{AgentEnd}
 use Rattle.mm_path.specs.declared.tree.Branch.{Branch}
-use Rattle.mm_path.specs.Trees.{end_of, commands_of}
+use Rattle.mm_path.specs.Trees.{IsServed, end_of, commands_of}
 
 -- the agent is served, and the command reaches its span and always bears one tag
 pub record Suits (netlist : Netlist) (end : AgentEnd) (command : CommandNets) : Type 0 where
@@ -31,7 +31,7 @@ pub record Suits (netlist : Netlist) (end : AgentEnd) (command : CommandNets) : 
 -- the part next to the agent of a branch stands, and runs as its machine
 pub record IsBranchMade (netlist : Netlist) (branch : Branch) : Type 0 where
   pub made : AreMadeNets netlist branch.port branch.command branch.made
-  pub part : IsAgentPart netlist branch.port branch.nets branch.command branch.made
+  pub part : IsAgentPart netlist false branch.port branch.nets branch.command branch.made
   pub tag : branch.made.answer_tag ≡ branch.command.tag
   pub registers : (n : ℕ) → owns_reads branch.made.reads n → IsRegister netlist n
   pub ignores : IgnoresAnswer netlist branch.command branch.made
@@ -54,7 +54,7 @@ pub record AreBranchesSoFar (old now : Netlist) (ends : List AgentEnd) (commands
   pub ends_are : map end_of branches ≡ take count ends
   pub commands_are : commands_of branches ≡ take count commands
   pub made : AreBranchesMade now branches
-  pub grows : GrowsBy (24 * count) old now
+  pub grows : GrowsBy (agent_nets false * count) old now
   pub waits : StillWait old now
   pub no_more_wait : StillWait now old
 
@@ -82,7 +82,7 @@ made_nets_last old new branch h e = record {
 branch_lasts : (old new : Netlist) (branch : Branch) → IsBranchMade old branch → Extends old new → IsBranchMade new branch
 branch_lasts old new branch h e = record {
   made = made_nets_last old new branch h.made e;
-  part = part_lasts old new branch.port branch.nets branch.command branch.made h.part e;
+  part = part_lasts old new false branch.port branch.nets branch.command branch.made h.part e;
   tag = h.tag;
   registers = λ n o. register_lasts old new n e (h.registers n o);
   ignores = λ one other v w. h.ignores one other (e.valuations one v) (e.valuations other w);
@@ -107,14 +107,14 @@ one_taken f xs x ys y count lt e same at =
 
 pub one_more_branch : (old now new : Netlist) (ends : List AgentEnd) (commands : List CommandNets) (branches longer : List Branch) (end : AgentEnd) (command : CommandNets) (count : ℕ) →
     AreBranchesSoFar old now ends commands branches count → count < length ends → count < length commands → ((d : AgentEnd) → end ≡ get_or ends count d) → ((d : CommandNets) → command ≡ get_or commands count d) →
-    IsPushed new end command branches longer → GrowsBy 24 now new → StillWait now new → StillWait new now → AreBranchesSoFar old new ends commands longer (count + 1)
+    IsPushed new end command branches longer → GrowsBy (agent_nets false) now new → StillWait now new → StillWait new now → AreBranchesSoFar old new ends commands longer (count + 1)
 one_more_branch old now new ends commands branches longer end command count h few fewer at place pushed grows waits no_more =
     subst (λ (bs : List Branch). AreBranchesSoFar old new ends commands bs (count + 1)) (sym pushed.is)
     (record {
       ends_are = one_taken end_of branches pushed.branch ends end count few h.ends_are pushed.end_is at;
       commands_are = one_taken (λ (b : Branch). b.command) branches pushed.branch commands command count fewer h.commands_are pushed.command_is place;
       made = branches_more new branches pushed.branch (branches_last now new branches h.made grows.extends) pushed.made;
-      grows = grows_within (24 * count) 24 _ old now new h.grows grows (omega arith);
+      grows = grows_within (agent_nets false * count) (agent_nets false) _ old now new h.grows grows (omega arith);
       waits = λ n w. waits n (h.waits n w);
       no_more_wait = λ n w. h.no_more_wait n (no_more n w);
     })

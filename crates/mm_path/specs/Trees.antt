@@ -1,6 +1,7 @@
 -- A host with the agents that it alone is joined to: the nets that stand between them, and what they run as.
-use Rattle.std.specs.Prelude.{◌≡◌, ℕ, ◌+◌, ◌*◌, ◌≤◌, List, [], ◌∷◌, map}
+use Rattle.std.specs.Prelude.{◌≡◌, ℕ, ◌+◌, ◌*◌, ◌≤◌, true, false, List, [], ◌∷◌, map}
 use Rattle.iface_roles.specs.declared.records.HostPort.{HostPort}
+use Rattle.iface_roles.specs.declared.records.AgentPort.{AgentPort}
 use Rattle.iface_roles.specs.Proper.{IsBoundedHost, IsBoundedAgent, range_of, span_of}
 use Rattle.netlist.specs.Netlists.{Netlist}
 use Rattle.net_parts.specs.Nets.{IsRegister}
@@ -16,14 +17,20 @@ use Rattle.mm_route.specs.Machine.{RunsAsMachine}
 use Rattle.mm_route.specs.Shown.{widths_below}
 use Rattle.mm_host.specs.Forms.{IsHeld, IgnoresAnswer as HostIgnoresAnswer, AreAnswersTo, RunsAsHost}
 use Rattle.mm_host.specs.Forms.{owns as owned_by_host}
-use Rattle.mm_agent.specs.Agents.{AreAgentNets, AreMadeNets, IsServed}
-use Rattle.mm_agent.specs.Forms.{IgnoresAnswer as AgentIgnoresAnswer, RunsAsAgent}
+use Rattle.mm_agent.specs.Agents.{AreAgentNets, AreMadeNets, AcceptsAtOnce}
+use Rattle.mm_agent.specs.Forms.{agent_nets, IgnoresAnswer as AgentIgnoresAnswer, RunsAsAgent}
 use Rattle.mm_agent.specs.Reads.{owns_reads}
 use Rattle.mm_path.specs.declared.tree.AgentEnd.{AgentEnd}
 use Rattle.mm_path.specs.declared.tree.Branch.{Branch}
 use Rattle.mm_path.specs.declared.tree.Tree.{Tree}
 
 -- ---- what is given
+
+-- the agents that are served
+pub record IsServed (port : AgentPort) : Type 0 where
+  pub waits : port.waitrequest ≡ false → AcceptsAtOnce port
+  pub valid : port.reads ≡ true → port.readdatavalid ≡ true
+  pub no_burst : port.burst_bits ≡ 0
 
 -- an agent at the end of a route: it is served, with the words of the host, within its range
 pub record IsEndFor (netlist : Netlist) (host : HostPort) (route : Route) (end : AgentEnd) : Type 0 where
@@ -87,4 +94,4 @@ pub record IsTree (netlist : Netlist) (number : ℕ) (port : HostPort) (routes :
 
 -- the most nets that a host with so many agents takes
 abbrev pub tree_nets : ℕ → ℕ
-tree_nets agents = 51 + forward_nets agents + 24 * agents + backward_nets agents + 109
+tree_nets agents = 51 + forward_nets agents + agent_nets false * agents + backward_nets agents + 109

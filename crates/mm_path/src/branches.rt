@@ -1,8 +1,9 @@
 //! What stands next to the agents of a tree, each behind the command of its route.
 
-ghost use Rattle.std.specs.Prelude.{◌≡◌, ℕ, ◌+◌, ◌*◌, ◌^◌, ◌<◌, map, length, IfOk, OnOk};
+ghost use Rattle.std.specs.Prelude.{◌≡◌, ℕ, ◌+◌, ◌*◌, ◌^◌, ◌<◌, false, map, length, IfOk, OnOk};
 ghost use Rattle.std.specs.List.{AllZip};
 ghost use Rattle.net_parts.specs.Growth.{GrowsBy, StillWait};
+ghost use Rattle.mm_agent.specs.Forms.{agent_nets};
 ghost use Rattle.mm_path.specs.Trees.{end_of, commands_of, backs_of};
 ghost use Rattle.mm_path.specs.Branches.{Suits, AreBranchesMade, IsPushed};
 
@@ -23,12 +24,12 @@ fn push_branch(
 ) -> Result<(), NetFault>
     requires suits { Suits builder.old end.now command.now }
     ensures branch { OnOk result (IsPushed builder.new end.now command.now branches.old branches.new) }
-    ensures grows { GrowsBy 24 builder.old builder.new }
+    ensures grows { GrowsBy (agent_nets false) builder.old builder.new }
     ensures waits { StillWait builder.old builder.new }
     ensures no_more_wait { OnOk result (StillWait builder.new builder.old) }
-    ensures full { result ≡ Err NetFault.TooManyNets → 2 ^ 20 < length builder.old.lines + 24 }
+    ensures full { result ≡ Err NetFault.TooManyNets → 2 ^ 20 < length builder.old.lines + agent_nets false }
 {
-    let made = emit_agent(builder, &end.port, &end.nets, command)?;
+    let made = emit_agent(builder, &end.port, &end.nets, command, false)?;
     match branches.push(Branch {
         number: end.number,
         port: end.port,
@@ -52,10 +53,10 @@ pub(crate) fn emit_branches(
     ensures ends { IfOk result (λ branches. map end_of branches ≡ ends.now) }
     ensures commands { IfOk result (λ branches. commands_of branches ≡ commands.now) }
     ensures made { IfOk result (AreBranchesMade builder.new) }
-    ensures grows { GrowsBy (24 * length ends.now) builder.old builder.new }
+    ensures grows { GrowsBy (agent_nets false * length ends.now) builder.old builder.new }
     ensures waits { StillWait builder.old builder.new }
     ensures no_more_wait { OnOk result (StillWait builder.new builder.old) }
-    ensures full { result ≡ Err NetFault.TooManyNets → 2 ^ 20 < length builder.old.lines + 24 * length ends.now }
+    ensures full { result ≡ Err NetFault.TooManyNets → 2 ^ 20 < length builder.old.lines + agent_nets false * length ends.now }
 {
     let mut branches = List::new(alloc);
     for (end, command) in ends.iter().zip(commands) {

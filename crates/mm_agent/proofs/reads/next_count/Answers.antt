@@ -1,9 +1,8 @@
-use Rattle.std.proofs.Common.{ℕ, ◌%◌, ◌^◌, ◌≤◌, ◌==◌, Bool, true, false, if◌then◌else◌, ap, ◌∙◌, arith}
+use Rattle.std.proofs.Common.{◌%◌, ◌^◌, ap, ◌∙◌, arith}
 use Rattle.netlist.specs.Runs.{Always}
 use Rattle.net_parts.specs.Laws.{bit_fits, if_ok, adds_fewer, adds_twice, grows_once}
-use Rattle.net_parts.specs.Growth.{fit_nets}
 use Rattle.mm_agent.specs.Reads.{IsNextCount}
-use Rattle.mm_agent.proofs.Levels.{next_counted}
+use Rattle.mm_agent.proofs.Levels.{fit_few, next_counted}
 use Rattle.mm_agent.proofs.reads.next_count.Goals as goal
 
 pub returns-clause-value : goal.returns-clause-value
@@ -23,12 +22,5 @@ returns-clause-value c =
     (c.in_ok-sum.ensures.value cycle v5).1 (rw c.in_ok-sum.ensures.net.1 at (value cycle v6).1)))
     c.sub.ensures.value
 
-few_by : (t : Bool) → (if t then 0 else 2) ≤ 2
-few_by true = omega arith
-few_by false = omega arith
-
-few : (bits wanted : ℕ) → fit_nets bits wanted ≤ 2
-few bits wanted = few_by (bits == wanted)
-
 pub returns-clause-adds : goal.returns-clause-adds
-returns-clause-adds c = let more = few 1 c.width-bits.result in adds_fewer _ _ _ _ (omega (arith, more)) (adds_twice _ _ _ _ _ (adds_twice _ _ _ _ _ (adds_twice _ _ _ _ _ (adds_twice _ _ _ _ _ (adds_twice _ _ _ _ _ (grows_once _ _ c.any.ensures.extends c.any.ensures.grows) c.both.ensures.adds) c.fit_bits.ensures.adds) c.fit_bits-2.ensures.adds) (grows_once _ _ c.add.ensures.extends c.add.ensures.grows)) (grows_once _ _ c.sub.ensures.extends c.sub.ensures.grows))
+returns-clause-adds c = let more = fit_few 1 c.width-bits.result in adds_fewer _ _ _ _ (omega (arith, more)) (adds_twice _ _ _ _ _ (adds_twice _ _ _ _ _ (adds_twice _ _ _ _ _ (adds_twice _ _ _ _ _ (adds_twice _ _ _ _ _ (grows_once _ _ c.any.ensures.extends c.any.ensures.grows) c.both.ensures.adds) c.fit_bits.ensures.adds) c.fit_bits-2.ensures.adds) (grows_once _ _ c.add.ensures.extends c.add.ensures.grows)) (grows_once _ _ c.sub.ensures.extends c.sub.ensures.grows))

@@ -1,7 +1,8 @@
-use Rattle.std.proofs.Common.{length, subst, sym, ◌∙◌, arith}
+use Rattle.std.proofs.Common.{false, length, subst, sym, ◌∙◌, arith}
 use Rattle.std.proofs.lemmas.List.{take_all, length_push}
 use Rattle.std.proofs.lemmas.Slice.Zip.{zip_turn, zip_end, AllZip-long}
 use Rattle.net_parts.specs.Laws.{grows_within}
+use Rattle.mm_agent.specs.Forms.{agent_nets}
 use Rattle.mm_path.specs.Branches.{AreBranchesSoFar, suits_last, one_more_branch}
 use Rattle.mm_path.proofs.Branching.{zipped_at}
 use Rattle.mm_path.proofs.branches.emit_branches.Goals as goal
@@ -14,7 +15,7 @@ push_branch-requires c =
 pub returns-in_err-push_branch-clause-grows : goal.returns-in_err-push_branch-clause-grows
 returns-in_err-push_branch-clause-grows c =
     let turn = zip_turn c.args.ends.now c.args.commands.now c.loop-end.yielded c.into_iter-end-iterator.result c.loop-end.end-iterator c.next.new.self c.next.result (cc) (cc) c.loop-end.yielded_by (c.in-Some.end, c.in-Some.command) c.in-Some.is c.next.ensures.steps in
-    grows_within _ 24 _ _ _ _ c.loop-end.invariant.grows c.push_branch.ensures.grows (omega (arith, turn.0))
+    grows_within _ (agent_nets false) _ _ _ _ c.loop-end.invariant.grows c.push_branch.ensures.grows (omega (arith, turn.0))
 
 pub loop-end-preserved : goal.loop-end-preserved
 loop-end-preserved c =

@@ -1,4 +1,4 @@
-use Rattle.mm_agent.proofs.answers.give_answer.Goals as goal
+use Rattle.mm_agent.proofs.answers.give_words.Goals as goal
 
 pub returns-clause-value : goal.returns-clause-value
 returns-clause-value c cycle v =
