@@ -1,12 +1,13 @@
-use Rattle.std.proofs.Common.{refl, inl, inr, sym, subst}
+use Rattle.std.proofs.Common.{refl, inl, inr, sym, subst, arith}
 use Rattle.netlist.specs.Nets.{NetValue}
 use Rattle.std.proofs.Common.{Option}
-use Rattle.net_parts.specs.Laws.{extends_twice, net_lasts}
+use Rattle.net_parts.specs.Laws.{extends_twice, net_lasts, adds_grow, grows_fewer, grows_twice}
 use Rattle.command_nets.specs.Ports.{HasNet, given}
 use Rattle.mm_host.specs.Reads.{reads_last, reads_go_on}
 use Rattle.mm_host.specs.Writes.{writes_go_on}
 use Rattle.mm_host.specs.Forms.{held_lasts, goes_on_lasts}
 use Rattle.mm_host.proofs.Machine.{machine}
+use Rattle.net_parts.specs.Refusing.{handed_on}
 use Rattle.mm_host.proofs.host.finish_host.Goals as goal
 
 pub finish_reads-requires-clause-held : goal.finish_reads-requires-clause-held
@@ -51,3 +52,76 @@ returns-clause-machine c longer e run endless end few =
       state = _;
       machine = machine c.args.port.now c.args.held.now c.args.wait c.args.answer.now _ longer (held_lasts _ _ _ _ c.requires.held all) (goes_on_lasts _ _ _ _ _ _ _ (returns-clause-on c) e) run endless end few;
     }
+
+pub finish_writes-requires-clause-held : goal.finish_writes-requires-clause-held
+finish_writes-requires-clause-held c = c.requires.held.writes
+
+pub finish_writes-requires-clause-write : goal.finish_writes-requires-clause-write
+finish_writes-requires-clause-write c = c.requires.held.fields.write
+
+pub finish_writes-requires-clause-wait : goal.finish_writes-requires-clause-wait
+finish_writes-requires-clause-wait c = c.requires.wait
+
+pub finish_writes-requires-clause-waits : goal.finish_writes-requires-clause-waits
+finish_writes-requires-clause-waits c n o = c.requires.own_wait n (inr o)
+
+pub finish_reads-requires-clause-read : goal.finish_reads-requires-clause-read
+finish_reads-requires-clause-read c = net_lasts _ _ _ _ c.finish_writes.ensures.grows.extends c.requires.held.fields.read
+
+pub finish_reads-requires-clause-count : goal.finish_reads-requires-clause-count
+finish_reads-requires-clause-count c = net_lasts _ _ _ _ c.finish_writes.ensures.grows.extends c.requires.held.fields.count
+
+pub finish_reads-requires-clause-shown : goal.finish_reads-requires-clause-shown
+finish_reads-requires-clause-shown c = net_lasts _ _ _ _ c.finish_writes.ensures.grows.extends c.requires.held.shown
+
+pub finish_reads-requires-clause-wait : goal.finish_reads-requires-clause-wait
+finish_reads-requires-clause-wait c = net_lasts _ _ _ _ c.finish_writes.ensures.grows.extends c.requires.wait
+
+pub finish_reads-requires-clause-valid : goal.finish_reads-requires-clause-valid
+finish_reads-requires-clause-valid c = net_lasts _ _ _ _ c.finish_writes.ensures.grows.extends c.requires.answer.valid
+
+pub finish_reads-requires-clause-waits : goal.finish_reads-requires-clause-waits
+finish_reads-requires-clause-waits c n o = c.finish_writes.ensures.waits n (c.requires.held.apart n o) (c.requires.own_wait n (inl o))
+
+pub returns-in_err-finish_writes-clause-grows : goal.returns-in_err-finish_writes-clause-grows
+returns-in_err-finish_writes-clause-grows c = grows_fewer _ _ _ _ (omega arith) c.finish_writes.ensures.grows
+
+pub returns-in_err-finish_writes-clause-waits : goal.returns-in_err-finish_writes-clause-waits
+returns-in_err-finish_writes-clause-waits c n apart w = c.finish_writes.ensures.waits n (λ o. apart (inr o)) w
+
+pub returns-in_err-finish_writes-clause-full : goal.returns-in_err-finish_writes-clause-full
+returns-in_err-finish_writes-clause-full c e = let full = c.finish_writes.ensures.full (handed_on _ _ _ _ c.in_err-finish_writes.was c.from_residual.ensures.1 e) in omega (arith, full)
+
+pub returns-in_err-waitrequest-clause-grows : goal.returns-in_err-waitrequest-clause-grows
+returns-in_err-waitrequest-clause-grows c = grows_fewer _ _ _ _ (omega arith) (grows_twice _ _ _ _ _ c.finish_writes.ensures.grows c.finish_reads.ensures.grows)
+
+pub returns-in_err-waitrequest-clause-waits : goal.returns-in_err-waitrequest-clause-waits
+returns-in_err-waitrequest-clause-waits c n apart w = c.finish_reads.ensures.waits n (λ o. apart (inl o)) (c.finish_writes.ensures.waits n (λ o. apart (inr o)) w)
+
+pub returns-in_err-waitrequest-clause-full : goal.returns-in_err-waitrequest-clause-full
+returns-in_err-waitrequest-clause-full c e =
+    let most0 = c.finish_writes.ensures.grows.most in
+    let full = c.finish_reads.ensures.full (handed_on _ _ _ _ c.in_err-waitrequest.was c.from_residual-in_err-waitrequest.ensures.1 e) in
+    omega (arith, most0, full)
+
+pub returns-in_err-response-clause-grows : goal.returns-in_err-response-clause-grows
+returns-in_err-response-clause-grows c = grows_fewer _ _ _ _ (omega arith) (grows_twice _ _ _ _ _ (grows_twice _ _ _ _ _ c.finish_writes.ensures.grows c.finish_reads.ensures.grows) (adds_grow _ _ _ c.no_response.ensures.adds))
+
+pub returns-in_err-response-clause-full : goal.returns-in_err-response-clause-full
+returns-in_err-response-clause-full c e =
+    let most0 = c.finish_writes.ensures.grows.most in
+    let most1 = c.finish_reads.ensures.grows.most in
+    let full = c.no_response.ensures.full (handed_on _ _ _ _ c.in_err-response.was c.from_residual-in_err-response.ensures.1 e) in
+    omega (arith, most0, most1, full)
+
+pub returns-clause-grows : goal.returns-clause-grows
+returns-clause-grows c = grows_fewer _ _ _ _ (omega arith) (grows_twice _ _ _ _ _ (grows_twice _ _ _ _ _ c.finish_writes.ensures.grows c.finish_reads.ensures.grows) (adds_grow _ _ _ c.no_response.ensures.adds))
+
+pub returns-clause-full : goal.returns-clause-full
+returns-clause-full c e = cc
+
+pub returns-clause-no_more_wait : goal.returns-clause-no_more_wait
+returns-clause-no_more_wait c n w =
+    let late = c.in_ok-waitrequest.ensures.no_more_wait n (c.no_response.ensures.adds.grows.no_more_wait n w) in
+    let rest = c.in_ok-finish_writes.ensures.no_more_wait n late.0 in
+    (rest.0, λ o. elim o [ inl p ↦ late.1 p | inr q ↦ rest.1 q ])

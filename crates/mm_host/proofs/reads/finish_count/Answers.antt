@@ -1,7 +1,8 @@
-use Rattle.std.proofs.Common.{◌||◌, ap, ◌∙◌, arith}
+use Rattle.std.proofs.Common.{◌||◌, ap, ◌∙◌, arith, sym}
 use Rattle.histories.specs.History.{is_raised}
 use Rattle.netlist.specs.Runs.{Cycle, cycle_of}
-use Rattle.net_parts.specs.Laws.{adds_twice, adds_grow, grows_fewer, grows_twice}
+use Rattle.net_parts.specs.Laws.{adds_twice, adds_grow, grows_fewer, grows_twice, extends_twice, net_lasts}
+use Rattle.net_parts.specs.Refusing.{handed_on}
 use Rattle.mm_host.proofs.reads.finish_count.Goals as goal
 
 pub returns-in_err-next-clause-grows : goal.returns-in_err-next-clause-grows
@@ -31,3 +32,87 @@ returns-clause-on c = record {
       c.take_next.ensures.value run cycles r n lt
       ∙ (rw taken at (c.in_ok-next.ensures.value cycle v4)) few);
 }
+
+pub either-requires-clause-a : goal.either-requires-clause-a
+either-requires-clause-a c = c.in_ok-shut.ensures.net
+
+pub either-requires-clause-b : goal.either-requires-clause-b
+either-requires-clause-b c = net_lasts _ _ _ _ c.both.ensures.adds.grows.extends c.requires.wait
+
+pub unless-requires-clause-a : goal.unless-requires-clause-a
+unless-requires-clause-a c = net_lasts _ _ _ _ (extends_twice _ _ _ c.both.ensures.adds.grows.extends c.either.ensures.adds.grows.extends) c.requires.shown
+
+pub unless-requires-clause-b : goal.unless-requires-clause-b
+unless-requires-clause-b c = net_lasts _ _ _ _ (extends_twice _ _ _ c.both.ensures.adds.grows.extends c.either.ensures.adds.grows.extends) c.requires.wait
+
+pub next_count-requires-clause-unanswered : goal.next_count-requires-clause-unanswered
+next_count-requires-clause-unanswered c = net_lasts _ _ _ _ (extends_twice _ _ _ c.both.ensures.adds.grows.extends (extends_twice _ _ _ c.either.ensures.adds.grows.extends c.unless.ensures.adds.grows.extends)) c.requires.unanswered
+
+pub next_count-requires-clause-taken : goal.next_count-requires-clause-taken
+next_count-requires-clause-taken c = c.in_ok-taken.ensures.net
+
+pub next_count-requires-clause-valid : goal.next_count-requires-clause-valid
+next_count-requires-clause-valid c = net_lasts _ _ _ _ (extends_twice _ _ _ c.both.ensures.adds.grows.extends (extends_twice _ _ _ c.either.ensures.adds.grows.extends c.unless.ensures.adds.grows.extends)) c.requires.valid
+
+pub take_next-requires-clause-register : goal.take_next-requires-clause-register
+take_next-requires-clause-register c = (extends_twice _ _ _ c.both.ensures.adds.grows.extends (extends_twice _ _ _ c.either.ensures.adds.grows.extends (extends_twice _ _ _ c.unless.ensures.adds.grows.extends c.next_count.ensures.adds.grows.extends))).nets _ _ c.requires.unanswered.is_net
+
+pub take_next-requires-clause-waits : goal.take_next-requires-clause-waits
+take_next-requires-clause-waits c = c.next_count.ensures.adds.grows.waits _ (c.unless.ensures.adds.grows.waits _ (c.either.ensures.adds.grows.waits _ (c.both.ensures.adds.grows.waits _ c.requires.waits)))
+
+pub take_next-requires-clause-next : goal.take_next-requires-clause-next
+take_next-requires-clause-next c = c.in_ok-next.ensures.net.is_net
+
+pub take_next-requires-clause-widths : goal.take_next-requires-clause-widths
+take_next-requires-clause-widths c = c.requires.unanswered.has_width ∙ sym c.in_ok-next.ensures.net.has_width
+
+pub returns-clause-told : goal.returns-clause-told
+returns-clause-told c = net_lasts _ _ _ _ (extends_twice _ _ _ c.unless.ensures.adds.grows.extends (extends_twice _ _ _ c.next_count.ensures.adds.grows.extends c.take_next.ensures.grows.extends)) c.in_ok-told.ensures.net
+
+pub returns-in_err-shut-clause-grows : goal.returns-in_err-shut-clause-grows
+returns-in_err-shut-clause-grows c = grows_fewer _ _ _ _ (omega arith) (adds_grow _ _ _ c.both.ensures.adds)
+
+pub returns-in_err-shut-clause-waits : goal.returns-in_err-shut-clause-waits
+returns-in_err-shut-clause-waits c n apart w = c.both.ensures.adds.grows.waits n w
+
+pub returns-in_err-shut-clause-full : goal.returns-in_err-shut-clause-full
+returns-in_err-shut-clause-full c e = let full = c.both.ensures.full (handed_on _ _ _ _ c.in_err-shut.was c.from_residual.ensures.1 e) in omega (arith, full)
+
+pub returns-in_err-told-clause-grows : goal.returns-in_err-told-clause-grows
+returns-in_err-told-clause-grows c = grows_fewer _ _ _ _ (omega arith) (adds_grow _ _ _ (adds_twice _ _ _ _ _ c.both.ensures.adds c.either.ensures.adds))
+
+pub returns-in_err-told-clause-waits : goal.returns-in_err-told-clause-waits
+returns-in_err-told-clause-waits c n apart w = c.either.ensures.adds.grows.waits n (c.both.ensures.adds.grows.waits n w)
+
+pub returns-in_err-told-clause-full : goal.returns-in_err-told-clause-full
+returns-in_err-told-clause-full c e =
+    let most0 = c.both.ensures.adds.most in
+    let full = c.either.ensures.full (handed_on _ _ _ _ c.in_err-told.was c.from_residual-in_err-told.ensures.1 e) in
+    omega (arith, most0, full)
+
+pub returns-in_err-taken-clause-grows : goal.returns-in_err-taken-clause-grows
+returns-in_err-taken-clause-grows c = grows_fewer _ _ _ _ (omega arith) (adds_grow _ _ _ (adds_twice _ _ _ _ _ (adds_twice _ _ _ _ _ c.both.ensures.adds c.either.ensures.adds) c.unless.ensures.adds))
+
+pub returns-in_err-taken-clause-waits : goal.returns-in_err-taken-clause-waits
+returns-in_err-taken-clause-waits c n apart w = c.unless.ensures.adds.grows.waits n (c.either.ensures.adds.grows.waits n (c.both.ensures.adds.grows.waits n w))
+
+pub returns-in_err-taken-clause-full : goal.returns-in_err-taken-clause-full
+returns-in_err-taken-clause-full c e =
+    let most0 = c.both.ensures.adds.most in
+    let most1 = c.either.ensures.adds.most in
+    let full = c.unless.ensures.full (handed_on _ _ _ _ c.in_err-taken.was c.from_residual-in_err-taken.ensures.1 e) in
+    omega (arith, most0, most1, full)
+
+pub returns-in_err-next-clause-waits : goal.returns-in_err-next-clause-waits
+returns-in_err-next-clause-waits c n apart w = c.next_count.ensures.adds.grows.waits n (c.unless.ensures.adds.grows.waits n (c.either.ensures.adds.grows.waits n (c.both.ensures.adds.grows.waits n w)))
+
+pub returns-in_err-next-clause-full : goal.returns-in_err-next-clause-full
+returns-in_err-next-clause-full c e =
+    let most0 = c.both.ensures.adds.most in
+    let most1 = c.either.ensures.adds.most in
+    let most2 = c.unless.ensures.adds.most in
+    let full = c.next_count.ensures.full (handed_on _ _ _ _ c.in_err-next.was c.from_residual-in_err-next.ensures.1 e) in
+    omega (arith, most0, most1, most2, full)
+
+pub returns-clause-full : goal.returns-clause-full
+returns-clause-full c e = cc

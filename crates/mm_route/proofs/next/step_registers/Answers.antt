@@ -2,7 +2,8 @@ use Rattle.std.proofs.Common.{◌≡◌, ℕ, ◌+◌, Bool, List, [], ◌∷◌
 use Rattle.netlist.specs.Nets.{NetValue}
 use Rattle.netlist.specs.Runs.{Cycle, cycle_of}
 use Rattle.net_parts.specs.Groups.{InGroup, AreWaiting, values_of}
-use Rattle.net_parts.specs.Laws.{on_ok, extends_twice}
+use Rattle.net_parts.specs.Laws.{on_ok, extends_twice, adds_grow, grows_fewer, grows_twice, net_lasts}
+use Rattle.net_parts.specs.Refusing.{handed_on}
 use Rattle.mm_route.specs.declared.registers.LatchNets.{LatchNets}
 use Rattle.mm_route.specs.declared.router.HeldRouter.{HeldRouter}
 use Rattle.mm_route.specs.Registers.{latch_of, IsLatch, register_nets_last, registers_wait_on}
@@ -87,3 +88,27 @@ step_latch-requires-clause-latch c =
 
 pub step_latch-requires-clause-shown : goal.step_latch-requires-clause-shown
 step_latch-requires-clause-shown c = shown_nets_last _ _ _ _ (extends_twice _ _ _ c.next_debt.ensures.adds.grows.extends c.set_all_next.ensures.grows.extends) c.requires.held.shown
+
+pub returns-in_err-next-clause-grows : goal.returns-in_err-next-clause-grows
+returns-in_err-next-clause-grows c = grows_fewer _ _ _ _ (omega arith) (adds_grow _ _ _ c.next_debt.ensures.adds)
+
+pub returns-in_err-next-clause-waits : goal.returns-in_err-next-clause-waits
+returns-in_err-next-clause-waits c n apart w = c.next_debt.ensures.adds.grows.waits n w
+
+pub returns-in_err-next-clause-full : goal.returns-in_err-next-clause-full
+returns-in_err-next-clause-full c e = let full = c.next_debt.ensures.full (handed_on _ _ _ _ c.in_err-next.was c.from_residual.ensures.1 e) in omega (arith, full)
+
+pub returns-in-None-clause-grows : goal.returns-in-None-clause-grows
+returns-in-None-clause-grows c = grows_fewer _ _ _ _ (omega arith) (grows_twice _ _ _ _ _ (adds_grow _ _ _ c.next_debt.ensures.adds) c.set_all_next.ensures.grows)
+
+pub returns-in-Some-clause-grows : goal.returns-in-Some-clause-grows
+returns-in-Some-clause-grows c = grows_fewer _ _ _ _ (omega arith) (grows_twice _ _ _ _ _ (grows_twice _ _ _ _ _ (adds_grow _ _ _ c.next_debt.ensures.adds) c.set_all_next.ensures.grows) c.step_latch.ensures.grows)
+
+pub returns-in-None-clause-full : goal.returns-in-None-clause-full
+returns-in-None-clause-full c e = cc
+
+pub returns-in-Some-clause-full : goal.returns-in-Some-clause-full
+returns-in-Some-clause-full c e = let most = c.next_debt.ensures.adds.most in let most2 = c.set_all_next.ensures.grows.most in let full = c.step_latch.ensures.full e in omega (arith, most, most2, full)
+
+pub step_latch-requires-clause-beat : goal.step_latch-requires-clause-beat
+step_latch-requires-clause-beat c = net_lasts _ _ _ 1 c.set_all_next.ensures.grows.extends c.in_ok-next.ensures.beat

@@ -1,6 +1,7 @@
 use Rattle.std.proofs.Common.{is_some, refl, sym, subst, ap, ◌∙◌, arith}
-use Rattle.net_parts.specs.Laws.{extends_twice, net_lasts, adds_twice, adds_grow, grows_within}
+use Rattle.net_parts.specs.Laws.{extends_twice, net_lasts, adds_twice, adds_grow, grows_within, grows_fewer}
 use Rattle.command_nets.specs.Groups.{command_lasts}
+use Rattle.net_parts.specs.Refusing.{handed_on}
 use Rattle.mm_route.specs.declared.registers.LatchNets.{LatchNets}
 use Rattle.mm_route.specs.Shown.{shown_are_commands, AreCommandsOf, widths_below}
 use Rattle.mm_route.specs.Registers.{register_nets_last, start_lasts, registers_wait_on}
@@ -102,3 +103,57 @@ returns-clause-made c =
       tag = λ cycle v. c.in_ok-tag.ensures.value cycle (e0.valuations cycle v);
       shown = c.in_ok-commands.ensures.made;
     }
+
+pub returns-in_err-registers-clause-full : goal.returns-in_err-registers-clause-full
+returns-in_err-registers-clause-full c e = let full = c.make_registers.ensures.full (handed_on _ _ _ _ c.in_err-registers.was c.from_residual.ensures.1 e) in omega (arith, full)
+
+pub returns-in_err-place-clause-full : goal.returns-in_err-place-clause-full
+returns-in_err-place-clause-full c e = let made = c.make_registers.ensures.grows.most in let full = c.place_now.ensures.full (handed_on _ _ _ _ c.in_err-place.was c.from_residual-in_err-place.ensures.1 e) in omega (arith, made, full)
+
+pub returns-in_err-open-clause-full : goal.returns-in_err-open-clause-full
+returns-in_err-open-clause-full c e = let made = c.make_registers.ensures.grows.most in let most = c.place_now.ensures.adds.most in let full = c.open_gate.ensures.full (handed_on _ _ _ _ c.in_err-open.was c.from_residual-in_err-open.ensures.1 e) in omega (arith, made, most, full)
+
+pub returns-in_err-tag-clause-full : goal.returns-in_err-tag-clause-full
+returns-in_err-tag-clause-full c e = let made = c.make_registers.ensures.grows.most in let most = c.place_now.ensures.adds.most in let most2 = c.open_gate.ensures.adds.most in let full = c.constant.ensures.full (handed_on _ _ _ _ c.in_err-tag.was c.from_residual-in_err-tag.ensures.1 e) in omega (arith, made, most, most2, full)
+
+pub returns-in_err-commands-clause-full : goal.returns-in_err-commands-clause-full
+returns-in_err-commands-clause-full c e = let made = c.make_registers.ensures.grows.most in let most = c.place_now.ensures.adds.most in let most2 = c.open_gate.ensures.adds.most in let most3 = c.constant.ensures.adds.most in let full = c.show_all.ensures.full (handed_on _ _ _ _ c.in_err-commands.was c.from_residual-in_err-commands.ensures.1 e) in omega (arith, made, most, most2, most3, full)
+
+pub returns-clause-full : goal.returns-clause-full
+returns-clause-full c e = cc
+
+pub returns-in_err-registers-clause-grows : goal.returns-in_err-registers-clause-grows
+returns-in_err-registers-clause-grows c = grows_fewer _ _ _ _ (omega arith) c.make_registers.ensures.grows
+
+pub returns-in_err-place-clause-waits : goal.returns-in_err-place-clause-waits
+returns-in_err-place-clause-waits c n w = c.place_now.ensures.adds.grows.waits n (c.make_registers.ensures.still_wait n w)
+
+pub returns-in_err-open-clause-waits : goal.returns-in_err-open-clause-waits
+returns-in_err-open-clause-waits c n w = c.open_gate.ensures.adds.grows.waits n (c.place_now.ensures.adds.grows.waits n (c.make_registers.ensures.still_wait n w))
+
+pub returns-in_err-tag-clause-waits : goal.returns-in_err-tag-clause-waits
+returns-in_err-tag-clause-waits c n w = c.constant.ensures.adds.grows.waits n (c.open_gate.ensures.adds.grows.waits n (c.place_now.ensures.adds.grows.waits n (c.make_registers.ensures.still_wait n w)))
+
+pub returns-in_err-commands-clause-waits : goal.returns-in_err-commands-clause-waits
+returns-in_err-commands-clause-waits c n w = c.show_all.ensures.adds.grows.waits n (c.constant.ensures.adds.grows.waits n (c.open_gate.ensures.adds.grows.waits n (c.place_now.ensures.adds.grows.waits n (c.make_registers.ensures.still_wait n w))))
+
+pub returns-clause-waits : goal.returns-clause-waits
+returns-clause-waits c n w = c.show_all.ensures.adds.grows.waits n (c.constant.ensures.adds.grows.waits n (c.open_gate.ensures.adds.grows.waits n (c.place_now.ensures.adds.grows.waits n (c.make_registers.ensures.still_wait n w))))
+
+pub returns-clause-newly : goal.returns-clause-newly
+returns-clause-newly c n w = c.in_ok-registers.ensures.newly n (c.place_now.ensures.adds.grows.no_more_wait n (c.open_gate.ensures.adds.grows.no_more_wait n (c.constant.ensures.adds.grows.no_more_wait n (c.show_all.ensures.adds.grows.no_more_wait n w))))
+
+pub open_gate-requires-clause-registers : goal.open_gate-requires-clause-registers
+open_gate-requires-clause-registers c = register_nets_last _ _ _ _ _ c.place_now.ensures.adds.grows.extends c.in_ok-registers.ensures.nets
+
+pub open_gate-requires-clause-place : goal.open_gate-requires-clause-place
+open_gate-requires-clause-place c = c.in_ok-place.ensures.net
+
+pub open_gate-requires-clause-write : goal.open_gate-requires-clause-write
+open_gate-requires-clause-write c = net_lasts _ _ _ 1 (extends_twice _ _ _ c.make_registers.ensures.grows.extends c.place_now.ensures.adds.grows.extends) c.requires.command.write
+
+pub place_now-requires-clause-registers : goal.place_now-requires-clause-registers
+place_now-requires-clause-registers c = c.in_ok-registers.ensures.nets
+
+pub returns-clause-latches : goal.returns-clause-latches
+returns-clause-latches c = c.in_ok-registers.ensures.kind

@@ -1,7 +1,8 @@
 use Rattle.std.proofs.Common.{◌≡◌, ◌-◌, ◌+◌, ◌<◌, ◌==◌, ◌&&◌, if◌then◌else◌, refl, subst, ◌∙◌, sym, arith}
 use Rattle.histories.specs.History.{is_raised}
-use Rattle.net_parts.specs.Laws.{bit_fits, extends_twice, net_lasts, adds_twice, grows_once}
+use Rattle.net_parts.specs.Laws.{bit_fits, extends_twice, net_lasts, adds_twice, grows_once, adds_fewer}
 use Rattle.command_nets.specs.Groups.{command_lasts}
+use Rattle.net_parts.specs.Refusing.{handed_on}
 use Rattle.mm_route.proofs.Levels.{bit_is, bit_at_fits, shown_level}
 use Rattle.mm_route.proofs.shown.show_at.Goals as goal
 
@@ -54,3 +55,63 @@ pub returns-clause-adds : goal.returns-clause-adds
 returns-clause-adds c =
     adds_twice 1 3 _ _ _ (grows_once _ _ c.slice.ensures.extends c.slice.ensures.grows) (adds_twice 1 2 _ _ _ (grows_once _ _ c.and.ensures.extends c.and.ensures.grows)
     (adds_twice 1 1 _ _ _ (grows_once _ _ c.and-2.ensures.extends c.and-2.ensures.grows) (grows_once _ _ c.and-3.ensures.extends c.and-3.ensures.grows)))
+
+pub returns-in_err-here-clause-adds : goal.returns-in_err-here-clause-adds
+returns-in_err-here-clause-adds c = adds_fewer _ _ _ _ (omega arith) (grows_once _ _ c.slice.ensures.extends c.slice.ensures.grows)
+
+pub returns-in_err-here-clause-full : goal.returns-in_err-here-clause-full
+returns-in_err-here-clause-full c e = let full = c.slice.ensures.full.0 (handed_on _ _ _ _ c.in_err-here.was c.from_residual.ensures.1 e) in omega (arith, full)
+
+pub returns-in_err-goes-clause-adds : goal.returns-in_err-goes-clause-adds
+returns-in_err-goes-clause-adds c = adds_fewer _ _ _ _ (omega arith) (adds_twice _ _ _ _ _ (grows_once _ _ c.slice.ensures.extends c.slice.ensures.grows) (grows_once _ _ c.and.ensures.extends c.and.ensures.grows))
+
+pub returns-in_err-goes-clause-full : goal.returns-in_err-goes-clause-full
+returns-in_err-goes-clause-full c e = let most = c.slice.ensures.grows.most in let full = c.and.ensures.full.0 (handed_on _ _ _ _ c.in_err-goes.was c.from_residual-in_err-goes.ensures.1 e) in omega (arith, most, full)
+
+pub returns-in_err-read-clause-adds : goal.returns-in_err-read-clause-adds
+returns-in_err-read-clause-adds c = adds_fewer _ _ _ _ (omega arith) (adds_twice _ _ _ _ _ (adds_twice _ _ _ _ _ (grows_once _ _ c.slice.ensures.extends c.slice.ensures.grows) (grows_once _ _ c.and.ensures.extends c.and.ensures.grows)) (grows_once _ _ c.and-2.ensures.extends c.and-2.ensures.grows))
+
+pub returns-in_err-read-clause-full : goal.returns-in_err-read-clause-full
+returns-in_err-read-clause-full c e = let most = c.slice.ensures.grows.most in let most2 = c.and.ensures.grows.most in let full = c.and-2.ensures.full.0 (handed_on _ _ _ _ c.in_err-read.was c.from_residual-in_err-read.ensures.1 e) in omega (arith, most, most2, full)
+
+pub returns-in_err-write-clause-adds : goal.returns-in_err-write-clause-adds
+returns-in_err-write-clause-adds c = adds_fewer _ _ _ _ (omega arith) (adds_twice _ _ _ _ _ (adds_twice _ _ _ _ _ (adds_twice _ _ _ _ _ (grows_once _ _ c.slice.ensures.extends c.slice.ensures.grows) (grows_once _ _ c.and.ensures.extends c.and.ensures.grows)) (grows_once _ _ c.and-2.ensures.extends c.and-2.ensures.grows)) (grows_once _ _ c.and-3.ensures.extends c.and-3.ensures.grows))
+
+pub returns-in_err-write-clause-full : goal.returns-in_err-write-clause-full
+returns-in_err-write-clause-full c e = let most = c.slice.ensures.grows.most in let most2 = c.and.ensures.grows.most in let most3 = c.and-2.ensures.grows.most in let full = c.and-3.ensures.full.0 (handed_on _ _ _ _ c.in_err-write.was c.from_residual-in_err-write.ensures.1 e) in omega (arith, most, most2, most3, full)
+
+pub returns-clause-full : goal.returns-clause-full
+returns-clause-full c e = cc
+
+pub slice-requires-clause-a_is : goal.slice-requires-clause-a_is
+slice-requires-clause-a_is c = c.requires.shown.place.is_net
+
+pub slice-requires-clause-inside : goal.slice-requires-clause-inside
+slice-requires-clause-inside c = let bit = c.requires.bit in let width = c.requires.shown.place.has_width in omega (arith, bit, width)
+
+pub and-requires-clause-a_is : goal.and-requires-clause-a_is
+and-requires-clause-a_is c = c.in_ok-here.ensures.net.0
+
+pub and-requires-clause-b_is : goal.and-requires-clause-b_is
+and-requires-clause-b_is c = c.slice.ensures.extends.nets _ _ c.requires.shown.gate.is_net
+
+pub and-requires-clause-widths : goal.and-requires-clause-widths
+and-requires-clause-widths c = (let one : c.args.k - c.args.k + 1 ≡ 1 = omega arith in c.in_ok-here.ensures.net.1 ∙ one) ∙ sym c.requires.shown.gate.has_width
+
+pub and-requires-2-clause-a_is : goal.and-requires-2-clause-a_is
+and-requires-2-clause-a_is c = c.in_ok-goes.ensures.net.0
+
+pub and-requires-2-clause-b_is : goal.and-requires-2-clause-b_is
+and-requires-2-clause-b_is c = (extends_twice _ _ _ c.slice.ensures.extends c.and.ensures.extends).nets _ _ c.requires.shown.command.read.is_net
+
+pub and-requires-2-clause-widths : goal.and-requires-2-clause-widths
+and-requires-2-clause-widths c = c.in_ok-goes.ensures.net.1 ∙ (let one : c.args.k - c.args.k + 1 ≡ 1 = omega arith in c.in_ok-here.ensures.net.1 ∙ one) ∙ sym c.requires.shown.command.read.has_width
+
+pub and-requires-3-clause-a_is : goal.and-requires-3-clause-a_is
+and-requires-3-clause-a_is c = c.and-2.ensures.extends.nets _ _ c.in_ok-goes.ensures.net.0
+
+pub and-requires-3-clause-b_is : goal.and-requires-3-clause-b_is
+and-requires-3-clause-b_is c = (extends_twice _ _ _ c.slice.ensures.extends (extends_twice _ _ _ c.and.ensures.extends c.and-2.ensures.extends)).nets _ _ c.requires.shown.command.write.is_net
+
+pub and-requires-3-clause-widths : goal.and-requires-3-clause-widths
+and-requires-3-clause-widths c = c.in_ok-goes.ensures.net.1 ∙ (let one : c.args.k - c.args.k + 1 ≡ 1 = omega arith in c.in_ok-here.ensures.net.1 ∙ one) ∙ sym c.requires.shown.command.write.has_width
