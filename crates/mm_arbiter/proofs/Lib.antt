@@ -1,0 +1,7 @@
+pub mod Rings
+pub mod Words
+pub mod Picks
+pub mod Turned
+pub mod Machine
+pub mod Ignores
+pub mod Wider

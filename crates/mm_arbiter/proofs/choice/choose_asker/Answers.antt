@@ -1,0 +1,34 @@
+use Rattle.std.proofs.Common.{◌≡◌, ℕ, ◌-◌, ◌^◌, ◌<◌, ◌∷◌, List, length, take, drop, ap, ◌∙◌, arith}
+use Rattle.std.proofs.lemmas.List.{length-map}
+use Rattle.netlist.specs.Runs.{Always}
+use Rattle.command_nets.specs.declared.nets.CommandNets.{CommandNets}
+use Rattle.command_nets.specs.Nets.{raw_in}
+use Rattle.command_nets.specs.Groups.{is_shown}
+use Rattle.mm_arbiter.specs.Asks.{number}
+use Rattle.mm_arbiter.specs.Shown.{asks_in}
+use Rattle.mm_arbiter.specs.Turns.{StandsAt}
+use Rattle.mm_arbiter.specs.Rounds.{seat_in, AreChosen}
+use Rattle.mm_arbiter.proofs.Words.{any_seat}
+use Rattle.mm_arbiter.proofs.Picks.{three_ok, split_whole}
+use Rattle.mm_arbiter.proofs.choice.choose_asker.Goals as goal
+
+pub returns-clause-value : goal.returns-clause-value
+returns-clause-value c =
+    let turns = c.args.turns.now in
+    let commands = c.args.commands.now in
+    let whole = ap (λ (first : CommandNets). first ∷ take (length commands - 1) (drop 1 commands)) c.index-commands-0.is ∙ split_whole commands _ (omega arith) in
+    three_ok c.choose_by.result _ _ _ (λ chosen. Always c.choose_by.new.builder (λ cycle. (k : ℕ) → k < length commands → cycle.net turns.holder.number ≡ 2 ^ k → AreChosen cycle turns chosen commands k))
+    (λ chosen seat stays some cycle v2 k lt is. (
+    let v1 = c.choose_by.ensures.adds.grows.extends.valuations cycle v2 in
+    let at : StandsAt cycle (length commands) c.in_ok-asks.asks turns.holder (asks_in cycle commands) k = record {
+      count_is = length-map commands (λ (command : CommandNets). is_shown (raw_in cycle command));
+      asks_are = c.in_ok-asks.ensures.value cycle v1 ∙ ap (λ (all : List CommandNets). number (asks_in cycle all)) whole;
+      holder_is = is;
+      within = lt;
+    } in
+    record {
+      seat = seat cycle v2 (asks_in cycle commands) k at;
+      some = any_seat (seat_in cycle turns commands k) _ _ (seat cycle v2 (asks_in cycle commands) k at) (some cycle v2);
+      stays = stays cycle v2 (asks_in cycle commands) k at;
+    }))
+    c.choose_by.ensures.seat c.choose_by.ensures.stays c.choose_by.ensures.some_is

@@ -1,0 +1,17 @@
+use Rattle.std.proofs.Common.{◌≡◌, ℕ, ◌+◌, suc, Bool, List, ap, ◌∙◌, arith}
+use Rattle.netlist.specs.Runs.{Always}
+use Rattle.net_parts.specs.Laws.{if_ok}
+use Rattle.mm_arbiter.specs.Asks.{first_high, past, or_else, first_after, seat_bit}
+use Rattle.mm_arbiter.specs.Turns.{StandsAt}
+use Rattle.mm_arbiter.proofs.Words.{past_length}
+use Rattle.mm_arbiter.proofs.first.first_asking.Goals as goal
+
+pub returns-clause-value : goal.returns-clause-value
+returns-clause-value c =
+    if_ok c.first_of.result _ (λ first. Always c.first_of.new.builder (λ cycle. (bits : List Bool) (k : ℕ) → StandsAt cycle c.args.count c.args.asks c.args.holder bits k → cycle.net first.number ≡ seat_bit (first_after k bits)))
+    (λ first value cycle v2 bits k at. (
+    let v1 = c.first_of.ensures.adds.grows.extends.valuations cycle v2 in
+    let same : k + 1 ≡ suc k = omega arith in
+    value cycle v2 (past (k + 1) bits) bits (past_length (k + 1) bits ∙ at.count_is) at.count_is (c.in_ok-behind.ensures.value cycle v1 bits k at) at.asks_are
+    ∙ ap (λ n. seat_bit (or_else (first_high (past n bits)) (first_high bits))) same))
+    c.first_of.ensures.value

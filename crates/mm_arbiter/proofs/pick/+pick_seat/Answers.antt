@@ -1,0 +1,75 @@
+use Rattle.std.proofs.Common.{◌≡◌, ℕ, ◌+◌, ◌-◌, ◌/◌, ◌^◌, ◌<◌, ◌≤◌, List, sym, subst, ap, ◌∙◌, arith}
+use Rattle.netlist.specs.Runs.{Always}
+use Rattle.net_parts.specs.Groups.{group_widths}
+use Rattle.net_parts.specs.Laws.{if_ok, extends_twice, net_lasts, adds_twice, adds_fewer}
+use Rattle.command_nets.specs.declared.nets.CommandNets.{CommandNets}
+use Rattle.command_nets.specs.Nets.{AreCommandNets, group_of}
+use Rattle.command_nets.specs.Groups.{command_lasts}
+use Rattle.mm_arbiter.specs.Shown.{HaveWidths, IsSeatOf, commands_last}
+use Rattle.mm_arbiter.proofs.Picks.{both_ok, asker_at, command_at, widths_at, seat_here, seat_chosen}
+use Rattle.mm_arbiter.proofs.pick.+pick_seat.Goals as goal
+
+pub seat_nets-requires-clause-some : goal.seat_nets-requires-clause-some
+seat_nets-requires-clause-some t c = (asker_at c.args.askers.now c.args.from _ c.requires.askers (omega arith)).0
+
+pub seat_nets-requires-clause-few : goal.seat_nets-requires-clause-few
+seat_nets-requires-clause-few t c = (asker_at c.args.askers.now c.args.from _ c.requires.askers (omega arith)).1
+
+pub returns-then-to-from-eq1-clause-command : goal.returns-then-to-from-eq1-clause-command
+returns-then-to-from-eq1-clause-command t c =
+    if_ok c.seat_nets.result _ (λ made. AreCommandNets c.seat_nets.new.builder made.command)
+    (λ made same. subst (AreCommandNets c.seat_nets.new.builder) (sym (same ∙ c.index-commands-from.is)) (command_lasts _ _ _ c.seat_nets.ensures.adds.grows.extends (command_at _ c.args.commands.now c.args.from _ c.requires.commands (omega arith))))
+    c.seat_nets.ensures.same
+
+pub returns-then-to-from-eq1-clause-widths : goal.returns-then-to-from-eq1-clause-widths
+returns-then-to-from-eq1-clause-widths t c =
+    if_ok c.seat_nets.result _ (λ made. (widths : List ℕ) → HaveWidths widths c.args.commands.now → group_widths (group_of made.command) ≡ widths)
+    (λ made same widths h. ap (λ (command : CommandNets). group_widths (group_of command)) (same ∙ c.index-commands-from.is) ∙ widths_at widths c.args.commands.now c.args.from _ h (omega arith))
+    c.seat_nets.ensures.same
+
+pub returns-then-to-from-eq1-clause-value : goal.returns-then-to-from-eq1-clause-value
+returns-then-to-from-eq1-clause-value t c =
+    let one = c.if-to-from-eq1.true in
+    both_ok c.seat_nets.result _ _ (λ made. Always c.seat_nets.new.builder (λ cycle. (k : ℕ) → c.args.from ≤ k → k < c.args.to → cycle.net c.args.bits.number ≡ 2 ^ k → IsSeatOf cycle made k c.args.askers.now c.args.commands.now))
+    (λ made same value cycle v k le lt is. (
+    let here : c.args.from ≡ k = omega (arith, one, le, lt) in
+    subst (λ n. IsSeatOf cycle made n c.args.askers.now c.args.commands.now) here
+    (seat_here cycle made c.args.from c.args.askers.now c.args.commands.now _ _ (omega arith) (omega arith) (same ∙ c.index-commands-from.is) (value cycle v))))
+    c.seat_nets.ensures.same c.seat_nets.ensures.value
+
+pub pick_seat-requires-2 : goal.pick_seat-requires-2
+pick_seat-requires-2 t c =
+    let d = c.decreases in
+    let order = c.requires.order in
+    let e = c.pick_seat.ensures.adds.grows.extends in
+    (omega (arith, d, order), (net_lasts _ _ _ _ e c.requires.bits, (omega (arith, order), (c.requires.within, (c.requires.same, (c.requires.few, (c.requires.askers, (commands_last _ _ _ e c.requires.commands, c.requires.alike))))))))
+
+pub choose_seat-requires-clause-other : goal.choose_seat-requires-clause-other
+choose_seat-requires-clause-other t c = command_lasts _ _ _ (extends_twice _ _ _ c.pick_seat-2.ensures.adds.grows.extends c.is_from.ensures.adds.grows.extends) c.in_ok-low.ensures.command
+
+pub choose_seat-requires-clause-widths : goal.choose_seat-requires-clause-widths
+choose_seat-requires-clause-widths t c =
+    let alike = c.requires.alike in
+    c.in_ok-high.ensures.widths alike.widths alike.each ∙ sym (c.in_ok-low.ensures.widths alike.widths alike.each)
+
+pub returns-clause-widths : goal.returns-clause-widths
+returns-clause-widths t c =
+    if_ok c.choose_seat.result _ (λ made. (widths : List ℕ) → HaveWidths widths c.args.commands.now → group_widths (group_of made.command) ≡ widths)
+    (λ made same widths h. same ∙ c.in_ok-high.ensures.widths widths h)
+    c.choose_seat.ensures.widths
+
+pub returns-clause-value : goal.returns-clause-value
+returns-clause-value t c =
+    let middle : ℕ = c.args.from + (c.args.to - c.args.from) / 2 in
+    both_ok c.choose_seat.result _ _ (λ made. Always c.choose_seat.new.builder (λ cycle. (k : ℕ) → c.args.from ≤ k → k < c.args.to → cycle.net c.args.bits.number ≡ 2 ^ k → IsSeatOf cycle made k c.args.askers.now c.args.commands.now))
+    (λ made raw spare cycle v4 k le lt is. (
+    let v3 = c.choose_seat.ensures.adds.grows.extends.valuations cycle v4 in
+    let v2 = c.is_from.ensures.adds.grows.extends.valuations cycle v3 in
+    let v1 = c.pick_seat-2.ensures.adds.grows.extends.valuations cycle v2 in
+    seat_chosen cycle made c.in_ok-high.high c.in_ok-low.low (cycle.net c.in_ok-upper.upper.number) middle k c.args.askers.now c.args.commands.now (c.in_ok-upper.ensures.value cycle v3 k lt is) (raw cycle v4) (spare cycle v4)
+    (λ above. c.in_ok-high.ensures.value cycle v2 k above lt is) (λ below. c.in_ok-low.ensures.value cycle v1 k le below is)))
+    c.choose_seat.ensures.value c.choose_seat.ensures.spare_is
+
+pub returns-clause-adds : goal.returns-clause-adds
+returns-clause-adds t c =
+    adds_fewer _ _ _ _ (omega arith) (adds_twice _ _ _ _ _ (adds_twice _ _ _ _ _ (adds_twice _ _ _ _ _ c.pick_seat.ensures.adds c.pick_seat-2.ensures.adds) c.is_from.ensures.adds) c.choose_seat.ensures.adds)

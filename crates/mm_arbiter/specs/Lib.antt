@@ -1,0 +1,9 @@
+pub mod Asks
+pub mod Shown
+pub mod Turns
+pub mod Rounds
+pub mod Forward
+pub mod Backward
+pub mod Backs
+pub mod Machine
+pub mod Wider
