@@ -1,6 +1,7 @@
 //! The accesses of a host.
 
-use crate::ends::Shape;
+use crate::ends::{Shape, address_of};
+use row_steps::{hex_number, parted, small_number};
 use std::alloc::AllocError;
 
 /// A read or a write.
@@ -25,7 +26,7 @@ fn kind_of<'a>(word: &'a str) -> Option<(bool, &'a str)> {
 /// The lanes behind a slash; all of them where there is none.
 fn lanes_of<'a>(shape: &Shape, word: &'a str) -> Option<(&'a str, u128)> {
     match word.split_once('/') {
-        Some((rest, lanes)) => Some((rest, u128::from_str_radix(lanes, 16).ok()?)),
+        Some((rest, lanes)) => Some((rest, hex_number(lanes)?)),
         None => Some((word, shape.all_lanes())),
     }
 }
@@ -35,12 +36,12 @@ impl Access {
     fn read(shape: &Shape, gap: u32, word: &str) -> Option<Access> {
         let (rest, lanes) = lanes_of(shape, word)?;
         let (writes, rest) = kind_of(rest)?;
-        let (address, word) = rest.split_once('=').unwrap_or((rest, "0"));
+        let (address, word) = parted(rest, '=', "0");
         Some(Access {
             gap,
             writes,
-            address: u32::from_str_radix(address, 16).ok()?,
-            word: u128::from_str_radix(word, 16).ok()?,
+            address: address_of(address)?,
+            word: hex_number(word)?,
             lanes,
         })
     }
@@ -63,11 +64,11 @@ pub fn push_accesses(
     gap: u32,
     word: &str,
 ) -> Result<bool, AllocError> {
-    let (one, times) = word.split_once('*').unwrap_or((word, "1"));
+    let (one, times) = parted(word, '*', "1");
     let Some(mut access) = Access::read(shape, gap, one) else {
         return Ok(false);
     };
-    let times: u8 = times.parse().unwrap_or(0);
+    let times = small_number(times).unwrap_or(0);
     for _ in 0..times {
         accesses.push(access)?;
         access = access.next(shape);

@@ -2,177 +2,199 @@
 
 use crate::driver::Driver;
 use crate::ends::Agent;
-use crate::events::{Breach, Event, Moment, Tally};
+use crate::events::{Event, Log, Tally};
 use crate::memory::Memory;
 use crate::row::Row;
 use crate::rules::Rule;
 use crate::signals::{Answer, Command};
+use iface_roles::Role;
+use netlist::Module;
+use row_steps::{Bench, Inputs, Outputs, System, port_that_ends};
 use std::alloc::{AllocError, Global};
+use system_tables::EndId;
 
-/// What they show in a cycle.
+/// An agent at the ports of the module.
 #[derive(Drop)]
-pub struct Shown {
-    pub host: Command,
-    /// By the agents' numbers.
-    pub agents: Vec<Answer>,
-}
-
-/// What an agent sees in a cycle, and whether another host than the only one is said to be served.
-#[derive(Clone, Copy)]
-pub struct AgentSees {
-    pub command: Command,
-    pub other_host: bool,
-}
-
-/// What they see in a cycle.
-#[derive(Drop)]
-pub struct Seen {
-    pub host: Answer,
-    /// By the agents' numbers.
-    pub agents: Vec<AgentSees>,
+struct AgentAt {
+    agent: Agent,
+    number: u32,
+    end: EndId,
+    /// Its port `grant`.
+    grant: Option<u32>,
+    memory: Memory,
 }
 
 /// All of them, as a cycle begins.
 #[derive(Drop)]
-pub struct Bench {
+pub struct Ends<'a> {
+    row: &'a Row,
+    host: EndId,
     driver: Driver,
-    memories: Vec<Memory>,
-    moments: Vec<Moment>,
-    breach: Option<Breach>,
+    /// By their numbers.
+    agents: Vec<AgentAt>,
+    log: Log,
 }
 
-/// What an agent sees, in all lanes where it has no byte enables.
-fn seen_by(agent: &Agent, command: Command) -> Command {
-    if agent.shape.enables {
-        command
-    } else {
-        Command {
-            lanes: agent.shape.all_lanes(),
-            ..command
-        }
+/// Sets what a host shows.
+fn set_command(inputs: &mut Inputs, host: EndId, command: &Command) -> Result<(), AllocError> {
+    let levels = [
+        (Role::Address, command.address),
+        (Role::Read, u128::from(command.read)),
+        (Role::Write, u128::from(command.write)),
+        (Role::WriteData, command.word),
+        (Role::ByteEnable, command.lanes),
+    ];
+    for (role, bits) in levels {
+        inputs.set(host, role, bits)?;
+    }
+    Ok(())
+}
+
+/// Sets what an agent gives.
+fn set_answer(inputs: &mut Inputs, agent: EndId, answer: &Answer) -> Result<(), AllocError> {
+    inputs.set(agent, Role::WaitRequest, u128::from(answer.wait))?;
+    inputs.set(agent, Role::ReadDataValid, u128::from(answer.valid))?;
+    inputs.set(agent, Role::ReadData, answer.word)
+}
+
+/// What a host sees.
+fn answer_at(outputs: &Outputs, host: EndId) -> Answer {
+    Answer {
+        wait: outputs.is_high(host, Role::WaitRequest),
+        valid: outputs.is_high(host, Role::ReadDataValid),
+        word: outputs.level(host, Role::ReadData),
     }
 }
 
-/// The rule that is broken once the cycle has ended for the agent of this number.
-fn broken_after(memory: &Memory, agent: &Agent, number: u32, other_host: bool) -> Option<Rule> {
-    if other_host {
-        Some(Rule::Granted { agent: number })
-    } else if memory.bears_too_many(agent) {
-        Some(Rule::AgentBound { agent: number })
-    } else {
-        None
-    }
-}
-
-impl Bench {
-    pub fn new(alloc: Global, row: &Row) -> Result<Bench, AllocError> {
-        let mut memories = Vec::new(alloc);
-        for _ in row.agents.as_slice() {
-            memories.push(Memory::new(alloc))?;
-        }
-        Ok(Bench {
-            driver: Driver::new(),
-            memories,
-            moments: Vec::new(alloc),
-            breach: None,
-        })
-    }
-
-    pub fn shows(&self, alloc: Global, row: &Row, cycle: u32) -> Result<Shown, AllocError> {
-        let mut agents = Vec::new(alloc);
-        for (memory, agent) in self.memories.as_slice().iter().zip(row.agents.as_slice()) {
-            agents.push(memory.gives(agent, cycle))?;
-        }
-        Ok(Shown {
-            host: self.driver.shows(row),
-            agents,
-        })
-    }
-
-    /// Notes a rule that is broken, where it is the first.
-    fn note(&mut self, cycle: u32, broken: Option<Rule>) {
-        if self.breach.is_none() {
-            self.breach = match broken {
-                Some(rule) => Some(Breach { cycle, rule }),
-                None => None,
-            };
+impl AgentAt {
+    fn new(alloc: Global, agent: Agent, number: u32, end: EndId, module: &Module) -> AgentAt {
+        AgentAt {
+            agent,
+            number,
+            end,
+            grant: port_that_ends(module, "$grant", number as usize),
+            memory: Memory::new(alloc),
         }
     }
 
-    fn push(&mut self, cycle: u32, event: Event) -> Result<(), AllocError> {
-        self.moments.push(Moment { cycle, event })?;
-        Ok(())
-    }
-
-    /// The cycle ends for the agent of this number.
-    fn agent_sees(
-        &mut self,
-        agent: &Agent,
-        number: u32,
-        sees: &AgentSees,
-        answer: &Answer,
-        cycle: u32,
-    ) -> Result<(), AllocError> {
-        let Some(memory) = self.memories.get_mut(number as usize) else {
-            return Ok(());
+    /// What the agent sees, in all lanes where it has no byte enables.
+    fn command_at(&self, outputs: &Outputs) -> Command {
+        let lanes = if self.agent.shape.enables {
+            outputs.level(self.end, Role::ByteEnable)
+        } else {
+            self.agent.shape.all_lanes()
         };
-        let command = seen_by(agent, sees.command);
-        let broken = memory.judges(agent, number, &command);
-        let accepted = memory.sees(agent, &command, answer, cycle)?;
-        let after = broken_after(memory, agent, number, accepted && sees.other_host);
-        self.note(cycle, broken.or(after));
-        if !accepted {
-            return Ok(());
+        Command {
+            read: outputs.is_high(self.end, Role::Read),
+            write: outputs.is_high(self.end, Role::Write),
+            address: outputs.level(self.end, Role::Address),
+            word: outputs.level(self.end, Role::WriteData),
+            lanes,
         }
-        let enables = agent.shape.enables;
-        self.push(
-            cycle,
-            Event::Accepts {
-                agent: number,
-                command,
-                enables,
-            },
-        )
     }
 
-    fn host_sees(
-        &mut self,
-        row: &Row,
-        shown: &Command,
-        answer: &Answer,
-        cycle: u32,
-    ) -> Result<(), AllocError> {
-        let broken = self.driver.judges(&row.host, shown, answer);
-        self.note(cycle, broken);
-        match self.driver.sees(&row.host, shown, answer) {
-            Some(word) => self.push(cycle, Event::Gets { word }),
-            None => Ok(()),
+    /// The rule that is broken once the cycle has ended.
+    fn broken_after(&self, other_host: bool) -> Option<Rule> {
+        let agent = self.number;
+        if other_host {
+            Some(Rule::Granted { agent })
+        } else if self.memory.bears_too_many(&self.agent) {
+            Some(Rule::AgentBound { agent })
+        } else {
+            None
         }
     }
 
     /// The cycle ends.
-    pub fn sees(
-        &mut self,
-        row: &Row,
-        shown: &Shown,
-        seen: &Seen,
-        cycle: u32,
-    ) -> Result<(), AllocError> {
-        let given = seen.agents.as_slice().iter().zip(shown.agents.as_slice());
-        let ends = row.agents.as_slice().iter().zip(given);
-        for (number, (agent, (sees, answer))) in (0..u32::MAX).zip(ends) {
-            self.agent_sees(agent, number, sees, answer, cycle)?;
+    fn sees(&mut self, outputs: &Outputs, cycle: u32, log: &mut Log) -> Result<(), AllocError> {
+        let command = self.command_at(outputs);
+        let answer = self.memory.gives(&self.agent, cycle);
+        log.note(
+            cycle,
+            self.memory.judges(&self.agent, self.number, &command),
+        );
+        let accepted = self.memory.sees(&self.agent, &command, &answer, cycle)?;
+        let other_host = outputs.level_at(self.grant) != 0;
+        log.note(cycle, self.broken_after(accepted && other_host));
+        if !accepted {
+            return Ok(());
         }
-        self.host_sees(row, &shown.host, &seen.host, cycle)
+        let event = Event::Accepts {
+            agent: self.number,
+            command,
+            enables: self.agent.shape.enables,
+        };
+        log.push(cycle, event)
+    }
+}
+
+/// The agents of a row at the ports of its module.
+fn agents_at(alloc: Global, row: &Row, system: &System) -> Result<Vec<AgentAt>, AllocError> {
+    let mut agents = Vec::new(alloc);
+    let ends = row.agents.as_slice().iter().zip(system.plan.agents());
+    for (number, (agent, end)) in (0..u32::MAX).zip(ends) {
+        agents.push(AgentAt::new(alloc, *agent, number, *end, &system.built.module))?;
+    }
+    Ok(agents)
+}
+
+impl Ends<'_> {
+    /// Those of a row at the ports of its module.
+    pub fn new<'a>(
+        alloc: Global,
+        row: &'a Row,
+        host: EndId,
+        system: &System,
+    ) -> Result<Ends<'a>, AllocError> {
+        Ok(Ends {
+            row,
+            host,
+            driver: Driver::new(),
+            agents: agents_at(alloc, row, system)?,
+            log: Log::new(alloc),
+        })
+    }
+
+    /// The cycle ends for the host.
+    fn host_sees(&mut self, outputs: &Outputs, cycle: u32) -> Result<(), AllocError> {
+        let host = &self.row.host;
+        let shown = self.driver.shows(self.row);
+        let answer = answer_at(outputs, self.host);
+        self.log
+            .note(cycle, self.driver.judges(host, &shown, &answer));
+        match self.driver.sees(host, &shown, &answer) {
+            Some(word) => self.log.push(cycle, Event::Gets { word }),
+            None => Ok(()),
+        }
     }
 
     /// What came of it.
-    pub fn tally(self, row: &Row) -> Tally {
+    pub fn tally(self) -> Tally {
         Tally {
-            left: self.driver.left(row),
+            left: self.driver.left(self.row),
             unanswered: self.driver.unanswered(),
-            moments: self.moments,
-            breach: self.breach,
+            log: self.log,
         }
+    }
+}
+
+impl Bench for Ends<'_> {
+    fn shows(&self, inputs: &mut Inputs, cycle: u32) -> Result<(), AllocError> {
+        set_command(inputs, self.host, &self.driver.shows(self.row))?;
+        for joined in self.agents.as_slice() {
+            set_answer(
+                inputs,
+                joined.end,
+                &joined.memory.gives(&joined.agent, cycle),
+            )?;
+        }
+        Ok(())
+    }
+
+    fn sees(&mut self, outputs: &Outputs, cycle: u32) -> Result<(), AllocError> {
+        for joined in self.agents.as_mut_slice().iter_mut() {
+            joined.sees(outputs, cycle, &mut self.log)?;
+        }
+        self.host_sees(outputs, cycle)
     }
 }

@@ -1,5 +1,7 @@
 //! What is declared of a host and of an agent.
 
+use row_steps::{hex_number, parted, small_number};
+
 /// What hosts and agents have alike. An agent that reads has `readdatavalid`.
 #[derive(Clone, Copy)]
 pub struct Shape {
@@ -42,6 +44,11 @@ pub struct Agent {
     pub wait: Option<Pattern>,
 }
 
+/// The address of a hexadecimal word.
+pub fn address_of(word: &str) -> Option<u32> {
+    u32::from_str_radix(word, 16).ok()
+}
+
 /// Whether there are reads, and writes.
 fn kinds_of(word: &str) -> Option<(bool, bool)> {
     match word {
@@ -56,7 +63,7 @@ impl Shape {
     fn read(bits: &str, kinds: &str, counts_words: bool) -> Option<Shape> {
         let (reads, writes) = kinds_of(kinds)?;
         Some(Shape {
-            bits: bits.parse().ok()?,
+            bits: small_number(bits)?,
             address_bits: 0,
             reads,
             writes,
@@ -65,28 +72,17 @@ impl Shape {
         })
     }
 
-    /// The shape with one more property.
-    fn with(self, property: &str) -> Option<Shape> {
-        let (name, number) = property.split_once('=').unwrap_or((property, "0"));
+    /// Sets one more property, as `enables`; None where there is no such property.
+    fn set(&mut self, property: &str) -> Option<()> {
+        let (name, number) = parted(property, '=', "0");
         match name {
-            "address" => Some(Shape {
-                address_bits: number.parse().ok()?,
-                ..self
-            }),
-            "enables" => Some(Shape {
-                enables: true,
-                ..self
-            }),
-            "words" => Some(Shape {
-                counts_words: true,
-                ..self
-            }),
-            "bytes" => Some(Shape {
-                counts_words: false,
-                ..self
-            }),
-            _ => None,
+            "address" => self.address_bits = small_number(number)?,
+            "enables" => self.enables = true,
+            "words" => self.counts_words = true,
+            "bytes" => self.counts_words = false,
+            _ => return None,
         }
+        Some(())
     }
 
     pub fn word_bytes(&self) -> u8 {
@@ -115,17 +111,13 @@ impl Shape {
 }
 
 impl Host {
-    fn with(self, property: &str) -> Option<Host> {
+    /// Sets one more property, as `valid` or `enables`; None where there is no such property.
+    fn set(&mut self, property: &str) -> Option<()> {
         if property == "valid" {
-            return Some(Host {
-                valid: true,
-                ..self
-            });
+            self.valid = true;
+            return Some(());
         }
-        Some(Host {
-            shape: self.shape.with(property)?,
-            ..self
-        })
+        self.shape.set(property)
     }
 
     /// The host of a word, as `32,rw,address=10,valid,enables`.
@@ -136,7 +128,7 @@ impl Host {
             valid: false,
         };
         for property in parts {
-            host = host.with(property)?;
+            host.set(property)?;
         }
         Some(host)
     }
@@ -158,35 +150,18 @@ impl Pattern {
 }
 
 impl Agent {
-    /// The agent with one more property, as `at=100` or `enables`.
-    fn with(self, property: &str) -> Option<Agent> {
-        let (name, value) = property.split_once('=').unwrap_or((property, "0"));
+    /// Sets one more property, as `at=100` or `enables`; None where there is no such property.
+    fn set(&mut self, property: &str) -> Option<()> {
+        let (name, value) = parted(property, '=', "0");
         match name {
-            "at" => Some(Agent {
-                base: u32::from_str_radix(value, 16).ok()?,
-                ..self
-            }),
-            "pending" => Some(Agent {
-                pending: value.parse().ok()?,
-                ..self
-            }),
-            "latency" => Some(Agent {
-                latency: value.parse().ok()?,
-                ..self
-            }),
-            "first" => Some(Agent {
-                first: u128::from_str_radix(value, 16).ok()?,
-                ..self
-            }),
-            "wait" => Some(Agent {
-                wait: Some(Pattern::read(value)?),
-                ..self
-            }),
-            _ => Some(Agent {
-                shape: self.shape.with(property)?,
-                ..self
-            }),
+            "at" => self.base = address_of(value)?,
+            "pending" => self.pending = small_number(value)?,
+            "latency" => self.latency = small_number(value)?,
+            "first" => self.first = hex_number(value)?,
+            "wait" => self.wait = Some(Pattern::read(value)?),
+            _ => self.shape.set(property)?,
         }
+        Some(())
     }
 
     /// The agent of a word, as `32,rw,address=6,at=100,pending=4,latency=9,first=11,wait=0`.
@@ -201,7 +176,7 @@ impl Agent {
             wait: None,
         };
         for property in parts {
-            agent = agent.with(property)?;
+            agent.set(property)?;
         }
         Some(agent)
     }

@@ -2,7 +2,7 @@
 
 use crate::rules::{Rule, push_broken};
 use crate::signals::Command;
-use std::alloc::AllocError;
+use std::alloc::{AllocError, Global};
 
 /// What happens in a cycle.
 #[derive(Clone, Copy)]
@@ -21,26 +21,56 @@ pub enum Event {
 
 /// An event and its cycle.
 #[derive(Clone, Copy)]
-pub struct Moment {
-    pub cycle: u32,
-    pub event: Event,
+struct Moment {
+    cycle: u32,
+    event: Event,
 }
 
 /// The first rule that was broken, and its cycle.
 #[derive(Clone, Copy)]
-pub struct Breach {
-    pub cycle: u32,
-    pub rule: Rule,
+struct Breach {
+    cycle: u32,
+    rule: Rule,
+}
+
+/// What has happened so far.
+#[derive(Drop)]
+pub struct Log {
+    moments: Vec<Moment>,
+    breach: Option<Breach>,
 }
 
 #[derive(Drop)]
 pub struct Tally {
-    pub moments: Vec<Moment>,
+    pub log: Log,
     /// How many accesses the host hasn't got accepted.
     pub left: usize,
     /// How many words it still waits for.
     pub unanswered: u32,
-    pub breach: Option<Breach>,
+}
+
+impl Log {
+    pub fn new(alloc: Global) -> Log {
+        Log {
+            moments: Vec::new(alloc),
+            breach: None,
+        }
+    }
+
+    /// Notes a rule that is broken, where it is the first.
+    pub fn note(&mut self, cycle: u32, broken: Option<Rule>) {
+        if self.breach.is_some() {
+            return;
+        }
+        if let Some(rule) = broken {
+            self.breach = Some(Breach { cycle, rule });
+        }
+    }
+
+    pub fn push(&mut self, cycle: u32, event: Event) -> Result<(), AllocError> {
+        self.moments.push(Moment { cycle, event })?;
+        Ok(())
+    }
 }
 
 /// Appends the beat that an agent accepts.
@@ -98,14 +128,20 @@ fn push_breach(text: &mut String, breach: Option<Breach>) -> Result<(), AllocErr
     }
 }
 
-/// Appends what came of a run, a line for each event.
-pub fn push_tally(text: &mut String, tally: &Tally) -> Result<(), AllocError> {
-    for moment in tally.moments.as_slice() {
+/// Appends what happened, a line for each event.
+fn push_moments(text: &mut String, moments: &[Moment]) -> Result<(), AllocError> {
+    for moment in moments {
         let cycle = moment.cycle;
         write!(text, "\n  {cycle} ")?;
         push_event(text, moment.event)?;
     }
+    Ok(())
+}
+
+/// Appends what came of a run.
+pub fn push_tally(text: &mut String, tally: &Tally) -> Result<(), AllocError> {
+    push_moments(text, tally.log.moments.as_slice())?;
     text.push_str("\n  ")?;
     push_left(text, tally)?;
-    push_breach(text, tally.breach)
+    push_breach(text, tally.log.breach)
 }

@@ -17,19 +17,14 @@ mod steps;
 use av_base::NoMemory;
 use events::push_tally;
 use row::Row;
+use row_steps::{Answers, answer_lines};
 use std::alloc::Global;
 use std::io;
 use steps::{Outcome, run_row};
 
-/// Appends what is said of a line; nothing of one that tells what rows are for.
-fn push_answer(alloc: Global, text: &mut String, line: &str) -> Result<(), NoMemory> {
-    if line.starts_with('#') {
-        return Ok(());
-    }
-    let Some(row) = Row::read(alloc, line)? else {
-        return Ok(text.push_str("\n  not a row")?);
-    };
-    match run_row(alloc, &row)? {
+/// Appends what is said of a row.
+fn push_row(alloc: Global, text: &mut String, row: &Row) -> Result<(), NoMemory> {
+    match run_row(alloc, row)? {
         Outcome::Refused => text.push_str("\n  refused")?,
         Outcome::NotBuilt => text.push_str("\n  not built")?,
         Outcome::Ran(tally) => push_tally(text, &tally)?,
@@ -37,20 +32,21 @@ fn push_answer(alloc: Global, text: &mut String, line: &str) -> Result<(), NoMem
     Ok(())
 }
 
-fn answer_of(alloc: Global, line: &str) -> Result<String, NoMemory> {
-    let mut text = String::new(alloc);
-    push_answer(alloc, &mut text, line)?;
-    Ok(text)
+/// What is said of rows; nothing of a line that tells what rows are for.
+struct Rows;
+
+impl Answers for Rows {
+    fn push_answer(alloc: Global, text: &mut String, line: &str) -> Result<(), NoMemory> {
+        if line.starts_with('#') {
+            return Ok(());
+        }
+        match Row::read(alloc, line)? {
+            Some(row) => push_row(alloc, text, &row),
+            None => Ok(text.push_str("\n  not a row")?),
+        }
+    }
 }
 
 fn main(rt: HostRuntime) -> io::Result<()> {
-    let alloc = rt.alloc();
-    for line in rt.lines(alloc) {
-        let line = line?;
-        let Ok(answer) = answer_of(alloc, line.as_str()) else {
-            return Err(io::ErrorKind::OutOfMemory.into());
-        };
-        println!(rt; "{line}{answer}")?;
-    }
-    Ok(())
+    answer_lines::<Rows, _>(&rt)
 }

@@ -3,6 +3,7 @@
 use crate::ends::{Agent, Host, Shape};
 use crate::row::Row;
 use av_base::Bytes;
+use row_steps::push_port;
 use std::alloc::{AllocError, Global};
 
 /// What the scripts call an interface, and the directions of its ports.
@@ -25,23 +26,6 @@ const AGENT: Side<'static> = Side {
     answer: "Output",
 };
 
-/// Appends a port of so many bits, none where there are 0.
-fn push_port(
-    text: &mut String,
-    interface: &str,
-    role: &str,
-    direction: &str,
-    bits: u8,
-) -> Result<(), AllocError> {
-    if bits == 0 {
-        return Ok(());
-    }
-    write!(
-        text,
-        "add_interface_port {interface} {role} {role} {direction} {bits}\n"
-    )
-}
-
 /// So many bits where the port is there.
 fn bits_if(there: bool, bits: u8) -> u8 {
     if there { bits } else { 0 }
@@ -63,7 +47,7 @@ fn push_ports(text: &mut String, side: &Side, shape: &Shape) -> Result<(), Alloc
         ("readdata", side.answer, bits_if(shape.reads, bits)),
     ];
     for (role, direction, bits) in ports {
-        push_port(text, side.interface, role, direction, bits)?;
+        push_port(text, side.interface, role, direction, u16::from(bits))?;
     }
     Ok(())
 }
@@ -77,7 +61,7 @@ fn push_handshake(
 ) -> Result<(), AllocError> {
     let ports = [("waitrequest", waits), ("readdatavalid", valid)];
     for (role, there) in ports {
-        push_port(text, side.interface, role, side.answer, bits_if(there, 1))?;
+        push_port(text, side.interface, role, side.answer, u16::from(there))?;
     }
     Ok(())
 }
@@ -131,12 +115,17 @@ fn push_connection(text: &mut String, agent: &Agent, number: u32) -> Result<(), 
     )
 }
 
+fn push_system(text: &mut String, agents: &[Agent]) -> Result<(), AllocError> {
+    text.push_str("create_system row\nadd_instance h host\n")?;
+    for (number, agent) in (0..u32::MAX).zip(agents) {
+        push_connection(text, agent, number)?;
+    }
+    Ok(())
+}
+
 fn system(alloc: Global, row: &Row) -> Result<Bytes, AllocError> {
     let mut text = String::new(alloc);
-    text.push_str("create_system row\nadd_instance h host\n")?;
-    for (number, agent) in (0..u32::MAX).zip(row.agents.as_slice()) {
-        push_connection(&mut text, agent, number)?;
-    }
+    push_system(&mut text, row.agents.as_slice())?;
     Ok(Bytes::from(text))
 }
 
@@ -152,13 +141,28 @@ fn agent_component(alloc: Global, agent: &Agent, number: u32) -> Result<Bytes, A
     Ok(Bytes::from(text))
 }
 
+/// Appends the files of agents.
+fn push_agent_components(
+    alloc: Global,
+    files: &mut Vec<Bytes>,
+    agents: &[Agent],
+) -> Result<(), AllocError> {
+    for (number, agent) in (0..u32::MAX).zip(agents) {
+        files.push(agent_component(alloc, agent, number)?)?;
+    }
+    Ok(())
+}
+
+/// Appends the system's file and those of its components.
+fn push_files(alloc: Global, files: &mut Vec<Bytes>, row: &Row) -> Result<(), AllocError> {
+    files.push(system(alloc, row)?)?;
+    files.push(host_component(alloc, &row.host)?)?;
+    push_agent_components(alloc, files, row.agents.as_slice())
+}
+
 /// The system's file and those of its components.
 pub fn files_of(alloc: Global, row: &Row) -> Result<Vec<Bytes>, AllocError> {
     let mut files = Vec::new(alloc);
-    files.push(system(alloc, row)?)?;
-    files.push(host_component(alloc, &row.host)?)?;
-    for (number, agent) in (0..u32::MAX).zip(row.agents.as_slice()) {
-        files.push(agent_component(alloc, agent, number)?)?;
-    }
+    push_files(alloc, &mut files, row)?;
     Ok(files)
 }

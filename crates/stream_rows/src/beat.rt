@@ -1,6 +1,7 @@
 //! Beats, their text, and their symbols.
 
 use crate::end::End;
+use row_steps::{hex_number, parted, small_number};
 use std::alloc::{AllocError, Global};
 
 #[derive(Clone, Copy, PartialEq)]
@@ -35,38 +36,27 @@ impl Beat {
         }
     }
 
-    /// The beat with one more mark, as `s` or `empty=1`.
-    fn with(self, mark: &str) -> Option<Beat> {
-        let (name, number) = mark.split_once('=').unwrap_or((mark, "0"));
-        let number: u8 = number.parse().ok()?;
+    /// Sets one more mark, as `s` or `empty=1`; None where there is no such mark.
+    fn set(&mut self, mark: &str) -> Option<()> {
+        let (name, number) = parted(mark, '=', "0");
+        let number = small_number(number)?;
         match name {
-            "s" => Some(Beat {
-                first: true,
-                ..self
-            }),
-            "e" => Some(Beat { last: true, ..self }),
-            "empty" => Some(Beat {
-                empty: number,
-                ..self
-            }),
-            "channel" => Some(Beat {
-                channel: u32::from(number),
-                ..self
-            }),
-            "error" => Some(Beat {
-                error: u32::from(number),
-                ..self
-            }),
-            _ => None,
+            "s" => self.first = true,
+            "e" => self.last = true,
+            "empty" => self.empty = number,
+            "channel" => self.channel = u32::from(number),
+            "error" => self.error = u32::from(number),
+            _ => return None,
         }
+        Some(())
     }
 
     /// The beat of a word, as `070000/e/empty=2`.
     pub fn read(word: &str) -> Option<Beat> {
         let mut parts = word.split('/');
-        let mut beat = Beat::plain(u128::from_str_radix(parts.next()?, 16).ok()?);
+        let mut beat = Beat::plain(hex_number(parts.next()?)?);
         for mark in parts {
-            beat = beat.with(mark)?;
+            beat.set(mark)?;
         }
         Some(beat)
     }

@@ -36,7 +36,7 @@ pub struct Tally {
 
 /// Both ends, as a cycle begins.
 #[derive(Drop)]
-pub struct Bench {
+pub struct Ends {
     sent: usize,
     /// The ready that the source saw, and the one that the sink showed, cycle by cycle.
     upstream: Vec<bool>,
@@ -54,9 +54,9 @@ fn was_ready(levels: &[bool], latency: u8, cycle: u32) -> bool {
     }
 }
 
-impl Bench {
-    pub fn new(alloc: Global) -> Bench {
-        Bench {
+impl Ends {
+    pub fn new(alloc: Global) -> Ends {
+        Ends {
             sent: 0,
             upstream: Vec::new(alloc),
             downstream: Vec::new(alloc),
@@ -123,13 +123,8 @@ impl Bench {
     }
 
     /// The cycle ends.
-    pub fn sees(
-        &mut self,
-        row: &Row,
-        shown: Shown,
-        seen: Seen,
-        cycle: u32,
-    ) -> Result<(), AllocError> {
+    pub fn sees(&mut self, row: &Row, seen: Seen, cycle: u32) -> Result<(), AllocError> {
+        let shown = self.shows(row, cycle);
         let latency = row.source.latency.unwrap_or(0);
         if shown.beat.is_some() && (latency > 0 || seen.ready) {
             self.sent = self.sent.saturating_add(1);

@@ -1,5 +1,7 @@
 //! What is declared of an end of a stream.
 
+use row_steps::{parted, small_number};
+
 /// An end, its widths in bits, 0 where it doesn't have the port.
 #[derive(Clone, Copy)]
 pub struct End {
@@ -21,45 +23,25 @@ pub struct End {
 /// The symbols of a beat and the bits of a symbol, as `3x8`.
 fn sizes_of(word: &str) -> Option<(u8, u8)> {
     let (symbols, bits) = word.split_once('x')?;
-    Some((symbols.parse().ok()?, bits.parse().ok()?))
+    Some((small_number(symbols)?, small_number(bits)?))
 }
 
 impl End {
-    /// The end with one more property, as `ready=2` or `packets`.
-    fn with(self, property: &str) -> Option<End> {
-        let (name, number) = property.split_once('=').unwrap_or((property, "0"));
-        let number: u8 = number.parse().ok()?;
+    /// Sets one more property, as `ready=2` or `packets`; None where there is no such property.
+    fn set(&mut self, property: &str) -> Option<()> {
+        let (name, number) = parted(property, '=', "0");
+        let number = small_number(number)?;
         match name {
-            "ready" => Some(End {
-                latency: Some(number),
-                ..self
-            }),
-            "low" => Some(End {
-                low_first: true,
-                ..self
-            }),
-            "packets" => Some(End {
-                packets: true,
-                ..self
-            }),
-            "empty" => Some(End {
-                empty_bits: number,
-                ..self
-            }),
-            "error" => Some(End {
-                error_bits: number,
-                ..self
-            }),
-            "channel" => Some(End {
-                channel_bits: number,
-                ..self
-            }),
-            "largest" => Some(End {
-                largest_channel: u32::from(number),
-                ..self
-            }),
-            _ => None,
+            "ready" => self.latency = Some(number),
+            "low" => self.low_first = true,
+            "packets" => self.packets = true,
+            "empty" => self.empty_bits = number,
+            "error" => self.error_bits = number,
+            "channel" => self.channel_bits = number,
+            "largest" => self.largest_channel = u32::from(number),
+            _ => return None,
         }
+        Some(())
     }
 
     /// The end of a word, as `3x8,ready=2,packets,empty=2`.
@@ -78,7 +60,7 @@ impl End {
             largest_channel: 0,
         };
         for property in parts {
-            end = end.with(property)?;
+            end.set(property)?;
         }
         Some(end)
     }

@@ -13,6 +13,7 @@ use av_base::NoMemory;
 use beat::{Beat, Symbol, push_beat, symbols_of};
 use bench::Tally;
 use row::Row;
+use row_steps::{Answers, answer_lines};
 use std::alloc::{AllocError, Global};
 use std::io;
 use steps::run_row;
@@ -88,32 +89,23 @@ fn push_run(alloc: Global, text: &mut String, row: &Row, tally: &Tally) -> Resul
     push_pace(text, tally)
 }
 
-/// Appends what is said of a line.
-fn push_answer(alloc: Global, text: &mut String, line: &str) -> Result<(), NoMemory> {
-    let Some(row) = Row::read(alloc, line)? else {
-        return Ok(text.push_str(" not a row")?);
-    };
-    match run_row(alloc, &row)? {
-        Some(tally) => push_run(alloc, text, &row, &tally)?,
-        None => text.push_str(" not built")?,
-    }
-    Ok(())
-}
+/// What is said of rows.
+struct Rows;
 
-fn answer_of(alloc: Global, line: &str) -> Result<String, NoMemory> {
-    let mut text = String::new(alloc);
-    push_answer(alloc, &mut text, line)?;
-    Ok(text)
+impl Answers for Rows {
+    fn push_answer(alloc: Global, text: &mut String, line: &str) -> Result<(), NoMemory> {
+        let Some(row) = Row::read(alloc, line)? else {
+            return Ok(text.push_str(": not a row")?);
+        };
+        text.push(':')?;
+        match run_row(alloc, &row)? {
+            Some(tally) => push_run(alloc, text, &row, &tally)?,
+            None => text.push_str(" not built")?,
+        }
+        Ok(())
+    }
 }
 
 fn main(rt: HostRuntime) -> io::Result<()> {
-    let alloc = rt.alloc();
-    for line in rt.lines(alloc) {
-        let line = line?;
-        let Ok(answer) = answer_of(alloc, line.as_str()) else {
-            return Err(io::ErrorKind::OutOfMemory.into());
-        };
-        println!(rt; "{line}:{answer}")?;
-    }
-    Ok(())
+    answer_lines::<Rows, _>(&rt)
 }

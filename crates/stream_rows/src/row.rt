@@ -2,6 +2,7 @@
 
 use crate::beat::Beat;
 use crate::end::End;
+use row_steps::small_number;
 use std::alloc::{AllocError, Global};
 use std::str::SplitWhitespace;
 
@@ -87,11 +88,11 @@ fn push_packets(beats: &mut Vec<Beat>, end: &End, count: u8) -> Result<(), Alloc
 /// Appends what a word says: a beat, or how many; None where it says neither.
 fn push_word(beats: &mut Vec<Beat>, end: &End, word: &str) -> Result<Option<bool>, AllocError> {
     if let Some(count) = word.strip_prefix("beats=") {
-        push_beats(beats, end, count.parse().unwrap_or(0))?;
+        push_beats(beats, end, small_number(count).unwrap_or(0))?;
         return Ok(Some(true));
     }
     if let Some(count) = word.strip_prefix("packets=") {
-        push_packets(beats, end, count.parse().unwrap_or(0))?;
+        push_packets(beats, end, small_number(count).unwrap_or(0))?;
         return Ok(Some(true));
     }
     match Beat::read(word) {
@@ -116,7 +117,7 @@ struct Head<'a> {
 fn head_of<'a>(words: &mut SplitWhitespace<'a>) -> Option<Head<'a>> {
     let source = End::read(words.next()?)?;
     let sink = End::read(words.next()?)?;
-    let depth = words.next()?.parse().ok()?;
+    let depth = small_number(words.next()?)?;
     let levels = words.next()?;
     let cycles = words.next()?.parse().ok()?;
     Some(Head {

@@ -1,10 +1,9 @@
 //! The scripts of a row: a source, a sink, and a system that joins them.
 
-ghost use Rattle.std.specs.Prelude.{◌^◌, ◌<◌, IsTrue, All, length, IfOk, IfSome};
-
 use crate::end::End;
 use crate::row::Row;
 use av_base::Bytes;
+use row_steps::push_port;
 use std::alloc::{AllocError, Global};
 
 /// What the scripts call an end, and the directions of its ports.
@@ -15,23 +14,6 @@ struct Names<'a> {
     side: &'a str,
     ready: &'a str,
     beat: &'a str,
-}
-
-/// Appends a port of so many bits, none where there are 0.
-fn push_port(
-    text: &mut String,
-    interface: &str,
-    role: &str,
-    direction: &str,
-    bits: u16,
-) -> Result<(), AllocError> {
-    if bits == 0 {
-        return Ok(());
-    }
-    write!(
-        text,
-        "add_interface_port {interface} {role} {role} {direction} {bits}\n"
-    )
 }
 
 /// Appends the ports of the beat.
@@ -124,13 +106,6 @@ fn system(alloc: Global, depth: u8) -> Result<Bytes, AllocError> {
     Ok(Bytes::from(text))
 }
 
-/// Whether the text is as short as a row's are.
-fn is_short(text: &Bytes) -> bool
-    ensures { IsTrue result → length text.now < 2 ^ 31 }
-{
-    text.len() < 4096
-}
-
 const SOURCE: Names<'static> = Names {
     component: "source",
     interface: "out",
@@ -147,16 +122,10 @@ const SINK: Names<'static> = Names {
     beat: "Input",
 };
 
-/// The system's file and those of its components, where they are short.
-pub fn files_of(alloc: Global, row: &Row) -> Result<Option<[Bytes; 3]>, AllocError>
-    ensures { IfOk result (λ files. IfSome files (All (λ bytes. length bytes < 2 ^ 31))) }
-{
+/// The system's file and those of its components.
+pub fn files_of(alloc: Global, row: &Row) -> Result<[Bytes; 3], AllocError> {
     let system = system(alloc, row.depth)?;
     let source = component(alloc, &SOURCE, &row.source)?;
     let sink = component(alloc, &SINK, &row.sink)?;
-    if is_short(&system) && is_short(&source) && is_short(&sink) {
-        Ok(Some([system, source, sink]))
-    } else {
-        Ok(None)
-    }
+    Ok([system, source, sink])
 }
