@@ -35,3 +35,4 @@ compare() {
 }
 
 compare control control control.tcl cpu.tcl ram.tcl flash.tcl port.tcl
+compare bus bus bus.tcl master.tcl memory.tcl
