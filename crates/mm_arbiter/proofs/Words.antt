@@ -1,5 +1,5 @@
 -- Bits of a number: the lowest one that is high, and those above a place.
-use Rattle.std.proofs.Common.{◌≡◌, ℕ, zero, suc, ◌+◌, ◌-◌, ◌*◌, ◌/◌, ◌%◌, ◌^◌, ◌<◌, ◌≤◌, Bool, true, false, ◌==◌, bit_and, bit_or, not, ◌||◌, nat_eq, List, [], ◌∷◌, length, get_or, nat_lt, nat_le, if◌then◌else◌, Option, Some, None, is_some, ◌&&◌, mul_assoc, refl, sym, ap, ◌∙◌, arith}
+use Rattle.std.proofs.Common.{◌≡◌, ℕ, zero, suc, ◌+◌, ◌-◌, ◌*◌, ◌/◌, ◌%◌, ◌^◌, ◌<◌, ◌≤◌, Bool, true, false, ◌==◌, bit_and, not, ◌||◌, nat_eq, List, [], ◌∷◌, length, get_or, nat_lt, nat_le, if◌then◌else◌, Option, Some, None, is_some, ◌&&◌, mul_assoc, refl, sym, ap, ◌∙◌, arith}
 use Rattle.std.proofs.lemmas.Bool.{ne_eqb, lt-ltb, ltb-true, ltb-false, leb-true, leb-false}
 use Rattle.std.proofs.Math.Pow.{pow_mono}
 use Rattle.std.proofs.lemmas.Nat.{and_block, pow-add}
@@ -7,7 +7,7 @@ use Rattle.std.proofs.lemmas.Nat.Bits.{and_high_mask, and_pow, bit_at-suc}
 use Rattle.std.proofs.Math.Nat.{mod-eq_of_lt, mod_self, div-div-eq-div-mul, mul-div_cancel, div-eq_of_lt}
 use Rattle.std.specs.Int.{bit_at}
 use Rattle.histories.specs.History.{is_raised, one_if}
-use Rattle.command_nets.specs.Levels.{level_is, raised_or, raised_and}
+use Rattle.command_nets.specs.Levels.{level_is, raised_and}
 use Rattle.command_nets.specs.Groups.{chosen_raised}
 use Rattle.net_parts.specs.Bits.{of_chosen}
 use Rattle.mm_arbiter.specs.Asks.{number, one_more, first_high, past, or_else, first_after, seat_bit, stays_on, chosen_seat}
@@ -355,13 +355,13 @@ turned_bit zero h = refl
 turned_bit (suc zero) h = refl
 turned_bit (suc (suc b)) h = absurd (omega arith)
 
-pub wait_level : (chosen seat width here other below wait : ℕ) → width ≡ seat - seat + 1 → here ≡ chosen / 2 ^ seat % 2 ^ (seat - seat + 1) → other ≡ 2 ^ width - 1 - here → below < 2 → wait ≡ bit_or other below → is_raised wait ≡ (not (bit_at chosen seat == 1) || is_raised below)
-wait_level chosen seat width here other below wait w h o fits e =
+pub wait_level : (chosen seat width here other below wait : ℕ) → width ≡ seat - seat + 1 → here ≡ chosen / 2 ^ seat % 2 ^ (seat - seat + 1) → other ≡ 2 ^ width - 1 - here → is_raised wait ≡ (is_raised other || is_raised below) → is_raised wait ≡ (not (bit_at chosen seat == 1) || is_raised below)
+wait_level chosen seat width here other below wait w h o e =
     let one : seat - seat + 1 ≡ 1 = omega arith in
     let here_is : here ≡ bit_at chosen seat = h ∙ ap (λ n. chosen / 2 ^ seat % 2 ^ n) one in
     let other_is : other ≡ 2 ^ 1 - 1 - bit_at chosen seat = o ∙ ap (λ n. 2 ^ n - 1 - here) (w ∙ one) ∙ ap (λ n. 2 ^ 1 - 1 - n) here_is in
     let low = bit_low chosen seat in
-    raised_or other below wait (omega (arith, other_is)) fits e ∙ ap (λ (t : Bool). t || is_raised below) (ap is_raised other_is ∙ turned_bit (bit_at chosen seat) low)
+    e ∙ ap (λ (t : Bool). t || is_raised below) (ap is_raised other_is ∙ turned_bit (bit_at chosen seat) low)
 
 pub valid_level : (host tag answer number mine valid : ℕ) → answer < 2 → number ≡ host → mine ≡ (if tag == number then 1 else 0) → valid ≡ bit_and answer mine → is_raised valid ≡ (is_raised answer && nat_eq tag host)
 valid_level host tag answer number mine valid fits n m e =

@@ -11,7 +11,7 @@ use Rattle.mm_arbiter.specs.declared.asker.Asker.{Asker}
 use Rattle.mm_arbiter.specs.declared.rounds.RoundNets.{RoundNets}
 use Rattle.mm_arbiter.specs.declared.arbiter.HeldArbiter.{HeldArbiter}
 use Rattle.mm_arbiter.specs.Turns.{turns_of, TurnsStart, turns_start_on}
-use Rattle.mm_arbiter.specs.Rounds.{RoundKeeps, RoundForward, keeps_last}
+use Rattle.mm_arbiter.specs.Rounds.{RoundKeeps, RoundForward, ShowsByTurns, keeps_last}
 
 abbrev pub registers_of : Option RoundNets → List NetValue
 registers_of None = []
@@ -36,6 +36,7 @@ pub record ArbiterKeeps (held : HeldArbiter) (count : ℕ) (netlist : Netlist) :
 pub record RunsRound (askers : List Asker) (commands : List CommandNets) (command : CommandNets) (netlist : Netlist) (round : RoundNets) : Type 0 where
   pub starts : TurnsStart netlist round.turns (length commands)
   pub turns : RoundForward askers commands command round netlist
+  pub reads : ShowsByTurns commands command round.turns netlist
 
 -- after the first call: the command of one asker alone goes on as it is, and more of them take turns
 pub record ArbiterForward (askers : List Asker) (commands : List CommandNets) (command : CommandNets) (held : HeldArbiter) (netlist : Netlist) : Type 0 where
@@ -58,7 +59,7 @@ keeps_lasts held count old new h e w = record { command = command_lasts old new 
 
 runs_last : (askers : List Asker) (commands : List CommandNets) (command : CommandNets) (old new : Netlist) (round : Option RoundNets) → Extends old new → IfSome round (RunsRound askers commands command old) → IfSome round (RunsRound askers commands command new)
 runs_last askers commands command old new None e h = tt
-runs_last askers commands command old new (Some round) e h = record { starts = turns_start_on old new round.turns (length commands) e h.starts; turns = λ cycle v. h.turns cycle (e.valuations cycle v) }
+runs_last askers commands command old new (Some round) e h = record { starts = turns_start_on old new round.turns (length commands) e h.starts; turns = λ cycle v. h.turns cycle (e.valuations cycle v); reads = λ one other v w. h.reads one other (e.valuations one v) (e.valuations other w) }
 
 pub forward_lasts : (askers : List Asker) (commands : List CommandNets) (command : CommandNets) (held : HeldArbiter) (old new : Netlist) → ArbiterForward askers commands command held old → Extends old new → ArbiterForward askers commands command held new
 forward_lasts askers commands command held old new h e = record { command_is = h.command_is; alone = h.alone; round = runs_last askers commands command old new held.round e h.round }

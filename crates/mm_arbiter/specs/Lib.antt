@@ -1,4 +1,5 @@
 pub mod Asks
+pub mod Depends
 pub mod Shown
 pub mod Turns
 pub mod Rounds

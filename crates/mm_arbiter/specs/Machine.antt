@@ -1,5 +1,5 @@
 -- The nets of an arbiter as a machine: the seats, the sides above, and the side below.
-use Rattle.std.specs.Prelude.{◌≡◌, ℕ, ◌^◌, ◌<◌, true, false, ◌&&◌, ◌||◌, nat_eq, List, [], ◌∷◌, map, None, IfSome, IsTrue, IsFalse}
+use Rattle.std.specs.Prelude.{◌≡◌, ℕ, ◌<◌, true, false, ◌&&◌, ◌||◌, nat_eq, List, [], ◌∷◌, map, None, IfSome, IsTrue, IsFalse}
 use Rattle.histories.specs.History.{is_raised}
 use Rattle.netlist.specs.Netlists.{Netlist}
 use Rattle.netlist.specs.Runs.{Run, Always, IsEndlessRun}
@@ -12,13 +12,11 @@ use Rattle.mm_machines.specs.Turns.{Grant}
 use Rattle.mm_parts.specs.Arbiter.{IsArbiterMachine}
 use Rattle.ranks.specs.Turns.{Seat, is_seated}
 use Rattle.command_nets.specs.declared.nets.CommandNets.{CommandNets}
-use Rattle.command_nets.specs.Nets.{port_in, raw_in, ShowSame}
-use Rattle.command_nets.specs.Groups.{is_shown}
+use Rattle.command_nets.specs.Nets.{port_in}
 use Rattle.mm_arbiter.specs.declared.asker.Asker.{Asker}
 use Rattle.mm_arbiter.specs.declared.back.BackNets.{BackNets}
 use Rattle.mm_arbiter.specs.declared.back.BelowNets.{BelowNets}
 use Rattle.mm_arbiter.specs.declared.arbiter.HeldArbiter.{HeldArbiter}
-use Rattle.netlist.specs.Runs.{Cycle}
 use Rattle.mm_arbiter.specs.Backward.{RoundBackward, lone_back}
 
 -- the seats of the askers, in their order
@@ -73,17 +71,3 @@ BearsTag netlist askers below = Unit {0}
 pub record ArbiterBackward (askers : List Asker) (held : HeldArbiter) (below : BelowNets) (word_bits : ℕ) (backs : List BackNets) (netlist : Netlist) : Type 0 where
   pub alone : held.round ≡ None → backs ≡ lone_back below ∷ []
   pub round : IfSome held.round (RoundBackward askers held.command below word_bits backs netlist)
-
--- these commands show the same in both cycles
-abbrev pub ShowAllSame : List CommandNets → Cycle → Cycle → Type 0
-ShowAllSame [] one other = Unit {0}
-ShowAllSame (command ∷ later) one other = ShowSame command one other × ShowAllSame later one other
-
--- one seat holds the turn, as it does in each cycle of each run
-abbrev pub HoldsSeat : Cycle → HeldArbiter → ℕ → Type 0
-HoldsSeat cycle held count = IfSome held.round (λ round. (k : ℕ) × (k < count) × (cycle.net round.turns.holder.number ≡ 2 ^ k))
-
--- this command shows a beat in both cycles or in neither, and the same one
-pub record ShowsAlike (command : CommandNets) (one other : Cycle) : Type 0 where
-  pub shows : is_shown (raw_in one command) ≡ is_shown (raw_in other command)
-  pub same : is_shown (raw_in one command) ≡ true → ShowSame command one other

@@ -9,7 +9,7 @@ use Rattle.net_parts.specs.Nets.{IsNetOfWidth, IsBit}
 use Rattle.net_parts.specs.Groups.{InGroup}
 use Rattle.net_parts.specs.Laws.{net_lasts}
 use Rattle.command_nets.specs.declared.nets.CommandNets.{CommandNets}
-use Rattle.command_nets.specs.Nets.{raw_in}
+use Rattle.command_nets.specs.Nets.{raw_in, ShowSame}
 use Rattle.command_nets.specs.Groups.{nothing_shown, is_shown}
 use Rattle.mm_arbiter.specs.declared.asker.Asker.{Asker}
 use Rattle.mm_arbiter.specs.declared.pick.SeatNets.{SeatNets}
@@ -17,8 +17,9 @@ use Rattle.mm_arbiter.specs.declared.turns.TurnNets.{TurnNets}
 use Rattle.mm_arbiter.specs.declared.choice.ChosenNets.{ChosenNets}
 use Rattle.mm_arbiter.specs.declared.rounds.RoundNets.{RoundNets}
 use Rattle.mm_arbiter.specs.Asks.{seat_bit, stays_on, chosen_seat, holder_after, left_after}
-use Rattle.mm_arbiter.specs.Turns.{AreTurnNets, turns_of, turn_nets_last}
-use Rattle.mm_arbiter.specs.Shown.{asks_in, raws_in, spares_in}
+use Rattle.mm_arbiter.specs.Depends.{AnyTwo}
+use Rattle.mm_arbiter.specs.Turns.{AreTurnNets, HoldSame, turns_of, turn_nets_last}
+use Rattle.mm_arbiter.specs.Shown.{asks_in, raws_in, spares_in, ShowAllSame}
 
 -- the seat that is chosen in a cycle in which seat k holds the turn
 abbrev pub seat_in : Cycle → TurnNets → List CommandNets → ℕ → Option ℕ
@@ -73,6 +74,10 @@ pub record IsTurn (cycle : Cycle) (askers : List Asker) (commands : List Command
 abbrev pub RoundForward : List Asker → List CommandNets → CommandNets → RoundNets → Netlist → Type 0
 RoundForward askers commands command round netlist =
     Always netlist (λ cycle. (k : ℕ) → k < length commands → cycle.net round.turns.holder.number ≡ 2 ^ k → IsTurn cycle askers commands command round k)
+
+-- what is shown below depends on the registers and on the commands alone, in any state
+abbrev pub ShowsByTurns : List CommandNets → CommandNets → TurnNets → Netlist → Type 0
+ShowsByTurns commands command turns netlist = AnyTwo netlist (λ one other. HoldSame turns one other → ShowAllSame commands one other → ShowSame command one other)
 
 -- ---- laws. No contract reads a proof of these
 

@@ -8,6 +8,7 @@ use Rattle.net_parts.specs.Nets.{IsNetOfWidth, IsBit, StartsLow}
 use Rattle.net_parts.specs.Laws.{net_lasts}
 use Rattle.mm_arbiter.specs.declared.turns.TurnNets.{TurnNets}
 use Rattle.mm_arbiter.specs.Asks.{number}
+use Rattle.mm_arbiter.specs.Depends.{IsSame}
 
 -- the bits that say who asks, and the seat that holds the turn as one bit among them
 pub record StandsAt (cycle : Cycle) (count : ℕ) (asks holder : NetValue) (bits : List Bool) (k : ℕ) : Type 0 where
@@ -24,6 +25,12 @@ pub record AreTurnNets (netlist : Netlist) (turns : TurnNets) (count : ℕ) : Ty
   pub holder : IsNetOfWidth netlist turns.holder count
   pub left : IsNetOfWidth netlist turns.left 6
   pub inside : IsBit netlist turns.inside
+
+-- they hold the same in both cycles
+pub record HoldSame (turns : TurnNets) (one other : Cycle) : Type 0 where
+  pub holder : IsSame turns.holder one other
+  pub left : IsSame turns.left one other
+  pub inside : IsSame turns.inside one other
 
 -- in each run the last seat holds the turn at first, with nothing left, and no command is open
 pub record TurnsStart (netlist : Netlist) (turns : TurnNets) (count : ℕ) : Type 0 where

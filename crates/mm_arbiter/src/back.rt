@@ -1,6 +1,7 @@
 //! What comes back to each asker.
 
-ghost use Rattle.std.specs.Prelude.{◌≡◌, ◌+◌, ◌*◌, ◌^◌, ◌<◌, ◌≤◌, length, map, get_or, IfOk};
+ghost use Rattle.std.specs.Prelude.{◌≡◌, ◌+◌, ◌*◌, ◌^◌, ◌<◌, ◌≤◌, ◌||◌, length, map, get_or, IfOk};
+ghost use Rattle.histories.specs.History.{is_raised};
 ghost use Rattle.netlist.specs.Runs.{Always};
 ghost use Rattle.net_parts.specs.Nets.{IsNetOfWidth, IsBit};
 ghost use Rattle.net_parts.specs.Growth.{AddsNets};
@@ -8,7 +9,7 @@ ghost use Rattle.mm_arbiter.specs.Backward.{AreBelowNets, WaitsAt, ComesTo, IsBa
 ghost use Rattle.mm_arbiter.specs.Backs.{HostsFit};
 
 use crate::asker::Asker;
-use command_nets::{AnswerNets, both, either, turned};
+use command_nets::{AnswerNets, either};
 use net_parts::constant;
 use netlist::{Builder, Net, NetFault};
 use std::alloc::Global;
@@ -29,6 +30,19 @@ pub struct BackNets {
     /// One bit: `waitrequest`.
     pub wait: Net,
     pub answer: AnswerNets,
+}
+
+/// A seat waits where it isn't chosen, or where the command below stalls.
+#[tactic(auto, using(net_parts::specs::Laws::growing))]
+fn other_or_stalled(builder: &mut Builder, other: Net, stall: Net) -> Result<Net, NetFault>
+    requires other { IsBit builder.old other }
+    requires stall { IsBit builder.old stall }
+    ensures net { IfOk result (λ wait. IsBit builder.new wait) }
+    ensures value { IfOk result (λ wait. Always builder.new (λ cycle. is_raised (cycle.net wait.number) ≡ (is_raised (cycle.net other.number) || is_raised (cycle.net stall.number)))) }
+    ensures adds { AddsNets 1 builder.old builder.new }
+    ensures full { result ≡ Err NetFault.TooManyNets → 2 ^ 20 < length builder.old.lines + 1 }
+{
+    either(builder, other, stall)
 }
 
 /// The wait of the asker of a seat.
@@ -52,7 +66,21 @@ fn wait_at(
 {
     let here = builder.slice(chosen, seat, seat)?;
     let other = builder.not(here)?;
-    builder.or(other, below.wait)
+    other_or_stalled(builder, other, below.wait)
+}
+
+/// The tag of a host.
+#[tactic(auto, using(net_parts::specs::Laws::growing))]
+fn host_tag(builder: &mut Builder, host: u8, tag_bits: u8) -> Result<Net, NetFault>
+    requires some { 1 ≤ tag_bits }
+    requires few { tag_bits ≤ 128 }
+    requires host { host < 2 ^ tag_bits }
+    ensures net { IfOk result (λ tag. IsNetOfWidth builder.new tag tag_bits) }
+    ensures value { IfOk result (λ tag. Always builder.new (λ cycle. cycle.net tag.number ≡ host)) }
+    ensures adds { AddsNets 1 builder.old builder.new }
+    ensures full { result ≡ Err NetFault.TooManyNets → 2 ^ 20 < length builder.old.lines + 1 }
+{
+    constant(builder, tag_bits, host)
 }
 
 /// Whether a word comes for a host.
@@ -73,7 +101,7 @@ fn valid_for(
     ensures adds { AddsNets 3 builder.old builder.new }
     ensures full { result ≡ Err NetFault.TooManyNets → 2 ^ 20 < length builder.old.lines + 3 }
 {
-    let number = constant(builder, tag_bits, host)?;
+    let number = host_tag(builder, host, tag_bits)?;
     let mine = builder.eq(below.tag, number)?;
     builder.and(below.answer.valid, mine)
 }

@@ -16,6 +16,19 @@ use command_nets::{CommandNets, either};
 use net_parts::{choose, set_all_next};
 use netlist::{Builder, Net, NetFault};
 
+/// Whether a command is open after its beat: the beat waits, or has `more` high.
+#[tactic(auto, using(net_parts::specs::Laws::growing))]
+fn stays_open(builder: &mut Builder, command: &CommandNets, wait: Net) -> Result<Net, NetFault>
+    requires command { AreCommandNets builder.old command.now }
+    requires wait { IsBit builder.old wait }
+    ensures net { IfOk result (λ stands. IsBit builder.new stands) }
+    ensures value { IfOk result (λ stands. Always builder.new (λ cycle. is_raised (cycle.net stands.number) ≡ (is_raised (cycle.net wait.number) || is_raised (cycle.net command.now.more.number)))) }
+    ensures adds { AddsNets 1 builder.old builder.new }
+    ensures full { result ≡ Err NetFault.TooManyNets → 2 ^ 20 < length builder.old.lines + 1 }
+{
+    either(builder, wait, command.more)
+}
+
 /// Whether a command is open after a cycle: where a beat is shown, whether it waits or has `more` high.
 #[tactic(auto, using(net_parts::specs::Laws::growing))]
 fn next_inside(
@@ -34,7 +47,7 @@ fn next_inside(
     ensures adds { AddsNets 2 builder.old builder.new }
     ensures full { result ≡ Err NetFault.TooManyNets → 2 ^ 20 < length builder.old.lines + 2 }
 {
-    let stands = either(builder, wait, command.more)?;
+    let stands = stays_open(builder, command, wait)?;
     choose(builder, round.chosen.some, stands, round.turns.inside)
 }
 

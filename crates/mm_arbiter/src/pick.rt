@@ -6,9 +6,10 @@ ghost use Rattle.netlist.specs.Runs.{Always};
 ghost use Rattle.net_parts.specs.Nets.{IsNetOfWidth, IsBit};
 ghost use Rattle.net_parts.specs.Groups.{group_widths};
 ghost use Rattle.net_parts.specs.Growth.{AddsNets};
-ghost use Rattle.command_nets.specs.Nets.{AreCommandNets, raw_in, group_of};
+ghost use Rattle.command_nets.specs.Nets.{AreCommandNets, raw_in, group_of, ShowSame};
 ghost use Rattle.command_nets.specs.Groups.{HaveSameWidths};
-ghost use Rattle.mm_arbiter.specs.Shown.{AreAskers, AreCommands, HaveWidths, AreAlike, IsSeatOf};
+ghost use Rattle.mm_arbiter.specs.Depends.{AnyTwo, IsSame};
+ghost use Rattle.mm_arbiter.specs.Shown.{AreAskers, AreCommands, HaveWidths, AreAlike, IsSeatOf, ShowAllSame};
 
 use crate::asker::Asker;
 use command_nets::{CommandNets, choose_command};
@@ -79,6 +80,7 @@ fn is_from(builder: &mut Builder, bits: Net, count: u8, from: u8, to: u8) -> Res
     requires within { to ≤ count }
     ensures net { IfOk result (λ here. IsBit builder.new here) }
     ensures value { IfOk result (λ here. Always builder.new (λ cycle. (k : ℕ) → k < to → cycle.net bits.number ≡ 2 ^ k → cycle.net here.number ≡ (if nat_le from k then 1 else 0))) }
+    ensures reads { IfOk result (λ here. AnyTwo builder.new (λ one other. IsSame bits one other → IsSame here one other)) }
     ensures adds { AddsNets 2 builder.old builder.new }
     ensures full { result ≡ Err NetFault.TooManyNets → 2 ^ 20 < length builder.old.lines + 2 }
 {
@@ -108,6 +110,7 @@ pub(crate) fn pick_seat(
     ensures spare { IfOk result (λ made. IsNetOfWidth builder.new made.spare 6) }
     ensures widths { IfOk result (λ made. (widths : List ℕ) → HaveWidths widths commands.now → group_widths (group_of made.command) ≡ widths) }
     ensures value { IfOk result (λ made. Always builder.new (λ cycle. (k : ℕ) → from ≤ k → k < to → cycle.net bits.number ≡ 2 ^ k → IsSeatOf cycle made k askers.now commands.now)) }
+    ensures reads { IfOk result (λ made. AnyTwo builder.new (λ one other. IsSame bits one other → ShowAllSame commands.now one other → ShowSame made.command one other)) }
     ensures adds { AddsNets (12 * (to - from) - 11) builder.old builder.new }
     ensures full { result ≡ Err NetFault.TooManyNets → 2 ^ 20 < length builder.old.lines + (12 * (to - from) - 11) }
 {

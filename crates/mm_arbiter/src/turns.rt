@@ -23,6 +23,16 @@ pub struct TurnNets {
     pub inside: Net,
 }
 
+/// The last of so many bits alone.
+fn last_bit(count: u8) -> u128
+    requires some { 1 ≤ count }
+    requires few { count ≤ 128 }
+    ensures value { result ≡ 2 ^ (count - 1) }
+    ensures fits { result < 2 ^ count }
+{
+    1u128 << (count - 1)
+}
+
 /// A register with a bit for each seat, that begins with the last one high.
 fn last_seat(builder: &mut Builder, count: u8) -> Result<Net, NetFault>
     requires some { 1 ≤ count }
@@ -37,7 +47,7 @@ fn last_seat(builder: &mut Builder, count: u8) -> Result<Net, NetFault>
     ensures newly { IfOk result (λ made. WaitsBeside (λ n. n ≡ made.number) builder.old builder.new) }
     ensures full { result ≡ Err NetFault.TooManyNets → 2 ^ 20 < length builder.old.lines + 1 }
 {
-    builder.reg(Val::new(count, 1u128 << (count - 1)).unwrap())
+    builder.reg(Val::new(count, last_bit(count)).unwrap())
 }
 
 /// The registers for so many seats.

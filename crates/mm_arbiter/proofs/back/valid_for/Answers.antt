@@ -10,6 +10,6 @@ returns-clause-value c =
     (λ valid value cycle v3. (
     let v2 = c.and.ensures.extends.valuations cycle v3 in
     let v1 = c.in_ok-mine.ensures.extends.valuations cycle v2 in
-    let v0 = c.constant.ensures.adds.grows.extends.valuations cycle v1 in
+    let v0 = c.host_tag.ensures.adds.grows.extends.valuations cycle v1 in
     valid_level c.args.host (cycle.net c.args.below.now.tag.number) (cycle.net c.args.below.now.answer.valid.number) _ _ _ (bit_fits _ _ c.requires.below.answer.valid cycle v0) (c.in_ok-number.ensures.value cycle v1) (c.in_ok-mine.ensures.value cycle v2).1 (value cycle v3).1))
     c.and.ensures.value

@@ -1,15 +1,18 @@
-use Rattle.std.proofs.Common.{◌≡◌, ℕ, ◌-◌, ◌^◌, ◌<◌, ◌∷◌, List, length, take, drop, ap, ◌∙◌, arith}
+use Rattle.std.proofs.Common.{◌≡◌, ℕ, ◌-◌, ◌^◌, ◌<◌, ◌∷◌, List, length, take, drop, ap, ◌∙◌, arith, Bool}
 use Rattle.std.proofs.lemmas.List.{length-map}
 use Rattle.netlist.specs.Runs.{Always}
 use Rattle.command_nets.specs.declared.nets.CommandNets.{CommandNets}
 use Rattle.command_nets.specs.Nets.{raw_in}
 use Rattle.command_nets.specs.Groups.{is_shown}
 use Rattle.mm_arbiter.specs.Asks.{number}
-use Rattle.mm_arbiter.specs.Shown.{asks_in}
-use Rattle.mm_arbiter.specs.Turns.{StandsAt}
+use Rattle.mm_arbiter.specs.Shown.{asks_in, ShowAllSame}
+use Rattle.mm_arbiter.specs.Turns.{StandsAt, HoldSame}
 use Rattle.mm_arbiter.specs.Rounds.{seat_in, AreChosen}
 use Rattle.mm_arbiter.proofs.Words.{any_seat}
-use Rattle.mm_arbiter.proofs.Picks.{three_ok, split_whole}
+use Rattle.mm_arbiter.proofs.Picks.{three_ok, split_whole, both_ok}
+use Rattle.mm_arbiter.specs.Depends.{AnyTwo, IsSame}
+use Rattle.mm_arbiter.proofs.Same.{same_by_one, same_any}
+use Rattle.mm_arbiter.proofs.Ignores.{same_asks}
 use Rattle.mm_arbiter.proofs.choice.choose_asker.Goals as goal
 
 pub returns-clause-value : goal.returns-clause-value
@@ -32,3 +35,18 @@ returns-clause-value c =
       stays = stays cycle v2 (asks_in cycle commands) k at;
     }))
     c.choose_by.ensures.seat c.choose_by.ensures.stays c.choose_by.ensures.some_is
+
+pub returns-clause-reads : goal.returns-clause-reads
+returns-clause-reads c =
+    let turns = c.args.turns.now in
+    let commands = c.args.commands.now in
+    let whole = ap (λ (first : CommandNets). first ∷ take (length commands - 1) (drop 1 commands)) c.index-commands-0.is ∙ split_whole commands _ (omega arith) in
+    both_ok c.choose_by.result _ _ (λ chosen. AnyTwo c.choose_by.new.builder (λ one other. HoldSame turns one other → ShowAllSame commands one other → IsSame chosen.seat one other × IsSame chosen.some one other))
+    (λ chosen reads some one other v2 w2 same shown. (
+    let v1 = c.choose_by.ensures.adds.grows.extends.valuations one v2 in
+    let w1 = c.choose_by.ensures.adds.grows.extends.valuations other w2 in
+    let asks = same_by_one (λ (all : List Bool). number all) (c.in_ok-asks.ensures.value one v1 ∙ ap (λ (all : List CommandNets). number (asks_in one all)) whole) (c.in_ok-asks.ensures.value other w1 ∙ ap (λ (all : List CommandNets). number (asks_in other all)) whole)
+    (same_asks commands one other shown) in
+    let seat = reads one other v2 w2 same asks in
+    (seat, same_any (some one v2) (some other w2) seat)))
+    c.choose_by.ensures.reads c.choose_by.ensures.some_is

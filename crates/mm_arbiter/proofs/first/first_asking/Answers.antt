@@ -4,6 +4,7 @@ use Rattle.net_parts.specs.Laws.{if_ok}
 use Rattle.mm_arbiter.specs.Asks.{first_high, past, or_else, first_after, seat_bit}
 use Rattle.mm_arbiter.specs.Turns.{StandsAt}
 use Rattle.mm_arbiter.proofs.Words.{past_length}
+use Rattle.mm_arbiter.specs.Depends.{AnyTwo, IsSame}
 use Rattle.mm_arbiter.proofs.first.first_asking.Goals as goal
 
 pub returns-clause-value : goal.returns-clause-value
@@ -15,3 +16,11 @@ returns-clause-value c =
     value cycle v2 (past (k + 1) bits) bits (past_length (k + 1) bits ∙ at.count_is) at.count_is (c.in_ok-behind.ensures.value cycle v1 bits k at) at.asks_are
     ∙ ap (λ n. seat_bit (or_else (first_high (past n bits)) (first_high bits))) same))
     c.first_of.ensures.value
+
+pub returns-clause-reads : goal.returns-clause-reads
+returns-clause-reads c =
+    if_ok c.first_of.result _ (λ first. AnyTwo c.first_of.new.builder (λ one other. IsSame c.args.asks one other → IsSame c.args.holder one other → IsSame first one other))
+    (λ first reads one other v2 w2 asks holder. (
+    let behind = c.in_ok-behind.ensures.reads one other (c.first_of.ensures.adds.grows.extends.valuations one v2) (c.first_of.ensures.adds.grows.extends.valuations other w2) asks holder in
+    reads one other v2 w2 behind asks))
+    c.first_of.ensures.reads

@@ -3,6 +3,8 @@ use Rattle.netlist.specs.Runs.{Always}
 use Rattle.net_parts.specs.Laws.{if_ok, adds_twice, grows_once}
 use Rattle.mm_arbiter.specs.Asks.{number, first_high, or_else, seat_bit}
 use Rattle.mm_arbiter.proofs.Words.{first_level}
+use Rattle.mm_arbiter.specs.Depends.{AnyTwo, IsSame}
+use Rattle.mm_arbiter.proofs.Same.{same_any, same_choice}
 use Rattle.mm_arbiter.proofs.first.first_of.Goals as goal
 
 pub returns-clause-value : goal.returns-clause-value
@@ -19,3 +21,16 @@ returns-clause-value c =
 pub returns-clause-adds : goal.returns-clause-adds
 returns-clause-adds c =
     adds_twice 3 5 _ _ _ c.lowest.ensures.adds (adds_twice 3 2 _ _ _ c.lowest-2.ensures.adds (adds_twice 1 1 _ _ _ (grows_once _ _ c.any.ensures.extends c.any.ensures.grows) c.choose.ensures.adds))
+
+pub returns-clause-reads : goal.returns-clause-reads
+returns-clause-reads c =
+    if_ok c.choose.result _ (λ first. AnyTwo c.choose.new.builder (λ one other. IsSame c.args.behind one other → IsSame c.args.asks one other → IsSame first one other))
+    (λ first value one other v4 w4 behind asks. (
+    let v3 = c.choose.ensures.adds.grows.extends.valuations one v4 in
+    let w3 = c.choose.ensures.adds.grows.extends.valuations other w4 in
+    let v2 = c.any.ensures.extends.valuations one v3 in
+    let w2 = c.any.ensures.extends.valuations other w3 in
+    let v1 = c.in_ok-again.ensures.adds.grows.extends.valuations one v2 in
+    let w1 = c.in_ok-again.ensures.adds.grows.extends.valuations other w2 in
+    same_choice (same_any (c.in_ok-some.ensures.value one v3).1 (c.in_ok-some.ensures.value other w3).1 behind) (c.in_ok-next.ensures.reads one other v1 w1 behind) (c.in_ok-again.ensures.reads one other v2 w2 asks) (value one v4) (value other w4)))
+    c.choose.ensures.value

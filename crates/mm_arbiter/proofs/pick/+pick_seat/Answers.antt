@@ -3,10 +3,13 @@ use Rattle.netlist.specs.Runs.{Always}
 use Rattle.net_parts.specs.Groups.{group_widths}
 use Rattle.net_parts.specs.Laws.{if_ok, extends_twice, net_lasts, adds_twice, adds_fewer}
 use Rattle.command_nets.specs.declared.nets.CommandNets.{CommandNets}
-use Rattle.command_nets.specs.Nets.{AreCommandNets, group_of}
+use Rattle.command_nets.specs.Nets.{AreCommandNets, group_of, ShowSame}
 use Rattle.command_nets.specs.Groups.{command_lasts}
-use Rattle.mm_arbiter.specs.Shown.{HaveWidths, IsSeatOf, commands_last}
+use Rattle.mm_arbiter.specs.Shown.{HaveWidths, IsSeatOf, commands_last, ShowAllSame}
 use Rattle.mm_arbiter.proofs.Picks.{both_ok, asker_at, command_at, widths_at, seat_here, seat_chosen}
+use Rattle.mm_arbiter.specs.Depends.{AnyTwo, IsSame}
+use Rattle.mm_arbiter.proofs.Same.{same_raw}
+use Rattle.mm_arbiter.proofs.Ignores.{same_at}
 use Rattle.mm_arbiter.proofs.pick.+pick_seat.Goals as goal
 
 pub seat_nets-requires-clause-some : goal.seat_nets-requires-clause-some
@@ -73,3 +76,22 @@ returns-clause-value t c =
 pub returns-clause-adds : goal.returns-clause-adds
 returns-clause-adds t c =
     adds_fewer _ _ _ _ (omega arith) (adds_twice _ _ _ _ _ (adds_twice _ _ _ _ _ (adds_twice _ _ _ _ _ c.pick_seat.ensures.adds c.pick_seat-2.ensures.adds) c.is_from.ensures.adds) c.choose_seat.ensures.adds)
+
+pub returns-then-to-from-eq1-clause-reads : goal.returns-then-to-from-eq1-clause-reads
+returns-then-to-from-eq1-clause-reads t c =
+    if_ok c.seat_nets.result _ (λ made. AnyTwo c.seat_nets.new.builder (λ one other. IsSame c.args.bits one other → ShowAllSame c.args.commands.now one other → ShowSame made.command one other))
+    (λ made same one other v w bits shown. subst (λ (command : CommandNets). ShowSame command one other) (sym (same ∙ c.index-commands-from.is)) (same_at c.args.commands.now c.args.from _ one other shown (omega arith)))
+    c.seat_nets.ensures.same
+
+pub returns-clause-reads : goal.returns-clause-reads
+returns-clause-reads t c =
+    if_ok c.choose_seat.result _ (λ made. AnyTwo c.choose_seat.new.builder (λ one other. IsSame c.args.bits one other → ShowAllSame c.args.commands.now one other → ShowSame made.command one other))
+    (λ made raw one other v4 w4 bits shown. (
+    let v3 = c.choose_seat.ensures.adds.grows.extends.valuations one v4 in
+    let w3 = c.choose_seat.ensures.adds.grows.extends.valuations other w4 in
+    let v2 = c.is_from.ensures.adds.grows.extends.valuations one v3 in
+    let w2 = c.is_from.ensures.adds.grows.extends.valuations other w3 in
+    let v1 = c.pick_seat-2.ensures.adds.grows.extends.valuations one v2 in
+    let w1 = c.pick_seat-2.ensures.adds.grows.extends.valuations other w2 in
+    same_raw (c.in_ok-upper.ensures.reads one other v3 w3 bits) (c.in_ok-high.ensures.reads one other v2 w2 bits shown) (c.in_ok-low.ensures.reads one other v1 w1 bits shown) (raw one v4) (raw other w4)))
+    c.choose_seat.ensures.value

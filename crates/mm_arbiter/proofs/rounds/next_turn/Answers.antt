@@ -5,8 +5,8 @@ use Rattle.mm_arbiter.proofs.rounds.next_turn.Goals as goal
 
 pub returns-clause-value : goal.returns-clause-value
 returns-clause-value c cycle v3 =
-    let v2 = c.choose-2.ensures.adds.grows.extends.valuations cycle v3 in
-    let v1 = c.choose.ensures.adds.grows.extends.valuations cycle v2 in
+    let v2 = c.choose.ensures.adds.grows.extends.valuations cycle v3 in
+    let v1 = c.left_or_free.ensures.adds.grows.extends.valuations cycle v2 in
     let turns = c.args.turns.now in
     record {
       holder = c.in_ok-holder.ensures.value cycle v3 ∙ chosen_raised (cycle.net c.args.chosen.now.some.number) _ _;

@@ -1,6 +1,7 @@
 use Rattle.std.proofs.Common.{Bool, if◌then◌else◌, ap, ◌∙◌, arith}
 use Rattle.command_nets.specs.Nets.{raw_in}
 use Rattle.command_nets.specs.Groups.{hidden}
+use Rattle.mm_arbiter.proofs.Same.{same_raw}
 use Rattle.mm_arbiter.proofs.rounds.show_chosen.Goals as goal
 
 pub returns-clause-widths : goal.returns-clause-widths
@@ -15,3 +16,10 @@ returns-clause-shows c cycle v2 k lt is =
       command = λ some. c.in_ok-command.ensures.value cycle v2 ∙ ap (λ (t : Bool). if t then raw_in cycle picked.command else hidden (raw_in cycle picked.command)) some ∙ seat.command;
       spare = seat.spare;
     }
+
+pub returns-clause-reads : goal.returns-clause-reads
+returns-clause-reads c one other v2 w2 seat some shown =
+    let v1 = c.shown_while.ensures.adds.grows.extends.valuations one v2 in
+    let w1 = c.shown_while.ensures.adds.grows.extends.valuations other w2 in
+    let picked = c.in_ok-picked.ensures.reads one other v1 w1 seat shown in
+    same_raw some picked (ap hidden picked) (c.in_ok-command.ensures.value one v2) (c.in_ok-command.ensures.value other w2)

@@ -37,3 +37,12 @@ returns-clause-made c cycle v3 k lt is =
     let round : RoundNets = record { turns = c.args.turns.now; chosen = c.in_ok-chosen.chosen; holder = c.in_ok-holder.holder; left = c.in_ok-holder.left } in
     turn_made cycle c.args.askers.now c.args.commands.now c.in_ok-made.made round k lt is (c.in_ok-chosen.ensures.value cycle v1 k lt is) (width_fits _ _ _ c.in_ok-chosen.ensures.nets.seat cycle v1)
     (λ seat small e. c.in_ok-made.ensures.shows cycle v2 seat small e) (c.in_ok-made.ensures.hides cycle v2) (c.in_ok-holder.ensures.value cycle v3)
+
+pub returns-clause-reads : goal.returns-clause-reads
+returns-clause-reads c one other v3 w3 turns shown =
+    let v2 = c.next_turn.ensures.adds.grows.extends.valuations one v3 in
+    let w2 = c.next_turn.ensures.adds.grows.extends.valuations other w3 in
+    let v1 = c.show_chosen.ensures.adds.grows.extends.valuations one v2 in
+    let w1 = c.show_chosen.ensures.adds.grows.extends.valuations other w2 in
+    let chosen = c.in_ok-chosen.ensures.reads one other v1 w1 turns shown in
+    c.in_ok-made.ensures.reads one other v2 w2 chosen.0 chosen.1 shown
