@@ -1,0 +1,233 @@
+-- A fabric runs as machines: hosts, routes, arbiters and agents.
+use Rattle.std.proofs.Common.{◌≡◌, ℕ, zero, suc, ◌+◌, ◌-◌, ◌*◌, ◌^◌, ◌<◌, ◌≤◌, Bool, true, false, not, ◌||◌, if◌then◌else◌, nat_eq, List, [], None, IsTrue, refl, sym, subst, ap, ap₂, ◌∙◌, arith}
+use Rattle.std.proofs.Math.Nat.{two-pow-succ, le_refl}
+use Rattle.std.proofs.lemmas.Bool.{ne_eqb}
+use Rattle.std.proofs.lemmas.Nat.{pow-add, pow_pos}
+use Rattle.iface_roles.specs.declared.records.AgentPort.{AgentPort}
+use Rattle.iface_roles.specs.declared.records.HostPort.{HostPort}
+use Rattle.iface_roles.specs.Proper.{range_of}
+use Rattle.netlist.specs.Netlists.{Netlist}
+use Rattle.netlist.specs.Runs.{Run, IsEndlessRun}
+use Rattle.netlist.specs.Longer.{Extends}
+use Rattle.link_rules.specs.Plans.{PlanTable}
+use Rattle.mm_runs.specs.Views.{System, HostSide, HostView, AgentSide, AgentView, Responses, Run as MemoryRun}
+use Rattle.mm_runs.specs.Views.Responses.{AreZero}
+use Rattle.mm_runs.specs.Commands.{longest_burst}
+use Rattle.mm_runs.specs.Legal.{IsLegalHost}
+use Rattle.mm_runs.specs.Order.{is_joined}
+use Rattle.mm_runs.specs.Plan.{IsMemoryPlan, AreViews}
+use Rattle.mm_runs.specs.Whole.{IsLegalRun}
+use Rattle.mm_machines.specs.Link.{Port}
+use Rattle.mm_machines.specs.Lines.{IsFit}
+use Rattle.mm_machines.specs.Turns.{Grant, seats_of}
+use Rattle.ranks.specs.Turns.{Seat, is_seated}
+use Rattle.mm_parts.specs.Agent.{AgentState, IsAgentMachine}
+use Rattle.mm_parts.specs.Arbiter.{IsArbiterMachine}
+use Rattle.mm_parts.specs.Host.{HostState, IsHostMachine}
+use Rattle.mm_parts.specs.Joins.{JoinsBeats}
+use Rattle.mm_parts.specs.Route.{RouteState, IsRouteMachine}
+use Rattle.memory_sides.specs.Sides.{burst_width}
+use Rattle.memory_plans.specs.Routes.{routes_of, AreRoutes}
+use Rattle.memory_plans.specs.Systems.{memory_system}
+use Rattle.mm_route.specs.Machine.{MapsAs, RunsAsRoute}
+use Rattle.mm_host.specs.Forms.{shape_below}
+use Rattle.mm_agent.specs.Agents.{shape_above}
+use Rattle.mm_agent.specs.Forms.{AreFitFor}
+use Rattle.mm_arbiter.specs.Machine.{Surrounds, below_port, seats_from}
+use Rattle.mm_awake.specs.Fair.{are_apart}
+use Rattle.mm_awake.specs.WiredSystem.{WiredPorts, WiredStates, IsWiredFront, ServeWhatFits, before_agent, no_stage, with_agents, IsWiredSystem}
+use Rattle.mm_path.specs.Maps.{IsHostOf, IsAgentOf, RoutesAreMapped}
+use Rattle.mm_path.specs.Trees.{room_bits}
+use Rattle.mm_fabric.specs.Parts.{askers_of, commands_above, backs_above, below_of}
+use Rattle.mm_fabric.specs.Fabrics.{Fabric, IsFabric, seen_at_host, seen_at_agent, seen_in}
+use Rattle.mm_fabric.proofs.Boundaries.{below_host, above_agent, answers_to, below_route, above_arbiter, ports_in, wire, idle, silent, outside, sides, joined}
+use Rattle.mm_fabric.proofs.Choices.{choose}
+use Rattle.mm_fabric.proofs.Known.{seen_host, seen_agent, host_is, agent_is, seated_is}
+use Rattle.mm_fabric.proofs.SilentReader.{no_word, never_reads, seen_as_machine}
+
+-- ---- what the crates below give
+
+abbrev pub RoutesMap : PlanTable → Type 0
+RoutesMap plan = (host : ℕ) (port : HostPort) → IsHostOf plan host port → (width : ℕ) → 2 ^ width ≡ range_of port → RoutesAreMapped plan host port width
+
+abbrev pub FitCommandsSuit : Type 0
+FitCommandsSuit = (plan : PlanTable) (agent : ℕ) (port : AgentPort) → IsAgentOf plan agent port → (up : Port) → up.shape ≡ shape_above port → (end : ℕ) → IsFit (memory_system plan) agent up end → AreFitFor port up end
+
+abbrev pub RoutesJoinBeats : Type 0
+RoutesJoinBeats =
+    (responses : Responses) (system : System) (run : MemoryRun) (host room : ℕ) (middle : Port) (down : ℕ → Port) (host_state : HostState) (route_state : RouteState) (end : ℕ)
+    → IsLegalHost (system.host host) (run.at_host host) end → IsHostMachine responses (system.host host) (run.at_host host) middle host_state end → IsRouteMachine responses system host room middle down route_state end
+    → (a : ℕ) → a < system.agents → JoinsBeats (down a) end
+
+abbrev pub WiresCarryWhatFits : Type 0
+WiresCarryWhatFits =
+    (responses : Responses) (system : System) (run : MemoryRun) (ports : WiredPorts) (states : WiredStates) (end : ℕ)
+    → IsMemoryPlan system → AreViews system run end → IsWiredFront responses system run ports states end → ServeWhatFits responses system run ports end → IsLegalRun system run end
+    → (agent : ℕ → AgentState) × IsWiredSystem responses system run ports (with_agents states agent) end
+
+-- ---- states where there is no part
+
+abbrev pub no_host_state : HostState
+no_host_state = record { queue = λ c. []; left = λ c. 0; asked = λ c. false }
+
+abbrev pub no_route_state : RouteState
+no_route_state = record { inside = λ c. false; kept = λ c. None; owed = λ c. 0; owing = λ c. None }
+
+abbrev pub no_agent_state : AgentState
+no_agent_state = record { queue = λ c. []; row = λ c i. None; stood = λ c. 0 }
+
+abbrev pub no_grant : ℕ → Grant
+no_grant c = record { open_host = None; round = record { left = 0; ring = [] } }
+
+-- ---- numbers
+
+some_width : (bits : ℕ) → 1 ≤ burst_width bits
+some_width zero = le_refl 1
+some_width (suc bits) =
+    let other : nat_eq (suc bits) 0 ≡ false = ne_eqb (suc bits) 0 (λ e. (let no : suc bits ≡ 0 = e in omega (arith, no))) in
+    let same : burst_width (suc bits) ≡ suc bits = ap (λ b. if b then 1 else suc bits) other in
+    omega (arith, same)
+
+-- 16 longest bursts are less than what the count of owed words holds
+room_of : (width : ℕ) → 1 ≤ width → 16 * 2 ^ (width - 1) < 2 ^ (4 + width)
+room_of zero some = absurd (omega arith)
+room_of (suc width) some =
+    let less : suc width - 1 ≡ width = omega arith in
+    let lowest : 2 ^ (suc width - 1) ≡ 2 ^ width = ap (λ n. 2 ^ n) less in
+    let parts = pow-add 2 4 (suc width) in
+    let twice = two-pow-succ width in
+    let positive = pow_pos width in
+    omega (arith, lowest, parts, twice, positive)
+
+room_fits : (bits : ℕ) → 16 * longest_burst (burst_width bits) < 2 ^ (4 + burst_width bits)
+room_fits bits = room_of (burst_width bits) (some_width bits)
+
+module _ (plan : PlanTable) (planned : IsMemoryPlan (memory_system plan)) (distinct : (a : ℕ) → IsTrue (are_apart ((memory_system plan).joined a))) (routed : (h : ℕ) → h < (memory_system plan).hosts → AreRoutes (memory_system plan) h (routes_of plan.system h))
+    (mapped : RoutesMap plan) (suits : FitCommandsSuit) (join : RoutesJoinBeats)
+    (netlist : Netlist) (fabric : Fabric) (is : IsFabric plan netlist fabric) (longer : Netlist) (extends : Extends netlist longer) (run : Run) (endless : IsEndlessRun longer run) (end : ℕ)
+    (legal : IsLegalRun (memory_system plan) (seen_in plan fabric run) end) where
+  abbrev pub system : System
+  system = memory_system plan
+
+  abbrev pub seen : MemoryRun
+  seen = seen_in plan fabric run
+
+  abbrev pub ports : WiredPorts
+  ports = ports_in plan fabric run
+
+  abbrev pub room : ℕ → ℕ
+  room h = 2 ^ room_bits (fabric.host h).port
+
+  -- ---- a host with its route
+
+  maps : (h : ℕ) → h < (memory_system plan).hosts → MapsAs (routes_of plan.system h) (fabric.host h).held.command.address.width (memory_system plan) h (shape_below (fabric.host h).port)
+  maps h low =
+      let port = (fabric.host h).port in
+      (mapped h port (is.host_port h low) (fabric.host h).held.command.address.width (is.host h low).held.fields.reaches).maps (shape_below port) (record { words = refl; units = refl })
+
+  route_run : (h : ℕ) → h < (memory_system plan).hosts → RunsAsRoute (memory_system plan) h (room h) (below_host (fabric.host h) run) (below_route plan fabric run h) end
+  route_run h low = (is.host h low).route_runs longer extends run endless (memory_system plan) (shape_below (fabric.host h).port) (λ agent. answers_to (fabric.agent agent) run h) (room h) end (maps h low) (le_refl (room h))
+
+  some_room : (h : ℕ) → 0 < room h
+  some_room h = pow_pos (room_bits (fabric.host h).port)
+
+  host_machine : (h : ℕ) (low : h < (memory_system plan).hosts) → (state : HostState) × IsHostMachine AreZero ((memory_system plan).host h) (seen.at_host h) (below_host (fabric.host h) run) state end
+  host_machine h low =
+      let part = fabric.host h in
+      let down = below_host part run in
+      let host = (is.host h low).host_runs longer extends run endless end in
+      let route = route_run h low in
+      let machine = seen_as_machine netlist h (routes_of plan.system h) part (is.host h low) run down host.state end host.machine
+      (λ none. no_word (memory_system plan) h (room h) down (below_route plan fabric run h) route.state end route.is_machine (some_room h)
+      (never_reads netlist h (routes_of plan.system h) part (is.host h low) run down host.state end host.machine none)) in
+      let at_side = subst (λ (side : HostSide). IsHostMachine AreZero side (seen_at_host part run) down host.state end) (sym (host_is plan netlist fabric is h low)) machine in
+      (host.state, subst (λ (view : HostView). IsHostMachine AreZero ((memory_system plan).host h) view down host.state end) (sym (seen_host plan fabric run h low)) at_side)
+
+  -- ---- an arbiter
+
+  -- what a route shows to an agent joins its beats
+  route_joins : (h a : ℕ) → h < (memory_system plan).hosts → a < (memory_system plan).agents → JoinsBeats (below_route plan fabric run h a) end
+  route_joins h a low there =
+      let host = host_machine h low in
+      let route = route_run h low in
+      join AreZero (memory_system plan) (seen_in plan fabric run) h (room h) (below_host (fabric.host h) run) (below_route plan fabric run h) host.0 route.state end (legal.hosts h low) host.1 route.is_machine a there
+
+  abbrev pub is_host_seated : ℕ → ℕ → Bool
+  is_host_seated a h = is_seated h (seats_from (askers_of (fabric.agent a).seats))
+
+  seat_joins : (a : ℕ) → a < (memory_system plan).agents → (h : ℕ) → is_host_seated a h ≡ true → JoinsBeats (above_arbiter fabric run h a) end
+  seat_joins a there h seated =
+      let has : is_joined (memory_system plan) a h ≡ true = sym (seated_is plan netlist fabric is a there h) ∙ seated in
+      let low = planned.joined a h has in
+      joined plan planned netlist fabric is longer extends run endless a there h end low has (route_joins h a low there)
+
+  surrounds : (a : ℕ) → a < (memory_system plan).agents →
+      Surrounds (askers_of (fabric.agent a).seats) (commands_above (fabric.agent a).seats) (backs_above (fabric.agent a).seats) (shape_above (fabric.agent a).port) run (memory_system plan).hosts
+      (λ h. above_arbiter fabric run h a) (below_port (shape_above (fabric.agent a).port) run (fabric.agent a).command (below_of (fabric.agent a))) end
+  surrounds a there = record {
+    sides = sides plan planned netlist fabric is longer extends run endless a there (distinct a);
+    joined = seat_joins a there;
+    others = outside plan planned netlist fabric is longer extends run endless a there end;
+  }
+
+  arbiter : (a : ℕ) → a < (memory_system plan).agents → (grant : ℕ → Grant) × IsArbiterMachine (seats_of (memory_system plan) a) (memory_system plan).hosts (λ h. above_arbiter fabric run h a) (above_agent (fabric.agent a) run) grant end
+  arbiter a there =
+      let part = fabric.agent a in
+      let made = (is.agent a there).turns longer extends run endless (shape_above part.port) (memory_system plan).hosts end (λ h. above_arbiter fabric run h a) (surrounds a there) in
+      (made.0, subst (λ (seats : List Seat). IsArbiterMachine seats (memory_system plan).hosts (λ h. above_arbiter fabric run h a) (above_agent part run) made.0 end) (is.seats a there) made.1)
+
+  -- ---- all parts together
+
+  pub hosts_run : (state : ℕ → HostState) × ((h : ℕ) → h < (memory_system plan).hosts → IsHostMachine AreZero (system.host h) (seen.at_host h) (ports.after_host h) (state h) end)
+  hosts_run = choose {X = HostState} (λ h state. IsHostMachine AreZero (system.host h) (seen.at_host h) (ports.after_host h) state end) (memory_system plan).hosts no_host_state host_machine
+
+  pub routes_run : (state : ℕ → RouteState) × ((h : ℕ) → h < (memory_system plan).hosts → IsRouteMachine AreZero (memory_system plan) h (room h) (ports.after_host h) (λ a. ports.after_route h a) (state h) end)
+  routes_run =
+      choose {X = RouteState} (λ h state. IsRouteMachine AreZero (memory_system plan) h (room h) (ports.after_host h) (λ a. ports.after_route h a) state end) (memory_system plan).hosts no_route_state
+      (λ h low. (let route = route_run h low in (route.state, route.is_machine)))
+
+  pub grants_run : (grant : ℕ → ℕ → Grant) × ((a : ℕ) → a < (memory_system plan).agents →
+      IsArbiterMachine (seats_of (memory_system plan) a) (memory_system plan).hosts (λ h. ports.before_arbiter h a) (before_agent ports a) (grant a) end)
+  grants_run =
+      choose {X = ℕ → Grant} (λ a grant. IsArbiterMachine (seats_of (memory_system plan) a) (memory_system plan).hosts (λ h. ports.before_arbiter h a) (before_agent ports a) grant end) (memory_system plan).agents no_grant arbiter
+
+  abbrev pub states : WiredStates
+  states = record { host = hosts_run.0; route = routes_run.0; room = room; grant = grants_run.0; stage = λ a i. no_stage (before_agent ports a).port; agent = λ a. no_agent_state }
+
+  lanes_at : (h a : ℕ) → h < (memory_system plan).hosts → a < (memory_system plan).agents → IsTrue (is_joined (memory_system plan) a h) → IsTrue (((memory_system plan).agent a).has_enables || not ((memory_system plan).host h).has_enables)
+  lanes_at h a low there has =
+      let agent : ((memory_system plan).agent a).has_enables ≡ (fabric.agent a).port.enables = ap (λ (s : AgentSide). s.has_enables) (agent_is plan netlist fabric is a there) in
+      let host : ((memory_system plan).host h).has_enables ≡ (fabric.host h).port.enables = ap (λ (s : HostSide). s.has_enables) (host_is plan netlist fabric is h low) in
+      ap₂ (λ x y. x || not y) agent host ∙ (is.joined h a low there has).lanes
+
+  pub front : IsWiredFront AreZero (memory_system plan) (seen_in plan fabric run) ports states end
+  front = record {
+    host = hosts_run.1;
+    room = λ h low. room_fits (fabric.host h).port.burst_bits;
+    route = routes_run.1;
+    arbiter = grants_run.1;
+    silent = λ a there. silent plan planned netlist fabric is longer extends run endless a there end;
+    stage = λ a i there few. (let none = is.stages in absurd (omega (arith, few, none)));
+    wires = λ h a low there has. wire plan planned netlist fabric is longer extends run endless h a low (is.joined h a low there has);
+    lanes = lanes_at;
+    idle = λ h a low there apart. idle plan planned netlist fabric is longer extends run endless a there h (routed h low) apart;
+  }
+
+  -- ---- the agents
+
+  pub served : ServeWhatFits AreZero (memory_system plan) (seen_in plan fabric run) ports end
+  served = λ a c there within fit.
+      (let part = fabric.agent a in
+      let suited = suits plan a part.port (is.agent_port a there) (above_agent part run).port refl c fit in
+      let found = (is.agent a there).runs longer extends run endless c suited in
+      let at_side = subst (λ (side : AgentSide). IsAgentMachine AreZero side (seen_at_agent part run) (above_agent part run) found.state c) (sym (agent_is plan netlist fabric is a there)) found.machine in
+      record {
+        state = found.state;
+        machine = subst (λ (view : AgentView). IsAgentMachine AreZero ((memory_system plan).agent a) view (above_agent part run) found.state c) (sym (seen_agent plan fabric run a there)) at_side;
+      })
+
+  pub wired : WiresCarryWhatFits → AreViews (memory_system plan) (seen_in plan fabric run) end →
+      (ports : WiredPorts) × (states : WiredStates) × IsWiredSystem AreZero (memory_system plan) (seen_in plan fabric run) ports states end
+  wired law views =
+      let made = law AreZero (memory_system plan) (seen_in plan fabric run) ports states end planned views front served legal in
+      (ports, with_agents states made.0, made.1)

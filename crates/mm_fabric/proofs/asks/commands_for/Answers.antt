@@ -1,0 +1,51 @@
+use Rattle.std.proofs.Common.{List, [], ◌∷◌, ◌++◌, get_or, take, sym, subst}
+use Rattle.std.specs.List.{AllZip}
+use Rattle.std.proofs.lemmas.List.{take_more}
+use Rattle.std.proofs.lemmas.Option.{slice_get_within}
+use Rattle.command_nets.specs.declared.nets.CommandNets.{CommandNets}
+use Rattle.mm_arbiter.specs.declared.asker.Asker.{Asker}
+use Rattle.mm_fabric.specs.Asks.{IsCommandFor}
+use Rattle.mm_fabric.proofs.Widening.{zip_push}
+use Rattle.mm_fabric.proofs.Leading.{have_at, same_host}
+use Rattle.mm_fabric.proofs.asks.commands_for.Goals as goal
+
+pub bounds-begun-asker : goal.bounds-begun-asker
+bounds-begun-asker c =
+    let have = (have_at c.args.agent c.args.begun.now c.args.askers.now c.loop-asker.asker-index _ c.requires c.loop-asker-test.true).1 in
+    slice_get_within c.args.begun.now _ have.host have.at
+
+pub command_to-requires : goal.command_to-requires
+command_to-requires c =
+    let have = (have_at c.args.agent c.args.begun.now c.args.askers.now c.loop-asker.asker-index _ c.requires c.loop-asker-test.true).1 in
+    let same = same_host c.args.begun.now _ have.host c.index-begun-asker.result have.at c.index-begun-asker.is in
+    let many = have.many in
+    let routes = c.as_slice.ensures in
+    let commands = c.deref.ensures.value in
+    rw (routes, commands, sym same) many
+
+pub unreachable-requires : goal.unreachable-requires
+unreachable-requires c =
+    let have = (have_at c.args.agent c.args.begun.now c.args.askers.now c.loop-asker.asker-index _ c.requires c.loop-asker-test.true).1 in
+    let same = same_host c.args.begun.now _ have.host c.index-begun-asker.result have.at c.index-begun-asker.is in
+    let leads = have.leads in
+    let routes = c.as_slice.ensures in
+    let commands = c.deref.ensures.value in
+    let gives = c.command_to.ensures in
+    let none = c.in-None.is in
+    absurd (cc)
+
+pub loop-asker-preserved : goal.loop-asker-preserved
+loop-asker-preserved c =
+    let k = c.loop-asker.asker-index in
+    let askers = c.args.askers.now in
+    let none : Asker = record { host = 0; shares = 0 } in
+    let have = (have_at c.args.agent c.args.begun.now askers k none c.requires c.loop-asker-test.true).1 in
+    let same = same_host c.args.begun.now _ have.host c.index-begun-asker.result have.at c.index-begun-asker.is in
+    let routes = c.as_slice.ensures in
+    let commands = c.deref.ensures.value in
+    let gives = c.command_to.ensures in
+    let some = c.in-Some.is in
+    let last : IsCommandFor c.args.agent c.args.begun.now (get_or askers k none) c.in-Some.command = record { host = have.host; at = have.at; many = have.many; leads = cc } in
+    subst (λ (xs : List Asker). AllZip (IsCommandFor c.args.agent c.args.begun.now) xs c.push.new.self.items) (sym (take_more askers k none c.loop-asker-test.true))
+    (subst (λ (ys : List CommandNets). AllZip (IsCommandFor c.args.agent c.args.begun.now) (take k askers ++ get_or askers k none ∷ []) ys) (sym c.in_ok-push-in-Some.ensures.items)
+    (zip_push (IsCommandFor c.args.agent c.args.begun.now) (take k askers) c.loop-asker.commands.items (get_or askers k none) c.in-Some.command c.loop-asker.invariant last))

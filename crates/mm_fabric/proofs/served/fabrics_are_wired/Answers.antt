@@ -1,0 +1,7 @@
+use Rattle.mm_fabric.proofs.Wired.{wired}
+use Rattle.mm_fabric.proofs.served.fabrics_are_wired.Goals as goal
+
+pub returns : goal.returns
+returns c = λ plan is_plan netlist fabric is longer extends run endless end legal.
+    wired plan (c.plans_are_memory_plans.ensures.kept plan is_plan) (c.plans_are_apart.ensures plan is_plan) (c.routes_are_the_map.ensures plan is_plan) (c.routes_are_mapped.ensures plan is_plan) c.fit_commands_suit_agents.ensures c.routes_join_beats.ensures
+    netlist fabric is longer extends run endless end legal c.what_wires_carry_fits.ensures (c.fabrics_show_views.ensures plan netlist fabric is longer extends run endless end)

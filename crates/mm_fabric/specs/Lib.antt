@@ -1,0 +1,12 @@
+pub mod Parts
+pub mod Askers
+pub mod Ways
+pub mod Wide
+pub mod Begun
+pub mod Asks
+pub mod Joined
+pub mod Fabrics
+pub mod Tells
+pub mod Finished
+pub mod Lasting
+pub mod Trunks

@@ -1,0 +1,150 @@
+//! What stands next to an agent: its arbiter, and the part below it.
+
+ghost use Rattle.std.specs.Prelude.{◌≡◌, ℕ, ◌+◌, ◌*◌, ◌^◌, ◌<◌, ◌≤◌, nat_lt, length, IfOk, OnOk};
+ghost use Rattle.std.specs.List.{AllZip};
+ghost use Rattle.iface_roles.specs.Proper.{IsBoundedAgent};
+ghost use Rattle.net_parts.specs.Growth.{GrowsBy, StillWait};
+ghost use Rattle.mm_agent.specs.Agents.{AreAgentNets, IsServed};
+ghost use Rattle.mm_fabric.specs.Parts.{IsAgentPart, askers_of, commands_above, backs_above};
+ghost use Rattle.mm_fabric.specs.Wide.{AsksFor, ShowsBeatOf, joined_agent_nets};
+ghost use Rattle.mm_fabric.specs.Askers.{MayAsk, AreAsked, AreTold, told_by, agent_part_nets};
+
+use crate::parts::{AgentPart, Seat};
+use crate::wide::{widen_all, widest};
+use av_base::List;
+use command_nets::{CommandNets, word_bits};
+use iface_roles::AgentPort;
+use mm_agent::{AgentMade, AgentNets, emit_agent};
+use mm_arbiter::{Asker, BackNets, BelowNets, emit_arbiter, finish_arbiter};
+use mm_route::BackNets as RouteBackNets;
+use netlist::{Builder, NetFault};
+use std::alloc::{AllocError, Global};
+
+/// The bits of the tag of a command: the number of its host.
+const TAG_BITS: u8 = 4;
+
+/// The askers with their commands and what comes back, in their order.
+fn seats_of(
+    alloc: Global,
+    askers: &[Asker],
+    commands: &[CommandNets],
+    backs: &[BackNets],
+) -> Result<List<Seat>, NetFault>
+    requires commands { length commands.now ≡ length askers.now }
+    requires backs { length backs.now ≡ length askers.now }
+    ensures askers { IfOk result (λ seats. askers_of seats ≡ askers.now) }
+    ensures commands { IfOk result (λ seats. commands_above seats ≡ commands.now) }
+    ensures backs { IfOk result (λ seats. backs_above seats ≡ backs.now) }
+    ensures full { ¬ (result ≡ Err NetFault.TooManyNets) }
+{
+    let mut seats = List::new(alloc);
+    for k in 0..askers.len() {
+        let back = backs[k];
+        let seat = Seat {
+            host: askers[k].host,
+            shares: askers[k].shares,
+            command: commands[k],
+            back: RouteBackNets {
+                wait: back.wait,
+                answer: back.answer,
+            },
+        };
+        if seats.push(seat).is_err() {
+            return Err(NetFault::NoMemory);
+        }
+    }
+    Ok(seats)
+}
+
+/// What the part next to an agent tells the arbiter above it.
+fn below_of(made: &AgentMade) -> BelowNets
+    ensures { result ≡ told_by made.now }
+{
+    BelowNets {
+        wait: made.waitrequest,
+        answer: made.answer,
+        tag: made.answer_tag,
+    }
+}
+
+/// Makes what stands next to an agent, behind commands of the same widths.
+///
+/// `TooManyNets` comes where the module has no room for these nets. After an error the builder is to be dropped: registers may
+/// stand in it that wait.
+pub(crate) fn emit_agent_part(
+    alloc: Global,
+    builder: &mut Builder,
+    port: &AgentPort,
+    nets: &AgentNets,
+    askers: &[Asker],
+    commands: &[CommandNets],
+) -> Result<AgentPart, NetFault>
+    requires port { IsBoundedAgent port.now }
+    requires served { IsServed (nat_lt 1 (length askers.now)) port.now }
+    requires nets { AreAgentNets builder.old port.now nets.now }
+    requires askers { MayAsk askers.now }
+    requires commands { AreAsked builder.old port.now askers.now commands.now }
+    ensures part { IfOk result (IsAgentPart builder.new) }
+    ensures port { IfOk result (λ part. part.port ≡ port.now) }
+    ensures nets { IfOk result (λ part. part.nets ≡ nets.now) }
+    ensures askers { IfOk result (λ part. askers_of part.seats ≡ askers.now) }
+    ensures commands { IfOk result (λ part. commands_above part.seats ≡ commands.now) }
+    ensures backs { IfOk result (λ part. AreTold builder.new (port.now.word_bytes * 8) part.seats) }
+    ensures grows { GrowsBy (agent_part_nets (length askers.now)) builder.old builder.new }
+    ensures waits { StillWait builder.old builder.new }
+    ensures no_more_wait { OnOk result (StillWait builder.new builder.old) }
+
+    // Memory may run out at any net.
+    ensures full { result ≡ Err NetFault.TooManyNets → 2 ^ 20 < length builder.old.lines + agent_part_nets (length askers.now) }
+{
+    let (command, arbiter) = emit_arbiter(builder, askers, commands)?;
+    let made = emit_agent(builder, port, nets, &command, askers.len() > 1)?;
+    builder.well_made();
+    let below = below_of(&made);
+    let bits = word_bits(port.word_bytes);
+    let backs = finish_arbiter(alloc, builder, &arbiter, askers, &below, TAG_BITS, bits)?;
+    let seats = seats_of(alloc, askers, commands, &backs)?;
+    Ok(AgentPart {
+        port: *port,
+        nets: *nets,
+        seats,
+        arbiter,
+        command,
+        made,
+    })
+}
+
+/// Makes what stands next to an agent, behind the commands of the hosts that ask, in their order, on nets as wide as the widest.
+///
+/// `TooManyNets` comes where the module has no room for these nets. After an error the builder is to be dropped: registers may
+/// stand in it that wait.
+pub fn join_agent(
+    alloc: Global,
+    builder: &mut Builder,
+    port: &AgentPort,
+    nets: &AgentNets,
+    askers: &[Asker],
+    commands: &[CommandNets],
+) -> Result<AgentPart, NetFault>
+    requires port { IsBoundedAgent port.now }
+    requires served { IsServed (nat_lt 1 (length askers.now)) port.now }
+    requires nets { AreAgentNets builder.old port.now nets.now }
+    requires askers { MayAsk askers.now }
+    requires commands { AllZip (AsksFor builder.old port.now) askers.now commands.now }
+    ensures part { IfOk result (IsAgentPart builder.new) }
+    ensures port { IfOk result (λ part. part.port ≡ port.now) }
+    ensures nets { IfOk result (λ part. part.nets ≡ nets.now) }
+    ensures askers { IfOk result (λ part. askers_of part.seats ≡ askers.now) }
+    ensures beats { IfOk result (λ part. AllZip (ShowsBeatOf builder.new) commands.now (commands_above part.seats)) }
+    ensures backs { IfOk result (λ part. AreTold builder.new (port.now.word_bytes * 8) part.seats) }
+    ensures grows { GrowsBy (joined_agent_nets (length askers.now)) builder.old builder.new }
+    ensures waits { StillWait builder.old builder.new }
+    ensures no_more_wait { OnOk result (StillWait builder.new builder.old) }
+
+    // Memory may run out at any net.
+    ensures full { result ≡ Err NetFault.TooManyNets → 2 ^ 20 < length builder.old.lines + joined_agent_nets (length askers.now) }
+{
+    let bits = widest(builder, commands);
+    let wide = widen_all(alloc, builder, commands, bits)?;
+    emit_agent_part(alloc, builder, port, nets, askers, &wide)
+}

@@ -1,0 +1,117 @@
+//! The hosts of a plan that ask an agent, and their commands for it.
+
+ghost use Rattle.std.specs.Prelude.{◌≡◌, ℕ, ◌+◌, ◌*◌, ◌^◌, ◌<◌, ◌≤◌, nat_lt, length, IfOk, OnOk};
+ghost use Rattle.std.specs.List.{AllZip};
+ghost use Rattle.iface_roles.specs.Proper.{IsBoundedAgent};
+ghost use Rattle.net_parts.specs.Growth.{GrowsBy, StillWait};
+ghost use Rattle.mm_agent.specs.Agents.{AreAgentNets, IsServed};
+ghost use Rattle.mm_fabric.specs.Parts.{IsAgentPart, askers_of, commands_above};
+ghost use Rattle.mm_fabric.specs.Askers.{MayAsk, AreTold};
+ghost use Rattle.mm_fabric.specs.Wide.{joined_agent_nets};
+ghost use Rattle.mm_fabric.specs.Asks.{asking_among, asking, command_to, IsCommandFor, AllHaveCommands, AllCanAsk, ShowsAsked};
+
+use crate::agents::join_agent;
+use crate::begun::BegunHost;
+use crate::parts::AgentPart;
+use command_nets::CommandNets;
+use iface_roles::AgentPort;
+use link_rules::{MemoryLink, Plan};
+use memory_sides::Route;
+use mm_agent::AgentNets;
+use mm_arbiter::Asker;
+use netlist::{Builder, NetFault};
+use std::alloc::Global;
+
+/// An agent of a plan: its ports and the nets that it gives.
+#[derive(Clone, Copy)]
+pub struct AgentEnd {
+    pub port: AgentPort,
+    pub nets: AgentNets,
+}
+
+/// The hosts of those links that are the agent's.
+fn asking_among(alloc: Global, links: &[MemoryLink], agent: u8) -> Result<Vec<Asker>, NetFault>
+    ensures askers { IfOk result (λ askers. askers.items ≡ asking_among agent links.now) }
+    ensures full { ¬ (result ≡ Err NetFault.TooManyNets) }
+{
+    let mut askers = Vec::new(alloc);
+    for link in links {
+        if link.agent_number == agent {
+            askers.push(Asker {
+                host: link.host_number,
+                shares: link.shares,
+            })?;
+        }
+    }
+    Ok(askers)
+}
+
+/// The command of the first route to an agent.
+fn command_to(routes: &[Route], commands: &[CommandNets], agent: u8) -> Option<CommandNets>
+    requires { length commands.now ≡ length routes.now }
+    ensures { result ≡ command_to agent routes.now commands.now }
+{
+    for k in 0..routes.len() {
+        if routes[k].agent == agent {
+            return Some(commands[k]);
+        }
+    }
+    None
+}
+
+/// The command of each asker's host for an agent.
+fn commands_for(
+    alloc: Global,
+    begun: &[BegunHost],
+    askers: &[Asker],
+    agent: u8,
+) -> Result<Vec<CommandNets>, NetFault>
+    requires { AllHaveCommands agent begun.now askers.now }
+    ensures commands { IfOk result (λ commands. AllZip (IsCommandFor agent begun.now) askers.now commands.items) }
+    ensures full { ¬ (result ≡ Err NetFault.TooManyNets) }
+{
+    let mut commands = Vec::new(alloc);
+    for asker in askers {
+        let host = &begun[asker.host as usize];
+        match command_to(host.routes.as_slice(), &host.commands, agent) {
+            Some(command) => commands.push(command)?,
+            None => unreachable!(),
+        }
+    }
+    Ok(commands)
+}
+
+/// Makes what stands next to the agent of this number, behind the begun hosts that are joined to it.
+///
+/// `TooManyNets` comes where the module has no room for these nets. After an error the builder is to be dropped: registers may
+/// stand in it that wait.
+pub fn join_hosts(
+    alloc: Global,
+    builder: &mut Builder,
+    plan: &Plan,
+    begun: &[BegunHost],
+    number: u8,
+    end: &AgentEnd,
+) -> Result<AgentPart, NetFault>
+    requires port { IsBoundedAgent end.now.port }
+    requires served { IsServed (nat_lt 1 (length (asking plan.now.system number))) end.now.port }
+    requires nets { AreAgentNets builder.old end.now.port end.now.nets }
+    requires askers { MayAsk (asking plan.now.system number) }
+    requires asks { AllCanAsk plan.now builder.old number end.now.port begun.now (asking plan.now.system number) }
+    ensures part { IfOk result (IsAgentPart builder.new) }
+    ensures port { IfOk result (λ part. part.port ≡ end.now.port) }
+    ensures nets { IfOk result (λ part. part.nets ≡ end.now.nets) }
+    ensures askers { IfOk result (λ part. askers_of part.seats ≡ asking plan.now.system number) }
+    ensures beats { IfOk result (λ part. AllZip (ShowsAsked builder.new number begun.now) (asking plan.now.system number) (commands_above part.seats)) }
+    ensures backs { IfOk result (λ part. AreTold builder.new (end.now.port.word_bytes * 8) part.seats) }
+    ensures grows { GrowsBy (joined_agent_nets (length (asking plan.now.system number))) builder.old builder.new }
+    ensures waits { StillWait builder.old builder.new }
+    ensures no_more_wait { OnOk result (StillWait builder.new builder.old) }
+
+    // Memory may run out at any net.
+    ensures full { result ≡ Err NetFault.TooManyNets → 2 ^ 20 < length builder.old.lines + joined_agent_nets (length (asking plan.now.system number)) }
+{
+    let askers = asking_among(alloc, plan.memory_links(), number)?;
+    let commands = commands_for(alloc, begun, &askers, number)?;
+    join_agent(alloc, builder, &end.port, &end.nets, &askers, &commands)
+}

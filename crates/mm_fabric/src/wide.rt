@@ -1,0 +1,60 @@
+//! The commands that are asked of an agent, on nets as wide as the widest.
+
+ghost use Rattle.std.specs.Prelude.{◌≡◌, ◌+◌, ◌*◌, ◌^◌, ◌<◌, ◌≤◌, length, IfOk};
+ghost use Rattle.std.specs.List.{AllZip};
+ghost use Rattle.net_parts.specs.Growth.{AddsNets};
+ghost use Rattle.mm_arbiter.specs.Shown.{AreCommands};
+ghost use Rattle.mm_fabric.specs.Wide.{AreWithin, IsWidened};
+
+use command_nets::CommandNets;
+use mm_arbiter::widen_command;
+use netlist::{Builder, NetFault};
+use std::alloc::Global;
+
+/// Bits that hold each address and each count of some commands.
+#[derive(Clone, Copy)]
+pub(crate) struct WideBits {
+    pub address: u8,
+    pub count: u8,
+}
+
+/// The bits of the widest address and of the widest count.
+pub(crate) fn widest(builder: &Builder, commands: &[CommandNets]) -> WideBits
+    requires { AreCommands builder.now commands.now }
+    ensures within { AreWithin result.address result.count commands.now }
+    ensures few_address { result.address ≤ 128 }
+    ensures few_count { result.count ≤ 128 }
+{
+    let mut bits = WideBits {
+        address: 0,
+        count: 0,
+    };
+    for command in commands {
+        bits.address = bits.address.max(builder.width(command.address));
+        bits.count = bits.count.max(builder.width(command.count));
+    }
+    bits
+}
+
+/// The same beats, each address and each count on nets of so many bits.
+#[tactic(auto, using(net_parts::specs::Laws::growing))]
+pub(crate) fn widen_all(
+    alloc: Global,
+    builder: &mut Builder,
+    commands: &[CommandNets],
+    bits: WideBits,
+) -> Result<Vec<CommandNets>, NetFault>
+    requires commands { AreCommands builder.old commands.now }
+    requires within { AreWithin bits.address bits.count commands.now }
+    requires few_address { bits.address ≤ 128 }
+    requires few_count { bits.count ≤ 128 }
+    ensures wide { IfOk result (λ wide. AllZip (IsWidened builder.new bits.address bits.count) commands.now wide.items) }
+    ensures adds { AddsNets (4 * length commands.now) builder.old builder.new }
+    ensures full { result ≡ Err NetFault.TooManyNets → 2 ^ 20 < length builder.old.lines + 4 * length commands.now }
+{
+    let mut wide = Vec::new(alloc);
+    for command in commands {
+        wide.push(widen_command(builder, command, bits.address, bits.count)?)?;
+    }
+    Ok(wide)
+}
