@@ -6,13 +6,15 @@ use Rattle.command_nets.specs.Nets.{raw_in}
 use Rattle.command_nets.specs.Groups.{is_shown}
 use Rattle.mm_arbiter.specs.Asks.{number}
 use Rattle.mm_arbiter.specs.Shown.{asks_in, ShowAllSame}
-use Rattle.mm_arbiter.specs.Turns.{StandsAt, HoldSame}
+use Rattle.mm_arbiter.specs.Turns.{StandsAt, HoldSame, turn_nets_last}
 use Rattle.mm_arbiter.specs.Rounds.{seat_in, AreChosen}
 use Rattle.mm_arbiter.proofs.Words.{any_seat}
 use Rattle.mm_arbiter.proofs.Picks.{three_ok, split_whole, both_ok}
 use Rattle.mm_arbiter.specs.Depends.{AnyTwo, IsSame}
 use Rattle.mm_arbiter.proofs.Same.{same_by_one, same_any}
 use Rattle.mm_arbiter.proofs.Ignores.{same_asks}
+use Rattle.net_parts.specs.Laws.{adds_fewer, adds_twice}
+use Rattle.net_parts.specs.Refusing.{handed_on}
 use Rattle.mm_arbiter.proofs.choice.choose_asker.Goals as goal
 
 pub returns-clause-value : goal.returns-clause-value
@@ -50,3 +52,24 @@ returns-clause-reads c =
     let seat = reads one other v2 w2 same asks in
     (seat, same_any (some one v2) (some other w2) seat)))
     c.choose_by.ensures.reads c.choose_by.ensures.some_is
+
+pub returns-in_err-asks-clause-adds : goal.returns-in_err-asks-clause-adds
+returns-in_err-asks-clause-adds c = adds_fewer _ _ _ _ (omega arith) c.ask_bits.ensures.adds
+
+pub returns-in_err-asks-clause-full : goal.returns-in_err-asks-clause-full
+returns-in_err-asks-clause-full c e = let full = c.ask_bits.ensures.full (handed_on _ _ _ _ c.in_err-asks.was c.from_residual.ensures.1 e) in omega (arith, full)
+
+pub returns-clause-nets : goal.returns-clause-nets
+returns-clause-nets c = c.choose_by.ensures.nets
+
+pub returns-clause-adds : goal.returns-clause-adds
+returns-clause-adds c = adds_fewer _ _ _ _ (omega arith) (adds_twice _ _ _ _ _ c.ask_bits.ensures.adds c.choose_by.ensures.adds)
+
+pub returns-clause-full : goal.returns-clause-full
+returns-clause-full c e =
+    let most0 = c.ask_bits.ensures.adds.most in
+    let full = c.choose_by.ensures.full e in
+    omega (arith, most0, full)
+
+pub choose_by-requires-clause-turns : goal.choose_by-requires-clause-turns
+choose_by-requires-clause-turns c = turn_nets_last _ _ _ _ c.ask_bits.ensures.adds.grows.extends c.requires.turns

@@ -2,6 +2,8 @@ use Rattle.std.proofs.Common.{◌≡◌, ℕ, [], ◌∷◌, List, get_or, ap, s
 use Rattle.histories.specs.History.{is_raised}
 use Rattle.netlist.specs.Runs.{cycle_of}
 use Rattle.mm_arbiter.specs.Rounds.{keeps_last}
+use Rattle.net_parts.specs.Laws.{adds_grow, grows_fewer, grows_twice}
+use Rattle.net_parts.specs.Refusing.{handed_on}
 use Rattle.mm_arbiter.proofs.next.step_turns.Goals as goal
 
 three_same : (a b c x y z : ℕ) → a ≡ x → b ≡ y → c ≡ z → (a ∷ b ∷ c ∷ []) ≡ (x ∷ y ∷ z ∷ [])
@@ -38,3 +40,27 @@ returns-clause-value c run cycles r n lt =
 
 pub returns-clause-no_more_wait : goal.returns-clause-no_more_wait
 returns-clause-no_more_wait c n w = let set = c.set_all_next.ensures.no_more_wait n w in (c.next_inside.ensures.adds.grows.no_more_wait n set.0, set.1)
+
+pub returns-in_err-inside-clause-grows : goal.returns-in_err-inside-clause-grows
+returns-in_err-inside-clause-grows c = grows_fewer _ _ _ _ (omega arith) (adds_grow _ _ _ c.next_inside.ensures.adds)
+
+pub returns-in_err-inside-clause-full : goal.returns-in_err-inside-clause-full
+returns-in_err-inside-clause-full c e = let full = c.next_inside.ensures.full (handed_on _ _ _ _ c.in_err-inside.was c.from_residual.ensures.1 e) in omega (arith, full)
+
+pub returns-clause-grows : goal.returns-clause-grows
+returns-clause-grows c = grows_fewer _ _ _ _ (omega arith) (grows_twice _ _ _ _ _ (adds_grow _ _ _ c.next_inside.ensures.adds) c.set_all_next.ensures.grows)
+
+pub returns-clause-full : goal.returns-clause-full
+returns-clause-full c e = cc
+
+pub next_inside-requires-clause-command : goal.next_inside-requires-clause-command
+next_inside-requires-clause-command c = c.requires.command
+
+pub next_inside-requires-clause-wait : goal.next_inside-requires-clause-wait
+next_inside-requires-clause-wait c = c.requires.wait
+
+pub returns-in_err-inside-clause-waits : goal.returns-in_err-inside-clause-waits
+returns-in_err-inside-clause-waits c n apart w = c.next_inside.ensures.adds.grows.waits n w
+
+pub returns-clause-waits : goal.returns-clause-waits
+returns-clause-waits c n apart w = c.set_all_next.ensures.still_wait n apart (c.next_inside.ensures.adds.grows.waits n w)

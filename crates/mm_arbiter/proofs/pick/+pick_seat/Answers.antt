@@ -5,6 +5,7 @@ use Rattle.net_parts.specs.Laws.{if_ok, extends_twice, net_lasts, adds_twice, ad
 use Rattle.command_nets.specs.declared.nets.CommandNets.{CommandNets}
 use Rattle.command_nets.specs.Nets.{AreCommandNets, group_of, ShowSame}
 use Rattle.command_nets.specs.Groups.{command_lasts}
+use Rattle.net_parts.specs.Refusing.{handed_on}
 use Rattle.mm_arbiter.specs.Shown.{HaveWidths, IsSeatOf, commands_last, ShowAllSame}
 use Rattle.mm_arbiter.proofs.Picks.{both_ok, asker_at, command_at, widths_at, seat_here, seat_chosen}
 use Rattle.mm_arbiter.specs.Depends.{AnyTwo, IsSame}
@@ -95,3 +96,63 @@ returns-clause-reads t c =
     let w1 = c.pick_seat-2.ensures.adds.grows.extends.valuations other w2 in
     same_raw (c.in_ok-upper.ensures.reads one other v3 w3 bits) (c.in_ok-high.ensures.reads one other v2 w2 bits shown) (c.in_ok-low.ensures.reads one other v1 w1 bits shown) (raw one v4) (raw other w4)))
     c.choose_seat.ensures.value
+
+pub returns-then-to-from-eq1-clause-spare : goal.returns-then-to-from-eq1-clause-spare
+returns-then-to-from-eq1-clause-spare t c = c.seat_nets.ensures.spare
+
+pub returns-then-to-from-eq1-clause-adds : goal.returns-then-to-from-eq1-clause-adds
+returns-then-to-from-eq1-clause-adds t c = let one = c.if-to-from-eq1.true in adds_fewer _ _ _ _ (omega (arith, one)) c.seat_nets.ensures.adds
+
+pub returns-then-to-from-eq1-clause-full : goal.returns-then-to-from-eq1-clause-full
+returns-then-to-from-eq1-clause-full t c e = let one = c.if-to-from-eq1.true in let full = c.seat_nets.ensures.full e in omega (arith, one, full)
+
+pub returns-in_err-low-clause-adds : goal.returns-in_err-low-clause-adds
+returns-in_err-low-clause-adds t c = adds_fewer _ _ _ _ (omega arith) c.pick_seat.ensures.adds
+
+pub returns-in_err-low-clause-full : goal.returns-in_err-low-clause-full
+returns-in_err-low-clause-full t c e = let full = c.pick_seat.ensures.full (handed_on _ _ _ _ c.in_err-low.was c.from_residual.ensures.1 e) in omega (arith, full)
+
+pub returns-in_err-high-clause-adds : goal.returns-in_err-high-clause-adds
+returns-in_err-high-clause-adds t c = adds_fewer _ _ _ _ (omega arith) (adds_twice _ _ _ _ _ c.pick_seat.ensures.adds c.pick_seat-2.ensures.adds)
+
+pub returns-in_err-high-clause-full : goal.returns-in_err-high-clause-full
+returns-in_err-high-clause-full t c e =
+    let most = c.pick_seat.ensures.adds.most in
+    let full = c.pick_seat-2.ensures.full (handed_on _ _ _ _ c.in_err-high.was c.from_residual-in_err-high.ensures.1 e) in
+    omega (arith, most, full)
+
+pub returns-in_err-upper-clause-adds : goal.returns-in_err-upper-clause-adds
+returns-in_err-upper-clause-adds t c = adds_fewer _ _ _ _ (omega arith) (adds_twice _ _ _ _ _ (adds_twice _ _ _ _ _ c.pick_seat.ensures.adds c.pick_seat-2.ensures.adds) c.is_from.ensures.adds)
+
+pub returns-in_err-upper-clause-full : goal.returns-in_err-upper-clause-full
+returns-in_err-upper-clause-full t c e =
+    let most = c.pick_seat.ensures.adds.most in
+    let more = c.pick_seat-2.ensures.adds.most in
+    let full = c.is_from.ensures.full (handed_on _ _ _ _ c.in_err-upper.was c.from_residual-in_err-upper.ensures.1 e) in
+    omega (arith, most, more, full)
+
+pub returns-clause-full : goal.returns-clause-full
+returns-clause-full t c e =
+    let most = c.pick_seat.ensures.adds.most in
+    let more = c.pick_seat-2.ensures.adds.most in
+    let last = c.is_from.ensures.adds.most in
+    let full = c.choose_seat.ensures.full e in
+    omega (arith, most, more, last, full)
+
+pub returns-clause-command : goal.returns-clause-command
+returns-clause-command t c = c.choose_seat.ensures.command
+
+pub returns-clause-spare : goal.returns-clause-spare
+returns-clause-spare t c = c.choose_seat.ensures.spare
+
+pub choose_seat-requires-clause-bit : goal.choose_seat-requires-clause-bit
+choose_seat-requires-clause-bit t c = c.in_ok-upper.ensures.net
+
+pub choose_seat-requires-clause-one : goal.choose_seat-requires-clause-one
+choose_seat-requires-clause-one t c = command_lasts _ _ _ c.is_from.ensures.adds.grows.extends c.in_ok-high.ensures.command
+
+pub choose_seat-requires-clause-one_spare : goal.choose_seat-requires-clause-one_spare
+choose_seat-requires-clause-one_spare t c = net_lasts _ _ _ _ c.is_from.ensures.adds.grows.extends c.in_ok-high.ensures.spare
+
+pub choose_seat-requires-clause-other_spare : goal.choose_seat-requires-clause-other_spare
+choose_seat-requires-clause-other_spare t c = net_lasts _ _ _ _ (extends_twice _ _ _ c.pick_seat-2.ensures.adds.grows.extends c.is_from.ensures.adds.grows.extends) c.in_ok-low.ensures.spare

@@ -16,3 +16,9 @@ returns-clause-adds c = adds_fewer _ 2 _ _ (few_fitted _ _) c.fit_bits.ensures.a
 
 pub returns-clause-full : goal.returns-clause-full
 returns-clause-full c e = let full = c.fit_bits.ensures.full e in let few = few_fitted c.width-bits.result c.args.wanted in omega (arith, full, few)
+
+pub returns-clause-net : goal.returns-clause-net
+returns-clause-net c = c.fit_bits.ensures.net
+
+pub fit_bits-requires-clause-few : goal.fit_bits-requires-clause-few
+fit_bits-requires-clause-few c = c.requires.few

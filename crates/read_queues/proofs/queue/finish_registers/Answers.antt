@@ -1,10 +1,11 @@
 use Rattle.std.proofs.Common.{◌≡◌, ◌&&◌, nat_eq, refl, ap, ◌∙◌, inl, inr, arith}
 use Rattle.histories.specs.History.{is_raised}
 use Rattle.net_parts.specs.Growth.{WaitsWithout}
-use Rattle.net_parts.specs.Laws.{extends_twice, on_ok, adds_grow, adds_twice, grows_once, grows_fewer, grows_twice}
+use Rattle.net_parts.specs.Laws.{extends_twice, on_ok, adds_grow, adds_twice, grows_once, grows_fewer, grows_twice, net_lasts}
 use Rattle.read_queues.specs.Steps.{CountsOn}
-use Rattle.read_queues.specs.Held.{owns_queue, RegistersGoOn}
+use Rattle.read_queues.specs.Held.{owns_queue, RegistersGoOn, word_nets, queue_lasts}
 use Rattle.read_queues.proofs.Levels.{raised_any}
+use Rattle.net_parts.specs.Refusing.{handed_on}
 use Rattle.read_queues.proofs.queue.finish_registers.Goals as goal
 
 pub returns-in_err-move_pointer-2-clause-grows : goal.returns-in_err-move_pointer-2-clause-grows
@@ -65,3 +66,110 @@ returns-clause-no_more_wait c =
       ],
     )))
     c.move_count.ensures.no_more_wait
+
+pub returns-in_err-some-clause-grows : goal.returns-in_err-some-clause-grows
+returns-in_err-some-clause-grows c = grows_fewer _ _ _ _ (omega arith) (adds_grow _ _ _ (grows_once _ _ c.any.ensures.extends c.any.ensures.grows))
+
+pub returns-in_err-some-clause-waits : goal.returns-in_err-some-clause-waits
+returns-in_err-some-clause-waits c n apart w = c.any.ensures.grows.waits n w
+
+pub returns-in_err-some-clause-full : goal.returns-in_err-some-clause-full
+returns-in_err-some-clause-full c e = let full = c.any.ensures.full.0 (handed_on _ _ _ _ c.in_err-some.was c.from_residual.ensures.1 e) in omega (arith, full)
+
+pub returns-in_err-came-clause-grows : goal.returns-in_err-came-clause-grows
+returns-in_err-came-clause-grows c = grows_fewer _ _ _ _ (omega arith) (adds_grow _ _ _ (adds_twice _ _ _ _ _ (grows_once _ _ c.any.ensures.extends c.any.ensures.grows) c.both.ensures.adds))
+
+pub returns-in_err-came-clause-waits : goal.returns-in_err-came-clause-waits
+returns-in_err-came-clause-waits c n apart w = c.both.ensures.adds.grows.waits n (c.any.ensures.grows.waits n w)
+
+pub returns-in_err-came-clause-full : goal.returns-in_err-came-clause-full
+returns-in_err-came-clause-full c e =
+    let most0 = c.any.ensures.grows.most in
+    let full = c.both.ensures.full (handed_on _ _ _ _ c.in_err-came.was c.from_residual-in_err-came.ensures.1 e) in
+    omega (arith, most0, full)
+
+pub returns-in_err-last-clause-grows : goal.returns-in_err-last-clause-grows
+returns-in_err-last-clause-grows c = grows_fewer _ _ _ _ (omega arith) (grows_twice _ _ _ _ _ (adds_grow _ _ _ (adds_twice _ _ _ _ _ (grows_once _ _ c.any.ensures.extends c.any.ensures.grows) c.both.ensures.adds)) c.finish_words.ensures.grows)
+
+pub returns-in_err-last-clause-full : goal.returns-in_err-last-clause-full
+returns-in_err-last-clause-full c e =
+    let most0 = c.any.ensures.grows.most in
+    let most1 = c.both.ensures.adds.most in
+    let full = c.finish_words.ensures.full (handed_on _ _ _ _ c.in_err-last.was c.from_residual-in_err-last.ensures.1 e) in
+    omega (arith, most0, most1, full)
+
+pub returns-in_err-move_pointer-clause-grows : goal.returns-in_err-move_pointer-clause-grows
+returns-in_err-move_pointer-clause-grows c = grows_fewer _ _ _ _ (omega arith) (grows_twice _ _ _ _ _ (grows_twice _ _ _ _ _ (adds_grow _ _ _ (adds_twice _ _ _ _ _ (grows_once _ _ c.any.ensures.extends c.any.ensures.grows) c.both.ensures.adds)) c.finish_words.ensures.grows) c.move_pointer.ensures.grows)
+
+pub returns-in_err-move_pointer-clause-full : goal.returns-in_err-move_pointer-clause-full
+returns-in_err-move_pointer-clause-full c e =
+    let most0 = c.any.ensures.grows.most in
+    let most1 = c.both.ensures.adds.most in
+    let most2 = c.finish_words.ensures.grows.most in
+    let full = c.move_pointer.ensures.full (handed_on _ _ _ _ c.in_err-move_pointer.was c.from_residual-in_err-move_pointer.ensures.1 e) in
+    omega (arith, most0, most1, most2, full)
+
+pub returns-in_err-move_pointer-2-clause-full : goal.returns-in_err-move_pointer-2-clause-full
+returns-in_err-move_pointer-2-clause-full c e =
+    let most0 = c.any.ensures.grows.most in
+    let most1 = c.both.ensures.adds.most in
+    let most2 = c.finish_words.ensures.grows.most in
+    let most3 = c.move_pointer.ensures.grows.most in
+    let full = c.move_pointer-2.ensures.full (handed_on _ _ _ _ c.in_err-move_pointer-2.was c.from_residual-in_err-move_pointer-2.ensures.1 e) in
+    omega (arith, most0, most1, most2, most3, full)
+
+pub returns-clause-full : goal.returns-clause-full
+returns-clause-full c e =
+    let most0 = c.any.ensures.grows.most in
+    let most1 = c.both.ensures.adds.most in
+    let most2 = c.finish_words.ensures.grows.most in
+    let most3 = c.move_pointer.ensures.grows.most in
+    let most4 = c.move_pointer-2.ensures.grows.most in
+    let full = c.move_count.ensures.full e in
+    omega (arith, most0, most1, most2, most3, most4, full)
+
+pub both-requires-clause-a : goal.both-requires-clause-a
+both-requires-clause-a c = net_lasts _ _ _ _ c.any.ensures.extends c.requires.valid
+
+pub finish_words-requires-clause-came : goal.finish_words-requires-clause-came
+finish_words-requires-clause-came c = c.in_ok-came.ensures.net
+
+pub move_count-requires-clause-comes : goal.move_count-requires-clause-comes
+move_count-requires-clause-comes c = net_lasts _ _ _ _ (extends_twice _ _ _ c.any.ensures.extends (extends_twice _ _ _ c.both.ensures.adds.grows.extends (extends_twice _ _ _ c.finish_words.ensures.grows.extends (extends_twice _ _ _ c.move_pointer.ensures.grows.extends c.move_pointer-2.ensures.grows.extends)))) c.requires.taken
+
+pub returns-in_err-last-clause-waits : goal.returns-in_err-last-clause-waits
+returns-in_err-last-clause-waits c n apart w = c.finish_words.ensures.waits n (λ o. apart (inr o)) (c.both.ensures.adds.grows.waits n (c.any.ensures.grows.waits n w))
+
+pub returns-in_err-move_pointer-clause-waits : goal.returns-in_err-move_pointer-clause-waits
+returns-in_err-move_pointer-clause-waits c n apart w = c.move_pointer.ensures.waits n (λ e. apart (inl (inr (inl e)))) (c.finish_words.ensures.waits n (λ o. apart (inr o)) (c.both.ensures.adds.grows.waits n (c.any.ensures.grows.waits n w)))
+
+pub any-requires : goal.any-requires
+any-requires c = record { a_is = c.requires.held.pointers.unanswered_net }
+
+pub finish_words-requires-clause-nets : goal.finish_words-requires-clause-nets
+finish_words-requires-clause-nets c = word_nets _ _ _ _ (queue_lasts _ _ _ c.requires.held (extends_twice _ _ _ c.any.ensures.extends c.both.ensures.adds.grows.extends)).words
+
+pub finish_words-requires-clause-waits : goal.finish_words-requires-clause-waits
+finish_words-requires-clause-waits c n o = c.both.ensures.adds.grows.waits n (c.any.ensures.grows.waits n (c.requires.waits n (inr o)))
+
+pub move_pointer-requires-clause-pointer : goal.move_pointer-requires-clause-pointer
+move_pointer-requires-clause-pointer c = (extends_twice _ _ _ c.any.ensures.extends (extends_twice _ _ _ c.both.ensures.adds.grows.extends c.finish_words.ensures.grows.extends)).nets _ _ c.requires.held.pointers.first_net.is_net
+
+pub move_pointer-requires-clause-waits : goal.move_pointer-requires-clause-waits
+move_pointer-requires-clause-waits c =
+    let n = c.args.held.now.pointers.first.number in
+    let next = c.requires.held.pointers.before_next in
+    c.finish_words.ensures.waits n (λ o. (let words = c.requires.held.before_words n o in omega (arith, words, next))) (c.both.ensures.adds.grows.waits n (c.any.ensures.grows.waits n (c.requires.waits n (inl (inr (inl refl))))))
+
+pub move_pointer-requires-2-clause-pointer : goal.move_pointer-requires-2-clause-pointer
+move_pointer-requires-2-clause-pointer c = (extends_twice _ _ _ c.any.ensures.extends (extends_twice _ _ _ c.both.ensures.adds.grows.extends (extends_twice _ _ _ c.finish_words.ensures.grows.extends c.move_pointer.ensures.grows.extends))).nets _ _ c.requires.held.pointers.next_net.is_net
+
+pub move_pointer-requires-2-clause-waits : goal.move_pointer-requires-2-clause-waits
+move_pointer-requires-2-clause-waits c =
+    let n = c.args.held.now.pointers.next.number in
+    let next = c.requires.held.pointers.before_next in
+    c.move_pointer.ensures.waits n (λ e. omega (arith, e, next))
+    (c.finish_words.ensures.waits n (λ o. (let words = c.requires.held.before_words n o in omega (arith, words))) (c.both.ensures.adds.grows.waits n (c.any.ensures.grows.waits n (c.requires.waits n (inl (inr (inr refl)))))))
+
+pub move_count-requires-clause-count : goal.move_count-requires-clause-count
+move_count-requires-clause-count c = (extends_twice _ _ _ c.any.ensures.extends (extends_twice _ _ _ c.both.ensures.adds.grows.extends (extends_twice _ _ _ c.finish_words.ensures.grows.extends (extends_twice _ _ _ c.move_pointer.ensures.grows.extends c.move_pointer-2.ensures.grows.extends)))).nets _ _ c.requires.held.pointers.unanswered_net
