@@ -1,6 +1,8 @@
 mod AlikeChain
 mod Between
 mod LineBetween
+mod OneTag
+mod PipeLaw
 mod Raised
 mod RowLaw
 mod StageLaw

@@ -5,5 +5,6 @@ pub mod Lines
 pub mod MaybeNets
 pub mod PassNets
 pub mod PipeForms
+pub mod PipeNets
 pub mod Rows
 pub mod StageNets

@@ -9,6 +9,10 @@ use Rattle.link_core.specs.StageNets.{RunsAsPipeStage}
 abbrev pub tagged_port : Port → (ℕ → ℕ) → TaggedPort
 tagged_port port tag = record { port = port; answer_tag = tag }
 
+-- the same commands with other tags
+abbrev pub with_tag : (ℕ → ℕ) → Port → Port
+with_tag tag port = record port { commands = record port.commands { tag = tag } }
+
 -- the tag of an answer goes through so many registers
 abbrev pub IsLater : ℕ → (ℕ → ℕ) → (ℕ → ℕ) → Type 0
 IsLater stages tag later = (c : ℕ) → later (stages + c) ≡ tag c

@@ -9,12 +9,14 @@ pub mod pass;
 pub mod pipe;
 pub mod row;
 pub mod stage;
+pub mod tags;
 
 pub use chain::Chain;
 pub use delay::Delay;
 pub use link::Link;
 pub use maybe::Maybe;
 pub use pass::Pass;
-pub use pipe::{Pipe, pipe_of};
+pub use pipe::{Pipe, PipeKept, begin_pipe, finish_pipe, pipe_of};
 pub use row::{Begun, begin_link, finish_link};
 pub use stage::PipeStage;
+pub use tags::delay_tag;

@@ -1,10 +1,9 @@
 use Rattle.std.proofs.Common.{sym, if◌then◌else◌, ap, ap₂, ◌∙◌, arith}
 use Rattle.mm_machines.specs.Machines.{Raw}
-use Rattle.net_parts.specs.Laws.{net_lasts}
-use Rattle.net_parts.specs.Laws.{extends_twice, adds_twice, adds_fewer}
+use Rattle.net_parts.specs.Laws.{net_lasts, extends_twice, adds_twice, adds_fewer}
 use Rattle.command_nets.specs.Nets.{raw_in}
-use Rattle.command_nets.specs.Groups.{hidden}
-use Rattle.command_nets.specs.Groups.{command_lasts}
+use Rattle.command_nets.specs.Groups.{hidden, command_lasts}
+use Rattle.net_parts.specs.Refusing.{handed_on}
 use Rattle.link_core.proofs.stage.next_places.Goals as goal
 
 pub stands_on-requires-clause-first : goal.stands_on-requires-clause-first
@@ -86,3 +85,57 @@ returns-clause-second_next c cycle v5 =
     let v1 = c.stands_on.ensures.adds.grows.extends.valuations cycle v2 in
     let coming = c.in_ok-coming.ensures.value cycle v3 ∙ ap (λ t. if t then raw_in cycle c.args.kept.now.second else raw_in cycle c.args.kept.now.from) (c.in_ok-full.ensures.value cycle v1) in
     c.in_ok-second.ensures.value cycle v5 ∙ ap₂ (λ t (r : Raw). if t then r else hidden r) (c.in_ok-stands.ensures.value cycle v2) coming
+
+pub returns-in_err-full-clause-adds : goal.returns-in_err-full-clause-adds
+returns-in_err-full-clause-adds c = adds_fewer _ _ _ _ (omega arith) c.shown.ensures.adds
+
+pub returns-in_err-full-clause-full : goal.returns-in_err-full-clause-full
+returns-in_err-full-clause-full c e = let full = c.shown.ensures.full (handed_on _ _ _ _ c.in_err-full.was c.from_residual.ensures.1 e) in omega (arith, full)
+
+pub returns-in_err-stands-clause-full : goal.returns-in_err-stands-clause-full
+returns-in_err-stands-clause-full c e =
+    let most0 = c.shown.ensures.adds.most in
+    let full = c.stands_on.ensures.full (handed_on _ _ _ _ c.in_err-stands.was c.from_residual-in_err-stands.ensures.1 e) in
+    omega (arith, most0, full)
+
+pub returns-in_err-coming-clause-full : goal.returns-in_err-coming-clause-full
+returns-in_err-coming-clause-full c e =
+    let most0 = c.shown.ensures.adds.most in
+    let most1 = c.stands_on.ensures.adds.most in
+    let full = c.choose_command.ensures.full (handed_on _ _ _ _ c.in_err-coming.was c.from_residual-in_err-coming.ensures.1 e) in
+    omega (arith, most0, most1, full)
+
+pub returns-in_err-first-clause-full : goal.returns-in_err-first-clause-full
+returns-in_err-first-clause-full c e =
+    let most0 = c.shown.ensures.adds.most in
+    let most1 = c.stands_on.ensures.adds.most in
+    let most2 = c.choose_command.ensures.adds.most in
+    let full = c.choose_command-2.ensures.full (handed_on _ _ _ _ c.in_err-first.was c.from_residual-in_err-first.ensures.1 e) in
+    omega (arith, most0, most1, most2, full)
+
+pub returns-in_err-second-clause-full : goal.returns-in_err-second-clause-full
+returns-in_err-second-clause-full c e =
+    let most0 = c.shown.ensures.adds.most in
+    let most1 = c.stands_on.ensures.adds.most in
+    let most2 = c.choose_command.ensures.adds.most in
+    let most3 = c.choose_command-2.ensures.adds.most in
+    let full = c.shown_while.ensures.full (handed_on _ _ _ _ c.in_err-second.was c.from_residual-in_err-second.ensures.1 e) in
+    omega (arith, most0, most1, most2, most3, full)
+
+pub returns-clause-full : goal.returns-clause-full
+returns-clause-full c e = cc
+
+pub returns-clause-second_nets : goal.returns-clause-second_nets
+returns-clause-second_nets c = c.in_ok-second.ensures.command
+
+pub shown-requires : goal.shown-requires
+shown-requires c = c.requires.second
+
+pub stands_on-requires-clause-wait : goal.stands_on-requires-clause-wait
+stands_on-requires-clause-wait c = net_lasts _ _ _ _ c.shown.ensures.adds.grows.extends c.requires.wait
+
+pub choose_command-requires-clause-bit : goal.choose_command-requires-clause-bit
+choose_command-requires-clause-bit c = net_lasts _ _ _ _ c.stands_on.ensures.adds.grows.extends c.in_ok-full.ensures.net
+
+pub choose_command-requires-2-clause-other : goal.choose_command-requires-2-clause-other
+choose_command-requires-2-clause-other c = c.in_ok-coming.ensures.command

@@ -4,6 +4,7 @@ use Rattle.net_parts.specs.Laws.{on_ok, if_ok, grows_twice, grows_fewer}
 use Rattle.netlist.specs.Nets.{NetValue}
 use Rattle.command_nets.specs.declared.nets.AnswerNets.{AnswerNets}
 use Rattle.link_core.specs.ChainNets.{HasMiddleAnswer}
+use Rattle.net_parts.specs.Refusing.{handed_on}
 use Rattle.link_core.proofs.chain.ChainLink.emit_answer.Goals as goal
 
 pub returns-clause-no_more_wait : goal.returns-clause-no_more_wait
@@ -37,3 +38,30 @@ returns-clause-grows g c = grows_fewer _ _ _ _ (omega arith) (grows_twice _ _ _ 
 
 pub returns-clause-waits : goal.returns-clause-waits
 returns-clause-waits g c n apart w = c.emit_answer-2.ensures.waits n (λ o. apart (inl o)) (c.emit_answer.ensures.waits n (λ o. apart (inr o)) w)
+
+pub emit_answer-requires-clause-kept : goal.emit_answer-requires-clause-kept
+emit_answer-requires-clause-kept g c = c.requires.kept.second
+
+pub emit_answer-requires-clause-wait : goal.emit_answer-requires-clause-wait
+emit_answer-requires-clause-wait g c = c.requires.wait
+
+pub emit_answer-requires-clause-answer : goal.emit_answer-requires-clause-answer
+emit_answer-requires-clause-answer g c = c.requires.answer
+
+pub emit_answer-requires-clause-words : goal.emit_answer-requires-clause-words
+emit_answer-requires-clause-words g c = c.requires.words.0
+
+pub emit_answer-requires-2-clause-wait : goal.emit_answer-requires-2-clause-wait
+emit_answer-requires-2-clause-wait g c = c.in_ok-middle.ensures.wait
+
+pub returns-in_err-middle-clause-full : goal.returns-in_err-middle-clause-full
+returns-in_err-middle-clause-full g c e = let full = c.emit_answer.ensures.full (handed_on _ _ _ _ c.in_err-middle.was c.from_residual.ensures.1 e) in omega (arith, full)
+
+pub returns-clause-full : goal.returns-clause-full
+returns-clause-full g c e =
+    let most = c.emit_answer.ensures.grows.most in
+    let full = c.emit_answer-2.ensures.full e in
+    omega (arith, most, full)
+
+pub returns-clause-wait : goal.returns-clause-wait
+returns-clause-wait g c = c.emit_answer-2.ensures.wait

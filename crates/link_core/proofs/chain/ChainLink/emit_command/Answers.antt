@@ -1,5 +1,6 @@
 use Rattle.std.proofs.Common.{sym, subst, ap, ◌∙◌, inl, inr, arith}
 use Rattle.net_parts.specs.Laws.{grows_twice, grows_fewer}
+use Rattle.net_parts.specs.Refusing.{handed_on}
 use Rattle.link_core.proofs.chain.ChainLink.emit_command.Goals as goal
 
 pub returns-clause-kept : goal.returns-clause-kept
@@ -57,3 +58,30 @@ returns-clause-newly g c n w =
       | inl before ↦ elim (c.in_ok-middle.ensures.newly n before) [ inl old ↦ inl old | inr own ↦ inr (inl own) ]
       | inr own ↦ inr (inr own)
     ]
+
+pub emit_command-requires-clause-from : goal.emit_command-requires-clause-from
+emit_command-requires-clause-from g c = c.requires.from
+
+pub emit_command-requires-clause-widths : goal.emit_command-requires-clause-widths
+emit_command-requires-clause-widths g c = c.requires.widths.0
+
+pub emit_command-requires-2-clause-from : goal.emit_command-requires-2-clause-from
+emit_command-requires-2-clause-from g c = c.in_ok-middle.ensures.command
+
+pub returns-in_err-middle-clause-waits : goal.returns-in_err-middle-clause-waits
+returns-in_err-middle-clause-waits g c n w = c.emit_command.ensures.waits n w
+
+pub returns-in_err-middle-clause-full : goal.returns-in_err-middle-clause-full
+returns-in_err-middle-clause-full g c e = let full = c.emit_command.ensures.full (handed_on _ _ _ _ c.in_err-middle.was c.from_residual.ensures.1 e) in omega (arith, full)
+
+pub returns-in_err-to-clause-full : goal.returns-in_err-to-clause-full
+returns-in_err-to-clause-full g c e =
+    let most = c.emit_command.ensures.grows.most in
+    let full = c.emit_command-2.ensures.full (handed_on _ _ _ _ c.in_err-to.was c.from_residual-in_err-to.ensures.1 e) in
+    omega (arith, most, full)
+
+pub returns-clause-full : goal.returns-clause-full
+returns-clause-full g c e = cc
+
+pub returns-clause-command : goal.returns-clause-command
+returns-clause-command g c = c.in_ok-to.ensures.command

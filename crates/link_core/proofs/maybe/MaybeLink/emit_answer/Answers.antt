@@ -1,7 +1,7 @@
 use Rattle.std.proofs.Common.{◌+◌, ◌^◌, ◌<◌, length, sym, subst}
-use Rattle.std.specs.Prelude.{Some, IsSomeAnd, unwrap_or, option_map}
+use Rattle.std.specs.Prelude.{Some, IsSomeAnd, unwrap_or, option_map, IfSome}
 use Rattle.net_parts.specs.Growth.{GrowsBy, WaitsWithout}
-use Rattle.net_parts.specs.Laws.{if_ok, on_ok}
+use Rattle.net_parts.specs.Laws.{if_ok, on_ok, grows_none}
 use Rattle.netlist.specs.Nets.{NetValue}
 use Rattle.command_nets.specs.declared.nets.AnswerNets.{AnswerNets}
 use Rattle.link_core.specs.MaybeNets.{kept_of, answer_of}
@@ -33,3 +33,24 @@ returns-in-Some-clause-no_more_wait g c =
 
 pub returns-in-Some-clause-full : goal.returns-in-Some-clause-full
 returns-in-Some-clause-full g c e = subst (λ link. 2 ^ 20 < length c.args.builder.now.lines + unwrap_or (option_map g.L.Link.answer_nets link) 0) (sym c.in-Some.is) (c.emit_answer.ensures.full e)
+
+pub emit_answer-requires-clause-wait : goal.emit_answer-requires-clause-wait
+emit_answer-requires-clause-wait g c = c.requires.wait
+
+pub emit_answer-requires-clause-answer : goal.emit_answer-requires-clause-answer
+emit_answer-requires-clause-answer g c = c.requires.answer
+
+pub emit_answer-requires-clause-words : goal.emit_answer-requires-clause-words
+emit_answer-requires-clause-words g c = subst (λ link. IfSome link (λ part. g.L.Link.takes_words part c.args.answer.word.width)) c.in-Some.is c.requires.words
+
+pub returns-in-Some-clause-wait : goal.returns-in-Some-clause-wait
+returns-in-Some-clause-wait g c = c.emit_answer.ensures.wait
+
+pub returns-in-None-clause-grows : goal.returns-in-None-clause-grows
+returns-in-None-clause-grows g c = subst (λ link. GrowsBy (unwrap_or (option_map g.L.Link.answer_nets link) 0) c.args.builder.now c.args.builder.now) (sym c.in-None.is) (grows_none _)
+
+pub returns-in-None-clause-waits : goal.returns-in-None-clause-waits
+returns-in-None-clause-waits g c n apart w = w
+
+pub returns-in-None-clause-full : goal.returns-in-None-clause-full
+returns-in-None-clause-full g c e = cc

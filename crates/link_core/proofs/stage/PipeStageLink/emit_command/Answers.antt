@@ -3,7 +3,8 @@ use Rattle.net_parts.specs.Groups.{in_row}
 use Rattle.command_nets.specs.declared.nets.CommandNets.{CommandNets}
 use Rattle.command_nets.specs.Nets.{group_of, widths_of, AreCommandNets}
 use Rattle.command_nets.specs.Groups.{command_lasts, waiting_lasts, widths_alike}
-use Rattle.net_parts.specs.Laws.{grows_twice}
+use Rattle.net_parts.specs.Laws.{grows_twice, grows_fewer}
+use Rattle.net_parts.specs.Refusing.{handed_on}
 use Rattle.link_core.proofs.stage.PipeStageLink.emit_command.Goals as goal
 
 pub reg_command-requires-2 : goal.reg_command-requires-2
@@ -73,3 +74,30 @@ returns-clause-newly c n w =
       | inl old ↦ elim (c.in_ok-first.ensures.newly n old) [ inl older ↦ inl older | inr p ↦ inr (inl p) ]
       | inr p ↦ inr (inr p)
     ]
+
+pub reg_command-requires : goal.reg_command-requires
+reg_command-requires c = c.requires.from
+
+pub returns-in_err-first-clause-grows : goal.returns-in_err-first-clause-grows
+returns-in_err-first-clause-grows c = grows_fewer _ _ _ _ (omega arith) c.reg_command.ensures.grows
+
+pub returns-in_err-first-clause-waits : goal.returns-in_err-first-clause-waits
+returns-in_err-first-clause-waits c n w = c.reg_command.ensures.still_wait n w
+
+pub returns-in_err-first-clause-full : goal.returns-in_err-first-clause-full
+returns-in_err-first-clause-full c e = let full = c.reg_command.ensures.full (handed_on _ _ _ _ c.in_err-first.was c.from_residual.ensures.1 e) in omega (arith, full)
+
+pub returns-in_err-second-clause-waits : goal.returns-in_err-second-clause-waits
+returns-in_err-second-clause-waits c n w = c.reg_command-2.ensures.still_wait n (c.reg_command.ensures.still_wait n w)
+
+pub returns-in_err-second-clause-full : goal.returns-in_err-second-clause-full
+returns-in_err-second-clause-full c e =
+    let most = c.reg_command.ensures.grows.most in
+    let full = c.reg_command-2.ensures.full (handed_on _ _ _ _ c.in_err-second.was c.from_residual-in_err-second.ensures.1 e) in
+    omega (arith, most, full)
+
+pub returns-clause-waits : goal.returns-clause-waits
+returns-clause-waits c n w = c.reg_command-2.ensures.still_wait n (c.reg_command.ensures.still_wait n w)
+
+pub returns-clause-full : goal.returns-clause-full
+returns-clause-full c e = cc
