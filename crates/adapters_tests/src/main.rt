@@ -8,7 +8,6 @@ mod lines;
 mod paths;
 mod stages;
 mod timings;
-mod trees;
 
 use channels::push_channels;
 use formats::push_format;
@@ -18,7 +17,6 @@ use stages::push_named_stage;
 use std::alloc::Global;
 use std::io;
 use timings::push_timing;
-use trees::push_tree;
 
 /// Appends what is said of a row.
 fn push_answer(alloc: Global, text: &mut String, row: &str) -> Result<(), NetFault> {
@@ -28,7 +26,6 @@ fn push_answer(alloc: Global, text: &mut String, row: &str) -> Result<(), NetFau
         "timing" => push_timing(alloc, text, words),
         "format" => push_format(alloc, text, words),
         "channels" => push_channels(alloc, text, words),
-        "tree" => push_tree(alloc, text),
         _ => push_path(alloc, text, words),
     }
 }

@@ -1,5 +1,5 @@
--- Which connections are built so far: each stream, and those of hosts to agents that no other host is joined to, without adapters. Which streams are wires.
-use Rattle.std.specs.Prelude.{ℕ, Bool, true, false, not, ◌&&◌, ◌||◌, ◌==◌, nat_le, List, length, filter, take, count_by, Option, slice_get}
+-- Which connections are built so far: each stream, and those of hosts to agents that need no adapter between them. Which streams are wires.
+use Rattle.std.specs.Prelude.{ℕ, Bool, true, false, not, ◌&&◌, ◌||◌, ◌==◌, nat_le, take, count_by, Option, slice_get}
 use Rattle.std.specs.List.{position_from}
 use Rattle.std.specs.Option.{option_map_or}
 use Rattle.iface_roles.specs.declared.records.HostPort.{HostPort}
@@ -7,11 +7,8 @@ use Rattle.iface_roles.specs.declared.records.AgentPort.{AgentPort}
 use Rattle.iface_roles.specs.declared.records.Finished.{Finished}
 use Rattle.iface_roles.specs.declared.records.Finished.TheVariants.{Host, Agent, Source, Sink}
 use Rattle.system_tables.specs.declared.tables.Connection.{Connection}
-use Rattle.system_tables.specs.declared.tables.EndId.{EndId}
 use Rattle.system_tables.specs.Tables.{SystemTable}
 use Rattle.address_map.specs.Footprints.{known_at}
-use Rattle.address_map.specs.Ends.{is_same_end}
-use Rattle.address_map.specs.Maps.{is_mm}
 use Rattle.link_rules.specs.Links.{streams_of}
 use Rattle.link_rules.specs.declared.plan_links.StreamLink.{StreamLink}
 use Rattle.stream_runs.specs.Ends.{Declared}
@@ -37,35 +34,20 @@ abbrev pub is_wire_stream : Declared → Declared → ℕ → Bool
 is_wire_stream source sink fifo =
     has_same_beats source sink && nat_le source.max_channel sink.max_channel && has_plain_ready source sink && (fifo == 0)
 
--- the connection joins a host to this agent
-abbrev pub leads_to : EndId → Connection → Bool
-leads_to agent connection = is_mm connection.kind && is_same_end connection.end agent
-
-abbrev pub connections_to : SystemTable → EndId → List Connection
-connections_to system agent = filter (leads_to agent) system.connections
-
--- no other connection leads to its agent
-abbrev pub is_only_of_agent : SystemTable → Connection → Bool
-is_only_of_agent system connection = length (connections_to system connection.end) == 1
-
 -- each beat of the host is one of the agent: words of one width, no bursts at either end, and byte enables at the agent where the host has them
 abbrev pub is_plain_pair : HostPort → AgentPort → Bool
 is_plain_pair host agent =
     (host.word_bytes == agent.word_bytes) && (host.burst_bits == 0) && (agent.burst_bits == 0) && (agent.enables || not host.enables)
 
--- the agent says by `waitrequest` when it takes a command, and by `readdatavalid` when it gives a word
-abbrev pub is_plain_agent : AgentPort → Bool
-is_plain_agent agent = agent.waitrequest && (agent.readdatavalid || not agent.reads)
-
-abbrev pub is_built_as : SystemTable → Connection → Finished → Finished → Bool
-is_built_as system connection (Source source) (Sink sink) = true
-is_built_as system connection (Host host) (Agent agent) =
-    is_only_of_agent system connection && is_plain_pair host agent && is_plain_agent agent && (system.stages == 0)
-is_built_as system connection _ _ = false
+-- a stream, or a host and an agent whose beats are the same
+abbrev pub is_built_as : Finished → Finished → Bool
+is_built_as (Source source) (Sink sink) = true
+is_built_as (Host host) (Agent agent) = is_plain_pair host agent
+is_built_as _ _ = false
 
 -- the connection is one of those that are built
 abbrev pub is_built : SystemTable → Connection → Bool
-is_built system connection = is_built_as system connection (known_at system connection.start) (known_at system connection.end)
+is_built system connection = is_built_as (known_at system connection.start) (known_at system connection.end)
 
 abbrev pub is_wire_as : ℕ → Finished → Finished → Bool
 is_wire_as fifo (Source source) (Sink sink) = is_wire_stream (declared source) (declared sink) fifo

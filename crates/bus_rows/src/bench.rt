@@ -1,10 +1,10 @@
-//! A host and agents that keep to what they declare, and what happens at them.
+//! Hosts and agents that keep to what they declare, and what happens at them.
 
 use crate::driver::Driver;
 use crate::ends::Agent;
 use crate::events::{Event, Log, Tally};
 use crate::memory::Memory;
-use crate::row::Row;
+use crate::row::{HostWork, Row};
 use crate::rules::Rule;
 use crate::signals::{Answer, Command};
 use iface_roles::Role;
@@ -12,6 +12,15 @@ use netlist::Module;
 use row_steps::{Bench, Inputs, Outputs, System, port_that_ends};
 use std::alloc::{AllocError, Global};
 use system_tables::EndId;
+
+/// A host at the ports of the module.
+#[derive(Clone, Copy)]
+struct HostAt<'a> {
+    work: &'a HostWork,
+    number: u32,
+    end: EndId,
+    driver: Driver,
+}
 
 /// An agent at the ports of the module.
 #[derive(Drop)]
@@ -27,10 +36,8 @@ struct AgentAt {
 /// All of them, as a cycle begins.
 #[derive(Drop)]
 pub struct Ends<'a> {
-    row: &'a Row,
-    host: EndId,
-    driver: Driver,
     /// By their numbers.
+    hosts: Vec<HostAt<'a>>,
     agents: Vec<AgentAt>,
     log: Log,
 }
@@ -94,12 +101,9 @@ impl AgentAt {
     }
 
     /// The rule that is broken once the cycle has ended.
-    fn broken_after(&self, other_host: bool) -> Option<Rule> {
-        let agent = self.number;
-        if other_host {
-            Some(Rule::Granted { agent })
-        } else if self.memory.bears_too_many(&self.agent) {
-            Some(Rule::AgentBound { agent })
+    fn broken_after(&self) -> Option<Rule> {
+        if self.memory.bears_too_many(&self.agent) {
+            Some(Rule::AgentBound { agent: self.number })
         } else {
             None
         }
@@ -114,18 +118,58 @@ impl AgentAt {
             self.memory.judges(&self.agent, self.number, &command),
         );
         let accepted = self.memory.sees(&self.agent, &command, &answer, cycle)?;
-        let other_host = outputs.level_at(self.grant) != 0;
-        log.note(cycle, self.broken_after(accepted && other_host));
+        log.note(cycle, self.broken_after());
         if !accepted {
             return Ok(());
         }
         let event = Event::Accepts {
             agent: self.number,
+            host: outputs.level_at(self.grant),
             command,
             enables: self.agent.shape.enables,
         };
         log.push(cycle, event)
     }
+}
+
+impl HostAt<'_> {
+    /// The cycle ends.
+    fn sees(&mut self, outputs: &Outputs, cycle: u32, log: &mut Log) -> Result<(), AllocError> {
+        let host = &self.work.host;
+        let shown = self.driver.shows(self.work);
+        let answer = answer_at(outputs, self.end);
+        log.note(
+            cycle,
+            self.driver.judges(host, self.number, &shown, &answer),
+        );
+        let Some(word) = self.driver.sees(host, &shown, &answer) else {
+            return Ok(());
+        };
+        let event = Event::Gets {
+            host: self.number,
+            word,
+        };
+        log.push(cycle, event)
+    }
+}
+
+/// The hosts of a row at the ports of its module.
+fn hosts_at<'a>(
+    alloc: Global,
+    row: &'a Row,
+    system: &System,
+) -> Result<Vec<HostAt<'a>>, AllocError> {
+    let mut hosts = Vec::new(alloc);
+    let ends = row.hosts.as_slice().iter().zip(system.plan.hosts());
+    for (number, (work, end)) in (0..u32::MAX).zip(ends) {
+        hosts.push(HostAt {
+            work,
+            number,
+            end: *end,
+            driver: Driver::new(),
+        })?;
+    }
+    Ok(hosts)
 }
 
 /// The agents of a row at the ports of its module.
@@ -140,39 +184,25 @@ fn agents_at(alloc: Global, row: &Row, system: &System) -> Result<Vec<AgentAt>, 
 
 impl Ends<'_> {
     /// Those of a row at the ports of its module.
-    pub fn new<'a>(
-        alloc: Global,
-        row: &'a Row,
-        host: EndId,
-        system: &System,
-    ) -> Result<Ends<'a>, AllocError> {
+    pub fn new<'a>(alloc: Global, row: &'a Row, system: &System) -> Result<Ends<'a>, AllocError> {
         Ok(Ends {
-            row,
-            host,
-            driver: Driver::new(),
+            hosts: hosts_at(alloc, row, system)?,
             agents: agents_at(alloc, row, system)?,
             log: Log::new(alloc),
         })
     }
 
-    /// The cycle ends for the host.
-    fn host_sees(&mut self, outputs: &Outputs, cycle: u32) -> Result<(), AllocError> {
-        let host = &self.row.host;
-        let shown = self.driver.shows(self.row);
-        let answer = answer_at(outputs, self.host);
-        self.log
-            .note(cycle, self.driver.judges(host, &shown, &answer));
-        match self.driver.sees(host, &shown, &answer) {
-            Some(word) => self.log.push(cycle, Event::Gets { word }),
-            None => Ok(()),
-        }
-    }
-
     /// What came of it.
     pub fn tally(self) -> Tally {
+        let mut left = 0usize;
+        let mut unanswered = 0u32;
+        for joined in self.hosts.as_slice() {
+            left = left.saturating_add(joined.driver.left(joined.work));
+            unanswered = unanswered.saturating_add(joined.driver.unanswered());
+        }
         Tally {
-            left: self.driver.left(self.row),
-            unanswered: self.driver.unanswered(),
+            left,
+            unanswered,
             log: self.log,
         }
     }
@@ -180,7 +210,9 @@ impl Ends<'_> {
 
 impl Bench for Ends<'_> {
     fn shows(&self, inputs: &mut Inputs, cycle: u32) -> Result<(), AllocError> {
-        set_command(inputs, self.host, &self.driver.shows(self.row))?;
+        for joined in self.hosts.as_slice() {
+            set_command(inputs, joined.end, &joined.driver.shows(joined.work))?;
+        }
         for joined in self.agents.as_slice() {
             set_answer(
                 inputs,
@@ -195,6 +227,9 @@ impl Bench for Ends<'_> {
         for joined in self.agents.as_mut_slice().iter_mut() {
             joined.sees(outputs, cycle, &mut self.log)?;
         }
-        self.host_sees(outputs, cycle)
+        for joined in self.hosts.as_mut_slice().iter_mut() {
+            joined.sees(outputs, cycle, &mut self.log)?;
+        }
+        Ok(())
     }
 }

@@ -2,7 +2,7 @@
 
 use crate::access::Access;
 use crate::ends::Host;
-use crate::row::Row;
+use crate::row::HostWork;
 use crate::rules::Rule;
 use crate::signals::{Answer, Command};
 
@@ -46,8 +46,8 @@ impl Driver {
     }
 
     /// What the host shows.
-    pub fn shows(&self, row: &Row) -> Command {
-        match row.accesses.get(self.accepted) {
+    pub fn shows(&self, work: &HostWork) -> Command {
+        match work.accesses.get(self.accepted) {
             Some(access) => command_of(access, self.waited >= access.gap),
             None => Command {
                 read: false,
@@ -59,17 +59,17 @@ impl Driver {
         }
     }
 
-    /// Counts the words that are owed; gives the rule that is broken.
-    fn count(&mut self, asks: bool, gets: bool) -> Option<Rule> {
+    /// Counts the words that are owed to the host of this number; gives the rule that is broken.
+    fn count(&mut self, host: u32, asks: bool, gets: bool) -> Option<Rule> {
         let unasked = gets && self.unanswered == 0;
         self.unanswered = self
             .unanswered
             .saturating_add(u32::from(asks))
             .saturating_sub(u32::from(gets));
         if unasked {
-            Some(Rule::Unasked)
+            Some(Rule::Unasked { host })
         } else if self.unanswered > 16 {
-            Some(Rule::HostBound)
+            Some(Rule::HostBound { host })
         } else {
             None
         }
@@ -90,17 +90,23 @@ impl Driver {
         }
     }
 
-    /// The rule that is broken at the host in this cycle.
-    pub fn judges(&mut self, host: &Host, shown: &Command, answer: &Answer) -> Option<Rule> {
+    /// The rule that is broken in this cycle at the host, which has this number.
+    pub fn judges(
+        &mut self,
+        host: &Host,
+        number: u32,
+        shown: &Command,
+        answer: &Answer,
+    ) -> Option<Rule> {
         if !host.valid {
             return None;
         }
-        self.count(shown.read && !answer.wait, answer.valid)
+        self.count(number, shown.read && !answer.wait, answer.valid)
     }
 
     /// How many accesses aren't accepted.
-    pub fn left(&self, row: &Row) -> usize {
-        row.accesses.len().saturating_sub(self.accepted)
+    pub fn left(&self, work: &HostWork) -> usize {
+        work.accesses.len().saturating_sub(self.accepted)
     }
 
     pub fn unanswered(&self) -> u32 {

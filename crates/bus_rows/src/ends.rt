@@ -2,7 +2,7 @@
 
 use row_steps::{hex_number, parted, small_number};
 
-/// What hosts and agents have alike. An agent that reads has `readdatavalid`.
+/// What hosts and agents have alike.
 #[derive(Clone, Copy)]
 pub struct Shape {
     /// The bits of a word.
@@ -38,10 +38,17 @@ pub struct Agent {
     pub pending: u8,
     /// How many cycles after a read was accepted its word comes.
     pub latency: u8,
+    /// Whether it comes in just that cycle, without `readdatavalid`.
+    pub fixed: bool,
+    /// For how many cycles a read and a write wait where there is no `waitrequest`.
+    pub read_wait: u8,
+    pub write_wait: u8,
     /// What the first word holds at first; each further one holds 1 more.
     pub first: u128,
     /// Its `waitrequest`, None where it has no such port.
     pub wait: Option<Pattern>,
+    /// In which cycles no word comes.
+    pub late: Option<Pattern>,
 }
 
 /// The address of a hexadecimal word.
@@ -149,22 +156,44 @@ impl Pattern {
     }
 }
 
+/// Whether a pattern is there, and high in a cycle.
+pub fn is_high_in(pattern: Option<Pattern>, cycle: u32) -> bool {
+    match pattern {
+        Some(pattern) => pattern.is_high(cycle),
+        None => false,
+    }
+}
+
 impl Agent {
+    /// Sets when it takes beats and gives words; None where this isn't such a property.
+    fn set_time(&mut self, name: &str, value: &str) -> Option<()> {
+        match name {
+            "pending" => self.pending = small_number(value)?,
+            "latency" => self.latency = small_number(value)?,
+            "readwait" => self.read_wait = small_number(value)?,
+            "writewait" => self.write_wait = small_number(value)?,
+            "fixed" => self.fixed = true,
+            "wait" => self.wait = Some(Pattern::read(value)?),
+            "late" => self.late = Some(Pattern::read(value)?),
+            _ => return None,
+        }
+        Some(())
+    }
+
     /// Sets one more property, as `at=100` or `enables`; None where there is no such property.
     fn set(&mut self, property: &str) -> Option<()> {
         let (name, value) = parted(property, '=', "0");
         match name {
             "at" => self.base = address_of(value)?,
-            "pending" => self.pending = small_number(value)?,
-            "latency" => self.latency = small_number(value)?,
             "first" => self.first = hex_number(value)?,
-            "wait" => self.wait = Some(Pattern::read(value)?),
+            "from" => (),
+            _ if self.set_time(name, value).is_some() => (),
             _ => self.shape.set(property)?,
         }
         Some(())
     }
 
-    /// The agent of a word, as `32,rw,address=6,at=100,pending=4,latency=9,first=11,wait=0`.
+    /// The agent of a word, as `32,rw,address=6,at=100,pending=4,latency=9,first=11,wait=0`, without its connections.
     pub fn read(word: &str) -> Option<Agent> {
         let mut parts = word.split(',');
         let mut agent = Agent {
@@ -172,8 +201,12 @@ impl Agent {
             base: 0,
             pending: 0,
             latency: 1,
+            fixed: false,
+            read_wait: 0,
+            write_wait: 0,
             first: 0,
             wait: None,
+            late: None,
         };
         for property in parts {
             agent.set(property)?;
@@ -184,6 +217,16 @@ impl Agent {
     /// The unanswered reads that it bears.
     pub fn bound(&self) -> u8 {
         self.pending.max(1)
+    }
+
+    /// Whether it has no memory: with a fixed latency of 0 it gives `first` and the cycle's number in each cycle.
+    pub fn is_clock(&self) -> bool {
+        self.fixed && self.latency == 0
+    }
+
+    /// `first` and a number.
+    pub fn word_of(&self, number: u128) -> u128 {
+        self.first.wrapping_add(number) & self.shape.full_word()
     }
 
     /// The number of the word at an address.

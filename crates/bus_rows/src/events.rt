@@ -7,14 +7,16 @@ use std::alloc::{AllocError, Global};
 /// What happens in a cycle.
 #[derive(Clone, Copy)]
 pub enum Event {
-    /// An agent accepts a beat; its lanes are told where the agent has byte enables.
+    /// An agent accepts a beat of the host that it is told of; its lanes are told where the agent has byte enables.
     Accepts {
         agent: u32,
+        host: u128,
         command: Command,
         enables: bool,
     },
-    /// The host is given a word.
+    /// A host is given a word.
     Gets {
+        host: u32,
         word: u128,
     },
 }
@@ -43,9 +45,9 @@ pub struct Log {
 #[derive(Drop)]
 pub struct Tally {
     pub log: Log,
-    /// How many accesses the host hasn't got accepted.
+    /// How many accesses the hosts haven't got accepted.
     pub left: usize,
-    /// How many words it still waits for.
+    /// How many words they still wait for.
     pub unanswered: u32,
 }
 
@@ -84,21 +86,28 @@ fn push_beat(text: &mut String, agent: u32, command: &Command) -> Result<(), All
     }
 }
 
+/// Appends the lanes of a beat, where they are told.
+fn push_lanes(text: &mut String, enables: bool, command: &Command) -> Result<(), AllocError> {
+    if !enables {
+        return Ok(());
+    }
+    let lanes = command.lanes;
+    write!(text, " in lanes {lanes:x}")
+}
+
 fn push_event(text: &mut String, event: Event) -> Result<(), AllocError> {
     match event {
         Event::Accepts {
             agent,
+            host,
             command,
             enables,
         } => {
             push_beat(text, agent, &command)?;
-            if !enables {
-                return Ok(());
-            }
-            let lanes = command.lanes;
-            write!(text, " in lanes {lanes:x}")
+            push_lanes(text, enables, &command)?;
+            write!(text, " for host {host}")
         }
-        Event::Gets { word } => write!(text, "the host gets {word:x}"),
+        Event::Gets { host, word } => write!(text, "host {host} gets {word:x}"),
     }
 }
 

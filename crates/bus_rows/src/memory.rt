@@ -1,6 +1,6 @@
-//! An agent that keeps to what it declares: a memory.
+//! An agent that keeps to what it declares: a memory, or with a fixed latency of 0 a clock.
 
-use crate::ends::Agent;
+use crate::ends::{Agent, is_high_in};
 use crate::rules::Rule;
 use crate::signals::{Answer, Command};
 use std::alloc::{AllocError, Global};
@@ -22,6 +22,8 @@ pub struct Memory {
     given: usize,
     /// The beat that it has let wait.
     waiting: Option<Command>,
+    /// For how many cycles.
+    stood: u32,
 }
 
 /// The bits of lanes.
@@ -42,12 +44,13 @@ impl Memory {
             owed: Vec::new(alloc),
             given: 0,
             waiting: None,
+            stood: 0,
         }
     }
 
     /// The word with this number.
     fn word_at(&self, agent: &Agent, number: u128) -> u128 {
-        let mut word = agent.first.wrapping_add(number) & agent.shape.full_word();
+        let mut word = agent.word_of(number);
         for written in self.written.as_slice() {
             if written.at == number {
                 word = written.word;
@@ -56,27 +59,53 @@ impl Memory {
         word
     }
 
-    /// What the agent gives. Where no word comes, each bit at its port is set.
-    pub fn gives(&self, agent: &Agent, cycle: u32) -> Answer {
-        let next = match self.owed.get(self.given) {
+    /// The word that comes in a cycle.
+    fn comes(&self, agent: &Agent, cycle: u32) -> Option<u128> {
+        if is_high_in(agent.late, cycle) {
+            return None;
+        }
+        match self.owed.get(self.given) {
             Some(owed) if owed.at <= u128::from(cycle) => Some(owed.word),
             _ => None,
+        }
+    }
+
+    /// What the agent gives. Where no word comes, each bit at its port is set, or it is a clock.
+    pub fn gives(&self, agent: &Agent, cycle: u32) -> Answer {
+        let next = self.comes(agent, cycle);
+        let other = if agent.is_clock() {
+            agent.word_of(u128::from(cycle))
+        } else {
+            agent.shape.full_word()
         };
         Answer {
-            wait: match agent.wait {
-                Some(pattern) => pattern.is_high(cycle),
-                None => false,
-            },
+            wait: is_high_in(agent.wait, cycle),
             valid: next.is_some(),
-            word: next.unwrap_or(agent.shape.full_word()),
+            word: next.unwrap_or(other),
         }
+    }
+
+    /// Whether a beat hasn't stood for as long as the agent asks.
+    fn is_early(&self, agent: &Agent, command: &Command) -> bool {
+        let wait = if command.read {
+            agent.read_wait
+        } else {
+            agent.write_wait
+        };
+        agent.wait.is_none() && self.stood < u32::from(wait)
+    }
+
+    /// Another beat may come in the next cycle.
+    fn begin_anew(&mut self) {
+        self.waiting = None;
+        self.stood = 0;
     }
 
     /// A beat is accepted.
     fn accepts(&mut self, agent: &Agent, command: &Command, cycle: u32) -> Result<(), AllocError> {
         let number = agent.word_number(command.address);
         let word = self.word_at(agent, number);
-        if command.read {
+        if command.read && !agent.is_clock() {
             let at = u128::from(cycle).saturating_add(u128::from(agent.latency));
             self.owed.push(Word { at, word })?;
         }
@@ -100,14 +129,15 @@ impl Memory {
             self.given = self.given.saturating_add(1);
         }
         if !command.is_shown() {
-            self.waiting = None;
+            self.begin_anew();
             return Ok(false);
         }
-        if answer.wait {
+        if answer.wait || self.is_early(agent, command) {
             self.waiting = Some(*command);
+            self.stood = self.stood.saturating_add(1);
             return Ok(false);
         }
-        self.waiting = None;
+        self.begin_anew();
         self.accepts(agent, command, cycle)?;
         Ok(true)
     }
@@ -136,6 +166,6 @@ impl Memory {
 
     /// Whether more reads are unanswered than the agent bears.
     pub fn bears_too_many(&self, agent: &Agent) -> bool {
-        self.owed.len().saturating_sub(self.given) > usize::from(agent.bound())
+        !agent.fixed && self.owed.len().saturating_sub(self.given) > usize::from(agent.bound())
     }
 }

@@ -1,7 +1,7 @@
-//! The scripts of a row: a host, its agents, and a system that joins them.
+//! The scripts of a row: hosts, agents, and a system that joins them.
 
 use crate::ends::{Agent, Host, Shape};
-use crate::row::Row;
+use crate::row::{Connection, HostWork, Row};
 use av_base::Bytes;
 use row_steps::push_port;
 use std::alloc::{AllocError, Global};
@@ -79,20 +79,28 @@ fn push_units(text: &mut String, side: &Side, shape: &Shape) -> Result<(), Alloc
     )
 }
 
-fn push_host(text: &mut String, host: &Host) -> Result<(), AllocError> {
-    text.push_str("set_module_property NAME host\nadd_interface m avalon start\n")?;
+fn push_host(text: &mut String, host: &Host, number: u32) -> Result<(), AllocError> {
+    write!(
+        text,
+        "set_module_property NAME host{number}\nadd_interface m avalon start\n"
+    )?;
     push_units(text, &HOST, &host.shape)?;
     push_ports(text, &HOST, &host.shape)?;
     push_handshake(text, &HOST, true, host.valid)
 }
 
-/// Appends the bound on unanswered reads, and that no beat waits where the agent has no `waitrequest`.
+/// Appends when the agent takes beats and gives words. With `waitrequest` and `readdatavalid` the latter three don't count.
 fn push_times(text: &mut String, agent: &Agent) -> Result<(), AllocError> {
-    let pending = agent.pending;
-    write!(
-        text,
-        "set_interface_property s maximumPendingReadTransactions {pending}\nset_interface_property s readWaitTime 0\nset_interface_property s writeWaitTime 0\n"
-    )
+    let times = [
+        ("maximumPendingReadTransactions", agent.pending),
+        ("readLatency", agent.latency),
+        ("readWaitTime", agent.read_wait),
+        ("writeWaitTime", agent.write_wait),
+    ];
+    for (property, value) in times {
+        write!(text, "set_interface_property s {property} {value}\n")?;
+    }
+    Ok(())
 }
 
 fn push_agent(text: &mut String, agent: &Agent, number: u32) -> Result<(), AllocError> {
@@ -103,35 +111,70 @@ fn push_agent(text: &mut String, agent: &Agent, number: u32) -> Result<(), Alloc
     push_times(text, agent)?;
     push_units(text, &AGENT, &agent.shape)?;
     push_ports(text, &AGENT, &agent.shape)?;
-    push_handshake(text, &AGENT, agent.wait.is_some(), agent.shape.reads)
+    let valid = agent.shape.reads && !agent.fixed;
+    push_handshake(text, &AGENT, agent.wait.is_some(), valid)
 }
 
-/// Appends an agent's instance and its connection.
-fn push_connection(text: &mut String, agent: &Agent, number: u32) -> Result<(), AllocError> {
-    let base = agent.base;
-    write!(
-        text,
-        "add_instance a{number} agent{number}\nadd_connection h.m a{number}.s\nset_connection_parameter_value h.m/a{number}.s baseAddress {base}\n"
-    )
-}
-
-fn push_system(text: &mut String, agents: &[Agent]) -> Result<(), AllocError> {
-    text.push_str("create_system row\nadd_instance h host\n")?;
-    for (number, agent) in (0..u32::MAX).zip(agents) {
-        push_connection(text, agent, number)?;
+/// Appends so many instances of components, which are named alike.
+fn push_instances(
+    text: &mut String,
+    instance: &str,
+    component: &str,
+    count: usize,
+) -> Result<(), AllocError> {
+    for number in 0..count {
+        write!(
+            text,
+            "add_instance {instance}{number} {component}{number}\n"
+        )?;
     }
     Ok(())
 }
 
+fn push_connection(
+    text: &mut String,
+    agents: &[Agent],
+    connection: &Connection,
+) -> Result<(), AllocError> {
+    let Connection {
+        host,
+        agent,
+        shares,
+    } = *connection;
+    let base = match agents.get(agent) {
+        Some(joined) => joined.base,
+        None => 0,
+    };
+    write!(
+        text,
+        "add_connection h{host}.m a{agent}.s\nset_connection_parameter_value h{host}.m/a{agent}.s baseAddress {base}\nset_connection_parameter_value h{host}.m/a{agent}.s arbitrationPriority {shares}\n"
+    )
+}
+
+fn push_stages(text: &mut String, stages: u8) -> Result<(), AllocError> {
+    text.push_str("set_interconnect_requirement {$system} qsys_mm.maxAdditionalLatency ")?;
+    write!(text, "{stages}\n")
+}
+
+fn push_system(text: &mut String, row: &Row) -> Result<(), AllocError> {
+    text.push_str("create_system row\n")?;
+    push_instances(text, "h", "host", row.hosts.len())?;
+    push_instances(text, "a", "agent", row.agents.len())?;
+    for connection in row.connections.as_slice() {
+        push_connection(text, row.agents.as_slice(), connection)?;
+    }
+    push_stages(text, row.stages)
+}
+
 fn system(alloc: Global, row: &Row) -> Result<Bytes, AllocError> {
     let mut text = String::new(alloc);
-    push_system(&mut text, row.agents.as_slice())?;
+    push_system(&mut text, row)?;
     Ok(Bytes::from(text))
 }
 
-fn host_component(alloc: Global, host: &Host) -> Result<Bytes, AllocError> {
+fn host_component(alloc: Global, host: &Host, number: u32) -> Result<Bytes, AllocError> {
     let mut text = String::new(alloc);
-    push_host(&mut text, host)?;
+    push_host(&mut text, host, number)?;
     Ok(Bytes::from(text))
 }
 
@@ -139,6 +182,18 @@ fn agent_component(alloc: Global, agent: &Agent, number: u32) -> Result<Bytes, A
     let mut text = String::new(alloc);
     push_agent(&mut text, agent, number)?;
     Ok(Bytes::from(text))
+}
+
+/// Appends the files of hosts.
+fn push_host_components(
+    alloc: Global,
+    files: &mut Vec<Bytes>,
+    hosts: &[HostWork],
+) -> Result<(), AllocError> {
+    for (number, work) in (0..u32::MAX).zip(hosts) {
+        files.push(host_component(alloc, &work.host, number)?)?;
+    }
+    Ok(())
 }
 
 /// Appends the files of agents.
@@ -156,7 +211,7 @@ fn push_agent_components(
 /// Appends the system's file and those of its components.
 fn push_files(alloc: Global, files: &mut Vec<Bytes>, row: &Row) -> Result<(), AllocError> {
     files.push(system(alloc, row)?)?;
-    files.push(host_component(alloc, &row.host)?)?;
+    push_host_components(alloc, files, row.hosts.as_slice())?;
     push_agent_components(alloc, files, row.agents.as_slice())
 }
 

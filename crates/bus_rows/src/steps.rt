@@ -18,10 +18,7 @@ pub enum Outcome {
 
 /// What comes of a row whose module is built. Levels that don't fit their ports make it no row.
 fn stepped(alloc: Global, system: System, row: &Row) -> Result<Outcome, NoMemory> {
-    let Some(host) = system.plan.hosts().first() else {
-        return Ok(Outcome::Refused);
-    };
-    let mut ends = Ends::new(alloc, row, *host, &system)?;
+    let mut ends = Ends::new(alloc, row, &system)?;
     if run_cycles(alloc, system.built, &mut ends, row.cycles)? {
         Ok(Outcome::Ran(ends.tally()))
     } else {

@@ -1,6 +1,6 @@
 -- The ports of hosts and agents: the nets of those that the module reads, and the widths of the others.
-use Rattle.std.proofs.Common.{◌≡◌, inl, inr, ℕ, zero, suc, ◌+◌, ◌*◌, ◌<◌, ◌≤◌, ◌^◌, Bool, true, false, not, nat_eq, List, [], ◌∷◌, slice_get, Option, Some, None, refl, sym, ap, subst, ◌∙◌, arith}
-use Rattle.std.specs.Prelude.{IfSome, option_map, unwrap_or, slice_index_or}
+use Rattle.std.proofs.Common.{◌≡◌, inl, inr, ℕ, zero, suc, ◌*◌, ◌<◌, ◌≤◌, ◌^◌, Bool, true, false, not, nat_eq, List, Option, Some, None, refl, sym, subst, arith}
+use Rattle.std.specs.Prelude.{IfSome, option_map, unwrap_or}
 use Rattle.std.proofs.lemmas.Bool.{false≢true}
 use Rattle.std.proofs.lemmas.Bool.Decides.{Decides-eqb}
 use Rattle.std.proofs.Math.Pow.{pow_mono}
@@ -11,39 +11,30 @@ use Rattle.iface_roles.specs.Proper.{IsWordSize, IsBoundedHost, IsBoundedAgent}
 use Rattle.system_tables.specs.declared.tables.EndId.{EndId}
 use Rattle.system_tables.specs.Tables.{SystemTable}
 use Rattle.address_map.specs.Footprints.{known_at}
-use Rattle.address_map.specs.Maps.{agents_of}
-use Rattle.link_rules.specs.declared.plan_links.MemoryLink.{MemoryLink}
-use Rattle.link_rules.specs.PlanLinks.{IsMemoryLink}
 use Rattle.netlist.specs.declared.line.PortLine.{PortLine}
 use Rattle.netlist.specs.Nets.{NetValue, net_of}
-use Rattle.netlist.specs.Netlists.{Netlist, IsNet, IsInputPort, input_net}
+use Rattle.netlist.specs.Netlists.{Netlist, IsInputPort, input_net}
 use Rattle.net_parts.specs.Nets.{IsBit, IsNetOfWidth}
 use Rattle.memory_sides.specs.Sides.{burst_width}
-use Rattle.command_nets.specs.declared.nets.CommandNets.{CommandNets}
-use Rattle.command_nets.specs.Nets.{Widths}
 use Rattle.command_nets.specs.Ports.{HasNet}
-use Rattle.mm_route.specs.Shown.{widths_below}
-use Rattle.memory_sides.specs.declared.route.Route.{Route}
 use Rattle.mm_host.specs.declared.nets.HostNets.{HostNets}
-use Rattle.mm_host.specs.declared.nets.HostAnswer.{HostAnswer}
 use Rattle.mm_host.specs.Hosts.{AreHostNets, bursts}
 use Rattle.mm_host.specs.Forms.{AreAnswersTo}
 use Rattle.mm_agent.specs.declared.nets.AgentNets.{AgentNets}
 use Rattle.mm_agent.specs.Agents.{AreAgentNets, has_address}
-use Rattle.mm_path.specs.declared.tree.Branch.{Branch}
-use Rattle.mm_path.specs.Trees.{IsBranch}
+use Rattle.mm_fabric.specs.declared.parts.HostPart.{HostPart}
+use Rattle.mm_fabric.specs.declared.parts.AgentPart.{AgentPart}
+use Rattle.mm_fabric.specs.Parts.{IsAgentPart}
 use Rattle.port_tables.specs.declared.roles.PortRole.{PortRole}
 use Rattle.port_tables.specs.declared.roles.PortRole.TheVariants as role
 use Rattle.port_tables.specs.declared.roles.RolePort.{RolePort}
-use Rattle.port_tables.specs.Lists.{Among, among_at}
-use Rattle.port_tables.specs.Ports.{bits_if, port_of, host_ports, agent_ports, is_output, ends_of, ports_of}
+use Rattle.port_tables.specs.Lists.{Among}
+use Rattle.port_tables.specs.Ports.{bits_if, port_of, host_ports, agent_ports, ends_of, ports_of}
 use Rattle.port_tables.specs.PortMaps.{IsPortIf, HasKnownPorts, port_at}
-use Rattle.port_tables.specs.EndFacts.{IsPlanned, known_is}
-use Rattle.interconnect.specs.Outputs.{IsInputIf, IsInput, input_at, HaveOwnRoles, MayDrive, MayDriveAt, AreUndriven}
-use Rattle.interconnect.specs.Hosts.{AreHostInputs, agent_inputs, agent_id, host_roles, host_net, host_outputs, agent_roles, agent_net, agent_outputs}
+use Rattle.interconnect.specs.Outputs.{IsInput, input_at, HaveOwnRoles, MayDrive, MayDriveAt, AreUndriven}
+use Rattle.interconnect.specs.Hosts.{AreHostInputs, host_roles, host_net, host_outputs}
+use Rattle.interconnect.specs.Agents.{agent_inputs, agent_roles, agent_net, agent_outputs}
 use Rattle.interconnect.proofs.Driving.{can_drive, own_roles, each_at, may_by}
-use Rattle.interconnect.proofs.Apart.{agent_end as agent_among}
-use Rattle.interconnect.proofs.Passing.{index_is}
 use Rattle.interconnect.proofs.Inputs.{IsRead}
 
 -- ---- ports
@@ -227,9 +218,11 @@ address_bits n = by (nat_eq n 0) refl
     by false e = rw e refl
 
 -- what a host is told may drive its outputs, where nothing does
-pub host_may : (system : SystemTable) (end : EndId) (host : HostPort) (told : HostAnswer) (netlist : Netlist) → AreHostPorts system end host → netlist.ports ≡ ports_of system → AreAnswersTo netlist host told
-    → AreUndriven system end netlist → MayDriveAt system end (host_outputs told) netlist
-host_may system end host told netlist h ports are undriven =
+pub host_may : (system : SystemTable) (end : EndId) (part : HostPart) (netlist : Netlist) → AreHostPorts system end part.port → netlist.ports ≡ ports_of system → AreAnswersTo netlist part.port part.told
+    → AreUndriven system end netlist → MayDriveAt system end (host_outputs part) netlist
+host_may system end part netlist h ports are undriven =
+    let host = part.port in
+    let told = part.told in
     may_by system end (host_net told) host_roles netlist
     (λ n r is. each_at (λ (r : PortRole). IfSome (port_at system end r) (MayDrive netlist (host_net told r))) host_roles n r (
       can_drive netlist (ports_of system) (bits_if host.waitrequest 1) told.waitrequest (port_at system end role.WaitRequest) ports h.waitrequest (bit_there netlist told.waitrequest host.waitrequest are.waitrequest) (undriven role.WaitRequest),
@@ -254,52 +247,35 @@ host_place role.ReadData = 1
 host_place role.ReadDataValid = 2
 host_place _ = 3
 
-pub host_own : (told : HostAnswer) → HaveOwnRoles (host_outputs told)
-host_own told = own_roles (host_net told) host_place host_roles (refl, (refl, (refl, (refl, tt))))
+pub host_own : (part : HostPart) → HaveOwnRoles (host_outputs part)
+host_own part = own_roles (host_net part.told) host_place host_roles (refl, (refl, (refl, (refl, tt))))
 
--- the command of a branch is as wide as its agent asks
-pub record SuitsAgent (netlist : Netlist) (agent : AgentPort) (command : CommandNets) : Type 0 where
-  pub write : IsBit netlist command.write
-  pub word : IsNetOfWidth netlist command.word (agent.word_bytes * 8)
-  pub enables : IsNetOfWidth netlist command.enables agent.word_bytes
-  pub tag : IsNetOfWidth netlist command.tag 4
-
-pub suits_agent : (netlist : Netlist) (host : HostPort) (above : CommandNets) (route : Route) (branch : Branch) → above.word.width ≡ host.word_bytes * 8 → above.enables.width ≡ host.word_bytes
-    → IsBranch netlist host above route branch → SuitsAgent netlist branch.port branch.command
-suits_agent netlist host above route branch word enables b =
-    let same : host.word_bytes ≡ branch.port.word_bytes = sym b.end.same_words in
-    record {
-      write = b.command.write;
-      word = record { is_net = b.command.word; has_width = ap (λ (w : Widths). w.word) b.widths ∙ word ∙ ap (λ (n : ℕ). n * 8) same };
-      enables = record { is_net = b.command.enables; has_width = ap (λ (w : Widths). w.enables) b.widths ∙ enables ∙ same };
-      tag = record { is_net = b.command.tag; has_width = ap (λ (w : Widths). w.tag) b.widths };
-    }
-
--- the nets of a branch may drive the outputs of its agent, where nothing does
-pub agent_may : (system : SystemTable) (end : EndId) (host : HostPort) (above : CommandNets) (route : Route) (branch : Branch) (netlist : Netlist) → AreAgentPorts system end branch.port → netlist.ports ≡ ports_of system
-    → above.word.width ≡ host.word_bytes * 8 → above.enables.width ≡ host.word_bytes → IsBranch netlist host above route branch
-    → AreUndriven system end netlist → MayDriveAt system end (agent_outputs branch) netlist
-agent_may system end host above route branch netlist h ports word enables b undriven =
-    let agent = branch.port in
-    let command = branch.command in
-    let suits = suits_agent netlist host above route branch word enables b in
-    may_by system end (agent_net branch) agent_roles netlist
-    (λ n r is. each_at (λ (r : PortRole). IfSome (port_at system end r) (MayDrive netlist (agent_net branch r))) agent_roles n r (
-      can_drive netlist (ports_of system) (bits_if (has_address agent) agent.address_bits) (unwrap_or branch.made.address command.write) (port_at system end role.Address) ports
+-- the nets next to an agent may drive its outputs, where nothing does
+pub agent_may : (system : SystemTable) (end : EndId) (stages : ℕ) (part : AgentPart) (netlist : Netlist) → AreAgentPorts system end part.port → netlist.ports ≡ ports_of system
+    → IsAgentPart netlist stages part → AreUndriven system end netlist → MayDriveAt system end (agent_outputs part) netlist
+agent_may system end stages part netlist h ports b undriven =
+    let agent = part.port in
+    let command = part.command in
+    let word : IsNetOfWidth netlist command.word (agent.word_bytes * 8) = record { is_net = b.command.word; has_width = b.word } in
+    let enables : IsNetOfWidth netlist command.enables agent.word_bytes = record { is_net = b.command.enables; has_width = b.enables } in
+    let tagged : IsNetOfWidth netlist command.tag 4 = record { is_net = b.command.tag; has_width = b.tag } in
+    may_by system end (agent_net part) agent_roles netlist
+    (λ n r is. each_at (λ (r : PortRole). IfSome (port_at system end r) (MayDrive netlist (agent_net part r))) agent_roles n r (
+      can_drive netlist (ports_of system) (bits_if (has_address agent) agent.address_bits) (unwrap_or part.made.address command.write) (port_at system end role.Address) ports
           (subst (λ (n : ℕ). IsPortIf (ports_of system) true n (port_at system end role.Address)) (address_bits agent.address_bits) h.address)
-          (made_there netlist (has_address agent) agent.address_bits branch.made.address command.write b.made.address) (undriven role.Address),
+          (made_there netlist (has_address agent) agent.address_bits part.made.address command.write b.made.address) (undriven role.Address),
       (
-        can_drive netlist (ports_of system) (bits_if agent.reads 1) (unwrap_or branch.made.read command.write) (port_at system end role.Read) ports h.read
-            (made_there netlist agent.reads 1 branch.made.read command.write b.made.read) (undriven role.Read),
+        can_drive netlist (ports_of system) (bits_if agent.reads 1) (unwrap_or part.made.read command.write) (port_at system end role.Read) ports h.read
+            (made_there netlist agent.reads 1 part.made.read command.write b.made.read) (undriven role.Read),
         (
-          can_drive netlist (ports_of system) (bits_if agent.writes 1) command.write (port_at system end role.Write) ports h.write (bit_there netlist command.write agent.writes suits.write) (undriven role.Write),
+          can_drive netlist (ports_of system) (bits_if agent.writes 1) command.write (port_at system end role.Write) ports h.write (bit_there netlist command.write agent.writes b.command.write) (undriven role.Write),
           (
             can_drive netlist (ports_of system) (bits_if agent.writes (agent.word_bytes * 8)) command.word (port_at system end role.WriteData) ports h.writedata
-                (word_there netlist command.word agent.writes (agent.word_bytes * 8) suits.word) (undriven role.WriteData),
+                (word_there netlist command.word agent.writes (agent.word_bytes * 8) word) (undriven role.WriteData),
             (
               can_drive netlist (ports_of system) (bits_if agent.enables agent.word_bytes) command.enables (port_at system end role.ByteEnable) ports h.byteenable
-                  (word_there netlist command.enables agent.enables agent.word_bytes suits.enables) (undriven role.ByteEnable),
-              (can_drive netlist (ports_of system) 4 command.tag (port_at system end role.Grant) ports h.grant (λ some. suits.tag) (undriven role.Grant), tt),
+                  (word_there netlist command.enables agent.enables agent.word_bytes enables) (undriven role.ByteEnable),
+              (can_drive netlist (ports_of system) 4 command.tag (port_at system end role.Grant) ports h.grant (λ some. tagged) (undriven role.Grant), tt),
             ),
           ),
         ),
@@ -315,27 +291,10 @@ agent_place role.WriteData = 3
 agent_place role.ByteEnable = 4
 agent_place _ = 5
 
-pub agent_own : (branch : Branch) → HaveOwnRoles (agent_outputs branch)
-agent_own branch = own_roles (agent_net branch) agent_place agent_roles (refl, (refl, (refl, (refl, (refl, (refl, tt))))))
+pub agent_own : (part : AgentPart) → HaveOwnRoles (agent_outputs part)
+agent_own part = own_roles (agent_net part) agent_place agent_roles (refl, (refl, (refl, (refl, (refl, (refl, tt))))))
 
 -- ---- an agent
-
--- the end of a link's agent
-pub record IsLinkEnd (system : SystemTable) (link : MemoryLink) (end : EndId) : Type 0 where
-  pub among : Among end (ends_of system)
-  pub known : known_at system end ≡ Agent link.agent
-  pub same : end ≡ agent_id system link.agent_number
-
--- as it is found in a list of agents
-pub link_end : (system : SystemTable) (agents : List EndId) (link : MemoryLink) (d : EndId) → IsPlanned system → agents ≡ agents_of system → IsMemoryLink system link → IsLinkEnd system link (slice_index_or agents link.agent_number d)
-link_end system agents link d h same l =
-    let here : slice_index_or agents link.agent_number d ≡ l.connection.end = ap (λ (es : List EndId). slice_index_or es link.agent_number d) same ∙ index_is (agents_of system) link.agent_number l.connection.end d l.agent_is in
-    let there : agent_id system link.agent_number ≡ l.connection.end = index_is (agents_of system) link.agent_number l.connection.end _ l.agent_is in
-    record {
-      among = subst (λ (e : EndId). Among e (ends_of system)) (sym here) (agent_among system l.connection.end h (among_at (agents_of system) link.agent_number l.connection.end l.agent_is)).among;
-      known = ap (known_at system) here ∙ known_is system l.connection.end (Agent link.agent) l.agent;
-      same = here ∙ sym there;
-    }
 
 -- what was read of an agent
 pub record IsAgentRead (system : SystemTable) (netlist : Netlist) (end : EndId) (agent : AgentPort) (nets : AgentNets) : Type 0 where

@@ -1,9 +1,7 @@
 -- What a run of a finished module shows at the ports of hosts and agents.
-use Rattle.std.proofs.Common.{◌≡◌, inl, inr, ℕ, zero, suc, ◌*◌, ◌-◌, ◌<◌, ◌≤◌, ◌^◌, Bool, true, false, not, nat_eq, List, Option, Some, None, slice_get, refl, sym, ap, subst, ◌∙◌, arith}
+use Rattle.std.proofs.Common.{◌≡◌, ℕ, ◌*◌, ◌-◌, ◌<◌, ◌^◌, Bool, true, false, not, nat_eq, List, Option, Some, None, refl, sym, ap, subst, ◌∙◌, arith}
 use Rattle.std.specs.Prelude.{IfSome, option_map, unwrap_or, if◌then◌else◌}
 use Rattle.std.proofs.lemmas.Bool.{false≢true}
-use Rattle.iface_roles.specs.declared.records.HostPort.{HostPort}
-use Rattle.iface_roles.specs.declared.records.AgentPort.{AgentPort}
 use Rattle.iface_roles.specs.Proper.{IsBoundedHost, IsBoundedAgent}
 use Rattle.system_tables.specs.declared.tables.EndId.{EndId}
 use Rattle.system_tables.specs.Tables.{SystemTable}
@@ -15,22 +13,22 @@ use Rattle.netlist.specs.Signals.{port_net, port_named}
 use Rattle.stream_runs.specs.Ends.{signal_or}
 use Rattle.memory_sides.specs.Sides.{burst_width}
 use Rattle.mm_runs.specs.Views.{Levels, HostView, AgentView, levels_at}
-use Rattle.command_nets.specs.Ports.{HasNet, value_or, all_ones}
-use Rattle.mm_host.specs.declared.nets.HostNets.{HostNets}
+use Rattle.command_nets.specs.Ports.{HasNet, value_or}
 use Rattle.mm_host.specs.Hosts.{bursts}
 use Rattle.mm_host.specs.Forms.{AreAnswersTo}
 use Rattle.mm_agent.specs.declared.nets.AgentNets.{AgentNets}
 use Rattle.mm_agent.specs.Agents.{AreMadeNets, has_address}
-use Rattle.mm_path.specs.declared.tree.Branch.{Branch}
-use Rattle.mm_path.specs.declared.tree.Tree.{Tree}
-use Rattle.mm_path.specs.Served.{seen_at_host, seen_at_branch}
+use Rattle.mm_fabric.specs.declared.parts.HostPart.{HostPart}
+use Rattle.mm_fabric.specs.declared.parts.AgentPart.{AgentPart}
+use Rattle.mm_fabric.specs.Fabrics.{seen_at_host, seen_at_agent}
 use Rattle.port_tables.specs.declared.roles.PortRole.{PortRole}
 use Rattle.port_tables.specs.declared.roles.PortRole.TheVariants as role
 use Rattle.port_tables.specs.Ports.{EndName, role_word, bits_if, port_name, name_at, ports_of}
 use Rattle.port_tables.specs.PortMaps.{IsPortIf, port_at}
 use Rattle.interconnect.specs.Memory.{level, host_view, agent_view}
 use Rattle.interconnect.specs.Outputs.{input_at, AreDrivenAt}
-use Rattle.interconnect.specs.Hosts.{AreHostInputs, agent_inputs, host_roles, host_net, host_outputs, agent_roles, agent_net, agent_outputs}
+use Rattle.interconnect.specs.Hosts.{AreHostInputs, host_roles, host_net, host_outputs}
+use Rattle.interconnect.specs.Agents.{agent_inputs, agent_roles, agent_net, agent_outputs}
 use Rattle.interconnect.proofs.Driving.{role_driven}
 use Rattle.interconnect.proofs.Shown.{shown, shown_at, no_driver}
 use Rattle.interconnect.proofs.HostPorts.{AreHostPorts, AreAgentPorts, some_bytes, some_bits, some_number, address_bits}
@@ -157,48 +155,49 @@ module _ (system : SystemTable) (netlist : Netlist) (at : IsEndIn system netlist
 
   -- ---- a host
 
-  pub host_shown : (port : HostPort) (tree : Tree) → AreHostPorts system end port → IsBoundedHost port → port.waitrequest ≡ true → AreHostInputs system end port tree.held.nets → AreAnswersTo netlist port tree.told
-      → AreDrivenAt system end (host_outputs tree.told) netlist → HostsAgreeAt (host_view netlist run port.word_bytes (name_at system end)) (seen_at_host port tree run) c
-  host_shown port tree ports bounded waits inputs told driven =
-      let out = role_driven system end (host_net tree.told) host_roles netlist driven in
+  pub host_shown : (part : HostPart) → AreHostPorts system end part.port → IsBoundedHost part.port → part.port.waitrequest ≡ true → AreHostInputs system end part.port part.held.nets → AreAnswersTo netlist part.port part.told
+      → AreDrivenAt system end (host_outputs part) netlist → HostsAgreeAt (host_view netlist run part.port.word_bytes (name_at system end)) (seen_at_host part run) c
+  host_shown part ports bounded waits inputs told driven =
+      let port = part.port in
+      let out = role_driven system end (host_net part.told) host_roles netlist driven in
       record {
         signals = same_levels
-            (in_level role.Read (bits_if port.reads 1) 1 0 tree.held.nets.read ports.read inputs.read)
-            (in_level role.Write (bits_if port.writes 1) 1 0 tree.held.nets.write ports.write inputs.write)
-            (in_level role.Address port.address_bits port.address_bits 0 (Some tree.held.nets.address) ports.address (sym inputs.address))
-            (in_level role.WriteData (bits_if port.writes (port.word_bytes * 8)) (port.word_bytes * 8) 0 tree.held.nets.writedata ports.writedata inputs.writedata)
-            (in_level role.ByteEnable (bits_if port.enables port.word_bytes) port.word_bytes (2 ^ port.word_bytes - 1) tree.held.nets.byteenable ports.byteenable inputs.byteenable)
-            (in_level role.BurstCount (bits_if (bursts port) (burst_width port.burst_bits)) (burst_width port.burst_bits) 1 tree.held.nets.burstcount ports.burstcount inputs.burstcount);
-        waitrequest = out_level role.WaitRequest port.waitrequest 1 0 tree.told.waitrequest (λ is. omega arith) ports.waitrequest (out 0 role.WaitRequest refl)
-            ∙ ap (λ (b : Bool). if b then run.net c tree.told.waitrequest.number else 0) waits;
-        readdata = out_level role.ReadData port.reads (port.word_bytes * 8) 0 tree.told.readdata (λ is. some_bits port.word_bytes bounded.ports.word) ports.readdata (out 1 role.ReadData refl);
-        readdatavalid = made_level role.ReadDataValid port.readdatavalid 1 0 tree.told.readdatavalid tree.told.waitrequest (λ is. omega arith) ports.readdatavalid told.readdatavalid (out 2 role.ReadDataValid refl);
-        response = made_level role.Response port.response 2 0 tree.told.response tree.told.waitrequest (λ is. omega arith) ports.response told.response (out 3 role.Response refl);
+            (in_level role.Read (bits_if port.reads 1) 1 0 part.held.nets.read ports.read inputs.read)
+            (in_level role.Write (bits_if port.writes 1) 1 0 part.held.nets.write ports.write inputs.write)
+            (in_level role.Address port.address_bits port.address_bits 0 (Some part.held.nets.address) ports.address (sym inputs.address))
+            (in_level role.WriteData (bits_if port.writes (port.word_bytes * 8)) (port.word_bytes * 8) 0 part.held.nets.writedata ports.writedata inputs.writedata)
+            (in_level role.ByteEnable (bits_if port.enables port.word_bytes) port.word_bytes (2 ^ port.word_bytes - 1) part.held.nets.byteenable ports.byteenable inputs.byteenable)
+            (in_level role.BurstCount (bits_if (bursts port) (burst_width port.burst_bits)) (burst_width port.burst_bits) 1 part.held.nets.burstcount ports.burstcount inputs.burstcount);
+        waitrequest = out_level role.WaitRequest port.waitrequest 1 0 part.told.waitrequest (λ is. omega arith) ports.waitrequest (out 0 role.WaitRequest refl)
+            ∙ ap (λ (b : Bool). if b then run.net c part.told.waitrequest.number else 0) waits;
+        readdata = out_level role.ReadData port.reads (port.word_bytes * 8) 0 part.told.readdata (λ is. some_bits port.word_bytes bounded.ports.word) ports.readdata (out 1 role.ReadData refl);
+        readdatavalid = made_level role.ReadDataValid port.readdatavalid 1 0 part.told.readdatavalid part.told.waitrequest (λ is. omega arith) ports.readdatavalid told.readdatavalid (out 2 role.ReadDataValid refl);
+        response = made_level role.Response port.response 2 0 part.told.response part.told.waitrequest (λ is. omega arith) ports.response told.response (out 3 role.Response refl);
       }
 
   -- ---- an agent
 
-  pub agent_shown : (branch : Branch) → AreAgentPorts system end branch.port → IsBoundedAgent branch.port → branch.port.burst_bits ≡ 0 → branch.nets ≡ agent_inputs system end branch.port
-      → AreMadeNets netlist branch.port branch.command branch.made → AreDrivenAt system end (agent_outputs branch) netlist
-      → AgentsAgreeAt (agent_view netlist run branch.port.word_bytes (name_at system end)) (seen_at_branch run branch) c
-  agent_shown branch ports bounded no_burst nets made driven =
-      let agent = branch.port in
-      let command = branch.command in
-      let out = role_driven system end (agent_net branch) agent_roles netlist driven in
+  pub agent_shown : (part : AgentPart) → AreAgentPorts system end part.port → IsBoundedAgent part.port → part.port.burst_bits ≡ 0 → part.nets ≡ agent_inputs system end part.port
+      → AreMadeNets netlist part.port part.command part.made → AreDrivenAt system end (agent_outputs part) netlist
+      → AgentsAgreeAt (agent_view netlist run part.port.word_bytes (name_at system end)) (seen_at_agent part run) c
+  agent_shown part ports bounded no_burst nets made driven =
+      let agent = part.port in
+      let command = part.command in
+      let out = role_driven system end (agent_net part) agent_roles netlist driven in
       record {
         signals = same_levels
-            (made_level role.Read agent.reads 1 0 branch.made.read command.write (λ is. omega arith) ports.read made.read (out 1 role.Read refl))
+            (made_level role.Read agent.reads 1 0 part.made.read command.write (λ is. omega arith) ports.read made.read (out 1 role.Read refl))
             (out_level role.Write agent.writes 1 0 command.write (λ is. omega arith) ports.write (out 2 role.Write refl))
-            (made_level role.Address (has_address agent) agent.address_bits 0 branch.made.address command.write (addressed agent.address_bits)
+            (made_level role.Address (has_address agent) agent.address_bits 0 part.made.address command.write (addressed agent.address_bits)
             (subst (λ (n : ℕ). IsPortIf (ports_of system) true n (port_at system end role.Address)) (address_bits agent.address_bits) ports.address) made.address (out 0 role.Address refl))
             (out_level role.WriteData agent.writes (agent.word_bytes * 8) 0 command.word (λ is. some_bits agent.word_bytes bounded.ports.word) ports.writedata (out 3 role.WriteData refl))
             (out_level role.ByteEnable agent.enables agent.word_bytes (2 ^ agent.word_bytes - 1) command.enables (λ is. some_bytes agent.word_bytes bounded.ports.word) ports.byteenable (out 4 role.ByteEnable refl))
             (here role.BurstCount 1
             ∙ none_by (ports_of system) netlist run true 1 (port_at system end role.BurstCount) c (subst (λ (n : ℕ). IsPortIf (ports_of system) true n (port_at system end role.BurstCount)) no_burst ports.burstcount)
             ∙ ap (λ (n : ℕ). if not (nat_eq n 0) then run.net c command.count.number else 1) (sym no_burst));
-        waitrequest = in_level role.WaitRequest (bits_if agent.waitrequest 1) 1 0 branch.nets.waitrequest ports.waitrequest (ap (λ (n : AgentNets). n.waitrequest) nets);
-        readdata = in_level role.ReadData (bits_if agent.reads (agent.word_bytes * 8)) (agent.word_bytes * 8) 0 branch.nets.readdata ports.readdata (ap (λ (n : AgentNets). n.readdata) nets);
-        readdatavalid = in_level role.ReadDataValid (bits_if agent.readdatavalid 1) 1 0 branch.nets.readdatavalid ports.readdatavalid (ap (λ (n : AgentNets). n.readdatavalid) nets);
-        response = in_level role.Response (bits_if agent.response 2) 2 0 branch.nets.response ports.response (ap (λ (n : AgentNets). n.response) nets);
+        waitrequest = in_level role.WaitRequest (bits_if agent.waitrequest 1) 1 0 part.nets.waitrequest ports.waitrequest (ap (λ (n : AgentNets). n.waitrequest) nets);
+        readdata = in_level role.ReadData (bits_if agent.reads (agent.word_bytes * 8)) (agent.word_bytes * 8) 0 part.nets.readdata ports.readdata (ap (λ (n : AgentNets). n.readdata) nets);
+        readdatavalid = in_level role.ReadDataValid (bits_if agent.readdatavalid 1) 1 0 part.nets.readdatavalid ports.readdatavalid (ap (λ (n : AgentNets). n.readdatavalid) nets);
+        response = in_level role.Response (bits_if agent.response 2) 2 0 part.nets.response ports.response (ap (λ (n : AgentNets). n.response) nets);
         grant = out_level role.Grant true 4 0 command.tag (λ is. omega arith) ports.grant (out 5 role.Grant refl);
       }

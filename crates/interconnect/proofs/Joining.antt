@@ -35,11 +35,11 @@ use Rattle.port_tables.specs.Lists.{among_at, Distinct}
 use Rattle.interconnect.specs.Streams.{IsStream}
 use Rattle.interconnect.specs.declared.outputs.Output.{Output}
 use Rattle.interconnect.specs.Outputs.{input_at, HaveOwnRoles, HasSameNets, MayDrive, MayDriveAt, AreDrivenAt, IsNoPortOf, AreUndriven}
-use Rattle.interconnect.specs.Joins.{source_roles, sink_roles, net_for, source_outputs, sink_outputs, low_at, AreInputs, AddsStream, IsJoinedStream, IsFree, IsJoinedUpTo}
+use Rattle.interconnect.specs.Joins.{source_roles, sink_roles, net_for, source_outputs, sink_outputs, low_at, AreInputs, AddsStream, IsJoinedStream, IsJoinedUpTo}
 use Rattle.interconnect.proofs.Driving.{nat_cases, can_drive, own_roles, each_at, may_by, KeepsOn, IsDrivenOver, undriven_where, other_port, same-trans, stay_driven, stays_undriven, same_drivers, low_stays, waiting_as, unwritten_as}
 use Rattle.interconnect.proofs.StreamEnds.{start_among, finish_among, stream_ends_among, link_place}
 use Rattle.interconnect.proofs.Apart.{sort, IsEndOf, host_end, agent_end, other_sort}
-use Rattle.interconnect.proofs.HostJoins.{host_stays}
+use Rattle.interconnect.proofs.FabricJoins.{fabric_stays}
 
 -- ---- outputs
 
@@ -230,12 +230,12 @@ of_sink system number connection at = record {
 }
 
 -- no port of it is driven yet
-pub stream_undriven : (plan : PlanTable) (hosts number : ℕ) (connection : Connection) (end : EndId) (n : ℕ) (netlist : Netlist) → HasKnownPorts plan.system → IsJoinedUpTo plan hosts number netlist
+pub stream_undriven : (plan : PlanTable) (number : ℕ) (connection : Connection) (end : EndId) (n : ℕ) (netlist : Netlist) → HasKnownPorts plan.system → IsJoinedUpTo plan number netlist
     → IsOfStream plan.system number connection end n → AreUndriven plan.system end netlist
-stream_undriven plan hosts number connection end n netlist h upto is r =
+stream_undriven plan number connection end n netlist h upto is r =
     undriven_where netlist (port_at plan.system end r) (λ k here. upto.rest k (record {
-      of_hosts = λ x other below e. other_sort plan.system other end 0 n k r h (host_end plan.system other h.planned (among_at (hosts_of plan.system) x other e)) is.is_end (λ same. (let big = at_least in omega (arith, same, big))) here;
-      of_agents = λ x link other at below e. other_sort plan.system other end 1 n k r h (agent_end plan.system other h.planned (among_at (agents_of plan.system) link.agent_number other e)) is.is_end (λ same. (let big = at_least in omega (arith, same, big))) here;
+      of_hosts = λ x other e. other_sort plan.system other end 0 n k r h (host_end plan.system other h.planned (among_at (hosts_of plan.system) x other e)) is.is_end (λ same. (let big = at_least in omega (arith, same, big))) here;
+      of_agents = λ x other e. other_sort plan.system other end 1 n k r h (agent_end plan.system other h.planned (among_at (agents_of plan.system) x other e)) is.is_end (λ same. (let big = at_least in omega (arith, same, big))) here;
       of_sources = λ m a source sink below at. elim is.either [
         | inl mine ↦ other_port plan.system a.start end r k h (stream_ends_among plan.system m a source sink at).0 is.is_end.among
             (λ same. (let one = one_stream_by plan.system number m connection a source sink h.planned is.place at (inl (sym mine.0 ∙ sym same)) in omega (arith, one, below))) here
@@ -339,10 +339,10 @@ link_is_stream system number link h is =
     let at = link_place system number link is.connection h is is.connection_is in
     record { place = link.connection; place_is = is.place_is; connection_is = is.connection_is; source_is = at.source_is; sink_is = at.sink_is }
 
-pub one_more_joined : (plan : PlanTable) (hosts number : ℕ) (link : StreamLink) (old middle half new : Netlist) (made : PathNets) → KeepsOn → AreSteps plan number link old middle half new made
-    → IsJoinedUpTo plan hosts number old → IsJoinedUpTo plan hosts (number + 1) new
+pub one_more_joined : (plan : PlanTable) (number : ℕ) (link : StreamLink) (old middle half new : Netlist) (made : PathNets) → KeepsOn → AreSteps plan number link old middle half new made
+    → IsJoinedUpTo plan number old → IsJoinedUpTo plan (number + 1) new
 unfolding link_place
-one_more_joined plan hosts number link old middle half new made law s upto =
+one_more_joined plan number link old middle half new made law s upto =
     let system = plan.system in
     let connection = s.is.connection in
     let at = link_place system number link connection s.ports.planned s.is s.is.connection_is in
@@ -353,7 +353,7 @@ one_more_joined plan hosts number link old middle half new made law s upto =
     record {
       name = whole.keeps.name ∙ upto.name;
       ports = whole.keeps.ports ∙ upto.ports;
-      memory = λ h below. host_stays system old new h whole (upto.memory h below);
+      memory = λ some. fabric_stays plan old new whole (upto.memory some);
       lows = λ n below. low_stays old new (input_count (ports_of system) + n) whole (upto.lows n below);
       joined = λ n place a source sink below e is. elim (nat_cases n number) [
         | inl earlier ↦ stays_joined law system old new n place a source sink whole (upto.joined n place a source sink earlier e is)
@@ -379,28 +379,28 @@ one_more_joined plan hosts number link old middle half new made law s upto =
     }
 
 -- the ports of the stream whose turn it is may be driven
-pub source_may_now : (plan : PlanTable) (hosts number : ℕ) (link : StreamLink) (old middle : Netlist) (low : Option NetValue) (made : PathNets) → HasKnownPorts plan.system
-    → IsStreamLink plan.system number link → IsJoinedUpTo plan hosts number old → AddsStream plan.system link low old middle made → (outputs : List Output) → outputs ≡ source_outputs made
+pub source_may_now : (plan : PlanTable) (number : ℕ) (link : StreamLink) (old middle : Netlist) (low : Option NetValue) (made : PathNets) → HasKnownPorts plan.system
+    → IsStreamLink plan.system number link → IsJoinedUpTo plan number old → AddsStream plan.system link low old middle made → (outputs : List Output) → outputs ≡ source_outputs made
     → MayDriveAt plan.system link.source_end outputs middle
 unfolding link_place
-source_may_now plan hosts number link old middle low made h is upto adds outputs same =
+source_may_now plan number link old middle low made h is upto adds outputs same =
     let system = plan.system in
     let at = link_place system number link is.connection h.planned is is.connection_is in
-    let undriven = stream_undriven plan hosts number is.connection is.connection.start 2 old h upto (of_source system number is.connection at) in
+    let undriven = stream_undriven plan number is.connection is.connection.start 2 old h upto (of_source system number is.connection at) in
     subst (λ (os : List Output). MayDriveAt system link.source_end os middle) (sym same)
     (subst (λ (end : EndId). MayDriveAt system end (source_outputs made) middle) is.start
     (source_may system number is.connection middle made h at (adds.grows.extends.keeps.ports ∙ upto.ports) adds.nets
     (λ r. stays_undriven old middle (port_at system is.connection.start r) (λ k here. same_drivers old middle k adds.grows.drivers) (undriven r))))
 
-pub sink_may_now : (plan : PlanTable) (hosts number : ℕ) (link : StreamLink) (old middle half : Netlist) (low : Option NetValue) (made : PathNets) → HasKnownPorts plan.system
-    → IsStreamLink plan.system number link → IsJoinedUpTo plan hosts number old → AddsStream plan.system link low old middle made → IsDrivenOver plan.system link.source_end (source_outputs made) middle half
+pub sink_may_now : (plan : PlanTable) (number : ℕ) (link : StreamLink) (old middle half : Netlist) (low : Option NetValue) (made : PathNets) → HasKnownPorts plan.system
+    → IsStreamLink plan.system number link → IsJoinedUpTo plan number old → AddsStream plan.system link low old middle made → IsDrivenOver plan.system link.source_end (source_outputs made) middle half
     → (outputs : List Output) → outputs ≡ sink_outputs made → MayDriveAt plan.system link.sink_end outputs half
 unfolding link_place
-sink_may_now plan hosts number link old middle half low made h is upto adds over outputs same =
+sink_may_now plan number link old middle half low made h is upto adds over outputs same =
     let system = plan.system in
     let connection = is.connection in
     let at = link_place system number link connection h.planned is is.connection_is in
-    let undriven = stream_undriven plan hosts number connection connection.end 3 old h upto (of_sink system number connection at) in
+    let undriven = stream_undriven plan number connection connection.end 3 old h upto (of_sink system number connection at) in
     subst (λ (os : List Output). MayDriveAt system link.sink_end os half) (sym same)
     (subst (λ (end : EndId). MayDriveAt system end (sink_outputs made) half) is.end
     (sink_may system number connection half made h at (over.extends.keeps.ports ∙ adds.grows.extends.keeps.ports ∙ upto.ports) (path_nets_last middle half (declared link.sink) made over.extends adds.nets)
@@ -422,11 +422,11 @@ pub sink_over : (system : SystemTable) (number : ℕ) (link : StreamLink) (made 
 sink_over system number link made outputs old new l is same extends driven others =
     record { same = same; extends = extends; driven = subst (λ (os : List Output). AreDrivenAt system link.sink_end os new) is driven; others = others }
 
-pub stream_joined : KeepsOn → (plan : PlanTable) (hosts number : ℕ) (link : StreamLink) (old middle half new : Netlist) (low : Option NetValue) (made : PathNets) → HasKnownPorts plan.system → IsStreamLink plan.system number link
+pub stream_joined : KeepsOn → (plan : PlanTable) (number : ℕ) (link : StreamLink) (old middle half new : Netlist) (low : Option NetValue) (made : PathNets) → HasKnownPorts plan.system → IsStreamLink plan.system number link
     → AddsStream plan.system link low old middle made → low ≡ low_at plan.system number link.connection → IsDrivenOver plan.system link.source_end (source_outputs made) middle half
-    → IsDrivenOver plan.system link.sink_end (sink_outputs made) half new → IsJoinedUpTo plan hosts number old → IsJoinedUpTo plan hosts (number + 1) new
-stream_joined law plan hosts number link old middle half new low made h is adds lows source sink upto =
-    one_more_joined plan hosts number link old middle half new made law (record {
+    → IsDrivenOver plan.system link.sink_end (sink_outputs made) half new → IsJoinedUpTo plan number old → IsJoinedUpTo plan (number + 1) new
+stream_joined law plan number link old middle half new low made h is adds lows source sink upto =
+    one_more_joined plan number link old middle half new made law (record {
       ports = h;
       is = is;
       adds = subst (λ (net : Option NetValue). AddsStream plan.system link net old middle made) lows adds;

@@ -5,7 +5,11 @@ pub mod Passing
 pub mod Links
 pub mod Apart
 pub mod HostPorts
-pub mod HostJoins
+pub mod Each
+pub mod Weights
+pub mod Gathered
+pub mod Adding
+pub mod FabricJoins
 pub mod Joining
 pub mod LowNets
 pub mod WireNets

@@ -188,6 +188,7 @@ begins system old now is e waits clocked written undriven =
       undriven = λ k. ap (λ (n : Netlist). driver_of n k) e ∙ undriven k;
       clocked = λ n w. clocked n (waits n w);
       written = λ m w. written m (record { memory = w.memory; is = subst (λ (ms : List Memory). slice_get ms m ≡ Some w.memory) memories w.is; waits = w.waits });
+      memories = memories ∙ ap (λ (n : Netlist). n.memories) is;
       few = (let long = ap (λ (n : Netlist). length n.lines) e ∙ lows_length system old count is in let wires = wires-few system (length (streams_of system)) in omega (arith, long, wires));
     }
 

@@ -1,17 +1,17 @@
 -- A finished module: each output is driven, and each connection is served.
-use Rattle.std.proofs.Common.{◌≡◌, inl, inr, ℕ, ◌≤◌, true, List, [], ◌∷◌, ◌++◌, length, map, slice_get, Some, sym, ap, subst, ◌∙◌, arith}
+use Rattle.std.proofs.Common.{◌≡◌, inl, inr, ℕ, ◌≤◌, true, List, [], ◌∷◌, ◌++◌, length, slice_get, Some, sym, ap, subst, ◌∙◌, arith}
 use Rattle.std.specs.Prelude.{IsSome}
 use Rattle.std.specs.List.{flat_map}
 use Rattle.std.proofs.lemmas.Option.{slice_get_within}
 use Rattle.iface_roles.specs.declared.records.Finished.{Finished}
-use Rattle.iface_roles.specs.declared.records.Finished.TheVariants.{Host, Agent, Source, Sink}
+use Rattle.iface_roles.specs.declared.records.Finished.TheVariants.{Source, Sink}
 use Rattle.iface_roles.specs.declared.records.StreamPort.{StreamPort}
 use Rattle.iface_roles.specs.Proper.{IsProper, IsBoundedStream}
 use Rattle.system_tables.specs.declared.tables.EndId.{EndId}
 use Rattle.system_tables.specs.declared.tables.Connection.{Connection}
 use Rattle.system_tables.specs.Tables.{SystemTable, IsEnd}
 use Rattle.address_map.specs.Footprints.{known_at}
-use Rattle.address_map.specs.Maps.{is_mm, mm_connections, hosts_of, agents_of}
+use Rattle.address_map.specs.Maps.{hosts_of, agents_of}
 use Rattle.link_rules.specs.Links.{streams_of, weight_of}
 use Rattle.link_rules.specs.Plans.{PlanTable}
 use Rattle.netlist.specs.declared.line.PortLine.{PortLine}
@@ -20,20 +20,21 @@ use Rattle.netlist.specs.Runs.{Run, IsRun, GoesOn}
 use Rattle.st_timing.specs.Ends.{declared}
 use Rattle.port_tables.specs.declared.roles.PortRole.TheVariants as role
 use Rattle.port_tables.specs.declared.roles.RolePort.{RolePort}
-use Rattle.port_tables.specs.Lists.{Among, among_at, at_among, among_append, among_map, among_flat_map, among_filter}
+use Rattle.port_tables.specs.Lists.{Among, among_at, at_among, among_append, among_flat_map}
 use Rattle.port_tables.specs.Ports.{is_output, port_of, stream_ports, may_have, connection_ends, starts}
 use Rattle.port_tables.specs.PortMaps.{HasKnownPorts, port_at}
 use Rattle.port_tables.specs.Ends.{IsStreamPlace}
 use Rattle.port_tables.specs.EndFacts.{IsPlanned, known_is, known_proper}
-use Rattle.port_tables.specs.Numbering.{among_once, mm_among, stream_number, stream_at, ends_at}
+use Rattle.port_tables.specs.Numbering.{stream_number, stream_at, ends_at}
 use Rattle.built_links.specs.Wires.{is_wire, is_wire_at, wires_before, is_wire_stream}
 use Rattle.interconnect.specs.Streams.{IsStream}
 use Rattle.interconnect.specs.Joins.{IsJoinedUpTo}
 use Rattle.interconnect.specs.Interconnect.{IsInterconnect}
+use Rattle.interconnect.proofs.Weights.{memory_few}
 use Rattle.interconnect.proofs.LowNets.{mul_some, wire_below}
 use Rattle.interconnect.proofs.Served.{IsJoinedIn, is_served, is_wired, source_driven, sink_driven}
 use Rattle.interconnect.proofs.Links.{LinkLaws}
-use Rattle.interconnect.proofs.HostsServed.{IsHostsIn, TreeLaws, RunLaws, served}
+use Rattle.interconnect.proofs.HostsServed.{IsMemoryIn, FabricLaws, RunLaws, served}
 use Rattle.interconnect.proofs.HostsDriven.{host_driven, agent_driven}
 
 -- ---- the ends of streams and of memory
@@ -72,7 +73,7 @@ pub record IsWhole (plan : PlanTable) (netlist : Netlist) : Type 0 where
   pub known : HasKnownPorts plan.system
   pub bounded : SinksAreBounded
   pub laws : LinkLaws plan
-  pub upto : IsJoinedUpTo plan (length (hosts_of plan.system)) (length (streams_of plan.system)) netlist
+  pub upto : IsJoinedUpTo plan (length (streams_of plan.system)) netlist
   pub well_made : IsWellMade netlist
 
 joined_in : (plan : PlanTable) (number : ℕ) (connection : Connection) (source : StreamPort) (sink : StreamPort) (netlist : Netlist) → (w : IsWhole plan netlist) → IsStream plan.system number connection source sink
@@ -97,9 +98,9 @@ wire_at system connection place source sink is e f wire =
     let known : is_wire system connection ≡ true = rw (e, f) wire in
     rw is known
 
--- the hosts of the whole module
-hosts_in : (plan : PlanTable) (netlist : Netlist) → IsWhole plan netlist → IsHostsIn plan netlist
-hosts_in plan netlist w = record { laws = w.laws; known = w.known; well_made = w.well_made; ports = w.upto.ports; joined = w.upto.memory }
+-- the hosts and agents of the whole module
+memory_in : (plan : PlanTable) (netlist : Netlist) → IsWhole plan netlist → IsMemoryIn plan netlist
+memory_in plan netlist w = record { laws = w.laws; known = w.known; well_made = w.well_made; ports = w.upto.ports; joined = w.upto.memory }
 
 -- ---- each output is driven
 
@@ -121,13 +122,13 @@ all_driven plan netlist w k width o =
         → Among p (may_have (known_at plan.system end)) → IsSome (driver_of netlist k)
     by_host end p a named output may =
         (let at = at_among (hosts_of plan.system) end a in
-        host_driven plan netlist (hosts_in plan netlist w) at.place end at.is k p named output may)
+        host_driven plan netlist (memory_in plan netlist w) at.place end at.is k p named output may)
 
     by_agent : (end : EndId) (p : RolePort) → Among end (agents_of plan.system) → port_at plan.system end p.role ≡ Some k → is_output (starts (known_at plan.system end)) p.role ≡ true
         → Among p (may_have (known_at plan.system end)) → IsSome (driver_of netlist k)
     by_agent end p a named output may =
         (let at = at_among (agents_of plan.system) end a in
-        agent_driven plan netlist (hosts_in plan netlist w) at.place end at.is k p named output may)
+        agent_driven plan netlist (memory_in plan netlist w) at.place end at.is k p named output may)
 
     at_source : (number : ℕ) (connection : Connection) (j : IsJoinedIn plan.system number connection netlist) (end : EndId) (p : RolePort) → connection.start ≡ end → port_at plan.system end p.role ≡ Some k
         → is_output (starts (known_at plan.system end)) p.role ≡ true → Among p (may_have (known_at plan.system end)) → IsSome (driver_of netlist k)
@@ -164,11 +165,11 @@ all_driven plan netlist w k width o =
 
 -- the inputs are so few for the ends that there are
 module_few : (plan : PlanTable) (netlist : Netlist) → IsWhole plan netlist → length netlist.lines ≤ weight_of plan.system
-module_few plan netlist w = let most = w.upto.few in let inputs = w.known.inputs_by_ends in omega (arith, most, inputs)
+module_few plan netlist w = let most = w.upto.few in let inputs = w.known.inputs_by_ends in let memory = memory_few plan.system in omega (arith, most, inputs, memory)
 
-pub interconnect_is : (plan : PlanTable) (netlist : Netlist) → TreeLaws plan → RunLaws → ((run : Run) (cycles : ℕ) → IsRun netlist run cycles → GoesOn netlist run cycles) → IsWhole plan netlist → IsInterconnect plan netlist
+pub interconnect_is : (plan : PlanTable) (netlist : Netlist) → FabricLaws plan → RunLaws → ((run : Run) (cycles : ℕ) → IsRun netlist run cycles → GoesOn netlist run cycles) → IsWhole plan netlist → IsInterconnect plan netlist
 unfolding place_of_stream joined_in
-interconnect_is plan netlist trees runs goes_on w =
+interconnect_is plan netlist fabrics runs goes_on w =
     let system = plan.system in
     record {
       name = w.upto.name;
@@ -177,5 +178,5 @@ interconnect_is plan netlist trees runs goes_on w =
       wired = λ number connection source sink is wire. is_wired system number connection netlist (joined_in plan number connection source sink netlist w is) wire
           (w.upto.lows (wires_before system number) (wire_below system number is.place is.place_is (wire_at system connection is.place source sink is.connection_is is.source_is is.sink_is wire)));
       streams = λ number connection source sink is. is_served system number connection netlist (joined_in plan number connection source sink netlist w is);
-      memory = served plan netlist (hosts_in plan netlist w) trees runs goes_on;
+      memory = served plan netlist (memory_in plan netlist w) fabrics runs goes_on;
     }

@@ -1,4 +1,4 @@
--- How far a module is built: which hosts and streams are joined, and what drives the outputs at their ends.
+-- How far a module is built: whether hosts and agents are joined, which streams are, and what drives the outputs at their ends.
 use Rattle.std.specs.Prelude.{◌≡◌, ℕ, zero, suc, ◌+◌, ◌*◌, ◌<◌, ◌≤◌, Bool, true, false, List, [], ◌∷◌, ◌++◌, length, Option, Some, None, unwrap_or, if◌then◌else◌, IfSome, slice_get}
 use Rattle.iface_roles.specs.declared.records.StreamPort.{StreamPort}
 use Rattle.system_tables.specs.declared.tables.EndId.{EndId}
@@ -6,9 +6,7 @@ use Rattle.system_tables.specs.declared.tables.Connection.{Connection}
 use Rattle.system_tables.specs.Tables.{SystemTable}
 use Rattle.address_map.specs.Maps.{hosts_of, agents_of}
 use Rattle.link_rules.specs.Links.{streams_of}
-use Rattle.link_rules.specs.PlanLinks.{memory_links}
 use Rattle.link_rules.specs.Plans.{PlanTable}
-use Rattle.link_rules.specs.declared.plan_links.MemoryLink.{MemoryLink}
 use Rattle.link_rules.specs.declared.plan_links.StreamLink.{StreamLink}
 use Rattle.netlist.specs.declared.line.Line.{Line}
 use Rattle.netlist.specs.Nets.{NetValue, net_of}
@@ -27,7 +25,8 @@ use Rattle.interconnect.specs.declared.outputs.Output.{Output}
 use Rattle.built_links.specs.Wires.{is_wire_at, wires_before}
 use Rattle.interconnect.specs.Streams.{IsStream, low_line}
 use Rattle.interconnect.specs.Outputs.{input_at, outputs_by, AreDrivenAt, IsNoPortOf}
-use Rattle.interconnect.specs.Hosts.{most_tree_nets, HasJoinedHost}
+use Rattle.interconnect.specs.Each.{IsNoPortOfEach}
+use Rattle.interconnect.specs.Fabrics.{memory_nets, HasFabric}
 
 -- ---- the nets of a stream
 
@@ -153,26 +152,26 @@ pub record IsBegun (system : SystemTable) (netlist : Netlist) : Type 0 where
   pub clocked : IsClocked netlist
   pub written : IsWritten netlist
   pub few : length netlist.lines ≤ input_count (ports_of system) + length (streams_of system)
+  pub memories : netlist.memories ≡ []
 
--- ---- hosts and streams
+-- ---- memory and streams
 
--- the port is none of the hosts and streams below these numbers, nor of the agents of these hosts
-pub record IsFree (plan : PlanTable) (hosts streams : ℕ) (port : ℕ) : Type 0 where
-  pub of_hosts : (h : ℕ) (end : EndId) → h < hosts → slice_get (hosts_of plan.system) h ≡ Some end → IsNoPortOf plan.system end port
-  pub of_agents : (k : ℕ) (link : MemoryLink) (end : EndId) → slice_get (memory_links plan.system) k ≡ Some link → link.host_number < hosts → slice_get (agents_of plan.system) link.agent_number ≡ Some end
-      → IsNoPortOf plan.system end port
+-- the port is none of a host's or an agent's, nor of those of the streams below this number
+pub record IsFree (plan : PlanTable) (streams : ℕ) (port : ℕ) : Type 0 where
+  pub of_hosts : IsNoPortOfEach plan.system (hosts_of plan.system) port
+  pub of_agents : IsNoPortOfEach plan.system (agents_of plan.system) port
   pub of_sources : (n : ℕ) (connection : Connection) (source : StreamPort) (sink : StreamPort) → n < streams → IsStream plan.system n connection source sink → IsNoPortOf plan.system connection.start port
   pub of_sinks : (n : ℕ) (connection : Connection) (source : StreamPort) (sink : StreamPort) → n < streams → IsStream plan.system n connection source sink → IsNoPortOf plan.system connection.end port
 
--- the hosts and streams below these numbers are joined; no other port is driven
-pub record IsJoinedUpTo (plan : PlanTable) (hosts streams : ℕ) (netlist : Netlist) : Type 0 where
+-- hosts and agents are joined, and the streams below this number; no other port is driven
+pub record IsJoinedUpTo (plan : PlanTable) (streams : ℕ) (netlist : Netlist) : Type 0 where
   pub name : netlist.name ≡ module_name plan.system
   pub ports : netlist.ports ≡ ports_of plan.system
   pub lows : HasLows plan.system netlist
-  pub memory : (h : ℕ) → h < hosts → HasJoinedHost plan.system netlist h
+  pub memory : 0 < length (hosts_of plan.system) → HasFabric plan netlist
   pub joined : (n place : ℕ) (connection : Connection) (source : StreamPort) (sink : StreamPort) → n < streams → slice_get (streams_of plan.system) n ≡ Some place
       → IsStream plan.system n connection source sink → IsJoinedStream plan.system netlist n place connection source sink
-  pub rest : (port : ℕ) → IsFree plan hosts streams port → driver_of netlist port ≡ None
+  pub rest : (port : ℕ) → IsFree plan streams port → driver_of netlist port ≡ None
   pub clocked : IsClocked netlist
   pub written : IsWritten netlist
-  pub few : length netlist.lines ≤ input_count (ports_of plan.system) + length (streams_of plan.system) + hosts * most_tree_nets + streams * most_nets
+  pub few : length netlist.lines ≤ input_count (ports_of plan.system) + length (streams_of plan.system) + memory_nets plan.system + streams * most_nets

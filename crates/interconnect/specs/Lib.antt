@@ -1,6 +1,9 @@
 pub mod Streams
 pub mod Memory
 pub mod Outputs
+pub mod Each
 pub mod Hosts
+pub mod Agents
+pub mod Fabrics
 pub mod Joins
 pub mod Interconnect

@@ -1,5 +1,5 @@
 -- What the hosts and agents of a plan see of its module, and what every run of it does for them.
-use Rattle.std.specs.Prelude.{ℕ, ◌≡◌, ◌+◌, ◌-◌, ◌^◌, ◌<◌, List, Option, codes, slice_get}
+use Rattle.std.specs.Prelude.{ℕ, ◌≡◌, ◌+◌, ◌-◌, ◌^◌, ◌<◌, List, codes, slice_get}
 use Rattle.std.specs.Option.{option_map_or}
 use Rattle.system_tables.specs.declared.tables.EndId.{EndId}
 use Rattle.address_map.specs.Maps.{hosts_of, agents_of}
@@ -16,7 +16,7 @@ use Rattle.mm_runs.specs.Whole.{IsLegalRun, IsSafe}
 use Rattle.mm_runs.specs.Awake.{NeverIdles, IsFair}
 use Rattle.mm_runs.specs.Moment.{Moment, IgnoresReaddata}
 use Rattle.memory_plans.specs.Systems.{memory_system}
-use Rattle.mm_path.specs.Served.{silent_host, silent_agent, moment_in, standing_still}
+use Rattle.mm_path.specs.Shown.{silent_host, silent_agent, moment_in, standing_still}
 use Rattle.port_tables.specs.Ports.{EndName, port_name, name_at}
 
 -- ---- what a run shows

@@ -1,7 +1,9 @@
 //! From an accepted plan to its module, for the plans that are built so far.
 #![tactic(auto)]
 
+mod agents;
 mod hosts;
+mod memory;
 mod outputs;
 mod streams;
 mod whole;

@@ -2,7 +2,6 @@ ghost use Rattle.std.specs.Prelude.{◌≡◌, ℕ, ◌+◌, ◌^◌, ◌<◌, �
 ghost use Rattle.iface_roles.specs.declared.records.StreamPort.{StreamPort};
 ghost use Rattle.iface_roles.specs.declared.records.Finished.TheVariants.{Source};
 ghost use Rattle.address_map.specs.Footprints.{known_at};
-ghost use Rattle.address_map.specs.Maps.{hosts_of};
 ghost use Rattle.link_rules.specs.Links.{streams_of};
 ghost use Rattle.link_rules.specs.PlanLinks.{IsStreamLink};
 ghost use Rattle.netlist.specs.Nets.{net_of};
@@ -159,7 +158,7 @@ fn stream_nets(
     requires link { IsStreamLink plan.now.system number link.now }
     requires map { ports.now.entries ≡ entries_of plan.now.system }
     requires low { IsLowOf plan.now.system number low }
-    requires joined { IsJoinedUpTo plan.now (length (hosts_of plan.now.system)) number builder.old }
+    requires joined { IsJoinedUpTo plan.now number builder.old }
     ensures { IfOk result (AddsStream plan.now.system link.now low builder.old builder.new) }
 {
     // the law of a wire, which the contract rests on
@@ -217,8 +216,8 @@ fn join_stream(
     requires inside { number < length (streams_of plan.now.system) }
     requires map { ports.now.entries ≡ entries_of plan.now.system }
     requires low { IsLowOf plan.now.system number low }
-    requires joined { IsJoinedUpTo plan.now (length (hosts_of plan.now.system)) number builder.old }
-    ensures { OnOk result (IsJoinedUpTo plan.now (length (hosts_of plan.now.system)) (number + 1) builder.new) }
+    requires joined { IsJoinedUpTo plan.now number builder.old }
+    ensures { OnOk result (IsJoinedUpTo plan.now (number + 1) builder.new) }
 {
     ports_are_known(plan);
     netlist::keeps();
@@ -246,8 +245,8 @@ pub(crate) fn join_streams(
 ) -> Result<(), NoMemory>
     requires map { ports.now.entries ≡ entries_of plan.now.system }
     requires lows { AreLows plan.now.system (length (streams_of plan.now.system)) lows.now }
-    requires joined { IsJoinedUpTo plan.now (length (hosts_of plan.now.system)) 0 builder.old }
-    ensures { OnOk result (IsJoinedUpTo plan.now (length (hosts_of plan.now.system)) (length (streams_of plan.now.system)) builder.new) }
+    requires joined { IsJoinedUpTo plan.now 0 builder.old }
+    ensures { OnOk result (IsJoinedUpTo plan.now (length (streams_of plan.now.system)) builder.new) }
 {
     for number in 0..plan.streams().len() {
         join_stream(alloc, builder, plan, ports, number, lows[number])?;

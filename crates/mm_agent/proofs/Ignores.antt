@@ -1,5 +1,5 @@
 -- What an agent is shown depends on the command and on the registers alone.
-use Rattle.std.proofs.Common.{◌≡◌, ℕ, ◌%◌, refl, Bool, true, false, not, ◌&&◌, nat_lt, if◌then◌else◌, Option, Some, None, sym, subst, ap, ◌∙◌}
+use Rattle.std.proofs.Common.{◌≡◌, ℕ, ◌%◌, refl, Bool, true, false, not, ◌&&◌, nat_lt, if◌then◌else◌, Option, Some, None, inl, sym, subst, ap, ◌∙◌}
 use Rattle.histories.specs.History.{is_raised}
 use Rattle.iface_roles.specs.declared.records.AgentPort.{AgentPort}
 use Rattle.iface_roles.specs.Proper.{IsBoundedAgent, span_of}
@@ -14,7 +14,7 @@ use Rattle.command_nets.specs.declared.nets.CommandNets.{CommandNets}
 use Rattle.mm_agent.specs.declared.nets.AgentNets.{AgentNets}
 use Rattle.mm_agent.specs.declared.nets.AgentMade.{AgentMade}
 use Rattle.mm_agent.specs.declared.reads.HeldReads.{HeldReads}
-use Rattle.mm_agent.specs.declared.reads.HeldReads.TheVariants.{Never, Counts, Row}
+use Rattle.mm_agent.specs.declared.reads.HeldReads.TheVariants.{Never, Counts, Row, Queued}
 use Rattle.command_nets.specs.Ports.{value_or, SameLevel}
 use Rattle.mm_agent.specs.Agents.{shape_above}
 use Rattle.mm_agent.specs.Reads.{owns_reads, AreReadsHeld}
@@ -39,6 +39,10 @@ module _ (netlist : Netlist) (port : AgentPort) (one other : Cycle) (v : IsValua
   raised_same read shown (Counts unanswered full) k state e some =
       (let full_same : is_raised (one.net full.number) ≡ is_raised (other.net full.number) = k.is_full one v ∙ ap (λ n. not (nat_lt n (bound_of port))) (state unanswered.number refl) ∙ sym (k.is_full other w) in
       k.shows one v ∙ ap (λ n. is_raised n && not (is_raised (one.net full.number))) e ∙ ap (λ t. is_raised (other.net read.number) && not t) full_same ∙ sym (k.shows other w))
+  raised_same read shown (Queued queue) k state e some =
+      (let same : ℕ → Bool = λ n. not (nat_lt n queue.bound) in
+      let full_same : is_raised (one.net queue.full.number) ≡ is_raised (other.net queue.full.number) = k.is.made.is_full one v ∙ ap same (state queue.pointers.unanswered.number (inl (inl refl))) ∙ sym (k.is.made.is_full other w) in
+      k.shows one v ∙ ap (λ n. is_raised n && not (is_raised (one.net queue.full.number))) e ∙ ap (λ t. is_raised (other.net read.number) && not t) full_same ∙ sym (k.shows other w))
 
 pub ignores : (several : Bool) (port : AgentPort) (nets : AgentNets) (netlist : Netlist) (command : CommandNets) (made : AgentMade) → IsBoundedAgent port → IsAgentPart netlist several port nets command made → IgnoresAnswer netlist command made
 ignores several port nets netlist command made bounded h one other v w state same =

@@ -7,7 +7,7 @@ use Rattle.netlist.specs.Runs.{Always}
 use Rattle.command_nets.specs.declared.nets.AnswerNets.{AnswerNets}
 use Rattle.mm_agent.specs.declared.nets.AgentNets.{AgentNets}
 use Rattle.mm_agent.specs.declared.reads.HeldReads.{HeldReads}
-use Rattle.mm_agent.specs.declared.reads.HeldReads.TheVariants.{Never, Counts, Row}
+use Rattle.mm_agent.specs.declared.reads.HeldReads.TheVariants.{Never, Counts, Row, Queued}
 use Rattle.mm_agent.specs.Agents.{GivesAnswer}
 use Rattle.mm_agent.specs.Answers.{AreAnswersGiven, IsAnswerTag}
 use Rattle.mm_agent.specs.Reads.{AreReadsHeld}
@@ -17,6 +17,7 @@ pub words_given : (netlist : Netlist) (port : AgentPort) (nets : AgentNets) (ans
 words_given netlist port nets answer read shown Never k g served = g
 words_given netlist port nets answer read shown (Counts unanswered full) k g served = g
 words_given netlist port nets answer read shown (Row row) k g served = absurd (let some = served k.reads in let none = k.kind in cc)
+words_given netlist port nets answer read shown (Queued queue) k g served = g
 
 pub one_answer_tag : (netlist : Netlist) (several : Bool) (port : AgentPort) (tag : NetValue) (held : HeldReads) (made : NetValue) → IsAnswerTag netlist several port tag held made → several ≡ false → made ≡ tag
 one_answer_tag netlist true port tag held made h e = cc

@@ -1,5 +1,5 @@
 -- The nets at the ports of an agent, what they are in a run, and the nets that are made for it.
-use Rattle.std.specs.Prelude.{◌≡◌, ℕ, ◌*◌, ◌%◌, Bool, true, false, not, nat_eq, if◌then◌else◌, Option, Some, None}
+use Rattle.std.specs.Prelude.{◌≡◌, ℕ, ◌*◌, ◌%◌, Bool, true, not, ◌&&◌, ◌||◌, nat_eq, if◌then◌else◌, Option, Some, None}
 use Rattle.iface_roles.specs.declared.records.AgentPort.{AgentPort}
 use Rattle.iface_roles.specs.Proper.{span_of}
 use Rattle.netlist.specs.Nets.{NetValue}
@@ -28,10 +28,17 @@ pub record AcceptsAtOnce (port : AgentPort) : Type 0 where
   pub read : port.read_wait ≡ 0
   pub write : port.write_wait ≡ 0
 
--- the agents that are served: without bursts, and where commands of several tags come, without readdatavalid
-pub record IsServed (several : Bool) (port : AgentPort) : Type 0 where
-  pub no_burst : port.burst_bits ≡ 0
-  pub fixed : several ≡ true → port.reads ≡ true → port.readdatavalid ≡ false
+-- unanswered reads are to be kept in a queue: they are of several hosts or have several words, and words answer them at any time
+abbrev pub needs_queue : Bool → AgentPort → Bool
+needs_queue several port = (several || bursts port) && (port.reads && port.readdatavalid)
+
+-- the net that tells how many words a read asks for, where it may be more than one
+abbrev pub count_of : AgentPort → CommandNets → Option NetValue
+count_of port command = if bursts port then Some command.count else None
+
+-- how many bits tell that, on a net of such a width
+abbrev pub count_bits : AgentPort → ℕ → Option ℕ
+count_bits port width = if bursts port then Some width else None
 
 -- what an agent gives
 pub record AreAgentNets (netlist : Netlist) (port : AgentPort) (nets : AgentNets) : Type 0 where

@@ -3,3 +3,4 @@ pub mod Reads
 pub mod Waits
 pub mod Answers
 pub mod Forms
+pub mod Memories

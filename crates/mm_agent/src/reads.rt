@@ -1,6 +1,6 @@
 //! How the reads of an agent are bounded, by registers alone.
 
-ghost use Rattle.std.specs.Prelude.{◌≡◌, ℕ, ◌+◌, ◌-◌, ◌^◌, ◌<◌, ◌≤◌, true, false, not, ◌&&◌, ◌||◌, length, IfOk, OnOk};
+ghost use Rattle.std.specs.Prelude.{◌≡◌, ℕ, ◌+◌, ◌-◌, ◌^◌, ◌<◌, ◌≤◌, true, false, not, ◌&&◌, ◌||◌, length, IfOk, OnOk, IfSome};
 ghost use Rattle.histories.specs.History.{is_raised, one_if};
 ghost use Rattle.iface_roles.specs.Proper.{IsBoundedAgent};
 ghost use Rattle.netlist.specs.Netlists.{IsNet, IsWaiting};
@@ -9,12 +9,14 @@ ghost use Rattle.net_parts.specs.Nets.{IsBit, IsNetOfWidth};
 ghost use Rattle.net_parts.specs.Growth.{GrowsBy, AddsNets, StillWait, WaitsBeside, WaitsWithout, AreMadeBetween};
 ghost use Rattle.mm_parts.specs.Agent.{row_places};
 ghost use Rattle.memory_sides.specs.Sides.{agent_side, bound_of};
-ghost use Rattle.mm_agent.specs.Reads.{owns_reads, AreReadsHeld, CountsOn, RowGoesOn, ReadsGoOn, IsNextCount};
+ghost use Rattle.read_queues.specs.Held.{IsQueueMade};
+ghost use Rattle.mm_agent.specs.Reads.{sets_reads, held_queue, IsReadQueue, AreReadsHeld, TellsWait, CountsOn, RowGoesOn, ReadsGoOn, IsNextCount, hold_nets, finish_nets};
 
 use command_nets::{both, either, register, take_next, unless};
 use iface_roles::AgentPort;
 use net_parts::{fit_bits, is_above, set_history};
 use netlist::{Builder, Net, NetFault};
+use read_queues::HeldReadQueue;
 
 /// What bounds the reads of an agent.
 #[derive(Clone, Copy)]
@@ -25,6 +27,8 @@ pub enum HeldReads {
     Counts { unanswered: Net, full: Net },
     /// A register with a bit for each cycle between a read and its word.
     Row { row: Net },
+    /// A queue of the reads that aren't answered, with their tags.
+    Queued { queue: HeldReadQueue },
 }
 
 /// The read that the agent is shown, and what bounds it.
@@ -35,7 +39,7 @@ pub(crate) struct ShownRead {
 }
 
 /// The unanswered reads that an agent bears.
-fn bound_on(port: &AgentPort) -> u8
+pub(crate) fn bound_on(port: &AgentPort) -> u8
     requires { IsBoundedAgent port.now }
     ensures bound { result ≡ bound_of port.now }
     ensures some { 1 ≤ result }
@@ -85,11 +89,12 @@ fn hold_count(builder: &mut Builder, port: &AgentPort, read: Net) -> Result<Show
     requires read { IsBit builder.old read }
     ensures shown { IfOk result (λ made. IsBit builder.new made.shown) }
     ensures held { IfOk result (λ made. AreReadsHeld builder.new port.now read made.shown made.held) }
-    ensures owned { IfOk result (λ made. AreMadeBetween (owns_reads made.held) builder.old builder.new) }
+    ensures alone { IfOk result (λ made. held_queue made.held ≡ None) }
+    ensures owned { IfOk result (λ made. AreMadeBetween (sets_reads made.held) builder.old builder.new) }
     ensures grows { GrowsBy 5 builder.old builder.new }
     ensures still_wait { StillWait builder.old builder.new }
-    ensures own_wait { IfOk result (λ made. (n : ℕ) → owns_reads made.held n → IsWaiting builder.new n) }
-    ensures newly { IfOk result (λ made. WaitsBeside (owns_reads made.held) builder.old builder.new) }
+    ensures own_wait { IfOk result (λ made. (n : ℕ) → sets_reads made.held n → IsWaiting builder.new n) }
+    ensures newly { IfOk result (λ made. WaitsBeside (sets_reads made.held) builder.old builder.new) }
     ensures full { result ≡ Err NetFault.TooManyNets → 2 ^ 20 < length builder.old.lines + 5 }
 {
     let bits = bits_to(bound_on(port));
@@ -123,11 +128,12 @@ fn hold_row(builder: &mut Builder, port: &AgentPort, read: Net) -> Result<ShownR
     requires read { IsBit builder.old read }
     ensures shown { IfOk result (λ made. IsBit builder.new made.shown) }
     ensures held { IfOk result (λ made. AreReadsHeld builder.new port.now read made.shown made.held) }
-    ensures owned { IfOk result (λ made. AreMadeBetween (owns_reads made.held) builder.old builder.new) }
+    ensures alone { IfOk result (λ made. held_queue made.held ≡ None) }
+    ensures owned { IfOk result (λ made. AreMadeBetween (sets_reads made.held) builder.old builder.new) }
     ensures grows { GrowsBy 1 builder.old builder.new }
     ensures still_wait { StillWait builder.old builder.new }
-    ensures own_wait { IfOk result (λ made. (n : ℕ) → owns_reads made.held n → IsWaiting builder.new n) }
-    ensures newly { IfOk result (λ made. WaitsBeside (owns_reads made.held) builder.old builder.new) }
+    ensures own_wait { IfOk result (λ made. (n : ℕ) → sets_reads made.held n → IsWaiting builder.new n) }
+    ensures newly { IfOk result (λ made. WaitsBeside (sets_reads made.held) builder.old builder.new) }
     ensures full { result ≡ Err NetFault.TooManyNets → 2 ^ 20 < length builder.old.lines + 1 }
 {
     let row = register(builder, places_of(port))?;
@@ -135,21 +141,18 @@ fn hold_row(builder: &mut Builder, port: &AgentPort, read: Net) -> Result<ShownR
     Ok(ShownRead { shown: read, held })
 }
 
-/// Shows the reads, so far as the registers let them.
-pub(crate) fn hold_reads(
-    builder: &mut Builder,
-    port: &AgentPort,
-    read: Net,
-) -> Result<ShownRead, NetFault>
+/// Shows the reads, so far as the registers of this part let them.
+fn hold_alone(builder: &mut Builder, port: &AgentPort, read: Net) -> Result<ShownRead, NetFault>
     requires port { IsBoundedAgent port.now }
     requires read { IsBit builder.old read }
     ensures shown { IfOk result (λ made. IsBit builder.new made.shown) }
     ensures held { IfOk result (λ made. AreReadsHeld builder.new port.now read made.shown made.held) }
-    ensures owned { IfOk result (λ made. AreMadeBetween (owns_reads made.held) builder.old builder.new) }
+    ensures alone { IfOk result (λ made. held_queue made.held ≡ None) }
+    ensures owned { IfOk result (λ made. AreMadeBetween (sets_reads made.held) builder.old builder.new) }
     ensures grows { GrowsBy 5 builder.old builder.new }
     ensures still_wait { StillWait builder.old builder.new }
-    ensures own_wait { IfOk result (λ made. (n : ℕ) → owns_reads made.held n → IsWaiting builder.new n) }
-    ensures newly { IfOk result (λ made. WaitsBeside (owns_reads made.held) builder.old builder.new) }
+    ensures own_wait { IfOk result (λ made. (n : ℕ) → sets_reads made.held n → IsWaiting builder.new n) }
+    ensures newly { IfOk result (λ made. WaitsBeside (sets_reads made.held) builder.old builder.new) }
     ensures full { result ≡ Err NetFault.TooManyNets → 2 ^ 20 < length builder.old.lines + 5 }
 {
     if !port.reads {
@@ -160,6 +163,51 @@ pub(crate) fn hold_reads(
     } else {
         hold_row(builder, port, read)
     }
+}
+
+/// Shows the reads, so far as the queue or the registers of this part let them.
+pub(crate) fn hold_reads(
+    builder: &mut Builder,
+    port: &AgentPort,
+    queue: Option<HeldReadQueue>,
+    read: Net,
+) -> Result<ShownRead, NetFault>
+    requires port { IsBoundedAgent port.now }
+    requires queue { IfSome queue (IsReadQueue builder.old port.now) }
+    requires read { IsBit builder.old read }
+    ensures shown { IfOk result (λ made. IsBit builder.new made.shown) }
+    ensures held { IfOk result (λ made. AreReadsHeld builder.new port.now read made.shown made.held) }
+    ensures queue { IfOk result (λ made. held_queue made.held ≡ queue) }
+    ensures owned { IfOk result (λ made. AreMadeBetween (sets_reads made.held) builder.old builder.new) }
+    ensures grows { GrowsBy (hold_nets queue) builder.old builder.new }
+    ensures still_wait { StillWait builder.old builder.new }
+    ensures own_wait { IfOk result (λ made. (n : ℕ) → sets_reads made.held n → IsWaiting builder.new n) }
+    ensures newly { IfOk result (λ made. WaitsBeside (sets_reads made.held) builder.old builder.new) }
+    ensures full { result ≡ Err NetFault.TooManyNets → 2 ^ 20 < length builder.old.lines + hold_nets queue }
+{
+    match queue {
+        Some(queue) => {
+            let shown = unless(builder, read, queue.full)?;
+            let held = HeldReads::Queued { queue };
+            Ok(ShownRead { shown, held })
+        }
+        None => hold_alone(builder, port, read),
+    }
+}
+
+/// Tells the part above to wait with a read while the agent bears no more, and with each beat while it is busy.
+#[tactic(auto, using(net_parts::specs::Laws::growing))]
+fn tell_wait(builder: &mut Builder, read: Net, full: Net, busy: Net) -> Result<Net, NetFault>
+    requires read { IsBit builder.old read }
+    requires full { IsBit builder.old full }
+    requires busy { IsBit builder.old busy }
+    ensures told { IfOk result (λ told. IsBit builder.new told) }
+    ensures tells { IfOk result (TellsWait builder.new read full busy) }
+    ensures adds { AddsNets 2 builder.old builder.new }
+    ensures full { result ≡ Err NetFault.TooManyNets → 2 ^ 20 < length builder.old.lines + 2 }
+{
+    let shut = both(builder, full, read)?;
+    either(builder, shut, busy)
 }
 
 /// The count of unanswered reads after a cycle in which a read is taken, or a word comes. It doesn't fall below 0.
@@ -212,8 +260,7 @@ fn finish_count(
     ensures no_more_wait { OnOk result (WaitsWithout (λ n. n ≡ unanswered.number) builder.old builder.new) }
     ensures full { result ≡ Err NetFault.TooManyNets → 2 ^ 20 < length builder.old.lines + 12 }
 {
-    let shut = both(builder, full, read)?;
-    let told = either(builder, shut, busy)?;
+    let told = tell_wait(builder, read, full, busy)?;
     let taken = unless(builder, shown, busy)?;
     let next = next_count(builder, unanswered, taken, valid)?;
     take_next(builder, unanswered, next);
@@ -239,7 +286,7 @@ fn finish_row(builder: &mut Builder, shown: Net, row: Net, busy: Net) -> Result<
     Ok(busy)
 }
 
-/// Sets what bounds the reads, and makes the waitrequest for the part above. The agent doesn't accept what it is shown while `busy` is high.
+/// Sets what bounds the reads, but for a queue, and makes the waitrequest for the part above. The agent doesn't accept what it is shown while `busy` is high.
 pub(crate) fn finish_reads(
     builder: &mut Builder,
     port: &AgentPort,
@@ -253,13 +300,13 @@ pub(crate) fn finish_reads(
     requires shown { IsBit builder.old shown.now.shown }
     requires busy { IsBit builder.old busy }
     requires valid { IsBit builder.old valid }
-    requires waits { (n : ℕ) → owns_reads shown.now.held n → IsWaiting builder.old n }
+    requires waits { (n : ℕ) → sets_reads shown.now.held n → IsWaiting builder.old n }
     ensures told { IfOk result (λ told. IsBit builder.new told) }
     ensures on { IfOk result (λ told. ReadsGoOn builder.new read shown.now.shown busy valid told shown.now.held) }
-    ensures grows { GrowsBy 12 builder.old builder.new }
-    ensures waits { (n : ℕ) → ¬ owns_reads shown.now.held n → IsWaiting builder.old n → IsWaiting builder.new n }
-    ensures no_more_wait { OnOk result (WaitsWithout (owns_reads shown.now.held) builder.old builder.new) }
-    ensures full { result ≡ Err NetFault.TooManyNets → 2 ^ 20 < length builder.old.lines + 12 }
+    ensures grows { GrowsBy (finish_nets (held_queue shown.now.held)) builder.old builder.new }
+    ensures waits { (n : ℕ) → ¬ sets_reads shown.now.held n → IsWaiting builder.old n → IsWaiting builder.new n }
+    ensures no_more_wait { OnOk result (WaitsWithout (sets_reads shown.now.held) builder.old builder.new) }
+    ensures full { result ≡ Err NetFault.TooManyNets → 2 ^ 20 < length builder.old.lines + finish_nets (held_queue shown.now.held) }
 {
     match shown.held {
         HeldReads::Never => Ok(busy),
@@ -267,5 +314,6 @@ pub(crate) fn finish_reads(
             finish_count(builder, read, shown.shown, unanswered, full, busy, valid)
         }
         HeldReads::Row { row } => finish_row(builder, shown.shown, row, busy),
+        HeldReads::Queued { queue } => tell_wait(builder, read, queue.full, busy),
     }
 }

@@ -1,4 +1,4 @@
--- An arbiter and the part below it are what stands next to an agent.
+-- An arbiter, a pipe of stages and the part below them are what stands next to an agent.
 use Rattle.std.proofs.Common.{◌≡◌, ℕ, ◌*◌, List, sym, subst}
 use Rattle.iface_roles.specs.declared.records.AgentPort.{AgentPort}
 use Rattle.iface_roles.specs.Proper.{IsBoundedAgent}
@@ -20,7 +20,10 @@ use Rattle.mm_arbiter.specs.declared.back.BackNets.{BackNets}
 use Rattle.mm_arbiter.specs.declared.arbiter.HeldArbiter.{HeldArbiter}
 use Rattle.mm_arbiter.specs.Forward.{ArbiterForward, forward_lasts}
 use Rattle.mm_arbiter.specs.Forward.{owns as owned_by_arbiter}
+use Rattle.mm_arbiter.specs.declared.back.BelowNets.{BelowNets}
 use Rattle.mm_arbiter.specs.Machine.{RunsAsArbiter}
+use Rattle.link_core.specs.Rows.{IgnoresInLonger}
+use Rattle.mm_fabric.specs.Stages.{RunsAsStages}
 use Rattle.mm_fabric.specs.declared.parts.Seat.{Seat}
 use Rattle.mm_fabric.specs.Parts.{IsAgentPart, askers_of, commands_above, backs_above}
 use Rattle.mm_fabric.specs.Askers.{told_by}
@@ -35,13 +38,15 @@ made_last old new port command made h e = record {
 }
 
 -- what stands when each is made
-pub record StandsBelow (begun grown done : Netlist) (port : AgentPort) (nets : AgentNets) (askers : List Asker) (commands : List CommandNets) (command : CommandNets) (arbiter : HeldArbiter) (made : AgentMade) (backs : List BackNets) : Type 0 where
+pub record StandsBelow (begun grown done : Netlist) (stages : ℕ) (port : AgentPort) (nets : AgentNets) (askers : List Asker) (commands : List CommandNets) (asked : CommandNets) (told : BelowNets) (command : CommandNets) (arbiter : HeldArbiter) (made : AgentMade) (backs : List BackNets) : Type 0 where
   pub bounded : IsBoundedAgent port
   pub nets_are : AreAgentNets begun port nets
   pub command_is : AreCommandNets begun command
   pub word : command.word.width ≡ port.word_bytes * 8
   pub enables : command.enables.width ≡ port.word_bytes
-  pub chosen : ArbiterForward askers commands command arbiter begun
+  pub tag : command.tag.width ≡ 4
+  pub chosen : ArbiterForward askers commands asked arbiter begun
+  pub stages_ignore : IgnoresInLonger begun asked command
   pub grows : Extends begun grown
   pub made_are : AreMadeNets grown port command made
   pub registers : (n : ℕ) → owned_by_agent made n → IsRegister grown n
@@ -49,12 +54,14 @@ pub record StandsBelow (begun grown done : Netlist) (port : AgentPort) (nets : A
   pub runs : RunsAsAgent grown port nets command made
   pub arbiter_registers : (n : ℕ) → owned_by_arbiter arbiter n → IsRegister grown n
   pub ends : Extends grown done
-  pub turns : RunsAsArbiter done askers commands command (told_by made) backs
+  pub turns : RunsAsArbiter done askers commands asked told backs
+  pub stages_run : RunsAsStages done stages asked told command (told_by made)
+  pub no_stage : stages ≡ 0 → (asked ≡ command) × (told ≡ told_by made)
 
-pub agent_part_is : (begun grown done : Netlist) (port : AgentPort) (nets : AgentNets) (askers : List Asker) (commands : List CommandNets) (command : CommandNets) (arbiter : HeldArbiter) (made : AgentMade) (backs : List BackNets) (seats : List Seat) →
-    StandsBelow begun grown done port nets askers commands command arbiter made backs → askers_of seats ≡ askers → commands_above seats ≡ commands → backs_above seats ≡ backs →
-    IsAgentPart done (record { port = port; nets = nets; seats = seats; arbiter = arbiter; command = command; made = made })
-agent_part_is begun grown done port nets askers commands command arbiter made backs seats h same_askers same_commands same_backs =
+pub agent_part_is : (begun grown done : Netlist) (stages : ℕ) (port : AgentPort) (nets : AgentNets) (askers : List Asker) (commands : List CommandNets) (asked : CommandNets) (told : BelowNets) (command : CommandNets) (arbiter : HeldArbiter) (made : AgentMade) (backs : List BackNets) (seats : List Seat) →
+    StandsBelow begun grown done stages port nets askers commands asked told command arbiter made backs → askers_of seats ≡ askers → commands_above seats ≡ commands → backs_above seats ≡ backs →
+    IsAgentPart done stages (record { port = port; nets = nets; seats = seats; arbiter = arbiter; asked = asked; told = told; command = command; made = made })
+agent_part_is begun grown done stages port nets askers commands asked told command arbiter made backs seats h same_askers same_commands same_backs =
     let e = extends_twice begun grown done h.grows h.ends in
     record {
       bounded = h.bounded;
@@ -62,14 +69,18 @@ agent_part_is begun grown done port nets askers commands command arbiter made ba
       command = command_lasts begun done command e h.command_is;
       word = h.word;
       enables = h.enables;
+      tag = h.tag;
       made = made_last grown done port command made h.made_are h.ends;
       registers = λ n o. register_lasts grown done n h.ends (h.registers n o);
       ignores = λ one other v w. h.ignores one other (h.ends.valuations one v) (h.ends.valuations other w);
       runs = λ longer f. h.runs longer (extends_twice grown done longer h.ends f);
       arbiter_registers = λ n o. register_lasts grown done n h.ends (h.arbiter_registers n o);
-      chosen = subst (λ (xs : List Asker). ArbiterForward xs (commands_above seats) command arbiter done) (sym same_askers)
-          (subst (λ (cs : List CommandNets). ArbiterForward askers cs command arbiter done) (sym same_commands) (forward_lasts askers commands command arbiter begun done h.chosen e));
-      turns = subst (λ (xs : List Asker). RunsAsArbiter done xs (commands_above seats) command (told_by made) (backs_above seats)) (sym same_askers)
-          (subst (λ (cs : List CommandNets). RunsAsArbiter done askers cs command (told_by made) (backs_above seats)) (sym same_commands)
-          (subst (λ (bs : List BackNets). RunsAsArbiter done askers commands command (told_by made) bs) (sym same_backs) h.turns));
+      chosen = subst (λ (xs : List Asker). ArbiterForward xs (commands_above seats) asked arbiter done) (sym same_askers)
+          (subst (λ (cs : List CommandNets). ArbiterForward askers cs asked arbiter done) (sym same_commands) (forward_lasts askers commands asked arbiter begun done h.chosen e));
+      turns = subst (λ (xs : List Asker). RunsAsArbiter done xs (commands_above seats) asked told (backs_above seats)) (sym same_askers)
+          (subst (λ (cs : List CommandNets). RunsAsArbiter done askers cs asked told (backs_above seats)) (sym same_commands)
+          (subst (λ (bs : List BackNets). RunsAsArbiter done askers commands asked told bs) (sym same_backs) h.turns));
+      stages_run = h.stages_run;
+      stages_ignore = λ longer f. h.stages_ignore longer (extends_twice begun done longer e f);
+      no_stage = h.no_stage;
     }

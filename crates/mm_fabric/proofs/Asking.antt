@@ -1,6 +1,8 @@
 -- The commands that are asked of an agent: their widths, their tags and what comes back.
-use Rattle.std.proofs.Common.{◌≡◌, ℕ, ◌+◌, ◌≤◌, Bool, true, false, nat_lt, List, [], ◌∷◌, length, drop, Option, Some, None, IfSome, is_some, refl, sym, subst, ap, ◌∙◌, arith}
+use Rattle.std.proofs.Common.{◌≡◌, ℕ, ◌+◌, ◌≤◌, Bool, true, false, nat_lt, List, [], ◌∷◌, length, drop, Option, Some, None, IfSome, is_some, refl, sym, subst, ap, ◌∙◌, inl, inr, arith}
 use Rattle.std.specs.List.{AllZip}
+use Rattle.histories.specs.History.{one_if}
+use Rattle.iface_roles.specs.declared.records.AgentPort.{AgentPort}
 use Rattle.netlist.specs.Nets.{NetValue}
 use Rattle.netlist.specs.Netlists.{Netlist, IsWaiting}
 use Rattle.netlist.specs.Runs.{Always}
@@ -10,8 +12,8 @@ use Rattle.net_parts.specs.Groups.{group_widths}
 use Rattle.command_nets.specs.declared.nets.CommandNets.{CommandNets}
 use Rattle.command_nets.specs.Nets.{AreAnswerNets, Widths, group_of}
 use Rattle.command_nets.specs.Groups.{first_value}
-use Rattle.mm_agent.specs.Agents.{BearsOneTag}
-use Rattle.mm_agent.specs.Forms.{agent_nets}
+use Rattle.mm_agent.specs.Agents.{BearsOneTag, needs_queue}
+use Rattle.mm_agent.specs.Forms.{nets_by, agent_nets, most_nets, agent_memories, NoRoomBy, HasNoRoom}
 use Rattle.mm_arbiter.specs.declared.asker.Asker.{Asker}
 use Rattle.mm_arbiter.specs.declared.back.BackNets.{BackNets}
 use Rattle.mm_arbiter.specs.declared.back.BelowNets.{BelowNets}
@@ -24,7 +26,7 @@ use Rattle.mm_arbiter.specs.Machine.{BearsTag, ArbiterBackward}
 use Rattle.net_parts.specs.Groups.{InGroup}
 use Rattle.mm_fabric.specs.declared.parts.Seat.{Seat}
 use Rattle.mm_fabric.specs.Parts.{backs_above}
-use Rattle.mm_fabric.specs.Askers.{IsAsked, AreTold}
+use Rattle.mm_fabric.specs.Askers.{IsAsked, AreTold, HasNoRoomFor}
 
 -- ---- widths
 
@@ -128,6 +130,25 @@ told_of netlist askers held below bits backs seats h e wait answer same = seats_
 
 -- ---- numbers
 
-pub fewer_nets : (several : Bool) → agent_nets several ≤ agent_nets true
-fewer_nets true = omega arith
-fewer_nets false = omega arith
+nets_fewer : (several queued : Bool) → nets_by several queued ≤ most_nets
+nets_fewer true true = omega arith
+nets_fewer true false = omega arith
+nets_fewer false true = omega arith
+nets_fewer false false = omega arith
+
+pub fewer_nets : (several : Bool) (port : AgentPort) → agent_nets several port ≤ most_nets
+fewer_nets several port = nets_fewer several (needs_queue several port)
+
+memories_fewer : (queued : Bool) → one_if queued ≤ 1
+memories_fewer true = omega arith
+memories_fewer false = omega arith
+
+pub fewer_memories : (several : Bool) (port : AgentPort) → agent_memories several port ≤ 1
+fewer_memories several port = memories_fewer (needs_queue several port)
+
+no_room_by : (queued : Bool) (nets : ℕ) (netlist : Netlist) → nets ≤ most_nets → NoRoomBy queued nets netlist → HasNoRoomFor most_nets 1 netlist
+no_room_by true nets netlist fewer h = elim h [ inl lines ↦ inl (omega (arith, lines, fewer)) | inr memories ↦ inr memories ]
+no_room_by false nets netlist fewer h = inl (omega (arith, h, fewer))
+
+pub no_room_for : (several : Bool) (port : AgentPort) (netlist : Netlist) → HasNoRoom several port netlist → HasNoRoomFor most_nets 1 netlist
+no_room_for several port netlist h = no_room_by (needs_queue several port) (agent_nets several port) netlist (fewer_nets several port) h

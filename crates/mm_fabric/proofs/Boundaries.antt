@@ -30,7 +30,9 @@ use Rattle.mm_route.specs.Machine.{has_entry, down_at, silent_port}
 use Rattle.mm_host.specs.Forms.{shape_below}
 use Rattle.mm_agent.specs.Agents.{shape_above}
 use Rattle.mm_agent.specs.Forms.{tagged_above}
-use Rattle.mm_arbiter.specs.Machine.{AreSides, IsOutside, seats_from}
+use Rattle.mm_links.specs.Pipes.{PipeSides}
+use Rattle.mm_arbiter.specs.Machine.{AreSides, IsOutside, below_port, seats_from}
+use Rattle.mm_awake.specs.PipeStages.{lower_of}
 use Rattle.mm_awake.specs.Fair.{are_apart}
 use Rattle.mm_awake.specs.WiredSystem.{WiredPorts}
 use Rattle.mm_awake.specs.Wires.{IsWire, HandsAllOn, shape_with, with_bursts}
@@ -50,12 +52,16 @@ below_host part run = port_in (shape_below part.port) run part.held.command part
 abbrev pub above_agent : AgentPart → Run → TaggedPort
 above_agent part run = tagged_above part.port part.command part.made run
 
--- what an agent answers to a host: the words that bear its tag
+-- below its arbiter, above the pipe
+abbrev pub below_arbiter : AgentPart → Run → TaggedPort
+below_arbiter part run = below_port (shape_above part.port) run part.asked part.told
+
+-- what an agent answers to a host, above the pipe: the words that bear its tag
 abbrev pub answers_to : AgentPart → Run → ℕ → AnswerView
 answers_to part run host = record {
-  valid = λ c. one_if (is_raised (run.net c part.made.answer.valid.number) && nat_eq (run.net c part.made.answer_tag.number) host);
-  word = λ c. run.net c part.made.answer.word.number;
-  code = λ c. run.net c part.made.answer.code.number;
+  valid = λ c. one_if (is_raised (run.net c part.told.answer.valid.number) && nat_eq (run.net c part.told.tag.number) host);
+  word = λ c. run.net c part.told.answer.word.number;
+  code = λ c. run.net c part.told.answer.code.number;
 }
 
 abbrev pub below_route : PlanTable → Fabric → Run → ℕ → ℕ → Port
@@ -70,12 +76,13 @@ silent_above fabric run h a = silent_port (shape_above (fabric.agent a).port) ru
 abbrev pub above_arbiter : Fabric → Run → ℕ → ℕ → Port
 above_arbiter fabric run h a = option_map_or (seat_side (shape_above (fabric.agent a).port) run) (seat_of h (fabric.agent a).seats) (silent_above fabric run h a)
 
-abbrev pub ports_in : PlanTable → Fabric → Run → WiredPorts
-ports_in plan fabric run = record {
+-- with a pipe for each agent
+abbrev pub ports_in : PlanTable → Fabric → (ℕ → PipeSides) → Run → WiredPorts
+ports_in plan fabric pipe run = record {
   after_host = λ h. below_host (fabric.host h) run;
   after_route = below_route plan fabric run;
   before_arbiter = above_arbiter fabric run;
-  lower = λ a i. above_agent (fabric.agent a) run;
+  lower = λ a. lower_of plan.system.stages (pipe a);
 }
 
 -- ---- a wire between sides that differ in bursts alone
@@ -180,17 +187,17 @@ module _ (plan : PlanTable) (planned : IsMemoryPlan (memory_system plan)) (netli
 
     -- ---- what the arbiter rests on
 
-    silent_outside : (h end : ℕ) → IsOutside (silent_above fabric run h a) (above_agent (fabric.agent a) run) h end
+    silent_outside : (h end : ℕ) → IsOutside (silent_above fabric run h a) (below_arbiter (fabric.agent a) run) h end
     silent_outside h end = record {
       shape = refl;
       silent = λ c low. refl;
-      valid = λ c low. raised_one_if (is_raised (run.net c (fabric.agent a).made.answer.valid.number) && nat_eq (run.net c (fabric.agent a).made.answer_tag.number) h);
+      valid = λ c low. raised_one_if (is_raised (run.net c (fabric.agent a).told.answer.valid.number) && nat_eq (run.net c (fabric.agent a).told.tag.number) h);
       word = λ c low valid. refl;
       code = λ c low valid. refl;
     }
 
-    pub outside : (end h : ℕ) → is_seated h (seats_from (askers_of (fabric.agent a).seats)) ≡ false → IsOutside (above_arbiter fabric run h a) (above_agent (fabric.agent a) run) h end
-    outside end h none = subst (λ (p : Port). IsOutside p (above_agent (fabric.agent a) run) h end) (sym (unseated_side h a none)) (silent_outside h end)
+    pub outside : (end h : ℕ) → is_seated h (seats_from (askers_of (fabric.agent a).seats)) ≡ false → IsOutside (above_arbiter fabric run h a) (below_arbiter (fabric.agent a) run) h end
+    outside end h none = subst (λ (p : Port). IsOutside p (below_arbiter (fabric.agent a) run) h end) (sym (unseated_side h a none)) (silent_outside h end)
 
     pub sides : IsTrue (are_apart ((memory_system plan).joined a)) → AreSides (shape_above (fabric.agent a).port) run (askers_of (fabric.agent a).seats) (commands_above (fabric.agent a).seats) (backs_above (fabric.agent a).seats) (λ h. above_arbiter fabric run h a)
     sides distinct =

@@ -26,7 +26,7 @@ module _ (plan : PlanTable) (netlist : Netlist) (fabric : Fabric) (is : IsFabric
   at_agent a low =
       subst (λ (view : AgentView). FitsAgent ((memory_system plan).agent a) view end) (sym (seen_agent plan fabric run a low))
       (subst (λ (side : AgentSide). FitsAgent side (seen_at_agent (fabric.agent a) run) end) (sym (agent_is plan netlist fabric is a low))
-      (agent_fits netlist run valued end (fabric.agent a) (is.agent a low)))
+      (agent_fits netlist run valued end plan.system.stages (fabric.agent a) (is.agent a low)))
 
   pub views : AreViews (memory_system plan) (seen_in plan fabric run) end
   views = record {

@@ -17,6 +17,7 @@ use Rattle.mm_fabric.specs.Begun.{IsOfAny, AreApart}
 use Rattle.mm_fabric.specs.Tells.{AllCanTell}
 use Rattle.mm_fabric.specs.Lasting.{host_part_lasts}
 use Rattle.mm_fabric.proofs.Beginning.{of_more}
+use Rattle.mm_fabric.proofs.LoneSeats.{lone_way_lasts}
 use Rattle.mm_fabric.specs.Finished.{MayFinish, AllMayFinish, IsFinished, AreFinished, finished_nets, AreFinishedSoFar}
 
 -- ---- what is given, in a longer netlist
@@ -32,7 +33,7 @@ may_last : (old new : Netlist) (parts : List AgentPart) (number : ℕ) (begun : 
 may_last old new parts number begun h e w = record {
   bounded = h.bounded;
   trunk = trunk_lasts old new begun.port (length begun.routes) begun.trunk h.trunk e w;
-  bounds = h.bounds;
+  lone = λ free. lone_way_lasts old new parts number begun (h.lone free) e;
   few = h.few;
   forward = forward_lasts begun.routes number begun.trunk.host.command begun.commands.items begun.trunk.route old new h.forward e;
   tell = tell_lasts old new _ number parts begun.routes h.tell e;

@@ -6,8 +6,9 @@ use Rattle.iface_roles.specs.declared.records.AgentPort.{AgentPort}
 use Rattle.link_rules.specs.Plans.{PlanTable}
 use Rattle.netlist.specs.Netlists.{Netlist}
 use Rattle.netlist.specs.Longer.{Extends}
-use Rattle.net_parts.specs.Growth.{GrowsBy, StillWait}
-use Rattle.net_parts.specs.Laws.{net_lasts, grows_none, grows_within}
+use Rattle.net_parts.specs.Growth.{GrowsInMemory, StillWait, StillWaitForWrite}
+use Rattle.net_parts.specs.Laws.{extends_twice, net_lasts, grows_none, grows_without_memory}
+use Rattle.mm_agent.specs.Memories.{memory_grows_within}
 use Rattle.command_nets.specs.declared.nets.CommandNets.{CommandNets}
 use Rattle.command_nets.specs.Groups.{answer_lasts}
 use Rattle.mm_agent.specs.Agents.{agent_lasts}
@@ -61,14 +62,15 @@ told_last : (old new : Netlist) (bits : ℕ) (seats : List Seat) → AreTold old
 told_last old new bits [] h e = tt
 told_last old new bits (seat ∷ seats) h e = (record { wait = net_lasts old new seat.back.wait 1 e h.0.wait; answer = answer_lasts old new seat.back.answer bits e h.0.answer }, told_last old new bits seats h.1 e)
 
-joined_last : (plan : PlanTable) (old new : Netlist) (begun : List BegunHost) (number : ℕ) (parts : List AgentPart) → AreJoinedFrom plan old begun number parts → Extends old new → AreJoinedFrom plan new begun number parts
+pub joined_last : (plan : PlanTable) (old new : Netlist) (begun : List BegunHost) (number : ℕ) (parts : List AgentPart) → AreJoinedFrom plan old begun number parts → Extends old new → AreJoinedFrom plan new begun number parts
 joined_last plan old new begun number [] h e = tt
 joined_last plan old new begun number (part ∷ parts) h e = (
   record {
-    is = agent_part_lasts old new part h.0.is e;
+    is = agent_part_lasts old new plan.system.stages part h.0.is e;
     askers = h.0.askers;
     beats = shows_last old new number begun _ _ h.0.beats e;
     told = told_last old new _ part.seats h.0.told e;
+    bounds = λ none valid seat only longer f. h.0.bounds none valid seat only longer (extends_twice old new longer e f);
   },
   joined_last plan old new begun (number + 1) parts h.1 e,
 )
@@ -80,16 +82,18 @@ joined_more plan netlist begun from number [] last h e l = (subst (λ n. IsJoine
 joined_more plan netlist begun from number (first ∷ later) last h e l = (h.0, joined_more plan netlist begun (from + 1) number later last h.1 (omega (arith, e)) l)
 
 pub none_joined : (plan : PlanTable) (old : Netlist) (begun : List BegunHost) (ends : List AgentEnd) → AreJoinedSoFar plan old old begun ends [] 0
-none_joined plan old begun ends = record { ends_are = refl; each = tt; grows = grows_none old; waits = λ n w. w; no_more_wait = λ n w. w }
+none_joined plan old begun ends = record { ends_are = refl; each = tt; grows = grows_without_memory 0 old old (grows_none old); waits = λ n w. w; no_more_wait = λ n w. w; waits_for_write = λ m w. w; no_more_wait_for_write = λ m w. w }
 
 pub one_more_joined : (plan : PlanTable) (old now new : Netlist) (begun : List BegunHost) (ends : List AgentEnd) (parts : List AgentPart) (count : ℕ) (end : AgentEnd) (last : AgentPart) → AreJoinedSoFar plan old now begun ends parts count → count < length ends → end ≡ get_or ends count end →
-    IsJoined plan new begun count last → end_of last ≡ end → GrowsBy most_agent_nets now new → StillWait now new → StillWait new now → AreJoinedSoFar plan old new begun ends (parts ++ last ∷ []) (count + 1)
-one_more_joined plan old now new begun ends parts count end last h lt is one same grows waits no_more =
+    IsJoined plan new begun count last → end_of last ≡ end → GrowsInMemory most_agent_nets 1 now new → StillWait now new → StillWait new now → StillWaitForWrite now new → StillWaitForWrite new now → AreJoinedSoFar plan old new begun ends (parts ++ last ∷ []) (count + 1)
+one_more_joined plan old now new begun ends parts count end last h lt is one same grows waits no_more writes no_more_writes =
     let many : length parts ≡ count = sym (length-map parts end_of) ∙ ap (λ (es : List AgentEnd). length es) h.ends_are ∙ length-take-le count ends (omega arith) in
     record {
       ends_are = map-append end_of parts (last ∷ []) ∙ ap (λ es. es ++ end_of last ∷ []) h.ends_are ∙ ap (λ e. take count ends ++ e ∷ []) (same ∙ is) ∙ sym (take_more ends count end lt);
       each = joined_more plan new begun 0 count parts last (joined_last plan now new begun 0 parts h.each grows.extends) (omega (arith, many)) one;
-      grows = grows_within (most_agent_nets * count) most_agent_nets _ old now new h.grows grows (omega arith);
+      grows = memory_grows_within (most_agent_nets * count) most_agent_nets _ count 1 _ old now new h.grows grows (omega arith) (omega arith);
       waits = λ n w. waits n (h.waits n w);
       no_more_wait = λ n w. h.no_more_wait n (no_more n w);
+      waits_for_write = λ m w. writes m (h.waits_for_write m w);
+      no_more_wait_for_write = λ m w. h.no_more_wait_for_write m (no_more_writes m w);
     }

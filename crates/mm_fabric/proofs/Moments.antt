@@ -32,7 +32,7 @@ use Rattle.mm_arbiter.specs.Forward.{ArbiterForward}
 use Rattle.mm_arbiter.specs.Forward.{owns as owned_by_arbiter}
 use Rattle.mm_arbiter.specs.Shown.{ShowAllSame as AllShowSame}
 use Rattle.mm_awake.specs.Fair.{are_apart}
-use Rattle.mm_path.specs.Served.{standing_still, moment_in}
+use Rattle.mm_path.specs.Shown.{standing_still, moment_in}
 use Rattle.mm_fabric.specs.declared.parts.Seat.{Seat}
 use Rattle.mm_fabric.specs.declared.parts.AgentPart.{AgentPart}
 use Rattle.mm_fabric.specs.Parts.{commands_below, commands_above, askers_of}
@@ -104,6 +104,12 @@ module _ (plan : PlanTable) (planned : IsMemoryPlan (memory_system plan)) (disti
     at_y : IsValuation netlist y
     at_y = extends.valuations y of_y
 
+    same_state : SameState longer x y
+    same_state = record {
+      registers = λ n line is register. sym (state_x.registers n line is register) ∙ state_y.registers n line is register;
+      words = λ m memory is address low. sym (state_x.words m memory is address low) ∙ state_y.words m memory is address low;
+    }
+
     gives_same : (h : ℕ) → h < (memory_system plan).hosts → GivesSame (fabric.host h).held.nets x y
     gives_same h low =
         let nets = (fabric.host h).held.nets in
@@ -142,7 +148,8 @@ module _ (plan : PlanTable) (planned : IsMemoryPlan (memory_system plan)) (disti
       part_same =
           let part = fabric.agent a in
           let stands = is.agent a there in
-          let command = arbiter_ignores (askers_of part.seats) (commands_above part.seats) part.command part.arbiter netlist stands.chosen x y at_x at_y (λ n own. register_same n (stands.arbiter_registers n own)) above_same in
+          let asked = arbiter_ignores (askers_of part.seats) (commands_above part.seats) part.asked part.arbiter netlist stands.chosen x y at_x at_y (λ n own. register_same n (stands.arbiter_registers n own)) above_same in
+          let command = stands.stages_ignore longer extends x y of_x of_y same_state asked in
           sees_same part x y command (stands.ignores x y at_x at_y (λ n own. register_same n (stands.registers n (inl own))) command)
 
       pub seen_same : (moment_in (seen_in plan fabric (standing_still x)) 0).to_agent a ≡ (moment_in (seen_in plan fabric (standing_still y)) 0).to_agent a

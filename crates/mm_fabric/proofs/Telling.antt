@@ -25,7 +25,7 @@ pub can_have : (netlist : Netlist) (bits host : ℕ) (parts : List AgentPart) (r
 can_have netlist bits host parts [] h = tt
 can_have netlist bits host parts (route ∷ routes) h = ((h.0.seat, h.0.has), can_have netlist bits host parts routes h.1)
 
-same_seat : (host : ℕ) (parts : List AgentPart) (route : Route) (one other : Seat) → HasSeat host parts route one → HasSeat host parts route other → one ≡ other
+pub same_seat : (host : ℕ) (parts : List AgentPart) (route : Route) (one other : Seat) → HasSeat host parts route one → HasSeat host parts route other → one ≡ other
 same_seat host parts route one other h g =
     let same : h.part ≡ g.part = (let a = h.at in let b = g.at in cc) in
     let leads : seat_of host g.part.seats ≡ Some one = subst (λ (p : AgentPart). seat_of host p.seats ≡ Some one) same h.leads in

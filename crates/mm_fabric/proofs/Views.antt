@@ -65,7 +65,7 @@ module _ (netlist : Netlist) (run : Run) (valued : (c : ℕ) → IsValuation net
           no_response = λ c low none. level_absent netlist port.response 2 0 part.told.response is.told.response none (cycle_of run c);
         }
 
-  module _ (part : AgentPart) (is : IsAgentPart netlist part) where
+  module _ (stages : ℕ) (part : AgentPart) (is : IsAgentPart netlist stages part) where
     word_net : IsNetOfWidth netlist part.command.word (part.port.word_bytes * 8)
     word_net = record { is_net = is.command.word; has_width = is.word }
 

@@ -23,11 +23,11 @@ way_side shape run way = port_in shape run way.command way.back.wait way.back.an
 abbrev pub AreWaysOf : List Route → List Way → Type 0
 AreWaysOf routes ways = map (λ (w : Way). w.agent) ways ≡ map (λ (r : Route). r.agent) routes
 
-abbrev head_or : List ℕ → ℕ
+abbrev pub head_or : List ℕ → ℕ
 head_or [] = 0
 head_or (x ∷ later) = x
 
-abbrev tail_of : List ℕ → List ℕ
+abbrev pub tail_of : List ℕ → List ℕ
 tail_of [] = []
 tail_of (x ∷ later) = later
 

@@ -1,4 +1,4 @@
--- A fabric runs as machines: hosts, routes, arbiters and agents.
+-- A fabric runs as machines: hosts, routes, arbiters, stages and agents.
 use Rattle.std.proofs.Common.{◌≡◌, ℕ, zero, suc, ◌+◌, ◌-◌, ◌*◌, ◌^◌, ◌<◌, ◌≤◌, Bool, true, false, not, ◌||◌, if◌then◌else◌, nat_eq, List, [], None, IsTrue, refl, sym, subst, ap, ap₂, ◌∙◌, arith}
 use Rattle.std.proofs.Math.Nat.{two-pow-succ, le_refl}
 use Rattle.std.proofs.lemmas.Bool.{ne_eqb}
@@ -18,7 +18,7 @@ use Rattle.mm_runs.specs.Order.{is_joined}
 use Rattle.mm_runs.specs.Plan.{IsMemoryPlan, AreViews}
 use Rattle.mm_runs.specs.Whole.{IsLegalRun}
 use Rattle.mm_machines.specs.Link.{Port}
-use Rattle.mm_machines.specs.Lines.{IsFit}
+use Rattle.mm_machines.specs.Lines.{IsFit, TaggedPort}
 use Rattle.mm_machines.specs.Turns.{Grant, seats_of}
 use Rattle.ranks.specs.Turns.{Seat, is_seated}
 use Rattle.mm_parts.specs.Agent.{AgentState, IsAgentMachine}
@@ -33,14 +33,17 @@ use Rattle.mm_route.specs.Machine.{MapsAs, RunsAsRoute}
 use Rattle.mm_host.specs.Forms.{shape_below}
 use Rattle.mm_agent.specs.Agents.{shape_above}
 use Rattle.mm_agent.specs.Forms.{AreFitFor}
-use Rattle.mm_arbiter.specs.Machine.{Surrounds, below_port, seats_from}
+use Rattle.mm_arbiter.specs.Machine.{Surrounds, seats_from}
 use Rattle.mm_awake.specs.Fair.{are_apart}
-use Rattle.mm_awake.specs.WiredSystem.{WiredPorts, WiredStates, IsWiredFront, ServeWhatFits, before_agent, no_stage, with_agents, IsWiredSystem}
+use Rattle.mm_awake.specs.WiredSystem.{WiredPorts, WiredStates, IsWiredFront, ServeWhatFits, with_agents, IsWiredSystem}
+use Rattle.mm_awake.specs.PipeStages.{stage_of}
+use Rattle.mm_links.specs.Pipes.{PipeSides}
 use Rattle.mm_path.specs.Maps.{IsHostOf, IsAgentOf, RoutesAreMapped}
-use Rattle.mm_path.specs.Trees.{room_bits}
-use Rattle.mm_fabric.specs.Parts.{askers_of, commands_above, backs_above, below_of}
+use Rattle.mm_fabric.specs.Trunks.{room_bits}
+use Rattle.mm_fabric.specs.Parts.{askers_of, commands_above, backs_above}
 use Rattle.mm_fabric.specs.Fabrics.{Fabric, IsFabric, seen_at_host, seen_at_agent, seen_in}
-use Rattle.mm_fabric.proofs.Boundaries.{below_host, above_agent, answers_to, below_route, above_arbiter, ports_in, wire, idle, silent, outside, sides, joined}
+use Rattle.mm_fabric.proofs.Piped.{IsPipeAt}
+use Rattle.mm_fabric.proofs.Boundaries.{below_host, above_agent, below_arbiter, answers_to, below_route, above_arbiter, ports_in, wire, idle, silent, outside, sides, joined}
 use Rattle.mm_fabric.proofs.Choices.{choose}
 use Rattle.mm_fabric.proofs.Known.{seen_host, seen_agent, host_is, agent_is, seated_is}
 use Rattle.mm_fabric.proofs.SilentReader.{no_word, never_reads, seen_as_machine}
@@ -105,7 +108,8 @@ room_fits bits = room_of (burst_width bits) (some_width bits)
 module _ (plan : PlanTable) (planned : IsMemoryPlan (memory_system plan)) (distinct : (a : ℕ) → IsTrue (are_apart ((memory_system plan).joined a))) (routed : (h : ℕ) → h < (memory_system plan).hosts → AreRoutes (memory_system plan) h (routes_of plan.system h))
     (mapped : RoutesMap plan) (suits : FitCommandsSuit) (join : RoutesJoinBeats)
     (netlist : Netlist) (fabric : Fabric) (is : IsFabric plan netlist fabric) (longer : Netlist) (extends : Extends netlist longer) (run : Run) (endless : IsEndlessRun longer run) (end : ℕ)
-    (legal : IsLegalRun (memory_system plan) (seen_in plan fabric run) end) where
+    (legal : IsLegalRun (memory_system plan) (seen_in plan fabric run) end)
+    (pipe : ℕ → PipeSides) (piped : (a : ℕ) → a < (memory_system plan).agents → IsPipeAt plan fabric run a (pipe a)) where
   abbrev pub system : System
   system = memory_system plan
 
@@ -113,7 +117,7 @@ module _ (plan : PlanTable) (planned : IsMemoryPlan (memory_system plan)) (disti
   seen = seen_in plan fabric run
 
   abbrev pub ports : WiredPorts
-  ports = ports_in plan fabric run
+  ports = ports_in plan fabric pipe run
 
   abbrev pub room : ℕ → ℕ
   room h = 2 ^ room_bits (fabric.host h).port
@@ -163,18 +167,21 @@ module _ (plan : PlanTable) (planned : IsMemoryPlan (memory_system plan)) (disti
 
   surrounds : (a : ℕ) → a < (memory_system plan).agents →
       Surrounds (askers_of (fabric.agent a).seats) (commands_above (fabric.agent a).seats) (backs_above (fabric.agent a).seats) (shape_above (fabric.agent a).port) run (memory_system plan).hosts
-      (λ h. above_arbiter fabric run h a) (below_port (shape_above (fabric.agent a).port) run (fabric.agent a).command (below_of (fabric.agent a))) end
+      (λ h. above_arbiter fabric run h a) (below_arbiter (fabric.agent a) run) end
   surrounds a there = record {
     sides = sides plan planned netlist fabric is longer extends run endless a there (distinct a);
     joined = seat_joins a there;
     others = outside plan planned netlist fabric is longer extends run endless a there end;
   }
 
-  arbiter : (a : ℕ) → a < (memory_system plan).agents → (grant : ℕ → Grant) × IsArbiterMachine (seats_of (memory_system plan) a) (memory_system plan).hosts (λ h. above_arbiter fabric run h a) (above_agent (fabric.agent a) run) grant end
+  arbiter : (a : ℕ) → a < (memory_system plan).agents → (grant : ℕ → Grant) × IsArbiterMachine (seats_of (memory_system plan) a) (memory_system plan).hosts (λ h. above_arbiter fabric run h a) (ports.lower a plan.system.stages) grant end
   arbiter a there =
       let part = fabric.agent a in
-      let made = (is.agent a there).turns longer extends run endless (shape_above part.port) (memory_system plan).hosts end (λ h. above_arbiter fabric run h a) (surrounds a there) in
-      (made.0, subst (λ (seats : List Seat). IsArbiterMachine seats (memory_system plan).hosts (λ h. above_arbiter fabric run h a) (above_agent part run) made.0 end) (is.seats a there) made.1)
+      let made = (is.agent a there).turns longer extends run endless (shape_above part.port) (memory_system plan).hosts end (λ h. above_arbiter fabric run h a) (surrounds a there) in (
+        made.0,
+        subst (λ (down : TaggedPort). IsArbiterMachine (seats_of (memory_system plan) a) (memory_system plan).hosts (λ h. above_arbiter fabric run h a) down made.0 end) (sym (piped a there).highest)
+            (subst (λ (seats : List Seat). IsArbiterMachine seats (memory_system plan).hosts (λ h. above_arbiter fabric run h a) (below_arbiter part run) made.0 end) (is.seats a there) made.1),
+      )
 
   -- ---- all parts together
 
@@ -187,12 +194,12 @@ module _ (plan : PlanTable) (planned : IsMemoryPlan (memory_system plan)) (disti
       (λ h low. (let route = route_run h low in (route.state, route.is_machine)))
 
   pub grants_run : (grant : ℕ → ℕ → Grant) × ((a : ℕ) → a < (memory_system plan).agents →
-      IsArbiterMachine (seats_of (memory_system plan) a) (memory_system plan).hosts (λ h. ports.before_arbiter h a) (before_agent ports a) (grant a) end)
+      IsArbiterMachine (seats_of (memory_system plan) a) (memory_system plan).hosts (λ h. ports.before_arbiter h a) (ports.lower a plan.system.stages) (grant a) end)
   grants_run =
-      choose {X = ℕ → Grant} (λ a grant. IsArbiterMachine (seats_of (memory_system plan) a) (memory_system plan).hosts (λ h. ports.before_arbiter h a) (before_agent ports a) grant end) (memory_system plan).agents no_grant arbiter
+      choose {X = ℕ → Grant} (λ a grant. IsArbiterMachine (seats_of (memory_system plan) a) (memory_system plan).hosts (λ h. ports.before_arbiter h a) (ports.lower a plan.system.stages) grant end) (memory_system plan).agents no_grant arbiter
 
   abbrev pub states : WiredStates
-  states = record { host = hosts_run.0; route = routes_run.0; room = room; grant = grants_run.0; stage = λ a i. no_stage (before_agent ports a).port; agent = λ a. no_agent_state }
+  states = record { host = hosts_run.0; route = routes_run.0; room = room; grant = grants_run.0; stage = λ a. stage_of plan.system.stages (pipe a); agent = λ a. no_agent_state }
 
   lanes_at : (h a : ℕ) → h < (memory_system plan).hosts → a < (memory_system plan).agents → IsTrue (is_joined (memory_system plan) a h) → IsTrue (((memory_system plan).agent a).has_enables || not ((memory_system plan).host h).has_enables)
   lanes_at h a low there has =
@@ -207,7 +214,7 @@ module _ (plan : PlanTable) (planned : IsMemoryPlan (memory_system plan)) (disti
     route = routes_run.1;
     arbiter = grants_run.1;
     silent = λ a there. silent plan planned netlist fabric is longer extends run endless a there end;
-    stage = λ a i there few. (let none = is.stages in absurd (omega (arith, few, none)));
+    stage = λ a i there few. (piped a there).stage i few;
     wires = λ h a low there has. wire plan planned netlist fabric is longer extends run endless h a low (is.joined h a low there has);
     lanes = lanes_at;
     idle = λ h a low there apart. idle plan planned netlist fabric is longer extends run endless a there h (routed h low) apart;
@@ -218,12 +225,14 @@ module _ (plan : PlanTable) (planned : IsMemoryPlan (memory_system plan)) (disti
   pub served : ServeWhatFits AreZero (memory_system plan) (seen_in plan fabric run) ports end
   served = λ a c there within fit.
       (let part = fabric.agent a in
-      let suited = suits plan a part.port (is.agent_port a there) (above_agent part run).port refl c fit in
+      let lowest = (piped a there).lowest in
+      let suited = suits plan a part.port (is.agent_port a there) (above_agent part run).port refl c (subst (λ (up : TaggedPort). IsFit (memory_system plan) a up.port c) lowest fit) in
       let found = (is.agent a there).runs longer extends run endless c suited in
       let at_side = subst (λ (side : AgentSide). IsAgentMachine AreZero side (seen_at_agent part run) (above_agent part run) found.state c) (sym (agent_is plan netlist fabric is a there)) found.machine in
       record {
         state = found.state;
-        machine = subst (λ (view : AgentView). IsAgentMachine AreZero ((memory_system plan).agent a) view (above_agent part run) found.state c) (sym (seen_agent plan fabric run a there)) at_side;
+        machine = subst (λ (up : TaggedPort). IsAgentMachine AreZero ((memory_system plan).agent a) (seen.at_agent a) up found.state c) (sym lowest)
+            (subst (λ (view : AgentView). IsAgentMachine AreZero ((memory_system plan).agent a) view (above_agent part run) found.state c) (sym (seen_agent plan fabric run a there)) at_side);
       })
 
   pub wired : WiresCarryWhatFits → AreViews (memory_system plan) (seen_in plan fabric run) end →

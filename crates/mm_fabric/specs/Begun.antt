@@ -1,5 +1,5 @@
 -- The hosts of a plan with their routes, which wait for what comes back from the agents.
-use Rattle.std.specs.Prelude.{◌≡◌, ℕ, ◌+◌, ◌*◌, ◌≤◌, ◌⊎◌, false, List, [], ◌∷◌, length, map, take}
+use Rattle.std.specs.Prelude.{◌≡◌, ℕ, ◌+◌, ◌*◌, ◌≤◌, ◌⊎◌, ◌&&◌, List, [], ◌∷◌, length, map, take}
 use Rattle.iface_roles.specs.Proper.{IsBoundedHost}
 use Rattle.link_rules.specs.Plans.{PlanTable}
 use Rattle.netlist.specs.Netlists.{Netlist}
@@ -7,10 +7,11 @@ use Rattle.net_parts.specs.Growth.{GrowsBy, StillWait, WaitsBeside, AreMadeBetwe
 use Rattle.memory_plans.specs.Routes.{routes_of}
 use Rattle.mm_route.specs.Shown.{AreCommandsOf, widths_below}
 use Rattle.mm_route.specs.Forward.{RouteForward, forward_nets}
-use Rattle.mm_host.specs.Hosts.{AreHostNets}
+use Rattle.mm_host.specs.Hosts.{AreHostNets, reads_words}
 use Rattle.mm_host.specs.Reads.{is_unbounded}
 use Rattle.mm_path.specs.Maps.{IsHostOf}
 use Rattle.mm_fabric.specs.Trunks.{owns, IsTrunk}
+use Rattle.mm_fabric.specs.Bounds.{needs_no_count}
 use Rattle.mm_fabric.specs.declared.begun.HostEnd.{HostEnd}
 use Rattle.mm_fabric.specs.declared.begun.BegunHost.{BegunHost}
 
@@ -37,7 +38,8 @@ pub record IsBegun (plan : PlanTable) (netlist : Netlist) (number : ℕ) (begun 
   pub bounded : IsBoundedHost begun.port
   pub routes : begun.routes ≡ routes_of plan.system number
   pub trunk : IsTrunk netlist begun.port (length begun.routes) begun.trunk
-  pub bounds : is_unbounded begun.trunk.host.reads ≡ false
+  -- the reads are bounded next to the host unless its only agent, wholly its own, bounds them
+  pub bounds : is_unbounded begun.trunk.host.reads ≡ (reads_words begun.port && needs_no_count plan number begun.routes begun.trunk.host.command.address.width)
   pub forward : RouteForward begun.routes number begun.trunk.host.command begun.commands.items begun.trunk.route netlist
   pub commands : AreCommandsOf netlist (widths_below begun.trunk.host.command 4) begun.commands.items
 

@@ -1,5 +1,5 @@
 -- The hosts of a plan that are finished with what their agents tell.
-use Rattle.std.specs.Prelude.{◌≡◌, ℕ, ◌+◌, ◌*◌, ◌≤◌, false, List, [], ◌∷◌, length, take, drop}
+use Rattle.std.specs.Prelude.{◌≡◌, ℕ, ◌+◌, ◌*◌, ◌≤◌, true, List, [], ◌∷◌, length, take, drop}
 use Rattle.std.specs.List.{AllZip}
 use Rattle.iface_roles.specs.Proper.{IsBoundedHost}
 use Rattle.netlist.specs.Netlists.{Netlist, IsWaiting}
@@ -14,14 +14,15 @@ use Rattle.mm_fabric.specs.declared.parts.HostPart.{HostPart}
 use Rattle.mm_fabric.specs.Parts.{IsHostPart, commands_below, backs_below}
 use Rattle.mm_fabric.specs.Begun.{IsOfAny}
 use Rattle.mm_fabric.specs.Tells.{IsBackFor, AllCanTell}
+use Rattle.mm_fabric.specs.Lone.{IsLoneWay}
 
 -- ---- what is given
 
--- host and route stand and wait, and the agents of its routes have a seat for it
+-- host and route stand and wait, and the agents of its routes have a seat for it; where nothing next to it bounds its reads, its only agent does
 pub record MayFinish (netlist : Netlist) (parts : List AgentPart) (number : ℕ) (begun : BegunHost) : Type 0 where
   pub bounded : IsBoundedHost begun.port
   pub trunk : IsTrunk netlist begun.port (length begun.routes) begun.trunk
-  pub bounds : is_unbounded begun.trunk.host.reads ≡ false
+  pub lone : is_unbounded begun.trunk.host.reads ≡ true → IsLoneWay netlist parts number begun
   pub few : length begun.routes ≤ 32
   pub forward : RouteForward begun.routes number begun.trunk.host.command begun.commands.items begun.trunk.route netlist
   pub tell : AllCanTell netlist (begun.port.word_bytes * 8) number parts begun.routes

@@ -1,25 +1,26 @@
 -- The agents of a plan, each behind its begun hosts.
-use Rattle.std.specs.Prelude.{◌≡◌, ℕ, ◌+◌, ◌*◌, ◌≤◌, nat_lt, List, [], ◌∷◌, length, map, take}
+use Rattle.std.specs.Prelude.{◌≡◌, ℕ, ◌+◌, ◌*◌, ◌≤◌, List, [], ◌∷◌, length, map, take}
 use Rattle.std.specs.List.{AllZip}
 use Rattle.iface_roles.specs.Proper.{IsBoundedAgent}
 use Rattle.link_rules.specs.Plans.{PlanTable}
 use Rattle.netlist.specs.Netlists.{Netlist}
-use Rattle.net_parts.specs.Growth.{GrowsBy, StillWait}
-use Rattle.mm_agent.specs.Agents.{AreAgentNets, IsServed}
+use Rattle.net_parts.specs.Growth.{GrowsInMemory, StillWait, StillWaitForWrite}
+use Rattle.mm_agent.specs.Agents.{AreAgentNets}
 use Rattle.mm_fabric.specs.declared.asks.AgentEnd.{AgentEnd}
 use Rattle.mm_fabric.specs.declared.begun.BegunHost.{BegunHost}
 use Rattle.mm_fabric.specs.declared.parts.AgentPart.{AgentPart}
 use Rattle.mm_fabric.specs.Parts.{IsAgentPart, askers_of, commands_above}
-use Rattle.mm_fabric.specs.Askers.{MayAsk, AreTold}
+use Rattle.mm_fabric.specs.Askers.{IsServed, MayAsk, AreTold}
 use Rattle.mm_fabric.specs.Wide.{joined_agent_nets}
 use Rattle.mm_fabric.specs.Asks.{asking, AllCanAsk, ShowsAsked}
+use Rattle.mm_fabric.specs.Lone.{BoundsReads}
 
 -- ---- what is given
 
 -- the agent of this number is served, and 1 to 16 begun hosts ask it
 pub record IsAgentEnd (plan : PlanTable) (netlist : Netlist) (begun : List BegunHost) (number : ℕ) (end : AgentEnd) : Type 0 where
   pub bounded : IsBoundedAgent end.port
-  pub served : IsServed (nat_lt 1 (length (asking plan.system number))) end.port
+  pub served : IsServed end.port
   pub nets : AreAgentNets netlist end.port end.nets
   pub askers : MayAsk (asking plan.system number)
   pub few : length (asking plan.system number) ≤ 16
@@ -32,12 +33,13 @@ AreAgentEnds plan netlist begun number (end ∷ ends) = IsAgentEnd plan netlist 
 
 -- ---- what is made
 
--- the part stands behind the hosts that ask, shows their beats and tells them its words
+-- the part stands behind the hosts that ask, shows their beats, tells them its words, and where no stage stands before it bounds the reads of one host alone
 pub record IsJoined (plan : PlanTable) (netlist : Netlist) (begun : List BegunHost) (number : ℕ) (part : AgentPart) : Type 0 where
-  pub is : IsAgentPart netlist part
+  pub is : IsAgentPart netlist plan.system.stages part
   pub askers : askers_of part.seats ≡ asking plan.system number
   pub beats : AllZip (ShowsAsked netlist number begun) (asking plan.system number) (commands_above part.seats)
   pub told : AreTold netlist (part.port.word_bytes * 8) part.seats
+  pub bounds : plan.system.stages ≡ 0 → BoundsReads netlist part
 
 abbrev pub AreJoinedFrom : PlanTable → Netlist → List BegunHost → ℕ → List AgentPart → Type 0
 AreJoinedFrom plan netlist begun number [] = Unit {0}
@@ -54,6 +56,8 @@ most_agent_nets = joined_agent_nets 16
 pub record AreJoinedSoFar (plan : PlanTable) (old now : Netlist) (begun : List BegunHost) (ends : List AgentEnd) (parts : List AgentPart) (count : ℕ) : Type 0 where
   pub ends_are : map end_of parts ≡ take count ends
   pub each : AreJoinedFrom plan now begun 0 parts
-  pub grows : GrowsBy (most_agent_nets * count) old now
+  pub grows : GrowsInMemory (most_agent_nets * count) count old now
   pub waits : StillWait old now
   pub no_more_wait : StillWait now old
+  pub waits_for_write : StillWaitForWrite old now
+  pub no_more_wait_for_write : StillWaitForWrite now old

@@ -54,20 +54,24 @@ host_part_lasts old new number routes part h e = record {
   route_runs = λ longer f. h.route_runs longer (extends_twice old new longer e f);
 }
 
-pub agent_part_lasts : (old new : Netlist) (part : AgentPart) → IsAgentPart old part → Extends old new → IsAgentPart new part
-agent_part_lasts old new part h e = record {
+pub agent_part_lasts : (old new : Netlist) (stages : ℕ) (part : AgentPart) → IsAgentPart old stages part → Extends old new → IsAgentPart new stages part
+agent_part_lasts old new stages part h e = record {
   bounded = h.bounded;
   nets = agent_lasts old new part.port part.nets h.nets e;
   command = command_lasts old new part.command e h.command;
   word = h.word;
   enables = h.enables;
+  tag = h.tag;
   made = made_lasts old new part.port part.command part.made h.made e;
   registers = λ n o. register_lasts old new n e (h.registers n o);
   ignores = λ one other v w. h.ignores one other (e.valuations one v) (e.valuations other w);
   runs = λ longer f. h.runs longer (extends_twice old new longer e f);
   arbiter_registers = λ n o. register_lasts old new n e (h.arbiter_registers n o);
-  chosen = chosen_lasts (askers_of part.seats) (commands_above part.seats) part.command part.arbiter old new h.chosen e;
+  chosen = chosen_lasts (askers_of part.seats) (commands_above part.seats) part.asked part.arbiter old new h.chosen e;
   turns = λ longer f. h.turns longer (extends_twice old new longer e f);
+  stages_run = λ longer f. h.stages_run longer (extends_twice old new longer e f);
+  stages_ignore = λ longer f. h.stages_ignore longer (extends_twice old new longer e f);
+  no_stage = h.no_stage;
 }
 
 pub meets_lasts : (old new : Netlist) (way : Way) (seat : Seat) → Meets old way seat → Extends old new → Meets new way seat
@@ -87,11 +91,10 @@ joined_lasts old new host agent above below h e = record {
 
 pub fabric_lasts : (plan : PlanTable) (old new : Netlist) (fabric : Fabric) → IsFabric plan old fabric → Extends old new → IsFabric plan new fabric
 fabric_lasts plan old new fabric h e = record {
-  stages = h.stages;
   host_port = h.host_port;
   host = λ n low. host_part_lasts old new n _ (fabric.host n) (h.host n low) e;
   agent_port = h.agent_port;
-  agent = λ n low. agent_part_lasts old new (fabric.agent n) (h.agent n low) e;
+  agent = λ n low. agent_part_lasts old new plan.system.stages (fabric.agent n) (h.agent n low) e;
   seats = h.seats;
   joined = λ n a low there has. joined_lasts old new n a (fabric.host n) (fabric.agent a) (h.joined n a low there has) e;
 }

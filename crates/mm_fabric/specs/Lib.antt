@@ -1,12 +1,17 @@
+pub mod Stages
 pub mod Parts
 pub mod Askers
 pub mod Ways
 pub mod Wide
+pub mod Bounds
 pub mod Begun
 pub mod Asks
 pub mod Joined
 pub mod Fabrics
 pub mod Tells
+pub mod Lone
 pub mod Finished
 pub mod Lasting
 pub mod Trunks
+pub mod Ends
+pub mod Links

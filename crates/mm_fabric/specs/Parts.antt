@@ -22,11 +22,13 @@ use Rattle.mm_arbiter.specs.declared.back.BelowNets.{BelowNets}
 use Rattle.mm_arbiter.specs.Forward.{ArbiterForward}
 use Rattle.mm_arbiter.specs.Forward.{owns as owned_by_arbiter}
 use Rattle.mm_arbiter.specs.Machine.{RunsAsArbiter}
-use Rattle.mm_path.specs.Trees.{room_bits}
+use Rattle.mm_fabric.specs.Trunks.{room_bits}
+use Rattle.link_core.specs.Rows.{IgnoresInLonger}
 use Rattle.mm_fabric.specs.declared.parts.Way.{Way}
 use Rattle.mm_fabric.specs.declared.parts.HostPart.{HostPart}
 use Rattle.mm_fabric.specs.declared.parts.Seat.{Seat}
 use Rattle.mm_fabric.specs.declared.parts.AgentPart.{AgentPart}
+use Rattle.mm_fabric.specs.Stages.{RunsAsStages}
 
 -- ---- next to a host
 
@@ -60,25 +62,31 @@ commands_above seats = map (λ (s : Seat). s.command) seats
 abbrev pub backs_above : List Seat → List ArbiterBackNets
 backs_above seats = map (λ (s : Seat). record { wait = s.back.wait; answer = s.back.answer }) seats
 
--- what the part next to the agent tells the arbiter
+-- what the part next to the agent tells the pipe
 abbrev pub below_of : AgentPart → BelowNets
 below_of part = record { wait = part.made.waitrequest; answer = part.made.answer; tag = part.made.answer_tag }
 
--- the arbiter, and the part next to the agent, each between the other's nets
-pub record IsAgentPart (netlist : Netlist) (part : AgentPart) : Type 0 where
+-- the arbiter, the pipe of so many stages and the part next to the agent, each between the nets of the next
+pub record IsAgentPart (netlist : Netlist) (stages : ℕ) (part : AgentPart) : Type 0 where
   pub bounded : IsBoundedAgent part.port
   pub nets : AreAgentNets netlist part.port part.nets
   pub command : AreCommandNets netlist part.command
   -- with the words of the agent
   pub word : part.command.word.width ≡ part.port.word_bytes * 8
   pub enables : part.command.enables.width ≡ part.port.word_bytes
+  -- and the number of a host
+  pub tag : part.command.tag.width ≡ 4
   pub made : AreMadeNets netlist part.port part.command part.made
   pub registers : (n : ℕ) → owned_by_agent part.made n → IsRegister netlist n
   pub ignores : AgentIgnoresAnswer netlist part.command part.made
   pub runs : RunsAsAgent netlist part.port part.nets part.command part.made
   pub arbiter_registers : (n : ℕ) → owned_by_arbiter part.arbiter n → IsRegister netlist n
-  pub chosen : ArbiterForward (askers_of part.seats) (commands_above part.seats) part.command part.arbiter netlist
-  pub turns : RunsAsArbiter netlist (askers_of part.seats) (commands_above part.seats) part.command (below_of part) (backs_above part.seats)
+  pub chosen : ArbiterForward (askers_of part.seats) (commands_above part.seats) part.asked part.arbiter netlist
+  pub turns : RunsAsArbiter netlist (askers_of part.seats) (commands_above part.seats) part.asked part.told (backs_above part.seats)
+  pub stages_run : RunsAsStages netlist stages part.asked part.told part.command (below_of part)
+  pub stages_ignore : IgnoresInLonger netlist part.asked part.command
+  -- the same nets above and below where there is no stage
+  pub no_stage : stages ≡ 0 → (part.asked ≡ part.command) × (part.told ≡ below_of part)
 
 -- ---- between them
 

@@ -1,15 +1,19 @@
 -- A host and its route between their calls.
-use Rattle.std.specs.Prelude.{ℕ, ◌⊎◌}
+use Rattle.std.specs.Prelude.{ℕ, ◌+◌, ◌⊎◌}
 use Rattle.std.proofs.Common.{inl, inr}
 use Rattle.iface_roles.specs.declared.records.HostPort.{HostPort}
 use Rattle.netlist.specs.Netlists.{Netlist, IsWaiting}
 use Rattle.netlist.specs.Longer.{Extends}
+use Rattle.memory_sides.specs.Sides.{burst_width}
 use Rattle.mm_route.specs.Forward.{RouteKeeps, keeps_lasts}
 use Rattle.mm_route.specs.Forward.{owns as owned_by_route}
 use Rattle.mm_host.specs.Forms.{IsHeld, IgnoresAnswer, held_lasts}
 use Rattle.mm_host.specs.Forms.{owns as owned_by_host}
 use Rattle.mm_fabric.specs.declared.trunk.Trunk.{Trunk}
-use Rattle.mm_path.specs.Trees.{room_bits}
+
+-- the width of the count of words that a host is owed: it holds 16 of its longest bursts
+abbrev pub room_bits : HostPort → ℕ
+room_bits host = 4 + burst_width host.burst_bits
 
 -- the numbers of the registers
 abbrev pub owns : Trunk → ℕ → Type 0

@@ -1,21 +1,23 @@
-//! What stands next to an agent: its arbiter, and the part below it.
+//! What stands next to an agent: its arbiter, a pipe of stages, and the part below it.
 
-ghost use Rattle.std.specs.Prelude.{◌≡◌, ℕ, ◌+◌, ◌*◌, ◌^◌, ◌<◌, ◌≤◌, nat_lt, length, IfOk, OnOk};
+ghost use Rattle.std.specs.Prelude.{◌≡◌, ℕ, ◌+◌, ◌*◌, ◌^◌, ◌<◌, ◌≤◌, length, IfOk, OnOk};
 ghost use Rattle.std.specs.List.{AllZip};
 ghost use Rattle.iface_roles.specs.Proper.{IsBoundedAgent};
-ghost use Rattle.net_parts.specs.Growth.{GrowsBy, StillWait};
-ghost use Rattle.mm_agent.specs.Agents.{AreAgentNets, IsServed};
+ghost use Rattle.net_parts.specs.Growth.{GrowsInMemory, StillWait, StillWaitForWrite};
+ghost use Rattle.mm_agent.specs.Agents.{AreAgentNets};
 ghost use Rattle.mm_fabric.specs.Parts.{IsAgentPart, askers_of, commands_above, backs_above};
 ghost use Rattle.mm_fabric.specs.Wide.{AsksFor, ShowsBeatOf, joined_agent_nets};
-ghost use Rattle.mm_fabric.specs.Askers.{MayAsk, AreAsked, AreTold, told_by, agent_part_nets};
+ghost use Rattle.mm_fabric.specs.Askers.{IsServed, MayAsk, AreAsked, AreTold, agent_part_nets, HasNoRoomFor};
+ghost use Rattle.mm_fabric.specs.Lone.{BoundsReads};
 
 use crate::parts::{AgentPart, Seat};
+use crate::stages::{begin_stages, finish_stages};
 use crate::wide::{widen_all, widest};
 use av_base::List;
 use command_nets::{CommandNets, word_bits};
 use iface_roles::AgentPort;
-use mm_agent::{AgentMade, AgentNets, emit_agent};
-use mm_arbiter::{Asker, BackNets, BelowNets, emit_arbiter, finish_arbiter};
+use mm_agent::{AgentNets, emit_agent};
+use mm_arbiter::{Asker, BackNets, emit_arbiter, finish_arbiter};
 use mm_route::BackNets as RouteBackNets;
 use netlist::{Builder, NetFault};
 use std::alloc::{AllocError, Global};
@@ -56,18 +58,7 @@ fn seats_of(
     Ok(seats)
 }
 
-/// What the part next to an agent tells the arbiter above it.
-fn below_of(made: &AgentMade) -> BelowNets
-    ensures { result ≡ told_by made.now }
-{
-    BelowNets {
-        wait: made.waitrequest,
-        answer: made.answer,
-        tag: made.answer_tag,
-    }
-}
-
-/// Makes what stands next to an agent, behind commands of the same widths.
+/// Makes what stands next to an agent, behind commands of the same widths, with so many stages between arbiter and agent.
 ///
 /// `TooManyNets` comes where the module has no room for these nets. After an error the builder is to be dropped: registers may
 /// stand in it that wait.
@@ -78,73 +69,88 @@ pub(crate) fn emit_agent_part(
     nets: &AgentNets,
     askers: &[Asker],
     commands: &[CommandNets],
+    stages: u8,
 ) -> Result<AgentPart, NetFault>
+    requires stages { stages ≤ 4 }
     requires port { IsBoundedAgent port.now }
-    requires served { IsServed (nat_lt 1 (length askers.now)) port.now }
+    requires served { IsServed port.now }
     requires nets { AreAgentNets builder.old port.now nets.now }
     requires askers { MayAsk askers.now }
     requires commands { AreAsked builder.old port.now askers.now commands.now }
-    ensures part { IfOk result (IsAgentPart builder.new) }
+    ensures part { IfOk result (IsAgentPart builder.new stages) }
     ensures port { IfOk result (λ part. part.port ≡ port.now) }
     ensures nets { IfOk result (λ part. part.nets ≡ nets.now) }
     ensures askers { IfOk result (λ part. askers_of part.seats ≡ askers.now) }
     ensures commands { IfOk result (λ part. commands_above part.seats ≡ commands.now) }
     ensures backs { IfOk result (λ part. AreTold builder.new (port.now.word_bytes * 8) part.seats) }
-    ensures grows { GrowsBy (agent_part_nets (length askers.now)) builder.old builder.new }
+    ensures bounds { IfOk result (λ part. stages ≡ 0 → BoundsReads builder.new part) }
+    ensures grows { GrowsInMemory (agent_part_nets (length askers.now)) 1 builder.old builder.new }
     ensures waits { StillWait builder.old builder.new }
     ensures no_more_wait { OnOk result (StillWait builder.new builder.old) }
+    ensures still_wait_for_write { StillWaitForWrite builder.old builder.new }
+    ensures no_more_wait_for_write { OnOk result (StillWaitForWrite builder.new builder.old) }
 
     // Memory may run out at any net.
-    ensures full { result ≡ Err NetFault.TooManyNets → 2 ^ 20 < length builder.old.lines + agent_part_nets (length askers.now) }
+    ensures full { result ≡ Err NetFault.TooManyNets → HasNoRoomFor (agent_part_nets (length askers.now)) 1 builder.old }
 {
-    let (command, arbiter) = emit_arbiter(builder, askers, commands)?;
-    let made = emit_agent(builder, port, nets, &command, askers.len() > 1)?;
+    let several = askers.len() > 1;
+    let (asked, arbiter) = emit_arbiter(builder, askers, commands)?;
+    let (command, kept) = begin_stages(builder, stages, several, &asked)?;
+    let made = emit_agent(builder, port, nets, &command, several)?;
     builder.well_made();
-    let below = below_of(&made);
+    let told = finish_stages(builder, stages, several, kept, &made)?;
     let bits = word_bits(port.word_bytes);
-    let backs = finish_arbiter(alloc, builder, &arbiter, askers, &below, TAG_BITS, bits)?;
+    let backs = finish_arbiter(alloc, builder, &arbiter, askers, &told, TAG_BITS, bits)?;
     let seats = seats_of(alloc, askers, commands, &backs)?;
     Ok(AgentPart {
         port: *port,
         nets: *nets,
         seats,
         arbiter,
+        asked,
+        told,
         command,
         made,
     })
 }
 
-/// Makes what stands next to an agent, behind the commands of the hosts that ask, in their order, on nets as wide as the widest.
+/// Makes what stands next to an agent, behind the commands of the hosts that ask, in their order, on nets as wide as the widest, with
+/// so many stages between arbiter and agent.
 ///
 /// `TooManyNets` comes where the module has no room for these nets. After an error the builder is to be dropped: registers may
 /// stand in it that wait.
-pub fn join_agent(
+pub(crate) fn join_agent(
     alloc: Global,
     builder: &mut Builder,
     port: &AgentPort,
     nets: &AgentNets,
     askers: &[Asker],
     commands: &[CommandNets],
+    stages: u8,
 ) -> Result<AgentPart, NetFault>
+    requires stages { stages ≤ 4 }
     requires port { IsBoundedAgent port.now }
-    requires served { IsServed (nat_lt 1 (length askers.now)) port.now }
+    requires served { IsServed port.now }
     requires nets { AreAgentNets builder.old port.now nets.now }
     requires askers { MayAsk askers.now }
     requires commands { AllZip (AsksFor builder.old port.now) askers.now commands.now }
-    ensures part { IfOk result (IsAgentPart builder.new) }
+    ensures part { IfOk result (IsAgentPart builder.new stages) }
     ensures port { IfOk result (λ part. part.port ≡ port.now) }
     ensures nets { IfOk result (λ part. part.nets ≡ nets.now) }
     ensures askers { IfOk result (λ part. askers_of part.seats ≡ askers.now) }
     ensures beats { IfOk result (λ part. AllZip (ShowsBeatOf builder.new) commands.now (commands_above part.seats)) }
     ensures backs { IfOk result (λ part. AreTold builder.new (port.now.word_bytes * 8) part.seats) }
-    ensures grows { GrowsBy (joined_agent_nets (length askers.now)) builder.old builder.new }
+    ensures bounds { IfOk result (λ part. stages ≡ 0 → BoundsReads builder.new part) }
+    ensures grows { GrowsInMemory (joined_agent_nets (length askers.now)) 1 builder.old builder.new }
     ensures waits { StillWait builder.old builder.new }
     ensures no_more_wait { OnOk result (StillWait builder.new builder.old) }
+    ensures still_wait_for_write { StillWaitForWrite builder.old builder.new }
+    ensures no_more_wait_for_write { OnOk result (StillWaitForWrite builder.new builder.old) }
 
     // Memory may run out at any net.
-    ensures full { result ≡ Err NetFault.TooManyNets → 2 ^ 20 < length builder.old.lines + joined_agent_nets (length askers.now) }
+    ensures full { result ≡ Err NetFault.TooManyNets → HasNoRoomFor (joined_agent_nets (length askers.now)) 1 builder.old }
 {
     let bits = widest(builder, commands);
     let wide = widen_all(alloc, builder, commands, bits)?;
-    emit_agent_part(alloc, builder, port, nets, askers, &wide)
+    emit_agent_part(alloc, builder, port, nets, askers, &wide, stages)
 }

@@ -1,13 +1,14 @@
 //! The hosts of a plan that ask an agent, and their commands for it.
 
-ghost use Rattle.std.specs.Prelude.{◌≡◌, ℕ, ◌+◌, ◌*◌, ◌^◌, ◌<◌, ◌≤◌, nat_lt, length, IfOk, OnOk};
+ghost use Rattle.std.specs.Prelude.{◌≡◌, ℕ, ◌+◌, ◌*◌, ◌^◌, ◌<◌, ◌≤◌, length, IfOk, OnOk};
 ghost use Rattle.std.specs.List.{AllZip};
 ghost use Rattle.iface_roles.specs.Proper.{IsBoundedAgent};
-ghost use Rattle.net_parts.specs.Growth.{GrowsBy, StillWait};
-ghost use Rattle.mm_agent.specs.Agents.{AreAgentNets, IsServed};
+ghost use Rattle.net_parts.specs.Growth.{GrowsInMemory, StillWait, StillWaitForWrite};
+ghost use Rattle.mm_agent.specs.Agents.{AreAgentNets};
 ghost use Rattle.mm_fabric.specs.Parts.{IsAgentPart, askers_of, commands_above};
-ghost use Rattle.mm_fabric.specs.Askers.{MayAsk, AreTold};
+ghost use Rattle.mm_fabric.specs.Askers.{IsServed, MayAsk, AreTold, HasNoRoomFor};
 ghost use Rattle.mm_fabric.specs.Wide.{joined_agent_nets};
+ghost use Rattle.mm_fabric.specs.Lone.{BoundsReads};
 ghost use Rattle.mm_fabric.specs.Asks.{asking_among, asking, command_to, IsCommandFor, AllHaveCommands, AllCanAsk, ShowsAsked};
 
 use crate::agents::join_agent;
@@ -85,7 +86,7 @@ fn commands_for(
 ///
 /// `TooManyNets` comes where the module has no room for these nets. After an error the builder is to be dropped: registers may
 /// stand in it that wait.
-pub fn join_hosts(
+pub(crate) fn join_hosts(
     alloc: Global,
     builder: &mut Builder,
     plan: &Plan,
@@ -94,24 +95,36 @@ pub fn join_hosts(
     end: &AgentEnd,
 ) -> Result<AgentPart, NetFault>
     requires port { IsBoundedAgent end.now.port }
-    requires served { IsServed (nat_lt 1 (length (asking plan.now.system number))) end.now.port }
+    requires served { IsServed end.now.port }
     requires nets { AreAgentNets builder.old end.now.port end.now.nets }
     requires askers { MayAsk (asking plan.now.system number) }
     requires asks { AllCanAsk plan.now builder.old number end.now.port begun.now (asking plan.now.system number) }
-    ensures part { IfOk result (IsAgentPart builder.new) }
+    ensures part { IfOk result (IsAgentPart builder.new plan.now.system.stages) }
     ensures port { IfOk result (λ part. part.port ≡ end.now.port) }
     ensures nets { IfOk result (λ part. part.nets ≡ end.now.nets) }
     ensures askers { IfOk result (λ part. askers_of part.seats ≡ asking plan.now.system number) }
     ensures beats { IfOk result (λ part. AllZip (ShowsAsked builder.new number begun.now) (asking plan.now.system number) (commands_above part.seats)) }
     ensures backs { IfOk result (λ part. AreTold builder.new (end.now.port.word_bytes * 8) part.seats) }
-    ensures grows { GrowsBy (joined_agent_nets (length (asking plan.now.system number))) builder.old builder.new }
+    ensures bounds { IfOk result (λ part. plan.now.system.stages ≡ 0 → BoundsReads builder.new part) }
+    ensures grows { GrowsInMemory (joined_agent_nets (length (asking plan.now.system number))) 1 builder.old builder.new }
     ensures waits { StillWait builder.old builder.new }
     ensures no_more_wait { OnOk result (StillWait builder.new builder.old) }
+    ensures still_wait_for_write { StillWaitForWrite builder.old builder.new }
+    ensures no_more_wait_for_write { OnOk result (StillWaitForWrite builder.new builder.old) }
 
     // Memory may run out at any net.
-    ensures full { result ≡ Err NetFault.TooManyNets → 2 ^ 20 < length builder.old.lines + joined_agent_nets (length (asking plan.now.system number)) }
+    ensures full { result ≡ Err NetFault.TooManyNets → HasNoRoomFor (joined_agent_nets (length (asking plan.now.system number))) 1 builder.old }
 {
+    plan.well_made();
     let askers = asking_among(alloc, plan.memory_links(), number)?;
     let commands = commands_for(alloc, begun, &askers, number)?;
-    join_agent(alloc, builder, &end.port, &end.nets, &askers, &commands)
+    join_agent(
+        alloc,
+        builder,
+        &end.port,
+        &end.nets,
+        &askers,
+        &commands,
+        plan.stages(),
+    )
 }

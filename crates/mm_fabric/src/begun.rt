@@ -6,6 +6,7 @@ ghost use Rattle.net_parts.specs.Growth.{GrowsBy, StillWait, WaitsBeside, AreMad
 ghost use Rattle.mm_fabric.specs.Trunks.{owns};
 ghost use Rattle.mm_fabric.specs.Begun.{IsHostEnd, AreHostEnds, IsBegun, end_of, begun_nets, HaveBegun};
 
+use crate::bounds::needs_no_count;
 use crate::trunk::{Trunk, begin_trunk};
 use av_base::List;
 use command_nets::CommandNets;
@@ -62,6 +63,7 @@ fn begin_host(
         Ok(routes) => routes,
         Err(_) => return Err(NetFault::NoMemory),
     };
+    let bounded = needs_no_count(plan, number, &end.port, routes.as_slice());
     let (commands, trunk) = begin_trunk(
         alloc,
         builder,
@@ -69,7 +71,7 @@ fn begin_host(
         &end.port,
         &end.nets,
         routes.as_slice(),
-        false,
+        bounded,
     )?;
     Ok(BegunHost {
         port: end.port,

@@ -1,6 +1,6 @@
 //! What stands next to a host: the part next to it, and its route.
 
-ghost use Rattle.std.specs.Prelude.{◌≡◌, ℕ, ◌+◌, ◌*◌, ◌^◌, ◌<◌, ◌≤◌, false, length, IfOk, OnOk};
+ghost use Rattle.std.specs.Prelude.{◌≡◌, ℕ, ◌+◌, ◌*◌, ◌^◌, ◌<◌, ◌≤◌, true, length, IfOk, OnOk};
 ghost use Rattle.iface_roles.specs.Proper.{IsBoundedHost};
 ghost use Rattle.netlist.specs.Netlists.{IsWaiting};
 ghost use Rattle.net_parts.specs.Growth.{GrowsBy, WaitsWithout};
@@ -10,6 +10,7 @@ ghost use Rattle.mm_host.specs.Reads.{is_unbounded};
 ghost use Rattle.mm_fabric.specs.Trunks.{owns, IsTrunk};
 ghost use Rattle.mm_fabric.specs.Parts.{IsHostPart};
 ghost use Rattle.mm_fabric.specs.Ways.{AreWaysOf};
+ghost use Rattle.mm_fabric.specs.Lone.{IsBoundedRoute};
 
 use crate::parts::{HostPart, Way};
 use crate::trunk::{Trunk, finish_trunk};
@@ -51,7 +52,7 @@ fn ways_of(
 ///
 /// `TooManyNets` comes where the module has no room for these nets. After an error the builder is to be dropped: registers may
 /// stand in it that wait.
-pub fn finish_host_part(
+pub(crate) fn finish_host_part(
     alloc: Global,
     builder: &mut Builder,
     port: &HostPort,
@@ -62,11 +63,11 @@ pub fn finish_host_part(
 ) -> Result<HostPart, NetFault>
     requires port { IsBoundedHost port.now }
     requires trunk { IsTrunk builder.old port.now (length backs.now) trunk.now }
-    requires bounded { is_unbounded trunk.now.host.reads ≡ false }
     requires few { length backs.now ≤ 128 }
     requires routes { length backs.now ≡ length routes.now }
     requires commands { length commands.now ≡ length routes.now }
     requires backs { AreBackNets builder.old (port.now.word_bytes * 8) backs.now }
+    requires bounded { is_unbounded trunk.now.host.reads ≡ true → IsBoundedRoute builder.old routes.now trunk.now.host.command commands.now backs.now }
     ensures part { IfOk result (λ part. (number : ℕ) → RouteForward routes.now number trunk.now.host.command commands.now trunk.now.route builder.old → IsHostPart builder.new number routes.now part) }
     ensures port { IfOk result (λ part. part.port ≡ port.now) }
     ensures nets { IfOk result (λ part. part.held.nets ≡ trunk.now.host.nets) }

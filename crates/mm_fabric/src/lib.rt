@@ -4,22 +4,24 @@
 mod agents;
 mod asks;
 mod begun;
+mod bounds;
+mod fabric;
 mod finished;
 mod hosts;
 mod joined;
+mod laws;
 mod parts;
 mod served;
+mod stages;
 mod tells;
 mod trunk;
 mod wide;
 
-pub use agents::join_agent;
-pub use asks::{AgentEnd, join_hosts};
+pub use asks::AgentEnd;
 pub use begun::{BegunHost, HostEnd, begin_hosts};
+pub use fabric::{FabricParts, emit_fabric};
 pub use finished::finish_hosts;
-pub use hosts::finish_host_part;
 pub use joined::join_agents;
 pub use parts::{AgentPart, HostPart, Seat, Way};
 pub use served::{fabrics_are_served, fabrics_are_wired, fabrics_ignore_words, fabrics_show_views};
-pub use tells::finish_begun;
 pub use trunk::Trunk;

@@ -1,6 +1,6 @@
 //! What the agents of a host tell it.
 
-ghost use Rattle.std.specs.Prelude.{◌≡◌, ℕ, ◌+◌, ◌*◌, ◌^◌, ◌<◌, ◌≤◌, false, length, IfOk, OnOk};
+ghost use Rattle.std.specs.Prelude.{◌≡◌, ℕ, ◌+◌, ◌*◌, ◌^◌, ◌<◌, ◌≤◌, true, length, IfOk, OnOk};
 ghost use Rattle.std.specs.List.{AllZip};
 ghost use Rattle.iface_roles.specs.Proper.{IsBoundedHost};
 ghost use Rattle.netlist.specs.Netlists.{IsWaiting};
@@ -12,6 +12,7 @@ ghost use Rattle.mm_fabric.specs.Trunks.{owns, IsTrunk};
 ghost use Rattle.mm_fabric.specs.Parts.{IsHostPart, commands_below, backs_below};
 ghost use Rattle.mm_fabric.specs.Fabrics.{seat_of};
 ghost use Rattle.mm_fabric.specs.Tells.{IsBackFor, AllCanTell, AllHaveSeats};
+ghost use Rattle.mm_fabric.specs.Lone.{IsLoneWay};
 
 use crate::begun::BegunHost;
 use crate::hosts::finish_host_part;
@@ -59,7 +60,7 @@ fn backs_for(
 ///
 /// `TooManyNets` comes where the module has no room for these nets. After an error the builder is to be dropped: registers may
 /// stand in it that wait.
-pub fn finish_begun(
+pub(crate) fn finish_begun(
     alloc: Global,
     builder: &mut Builder,
     begun: &BegunHost,
@@ -68,7 +69,7 @@ pub fn finish_begun(
 ) -> Result<HostPart, NetFault>
     requires port { IsBoundedHost begun.now.port }
     requires trunk { IsTrunk builder.old begun.now.port (length begun.now.routes) begun.now.trunk }
-    requires bounds { is_unbounded begun.now.trunk.host.reads ≡ false }
+    requires lone { is_unbounded begun.now.trunk.host.reads ≡ true → IsLoneWay builder.old parts.now number begun.now }
     requires few { length begun.now.routes ≤ 32 }
     requires forward { RouteForward begun.now.routes number begun.now.trunk.host.command begun.now.commands.items begun.now.trunk.route builder.old }
     requires tell { AllCanTell builder.old (begun.now.port.word_bytes * 8) number parts.now begun.now.routes }

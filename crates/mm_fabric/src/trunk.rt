@@ -16,7 +16,7 @@ ghost use Rattle.mm_route.specs.Machine.{RunsAsMachine};
 ghost use Rattle.mm_host.specs.Hosts.{reads_words, AreHostNets};
 ghost use Rattle.mm_host.specs.Reads.{is_unbounded};
 ghost use Rattle.mm_host.specs.Forms.{AreAnswersTo, RunsAsHostWhile};
-ghost use Rattle.mm_path.specs.Trees.{room_bits};
+ghost use Rattle.mm_fabric.specs.Trunks.{room_bits};
 ghost use Rattle.mm_fabric.specs.Trunks.{owns, IsTrunk};
 
 use command_nets::{AnswerNets, CommandNets, word_bits};

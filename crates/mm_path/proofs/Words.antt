@@ -1,4 +1,4 @@
--- Reads for an agent without bursts ask for one word.
+-- Reads for an agent without bursts ask for one word, and those for one with bursts for one at least.
 use Rattle.std.proofs.Common.{◌≡◌, ℕ, ◌<◌, ◌≤◌, zero, suc, Bool, true, false, not, ◌||◌, cond, nat_eq, refl, sym, ap, subst, ◌∙◌, arith, IsTrue}
 use Rattle.std.specs.Bool.{IsFalse}
 use Rattle.iface_roles.specs.declared.records.AgentPort.{AgentPort}
@@ -68,8 +68,12 @@ module _ (plan : PlanTable) (agent : ℕ) (port : AgentPort) (is : IsAgentOf pla
       let most = bounds.1 in
       omega (arith, least, most, longest)
 
+  some_words : IsTrue (bursts port) → (c : ℕ) → c < end → IsTrue (takes_read up c) → 1 ≤ up.commands.count c
+  some_words bursts c within taken = (in_bounds up.shape up.commands.signals (takes up) end fit.legal.legal c within (both (takes up c) (is_raised (up.commands.read c)) taken).1).0
+
   pub are_fit : AreFitFor port up end
   are_fit = record {
     kinds = subst (λ side. ServesKinds side up end) (ap side_of_agent is) fit.kinds;
     one_word = one_word;
+    some_words = some_words;
   }

@@ -1,7 +1,2 @@
 pub mod Maps
-pub mod Served
-pub mod Trees
-pub mod Trunks
-pub mod Branches
-pub mod Bounds
-pub mod Lasting
+pub mod Shown

@@ -1,5 +1,4 @@
-use Rattle.std.proofs.Common.{◌≡◌, sym, subst, ap, ◌∙◌}
-use Rattle.iface_roles.specs.declared.records.Finished.{Finished}
+use Rattle.std.proofs.Common.{subst, ◌∙◌}
 use Rattle.iface_roles.specs.Proper.{IsProper}
 use Rattle.port_tables.specs.EndFacts.{same_known}
 use Rattle.interconnect.proofs.hosts.host_port.Goals as goal

@@ -32,7 +32,7 @@ drive_at-requires-clause-can c =
     let system = c.args.plan.now.system in
     let is = link_at system c.args.number c.stream_links.result.now _ (c.streams_are_numbered.ensures.links system c.ports_are_known.ensures.planned.kept) c.stream_links.ensures
     (link_inside system c.args.number c.stream_links.result.now (c.streams_are_numbered.ensures.numbers system c.ports_are_known.ensures.planned.kept) c.stream_links.ensures c.requires.inside) in
-    source_may_now c.args.plan.now _ c.args.number _ c.args.builder.now c.stream_nets.new.builder c.args.low c.in_ok-made.made c.ports_are_known.ensures is c.requires.joined c.in_ok-made.ensures _ c.source_outputs.ensures
+    source_may_now c.args.plan.now c.args.number _ c.args.builder.now c.stream_nets.new.builder c.args.low c.in_ok-made.made c.ports_are_known.ensures is c.requires.joined c.in_ok-made.ensures _ c.source_outputs.ensures
 
 pub drive_at-requires-2-clause-end : goal.drive_at-requires-2-clause-end
 drive_at-requires-2-clause-end c =
@@ -50,7 +50,7 @@ drive_at-requires-2-clause-can c =
     let is = link_at system c.args.number c.stream_links.result.now _ (c.streams_are_numbered.ensures.links system c.ports_are_known.ensures.planned.kept) c.stream_links.ensures
     (link_inside system c.args.number c.stream_links.result.now (c.streams_are_numbered.ensures.numbers system c.ports_are_known.ensures.planned.kept) c.stream_links.ensures c.requires.inside) in
     let over = source_over system c.args.number _ c.in_ok-made.made _ c.stream_nets.new.builder c.drive_at.new.builder is c.source_outputs.ensures c.drive_at.ensures.same c.drive_at.ensures.extends c.drive_at.ensures.driven c.drive_at.ensures.others in
-    sink_may_now c.args.plan.now _ c.args.number _ c.args.builder.now c.stream_nets.new.builder c.drive_at.new.builder c.args.low c.in_ok-made.made c.ports_are_known.ensures is c.requires.joined c.in_ok-made.ensures over _ c.sink_outputs.ensures
+    sink_may_now c.args.plan.now c.args.number _ c.args.builder.now c.stream_nets.new.builder c.drive_at.new.builder c.args.low c.in_ok-made.made c.ports_are_known.ensures is c.requires.joined c.in_ok-made.ensures over _ c.sink_outputs.ensures
 
 pub returns : goal.returns
 returns c =
@@ -59,5 +59,5 @@ returns c =
     (link_inside system c.args.number c.stream_links.result.now (c.streams_are_numbered.ensures.numbers system c.ports_are_known.ensures.planned.kept) c.stream_links.ensures c.requires.inside) in
     let over = source_over system c.args.number _ c.in_ok-made.made _ c.stream_nets.new.builder c.drive_at.new.builder is c.source_outputs.ensures c.drive_at.ensures.same c.drive_at.ensures.extends c.drive_at.ensures.driven c.drive_at.ensures.others in
     let done = sink_over system c.args.number _ c.in_ok-made.made _ c.drive_at.new.builder c.drive_at-2.new.builder is c.sink_outputs.ensures c.drive_at-2.ensures.same c.drive_at-2.ensures.extends c.drive_at-2.ensures.driven c.drive_at-2.ensures.others in
-    stream_joined c.keeps.ensures.chain c.args.plan.now _ c.args.number _ c.args.builder.now c.stream_nets.new.builder c.drive_at.new.builder c.drive_at-2.new.builder c.args.low c.in_ok-made.made c.ports_are_known.ensures is c.in_ok-made.ensures
+    stream_joined c.keeps.ensures.chain c.args.plan.now c.args.number _ c.args.builder.now c.stream_nets.new.builder c.drive_at.new.builder c.drive_at-2.new.builder c.args.low c.in_ok-made.made c.ports_are_known.ensures is c.in_ok-made.ensures
     (c.requires.low _ is.place_is) over done c.requires.joined

@@ -1,6 +1,5 @@
 use Rattle.std.proofs.Common.{◌≡◌, ◌<◌, ℕ, List, length, arith, ap, subst, ◌∙◌}
 use Rattle.std.proofs.lemmas.Option.{get_or_from_slice_get}
-use Rattle.address_map.specs.Maps.{hosts_of}
 use Rattle.link_rules.specs.Links.{streams_of}
 use Rattle.interconnect.specs.Joins.{low_at, IsJoinedUpTo}
 use Rattle.interconnect.proofs.streams.join_streams.Goals as goal
@@ -16,4 +15,4 @@ join_stream-requires-clause-low c place e =
 pub returns : goal.returns
 returns c =
     let last : c.loop-number.number ≡ length (streams_of c.args.plan.now.system) = omega (arith, ap (λ (xs : List ℕ). length xs) c.streams-number-end.ensures, c.loop-number-test.false, c.loop-number.auto.number-end) in
-    subst (λ (n : ℕ). IsJoinedUpTo c.args.plan.now (length (hosts_of c.args.plan.now.system)) n c.loop-number.builder) last c.loop-number.invariant
+    subst (λ (n : ℕ). IsJoinedUpTo c.args.plan.now n c.loop-number.builder) last c.loop-number.invariant

@@ -1,233 +1,168 @@
-use Rattle.std.proofs.Common.{Option, sym, subst, inl, inr, arith}
-use Rattle.netlist.specs.Nets.{NetValue}
-use Rattle.netlist.specs.Netlists.{IsWaiting}
-use Rattle.net_parts.specs.Laws.{extends_twice, net_lasts, waiting_within, waiting_register, register_lasts, adds_grow, grows_fewer, grows_twice}
-use Rattle.command_nets.specs.Ports.{HasNet, has_lasts, given}
-use Rattle.mm_agent.specs.Agents.{agent_lasts}
-use Rattle.mm_agent.specs.Reads.{reads_last, reads_go_on, row_is_there}
-use Rattle.mm_agent.specs.Waits.{wait_lasts, wait_goes_on, stood_is_net}
-use Rattle.mm_agent.specs.Answers.{answers_last}
-use Rattle.mm_agent.specs.Forms.{part_lasts}
+use Rattle.std.proofs.Common.{◌≡◌, ℕ, Bool, true, false, ◌+◌, ◌^◌, ◌<◌, ◌⊎◌, length, None, sym, ◌∙◌, inl, inr}
+use Rattle.std.specs.Prelude.{Result, Ok, Err, IfOk}
+use Rattle.histories.specs.History.{one_if}
+use Rattle.iface_roles.specs.declared.records.AgentPort.{AgentPort}
+use Rattle.netlist.specs.Netlists.{Netlist}
+use Rattle.net_parts.specs.Laws.{if_ok, on_ok, grows_without_memory}
+use Rattle.net_parts.specs.Growth.{GrowsBy, GrowsInMemory, StillWait, StillWaitForWrite}
+use Rattle.net_parts.specs.Nets.{IsRegister}
+use Rattle.command_nets.specs.declared.nets.CommandNets.{CommandNets}
+use Rattle.mm_agent.specs.declared.nets.AgentMade.{AgentMade}
+use Rattle.mm_agent.specs.declared.reads.HeldReads.{HeldReads}
+use Rattle.mm_agent.specs.declared.reads.HeldReads.TheVariants.{Never, Counts, Row, Queued}
+use Rattle.mm_agent.specs.Reads.{held_queue, owns_reads, sets_reads}
+use Rattle.mm_agent.specs.Forms.{owns, part_nets, nets_by, NoRoomBy, AnyQueueGoesOn, IgnoresAnswer, RunsAsAgent, part_lasts}
 use Rattle.mm_agent.proofs.Machine.{machine}
 use Rattle.mm_agent.proofs.Ignores.{ignores}
-use Rattle.mm_agent.proofs.Waiting.{as_given}
-use Rattle.mm_agent.proofs.Words.{words_given, one_answer_tag}
+use Rattle.mm_agent.specs.Memories.{writes_wait_alike, writes_waited_alike}
 use Rattle.mm_agent.proofs.agent.emit_agent.Goals as goal
 
--- ---- what the calls ask
+-- ---- with a queue or without one
 
-pub hold_reads-requires-clause-read : goal.hold_reads-requires-clause-read
-hold_reads-requires-clause-read c = net_lasts _ _ _ _ (extends_twice _ _ _ c.place_address.ensures.adds.grows.extends c.hold_wait.ensures.grows.extends) c.requires.command.read
+abbrev NoRoom : Bool → Bool → Netlist → Type 0
+NoRoom several queued netlist = NoRoomBy queued (nets_by several queued) netlist
 
-pub give_answer-requires-clause-nets : goal.give_answer-requires-clause-nets
-give_answer-requires-clause-nets c =
-    let e2 = extends_twice _ _ _ c.hold_wait.ensures.grows.extends c.hold_reads.ensures.grows.extends in
-    agent_lasts _ _ _ _ c.requires.nets (extends_twice _ _ _ c.place_address.ensures.adds.grows.extends e2)
+queue_grows : (several queued : Bool) (old new : Netlist) → queued ≡ true → GrowsInMemory 60 1 old new → GrowsInMemory (nets_by several queued) (one_if queued) old new
+queue_grows several true old new e g = g
+queue_grows several false old new e g = cc
 
-pub give_answer-requires-clause-row : goal.give_answer-requires-clause-row
-give_answer-requires-clause-row c = row_is_there _ _ _ _ _ c.in_ok-shown.ensures.held
+no_queue_room : (several queued : Bool) (netlist : Netlist) → queued ≡ true → (2 ^ 20 < length netlist.lines + 60) ⊎ (2 ^ 16 < length netlist.memories + 1) → NoRoom several queued netlist
+no_queue_room several true netlist e h = h
+no_queue_room several false netlist e h = cc
 
-pub finish_reads-requires-clause-held : goal.finish_reads-requires-clause-held
-finish_reads-requires-clause-held c = reads_last _ _ _ _ _ _ c.in_ok-shown.ensures.held c.give_answer.ensures.grows.extends
+part_grows : (several queued : Bool) (old new : Netlist) → queued ≡ false → GrowsBy (part_nets several None) old new → GrowsInMemory (nets_by several queued) (one_if queued) old new
+part_grows several true old new e g = cc
+part_grows several false old new e g = grows_without_memory _ _ _ g
 
-pub finish_reads-requires-clause-read : goal.finish_reads-requires-clause-read
-finish_reads-requires-clause-read c =
-    let e3 = extends_twice _ _ _ c.hold_reads.ensures.grows.extends c.give_answer.ensures.grows.extends in
-    let e2 = extends_twice _ _ _ c.hold_wait.ensures.grows.extends e3 in
-    net_lasts _ _ _ _ (extends_twice _ _ _ c.place_address.ensures.adds.grows.extends e2) c.requires.command.read
+part_grows_alone : (several queued : Bool) (old new : Netlist) → queued ≡ false → GrowsBy (part_nets several None) old new → GrowsBy (nets_by several queued) old new
+part_grows_alone several true old new e g = cc
+part_grows_alone several false old new e g = g
 
-pub finish_reads-requires-clause-busy : goal.finish_reads-requires-clause-busy
-finish_reads-requires-clause-busy c = net_lasts _ _ _ _ (extends_twice _ _ _ c.hold_reads.ensures.grows.extends c.give_answer.ensures.grows.extends) c.in_ok-told.ensures.busy
+no_part_room : (several queued : Bool) (netlist : Netlist) → queued ≡ false → 2 ^ 20 < length netlist.lines + part_nets several None → NoRoom several queued netlist
+no_part_room several true netlist e h = cc
+no_part_room several false netlist e h = h
 
-pub finish_reads-requires-clause-waits : goal.finish_reads-requires-clause-waits
-finish_reads-requires-clause-waits c n own = c.give_answer.ensures.still_wait n (c.in_ok-shown.ensures.own_wait n own)
+owned_alone : (reads : HeldReads) (n : ℕ) → held_queue reads ≡ None → owns_reads reads n → sets_reads reads n
+owned_alone Never n e o = o
+owned_alone (Counts unanswered full) n e o = o
+owned_alone (Row row) n e o = o
+owned_alone (Queued queue) n e o = absurd (cc)
 
-pub finish_wait-requires-clause-held : goal.finish_wait-requires-clause-held
-finish_wait-requires-clause-held c =
-    let e3 = extends_twice _ _ _ c.give_answer.ensures.grows.extends c.finish_reads.ensures.grows.extends in
-    stood_is_net _ _ _ _ _ _ (wait_lasts _ _ _ _ _ _ _ c.in_ok-told.ensures.held (extends_twice _ _ _ c.hold_reads.ensures.grows.extends e3))
+both_ok : {X E : Type 0} (r : Result X E) (P Q R : X → Type 0) → ((x : X) → P x → Q x → R x) → IfOk r P → IfOk r Q → IfOk r R
+both_ok (Ok x) P Q R f p q = f x p q
+both_ok (Err e) P Q R f p q = tt
 
-pub finish_wait-requires-clause-read : goal.finish_wait-requires-clause-read
-finish_wait-requires-clause-read c = net_lasts _ _ _ _ (extends_twice _ _ _ c.give_answer.ensures.grows.extends c.finish_reads.ensures.grows.extends) c.in_ok-shown.ensures.shown
+-- ---- with a queue
 
-pub finish_wait-requires-clause-write : goal.finish_wait-requires-clause-write
-finish_wait-requires-clause-write c =
-    let e4 = extends_twice _ _ _ c.give_answer.ensures.grows.extends c.finish_reads.ensures.grows.extends in
-    let e3 = extends_twice _ _ _ c.hold_reads.ensures.grows.extends e4 in
-    let e2 = extends_twice _ _ _ c.hold_wait.ensures.grows.extends e3 in
-    net_lasts _ _ _ _ (extends_twice _ _ _ c.place_address.ensures.adds.grows.extends e2) c.requires.command.write
+pub emit_queued-requires-clause-needed : goal.emit_queued-requires-clause-needed
+emit_queued-requires-clause-needed c = sym c.needs_queue.ensures ∙ c.if-needs_queue.true
 
-pub finish_wait-requires-clause-busy : goal.finish_wait-requires-clause-busy
-finish_wait-requires-clause-busy c =
-    let e3 = extends_twice _ _ _ c.give_answer.ensures.grows.extends c.finish_reads.ensures.grows.extends in
-    net_lasts _ _ _ _ (extends_twice _ _ _ c.hold_reads.ensures.grows.extends e3) c.in_ok-told.ensures.busy
+pub returns-then-needs_queue-clause-nets : goal.returns-then-needs_queue-clause-nets
+returns-then-needs_queue-clause-nets c = c.emit_queued.ensures.nets
 
-pub finish_wait-requires-clause-waits : goal.finish_wait-requires-clause-waits
-finish_wait-requires-clause-waits c n own =
-    let late = c.in_ok-told.ensures.owned n own in
-    let held = c.give_answer.ensures.still_wait n (c.hold_reads.ensures.still_wait n (c.in_ok-told.ensures.own_wait n own)) in
-    c.finish_reads.ensures.waits n (λ o. (let made = c.in_ok-shown.ensures.owned n o in omega (arith, made.0, late.1))) held
+pub returns-then-needs_queue-clause-part : goal.returns-then-needs_queue-clause-part
+returns-then-needs_queue-clause-part c = c.emit_queued.ensures.part
 
-pub answer_tag-requires-clause-tag : goal.answer_tag-requires-clause-tag
-answer_tag-requires-clause-tag c =
-    let e5 = extends_twice _ _ _ c.finish_reads.ensures.grows.extends c.finish_wait.ensures.grows.extends in
-    let e4 = extends_twice _ _ _ c.give_answer.ensures.grows.extends e5 in
-    let e3 = extends_twice _ _ _ c.hold_reads.ensures.grows.extends e4 in
-    let e2 = extends_twice _ _ _ c.hold_wait.ensures.grows.extends e3 in
-    (extends_twice _ _ _ c.place_address.ensures.adds.grows.extends e2).nets _ _ c.requires.command.tag
+pub returns-then-needs_queue-clause-one_tag : goal.returns-then-needs_queue-clause-one_tag
+returns-then-needs_queue-clause-one_tag c = c.emit_queued.ensures.one_tag
 
--- ---- growth
+pub returns-then-needs_queue-clause-registers : goal.returns-then-needs_queue-clause-registers
+returns-then-needs_queue-clause-registers c = c.emit_queued.ensures.registers
 
-pub returns-in_err-answer-clause-grows : goal.returns-in_err-answer-clause-grows
-returns-in_err-answer-clause-grows c =
-    let begun = grows_twice _ _ _ _ _ (adds_grow _ _ _ c.place_address.ensures.adds) c.hold_wait.ensures.grows in
-    grows_fewer _ _ _ _ (omega arith) (grows_twice _ _ _ _ _ (grows_twice _ _ _ _ _ begun c.hold_reads.ensures.grows) c.give_answer.ensures.grows)
+pub returns-then-needs_queue-clause-ignores : goal.returns-then-needs_queue-clause-ignores
+returns-then-needs_queue-clause-ignores c =
+    if_ok c.emit_queued.result _ (IgnoresAnswer c.emit_queued.new.builder c.args.command.now)
+    (λ made part. ignores c.args.several c.args.port.now c.args.nets.now c.emit_queued.new.builder c.args.command.now made c.requires.port part)
+    c.emit_queued.ensures.part
 
-pub returns-in_err-waitrequest-clause-grows : goal.returns-in_err-waitrequest-clause-grows
-returns-in_err-waitrequest-clause-grows c =
-    let begun = grows_twice _ _ _ _ _ (adds_grow _ _ _ c.place_address.ensures.adds) c.hold_wait.ensures.grows in
-    let held = grows_twice _ _ _ _ _ (grows_twice _ _ _ _ _ begun c.hold_reads.ensures.grows) c.give_answer.ensures.grows in
-    grows_fewer _ _ _ _ (omega arith) (grows_twice _ _ _ _ _ held c.finish_reads.ensures.grows)
+pub returns-then-needs_queue-clause-machine : goal.returns-then-needs_queue-clause-machine
+returns-then-needs_queue-clause-machine c = c.emit_queued.ensures.machine
 
-pub returns-in_err-finish_wait-clause-grows : goal.returns-in_err-finish_wait-clause-grows
-returns-in_err-finish_wait-clause-grows c =
-    let begun = grows_twice _ _ _ _ _ (adds_grow _ _ _ c.place_address.ensures.adds) c.hold_wait.ensures.grows in
-    let held = grows_twice _ _ _ _ _ (grows_twice _ _ _ _ _ begun c.hold_reads.ensures.grows) c.give_answer.ensures.grows in
-    grows_fewer _ _ _ _ (omega arith) (grows_twice _ _ _ _ _ (grows_twice _ _ _ _ _ held c.finish_reads.ensures.grows) c.finish_wait.ensures.grows)
+pub returns-then-needs_queue-clause-grows : goal.returns-then-needs_queue-clause-grows
+returns-then-needs_queue-clause-grows c = queue_grows c.args.several _ _ _ (sym c.needs_queue.ensures ∙ c.if-needs_queue.true) c.emit_queued.ensures.grows
 
-pub returns-in_err-answer_tag-clause-grows : goal.returns-in_err-answer_tag-clause-grows
-returns-in_err-answer_tag-clause-grows c =
-    let begun = grows_twice _ _ _ _ _ (adds_grow _ _ _ c.place_address.ensures.adds) c.hold_wait.ensures.grows in
-    let held = grows_twice _ _ _ _ _ (grows_twice _ _ _ _ _ begun c.hold_reads.ensures.grows) c.give_answer.ensures.grows in
-    let set = grows_twice _ _ _ _ _ (grows_twice _ _ _ _ _ held c.finish_reads.ensures.grows) c.finish_wait.ensures.grows in
-    grows_fewer _ _ _ _ (omega arith) (grows_twice _ _ _ _ _ set c.answer_tag.ensures.grows)
+pub returns-then-needs_queue-clause-waits : goal.returns-then-needs_queue-clause-waits
+returns-then-needs_queue-clause-waits c = c.emit_queued.ensures.waits
 
-pub returns-clause-grows : goal.returns-clause-grows
-returns-clause-grows c =
-    let begun = grows_twice _ _ _ _ _ (adds_grow _ _ _ c.place_address.ensures.adds) c.hold_wait.ensures.grows in
-    let held = grows_twice _ _ _ _ _ (grows_twice _ _ _ _ _ begun c.hold_reads.ensures.grows) c.give_answer.ensures.grows in
-    let set = grows_twice _ _ _ _ _ (grows_twice _ _ _ _ _ held c.finish_reads.ensures.grows) c.finish_wait.ensures.grows in
-    grows_fewer _ _ _ _ (omega arith) (grows_twice _ _ _ _ _ set c.answer_tag.ensures.grows)
+pub returns-then-needs_queue-clause-no_more_wait : goal.returns-then-needs_queue-clause-no_more_wait
+returns-then-needs_queue-clause-no_more_wait c = c.emit_queued.ensures.no_more_wait
 
--- ---- registers that wait
+pub returns-then-needs_queue-clause-still_wait_for_write : goal.returns-then-needs_queue-clause-still_wait_for_write
+returns-then-needs_queue-clause-still_wait_for_write c = c.emit_queued.ensures.still_wait_for_write
 
-pub returns-in_err-answer-clause-waits : goal.returns-in_err-answer-clause-waits
-returns-in_err-answer-clause-waits c n w = c.give_answer.ensures.still_wait n (c.hold_reads.ensures.still_wait n (c.hold_wait.ensures.still_wait n (c.place_address.ensures.adds.grows.waits n w)))
+pub returns-then-needs_queue-clause-no_more_wait_for_write : goal.returns-then-needs_queue-clause-no_more_wait_for_write
+returns-then-needs_queue-clause-no_more_wait_for_write c = c.emit_queued.ensures.no_more_wait_for_write
 
-pub returns-in_err-waitrequest-clause-waits : goal.returns-in_err-waitrequest-clause-waits
-returns-in_err-waitrequest-clause-waits c n w =
-    let held = c.hold_wait.ensures.still_wait n (c.place_address.ensures.adds.grows.waits n w) in
-    let within = waiting_within _ n held in
-    c.finish_reads.ensures.waits n (λ o. (let made = c.in_ok-shown.ensures.owned n o in omega (arith, made.0, within))) (c.give_answer.ensures.still_wait n (c.hold_reads.ensures.still_wait n held))
+pub returns-then-needs_queue-clause-full : goal.returns-then-needs_queue-clause-full
+returns-then-needs_queue-clause-full c e = no_queue_room c.args.several _ _ (sym c.needs_queue.ensures ∙ c.if-needs_queue.true) (c.emit_queued.ensures.full e)
 
-pub returns-in_err-finish_wait-clause-waits : goal.returns-in_err-finish_wait-clause-waits
-returns-in_err-finish_wait-clause-waits c n w =
-    let before = c.place_address.ensures.adds.grows.waits n w in
-    let begun = waiting_within _ n before in
-    let held = c.hold_wait.ensures.still_wait n before in
-    let within = waiting_within _ n held in
-    let read = c.finish_reads.ensures.waits n (λ o. (let made = c.in_ok-shown.ensures.owned n o in omega (arith, made.0, within))) (c.give_answer.ensures.still_wait n (c.hold_reads.ensures.still_wait n held)) in
-    c.finish_wait.ensures.waits n (λ o. (let made = c.in_ok-told.ensures.owned n o in omega (arith, made.0, begun))) read
+-- ---- without one
 
-pub returns-in_err-answer_tag-clause-waits : goal.returns-in_err-answer_tag-clause-waits
-returns-in_err-answer_tag-clause-waits c n w =
-    let before = c.place_address.ensures.adds.grows.waits n w in
-    let begun = waiting_within _ n before in
-    let held = c.hold_wait.ensures.still_wait n before in
-    let within = waiting_within _ n held in
-    let read = c.finish_reads.ensures.waits n (λ o. (let made = c.in_ok-shown.ensures.owned n o in omega (arith, made.0, within))) (c.give_answer.ensures.still_wait n (c.hold_reads.ensures.still_wait n held)) in
-    c.answer_tag.ensures.still_wait n (c.finish_wait.ensures.waits n (λ o. (let made = c.in_ok-told.ensures.owned n o in omega (arith, made.0, begun))) read)
+pub emit_part-requires-clause-queue : goal.emit_part-requires-clause-queue
+emit_part-requires-clause-queue c = tt
 
-pub returns-clause-waits : goal.returns-clause-waits
-returns-clause-waits c n w =
-    let before = c.place_address.ensures.adds.grows.waits n w in
-    let begun = waiting_within _ n before in
-    let held = c.hold_wait.ensures.still_wait n before in
-    let within = waiting_within _ n held in
-    let read = c.finish_reads.ensures.waits n (λ o. (let made = c.in_ok-shown.ensures.owned n o in omega (arith, made.0, within))) (c.give_answer.ensures.still_wait n (c.hold_reads.ensures.still_wait n held)) in
-    c.answer_tag.ensures.still_wait n (c.finish_wait.ensures.waits n (λ o. (let made = c.in_ok-told.ensures.owned n o in omega (arith, made.0, begun))) read)
+pub emit_part-requires-clause-queue_tag : goal.emit_part-requires-clause-queue_tag
+emit_part-requires-clause-queue_tag c = tt
 
-pub returns-clause-no_more_wait : goal.returns-clause-no_more_wait
-returns-clause-no_more_wait c n w =
-    let stood = c.in_ok-finish_wait.ensures.no_more_wait n (c.in_ok-answer_tag.ensures.no_more_wait n w) in
-    let late = c.in_ok-waitrequest.ensures.no_more_wait n stood.0 in
-    elim (c.in_ok-shown.ensures.newly n (c.in_ok-answer.ensures.no_more_wait n late.0)) [
-      | inl before ↦ elim (c.in_ok-told.ensures.newly n before) [
-        | inl first ↦ c.place_address.ensures.adds.grows.no_more_wait n first
-        | inr own ↦ absurd (stood.1 own)
-      ]
-      | inr own ↦ absurd (late.1 own)
-    ]
+pub emit_part-requires-clause-queued : goal.emit_part-requires-clause-queued
+emit_part-requires-clause-queued c = sym c.if-needs_queue.false ∙ c.needs_queue.ensures
 
--- ---- what is made
+pub returns-else-needs_queue-clause-nets : goal.returns-else-needs_queue-clause-nets
+returns-else-needs_queue-clause-nets c = c.emit_part.ensures.nets
 
-pub returns-clause-one_tag : goal.returns-clause-one_tag
-returns-clause-one_tag c = one_answer_tag _ c.args.several _ _ _ _ c.in_ok-answer_tag.ensures.value
+pub returns-else-needs_queue-clause-part : goal.returns-else-needs_queue-clause-part
+returns-else-needs_queue-clause-part c = c.emit_part.ensures.part
 
-pub returns-clause-nets : goal.returns-clause-nets
-returns-clause-nets c =
-    let e6 = c.answer_tag.ensures.grows.extends in
-    let e5 = extends_twice _ _ _ c.finish_wait.ensures.grows.extends e6 in
-    let e4 = extends_twice _ _ _ c.finish_reads.ensures.grows.extends e5 in
-    let e3 = extends_twice _ _ _ c.give_answer.ensures.grows.extends e4 in
-    let e2 = extends_twice _ _ _ c.hold_reads.ensures.grows.extends e3 in
-    let e1 = extends_twice _ _ _ c.hold_wait.ensures.grows.extends e2 in
-    let answer = c.in_ok-answer.ensures.nets in
-    record {
-      address = has_lasts _ _ _ _ _ c.in_ok-address.ensures.net e1;
-      read = subst (λ (o : Option NetValue). HasNet c.answer_tag.new.builder c.args.port.now.reads 1 o) (sym c.read_of.ensures) (given _ c.args.port.now.reads c.in_ok-shown.shown.shown (net_lasts _ _ _ _ e3 c.in_ok-shown.ensures.shown));
-      waitrequest = net_lasts _ _ _ _ e5 c.in_ok-waitrequest.ensures.told;
-      answer = record { valid = net_lasts _ _ _ _ e4 answer.valid; word = net_lasts _ _ _ _ e4 answer.word; code = net_lasts _ _ _ _ e4 answer.code };
-      answer_tag = c.in_ok-answer_tag.ensures.net;
-    }
+pub returns-else-needs_queue-clause-one_tag : goal.returns-else-needs_queue-clause-one_tag
+returns-else-needs_queue-clause-one_tag c = c.emit_part.ensures.one_tag
 
-pub returns-clause-part : goal.returns-clause-part
-returns-clause-part c =
-    let e6 = c.answer_tag.ensures.grows.extends in
-    let e5 = extends_twice _ _ _ c.finish_wait.ensures.grows.extends e6 in
-    let e4 = extends_twice _ _ _ c.finish_reads.ensures.grows.extends e5 in
-    let e3 = extends_twice _ _ _ c.give_answer.ensures.grows.extends e4 in
-    let e2 = extends_twice _ _ _ c.hold_reads.ensures.grows.extends e3 in
-    let e1 = extends_twice _ _ _ c.hold_wait.ensures.grows.extends e2 in
-    let e0 = extends_twice _ _ _ c.place_address.ensures.adds.grows.extends e1 in
-    let nets_are = agent_lasts _ _ _ _ c.requires.nets e0 in
-    let wait = wait_lasts _ _ _ _ _ _ _ c.in_ok-told.ensures.held e2 in
-    let held = reads_last _ _ _ _ _ _ c.in_ok-shown.ensures.held e3 in
-    let answers = answers_last _ _ _ _ _ _ c.in_ok-answer.ensures.value e4 in
-    record {
-      served = c.requires.served;
-      nets_are = nets_are;
-      shown = c.in_ok-shown.shown.shown;
-      shown_bit = net_lasts _ _ _ _ e3 c.in_ok-shown.ensures.shown;
-      read_bit = net_lasts _ _ _ _ e0 c.requires.command.read;
-      read = c.read_of.ensures;
-      busy = c.in_ok-told.told.busy;
-      waits = as_given _ _ _ _ _ _ nets_are.waitrequest (net_lasts _ _ _ _ e2 c.in_ok-told.ensures.busy) wait;
-      wait_held = wait;
-      wait_on = wait_goes_on _ _ _ _ _ _ _ c.in_ok-finish_wait.ensures.on e6;
-      address = λ cycle v. c.in_ok-address.ensures.value cycle (e1.valuations cycle v);
-      answer = words_given _ _ _ _ _ _ _ held answers;
-      answers = answers;
-      held = held;
-      on = reads_go_on _ _ _ _ _ _ _ _ c.in_ok-waitrequest.ensures.on e5;
-      one_tag = λ one. (let bears = c.requires.tag one in record { tag = bears.tag; always = λ cycle v. bears.always cycle (e0.valuations cycle v) });
-      tag = one_answer_tag _ c.args.several _ _ _ _ c.in_ok-answer_tag.ensures.value;
-      answer_tag = c.in_ok-answer_tag.ensures.value;
-    }
+pub returns-else-needs_queue-clause-registers : goal.returns-else-needs_queue-clause-registers
+returns-else-needs_queue-clause-registers c =
+    both_ok c.emit_part.result _ _ (λ made. (n : ℕ) → owns made n → IsRegister c.emit_part.new.builder n)
+    (λ made queue set n o. set n (elim o [ inl read ↦ inl (owned_alone made.reads n queue read) | inr wait ↦ inr wait ]))
+    c.emit_part.ensures.queue c.emit_part.ensures.registers
 
-pub returns-clause-registers : goal.returns-clause-registers
-returns-clause-registers c n o =
-    let waits : IsWaiting c.give_answer.new.builder n = c.give_answer.ensures.still_wait n (elim o [
-      | inl read ↦ c.in_ok-shown.ensures.own_wait n read
-      | inr own ↦ c.hold_reads.ensures.still_wait n (c.in_ok-told.ensures.own_wait n own)
-    ]) in
-    register_lasts _ _ n (extends_twice _ _ _ c.finish_reads.ensures.grows.extends (extends_twice _ _ _ c.finish_wait.ensures.grows.extends c.answer_tag.ensures.grows.extends)) (waiting_register _ n c.well_made.ensures waits)
+pub returns-else-needs_queue-clause-ignores : goal.returns-else-needs_queue-clause-ignores
+returns-else-needs_queue-clause-ignores c =
+    if_ok c.emit_part.result _ (IgnoresAnswer c.emit_part.new.builder c.args.command.now)
+    (λ made part. ignores c.args.several c.args.port.now c.args.nets.now c.emit_part.new.builder c.args.command.now made c.requires.port part)
+    c.emit_part.ensures.part
 
-pub returns-clause-ignores : goal.returns-clause-ignores
-returns-clause-ignores c = ignores c.args.several c.args.port.now c.args.nets.now _ c.args.command.now _ c.requires.port (returns-clause-part c)
+no_queue_goes_on : (netlist : Netlist) (port : AgentPort) (command : CommandNets) (made : AgentMade) → held_queue made.reads ≡ None → AnyQueueGoesOn netlist port command made
+no_queue_goes_on netlist port command made none queue is = absurd (cc)
 
-pub returns-clause-machine : goal.returns-clause-machine
-returns-clause-machine c longer e run endless end fit = record {
-  state = _;
-  machine = machine c.args.several c.args.port.now c.args.nets.now c.args.command.now _ longer (part_lasts _ _ _ _ _ _ _ (returns-clause-part c) e) run endless end fit;
-}
+pub returns-else-needs_queue-clause-machine : goal.returns-else-needs_queue-clause-machine
+returns-else-needs_queue-clause-machine c =
+    both_ok c.emit_part.result _ _ (RunsAsAgent c.emit_part.new.builder c.args.port.now c.args.nets.now c.args.command.now)
+    (λ made queue part longer e run endless end fit. record {
+      state = _;
+      machine = machine c.args.several c.args.port.now c.args.nets.now c.args.command.now made longer (part_lasts _ _ _ _ _ _ _ part e) (no_queue_goes_on longer c.args.port.now c.args.command.now made queue) run endless end fit;
+    })
+    c.emit_part.ensures.queue c.emit_part.ensures.part
+
+pub returns-else-needs_queue-clause-grows : goal.returns-else-needs_queue-clause-grows
+returns-else-needs_queue-clause-grows c = part_grows c.args.several _ _ _ (sym c.needs_queue.ensures ∙ c.if-needs_queue.false) c.emit_part.ensures.grows
+
+pub returns-else-needs_queue-clause-waits : goal.returns-else-needs_queue-clause-waits
+returns-else-needs_queue-clause-waits c = c.emit_part.ensures.waits
+
+pub returns-else-needs_queue-clause-no_more_wait : goal.returns-else-needs_queue-clause-no_more_wait
+returns-else-needs_queue-clause-no_more_wait c = c.emit_part.ensures.no_more_wait
+
+pub returns-else-needs_queue-clause-still_wait_for_write : goal.returns-else-needs_queue-clause-still_wait_for_write
+returns-else-needs_queue-clause-still_wait_for_write c = writes_wait_alike _ _ c.emit_part.ensures.grows.memories
+
+pub returns-else-needs_queue-clause-no_more_wait_for_write : goal.returns-else-needs_queue-clause-no_more_wait_for_write
+returns-else-needs_queue-clause-no_more_wait_for_write c =
+    on_ok c.emit_part.result (StillWait c.emit_part.new.builder c.args.builder.now) (StillWaitForWrite c.emit_part.new.builder c.args.builder.now)
+    (λ same. writes_waited_alike _ _ c.emit_part.ensures.grows.memories)
+    c.emit_part.ensures.no_more_wait
+
+pub returns-else-needs_queue-clause-full : goal.returns-else-needs_queue-clause-full
+returns-else-needs_queue-clause-full c e = no_part_room c.args.several _ _ (sym c.needs_queue.ensures ∙ c.if-needs_queue.false) (c.emit_part.ensures.full e)
+
+pub returns-then-needs_queue-clause-grows_alone : goal.returns-then-needs_queue-clause-grows_alone
+returns-then-needs_queue-clause-grows_alone c alone = absurd (let some = sym c.needs_queue.ensures ∙ c.if-needs_queue.true in cc)
+
+pub returns-else-needs_queue-clause-grows_alone : goal.returns-else-needs_queue-clause-grows_alone
+returns-else-needs_queue-clause-grows_alone c alone = part_grows_alone c.args.several _ _ _ alone c.emit_part.ensures.grows

@@ -1,7 +1,7 @@
 use Rattle.std.proofs.Common.{◌≡◌, ℕ, ◌+◌, ◌^◌, ◌≤◌, ◌*◌, max, Bool, false, if◌then◌else◌, sym, subst, ap, ◌∙◌, arith}
 use Rattle.std.proofs.lemmas.Nat.{pow-add}
 use Rattle.netlist.specs.Runs.{Always}
-use Rattle.net_parts.specs.Laws.{if_ok}
+use Rattle.net_parts.specs.Laws.{if_ok, adds_fewer}
 use Rattle.mm_agent.specs.Agents.{PlacesAddress}
 use Rattle.mm_agent.proofs.Levels.{width_reaches, word_placed}
 use Rattle.mm_agent.proofs.fields.place_word.Goals as goal
@@ -20,3 +20,15 @@ returns-clause-value c =
     if_ok c.bits_above.result _ (λ made. Always c.bits_above.new.builder (λ cycle. PlacesAddress c.args.port.now (cycle.net c.args.address.number) (cycle.net made.number)))
     (λ made value cycle v. word_placed _ _ c.lane_bits-low.result _ _ _ c.requires.counts c.lane_bits-low.ensures.power (value cycle v))
     c.bits_above.ensures.value
+
+pub returns-clause-net : goal.returns-clause-net
+returns-clause-net c = c.bits_above.ensures.net
+
+pub returns-clause-adds : goal.returns-clause-adds
+returns-clause-adds c = adds_fewer _ _ _ _ (omega arith) c.bits_above.ensures.adds
+
+pub returns-clause-full : goal.returns-clause-full
+returns-clause-full c e = let full = c.bits_above.ensures.full e in omega (arith, full)
+
+pub bits_above-requires-clause-net : goal.bits_above-requires-clause-net
+bits_above-requires-clause-net c = c.requires.address

@@ -1,8 +1,10 @@
 use Rattle.std.proofs.Common.{◌%◌, ◌^◌, ap, ◌∙◌, arith}
 use Rattle.netlist.specs.Runs.{Always}
-use Rattle.net_parts.specs.Laws.{bit_fits, if_ok, adds_fewer, adds_twice, grows_once}
+use Rattle.net_parts.specs.Laws.{bit_fits, if_ok, adds_fewer, adds_twice, grows_once, extends_twice, net_lasts}
 use Rattle.mm_agent.specs.Reads.{IsNextCount}
 use Rattle.mm_agent.proofs.Levels.{fit_few, next_counted}
+use Rattle.net_parts.specs.Nets.{IsNetOfWidth}
+use Rattle.net_parts.specs.Refusing.{handed_on}
 use Rattle.mm_agent.proofs.reads.next_count.Goals as goal
 
 pub returns-clause-value : goal.returns-clause-value
@@ -24,3 +26,101 @@ returns-clause-value c =
 
 pub returns-clause-adds : goal.returns-clause-adds
 returns-clause-adds c = let more = fit_few 1 c.width-bits.result in adds_fewer _ _ _ _ (omega (arith, more)) (adds_twice _ _ _ _ _ (adds_twice _ _ _ _ _ (adds_twice _ _ _ _ _ (adds_twice _ _ _ _ _ (adds_twice _ _ _ _ _ (grows_once _ _ c.any.ensures.extends c.any.ensures.grows) c.both.ensures.adds) c.fit_bits.ensures.adds) c.fit_bits-2.ensures.adds) (grows_once _ _ c.add.ensures.extends c.add.ensures.grows)) (grows_once _ _ c.sub.ensures.extends c.sub.ensures.grows))
+
+pub returns-in_err-some-clause-adds : goal.returns-in_err-some-clause-adds
+returns-in_err-some-clause-adds c = adds_fewer _ _ _ _ (omega arith) (grows_once _ _ c.any.ensures.extends c.any.ensures.grows)
+
+pub returns-in_err-some-clause-full : goal.returns-in_err-some-clause-full
+returns-in_err-some-clause-full c e = let full = c.any.ensures.full.0 (handed_on _ _ _ _ c.in_err-some.was c.from_residual.ensures.1 e) in omega (arith, full)
+
+pub returns-in_err-answers-clause-adds : goal.returns-in_err-answers-clause-adds
+returns-in_err-answers-clause-adds c = adds_fewer _ _ _ _ (omega arith) (adds_twice _ _ _ _ _ (grows_once _ _ c.any.ensures.extends c.any.ensures.grows) c.both.ensures.adds)
+
+pub returns-in_err-answers-clause-full : goal.returns-in_err-answers-clause-full
+returns-in_err-answers-clause-full c e =
+    let most0 = c.any.ensures.grows.most in
+    let full = c.both.ensures.full (handed_on _ _ _ _ c.in_err-answers.was c.from_residual-in_err-answers.ensures.1 e) in
+    omega (arith, most0, full)
+
+pub returns-in_err-more-clause-adds : goal.returns-in_err-more-clause-adds
+returns-in_err-more-clause-adds c =
+    let few = fit_few 1 c.width-bits.result in
+    adds_fewer _ _ _ _ (omega (arith, few)) (adds_twice _ _ _ _ _ (adds_twice _ _ _ _ _ (grows_once _ _ c.any.ensures.extends c.any.ensures.grows) c.both.ensures.adds) c.fit_bits.ensures.adds)
+
+pub returns-in_err-more-clause-full : goal.returns-in_err-more-clause-full
+returns-in_err-more-clause-full c e =
+    let few = fit_few 1 c.width-bits.result in
+    let most0 = c.any.ensures.grows.most in
+    let most1 = c.both.ensures.adds.most in
+    let full = c.fit_bits.ensures.full (handed_on _ _ _ _ c.in_err-more.was c.from_residual-in_err-more.ensures.1 e) in
+    omega (arith, few, most0, most1, full)
+
+pub returns-in_err-fewer-clause-adds : goal.returns-in_err-fewer-clause-adds
+returns-in_err-fewer-clause-adds c =
+    let few = fit_few 1 c.width-bits.result in
+    adds_fewer _ _ _ _ (omega (arith, few)) (adds_twice _ _ _ _ _ (adds_twice _ _ _ _ _ (adds_twice _ _ _ _ _ (grows_once _ _ c.any.ensures.extends c.any.ensures.grows) c.both.ensures.adds) c.fit_bits.ensures.adds) c.fit_bits-2.ensures.adds)
+
+pub returns-in_err-fewer-clause-full : goal.returns-in_err-fewer-clause-full
+returns-in_err-fewer-clause-full c e =
+    let few = fit_few 1 c.width-bits.result in
+    let most0 = c.any.ensures.grows.most in
+    let most1 = c.both.ensures.adds.most in
+    let most2 = c.fit_bits.ensures.adds.most in
+    let full = c.fit_bits-2.ensures.full (handed_on _ _ _ _ c.in_err-fewer.was c.from_residual-in_err-fewer.ensures.1 e) in
+    omega (arith, few, most0, most1, most2, full)
+
+pub returns-in_err-sum-clause-adds : goal.returns-in_err-sum-clause-adds
+returns-in_err-sum-clause-adds c =
+    let few = fit_few 1 c.width-bits.result in
+    adds_fewer _ _ _ _ (omega (arith, few)) (adds_twice _ _ _ _ _ (adds_twice _ _ _ _ _ (adds_twice _ _ _ _ _ (adds_twice _ _ _ _ _ (grows_once _ _ c.any.ensures.extends c.any.ensures.grows) c.both.ensures.adds) c.fit_bits.ensures.adds) c.fit_bits-2.ensures.adds) (grows_once _ _ c.add.ensures.extends c.add.ensures.grows))
+
+pub returns-in_err-sum-clause-full : goal.returns-in_err-sum-clause-full
+returns-in_err-sum-clause-full c e =
+    let few = fit_few 1 c.width-bits.result in
+    let most0 = c.any.ensures.grows.most in
+    let most1 = c.both.ensures.adds.most in
+    let most2 = c.fit_bits.ensures.adds.most in
+    let most3 = c.fit_bits-2.ensures.adds.most in
+    let full = c.add.ensures.full.0 (handed_on _ _ _ _ c.in_err-sum.was c.from_residual-in_err-sum.ensures.1 e) in
+    omega (arith, few, most0, most1, most2, most3, full)
+
+pub returns-clause-full : goal.returns-clause-full
+returns-clause-full c e =
+    let few = fit_few 1 c.width-bits.result in
+    let most0 = c.any.ensures.grows.most in
+    let most1 = c.both.ensures.adds.most in
+    let most2 = c.fit_bits.ensures.adds.most in
+    let most3 = c.fit_bits-2.ensures.adds.most in
+    let most4 = c.add.ensures.grows.most in
+    let full = c.sub.ensures.full.0 e in
+    omega (arith, few, most0, most1, most2, most3, most4, full)
+
+pub returns-clause-net : goal.returns-clause-net
+returns-clause-net c = if_ok c.sub.result _ (λ next. IsNetOfWidth c.sub.new.self next c.args.unanswered.width) (λ next net. record { is_net = net.0; has_width = net.1 ∙ c.in_ok-sum.ensures.net.1 }) c.sub.ensures.net
+
+pub any-requires : goal.any-requires
+any-requires c = record { a_is = c.requires.unanswered }
+
+pub both-requires-clause-a : goal.both-requires-clause-a
+both-requires-clause-a c = net_lasts _ _ _ _ c.any.ensures.extends c.requires.valid
+
+pub both-requires-clause-b : goal.both-requires-clause-b
+both-requires-clause-b c = record { is_net = c.in_ok-some.ensures.net.0; has_width = c.in_ok-some.ensures.net.1 }
+
+pub fit_bits-requires-clause-net : goal.fit_bits-requires-clause-net
+fit_bits-requires-clause-net c = net_lasts _ _ _ _ (extends_twice _ _ _ c.any.ensures.extends c.both.ensures.adds.grows.extends) c.requires.taken
+
+pub fit_bits-requires-2-clause-net : goal.fit_bits-requires-2-clause-net
+fit_bits-requires-2-clause-net c = net_lasts _ _ _ _ c.fit_bits.ensures.adds.grows.extends c.in_ok-answers.ensures.net
+
+pub add-requires-clause-a_is : goal.add-requires-clause-a_is
+add-requires-clause-a_is c = (extends_twice _ _ _ c.any.ensures.extends (extends_twice _ _ _ c.both.ensures.adds.grows.extends (extends_twice _ _ _ c.fit_bits.ensures.adds.grows.extends c.fit_bits-2.ensures.adds.grows.extends))).nets _ _ c.requires.unanswered
+
+pub add-requires-clause-b_is : goal.add-requires-clause-b_is
+add-requires-clause-b_is c = c.fit_bits-2.ensures.adds.grows.extends.nets _ _ c.in_ok-more.ensures.net.is_net
+
+pub sub-requires-clause-a_is : goal.sub-requires-clause-a_is
+sub-requires-clause-a_is c = c.in_ok-sum.ensures.net.0
+
+pub sub-requires-clause-b_is : goal.sub-requires-clause-b_is
+sub-requires-clause-b_is c = c.add.ensures.extends.nets _ _ c.in_ok-fewer.ensures.net.is_net

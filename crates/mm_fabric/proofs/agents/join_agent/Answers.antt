@@ -1,10 +1,12 @@
-use Rattle.std.proofs.Common.{List, subst, sym, ◌∙◌, arith}
+use Rattle.std.proofs.Common.{List, length, subst, sym, ap, ◌∙◌, inl, inr, arith}
 use Rattle.std.specs.List.{AllZip}
 use Rattle.std.proofs.lemmas.Slice.Zip.{AllZip-long}
-use Rattle.net_parts.specs.Growth.{StillWait}
+use Rattle.net_parts.specs.Growth.{StillWait, StillWaitForWrite}
 use Rattle.net_parts.specs.Refusing.{handed_on}
-use Rattle.net_parts.specs.Laws.{adds_grow, if_ok, on_ok, grows_within, grows_fewer}
+use Rattle.net_parts.specs.Laws.{adds_grow, if_ok, on_ok, grows_without_memory}
 use Rattle.command_nets.specs.declared.nets.CommandNets.{CommandNets}
+use Rattle.netlist.specs.declared.line.Memory.{Memory}
+use Rattle.mm_agent.specs.Memories.{memory_grows_fewer, memory_grows_within, writes_wait_alike, writes_waited_alike}
 use Rattle.mm_fabric.specs.Askers.{AreAsked}
 use Rattle.mm_fabric.specs.Parts.{commands_above}
 use Rattle.mm_fabric.specs.Wide.{ShowsBeatOf}
@@ -18,13 +20,13 @@ pub widen_all-requires-clause-commands : goal.widen_all-requires-clause-commands
 widen_all-requires-clause-commands c = asks_are_commands _ _ _ _ c.requires.commands
 
 pub returns-in_err-wide-clause-grows : goal.returns-in_err-wide-clause-grows
-returns-in_err-wide-clause-grows c = let same = AllZip-long _ _ _ c.requires.commands in grows_fewer _ _ _ _ (omega (arith, same)) (adds_grow _ _ _ c.widen_all.ensures.adds)
+returns-in_err-wide-clause-grows c = let same = AllZip-long _ _ _ c.requires.commands in memory_grows_fewer _ _ _ _ _ _ (omega (arith, same)) (omega arith) (grows_without_memory _ _ _ (adds_grow _ _ _ c.widen_all.ensures.adds))
 
 pub returns-in_err-wide-clause-full : goal.returns-in_err-wide-clause-full
 returns-in_err-wide-clause-full c e =
     let same = AllZip-long _ _ _ c.requires.commands in
     let full = c.widen_all.ensures.full (handed_on _ _ _ _ c.in_err-wide.was c.from_residual.ensures.1 e) in
-    omega (arith, same, full)
+    inl (omega (arith, same, full))
 
 pub emit_agent_part-requires-clause-commands : goal.emit_agent_part-requires-clause-commands
 emit_agent_part-requires-clause-commands c =
@@ -40,7 +42,7 @@ returns-clause-beats c =
     c.emit_agent_part.ensures.commands
 
 pub returns-clause-grows : goal.returns-clause-grows
-returns-clause-grows c = let same = AllZip-long _ _ _ c.requires.commands in grows_within _ _ _ _ _ _ (adds_grow _ _ _ c.widen_all.ensures.adds) c.emit_agent_part.ensures.grows (omega (arith, same))
+returns-clause-grows c = let same = AllZip-long _ _ _ c.requires.commands in memory_grows_within _ _ _ _ _ _ _ _ _ (grows_without_memory _ _ _ (adds_grow _ _ _ c.widen_all.ensures.adds)) c.emit_agent_part.ensures.grows (omega (arith, same)) (omega arith)
 
 pub returns-clause-no_more_wait : goal.returns-clause-no_more_wait
 returns-clause-no_more_wait c =
@@ -50,5 +52,18 @@ pub returns-clause-full : goal.returns-clause-full
 returns-clause-full c e =
     let same = AllZip-long _ _ _ c.requires.commands in
     let most = c.widen_all.ensures.adds.most in
-    let full = c.emit_agent_part.ensures.full e in
-    omega (arith, same, most, full)
+    let memories = ap (length {A = Memory}) c.widen_all.ensures.adds.grows.memories in
+    elim (c.emit_agent_part.ensures.full e) [
+      | inl full ↦ inl (omega (arith, same, most, full))
+      | inr full ↦ inr (omega (arith, memories, full))
+    ]
+
+pub returns-in_err-wide-clause-still_wait_for_write : goal.returns-in_err-wide-clause-still_wait_for_write
+returns-in_err-wide-clause-still_wait_for_write c = writes_wait_alike _ _ c.widen_all.ensures.adds.grows.memories
+
+pub returns-clause-still_wait_for_write : goal.returns-clause-still_wait_for_write
+returns-clause-still_wait_for_write c m w = c.emit_agent_part.ensures.still_wait_for_write m (writes_wait_alike _ _ c.widen_all.ensures.adds.grows.memories m w)
+
+pub returns-clause-no_more_wait_for_write : goal.returns-clause-no_more_wait_for_write
+returns-clause-no_more_wait_for_write c =
+    on_ok c.emit_agent_part.result (StillWaitForWrite c.emit_agent_part.new.builder c.widen_all.new.builder) (StillWaitForWrite c.emit_agent_part.new.builder c.args.builder.now) (λ h m w. writes_waited_alike _ _ c.widen_all.ensures.adds.grows.memories m (h m w)) c.emit_agent_part.ensures.no_more_wait_for_write

@@ -1,11 +1,12 @@
-use Rattle.std.proofs.Common.{◌≡◌, List, sym, subst, ap, ◌∙◌}
+use Rattle.std.proofs.Common.{◌≡◌, ◌≤◌, List, sym, subst, ap, ◌∙◌}
+use Rattle.std.specs.Prelude.{IfOk}
 use Rattle.std.specs.List.{AllZip}
 use Rattle.net_parts.specs.Laws.{if_ok}
 use Rattle.command_nets.specs.declared.nets.CommandNets.{CommandNets}
 use Rattle.mm_arbiter.specs.declared.asker.Asker.{Asker}
 use Rattle.mm_fabric.specs.Asks.{asking_among, asking, AllHaveCommands, IsCommandFor, ShowsAsked}
 use Rattle.mm_fabric.specs.Wide.{AsksFor, ShowsBeatOf}
-use Rattle.mm_fabric.specs.Parts.{commands_above}
+use Rattle.mm_fabric.specs.Parts.{IsAgentPart, commands_above}
 use Rattle.mm_fabric.proofs.Leading.{can_have, all_ask, all_show}
 use Rattle.mm_fabric.proofs.asks.join_hosts.Goals as goal
 
@@ -24,6 +25,12 @@ join_agent-requires-clause-commands c =
     (subst (λ (ys : List CommandNets). AllZip (AsksFor c.args.builder.now c.args.end.now.port) (asking c.args.plan.now.system c.args.number) ys) (sym c.deref-3.ensures.value)
     (all_ask c.args.plan.now c.args.builder.now c.args.number c.args.end.now.port c.args.begun.now (asking c.args.plan.now.system c.args.number) c.in_ok-commands.commands.items c.requires.asks zipped))
 
+pub join_agent-requires-clause-stages : goal.join_agent-requires-clause-stages
+join_agent-requires-clause-stages c = subst (λ n. n ≤ 4) (sym c.stages.ensures) c.well_made.ensures.system.stages
+
+pub returns-clause-part : goal.returns-clause-part
+returns-clause-part c = subst (λ n. IfOk c.join_agent.result (IsAgentPart c.join_agent.new.builder n)) c.stages.ensures c.join_agent.ensures.part
+
 pub returns-clause-beats : goal.returns-clause-beats
 returns-clause-beats c =
     let plain = c.in_ok-askers.ensures.askers ∙ ap (asking_among c.args.number) c.memory_links.ensures in
@@ -33,3 +40,6 @@ returns-clause-beats c =
     (λ part beats. all_show c.join_agent.new.builder c.args.number c.args.begun.now (asking c.args.plan.now.system c.args.number) c.in_ok-commands.commands.items (commands_above part.seats) zipped
     (subst (λ (ys : List CommandNets). AllZip (ShowsBeatOf c.join_agent.new.builder) ys (commands_above part.seats)) c.deref-3.ensures.value beats))
     c.join_agent.ensures.beats
+
+pub returns-clause-bounds : goal.returns-clause-bounds
+returns-clause-bounds c = rw (← c.stages.ensures) c.join_agent.ensures.bounds

@@ -15,8 +15,8 @@ finish_begun-requires-clause-port c = (may_at _ c.args.parts.now c.args.begun.no
 pub finish_begun-requires-clause-trunk : goal.finish_begun-requires-clause-trunk
 finish_begun-requires-clause-trunk c = (may_at _ c.args.parts.now c.args.begun.now c.loop-number.number _ c.loop-number.invariant.rest c.loop-number-test.true c.index-begun-number.is).trunk
 
-pub finish_begun-requires-clause-bounds : goal.finish_begun-requires-clause-bounds
-finish_begun-requires-clause-bounds c = (may_at _ c.args.parts.now c.args.begun.now c.loop-number.number _ c.loop-number.invariant.rest c.loop-number-test.true c.index-begun-number.is).bounds
+pub finish_begun-requires-clause-lone : goal.finish_begun-requires-clause-lone
+finish_begun-requires-clause-lone c = (may_at _ c.args.parts.now c.args.begun.now c.loop-number.number _ c.loop-number.invariant.rest c.loop-number-test.true c.index-begun-number.is).lone
 
 pub finish_begun-requires-clause-few : goal.finish_begun-requires-clause-few
 finish_begun-requires-clause-few c = (may_at _ c.args.parts.now c.args.begun.now c.loop-number.number _ c.loop-number.invariant.rest c.loop-number-test.true c.index-begun-number.is).few

@@ -7,12 +7,13 @@ returns-clause-part c number forward =
     (record {
       bounded = c.requires.port;
       trunk_is = c.requires.trunk;
-      alone = c.requires.bounded;
+      reads = c.requires.bounded;
       forward = forward;
       grows = c.finish_trunk.ensures.grows.extends;
       told_is = c.in_ok-told.ensures.told;
       host = c.in_ok-told.ensures.host;
       route = c.in_ok-told.ensures.route c.args.routes.now number c.args.trunk.now.host.command c.args.commands.now forward;
+      wire = c.in_ok-told.ensures.lone c.args.routes.now number c.args.trunk.now.host.command c.args.commands.now forward;
       registers = c.finish_trunk.ensures.registers;
     })
     c.in_ok-ways.ensures.ways

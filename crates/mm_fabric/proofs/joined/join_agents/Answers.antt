@@ -1,7 +1,7 @@
-use Rattle.std.proofs.Common.{◌≡◌, ◌+◌, false, Result, Ok, Err, refl, subst, sym, ◌∙◌, arith}
+use Rattle.std.proofs.Common.{◌≡◌, ◌+◌, false, Result, Ok, Err, refl, subst, sym, ◌∙◌, inl, inr, arith}
 use Rattle.std.specs.Result.{OnOk, is_err}
 use Rattle.net_parts.specs.Refusing.{handed_on}
-use Rattle.net_parts.specs.Laws.{grows_within, grows_fewer}
+use Rattle.mm_agent.specs.Memories.{memory_grows_fewer, memory_grows_within}
 use Rattle.mm_fabric.specs.Joined.{most_agent_nets, AreJoinedSoFar}
 use Rattle.mm_fabric.proofs.Joining.{none_joined, end_at, one_more_joined}
 use Rattle.mm_fabric.proofs.joined.join_agents.Goals as goal
@@ -28,13 +28,13 @@ pub returns-in_err-part-clause-grows : goal.returns-in_err-part-clause-grows
 returns-in_err-part-clause-grows c =
     let lt = c.loop-number-test.true in
     let few = (end_at _ _ _ _ c.loop-number.number c.args.ends.now _ c.requires.ends c.loop-number.invariant.grows.extends c.loop-number.invariant.waits c.loop-number-test.true c.index-ends-number.is).few in
-    grows_within _ most_agent_nets _ _ _ _ c.loop-number.invariant.grows (grows_fewer _ most_agent_nets _ _ (omega (arith, few)) c.join_hosts.ensures.grows) (omega (arith, lt))
+    memory_grows_within _ most_agent_nets _ _ 1 _ _ _ _ c.loop-number.invariant.grows (memory_grows_fewer _ most_agent_nets _ 1 _ _ (omega (arith, few)) (omega arith) c.join_hosts.ensures.grows) (omega (arith, lt)) (omega (arith, lt))
 
 pub returns-then-is_err-clause-grows : goal.returns-then-is_err-clause-grows
 returns-then-is_err-clause-grows c =
     let lt = c.loop-number-test.true in
     let few = (end_at _ _ _ _ c.loop-number.number c.args.ends.now _ c.requires.ends c.loop-number.invariant.grows.extends c.loop-number.invariant.waits c.loop-number-test.true c.index-ends-number.is).few in
-    grows_within _ most_agent_nets _ _ _ _ c.loop-number.invariant.grows (grows_fewer _ most_agent_nets _ _ (omega (arith, few)) c.join_hosts.ensures.grows) (omega (arith, lt))
+    memory_grows_within _ most_agent_nets _ _ 1 _ _ _ _ c.loop-number.invariant.grows (memory_grows_fewer _ most_agent_nets _ 1 _ _ (omega (arith, few)) (omega arith) c.join_hosts.ensures.grows) (omega (arith, lt)) (omega (arith, lt))
 
 pub returns-in_err-part-clause-full : goal.returns-in_err-part-clause-full
 returns-in_err-part-clause-full c e =
@@ -42,7 +42,14 @@ returns-in_err-part-clause-full c e =
     let few = (end_at _ _ _ _ c.loop-number.number c.args.ends.now _ c.requires.ends c.loop-number.invariant.grows.extends c.loop-number.invariant.waits c.loop-number-test.true c.index-ends-number.is).few in
     let most = c.loop-number.invariant.grows.most in
     let full = c.join_hosts.ensures.full (handed_on _ _ _ _ c.in_err-part.was c.from_residual.ensures.1 e) in
-    omega (arith, lt, few, most, full)
+    let memories = c.loop-number.invariant.grows.most_memories in
+    elim full [
+      | inl nets ↦ inl (omega (arith, lt, few, most, nets))
+      | inr more ↦ inr (omega (arith, lt, memories, more))
+    ]
+
+pub returns-in_err-part-clause-still_wait_for_write : goal.returns-in_err-part-clause-still_wait_for_write
+returns-in_err-part-clause-still_wait_for_write c m w = c.join_hosts.ensures.still_wait_for_write m (c.loop-number.invariant.waits_for_write m w)
 
 pushed : {X E : Type 0} (r : Result X E) (P : Type 0) → OnOk r P → is_err r ≡ false → P
 pushed (Ok x) P h e = h
@@ -57,4 +64,4 @@ loop-number-preserved c =
     let nets = made.nets in
     subst (λ parts. AreJoinedSoFar c.args.plan.now c.args.builder.now c.join_hosts.new.builder c.args.begun.now c.args.ends.now parts (c.loop-number.number + 1)) (sym longer)
     (one_more_joined c.args.plan.now c.args.builder.now c.loop-number.builder c.join_hosts.new.builder c.args.begun.now c.args.ends.now c.loop-number.parts c.loop-number.number c.index-ends-number.result c.in_ok-part.part c.loop-number.invariant c.loop-number-test.true c.index-ends-number.is
-    (record { is = made.part; askers = made.askers; beats = made.beats; told = rw port made.backs }) (rw (port, nets) refl) (grows_fewer _ most_agent_nets _ _ (omega (arith, few)) c.join_hosts.ensures.grows) made.waits made.no_more_wait)
+    (record { is = made.part; askers = made.askers; beats = made.beats; told = rw port made.backs; bounds = made.bounds }) (rw (port, nets) refl) (memory_grows_fewer _ most_agent_nets _ 1 _ _ (omega (arith, few)) (omega arith) c.join_hosts.ensures.grows) made.waits made.no_more_wait made.still_wait_for_write made.no_more_wait_for_write)

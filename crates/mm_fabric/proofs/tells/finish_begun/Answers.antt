@@ -3,11 +3,14 @@ use Rattle.std.specs.List.{AllZip}
 use Rattle.std.proofs.lemmas.Slice.Zip.{AllZip-long}
 use Rattle.net_parts.specs.Laws.{grows_fewer}
 use Rattle.memory_sides.specs.declared.route.Route.{Route}
+use Rattle.command_nets.specs.declared.nets.CommandNets.{CommandNets}
 use Rattle.mm_route.specs.declared.back.BackNets.{BackNets}
 use Rattle.mm_route.specs.Backward.{AreBackNets}
 use Rattle.mm_fabric.specs.Trunks.{IsTrunk}
 use Rattle.mm_fabric.specs.Tells.{IsBackFor, AllHaveSeats}
+use Rattle.mm_fabric.specs.Lone.{IsBoundedRoute}
 use Rattle.mm_fabric.proofs.Telling.{can_have, backs_stand}
+use Rattle.mm_fabric.proofs.LoneSeats.{bounded_route}
 use Rattle.mm_fabric.proofs.tells.finish_begun.Goals as goal
 
 pub backs_for-requires : goal.backs_for-requires
@@ -44,3 +47,12 @@ returns-clause-full c e =
     let many = ap (λ (bs : List BackNets). length bs) c.deref-2.ensures.value ∙ AllZip-long _ _ _ c.in_ok-backs.ensures.backs ∙ ap (λ (rs : List Route). length rs) c.as_slice-routes.ensures in
     let full = c.finish_host_part.ensures.full e in
     omega (arith, many, full)
+
+pub finish_host_part-requires-clause-bounded : goal.finish_host_part-requires-clause-bounded
+finish_host_part-requires-clause-bounded c free =
+    let begun = c.args.begun.now in
+    let zipped = subst (λ (rs : List Route). AllZip (IsBackFor c.args.number c.args.parts.now) rs c.in_ok-backs.backs.items) c.as_slice-routes.ensures c.in_ok-backs.ensures.backs in
+    subst (λ (rs : List Route). IsBoundedRoute c.args.builder.now rs begun.trunk.host.command c.deref.result.now c.deref-2.result.now) (sym c.as_slice-routes.ensures)
+    (subst (λ (cs : List CommandNets). IsBoundedRoute c.args.builder.now begun.routes begun.trunk.host.command cs c.deref-2.result.now) (sym c.deref.ensures.value)
+    (subst (λ (bs : List BackNets). IsBoundedRoute c.args.builder.now begun.routes begun.trunk.host.command begun.commands.items bs) (sym c.deref-2.ensures.value)
+    (bounded_route c.args.builder.now c.args.parts.now c.args.number begun c.in_ok-backs.backs.items (c.requires.lone free) zipped)))

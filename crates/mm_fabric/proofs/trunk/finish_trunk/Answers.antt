@@ -10,7 +10,7 @@ use Rattle.mm_route.specs.Wire.{lone_lasts}
 use Rattle.mm_route.specs.Machine.{RunsAsMachine}
 use Rattle.mm_host.specs.Forms.{held_lasts}
 use Rattle.mm_fabric.specs.declared.trunk.Trunk.{Trunk}
-use Rattle.mm_path.specs.Trees.{room_bits}
+use Rattle.mm_fabric.specs.Trunks.{room_bits}
 use Rattle.mm_fabric.specs.Trunks.{owns, IsTrunk}
 use Rattle.mm_fabric.proofs.trunk.finish_trunk.Goals as goal
 

@@ -1,0 +1,57 @@
+-- A host that alone has a seat at its only agent: what comes back from there bounds its reads.
+use Rattle.std.proofs.Common.{◌≡◌, ℕ, zero, suc, ◌+◌, ◌-◌, ◌≤◌, not, ◌&&◌, List, [], ◌∷◌, refl, sym, subst, ap, ◌∙◌, arith}
+use Rattle.std.specs.List.{AllZip}
+use Rattle.histories.specs.History.{is_raised, one_if}
+use Rattle.netlist.specs.Nets.{NetValue}
+use Rattle.netlist.specs.Netlists.{Netlist}
+use Rattle.netlist.specs.Runs.{Run, cycle_of}
+use Rattle.netlist.specs.Longer.{Extends}
+use Rattle.net_parts.specs.Laws.{extends_twice}
+use Rattle.mm_machines.specs.Machines.{Raw}
+use Rattle.memory_sides.specs.declared.route.Route.{Route}
+use Rattle.mm_route.specs.declared.back.BackNets.{BackNets}
+use Rattle.mm_host.specs.Reads.{unanswered_in}
+use Rattle.mm_fabric.specs.declared.begun.BegunHost.{BegunHost}
+use Rattle.mm_fabric.specs.declared.parts.AgentPart.{AgentPart}
+use Rattle.mm_fabric.specs.declared.parts.Seat.{Seat}
+use Rattle.mm_fabric.specs.Tells.{IsBackFor}
+use Rattle.mm_fabric.specs.Lone.{IsLoneWay, IsBoundedRoute}
+use Rattle.mm_fabric.proofs.Known.{always_valued}
+use Rattle.mm_fabric.proofs.Telling.{same_seat}
+
+pub lone_way_lasts : (old new : Netlist) (parts : List AgentPart) (number : ℕ) (begun : BegunHost) → IsLoneWay old parts number begun → Extends old new → IsLoneWay new parts number begun
+lone_way_lasts old new parts number begun h e = record {
+  lone = h.lone;
+  route = h.route;
+  only = h.only;
+  seat = h.seat;
+  has = h.has;
+  alone = h.alone;
+  beat = λ command only cycle v. h.beat command only cycle (e.valuations cycle v);
+  valid = h.valid;
+  few = h.few;
+  bounds = λ valid seat only longer f. h.bounds valid seat only longer (extends_twice old new longer e f);
+}
+
+-- where a read is shown by both, as many are unanswered
+unanswered_alike : (run : Run) (one other wait valid : NetValue) → ((c : ℕ) → is_raised (run.net c one.number) ≡ is_raised (run.net c other.number)) → (c : ℕ) → unanswered_in run one wait valid c ≡ unanswered_in run other wait valid c
+unanswered_alike run one other wait valid same zero = refl
+unanswered_alike run one other wait valid same (suc c) =
+    ap (λ n. (n - one_if (is_raised (run.net c valid.number))) + one_if (is_raised (run.net c one.number) && not (is_raised (run.net c wait.number)))) (unanswered_alike run one other wait valid same c)
+    ∙ ap (λ t. (unanswered_in run other wait valid c - one_if (is_raised (run.net c valid.number))) + one_if (t && not (is_raised (run.net c wait.number)))) (same c)
+
+pub bounded_route : (netlist : Netlist) (parts : List AgentPart) (number : ℕ) (begun : BegunHost) (backs : List BackNets) → IsLoneWay netlist parts number begun → AllZip (IsBackFor number parts) begun.routes backs →
+    IsBoundedRoute netlist begun.routes begun.trunk.host.command begun.commands.items backs
+bounded_route netlist parts number begun backs way zipped = record {
+  lone = way.lone;
+  few = λ below back one other longer e run endless c. (
+      let last : IsBackFor number parts way.route back =
+      (subst (λ (rs : List Route). AllZip (IsBackFor number parts) rs (back ∷ [])) way.only (subst (λ (bs : List BackNets). AllZip (IsBackFor number parts) begun.routes bs) other zipped)).0 in
+      let is : back ≡ way.seat.back = last.is ∙ ap (λ (s : Seat). s.back) (same_seat number parts way.route last.seat way.seat last.has way.has) in
+      let shown : (k : ℕ) → is_raised (run.net k below.read.number) ≡ is_raised (run.net k way.seat.command.read.number) = λ k. sym (ap (λ (r : Raw). is_raised r.levels.read) (way.beat below one (cycle_of run k) (always_valued netlist longer e run endless k))) in
+      let most = way.bounds way.valid way.seat way.alone longer e run endless c in
+      let same = unanswered_alike run below.read way.seat.command.read way.seat.back.wait way.seat.back.answer.valid shown c in
+      let few = way.few in
+      subst (λ (b : BackNets). unanswered_in run below.read b.wait b.answer.valid c ≤ 15) (sym is) (omega (arith, most, same, few))
+      );
+}

@@ -1,0 +1,46 @@
+-- A host whose only agent is wholly its own: the agent bounds its reads.
+use Rattle.std.specs.Prelude.{◌≡◌, ℕ, ◌<◌, ◌≤◌, true, List, [], ◌∷◌}
+use Rattle.netlist.specs.Nets.{NetValue}
+use Rattle.netlist.specs.Netlists.{Netlist}
+use Rattle.netlist.specs.Runs.{Run, IsEndlessRun}
+use Rattle.netlist.specs.Longer.{Extends}
+use Rattle.memory_sides.specs.Sides.{bound_of}
+use Rattle.memory_sides.specs.declared.route.Route.{Route}
+use Rattle.command_nets.specs.declared.nets.CommandNets.{CommandNets}
+use Rattle.command_nets.specs.declared.nets.AnswerNets.{AnswerNets}
+use Rattle.mm_route.specs.declared.back.BackNets.{BackNets}
+use Rattle.mm_route.specs.Entries.{is_lone}
+use Rattle.mm_host.specs.Reads.{unanswered_in}
+use Rattle.mm_fabric.specs.declared.begun.BegunHost.{BegunHost}
+use Rattle.mm_fabric.specs.declared.parts.Seat.{Seat}
+use Rattle.mm_fabric.specs.declared.parts.AgentPart.{AgentPart}
+use Rattle.mm_fabric.specs.Tells.{HasSeat}
+use Rattle.mm_fabric.specs.Wide.{ShowsBeatOf}
+
+-- in each run, so many reads of the command at most are unanswered
+abbrev pub HasAtMost : Netlist → ℕ → CommandNets → NetValue → AnswerNets → Type 0
+HasAtMost netlist most command wait answer =
+    (longer : Netlist) → Extends netlist longer → (run : Run) → IsEndlessRun longer run → (c : ℕ) → unanswered_in run command.read wait answer.valid c ≤ most
+
+-- a host that alone has a seat at an agent with readdatavalid has no more than the agent bears
+abbrev pub BoundsReads : Netlist → AgentPart → Type 0
+BoundsReads netlist part =
+    part.port.readdatavalid ≡ true → (seat : Seat) → part.seats ≡ seat ∷ [] → HasAtMost netlist (bound_of part.port) seat.command seat.back.wait seat.back.answer
+
+-- the route is to one agent alone, where fewer than 16 reads are unanswered
+pub record IsBoundedRoute (netlist : Netlist) (routes : List Route) (command : CommandNets) (commands : List CommandNets) (backs : List BackNets) : Type 0 where
+  pub lone : is_lone routes command.address.width ≡ true
+  pub few : (below : CommandNets) (back : BackNets) → commands ≡ below ∷ [] → backs ≡ back ∷ [] → HasAtMost netlist 15 below back.wait back.answer
+
+-- the only route of the host leads to an agent with one seat, the host's, which shows its beat; the agent bears fewer than 16 reads
+pub record IsLoneWay (netlist : Netlist) (parts : List AgentPart) (number : ℕ) (begun : BegunHost) : Type 0 where
+  pub lone : is_lone begun.routes begun.trunk.host.command.address.width ≡ true
+  pub route : Route
+  pub only : begun.routes ≡ route ∷ []
+  pub seat : Seat
+  pub has : HasSeat number parts route seat
+  pub alone : has.part.seats ≡ seat ∷ []
+  pub beat : (command : CommandNets) → begun.commands.items ≡ command ∷ [] → ShowsBeatOf netlist command seat.command
+  pub valid : has.part.port.readdatavalid ≡ true
+  pub few : bound_of has.part.port < 16
+  pub bounds : BoundsReads netlist has.part

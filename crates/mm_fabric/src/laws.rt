@@ -1,0 +1,23 @@
+//! What the links of every plan give the parts between its hosts and agents. The function does nothing; its contract is the law.
+
+ghost use Rattle.link_rules.specs.Plans.{PlanTable, IsPlan};
+ghost use Rattle.mm_fabric.specs.Links.{IsLinkedPlan};
+
+use address_map::{ends_are_joined, ends_have_one_number};
+use link_rules::memory_links_are_numbered;
+use memory_plans::{plans_are_memory_plans, routes_are_the_map};
+use mm_path::{plans_are_apart, plans_have_their_ends, spans_fit_ranges};
+
+/// Each host has a route and each agent a host that asks, and all of them are along the plan's links.
+pub(crate) fn plans_are_linked()
+    ensures { (plan : PlanTable) → IsPlan plan → IsLinkedPlan plan }
+{
+    ends_have_one_number();
+    ends_are_joined();
+    memory_links_are_numbered();
+    plans_are_memory_plans();
+    routes_are_the_map();
+    plans_have_their_ends();
+    plans_are_apart();
+    spans_fit_ranges();
+}
