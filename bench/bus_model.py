@@ -1,12 +1,12 @@
 #!/usr/bin/env python3
-"""A model of what stands between a host and its agents, written from the documents and definitions and apart from the program.
+"""A model of what stands between hosts and their agents, written from the documents and definitions and apart from the program.
 
 Reads rows as crates/bus_rows/stdin has them, and prints what crates/bus_rows must print of each:
 
     python3 bench/bus_model.py <crates/bus_rows/stdin | diff - crates/bus_rows/stdout
 
-From the host on stand the part next to it, the route, and for each agent the part next to that. Each says in a cycle what it shows
-below, what it tells above, and takes the clock's edge. No arbiter stands before an agent, since one host alone is joined to each.
+From a host on stand the part next to it and its route; to an agent lead the arbiter of its hosts, the pipeline stages, and the part
+next to it. Each says in a cycle what it shows below, what it tells above, and takes the clock's edge.
 """
 import sys
 
@@ -17,20 +17,23 @@ class Properties:
     """A host or an agent as a row writes it: `32,rw,address=10,valid`."""
 
     hexadecimal = ("at", "first")
+    as_written = ("wait", "late", "from")
 
     def __init__(self, word):
         bits, kinds, *properties = word.split(",")
         self.bits, self.bytes = int(bits), int(bits) // 8
         self.reads, self.writes = "r" in kinds, "w" in kinds
-        self.address = self.pending = self.at = self.first = 0
-        self.latency, self.wait = 1, None
-        self.valid = self.enables = self.counts_words = self.counts_bytes = False
+        self.address = self.pending = self.at = self.first = self.readwait = self.writewait = 0
+        self.latency, self.wait, self.late, self.seats = 1, None, None, None
+        self.valid = self.fixed = self.enables = self.counts_words = self.counts_bytes = False
         for each in properties:
             name, _, value = each.partition("=")
             if name in ("words", "bytes"):
                 name = "counts_" + name
-            if name != "wait" and value:
+            if name not in self.as_written and value:
                 value = int(value, 16 if name in self.hexadecimal else 10)
+            if name == "from":
+                name, value = "seats", [tuple(int(part) for part in (seat + "*1").split("*")[:2]) for seat in value.split("+")]
             setattr(self, name, value or (value if value == 0 else True))
 
     def serves(self, kind):
@@ -49,6 +52,9 @@ class Properties:
 
     def bound(self):
         return max(self.pending, 1)
+
+    def joins(self, number):
+        return any(host == number for host, _ in self.seats)
 
 
 class Access:
@@ -75,10 +81,10 @@ def accesses_of(host, words):
 
 
 class Command:
-    """What is shown inside: a kind, or None where nothing is, an address in bytes, a word and lanes."""
+    """What is shown inside: a kind, or None where nothing is, an address in bytes, a word, lanes, and the host behind the arbiter."""
 
-    def __init__(self, kind, address=0, word=0, lanes=0):
-        self.kind, self.address, self.word, self.lanes = kind, address, word, lanes
+    def __init__(self, kind, address=0, word=0, lanes=0, tag=None):
+        self.kind, self.address, self.word, self.lanes, self.tag = kind, address, word, lanes, tag
 
 
 NOTHING = Command(None)
@@ -123,12 +129,12 @@ class HostPart:
 class Route:
     """Sends each command to its place, None for the default agent. A read waits while another place owes words."""
 
-    def __init__(self, host, agents):
-        self.host, self.agents, self.owed, self.owing = host, agents, 0, None
+    def __init__(self, number, host, agents):
+        self.number, self.host, self.agents, self.owed, self.owing = number, host, agents, 0, None
 
     def place(self, command):
         for number, agent in enumerate(self.agents):
-            if agent.at <= command.address < agent.at + max(agent.span(), self.host.bytes):
+            if agent.joins(self.number) and agent.at <= command.address < agent.at + max(agent.span(), self.host.bytes):
                 return number if agent.serves(command.kind) else None
         return None
 
@@ -159,29 +165,98 @@ class Route:
             self.owing = self.now
 
 
+class Arbiter:
+    """Gives the agent's hosts turns, by round robin with shares. A command that has begun keeps the agent until it is taken."""
+
+    def __init__(self, seats):
+        self.seats, self.holder, self.left, self.open = seats, len(seats) - 1, 0, None
+
+    def choose(self, asks):
+        """The seat that begins a command, None where no host asks, and the holder and its shares after it."""
+        if asks[self.holder] and self.left > 0:
+            return self.holder, self.holder, self.left - 1
+        for behind in range(1, len(self.seats) + 1):
+            seat = (self.holder + behind) % len(self.seats)
+            if asks[seat]:
+                return seat, seat, self.seats[seat][1] - 1
+        return None, self.holder, 0
+
+    def below(self, commands):
+        """Shows the command of the host whose turn it is; `commands` has those of all hosts, by number."""
+        shown = [commands[host] for host, _ in self.seats]
+        if self.open is not None:
+            self.chosen, self.after = self.open, (self.holder, self.left)
+        else:
+            self.chosen, *self.after = self.choose([command.kind is not None for command in shown])
+        if self.chosen is None:
+            return NOTHING
+        self.shown = shown[self.chosen]
+        return Command(self.shown.kind, self.shown.address, self.shown.word, self.shown.lanes, self.seats[self.chosen][0])
+
+    def above(self, wait, answer):
+        """For each host by number whether it waits, and the word that it is given."""
+        self.waits = wait
+        waits = {host: place != self.chosen or wait for place, (host, _) in enumerate(self.seats)}
+        words = {host: answer[1] if answer and answer[0] == host else None for host, _ in self.seats}
+        return waits, words
+
+    def edge(self):
+        self.holder, self.left = self.after
+        self.open = self.chosen if self.chosen is not None and self.waits else None
+
+
+class Stage:
+    """A pipeline stage: two places for commands, of which the first is shown below, and a register for a word and its host."""
+
+    def __init__(self):
+        self.held, self.answer = [], None
+
+    def shows(self):
+        return self.held[0] if self.held else NOTHING
+
+    def waits(self):
+        return len(self.held) == 2
+
+    def edge(self, command, wait, answer):
+        """What is shown above, whether it waits below, and the answer below."""
+        taken = [command] if command.kind is not None and not self.waits() else []
+        self.held = (self.held if wait or not self.held else self.held[1:]) + taken
+        self.answer = answer
+
+
 class AgentPart:
-    """Shows an agent the command at its place in the agent's span. A read isn't shown while as many are unanswered as the agent bears."""
+    """Shows an agent the command at its place in the agent's span. A read isn't shown while as many are unanswered as the agent bears.
+
+    Hosts of words that come are kept in a queue where the agent has readdatavalid, and else in a row, a place for each cycle of latency.
+    """
 
     def __init__(self, agent):
-        self.agent, self.unanswered = agent, 0
+        self.agent, self.tags, self.row, self.word = agent, [], [None] * max(agent.latency, 1), None
 
     def below(self, command):
         self.command = command
-        self.held = command.kind == "r" and self.unanswered >= self.agent.bound()
+        self.held = command.kind == "r" and not self.agent.fixed and len(self.tags) >= self.agent.bound()
         if command.kind is None or self.held:
             return NOTHING
         offset = command.address % self.agent.span()
         unit = 1 if self.agent.counts_bytes else self.agent.bytes
         assert offset % unit == 0
-        return Command(command.kind, offset // unit, command.word, command.lanes)
+        return Command(command.kind, offset // unit, command.word, command.lanes, command.tag)
 
-    def above(self, wait, word):
+    def above(self, wait, port):
+        """Whether the part above waits, and the host and the word that come, from what stands at the agent's port."""
         self.taken = self.command.kind == "r" and not self.held and not wait
-        self.came = word is not None
-        return self.held or wait, word
+        self.port = port
+        if self.agent.fixed:
+            tag, word = self.row[-1], self.word if self.agent.latency == 0 else port
+            return self.held or wait, None if tag is None else (tag, word)
+        return self.held or wait, None if port is None else (self.tags[0], port)
 
     def edge(self):
-        self.unanswered += self.taken - self.came
+        if self.agent.fixed:
+            self.row, self.word = [self.command.tag if self.taken else None] + self.row[:-1], self.port
+            return
+        self.tags = self.tags[self.port is not None :] + ([self.command.tag] if self.taken else [])
 
 
 class Host:
@@ -207,17 +282,26 @@ class Host:
 
 
 class Memory:
-    """An agent: word k is `first` and k at first, and a read's word comes so many cycles after it was accepted."""
+    """An agent: word k is `first` and k at first, and a read's word comes so many cycles after it was accepted.
+
+    With a fixed latency of 0 it is a clock: its word in each cycle is `first` and the cycle's number.
+    """
 
     def __init__(self, number, agent):
-        self.number, self.agent, self.words, self.owed, self.stood, self.kept = number, agent, {}, [], None, True
+        self.number, self.agent, self.words, self.owed, self.held, self.stood, self.kept = number, agent, {}, [], None, 0, True
 
-    def waits(self, cycle):
+    def waits(self, cycle, command):
         pattern = self.agent.wait
-        return bool(pattern) and pattern[cycle % len(pattern)] == "1"
+        if pattern:
+            return pattern[cycle % len(pattern)] == "1"
+        return command.kind is not None and self.stood < (self.agent.readwait if command.kind == "r" else self.agent.writewait)
 
     def gives(self, cycle):
-        return self.owed[0][1] if self.owed and self.owed[0][0] <= cycle else None
+        """What stands at its port: a word, or None, which is high bits where it has no readdatavalid."""
+        if self.agent.fixed and self.agent.latency == 0:
+            return (self.agent.first + cycle) % (1 << self.agent.bits)
+        late = self.agent.late and self.agent.late[cycle % len(self.agent.late)] == "1"
+        return self.owed[0][1] if self.owed and self.owed[0][0] <= cycle and not late else None
 
     def word_at(self, place):
         return self.words.get(place, (self.agent.first + place) % (1 << self.agent.bits))
@@ -229,22 +313,25 @@ class Memory:
     def sees(self, cycle, command, wait, word):
         """What is said of the beat that it accepts."""
         levels = (command.kind, command.address, command.word, command.lanes)
-        self.kept &= self.stood is None or levels == self.stood
-        self.stood = levels if command.kind is not None and wait else None
-        if word is not None:
+        self.kept &= self.held is None or levels == self.held
+        self.held = levels if command.kind is not None and wait else None
+        self.stood = self.stood + 1 if self.held else 0
+        if word is not None and self.owed:
             self.owed.pop(0)
         if command.kind is None or wait:
             return None
         lanes = command.lanes if self.agent.enables else self.agent.all_lanes()
         place = command.address // self.agent.bytes if self.agent.counts_bytes else command.address
         if command.kind == "r":
-            self.owed.append((cycle + self.agent.latency, self.word_at(place)))
-            self.kept &= len(self.owed) <= self.agent.bound()
+            if not (self.agent.fixed and self.agent.latency == 0):
+                self.owed.append((cycle + self.agent.latency, self.word_at(place)))
+            self.kept &= self.agent.fixed or len(self.owed) <= self.agent.bound()
             does = f"reads {command.address:x}"
         else:
             self.write(place, command.word, lanes)
             does = f"writes {command.word:x} to {command.address:x}"
-        return f"agent {self.number} {does}" + (f" in lanes {lanes:x}" if self.agent.enables else "")
+        lanes = f" in lanes {lanes:x}" if self.agent.enables else ""
+        return f"agent {self.number} {does}{lanes} for host {command.tag}"
 
 
 def is_refused(host, agents):
@@ -258,45 +345,107 @@ def is_refused(host, agents):
 
 
 def is_built(host, agents):
-    """What needs no adapter: words of one width, lanes that the agent knows, and agents with waitrequest."""
-    return all(agent.bits == host.bits and agent.wait and (agent.enables or not host.enables) for agent in agents)
+    """What needs no adapter: words of one width, and lanes that the agent knows."""
+    return all(agent.bits == host.bits and (agent.enables or not host.enables) for agent in agents)
 
 
-def step(host, agents, cycles, accesses):
+class System:
+    """What stands between hosts and agents."""
+
+    def __init__(self, row):
+        self.tops = [HostPart(host) for host in row.hosts]
+        self.routes = [Route(number, host, row.agents) for number, host in enumerate(row.hosts)]
+        self.arbiters = [Arbiter(agent.seats) for agent in row.agents]
+        self.pipes = [[Stage() for _ in range(row.stages)] for _ in row.agents]
+        self.parts = [AgentPart(agent) for agent in row.agents]
+
+    def below(self, shown):
+        """What each agent is shown, from what each host shows."""
+        self.commands, asked = [], [route.below(top.below(each)) for top, route, each in zip(self.tops, self.routes, shown)]
+        for place, (arbiter, pipe) in enumerate(zip(self.arbiters, self.pipes)):
+            chosen = arbiter.below([commands[place] for commands in asked])
+            self.commands.append([chosen] + [stage.shows() for stage in pipe])
+        return [part.below(commands[-1]) for part, commands in zip(self.parts, self.commands)]
+
+    def above(self, waits, words):
+        """For each host whether it waits, and the word that it is given."""
+        told = []
+        self.told = [part.above(wait, word) for part, wait, word in zip(self.parts, waits, words)]
+        for arbiter, pipe, (wait, answer) in zip(self.arbiters, self.pipes, self.told):
+            told.append(arbiter.above(pipe[0].waits() if pipe else wait, pipe[0].answer if pipe else answer))
+        return [top.above(*route.above([each[0].get(number) for each in told], [each[1].get(number) for each in told]))
+                for number, (top, route) in enumerate(zip(self.tops, self.routes))]
+
+    def edge(self):
+        for pipe, commands, (wait, answer) in zip(self.pipes, self.commands, self.told):
+            waits = [stage.waits() for stage in pipe[1:]] + [wait]
+            answers = [stage.answer for stage in pipe[1:]] + [answer]
+            for stage, command, wait, answer in zip(pipe, commands, waits, answers):
+                stage.edge(command, wait, answer)
+        for part in self.tops + self.routes + self.arbiters + self.parts:
+            part.edge()
+
+
+class Row:
+    """Hosts with what they do, agents, stages and cycles."""
+
+    def __init__(self, line):
+        first, *words = line.split()
+        self.hosts, self.agents, self.stages, self.cycles, accesses = [Properties(first)], [], 0, None, [[]]
+        for word in words:
+            if "," in word and self.cycles is None:
+                self.agents.append(Properties(word))
+            elif "," in word:
+                self.hosts.append(Properties(word))
+                accesses.append([])
+            elif word.startswith("stages="):
+                self.stages = int(word[7:])
+            elif self.cycles is None:
+                self.cycles = int(word)
+            else:
+                accesses[-1].append(word)
+        self.accesses = [list(accesses_of(host, words)) for host, words in zip(self.hosts, accesses)]
+        for agent in self.agents:
+            agent.seats = agent.seats or [(0, 1)]
+
+    def joined(self, number):
+        return [agent for agent in self.agents if agent.joins(number)]
+
+
+def step(row):
     """The lines of a row."""
-    bench, memories = Host(host, accesses), [Memory(number, agent) for number, agent in enumerate(agents)]
-    top, route, parts = HostPart(host), Route(host, agents), [AgentPart(agent) for agent in agents]
-    for cycle in range(cycles):
-        shown = bench.shows()
-        commands = [part.below(command) for part, command in zip(parts, route.below(top.below(shown)))]
-        waits = [memory.waits(cycle) for memory in memories]
+    hosts = [Host(host, accesses) for host, accesses in zip(row.hosts, row.accesses)]
+    memories = [Memory(number, agent) for number, agent in enumerate(row.agents)]
+    system = System(row)
+    for cycle in range(row.cycles):
+        shown = [host.shows() for host in hosts]
+        commands = system.below(shown)
+        waits = [memory.waits(cycle, command) for memory, command in zip(memories, commands)]
         words = [memory.gives(cycle) for memory in memories]
-        told = [part.above(wait, word) for part, wait, word in zip(parts, waits, words)]
-        wait, word = top.above(*route.above([each[0] for each in told], [each[1] for each in told]))
-        for memory, command, held, given in zip(memories, commands, waits, words):
-            beat = memory.sees(cycle, command, held, given)
+        told = system.above(waits, words)
+        for memory, command, wait, word in zip(memories, commands, waits, words):
+            beat = memory.sees(cycle, command, wait, word)
             if beat:
                 yield f"{cycle} {beat}"
-        bench.sees(shown, wait, word)
-        if word is not None:
-            yield f"{cycle} the host gets {word:x}"
-        for part in [top, route] + parts:
-            part.edge()
-    left = [f"{len(bench.accesses)} not accepted"] if bench.accesses else []
-    left += [f"{bench.unanswered} unanswered"] if bench.unanswered else []
-    kept = bench.kept and all(memory.kept for memory in memories)
+        for number, (host, each, (wait, word)) in enumerate(zip(hosts, shown, told)):
+            host.sees(each, wait, word)
+            if word is not None:
+                yield f"{cycle} host {number} gets {word:x}"
+        system.edge()
+    behind, unanswered = sum(len(host.accesses) for host in hosts), sum(host.unanswered for host in hosts)
+    left = [f"{behind} not accepted"] if behind else []
+    left += [f"{unanswered} unanswered"] if unanswered else []
+    kept = all(each.kept for each in hosts + memories)
     yield f"{' and '.join(left) or 'nothing'} left, {'the rules were kept' if kept else 'a rule was broken'}"
 
 
 def answer(line):
-    first, *words = line.split()
-    count = next(k for k, word in enumerate(words) if "," not in word)
-    host, agents = Properties(first), [Properties(word) for word in words[:count]]
-    if is_refused(host, agents):
+    row = Row(line)
+    if any(is_refused(host, row.joined(number)) for number, host in enumerate(row.hosts)):
         return ["refused"]
-    if not is_built(host, agents):
+    if not all(is_built(host, row.joined(number)) for number, host in enumerate(row.hosts)):
         return ["not built"]
-    return step(host, agents, int(words[count]), accesses_of(host, words[count + 1 :]))
+    return step(row)
 
 
 for line in sys.stdin:

@@ -1,7 +1,7 @@
 #!/usr/bin/env bash
 # Synthesises the modules of examples with yosys beside Verilog of the same function that was written by hand, and prints the
-# logic cells and the flip-flops of both; it fails where ours take more than one and a half times as many. Each pair is first
-# run in lock step with Icarus Verilog over random inputs. Not part of the gate.
+# logic cells, the flip-flops and the levels of logic of both, and where ours take more than one and a half times as many; of examples
+# without a shared agent it fails then. Each pair is first run in lock step with Icarus Verilog over random inputs. Not part of the gate.
 set -eu
 top=$(cd -- "$(dirname -- "$0")/.." && pwd)
 folder=$(mktemp -d)
@@ -10,10 +10,13 @@ for tool in yosys iverilog; do
   command -v "$tool" >/dev/null || { echo "$tool isn't installed"; exit 1; }
 done
 
-# The cells of a file's module, as `LOGIC FLIPFLOPS`.
+# A module and its files: `LOGIC FLIPFLOPS LEVELS`. A bit of memory counts as a logic cell.
 cells_of() {
-  yosys -q -p "read_verilog $1; synth_intel_alm -family cyclonev -top $2; tee -q -o $folder/cells stat" >"$folder/said" 2>&1 || { cat "$folder/said"; exit 1; }
-  awk '/MISTRAL_FF/ { registers += $2 } /MISTRAL_(ALUT|NOT)/ { logic += $2 } END { print logic + 0, registers + 0 }' "$folder/cells"
+  local module=$1 files=${*:2}
+  yosys -q -p "read_verilog $files; synth_intel_alm -family cyclonev -top $module; tee -q -o $folder/cells stat" >"$folder/said" 2>&1 || { cat "$folder/said"; exit 1; }
+  yosys -q -p "read_verilog $files; synth -flatten -lut 6 -top $module; tee -q -o $folder/levels ltp -noff" >"$folder/said" 2>&1 || { cat "$folder/said"; exit 1; }
+  awk '/MISTRAL_FF/ { registers += $2 } /MISTRAL_(ALUT|NOT|MLAB)/ { logic += $2 } END { printf "%d %d ", logic, registers }' "$folder/cells"
+  grep -o 'length=[0-9]*' "$folder/levels" | tail -n 1 | cut -d= -f2
 }
 
 # Whether one count is at most one and a half times the other.
@@ -21,18 +24,34 @@ fits() {
   [ $((2 * $1)) -le $((3 * $2)) ]
 }
 
-# An example, the name of its system, its files.
-compare() {
-  local name=$2 text=$folder/$2.v by_hand=$top/bench/by_hand/$2.v ours theirs
-  (cd "$top/examples/$1" && "$top/avalon" generate "${@:3}") >"$text"
-  "$top/bench/lockstep.py" "$text" "$by_hand" "$folder"
-  ours=$(cells_of "$text" "${name}_interconnect")
-  theirs=$(cells_of "$by_hand" "${name}_interconnect")
+# What it is, a module, our text of it, and the text by hand; whether ours takes at most one and a half times as many.
+weigh() {
+  local what=$1 module=$2 ours theirs
+  "$top/bench/lockstep.py" "$3" "$4" "$folder" "$arbiter" || exit 1
+  ours=$(cells_of "$module" "$3") && theirs=$(cells_of "$module" "$4" "$arbiter") || exit 1
   read -ra ours <<<"$ours"
   read -ra theirs <<<"$theirs"
-  echo "$name: ${ours[0]} logic cells and ${ours[1]} flip-flops; by hand ${theirs[0]} and ${theirs[1]}"
-  fits "${ours[0]}" "${theirs[0]}" && fits "${ours[1]}" "${theirs[1]}" || { echo "$name takes more than one and a half times as many"; exit 1; }
+  echo "$what: ${ours[0]} logic cells, ${ours[1]} flip-flops, ${ours[2]} levels; by hand ${theirs[0]}, ${theirs[1]}, ${theirs[2]}"
+  fits "${ours[0]}" "${theirs[0]}" && fits "${ours[1]}" "${theirs[1]}" || { echo "  more than one and a half times as many" && return 1; }
 }
 
+# An example, the name of its system, its files.
+compare() {
+  local text=$folder/$2.v
+  (cd "$top/examples/$1" && "$top/avalon" generate "${@:3}") >"$text" || exit 1
+  weigh "$2" "$2_interconnect" "$text" "$top/bench/by_hand/$2.v"
+}
+
+# So many hosts that share one agent, and its latency, 0 where it says when a word comes.
+share() {
+  "$top/bench/share.py" "$1" "$2" "$folder"
+  (cd "$folder" && "$top/avalon" generate share.tcl host.tcl agent.tcl) >"$folder/generated.v" || exit 1
+  weigh "$1 hosts, latency $2" share_interconnect "$folder/generated.v" "$folder/share.v" || true
+}
+
+arbiter=$top/bench/by_hand/arbiter.v
 compare control control control.tcl cpu.tcl ram.tcl flash.tcl port.tcl
 compare bus bus bus.tcl master.tcl memory.tcl
+compare shared shared shared.tcl cpu.tcl ram.tcl || true
+for hosts in 2 4 8 16; do share $hosts 1; done
+for hosts in 2 4 8 16; do share $hosts 0; done

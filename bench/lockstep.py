@@ -1,7 +1,8 @@
 #!/usr/bin/env python3
-"""Runs two modules of one header side by side over random inputs, by Icarus Verilog: lockstep.py OURS THEIRS FOLDER.
+"""Runs two modules of one header side by side over random inputs, by Icarus Verilog: lockstep.py OURS THEIRS FOLDER [FURTHER]..
 
-Agents give a word only where they owe one, as the rules ask, since the two may differ where a word comes that nobody asked.
+FURTHER are files with what THEIRS may be made of. Agents with readdatavalid, which have waitrequest too, give a word only where they owe
+one, as the rules ask, since the two may differ where a word comes that nobody asked.
 What an output shows counts only where it means something: a host's word where it is valid, a command where it is shown.
 """
 import re
@@ -42,7 +43,8 @@ def bench(ports):
     names = {n for _, _, n in ports}
     agents = sorted({end_of(n)[0] for _, _, n in outputs if end_of(n)[1] == "grant"})
     hosts = sorted({end_of(n)[0] for w, _, n in outputs if end_of(n)[1] == "waitrequest"})
-    for agent in agents:
+    saying = [agent for agent in agents if f"{agent}$readdatavalid" in names]
+    for agent in saying:
         lines.append(f"  integer owed_{flat(agent)} = 0;")
     for host in hosts:
         lines.append(f"  reg stands_{flat(host)} = 0;")
@@ -63,16 +65,17 @@ def bench(ports):
         lines.append("      end")
     for agent in agents:
         a = flat(agent)
-        lines.append(f"      {a}_waitrequest = ($random & 3) == 0;")
-        lines.append(f"      {a}_readdata = $random;")
-        lines.append(f"      {a}_readdatavalid = owed_{a} > 0 && ($random & 1);")
+        gives = {"waitrequest": "($random & 3) == 0", "readdata": "$random"}
+        if agent in saying:
+            gives["readdatavalid"] = f"owed_{a} > 0 && ($random & 1)"
+        lines += [f"      {a}_{role} = {value};" for role, value in gives.items() if f"{agent}${role}" in names]
     lines.append("      #4 clk = 0;")
     for _, _, name in outputs:
         end, role = end_of(name)
         f = flat(name)
         e = flat(end)
         if role in ("readdata",):
-            when = f"a_{e}_readdatavalid"
+            when = f"a_{e}_readdatavalid" if f"{end}$readdatavalid" in names else f"{e}_read && !a_{e}_waitrequest"
         elif role in ("address", "writedata", "byteenable", "grant"):
             shows = [f"a_{e}_{k}" for k in ("read", "write") if f"{end}${k}" in names]
             if role in ("writedata", "byteenable"):
@@ -83,7 +86,7 @@ def bench(ports):
         else:
             when = "1"
         lines.append(f"      if (({when}) && a_{f} !== b_{f}) begin errors = errors + 1; if (errors < 5) $display(\"cycle %0d: {name} %h %h\", cycle, a_{f}, b_{f}); end")
-    for agent in agents:
+    for agent in saying:
         a = flat(agent)
         lines.append(f"      owed_{a} = owed_{a} + (a_{a}_read && !{a}_waitrequest) - {a}_readdatavalid;")
     for host in hosts:
@@ -98,7 +101,8 @@ def main():
     (folder / "ours.v").write_text(renamed(ours, "ours"))
     (folder / "theirs.v").write_text(renamed(theirs, "theirs"))
     (folder / "lockstep.v").write_text(bench(ports_of(ours)))
-    subprocess.run(["iverilog", "-g2005", "-o", folder / "lockstep", folder / "lockstep.v", folder / "ours.v", folder / "theirs.v"], check=True)
+    files = [folder / "lockstep.v", folder / "ours.v", folder / "theirs.v"] + sys.argv[4:]
+    subprocess.run(["iverilog", "-g2005", "-s", "bench", "-o", folder / "lockstep"] + files, check=True)
     said = subprocess.run(["vvp", folder / "lockstep"], check=True, capture_output=True, text=True).stdout
     print(said, end="")
     if not said.rstrip().startswith("same"):

@@ -1,6 +1,6 @@
 #!/usr/bin/env bash
 # Gives the emitted text of each example to Icarus Verilog and Verilator, as far as they are installed, and says whether they
-# take it without a word; and runs the benches of examples/top and examples/control. Not part of the gate.
+# take it without a word; and runs the benches of examples/top, examples/control and examples/shared. Not part of the gate.
 set -eu
 top=$(cd -- "$(dirname -- "$0")/.." && pwd)
 folder=$(mktemp -d)
@@ -58,3 +58,5 @@ show top board.tcl master.tcl memory.tcl counter.tcl display.tcl
 run_bench top board bench.v board.v master.v memory.v counter.v display.v
 show control control.tcl cpu.tcl ram.tcl flash.tcl port.tcl
 run_bench control control bench.v control.v cpu.v ram.v flash.v port.v
+show shared shared.tcl cpu.tcl ram.tcl
+run_bench shared shared bench.v shared.v cpu.v ram.v

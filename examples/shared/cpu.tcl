@@ -1,0 +1,21 @@
+# a host that writes some words, reads them back, and says whether they are right
+package require -exact qsys 16.0
+set_module_property NAME cpu
+add_interface clk clock end
+add_interface_port clk clk clk Input 1
+add_interface reset reset end
+set_interface_property reset associatedClock clk
+add_interface_port reset reset reset Input 1
+add_interface data avalon start
+set_interface_property data associatedClock clk
+set_interface_property data associatedReset reset
+add_interface_port data d_address address Output 8
+add_interface_port data d_read read Output 1
+add_interface_port data d_write write Output 1
+add_interface_port data d_writedata writedata Output 32
+add_interface_port data d_waitrequest waitrequest Input 1
+add_interface_port data d_readdata readdata Input 32
+add_interface_port data d_readdatavalid readdatavalid Input 1
+add_interface told conduit end
+add_interface_port told done export Output 1
+add_interface_port told good export Output 1
