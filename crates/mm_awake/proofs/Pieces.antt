@@ -1,5 +1,5 @@
 -- A beat without a lane that is taken below a splitter is the only piece of the beat above: it is accepted in that cycle, and its word is given as it comes.
-use Rattle.std.proofs.Common.{ℕ, zero, suc, ◌<◌, ◌≡◌, ◌+◌, ◌*◌, ◌/◌, ◌%◌, ◌^◌, Bool, true, false, not, ◌&&◌, ◌||◌, List, [], ◌∷◌, if◌then◌else◌, arith, refl, sym, ap, ap₂, ◌∙◌, length, map, filter, nat_eq, IsTrue, IsFalse, Some, slice_get, div-one}
+use Rattle.std.proofs.Common.{ℕ, zero, suc, ◌<◌, ◌≡◌, ◌+◌, ◌*◌, ◌/◌, ◌%◌, ◌^◌, Bool, true, false, not, ◌&&◌, ◌||◌, List, [], ◌∷◌, if◌then◌else◌, arith, refl, sym, ap, ap₂, ◌∙◌, length, map, filter, nat_eq, nat_lt, IsTrue, IsFalse, Some, slice_get, div-one}
 use Rattle.std.proofs.lemmas.Bool.{and_parts, not-true}
 use Rattle.std.proofs.Math.Arith.{mod-mul}
 use Rattle.std.proofs.Math.Nat.{mod-one, mod-lt, mod-mod, pow-suc, div-div-eq-div-mul, one-le-pow}
@@ -129,7 +129,7 @@ module _ (room : ℕ) (up down : Port) (state : SplitState) (run : RunsAsSplit r
             come_is = let few = few_come room up down state run end legal owed c h in let set = set_is in omega (arith, few, set)
 
             complete : IsTrue (completes state (suc c))
-            complete = ap₂ (λ n m. nat_eq (suc n) m) come_is set_is
+            complete = ap₂ (λ n m. nat_lt m (suc (suc n))) come_is set_is
 
   pub split_spent : SpentStirs up down end
   split_spent c h spent =

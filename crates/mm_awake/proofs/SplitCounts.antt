@@ -1,6 +1,6 @@
 -- The words below a splitter by number: of those that were asked, which have come, and how many of the next word above.
 use Rattle.std.proofs.Common.{ℕ, zero, suc, ◌<◌, ◌≤◌, ◌≡◌, ◌+◌, ◌-◌, ◌*◌, ◌⊎◌, inl, inr, Bool, true, false, not, ◌&&◌, ◌||◌, List, [], ◌∷◌, ◌++◌, if◌then◌else◌, arith, refl, sym, ap, ap₂, ◌∙◌, length, map, filter, flat_map, nat_eq, nat_lt, IsTrue, IsFalse, Some, slice_get, zero-mul, length-append, ltb-true, tests}
-use Rattle.std.proofs.lemmas.Bool.{and_parts, not-true, eqb-true, eqb-false, ltb-false}
+use Rattle.std.proofs.lemmas.Bool.{and_parts, not-true, eqb-true, ltb-false}
 use Rattle.std.proofs.lemmas.List.{length-map}
 use Rattle.std.proofs.lemmas.List.Elements.{filter-append}
 use Rattle.std.proofs.lemmas.Grind.{flat_map-append}
@@ -424,7 +424,7 @@ module _ (room : ℕ) (up down : Port) (state : SplitState) (run : RunsAsSplit r
               gate =
                   let opened = (and_parts (shows up.commands.signals c) (opens room up down state c) (there c taken)).1 in
                   (and_parts (nat_lt (state.reads c) room) (nat_eq (state.reads c) 0 || are_same (state.set c) (asked_at up down c))
-                  (ap₂ (λ w p. w || p || (nat_lt (state.reads c) room && (nat_eq (state.reads c) 0 || are_same (state.set c) (asked_at up down c)))) (sym read) (sym f) ∙ opened)).1
+                  (ap₂ (λ w p. w || (nat_lt (state.reads c) room && (p || (nat_eq (state.reads c) 0 || are_same (state.set c) (asked_at up down c))))) (sym read) (sym f) ∙ opened)).1
 
               by_gate : (b : Bool) → nat_eq (state.reads c) 0 ≡ b → IsTrue (b || are_same (state.set c) (asked_at up down c)) → (state.set (suc c) ≡ state.set c) ⊎ IsFresh c
               by_gate true g is = inr (record { reads = eqb-true (state.reads c) 0 g; place = (let low = ltb-false 0 (state.place c) f in omega (arith, low)); read = e })
@@ -495,20 +495,14 @@ module _ (room : ℕ) (up down : Port) (state : SplitState) (run : RunsAsSplit r
       by_valid true e false f =
           let is = next true false e f in
           let one = ap one_if e in
-          let low = (has_place c h now e).low in
-          let other = eqb-false (suc (state.come c)) (set_size c) f in
-          record { completed = false; given = run.valid c ∙ ap₂ (λ v d. v && d) e f; sum = omega (arith, is, one); few = by_other is low other; some = λ x. absurd (no_true x) }
-        where
-          by_other : state.come (suc c) ≡ suc (state.come c) → suc (state.come c) ≤ set_size c → (suc (state.come c) ≡ set_size c → ⊥) → state.come (suc c) ≤ set_size c - 1
-          by_other is low other = by_less (nat_lt (suc (state.come c)) (set_size c)) refl
-            where
-              by_less : (b : Bool) → nat_lt (suc (state.come c)) (set_size c) ≡ b → state.come (suc c) ≤ set_size c - 1
-              by_less true g = let less = ltb-true (suc (state.come c)) (set_size c) g in omega (arith, less, is)
-              by_less false g = let high = ltb-false (suc (state.come c)) (set_size c) g in absurd (other (omega (arith, high, low)))
+          let left = ltb-false (set_size c) (suc (suc (state.come c))) f in
+          record { completed = false; given = run.valid c ∙ ap₂ (λ v d. v && d) e f; sum = omega (arith, is, one); few = omega (arith, left, is); some = λ x. absurd (no_true x) }
       by_valid true e true f =
           let is = next true true e f in
           let one = ap one_if e in
-          let last = eqb-true (suc (state.come c)) (set_size c) f in
+          let low = (has_place c h now e).low in
+          let high = ltb-true (set_size c) (suc (suc (state.come c))) f in
+          let last : suc (state.come c) ≡ set_size c = omega (arith, low, high) in
           record { completed = true; given = run.valid c ∙ ap₂ (λ v d. v && d) e f; sum = omega (arith, is, one, last); few = omega (arith, is); some = λ x. (has_place c h now e).last last }
 
   few_next : (c : ℕ) → c < end → Now c → state.come (suc c) ≤ set_size (suc c) - 1

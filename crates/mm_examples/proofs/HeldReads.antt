@@ -25,7 +25,7 @@ module _ (run : RunsAsSplit 1 (split_above one_piece) (split_below one_piece) (s
     pub reads : registers.reads c ≡ 1
 
   abbrev opens_by : ℕ → ℕ → ℕ → Bool
-  opens_by c place reads = nat_lt 0 place || (nat_lt reads 1 && (nat_eq reads 0 || are_same (registers.set c) (asked_at upper lower c)))
+  opens_by c place reads = nat_lt reads 1 && (nat_lt 0 place || (nat_eq reads 0 || are_same (registers.set c) (asked_at upper lower c)))
 
   none_shown : (c : ℕ) → IsOwed c → shows lower.commands.signals c ≡ false
   none_shown c owed = run.shown c ∙ ap₂ (λ p r. opens_by c p r && nat_lt p (length (split_at upper lower c))) owed.place owed.reads

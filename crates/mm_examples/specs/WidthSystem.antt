@@ -111,7 +111,7 @@ abbrev pub before_agent : ℕ → TaggedPort
 before_agent a = first_or
     (record {
       port = port_with (burst_shape 4)
-          (record (beats (0 ∷ 1 ∷ 1 ∷ []) (1 ∷ 0 ∷ 0 ∷ 0 ∷ 0 ∷ 0 ∷ 1 ∷ []) (0 ∷ 0 ∷ 0 ∷ 0 ∷ 0 ∷ 0 ∷ 8 ∷ []) (0xbbaa0000 ∷ 0 ∷ 0 ∷ 0 ∷ 0 ∷ 0 ∷ 0x99887766 ∷ []) 0) { enables = signal (12 ∷ 12 ∷ 12 ∷ 0 ∷ 0 ∷ 0 ∷ 15 ∷ []) })
+          (record (beats (0 ∷ 1 ∷ 1 ∷ []) (1 ∷ 0 ∷ 0 ∷ 0 ∷ 0 ∷ 0 ∷ 1 ∷ []) (0 ∷ 0 ∷ 0 ∷ 0 ∷ 0 ∷ 0 ∷ 8 ∷ []) (0xbbaabbaa ∷ 0 ∷ 0 ∷ 0 ∷ 0 ∷ 0 ∷ 0x99887766 ∷ []) 0) { enables = signal (12 ∷ 12 ∷ 12 ∷ 0 ∷ 0 ∷ 0 ∷ 15 ∷ []) })
           (signal (1 ∷ 1 ∷ 1 ∷ [])) (signal (0 ∷ 1 ∷ [])) (given_by 0);
       answer_tag = signal (0 ∷ 0 ∷ 0 ∷ 1 ∷ []);
     })

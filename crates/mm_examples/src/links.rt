@@ -27,10 +27,10 @@ pub fn wires()
     ensures doubles { CarriesCommands byte_target 0 hides_wait shows_twice 3 → ⊥ }
 {}
 
-/// A half word at address 2 goes to the upper lanes, and its word comes from there. With room for one read the second is held back.
+/// A half word at address 2 stands on both halves, with the upper lanes enabled, and its word comes from there. With room for one read the second is held back.
 /// Lanes that stay where they are break the order; a word that isn't cut out has the wrong bytes.
 pub fn selectors()
-    ensures write { levels_at (select_below (selecting 16)).commands.signals 0 ≡ (record { read = 0; write = 1; address = 0; word = 0xbbaa0000; enables = 0xc; count = 1 }) }
+    ensures write { levels_at (select_below (selecting 16)).commands.signals 0 ≡ (record { read = 0; write = 1; address = 0; word = 0xbbaabbaa; enables = 0xc; count = 1 }) }
     ensures words { map (λ w. w.word) (words_at (select_above (selecting 16)) 5) ≡ 0x4433 ∷ 0x6655 ∷ [] }
     ensures let_through { shows (select_below (selecting 16)).commands.signals 2 ≡ true }
     ensures held_back { shows (select_below (selecting 1)).commands.signals 2 ≡ false }

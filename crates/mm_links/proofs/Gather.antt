@@ -16,7 +16,7 @@ use Rattle.mm_runs.specs.Order.{Answer}
 use Rattle.mm_machines.specs.Link.{is_nonempty}
 use Rattle.mm_machines.specs.Machines.{operations_of_pieces, piece_of}
 use Rattle.mm_links.specs.Selects.{first_of}
-use Rattle.mm_links.specs.Splits.{or_first_piece}
+use Rattle.mm_links.specs.Splits.{or_first_piece, put_piece}
 use Rattle.mm_links.proofs.Lanes.{offset_of, offsets_read, none_added, byte_of_cut, AllBelow, numbers_below, same_where, map_twice}
 
 -- ---- words in pieces
@@ -136,6 +136,23 @@ all_digits bytes from so_far (p ∷ ps) (w ∷ ws) rising small =
       kept_digit bytes p (added_at bytes p w so_far) ps ws rising.1 ∙ own_digit bytes so_far.word (w.word % 256 ^ bytes) p lower digit,
       all_digits bytes (suc p) (added_at bytes p w so_far) ps ws rising.1 (below_next bytes so_far.word (w.word % 256 ^ bytes) p lower digit),
     )
+
+-- what is gathered lies below the place of the next word
+pub gather_below : (bytes from : ℕ) (so_far : Word) (ps : List ℕ) (ws : List Word) → AreRising from ps → so_far.word < 256 ^ (from * bytes) → length ws < length ps →
+    (gather bytes so_far ps ws).word < 256 ^ (first_of (drop (length ws) ps) * bytes)
+gather_below bytes from so_far [] ws rising small h = absurd (omega arith)
+gather_below bytes from so_far (p ∷ ps) [] rising small h = below_later bytes so_far.word from p rising.0 small
+gather_below bytes from so_far (p ∷ ps) (w ∷ ws) rising small h =
+    let lower = below_later bytes so_far.word from p rising.0 small in
+    let digit : w.word % 256 ^ bytes < 256 ^ bytes = mod-lt w.word (one-le-pow bytes 256 (omega arith)) in
+    gather_below bytes (suc p) (added_at bytes p w so_far) ps ws rising.1 (below_next bytes so_far.word (w.word % 256 ^ bytes) p lower digit) (omega arith)
+
+-- a piece over what lies below its place is added to it
+pub put_is_sum : (bytes : ℕ) (ps : List ℕ) (n gathered piece : ℕ) → n < length ps → gathered < 256 ^ (first_of (drop n ps) * bytes) →
+    put_piece bytes (drop n ps) gathered piece ≡ gathered + piece * 256 ^ (first_of (drop n ps) * bytes)
+put_is_sum bytes [] n gathered piece h small = absurd (omega arith)
+put_is_sum bytes (p ∷ ps) zero gathered piece h small = ap (λ k. k + piece * 256 ^ (p * bytes)) (mod-eq_of_lt small)
+put_is_sum bytes (p ∷ ps) (suc n) gathered piece h small = put_is_sum bytes ps n gathered piece (omega arith) small
 
 -- ---- bytes by lanes
 

@@ -1,6 +1,6 @@
 -- A splitter over a machine that drops beats without a lane: what that keeps goes on with the next piece.
 use Rattle.std.proofs.Common.{ℕ, suc, ◌<◌, ◌≤◌, ◌≡◌, ◌+◌, ◌⊎◌, inl, inr, Bool, true, false, ◌&&◌, List, [], ◌∷◌, ◌++◌, if◌then◌else◌, arith, refl, sym, ap, ap₂, subst, ◌∙◌, length, map, flat_map, nat_eq, nat_lt, append-nil, length-append, lt-ltb, ltb-true}
-use Rattle.std.proofs.lemmas.Bool.{and_parts, both_ways, or_left, or_right, eq-eqb}
+use Rattle.std.proofs.lemmas.Bool.{and_parts, both_ways, or_right, eq-eqb}
 use Rattle.std.proofs.lemmas.List.{map-append}
 use Rattle.std.proofs.lemmas.Grind.{flat_map-append}
 use Rattle.std.proofs.Math.Nat.{eq-or-lt_of_le}
@@ -30,7 +30,7 @@ use Rattle.mm_links.proofs.SplitPart.{Acts, above_is, there_is, acts_above, all_
 use Rattle.mm_links.proofs.SplitParts.{parts_of, raws_below, reads_among}
 use Rattle.mm_links.proofs.SplitPrompt.{all_sizes, front_acts}
 use Rattle.mm_links.proofs.SplitPrompt.{accepted as all_accepted}
-use Rattle.mm_links.proofs.Splitting.{shown_above, shown_taken, same_raw, part_there}
+use Rattle.mm_links.proofs.Splitting.{shown_above, shown_taken, same_raw, part_there, goes_further}
 use Rattle.mm_links.proofs.SplitWords.{owed_below, quiet_below}
 
 module _ (law : HasPieces) (carries : Carries) (target : Target) (count deep room : ℕ) (up middle down : Port) (splits : SplitState) (drops : DropState) (may : MaySplit target up.shape middle.shape count) (some_deep : 0 < deep) (split : RunsAsSplit deep up middle splits)
@@ -120,7 +120,7 @@ module _ (law : HasPieces) (carries : Carries) (target : Target) (count deep roo
               absurd (both_ways (takes up c) not_taken done)
 
       open_next : opens deep up middle splits (suc c) ≡ true
-      open_next = or_left _ _ (or_right (is_raised (up.commands.write (suc c))) (nat_lt 0 (splits.place (suc c))) (lt-ltb 0 (splits.place (suc c)) (omega (arith, place))))
+      open_next = goes_further deep up middle splits split end legal (suc c) h still.1 (omega (arith, place))
 
   waits_by : (few c : ℕ) → 0 < few → c + few < end → IsFirstShown false target up c → takes up c ≡ false → operations_taken target up c ≤ operations_taken target down c → words_owed up c ≤ length (words_at up c) →
       operations_taken target up c < length (operations_among target down.shape (shown_at down (suc (c + few))))

@@ -23,7 +23,7 @@ use Rattle.mm_links.proofs.Gather.{HasPieces}
 use Rattle.mm_links.proofs.Groups.{pieces_of_all}
 use Rattle.mm_links.proofs.OneBeat.{flat_mark, shown_raws, flat_taken, flat_shown, flat_at, count_is_one}
 use Rattle.mm_links.proofs.Stages.{all_front, alike_prefix, still_rank}
-use Rattle.mm_links.proofs.Splitting.{stands}
+use Rattle.mm_links.proofs.Splitting.{stands, goes_further}
 use Rattle.mm_links.proofs.SplitTags.{holds_nothing_back, split_hands_on, bears_shown}
 use Rattle.mm_links.proofs.SplitParts.{parts_of, raws_below, place_low, reads_among, raw_enables, asks, reads_of_all, reads_of_raws, asked_above}
 use Rattle.mm_links.proofs.SplitWords.{brings_back, greatest, reads_owe, owed_owes, quiet_below, owed_above, few_above}
@@ -149,9 +149,9 @@ module _ (law : HasPieces) (carries : Carries) (target : Target) (count room : �
       closed : opens room up down state c ≡ false → IsShut c
       closed e = by_bits (is_raised (up.commands.write c)) refl (nat_lt 0 (state.place c)) refl e
         where
-          by_bits : (w : Bool) → is_raised (up.commands.write c) ≡ w → (p : Bool) → nat_lt 0 (state.place c) ≡ p → (w || p) || (nat_lt (state.reads c) room && (nat_eq (state.reads c) 0 || are_same (state.set c) (asked_at up down c))) ≡ false → IsShut c
+          by_bits : (w : Bool) → is_raised (up.commands.write c) ≡ w → (p : Bool) → nat_lt 0 (state.place c) ≡ p → w || (nat_lt (state.reads c) room && (p || (nat_eq (state.reads c) 0 || are_same (state.set c) (asked_at up down c)))) ≡ false → IsShut c
           by_bits true f p g k = cc
-          by_bits false f true g k = cc
+          by_bits false f true g k = absurd (both_ways (opens room up down state c) e (goes_further room up down state run end legal c h shown (ltb-true 0 (state.place c) g)))
           by_bits false f false g k = record { reads = f; first = none_zero (state.place c) g; some = by_reads (state.reads c) k }
             where
               by_reads : (n : ℕ) → nat_lt n room && (nat_eq n 0 || are_same (state.set c) (asked_at up down c)) ≡ false → 0 < n

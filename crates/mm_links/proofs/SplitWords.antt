@@ -1,8 +1,9 @@
 -- The words of a splitter: those that came below are whole groups, and a front of the next one.
-use Rattle.std.proofs.Common.{ℕ, zero, suc, ◌<◌, ◌≤◌, ◌≡◌, ◌+◌, ◌-◌, ◌⊎◌, inl, inr, Bool, true, false, not, ◌&&◌, ◌||◌, List, [], ◌∷◌, ◌++◌, if◌then◌else◌, arith, refl, sym, ap, ap₂, subst, ◌∙◌, length, map, flat_map, zip, drop, nat_lt, nat_eq, append-nil, append_assoc, length-append, ltb-true, ltb-false, lt-ltb}
-use Rattle.std.proofs.lemmas.Bool.{and_parts, eqb-true, eqb-false}
+use Rattle.std.proofs.Common.{ℕ, zero, suc, ◌<◌, ◌≤◌, ◌≡◌, ◌+◌, ◌-◌, ◌*◌, ◌%◌, ◌^◌, max, ◌⊎◌, inl, inr, Bool, true, false, not, ◌&&◌, ◌||◌, List, [], ◌∷◌, ◌++◌, if◌then◌else◌, arith, refl, sym, ap, ap₂, subst, ◌∙◌, length, map, flat_map, zip, drop, nat_lt, nat_eq, append-nil, append_assoc, length-append, ltb-true, ltb-false, lt-ltb}
+use Rattle.std.proofs.lemmas.Bool.{and_parts}
 use Rattle.std.proofs.lemmas.List.{map-append, length-map}
 use Rattle.std.proofs.lemmas.Grind.{flat_map-append}
+use Rattle.std.proofs.Math.Nat.{one-le-pow}
 use Rattle.histories.specs.History.{is_raised, only_if, one_if}
 use Rattle.mm_runs.specs.Views.{Shape}
 use Rattle.mm_runs.specs.Legal.{Word}
@@ -16,10 +17,10 @@ use Rattle.mm_machines.specs.Machines.{MaySplit, piece_of, beat_of, raw_at}
 use Rattle.mm_machines.specs.SideLaws.{same_counts, zip_front}
 use Rattle.mm_links.specs.Selects.{takes_read, first_of}
 use Rattle.mm_links.specs.Splits.{SplitState, RunsAsSplit, split_at, asked_at, are_same, completes, nothing, added, opens}
-use Rattle.mm_links.proofs.Gather.{HasPieces, gather, gather_none, gather_push, added_at, asked_of, pieces_by, answer_by, answers_by, asks_some, cut_of}
+use Rattle.mm_links.proofs.Gather.{HasPieces, gather, gather_none, gather_push, gather_below, put_is_sum, added_at, AreRising, asked_of, asked_rise, pieces_by, answer_by, answers_by, asks_some, cut_of}
 use Rattle.mm_links.proofs.Groups.{Group, IsWhole, AllWhole, whole_push, enables_of, given_of, words_of, pieces_of_all, words_whole, blocks_by, answers_append, all_bytes, all_codes}
 use Rattle.mm_links.proofs.OneBeat.{enables_in, enables_asked, count_is_one}
-use Rattle.mm_links.proofs.Splitting.{shown_above, shown_taken, same_true, either_of}
+use Rattle.mm_links.proofs.Splitting.{shown_above, shown_taken, opened_read, same_true, either_of}
 use Rattle.mm_links.proofs.SplitTags.{bears_shown}
 use Rattle.mm_links.proofs.SplitParts.{asked_above, asked_below, gone, reads_below, going, set_held, write_below, parts_are, joined_length, sent_pieces, sent_of_read}
 use Rattle.mm_links.proofs.Stages.{one_more_word}
@@ -256,9 +257,13 @@ module _ (law : HasPieces) (target : Target) (count : ℕ) (room : ℕ) (up down
       by_list [] e = refl
       by_list (x ∷ o) e = let size = ap length e in let many = now.count in absurd (omega (arith, size, many, none))
 
+  pieces_rise : (e : ℕ) → AreRising 0 (asked_of up.shape down.shape e)
+  pieces_rise e = asked_rise law up.shape down.shape target.shape may.some may.same count may.one may.whole e
+
   -- a word that comes has a place in the next one, and doesn't complete it before its read is accepted
   pub record HasPlace (c : ℕ) : Type 0 where
     pub low : suc (state.come c) ≤ length (state.set c)
+    pub rising : AreRising 0 (state.set c)
     pub last : suc (state.come c) ≡ length (state.set c) → 0 < state.reads c
 
   has_place : (c : ℕ) → c < end → AnswersAreOwed down (suc c) → Now c → is_raised (down.answers.valid c) ≡ true → HasPlace c
@@ -271,8 +276,9 @@ module _ (law : HasPieces) (target : Target) (count : ℕ) (room : ℕ) (up down
       by_reads zero e =
           let none = none_open c now e in
           let place = now.place in
-          let few = (going room up down state run end legal c h (omega (arith, bound, none))).few in
-          record { low = omega (arith, bound, none, place, few); last = λ is. absurd (omega (arith, bound, none, place, few, is)) }
+          let read = going room up down state run end legal c h (omega (arith, bound, none)) in
+          let few = read.few in
+          record { low = omega (arith, bound, none, place, few); rising = subst (AreRising 0) (sym read.set) (pieces_rise (up.commands.enables c)); last = λ is. absurd (omega (arith, bound, none, place, few, is)) }
       by_reads (suc n) e = by_list now.open_reads refl now.same
         where
           by_list : (o : List ℕ) → now.open_reads ≡ o → AllAsk up.shape down.shape (state.set c) o → HasPlace c
@@ -282,7 +288,7 @@ module _ (law : HasPieces) (target : Target) (count : ℕ) (room : ℕ) (up down
               let set = ap length same.0 in
               let few = now.few in
               let place = now.place in
-              record { low = omega (arith, asks, set, few, place); last = λ is. omega (arith, e) }
+              record { low = omega (arith, asks, set, few, place); rising = subst (AreRising 0) same.0 (pieces_rise x); last = λ is. omega (arith, e) }
 
   -- the set stays, or nothing is under way
   set_stays : (c : ℕ) → c < end → (state.set (suc c) ≡ state.set c) ⊎ ((state.reads c ≡ 0) × (length (left c) ≡ 0))
@@ -298,8 +304,7 @@ module _ (law : HasPieces) (target : Target) (count : ℕ) (room : ℕ) (up down
           let shown = shown_taken room up down state run end legal c e in
           let there = shown_above room up down state run end legal c shown in
           let reads : is_raised (up.commands.write c) ≡ false = sym (write_below room up down state run end legal c shown) ∙ f in
-          let may_open : nat_lt 0 (state.place c) || (nat_lt (state.reads c) room && (nat_eq (state.reads c) 0 || are_same (state.set c) (asked_at up down c))) ≡ true =
-          ap (λ w. (w || nat_lt 0 (state.place c)) || (nat_lt (state.reads c) room && (nat_eq (state.reads c) 0 || are_same (state.set c) (asked_at up down c)))) (sym reads) ∙ there.1 in
+          let may_open = (and_parts (nat_lt (state.reads c) room) (nat_lt 0 (state.place c) || (nat_eq (state.reads c) 0 || are_same (state.set c) (asked_at up down c))) (opened_read room up down state run end legal c there.1 reads)).1 in
           by_place (nat_lt 0 (state.place c)) refl there.0 reads may_open
         where
           by_same : (z : Bool) → nat_eq (state.reads c) 0 ≡ z → nat_lt 0 (state.place c) ≡ false → z || are_same (state.set c) (asked_at up down c) ≡ true → (state.set (suc c) ≡ state.set c) ⊎ ((state.reads c ≡ 0) × (length (left c) ≡ 0))
@@ -326,9 +331,9 @@ module _ (law : HasPieces) (target : Target) (count : ℕ) (room : ℕ) (up down
                       clash false p q = cc
 
           by_place : (p : Bool) → nat_lt 0 (state.place c) ≡ p → shows up.commands.signals c ≡ true → is_raised (up.commands.write c) ≡ false →
-              p || (nat_lt (state.reads c) room && (nat_eq (state.reads c) 0 || are_same (state.set c) (asked_at up down c))) ≡ true → (state.set (suc c) ≡ state.set c) ⊎ ((state.reads c ≡ 0) × (length (left c) ≡ 0))
+              p || (nat_eq (state.reads c) 0 || are_same (state.set c) (asked_at up down c)) ≡ true → (state.set (suc c) ≡ state.set c) ⊎ ((state.reads c ≡ 0) × (length (left c) ≡ 0))
           by_place true p shown reads k = inl (next_is true false e f ∙ sym (set_held room up down state run end legal c h shown reads (ltb-true 0 (state.place c) p)))
-          by_place false p shown reads k = by_same (nat_eq (state.reads c) 0) refl p (and_parts (nat_lt (state.reads c) room) (nat_eq (state.reads c) 0 || are_same (state.set c) (asked_at up down c)) k).1
+          by_place false p shown reads k = by_same (nat_eq (state.reads c) 0) refl p k
 
   -- a read is accepted with its last piece, so the set is its own
   set_of_read : (c : ℕ) → c < end → takes_read up c ≡ true → state.set (suc c) ≡ asked_at up down c
@@ -361,6 +366,33 @@ module _ (law : HasPieces) (target : Target) (count : ℕ) (room : ℕ) (up down
       told_as up.shape down.shape (above c ++ up.commands.enables c ∷ []) (words_at up c) (words_at down c) (state.reads c + 1) (state.come c) (state.gathered c) (state.set c) more _ _ _ _ _ _
       (ap (λ b. above c ++ only_if b (up.commands.enables c)) e) refl refl refl refl refl
 
+  -- a word that has a place is the last one where no place is left behind it
+  is_last : (c : ℕ) → HasPlace c → completes state c ≡ true → suc (state.come c) ≡ length (state.set c)
+  is_last c place e = let low = place.low in let high = ltb-true (length (state.set c)) (suc (suc (state.come c))) e in omega (arith, low, high)
+
+  abbrev word_below : ℕ → Word
+  word_below c = record { word = down.answers.word c; code = down.answers.code c }
+
+  abbrev summed : ℕ → Word
+  summed c = added_at down.shape.word_bytes (first_of (drop (state.come c) (state.set c))) (word_below c) (state.gathered c)
+
+  -- what is gathered lies below the place of such a word, which so is added to it
+  added_is_sum : (c : ℕ) (es : List ℕ) (many : ℕ) → Words up.shape down.shape es (words_at up c) (words_at down c) many (state.come c) (state.gathered c) (state.set c) → HasPlace c → added down state c ≡ summed c
+  added_is_sum c es many now place =
+      ap (λ n. word_by n (max (state.gathered c).code (down.answers.code c)))
+      (put_is_sum bytes (state.set c) (state.come c) (state.gathered c).word (down.answers.word c % 256 ^ bytes) place.low small)
+    where
+      bytes : ℕ
+      bytes = down.shape.word_bytes
+
+      below : (gather bytes nothing (state.set c) now.front).word < 256 ^ (first_of (drop (length now.front) (state.set c)) * bytes)
+      below = gather_below bytes 0 nothing (state.set c) now.front place.rising (one-le-pow (0 * bytes) 256 (omega arith)) (let low = place.low in let come = now.place in omega (arith, low, come))
+
+      small : (state.gathered c).word < 256 ^ (first_of (drop (state.come c) (state.set c)) * bytes)
+      small =
+          subst (λ n. (state.gathered c).word < 256 ^ (first_of (drop n (state.set c)) * bytes)) (sym now.place)
+          (subst (λ (w : Word). w.word < 256 ^ (first_of (drop (length now.front) (state.set c)) * bytes)) (sym now.gathers) below)
+
   -- the word that comes in it
   with_word : (c : ℕ) (es : List ℕ) (many : ℕ) → Words up.shape down.shape es (words_at up c) (words_at down c) many (state.come c) (state.gathered c) (state.set c) → state.reads c ≤ many →
       (is_raised (down.answers.valid c) ≡ true → HasPlace c) →
@@ -390,25 +422,17 @@ module _ (law : HasPieces) (target : Target) (count : ℕ) (room : ℕ) (up down
           refl (none_up quiet) (ap (λ b. words_at down c ++ only_if b (record { word = down.answers.word c; code = down.answers.code c })) e ∙ append-nil (words_at down c)) (fewer quiet) (come_is false k e f) (gathered_is false k e f)
       by_valid true e false f =
           let quiet = up_is true false e f in
-          let low = (place e).low in
-          let other = eqb-false (suc (state.come c)) (length (state.set c)) f in
-          let more = more_word up.shape down.shape es (words_at up c) (words_at down c) many (state.come c) (state.gathered c) (state.set c) now (record { word = down.answers.word c; code = down.answers.code c }) (strict (suc (state.come c)) (length (state.set c)) low other) in
-          told_as up.shape down.shape es (words_at up c) (words_at down c ++ record { word = down.answers.word c; code = down.answers.code c } ∷ []) many (suc (state.come c)) (added down state c) (state.set c) more _ _ _ _ _ _
-          refl (none_up quiet) (ap (λ b. words_at down c ++ only_if b (record { word = down.answers.word c; code = down.answers.code c })) e) (fewer quiet) (come_is true false e f) (gathered_is true false e f)
-        where
-          strict : (n m : ℕ) → n ≤ m → (n ≡ m → ⊥) → n < m
-          strict n m h other = by_less (nat_lt n m) refl
-            where
-              by_less : (b : Bool) → nat_lt n m ≡ b → n < m
-              by_less true less = ltb-true n m less
-              by_less false less = let high = ltb-false n m less in absurd (other (omega (arith, h, high)))
+          let left = ltb-false (length (state.set c)) (suc (suc (state.come c))) f in
+          let more = more_word up.shape down.shape es (words_at up c) (words_at down c) many (state.come c) (state.gathered c) (state.set c) now (word_below c) left in
+          told_as up.shape down.shape es (words_at up c) (words_at down c ++ word_below c ∷ []) many (suc (state.come c)) (summed c) (state.set c) more _ _ _ _ _ _
+          refl (none_up quiet) (ap (λ b. words_at down c ++ only_if b (word_below c)) e) (fewer quiet) (come_is true false e f) (gathered_is true false e f ∙ added_is_sum c es many now (place e))
       by_valid true e true f =
-          let last = eqb-true (suc (state.come c)) (length (state.set c)) f in
+          let last = is_last c (place e) f in
           let some = (place e).last last in
           let gives = up_is true true e f in
-          let given : record { word = up.answers.word c; code = up.answers.code c } ≡ added down state c = ap₂ (λ x y. word_by x y) (run.word c) (run.code c) in
-          let more = last_word up.shape down.shape es (words_at up c) (words_at down c) many (state.come c) (state.gathered c) (state.set c) now (record { word = down.answers.word c; code = down.answers.code c }) last (omega (arith, some, most)) in
-          told_as up.shape down.shape es (words_at up c ++ added down state c ∷ []) (words_at down c ++ record { word = down.answers.word c; code = down.answers.code c } ∷ []) (many - 1) 0 nothing (state.set c) more _ _ _ _ _ _
+          let given : record { word = up.answers.word c; code = up.answers.code c } ≡ summed c = ap₂ (λ x y. word_by x y) (run.word c) (run.code c) ∙ added_is_sum c es many now (place e) in
+          let more = last_word up.shape down.shape es (words_at up c) (words_at down c) many (state.come c) (state.gathered c) (state.set c) now (word_below c) last (omega (arith, some, most)) in
+          told_as up.shape down.shape es (words_at up c ++ summed c ∷ []) (words_at down c ++ word_below c ∷ []) (many - 1) 0 nothing (state.set c) more _ _ _ _ _ _
           refl (ap (λ b. words_at up c ++ only_if b (record { word = up.answers.word c; code = up.answers.code c })) gives ∙ ap (λ x. words_at up c ++ x ∷ []) given)
           (ap (λ b. words_at down c ++ only_if b (record { word = down.answers.word c; code = down.answers.code c })) e) (ap (λ b. many - one_if b) gives) (come_is true true e f) (gathered_is true true e f)
 
@@ -551,7 +575,8 @@ module _ (law : HasPieces) (target : Target) (count : ℕ) (room : ℕ) (up down
           gives_open c h now false e = omega arith
           gives_open c h now true e =
               let parts = and_parts (is_raised (down.answers.valid c)) (completes state c) (sym (run.valid c) ∙ e) in
-              let some = (has_place c h (owed_then (suc c) (omega (arith, h)) owed) now parts.0).last (eqb-true (suc (state.come c)) (length (state.set c)) parts.1) in
+              let place = has_place c h (owed_then (suc c) (omega (arith, h)) owed) now parts.0 in
+              let some = place.last (is_last c place parts.1) in
               omega (arith, some)
 
   pub greatest : (c : ℕ) → c ≤ end → AnswersAreOwed down c → AreGreatest (worded (blocks_at target up c)) (codes_of (answers_at target down c))

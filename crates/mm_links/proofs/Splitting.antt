@@ -164,9 +164,10 @@ module _ (room : ℕ) (up down : Port) (state : SplitState) (run : RunsAsSplit r
           let next = run.reads_next c in
           omega (arith, none_asked, next)
 
-      by_parts : (w p l z s z' l' : Bool) → (w || p || (l && (z || s))) ≡ true → (l ≡ true → l' ≡ true) → (z ≡ true → z' ≡ true) → (w || p || (l' && (z' || s))) ≡ true
+      by_parts : (w p l z s z' l' : Bool) → (w || (l && (p || (z || s)))) ≡ true → (l ≡ true → l' ≡ true) → (z ≡ true → z' ≡ true) → (w || (l' && (p || (z' || s)))) ≡ true
       by_parts true p l z s z' l' h f g = refl
-      by_parts false true l z s z' l' h f g = refl
+      by_parts false true true z s z' l' h f g = rw (f refl) refl
+      by_parts false true false z s z' l' h f g = cc
       by_parts false false true true s z' l' h f g = rw (f refl, g refl) refl
       by_parts false false true false true z' l' h f g = rw (f refl) (or_true z')
         where
@@ -179,8 +180,8 @@ module _ (room : ℕ) (up down : Port) (state : SplitState) (run : RunsAsSplit r
       still_open : raw_at up c ≡ raw_at up (suc c) → opens room up down state c ≡ true → opens room up down state (suc c) ≡ true
       still_open same e =
           let levels : levels_at up.commands.signals c ≡ levels_at up.commands.signals (suc c) = ap (λ (r : Raw). r.levels) same in
-          ap₂ (λ (l : Levels) n. is_raised l.write || nat_lt 0 n || (nat_lt (state.reads (suc c)) room && (nat_eq (state.reads (suc c)) 0 || are_same (state.set (suc c)) (asked_by l)))) (sym levels) same_place
-          ∙ ap (λ l. is_raised (up.commands.write c) || nat_lt 0 (state.place c) || (nat_lt (state.reads (suc c)) room && (nat_eq (state.reads (suc c)) 0 || are_same l (asked_at up down c)))) same_set
+          ap₂ (λ (l : Levels) n. is_raised l.write || (nat_lt (state.reads (suc c)) room && (nat_lt 0 n || (nat_eq (state.reads (suc c)) 0 || are_same (state.set (suc c)) (asked_by l))))) (sym levels) same_place
+          ∙ ap (λ l. is_raised (up.commands.write c) || (nat_lt (state.reads (suc c)) room && (nat_lt 0 (state.place c) || (nat_eq (state.reads (suc c)) 0 || are_same l (asked_at up down c))))) same_set
           ∙ by_parts (is_raised (up.commands.write c)) (nat_lt 0 (state.place c)) (nat_lt (state.reads c) room) (nat_eq (state.reads c) 0) (are_same (state.set c) (asked_at up down c))
           (nat_eq (state.reads (suc c)) 0) (nat_lt (state.reads (suc c)) room) e
           (λ less. (let low = ltb-true (state.reads c) room less in lt-ltb (state.reads (suc c)) room (omega (arith, low, fewer))))
@@ -191,6 +192,50 @@ module _ (room : ℕ) (up down : Port) (state : SplitState) (run : RunsAsSplit r
 
           zero_test : (n : ℕ) → n ≡ 0 → nat_eq n 0 ≡ true
           zero_test n e = ap (λ k. nat_eq k 0) e
+
+  -- what lets a read go on
+  pub opened_read : (c : ℕ) → opens room up down state c ≡ true → is_raised (up.commands.write c) ≡ false →
+      nat_lt (state.reads c) room && (nat_lt 0 (state.place c) || (nat_eq (state.reads c) 0 || are_same (state.set c) (asked_at up down c))) ≡ true
+  opened_read c e reads =
+      ap (λ w. w || (nat_lt (state.reads c) room && (nat_lt 0 (state.place c) || (nat_eq (state.reads c) 0 || are_same (state.set c) (asked_at up down c))))) (sym reads) ∙ e
+
+  -- where a part of a read has gone there was room for it, and none was accepted since
+  room_kept : (c : ℕ) → c < end → shows up.commands.signals c ≡ true → is_raised (up.commands.write c) ≡ false → 0 < state.place c → state.reads c < room
+  room_kept zero h shown reads some = let first = run.place_begins in absurd (omega (arith, first, some))
+  room_kept (suc c) h shown reads some = by_take (takes up c) refl (shows up.commands.signals c) refl (takes down c) refl (room_kept c (omega (arith, h)))
+    where
+      place_is : (t d : Bool) → takes up c ≡ t → takes down c ≡ d → state.place (suc c) ≡ (if t then 0 else if d then suc (state.place c) else state.place c)
+      place_is t d e f = run.place_next c ∙ ap₂ (λ a b. if a then 0 else if b then suc (state.place c) else state.place c) e f
+
+      by_take : (t : Bool) → takes up c ≡ t → (s : Bool) → shows up.commands.signals c ≡ s → (d : Bool) → takes down c ≡ d →
+          (shows up.commands.signals c ≡ true → is_raised (up.commands.write c) ≡ false → 0 < state.place c → state.reads c < room) → state.reads (suc c) < room
+      by_take true t s f d g earlier = let first = place_is true d t g in absurd (omega (arith, first, some))
+      by_take false t false f true g earlier = let bad = (shown_above c (shown_taken c g)).0 in cc
+      by_take false t false f false g earlier =
+          let none = ((stands c (omega (arith, h))).1 f).1 in
+          let same = place_is false false t g in
+          absurd (omega (arith, none, same, some))
+      by_take false t true f d g earlier =
+          let level : is_raised (up.commands.write c) ≡ false = ap (λ (r : Raw). is_raised r.levels.write) (same_raw c h f t).0 ∙ reads in
+          let low = by_below d g level in
+          let none_asked : one_if (takes_read up c) ≡ 0 = ap (λ t. one_if (t && not (is_raised (up.commands.write c)))) t in
+          let next = run.reads_next c in
+          omega (arith, low, none_asked, next)
+        where
+          by_below : (d : Bool) → takes down c ≡ d → is_raised (up.commands.write c) ≡ false → state.reads c < room
+          by_below true g level =
+              ltb-true (state.reads c) room (and_parts (nat_lt (state.reads c) room) (nat_lt 0 (state.place c) || (nat_eq (state.reads c) 0 || are_same (state.set c) (asked_at up down c))) (opened_read c (shown_above c (shown_taken c g)).1 level)).0
+          by_below false g level = let same = place_is false false t g in earlier f level (omega (arith, same, some))
+
+  -- a beat of which a part has gone goes on
+  pub goes_further : (c : ℕ) → c < end → shows up.commands.signals c ≡ true → 0 < state.place c → opens room up down state c ≡ true
+  goes_further c h shown some = by_write (is_raised (up.commands.write c)) refl
+    where
+      by_write : (w : Bool) → is_raised (up.commands.write c) ≡ w → opens room up down state c ≡ true
+      by_write true e = ap (λ w. w || (nat_lt (state.reads c) room && (nat_lt 0 (state.place c) || (nat_eq (state.reads c) 0 || are_same (state.set c) (asked_at up down c))))) e
+      by_write false e =
+          ap (λ w. w || (nat_lt (state.reads c) room && (nat_lt 0 (state.place c) || (nat_eq (state.reads c) 0 || are_same (state.set c) (asked_at up down c))))) e
+          ∙ ap₂ (λ l p. l && (p || (nat_eq (state.reads c) 0 || are_same (state.set c) (asked_at up down c)))) (lt-ltb (state.reads c) room (room_kept c h shown e some)) (lt-ltb 0 (state.place c) some)
 
   pub splits : IsExpanderRun (split_parts up.shape down.shape) up down (parts_sent up down) (split_rest up down state) end
   splits = record {

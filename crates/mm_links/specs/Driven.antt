@@ -1,5 +1,5 @@
 -- Runs of the machines, for all that is shown to them: the state is told by recursion on the cycle.
-use Rattle.std.specs.Prelude.{ℕ, zero, suc, ◌+◌, ◌-◌, ◌*◌, ◌/◌, ◌%◌, ◌^◌, max, ◌&&◌, ◌||◌, Bool, true, false, not, List, [], ◌∷◌, ◌++◌, length, drop, if◌then◌else◌, nat_lt, nat_eq}
+use Rattle.std.specs.Prelude.{ℕ, zero, suc, ◌+◌, ◌-◌, ◌/◌, ◌%◌, ◌^◌, max, ◌&&◌, ◌||◌, Bool, true, false, not, List, [], ◌∷◌, ◌++◌, length, drop, if◌then◌else◌, nat_lt, nat_eq}
 use Rattle.histories.specs.History.{is_raised, one_if, only_if}
 use Rattle.mm_runs.specs.Views.{Shape, Signals, Levels, levels_at}
 use Rattle.mm_runs.specs.Commands.{Burst, shows, burst_after}
@@ -9,7 +9,7 @@ use Rattle.mm_runs.specs.Legal.{Word}
 use Rattle.mm_machines.specs.Machines.{Raw, idle, split_parts, beat_of}
 use Rattle.mm_links.specs.Pipes.{PipeSides}
 use Rattle.mm_links.specs.Selects.{offset_in, selected, silenced, first_of}
-use Rattle.mm_links.specs.Splits.{SplitState, pieces_asked, are_same, nothing}
+use Rattle.mm_links.specs.Splits.{SplitState, pieces_asked, are_same, put_piece, nothing}
 use Rattle.mm_links.specs.Bursts.{BurstState, Rest, reads_from, cut_parts, head_or, after_beat, behind_first}
 use Rattle.mm_links.specs.Cuts.{read_burst_of, first_burst, behind_burst, whole_read}
 use Rattle.mm_links.specs.Drops.{DropState, Standing, any_lane, sends, accepted, keeps, owes_itself, sent_beat}
@@ -174,7 +174,8 @@ split_list given c = split_parts given.wide given.narrow idle (record { levels =
 
 abbrev pub split_opens : SplitInputs → SplitRegisters → ℕ → Bool
 split_opens given now c =
-    is_raised (given.inputs.signals.write c) || nat_lt 0 now.place || (nat_lt now.reads given.room && (nat_eq now.reads 0 || are_same now.set (split_pieces given c)))
+    is_raised (given.inputs.signals.write c)
+    || (nat_lt now.reads given.room && (nat_lt 0 now.place || (nat_eq now.reads 0 || are_same now.set (split_pieces given c))))
 
 abbrev pub part_at : List Raw → ℕ → Raw
 part_at [] n = silent_raw
@@ -199,11 +200,11 @@ abbrev pub split_takes : SplitInputs → SplitRegisters → ℕ → Bool
 split_takes given now c = shows given.inputs.signals c && not (is_raised (split_waits given now c))
 
 abbrev pub split_completes : SplitRegisters → Bool
-split_completes now = nat_eq (suc now.come) (length now.set)
+split_completes now = nat_lt (length now.set) (suc (suc now.come))
 
 abbrev pub split_added : SplitInputs → SplitRegisters → ℕ → Word
 split_added given now c = record {
-  word = now.gathered.word + (given.inputs.answers.word c % 256 ^ given.narrow.word_bytes) * 256 ^ (first_of (drop now.come now.set) * given.narrow.word_bytes);
+  word = put_piece given.narrow.word_bytes (drop now.come now.set) now.gathered.word (given.inputs.answers.word c % 256 ^ given.narrow.word_bytes);
   code = max now.gathered.code (given.inputs.answers.code c);
 }
 

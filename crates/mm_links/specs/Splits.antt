@@ -7,7 +7,7 @@ use Rattle.mm_runs.specs.Commands.{shows}
 use Rattle.mm_runs.specs.Legal.{Word}
 use Rattle.mm_machines.specs.Link.{Target, Port, takes}
 use Rattle.mm_machines.specs.Machines.{Raw, raw_at, parts_at, split_parts, beat_of, piece_of, is_touched}
-use Rattle.mm_links.specs.Selects.{takes_read, first_of}
+use Rattle.mm_links.specs.Selects.{takes_read}
 use Rattle.mm_links.specs.Links.{LinkForm}
 
 abbrev pub or_first_piece : List ℕ → List ℕ
@@ -38,25 +38,30 @@ asked_at up down c = pieces_asked up.shape down.shape (beat_of up.shape (levels_
 abbrev pub split_at : Port → Port → ℕ → List Raw
 split_at up down c = parts_at (split_parts up.shape down.shape) up c
 
--- a read begins only where there is room, and no read under way has other pieces
+-- a read goes on only where there is room, and begins only where no read under way has other pieces
 abbrev pub opens : ℕ → Port → Port → SplitState → ℕ → Bool
 opens room up down state c =
-    is_raised (up.commands.write c) || nat_lt 0 (state.place c)
-    || (nat_lt (state.reads c) room && (nat_eq (state.reads c) 0 || are_same (state.set c) (asked_at up down c)))
+    is_raised (up.commands.write c)
+    || (nat_lt (state.reads c) room && (nat_lt 0 (state.place c) || (nat_eq (state.reads c) 0 || are_same (state.set c) (asked_at up down c))))
 
 -- the word that comes below is the last one of a word above
 abbrev pub completes : SplitState → ℕ → Bool
-completes state c = nat_eq (suc (state.come c)) (length (state.set c))
+completes state c = nat_lt (length (state.set c)) (suc (suc (state.come c)))
 
 abbrev pub nothing : Word
 nothing = record { word = 0; code = 0 }
+
+-- a piece over the pieces below it, at the first of these places; with no place it is left out
+abbrev pub put_piece : ℕ → List ℕ → ℕ → ℕ → ℕ
+put_piece bytes [] gathered piece = gathered
+put_piece bytes (place ∷ later) gathered piece = gathered % 256 ^ (place * bytes) + piece * 256 ^ (place * bytes)
 
 -- what is gathered with the word that comes below
 abbrev pub added : Port → SplitState → ℕ → Word
 added down state c =
     let bytes = down.shape.word_bytes in
     record {
-      word = (state.gathered c).word + (down.answers.word c % 256 ^ bytes) * 256 ^ (first_of (drop (state.come c) (state.set c)) * bytes);
+      word = put_piece bytes (drop (state.come c) (state.set c)) (state.gathered c).word (down.answers.word c % 256 ^ bytes);
       code = max (state.gathered c).code (down.answers.code c);
     }
 
