@@ -11,6 +11,7 @@ pub mod Lanes
 pub mod Prompt
 pub mod Reached
 pub mod Beginning
+pub mod Repeating
 pub mod Selecting
 pub mod Splitting
 pub mod DrivenRuns

@@ -12,7 +12,7 @@ use Rattle.mm_runs.specs.Views.Kind.{Reads, Writes}
 use Rattle.mm_runs.specs.Laws.{same_pieces}
 use Rattle.mm_runs.specs.Legal.{Word}
 use Rattle.mm_runs.specs.Order.{HoldsAnswers}
-use Rattle.mm_runs.specs.Operations.{Beat, operations_of, filled_lanes, pieces}
+use Rattle.mm_runs.specs.Operations.{Beat, byte_at, operations_of, filled_lanes, pieces}
 use Rattle.mm_runs.specs.Commands.{Transfer, shows, is_held, is_of_reads, burst_before, byte_address, words_before}
 use Rattle.mm_machines.specs.Link.{Target, Port, Marked, KeepsLinkLaw, AreLegalAt, AnswersAreOwed, takes, marked_at, taken_at, shown_at, read_beats, words_at, words_owed, answers_at, bytes_in, beat_operations, is_nonempty, reads_of, HasGreatestCode, IsAnswered}
 use Rattle.mm_machines.specs.Blocks.{block, blocks_at, worded}
@@ -29,6 +29,7 @@ use Rattle.mm_links.specs.Selects.{RunsAsSelect, IsSelectPlan, EnablesFit, selec
 use Rattle.mm_links.proofs.Alike.{IsAlike}
 use Rattle.mm_links.proofs.Gated.{gate_carries, gate_joins, gate_lanes, gate_quiet, gate_goes_on, owed_counts, word_counts}
 use Rattle.mm_links.proofs.OneBeat.{aligned, whole_address, raw_by, beat_by, transfer_by, one_transfer, reads_in, reads_of_one, reads_append, kept_left, free_before, count_is_one}
+use Rattle.mm_links.proofs.Repeating.{byte_of_moved, byte_of_repeated, same_operations_there}
 use Rattle.mm_links.proofs.Lanes.{SelectsBeats, cut, bytes_moved, lanes_count, lies_within}
 
 abbrev word_by : ℕ → ℕ → Word
@@ -190,7 +191,7 @@ module _ (law : SelectsBeats) (target : Target) (up down : Port) (many room : �
 
     -- the beat below is the selected one
     below_beat : (c : ℕ) → select_of target.shape.word_bytes (beat_by (if is_raised (up.commands.write c) then Writes else Reads) (byte_address up.shape (up.commands.address c) + 0 * up.shape.word_bytes) (if is_raised (up.commands.write c) then up.commands.word c else 0) (up.commands.enables c))
-        ≡ beat_by (if is_raised (up.commands.write c) then Writes else Reads) (byte_address down.shape (down.commands.address c) + 0 * down.shape.word_bytes) (if is_raised (up.commands.write c) then down.commands.word c else 0) (down.commands.enables c)
+        ≡ beat_by (if is_raised (up.commands.write c) then Writes else Reads) (byte_address down.shape (down.commands.address c) + 0 * down.shape.word_bytes) ((if is_raised (up.commands.write c) then up.commands.word c else 0) * 256 ^ offset c) (down.commands.enables c)
     below_beat c =
         let a = byte_address up.shape (up.commands.address c) in
         let none = zero-mul up.shape.word_bytes in
@@ -198,16 +199,22 @@ module _ (law : SelectsBeats) (target : Target) (up down : Port) (many room : �
         let there : (a + 0 * up.shape.word_bytes) % target.shape.word_bytes ≡ offset c = ap₂ (λ x y. x % y) here (sym plan.same) in
         let address : down.commands.address c ≡ a - offset c = ap (λ (l : Levels). l.address) (run.levels c) in
         let enables : down.commands.enables c ≡ up.commands.enables c * 2 ^ offset c = ap (λ (l : Levels). l.enables) (run.levels c) in
-        let word : down.commands.word c ≡ up.commands.word c * 256 ^ offset c = ap (λ (l : Levels). l.word) (run.levels c) in
         beat_is (if is_raised (up.commands.write c) then Writes else Reads) _ _ _ _ _ _
         (ap₂ (λ x y. x - y) here there ∙ sym (whole_address (a - offset c) down.shape.unit_bytes down.shape.word_bytes plan.bytes (aligned a down.shape.word_bytes))
         ∙ ap (λ x. byte_address down.shape x + 0 * down.shape.word_bytes) (sym address))
-        (ap (λ s. (if is_raised (up.commands.write c) then up.commands.word c else 0) * 256 ^ s) there ∙ by_write (is_raised (up.commands.write c)) (sym word))
+        (ap (λ s. (if is_raised (up.commands.write c) then up.commands.word c else 0) * 256 ^ s) there)
         (ap (λ s. up.commands.enables c * 2 ^ s) there ∙ sym enables)
+
+    -- the word below has the same bytes there as one that is moved
+    same_bytes : (c i : ℕ) → i < up.shape.word_bytes → byte_at ((if is_raised (up.commands.write c) then up.commands.word c else 0) * 256 ^ offset c) (offset c + i) ≡ byte_at (if is_raised (up.commands.write c) then down.commands.word c else 0) (offset c + i)
+    same_bytes c i h = by_write (is_raised (up.commands.write c))
       where
-        by_write : (b : Bool) → up.commands.word c * 256 ^ offset c ≡ down.commands.word c → (if b then up.commands.word c else 0) * 256 ^ offset c ≡ (if b then down.commands.word c else 0)
-        by_write true e = e
-        by_write false e = zero-mul (256 ^ offset c)
+        by_write : (b : Bool) → byte_at ((if b then up.commands.word c else 0) * 256 ^ offset c) (offset c + i) ≡ byte_at (if b then down.commands.word c else 0) (offset c + i)
+        by_write false = ap (λ n. byte_at n (offset c + i)) (zero-mul (256 ^ offset c))
+        by_write true =
+            byte_of_moved (up.commands.word c) (offset c) i
+            ∙ sym (byte_of_repeated (up.commands.address c * up.shape.unit_bytes) up.shape.word_bytes many down.shape.word_bytes (up.commands.word c) i plan.some (let more = plan.more in omega (arith, more)) plan.whole h)
+            ∙ ap (λ n. byte_at n (offset c + i)) (sym (ap (λ (l : Levels). l.word) (run.levels c)))
 
     same_operations : (c : ℕ) → c < end → shows up.commands.signals c ≡ true → operations_of down.shape target.shape target.span (beat_by (if is_raised (up.commands.write c) then Writes else Reads) (byte_address down.shape (down.commands.address c) + 0 * down.shape.word_bytes) (if is_raised (up.commands.write c) then down.commands.word c else 0) (down.commands.enables c))
         ≡ operations_of up.shape target.shape target.span (beat_by (if is_raised (up.commands.write c) then Writes else Reads) (byte_address up.shape (up.commands.address c) + 0 * up.shape.word_bytes) (if is_raised (up.commands.write c) then up.commands.word c else 0) (up.commands.enables c))
@@ -218,7 +225,9 @@ module _ (law : SelectsBeats) (target : Target) (up down : Port) (many room : �
         let fits = fits_there c in
         let lies : LiesInOneWord up.shape target.shape (byte_address up.shape (up.commands.address c) + 0 * up.shape.word_bytes) (up.commands.enables c) =
         record { lanes = (let same = plan.same in omega (arith, there, fits, same)); few = fit c h shown } in
-        ap (operations_of down.shape target.shape target.span) (sym (below_beat c)) ∙ sym (law up.shape down.shape target.shape target.span may _ lies)
+        sym (same_operations_there law up.shape down.shape target.shape may target.span (if is_raised (up.commands.write c) then Writes else Reads) (byte_address down.shape (down.commands.address c) + 0 * down.shape.word_bytes) _ _ (up.commands.enables c) (down.commands.enables c) (offset c)
+        (let same = plan.same in omega (arith, fits, same)) (fit c h shown) (ap (λ (l : Levels). l.enables) (run.levels c)) (same_bytes c))
+        ∙ ap (operations_of down.shape target.shape target.span) (sym (below_beat c)) ∙ sym (law up.shape down.shape target.shape target.span may _ lies)
 
     pub alike : (c : ℕ) → c < end → shows up.commands.signals c ≡ true → IsAlike target up.shape down.shape (marked_at up c) (marked_at down c)
     alike c h shown =

@@ -1,5 +1,5 @@
 -- The machine of a lane selector: commands of one beat go from narrow words to the wide words that hold them.
-use Rattle.std.specs.Prelude.{◌≡◌, ℕ, suc, ◌-◌, ◌*◌, ◌/◌, ◌%◌, ◌^◌, ◌<◌, Bool, true, false, not, ◌&&◌, ◌||◌, List, [], ◌∷◌, ◌++◌, length, drop, if◌then◌else◌, nat_lt, IsTrue}
+use Rattle.std.specs.Prelude.{◌≡◌, ℕ, zero, suc, ◌+◌, ◌-◌, ◌*◌, ◌/◌, ◌%◌, ◌^◌, ◌<◌, Bool, true, false, not, ◌&&◌, ◌||◌, List, [], ◌∷◌, ◌++◌, length, drop, if◌then◌else◌, nat_lt, IsTrue}
 use Rattle.histories.specs.History.{is_raised, only_if}
 use Rattle.mm_runs.specs.Views.{Shape, Levels, levels_at}
 use Rattle.mm_runs.specs.Commands.{byte_address, shows}
@@ -10,13 +10,18 @@ use Rattle.mm_links.specs.Links.{LinkForm}
 abbrev pub offset_in : Shape → Shape → ℕ → ℕ
 offset_in narrow wide address = byte_address narrow address % wide.word_bytes
 
--- a narrow beat as a beat of the wide word: its lanes stand at its offset
+-- a narrow word on each of so many places of a wide one
+abbrev pub repeated : ℕ → ℕ → ℕ → ℕ
+repeated bytes zero word = 0
+repeated bytes (suc many) word = word % 256 ^ bytes + 256 ^ bytes * repeated bytes many word
+
+-- a narrow beat as a beat of the wide word: its lanes stand at its offset, and its word on every place, since the lanes tell which one counts
 abbrev pub selected : Shape → Shape → Levels → Levels
 selected narrow wide levels = record {
   read = levels.read;
   write = levels.write;
   address = byte_address narrow levels.address - offset_in narrow wide levels.address;
-  word = levels.word * 256 ^ offset_in narrow wide levels.address;
+  word = repeated narrow.word_bytes (wide.word_bytes / narrow.word_bytes) levels.word;
   enables = levels.enables * 2 ^ offset_in narrow wide levels.address;
   count = 1;
 }
