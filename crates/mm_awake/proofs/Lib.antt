@@ -62,7 +62,9 @@ pub mod SingleWrites
 pub mod SilentRoute
 pub mod StageLine
 pub mod SilentRow
+pub mod RowSettled
 pub mod RowBuilt
+pub mod RowFits
 pub mod PlainRows
 pub mod RowRuns
 pub mod LinkRuns

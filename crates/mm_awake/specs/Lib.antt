@@ -11,6 +11,7 @@ pub mod PlainSystem
 pub mod Still
 pub mod Rows
 pub mod RowSystem
+pub mod RowFront
 pub mod RowRun
 pub mod LinkSystem
 pub mod WiredSystem

@@ -1,20 +1,22 @@
 -- Systems of hosts, routes, arbiters, stages and agents alone: no link stands between a route and an arbiter.
-use Rattle.std.specs.Prelude.{ℕ, suc, ◌*◌, ◌<◌, ◌≤◌, [], not, ◌||◌, IsTrue, IsFalse}
+use Rattle.std.specs.Prelude.{ℕ, suc, ◌*◌, ◌<◌, [], not, ◌||◌, IsTrue, IsFalse}
 use Rattle.mm_runs.specs.Views.{System, Run, Responses}
 use Rattle.mm_runs.specs.Commands.{longest_burst}
 use Rattle.mm_runs.specs.Order.{is_joined}
 use Rattle.mm_machines.specs.Link.{Port}
-use Rattle.mm_machines.specs.Lines.{TaggedPort, IsFit}
+use Rattle.mm_machines.specs.Lines.{TaggedPort}
 use Rattle.mm_machines.specs.Machines.{Stage}
 use Rattle.mm_machines.specs.Turns.{seats_of}
-use Rattle.mm_parts.specs.Agent.{AgentState, IsAgentMachine}
+use Rattle.mm_parts.specs.Agent.{IsAgentMachine}
 use Rattle.mm_parts.specs.Arbiter.{IsArbiterMachine}
 use Rattle.mm_parts.specs.Host.{IsHostMachine}
 use Rattle.mm_parts.specs.Route.{IsRouteMachine}
 use Rattle.mm_parts.specs.Steps.{AreSilentPast}
 use Rattle.mm_awake.specs.Theorem.{States, IsStageBetween}
+use Rattle.mm_awake.specs.RowFront.{ServeWhatFits as serve_what_fits}
 use Rattle.mm_awake.specs.RowSystem.{RowPorts}
 use Rattle.mm_awake.specs.Wires.{IsWire, HandsAllOn}
+pub use Rattle.mm_awake.specs.RowFront.{with_agents}
 
 -- the boundaries inside. Those between a route and an arbiter are of a host and an agent
 pub record WiredPorts : Type 0 where
@@ -49,18 +51,9 @@ pub record IsWiredSystem (responses : Responses) (system : System) (run : Run) (
   pub front : IsWiredFront responses system run ports states end
   pub agent : (a : ℕ) → a < system.agents → IsAgentMachine responses (system.agent a) (run.at_agent a) (before_agent ports a) (states.agent a) end
 
--- a run has a state with which the part next to an agent is its machine
-pub record RunsAtAgent (responses : Responses) (system : System) (run : Run) (ports : WiredPorts) (agent end : ℕ) : Type 0 where
-  pub state : AgentState
-  pub machine : IsAgentMachine responses (system.agent agent) (run.at_agent agent) (before_agent ports agent) state end
-
 -- the part next to an agent is its machine for as long as the commands above it can be given to the agent
 abbrev pub ServeWhatFits : Responses → System → Run → WiredPorts → ℕ → Type 0
-ServeWhatFits responses system run ports end =
-    (a c : ℕ) → a < system.agents → c ≤ end → IsFit system a (before_agent ports a).port c → RunsAtAgent responses system run ports a c
-
-abbrev pub with_agents : WiredStates → (ℕ → AgentState) → WiredStates
-with_agents states agent = record states { agent = agent }
+ServeWhatFits responses system run ports end = serve_what_fits responses system run ports.lower end
 
 -- the same boundaries as those of rows of three links, which are wires
 abbrev pub rows_of_wires : WiredPorts → RowPorts

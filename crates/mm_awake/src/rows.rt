@@ -17,6 +17,8 @@ ghost use Rattle.mm_awake.specs.RowRun.{RowPlan, SuitsRow, row_registers, row_to
 ghost use Rattle.mm_awake.specs.LinkSystem.{LinkPlan, SuitsLinks, AreFitHosts, links_for, linked_registers, linked_run, linked_ports, linked_states};
 ghost use Rattle.mm_awake.specs.PlainSystem.{AreQuietPast, wired_ports, wired_states};
 ghost use Rattle.mm_parts.specs.SystemRun.{PlainPlan, HaveOneShape, Outside, plain_system, registers_of, ports_run};
+ghost use Rattle.mm_parts.specs.Agent.{AgentState};
+ghost use Rattle.mm_awake.specs.RowFront.{IsRowFront, ServeWhatFits, with_agents};
 ghost use Rattle.mm_awake.specs.RowSystem.{RowPorts, AreRows, IsFairRow, boundaries_of};
 ghost use Rattle.mm_awake.specs.Theorem.{States, LinkRanks, ArePlanned, AreMachines, IsBuilt};
 
@@ -70,6 +72,29 @@ pub fn machines_with_links_are_fair()
     crate::built::machines_keep_their_records();
     crate::fair::straight_machines_are_fair();
     mm_links::begins::single_writes_begin()
+}
+
+/// The part next to an agent need be its machine only for as long as what it is given fits the agent: behind machines and links whose hosts and agents are legal all of it does.
+pub fn what_rows_carry_fits()
+    ensures { (responses : Responses) (system : System) (run : Run) (ports : RowPorts) (states : States) (end : ℕ)
+        → IsMemoryPlan system → AreViews system run end → IsRowFront responses system run ports states end → ServeWhatFits responses system run ports.lower end → IsLegalRun system run end
+        → (agent : ℕ → AgentState)
+        × ArePlanned system (boundaries_of ports) (with_agents states agent)
+        × AreMachines responses system run (boundaries_of ports) (with_agents states agent) end
+        × AreRows system run ports end }
+{
+    crate::built::memory_plans_are_planned();
+    mm_parts::plans::plans_suit_machines();
+    mm_parts::lines::host_machine_keeps_its_line();
+    mm_parts::lines::route_machine_keeps_its_line();
+    mm_parts::lines::arbiter_machine_keeps_its_line();
+    mm_parts::lines::agent_machine_keeps_its_line();
+    crate::links::rows_keep_their_lines();
+    mm_machines::progress::joins_are_alike();
+    mm_machines::lines::registers_are_a_pipe();
+    mm_machines::settled::lines_settle();
+    mm_parts::steps::route_machine_is_a_part();
+    mm_links::pipes::stage_keeps_its_line()
 }
 
 /// Such systems exist: a plain system of machines is one, with wires for links, whatever its hosts and agents give, as long as they are legal.

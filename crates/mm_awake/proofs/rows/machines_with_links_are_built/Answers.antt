@@ -4,17 +4,19 @@ use Rattle.mm_awake.proofs.rows.machines_with_links_are_built.Goals as goal
 
 laws : After-stage_keeps_its_line → Laws
 laws c = record {
+  settle = record {
+    settle = c.lines_settle.ensures;
+    route = c.route_machine_is_a_part.ensures;
+    row = c.rows_keep_their_lines.ensures.row;
+    lanes = c.rows_keep_their_lines.ensures.lanes;
+    alike = c.joins_are_alike.ensures.single;
+    pipes = record { one = c.stage_keeps_its_line.ensures; none = c.registers_are_a_pipe.ensures.none; two = c.registers_are_a_pipe.ensures.two };
+  };
   lines = c.machines_keep_their_lines.ensures;
-  settle = c.lines_settle.ensures;
-  route = c.route_machine_is_a_part.ensures;
   tags = c.agent_machine_is_a_part.ensures.tags;
   stages = record { link = c.stage_is_a_link.ensures; later = c.stage_is_later.ensures };
-  row = c.rows_keep_their_lines.ensures.row;
-  lanes = c.rows_keep_their_lines.ensures.lanes;
   modest = c.rows_are_modest.ensures.rows;
   fit = c.rows_are_modest.ensures.fit;
-  alike = c.joins_are_alike.ensures.single;
-  pipes = record { one = c.stage_keeps_its_line.ensures; none = c.registers_are_a_pipe.ensures.none; two = c.registers_are_a_pipe.ensures.two };
   owed_tags = c.tags_in_order.ensures;
 }
 
