@@ -133,3 +133,7 @@ module _ (plan : PlanTable) (is_plan : IsPlan plan) (numbered : (k : ℕ) (link 
               others = λ kind address agent within. agents_have (memory_system plan) host (routes_of plan.system host) are kind address agent;
             });
       }
+
+  -- and a word of its host
+  pub word_ends : (k : ℕ) (link : MemoryLink) → slice_get (memory_links plan.system) k ≡ Some link → link.host.word_bytes ≤ range_of link.host
+  word_ends k link at = let ends = link_ends k link at in omega (arith, ends.0)

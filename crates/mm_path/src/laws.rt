@@ -1,10 +1,10 @@
 //! What every plan gives the parts between its hosts and agents. The functions do nothing; their contracts are the laws.
 
-ghost use Rattle.std.specs.Prelude.{◌≡◌, ◌^◌, ◌<◌, ◌≤◌, ℕ, Some, IsTrue, length, slice_get};
+ghost use Rattle.std.specs.Prelude.{◌≡◌, ◌^◌, ◌<◌, ◌≤◌, ℕ, Some, true, IsTrue, length, slice_get};
 ghost use Rattle.iface_roles.specs.declared.records.AgentPort.{AgentPort};
 ghost use Rattle.iface_roles.specs.declared.records.HostPort.{HostPort};
 ghost use Rattle.iface_roles.specs.Proper.{range_of, span_of};
-ghost use Rattle.address_map.specs.Maps.{hosts_of, agents_of};
+ghost use Rattle.address_map.specs.Maps.{hosts_of, agents_of, mm_connections};
 ghost use Rattle.link_rules.specs.declared.plan_links.MemoryLink.{MemoryLink};
 ghost use Rattle.link_rules.specs.PlanLinks.{memory_links};
 ghost use Rattle.link_rules.specs.Plans.{PlanTable, IsPlan};
@@ -17,7 +17,7 @@ ghost use Rattle.mm_awake.specs.Fair.{are_apart};
 ghost use Rattle.mm_path.specs.Maps.{IsHostOf, IsAgentOf, HasHost, HasAgent, JoinsEnds, RoutesAreMapped};
 
 use iface_roles::proper_records_are_bounded;
-use link_rules::{ends_are_known, memory_links_are_numbered};
+use link_rules::{ends_are_known, links_keep_rules, memory_links_are_numbered};
 use memory_plans::{plans_are_memory_plans, routes_are_the_map};
 
 /// Each number of a host or an agent stands for ports that fit the tables, and each link joins the ports of its numbers.
@@ -46,6 +46,20 @@ pub fn spans_fit_ranges()
 {
     memory_links_are_numbered();
 }
+
+/// A word of a host is within its range, and an agent that is wider than its host has byte enables.
+pub fn words_fit_pairs()
+    ensures word { (plan : PlanTable) → IsPlan plan → (k : ℕ) (link : MemoryLink) → slice_get (memory_links plan.system) k ≡ Some link → link.host.word_bytes ≤ range_of link.host }
+    ensures lanes { (plan : PlanTable) → IsPlan plan → (k : ℕ) (link : MemoryLink) → slice_get (memory_links plan.system) k ≡ Some link → link.host.word_bytes < link.agent.word_bytes → link.agent.enables ≡ true }
+{
+    memory_links_are_numbered();
+    links_keep_rules();
+}
+
+/// There are no more links than connections of hosts to agents.
+pub fn links_are_connections()
+    ensures { (plan : PlanTable) → IsPlan plan → length (memory_links plan.system) ≤ length (mm_connections plan.system) }
+{}
 
 /// No host is joined to an agent twice.
 pub fn plans_are_apart()

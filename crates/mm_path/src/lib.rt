@@ -4,6 +4,6 @@
 mod laws;
 
 pub use laws::{
-    fit_commands_suit_agents, plans_are_apart, plans_have_their_ends, routes_are_mapped,
-    spans_fit_ranges,
+    fit_commands_suit_agents, links_are_connections, plans_are_apart, plans_have_their_ends,
+    routes_are_mapped, spans_fit_ranges, words_fit_pairs,
 };
