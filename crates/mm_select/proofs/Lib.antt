@@ -1,0 +1,4 @@
+pub mod PlaceLaws
+pub mod QueueLaws
+pub mod SelectLaws
+pub mod SelectRun

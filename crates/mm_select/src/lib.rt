@@ -1,0 +1,10 @@
+//! The link between narrow words and the wide words that hold them, as nets.
+#![tactic(auto)]
+
+mod places;
+mod queue;
+mod select;
+
+pub use places::{raise_to, repeat, take_place};
+pub use queue::PlaceQueue;
+pub use select::{Select, SelectKept};
