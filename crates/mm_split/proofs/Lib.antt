@@ -1,0 +1,11 @@
+mod Marks
+mod Outcomes
+mod Masks
+mod Places
+mod Bits
+mod Numbers
+mod Fills
+mod Same
+mod Beat
+mod SplitLaw
+mod SplitBetween

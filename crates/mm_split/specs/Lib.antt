@@ -1,0 +1,9 @@
+pub mod Pieces
+pub mod Searches
+pub mod Sizes
+pub mod Registers
+pub mod Parts
+pub mod Told
+pub mod Gathers
+pub mod Comings
+pub mod SplitNets

@@ -1,0 +1,273 @@
+//! The answers above a splitter, what it takes, and what its registers take next.
+
+ghost use Rattle.std.specs.Prelude.{◌≡◌, ◌+◌, ◌-◌, ◌*◌, ◌%◌, ◌^◌, ◌<◌, ◌≤◌, suc, max, not, ◌&&◌, ◌||◌, nat_lt, if◌then◌else◌, length, IfOk};
+ghost use Rattle.histories.specs.History.{is_raised, one_if};
+ghost use Rattle.netlist.specs.Netlists.{IsNet};
+ghost use Rattle.netlist.specs.Runs.{Always};
+ghost use Rattle.net_parts.specs.Nets.{IsBit, IsNetOfWidth};
+ghost use Rattle.net_parts.specs.Growth.{AddsNets};
+ghost use Rattle.command_nets.specs.Nets.{AreCommandNets, AreAnswerNets, raw_in};
+ghost use Rattle.command_nets.specs.Groups.{is_shown};
+ghost use Rattle.mm_split.specs.Sizes.{AreSizes};
+ghost use Rattle.mm_split.specs.Registers.{AreRegisterNets};
+ghost use Rattle.mm_split.specs.Told.{ArePartNets};
+ghost use Rattle.mm_split.specs.Comings.{is_done, AreComingNets, TellsComing, AreTakenNets, NextAre};
+
+use crate::command::Part;
+use crate::gather::fill_word;
+use crate::lanes::{Search, find};
+use crate::registers::SplitRegisters;
+use crate::sizes::Sizes;
+use command_nets::{AnswerNets, CommandNets, both, either, shown, turned, unless};
+use net_parts::{choose, constant, fit_bits};
+use netlist::{Builder, Net, NetFault};
+
+/// Whether the piece that comes is the last one of its word. The place and the count have five bits.
+#[tactic(auto, using(net_parts::specs::Laws::growing))]
+fn completes(builder: &mut Builder, place: Net, count: Net) -> Result<Net, NetFault>
+    requires place { IsNetOfWidth builder.old place 5 }
+    requires small { Always builder.old (λ cycle. cycle.net place.number < 16) }
+    requires count { IsNetOfWidth builder.old count 5 }
+    ensures net { IfOk result (λ net. IsBit builder.new net) }
+    ensures value { IfOk result (λ net. Always builder.new (λ cycle. is_raised (cycle.net net.number) ≡ nat_lt (cycle.net count.number) (suc (suc (cycle.net place.number))))) }
+    ensures adds { AddsNets 4 builder.old builder.new }
+    ensures full { result ≡ Err NetFault.TooManyNets → 2 ^ 20 < length builder.old.lines + 4 }
+{
+    let one = constant(builder, 5, 1)?;
+    let next = builder.add(place, one)?;
+    let more = builder.less(next, count)?;
+    turned(builder, more)
+}
+
+/// The greater one of two nets of one width.
+#[tactic(auto, using(net_parts::specs::Laws::growing))]
+fn greater(builder: &mut Builder, one: Net, other: Net) -> Result<Net, NetFault>
+    requires one { IsNet builder.old one }
+    requires other { IsNetOfWidth builder.old other one.width }
+    ensures net { IfOk result (λ net. IsNetOfWidth builder.new net one.width) }
+    ensures value { IfOk result (λ net. Always builder.new (λ cycle. cycle.net net.number ≡ max (cycle.net one.number) (cycle.net other.number))) }
+    ensures adds { AddsNets 2 builder.old builder.new }
+    ensures full { result ≡ Err NetFault.TooManyNets → 2 ^ 20 < length builder.old.lines + 2 }
+{
+    let less = builder.less(one, other)?;
+    choose(builder, less, other, one)
+}
+
+/// The word that stands above with the piece that comes.
+#[derive(Clone, Copy)]
+pub(crate) struct Coming {
+    pub word: Net,
+    /// Its pieces but for the last one.
+    pub low: Net,
+    pub code: Net,
+    /// Whether it is complete with that piece.
+    pub completes: Net,
+}
+
+/// The word that stands above with the piece that comes below.
+#[tactic(auto, using(net_parts::specs::Laws::growing))]
+pub(crate) fn come(
+    builder: &mut Builder,
+    registers: &SplitRegisters,
+    answer: &AnswerNets,
+    sizes: &Sizes,
+) -> Result<Coming, NetFault>
+    requires sizes { AreSizes sizes.now }
+    requires registers { AreRegisterNets builder.old sizes.now registers.now }
+    requires answer { AreAnswerNets builder.old answer.now (sizes.now.narrow_bytes * 8) }
+    ensures nets { IfOk result (λ made. AreComingNets builder.new sizes.now made) }
+    ensures value { IfOk result (λ made. Always builder.new (λ cycle. TellsComing sizes.now registers.now answer.now made cycle)) }
+    ensures adds { AddsNets 199 builder.old builder.new }
+    ensures full { result ≡ Err NetFault.TooManyNets → 2 ^ 20 < length builder.old.lines + 199 }
+{
+    let zeros = constant(builder, 4, 0)?;
+    let place = fit_bits(builder, registers.come, sizes.place_bits, 5)?;
+    let mask = registers.set;
+    let found = find(builder, &Search { mask, place, zeros }, sizes.pieces)?;
+    let completes = completes(builder, place, found.count)?;
+    let gathered = fill_word(builder, found.here, registers.word, answer.word, sizes)?;
+    let code = greater(builder, registers.code, answer.code)?;
+    Ok(Coming {
+        word: gathered.word,
+        low: gathered.low,
+        code,
+        completes,
+    })
+}
+
+/// What is taken above and below, and whether the side above waits.
+#[derive(Clone, Copy)]
+pub(crate) struct Taken {
+    pub waits: Net,
+    pub above: Net,
+    pub below: Net,
+}
+
+/// The beat above is accepted with its last part, or at once where it has none.
+#[tactic(auto, using(net_parts::specs::Laws::growing))]
+pub(crate) fn take(
+    builder: &mut Builder,
+    from: &CommandNets,
+    part: &Part,
+    wait: Net,
+    sizes: &Sizes,
+) -> Result<Taken, NetFault>
+    requires from { AreCommandNets builder.old from.now }
+    requires part { ArePartNets builder.old sizes.now part.now }
+    requires wait { IsBit builder.old wait }
+    ensures nets { IfOk result (λ made. AreTakenNets builder.new made) }
+    ensures below { IfOk result (λ made. Always builder.new (λ cycle. is_raised (cycle.net made.below.number) ≡ (is_shown (raw_in cycle part.now.below) && not (is_raised (cycle.net wait.number))))) }
+    ensures above { IfOk result (λ made. Always builder.new (λ cycle. is_raised (cycle.net made.above.number) ≡ (is_shown (raw_in cycle from.now) && is_done cycle part.now made.below))) }
+    ensures waits { IfOk result (λ made. Always builder.new (λ cycle. is_raised (cycle.net made.waits.number) ≡ not (is_done cycle part.now made.below))) }
+    ensures adds { AddsNets 9 builder.old builder.new }
+    ensures full { result ≡ Err NetFault.TooManyNets → 2 ^ 20 < length builder.old.lines + 9 }
+{
+    let shows = shown(builder, &part.below)?;
+    let below = unless(builder, shows, wait)?;
+    let closes = both(builder, below, part.above.last)?;
+    let done = either(builder, part.above.none, closes)?;
+    let goes = both(builder, part.opens, done)?;
+    let waits = turned(builder, goes)?;
+    let stands = shown(builder, from)?;
+    let above = both(builder, stands, goes)?;
+    Ok(Taken {
+        waits,
+        above,
+        below,
+    })
+}
+
+/// What a register takes: where the first bit is high another net, or 0 where the second one is too; and else itself.
+#[tactic(auto, using(net_parts::specs::Laws::growing))]
+fn step(
+    builder: &mut Builder,
+    register: Net,
+    moves: Net,
+    clears: Net,
+    next: Net,
+) -> Result<Net, NetFault>
+    requires register { IsNet builder.old register }
+    requires moves { IsBit builder.old moves }
+    requires clears { IsBit builder.old clears }
+    requires next { IsNetOfWidth builder.old next register.width }
+    ensures net { IfOk result (λ net. IsNetOfWidth builder.new net register.width) }
+    ensures value { IfOk result (λ net. Always builder.new (λ cycle. cycle.net net.number
+        ≡ (if is_raised (cycle.net moves.number) then (if is_raised (cycle.net clears.number) then 0 else cycle.net next.number) else cycle.net register.number))) }
+    ensures adds { AddsNets 3 builder.old builder.new }
+    ensures full { result ≡ Err NetFault.TooManyNets → 2 ^ 20 < length builder.old.lines + 3 }
+{
+    let width = builder.width(register);
+    let zeros = constant(builder, width, 0)?;
+    let taken = choose(builder, clears, zeros, next)?;
+    choose(builder, moves, taken, register)
+}
+
+/// What a count takes that goes on by one, or back to 0.
+#[tactic(auto, using(net_parts::specs::Laws::growing))]
+fn step_on(builder: &mut Builder, register: Net, moves: Net, clears: Net) -> Result<Net, NetFault>
+    requires register { IsNet builder.old register }
+    requires moves { IsBit builder.old moves }
+    requires clears { IsBit builder.old clears }
+    ensures net { IfOk result (λ net. IsNetOfWidth builder.new net register.width) }
+    ensures value { IfOk result (λ net. Always builder.new (λ cycle. cycle.net net.number
+        ≡ (if is_raised (cycle.net moves.number) then (if is_raised (cycle.net clears.number) then 0 else (cycle.net register.number + 1) % 2 ^ register.width) else cycle.net register.number))) }
+    ensures adds { AddsNets 5 builder.old builder.new }
+    ensures full { result ≡ Err NetFault.TooManyNets → 2 ^ 20 < length builder.old.lines + 5 }
+{
+    let width = builder.width(register);
+    let one = constant(builder, width, 1)?;
+    let next = builder.add(register, one)?;
+    step(builder, register, moves, clears, next)
+}
+
+/// One less, but no less than 0, in five bits.
+#[tactic(auto, using(net_parts::specs::Laws::growing))]
+fn one_fewer(builder: &mut Builder, count: Net, one: Net) -> Result<Net, NetFault>
+    requires count { IsNetOfWidth builder.old count 5 }
+    requires one { IsNetOfWidth builder.old one 5 }
+    requires unit { Always builder.old (λ cycle. cycle.net one.number ≡ 1) }
+    ensures net { IfOk result (λ net. IsNetOfWidth builder.new net 5) }
+    ensures value { IfOk result (λ net. Always builder.new (λ cycle. cycle.net net.number ≡ cycle.net count.number - 1)) }
+    ensures adds { AddsNets 3 builder.old builder.new }
+    ensures full { result ≡ Err NetFault.TooManyNets → 2 ^ 20 < length builder.old.lines + 3 }
+{
+    let some = builder.any(count)?;
+    let fewer = builder.sub(count, one)?;
+    choose(builder, some, fewer, count)
+}
+
+/// What the count of reads takes, in five bits: one more where a read comes, one less where one goes.
+#[tactic(auto, using(net_parts::specs::Laws::growing))]
+fn count_reads(builder: &mut Builder, count: Net, comes: Net, goes: Net) -> Result<Net, NetFault>
+    requires count { IsNetOfWidth builder.old count 5 }
+    requires comes { IsBit builder.old comes }
+    requires goes { IsBit builder.old goes }
+    ensures net { IfOk result (λ net. IsNetOfWidth builder.new net 5) }
+    ensures value { IfOk result (λ net. Always builder.new (λ cycle. cycle.net count.number < 31
+        → cycle.net net.number ≡ (cycle.net count.number + one_if (is_raised (cycle.net comes.number))) - one_if (is_raised (cycle.net goes.number)))) }
+    ensures adds { AddsNets 8 builder.old builder.new }
+    ensures full { result ≡ Err NetFault.TooManyNets → 2 ^ 20 < length builder.old.lines + 8 }
+{
+    let one = constant(builder, 5, 1)?;
+    let more = builder.add(count, one)?;
+    let fewer = one_fewer(builder, count, one)?;
+    let next = choose(builder, comes, more, fewer)?;
+    let changes = builder.xor(comes, goes)?;
+    choose(builder, changes, next, count)
+}
+
+/// What the registers of a splitter take. `valid` says that a word is given above.
+#[tactic(auto, using(net_parts::specs::Laws::growing))]
+pub(crate) fn next_registers(
+    builder: &mut Builder,
+    registers: &SplitRegisters,
+    from: &CommandNets,
+    part: &Part,
+    taken: &Taken,
+    coming: &Coming,
+    arrives: Net,
+    valid: Net,
+    sizes: &Sizes,
+) -> Result<SplitRegisters, NetFault>
+    requires registers { AreRegisterNets builder.old sizes.now registers.now }
+    requires from { AreCommandNets builder.old from.now }
+    requires part { ArePartNets builder.old sizes.now part.now }
+    requires taken { AreTakenNets builder.old taken.now }
+    requires coming { AreComingNets builder.old sizes.now coming.now }
+    requires arrives { IsBit builder.old arrives }
+    requires valid { IsBit builder.old valid }
+    ensures nets { IfOk result (λ next. AreRegisterNets builder.new sizes.now next) }
+    ensures value { IfOk result (λ next. Always builder.new (λ cycle. NextAre sizes.now registers.now from.now part.now taken.now coming.now arrives valid next cycle)) }
+    ensures adds { AddsNets 30 builder.old builder.new }
+    ensures full { result ≡ Err NetFault.TooManyNets → 2 ^ 20 < length builder.old.lines + 30 }
+{
+    let moves = either(builder, taken.above, taken.below)?;
+    let place = step_on(builder, registers.place, moves, taken.above)?;
+    let reads_below = unless(builder, taken.below, part.below.write)?;
+    let set = choose(builder, reads_below, part.asked, registers.set)?;
+    let reads_above = unless(builder, taken.above, from.write)?;
+    let reads = count_reads(builder, registers.reads, reads_above, valid)?;
+    let come = step_on(builder, registers.come, arrives, coming.completes)?;
+    let word = step(
+        builder,
+        registers.word,
+        arrives,
+        coming.completes,
+        coming.low,
+    )?;
+    let code = step(
+        builder,
+        registers.code,
+        arrives,
+        coming.completes,
+        coming.code,
+    )?;
+    Ok(SplitRegisters {
+        place,
+        set,
+        reads,
+        come,
+        word,
+        code,
+    })
+}

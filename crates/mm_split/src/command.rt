@@ -1,0 +1,356 @@
+//! The command below a splitter: the part of the beat above that is to go next.
+
+ghost use Rattle.std.specs.Prelude.{◌≡◌, ◌+◌, ◌*◌, ◌/◌, ◌^◌, ◌<◌, ◌≤◌, suc, not, ◌&&◌, ◌||◌, nat_eq, nat_lt, if◌then◌else◌, length, IfOk};
+ghost use Rattle.histories.specs.History.{is_raised, one_if};
+ghost use Rattle.netlist.specs.Netlists.{IsNet};
+ghost use Rattle.netlist.specs.Runs.{Always};
+ghost use Rattle.net_parts.specs.Nets.{IsBit, IsNetOfWidth};
+ghost use Rattle.net_parts.specs.Growth.{AddsNets};
+ghost use Rattle.command_nets.specs.Nets.{AreCommandNets, widths_of, raw_in};
+ghost use Rattle.mm_split.specs.Pieces.{lane, is_marked, pick, or_first_mask};
+ghost use Rattle.mm_split.specs.Sizes.{AreSizes};
+ghost use Rattle.mm_split.specs.Registers.{AreRegisterNets};
+ghost use Rattle.mm_split.specs.Parts.{may_go, part_count, shows_part, touched_of, here_of, number_of, IsBeatBelow};
+ghost use Rattle.mm_split.specs.Told.{AreAbove, TellsAbove, ArePartNets, IsPart, narrowed};
+
+use crate::lanes::{Search, find, pick_offset, pick_piece, touched_mask};
+use crate::registers::SplitRegisters;
+use crate::sizes::Sizes;
+use command_nets::{CommandNets, both, either, shown, turned, unless};
+use net_parts::{choose, constant, fit_bits, level};
+use netlist::{Builder, Net, NetFault};
+
+/// The pieces that are asked, as a mask: those with an enabled lane, or the first one where none has.
+#[tactic(auto, using(net_parts::specs::Laws::growing))]
+fn asked_mask(builder: &mut Builder, mask: Net, pieces: u8) -> Result<Net, NetFault>
+    requires mask { IsNetOfWidth builder.old mask pieces }
+    requires some { 1 ≤ pieces }
+    requires few { pieces ≤ 16 }
+    ensures net { IfOk result (λ net. IsNetOfWidth builder.new net pieces) }
+    ensures value { IfOk result (λ net. Always builder.new (λ cycle. cycle.net net.number ≡ or_first_mask (cycle.net mask.number))) }
+    ensures adds { AddsNets 3 builder.old builder.new }
+    ensures full { result ≡ Err NetFault.TooManyNets → 2 ^ 20 < length builder.old.lines + 3 }
+{
+    let some = builder.any(mask)?;
+    let first = constant(builder, pieces, 1)?;
+    choose(builder, some, mask, first)
+}
+
+/// Whether a read that begins finds no reads under way, or only such of the same pieces.
+#[tactic(auto, using(net_parts::specs::Laws::growing))]
+fn may_begin(builder: &mut Builder, registers: &SplitRegisters, asked: Net) -> Result<Net, NetFault>
+    requires reads { IsNet builder.old registers.now.reads }
+    requires set { IsNet builder.old registers.now.set }
+    requires asked { IsNetOfWidth builder.old asked registers.now.set.width }
+    ensures net { IfOk result (λ net. IsBit builder.new net) }
+    ensures value { IfOk result (λ net. Always builder.new (λ cycle. is_raised (cycle.net net.number) ≡ (nat_eq (cycle.net registers.now.reads.number) 0 || nat_eq (cycle.net registers.now.set.number) (cycle.net asked.number)))) }
+    ensures adds { AddsNets 4 builder.old builder.new }
+    ensures full { result ≡ Err NetFault.TooManyNets → 2 ^ 20 < length builder.old.lines + 4 }
+{
+    let some = builder.any(registers.reads)?;
+    let none = turned(builder, some)?;
+    let same = builder.eq(registers.set, asked)?;
+    either(builder, none, same)
+}
+
+/// Whether a read may go on: there is room, and it has begun or may begin.
+#[tactic(auto, using(net_parts::specs::Laws::growing))]
+fn may_read(
+    builder: &mut Builder,
+    registers: &SplitRegisters,
+    begins: Net,
+    room: u8,
+) -> Result<Net, NetFault>
+    requires reads { IsNetOfWidth builder.old registers.now.reads 5 }
+    requires place { IsNet builder.old registers.now.place }
+    requires begins { IsBit builder.old begins }
+    requires room { room ≤ 16 }
+    ensures net { IfOk result (λ net. IsBit builder.new net) }
+    ensures value { IfOk result (λ net. Always builder.new (λ cycle. is_raised (cycle.net net.number) ≡ (nat_lt (cycle.net registers.now.reads.number) room && (nat_lt 0 (cycle.net registers.now.place.number) || is_raised (cycle.net begins.number))))) }
+    ensures adds { AddsNets 5 builder.old builder.new }
+    ensures full { result ≡ Err NetFault.TooManyNets → 2 ^ 20 < length builder.old.lines + 5 }
+{
+    let begun = builder.any(registers.place)?;
+    let goes = either(builder, begun, begins)?;
+    let most = constant(builder, 5, room)?;
+    let has_room = builder.less(registers.reads, most)?;
+    both(builder, has_room, goes)
+}
+
+/// Whether the beat above may go on: a write, or a read that may.
+#[tactic(auto, using(net_parts::specs::Laws::growing))]
+fn opens(
+    builder: &mut Builder,
+    registers: &SplitRegisters,
+    write: Net,
+    asked: Net,
+    room: u8,
+) -> Result<Net, NetFault>
+    requires reads { IsNetOfWidth builder.old registers.now.reads 5 }
+    requires place { IsNet builder.old registers.now.place }
+    requires set { IsNet builder.old registers.now.set }
+    requires write { IsBit builder.old write }
+    requires asked { IsNetOfWidth builder.old asked registers.now.set.width }
+    requires room { room ≤ 16 }
+    ensures net { IfOk result (λ net. IsBit builder.new net) }
+    ensures value { IfOk result (λ net. Always builder.new (λ cycle. is_raised (cycle.net net.number)
+        ≡ may_go room (cycle.net write.number) (cycle.net registers.now.place.number) (cycle.net registers.now.reads.number) (cycle.net registers.now.set.number) (cycle.net asked.number))) }
+    ensures adds { AddsNets 10 builder.old builder.new }
+    ensures full { result ≡ Err NetFault.TooManyNets → 2 ^ 20 < length builder.old.lines + 10 }
+{
+    let begins = may_begin(builder, registers, asked)?;
+    let reads = may_read(builder, registers, begins, room)?;
+    either(builder, write, reads)
+}
+
+/// How many parts a beat has, in five bits: its touched pieces, or where it has none, one if the command needs one.
+#[tactic(auto, using(net_parts::specs::Laws::growing))]
+fn count_parts(builder: &mut Builder, from: &CommandNets, touched: Net) -> Result<Net, NetFault>
+    requires from { AreCommandNets builder.old from.now }
+    requires touched { IsNetOfWidth builder.old touched 5 }
+    ensures net { IfOk result (λ net. IsNetOfWidth builder.new net 5) }
+    ensures value { IfOk result (λ net. Always builder.new (λ cycle. cycle.net net.number ≡ part_count (raw_in cycle from.now) (cycle.net touched.number))) }
+    ensures adds { AddsNets 6 builder.old builder.new }
+    ensures full { result ≡ Err NetFault.TooManyNets → 2 ^ 20 < length builder.old.lines + 6 }
+{
+    let joined = both(builder, from.more, from.write)?;
+    let needed = turned(builder, joined)?;
+    let least = fit_bits(builder, needed, 1, 5)?;
+    let some = builder.any(touched)?;
+    choose(builder, some, touched, least)
+}
+
+/// What is told of the beat above.
+#[derive(Clone, Copy)]
+pub struct AboveNets {
+    /// Whether it is shown and has a part to show.
+    pub shows: Net,
+    /// Whether the part to show is its last one.
+    pub last: Net,
+    /// Whether it has no part at all.
+    pub none: Net,
+}
+
+/// Where among the parts of the beat above the next one stands. The place and the count of parts have five bits.
+#[tactic(auto, using(net_parts::specs::Laws::growing))]
+fn look_above(
+    builder: &mut Builder,
+    from: &CommandNets,
+    opens: Net,
+    place: Net,
+    parts: Net,
+) -> Result<AboveNets, NetFault>
+    requires from { AreCommandNets builder.old from.now }
+    requires opens { IsBit builder.old opens }
+    requires place { IsNetOfWidth builder.old place 5 }
+    requires small { Always builder.old (λ cycle. cycle.net place.number < 16) }
+    requires parts { IsNetOfWidth builder.old parts 5 }
+    ensures shows_net { IfOk result (λ made. IsBit builder.new made.shows) }
+    ensures last_net { IfOk result (λ made. IsBit builder.new made.last) }
+    ensures none_net { IfOk result (λ made. IsBit builder.new made.none) }
+    ensures shows { IfOk result (λ made. Always builder.new (λ cycle. is_raised (cycle.net made.shows.number)
+        ≡ shows_part (raw_in cycle from.now) (is_raised (cycle.net opens.number)) (cycle.net place.number) (cycle.net parts.number))) }
+    ensures last { IfOk result (λ made. Always builder.new (λ cycle. is_raised (cycle.net made.last.number) ≡ nat_eq (suc (cycle.net place.number)) (cycle.net parts.number))) }
+    ensures none { IfOk result (λ made. Always builder.new (λ cycle. is_raised (cycle.net made.none.number) ≡ nat_eq (cycle.net parts.number) 0)) }
+    ensures adds { AddsNets 9 builder.old builder.new }
+    ensures full { result ≡ Err NetFault.TooManyNets → 2 ^ 20 < length builder.old.lines + 9 }
+{
+    let stands = shown(builder, from)?;
+    let goes = both(builder, stands, opens)?;
+    let inside = builder.less(place, parts)?;
+    let shows = both(builder, goes, inside)?;
+    let one = constant(builder, 5, 1)?;
+    let next = builder.add(place, one)?;
+    let last = builder.eq(next, parts)?;
+    let some = builder.any(parts)?;
+    let none = turned(builder, some)?;
+    Ok(AboveNets { shows, last, none })
+}
+
+/// The byte address of the piece: that of the wide word, and where the piece begins in it.
+#[tactic(auto, using(net_parts::specs::Laws::growing))]
+fn piece_address(builder: &mut Builder, address: Net, offset: Net) -> Result<Net, NetFault>
+    requires address { IsNet builder.old address }
+    requires offset { IsNet builder.old offset }
+    requires within { offset.width ≤ address.width }
+    ensures net { IfOk result (λ net. IsNetOfWidth builder.new net address.width) }
+    ensures value { IfOk result (λ net. Always builder.new (λ cycle. cycle.net net.number ≡ cycle.net address.number / 2 ^ offset.width * 2 ^ offset.width + cycle.net offset.number)) }
+    ensures adds { AddsNets 2 builder.old builder.new }
+    ensures full { result ≡ Err NetFault.TooManyNets → 2 ^ 20 < length builder.old.lines + 2 }
+{
+    let width = builder.width(address);
+    let low = builder.width(offset);
+    if width == low {
+        return Ok(offset);
+    }
+    let high = builder.slice(address, width - 1, low)?;
+    builder.concat(high, offset)
+}
+
+/// The word of a part, which is 0 for a read.
+#[tactic(auto, using(net_parts::specs::Laws::growing))]
+fn piece_word(
+    builder: &mut Builder,
+    from: &CommandNets,
+    here: Net,
+    sizes: &Sizes,
+) -> Result<Net, NetFault>
+    requires sizes { AreSizes sizes.now }
+    requires from { AreCommandNets builder.old from.now }
+    requires here { IsNetOfWidth builder.old here sizes.now.pieces }
+    requires width { from.now.word.width ≡ 2 ^ sizes.now.wide_bits * 8 }
+    ensures net { IfOk result (λ net. IsNetOfWidth builder.new net (sizes.now.narrow_bytes * 8)) }
+    ensures value { IfOk result (λ net. Always builder.new (λ cycle. cycle.net net.number
+        ≡ (if is_raised (cycle.net from.now.write.number) then lane (sizes.now.narrow_bytes * 8) (cycle.net from.now.word.number) (pick (is_marked (cycle.net here.number)) sizes.now.pieces) else 0))) }
+    ensures adds { AddsNets 50 builder.old builder.new }
+    ensures full { result ≡ Err NetFault.TooManyNets → 2 ^ 20 < length builder.old.lines + 50 }
+{
+    let bits = sizes.narrow_bytes * 8;
+    let word = pick_piece(builder, here, from.word, bits, sizes.pieces)?;
+    let zeros = constant(builder, bits, 0)?;
+    choose(builder, from.write, word, zeros)
+}
+
+/// The beat of one part, shown where the bit is high: a command of one beat, joined to the next part where one follows.
+#[tactic(auto, using(net_parts::specs::Laws::growing))]
+fn part_below(
+    builder: &mut Builder,
+    from: &CommandNets,
+    here: Net,
+    above: &AboveNets,
+    sizes: &Sizes,
+) -> Result<CommandNets, NetFault>
+    requires sizes { AreSizes sizes.now }
+    requires from { AreCommandNets builder.old from.now }
+    requires above { AreAbove builder.old above.now }
+    requires here { IsNetOfWidth builder.old here sizes.now.pieces }
+    requires word { from.now.word.width ≡ 2 ^ sizes.now.wide_bits * 8 }
+    requires enables { from.now.enables.width ≡ 2 ^ sizes.now.wide_bits }
+    requires address { sizes.now.wide_bits ≤ from.now.address.width }
+    ensures command { IfOk result (λ to. AreCommandNets builder.new to) }
+    ensures widths { IfOk result (λ to. widths_of to ≡ narrowed sizes.now (widths_of from.now)) }
+    ensures value { IfOk result (λ to. Always builder.new (λ cycle. IsBeatBelow sizes.now (raw_in cycle from.now) (number_of sizes.now (cycle.net here.number)) (cycle.net above.now.shows.number) (cycle.net above.now.last.number) (raw_in cycle to))) }
+    ensures adds { AddsNets 156 builder.old builder.new }
+    ensures full { result ≡ Err NetFault.TooManyNets → 2 ^ 20 < length builder.old.lines + 156 }
+{
+    let read = unless(builder, above.shows, from.write)?;
+    let write = both(builder, above.shows, from.write)?;
+    let offset = pick_offset(
+        builder,
+        here,
+        sizes.narrow_bytes,
+        sizes.wide_bits,
+        sizes.pieces,
+    )?;
+    let address = piece_address(builder, from.address, offset)?;
+    let word = piece_word(builder, from, here, sizes)?;
+    let enables = pick_piece(
+        builder,
+        here,
+        from.enables,
+        sizes.narrow_bytes,
+        sizes.pieces,
+    )?;
+    let width = builder.width(from.count);
+    let count = constant(builder, width, 1)?;
+    let one = level(builder, true)?;
+    let more = choose(builder, above.last, from.more, one)?;
+    Ok(CommandNets {
+        read,
+        write,
+        address,
+        word,
+        enables,
+        count,
+        more,
+        tag: from.tag,
+    })
+}
+
+/// What a splitter's command side leaves to its answer side.
+#[derive(Clone, Copy)]
+pub struct Part {
+    /// The beat below.
+    pub below: CommandNets,
+    /// The pieces that the beat above asks, as a mask.
+    pub asked: Net,
+    /// Whether the beat above may go on.
+    pub opens: Net,
+    pub above: AboveNets,
+}
+
+/// What is told of the beat above, and which of its pieces is next, as a mask.
+#[derive(Clone, Copy)]
+struct Looked {
+    here: Net,
+    asked: Net,
+    opens: Net,
+    above: AboveNets,
+}
+
+/// Which part of the beat above is next.
+#[tactic(auto, using(net_parts::specs::Laws::growing))]
+fn look(
+    builder: &mut Builder,
+    from: &CommandNets,
+    registers: &SplitRegisters,
+    sizes: &Sizes,
+) -> Result<Looked, NetFault>
+    requires sizes { AreSizes sizes.now }
+    requires from { AreCommandNets builder.old from.now }
+    requires registers { AreRegisterNets builder.old sizes.now registers.now }
+    requires enables { from.now.enables.width ≡ 2 ^ sizes.now.wide_bits }
+    ensures here_net { IfOk result (λ made. IsNetOfWidth builder.new made.here sizes.now.pieces) }
+    ensures asked_net { IfOk result (λ made. IsNetOfWidth builder.new made.asked sizes.now.pieces) }
+    ensures opens_net { IfOk result (λ made. IsBit builder.new made.opens) }
+    ensures above_nets { IfOk result (λ made. AreAbove builder.new made.above) }
+    ensures here { IfOk result (λ made. Always builder.new (λ cycle. cycle.net made.here.number ≡ here_of sizes.now (touched_of sizes.now (raw_in cycle from.now)) (cycle.net registers.now.place.number))) }
+    ensures above { IfOk result (λ made. Always builder.new (λ cycle. TellsAbove sizes.now from.now registers.now made.asked made.opens made.above cycle)) }
+    ensures adds { AddsNets 175 builder.old builder.new }
+    ensures full { result ≡ Err NetFault.TooManyNets → 2 ^ 20 < length builder.old.lines + 175 }
+{
+    let mask = touched_mask(builder, from.enables, sizes.narrow_bytes, sizes.pieces)?;
+    let zeros = constant(builder, 4, 0)?;
+    let place = fit_bits(builder, registers.place, sizes.place_bits, 5)?;
+    let found = find(builder, &Search { mask, place, zeros }, sizes.pieces)?;
+    let asked = asked_mask(builder, mask, sizes.pieces)?;
+    let opens = opens(builder, registers, from.write, asked, sizes.room)?;
+    let parts = count_parts(builder, from, found.count)?;
+    let above = look_above(builder, from, opens, place, parts)?;
+    Ok(Looked {
+        here: found.here,
+        asked,
+        opens,
+        above,
+    })
+}
+
+/// The beat below, and what is told of the one above.
+#[tactic(auto, using(net_parts::specs::Laws::growing))]
+pub(crate) fn make_part(
+    builder: &mut Builder,
+    from: &CommandNets,
+    registers: &SplitRegisters,
+    sizes: &Sizes,
+) -> Result<Part, NetFault>
+    requires sizes { AreSizes sizes.now }
+    requires from { AreCommandNets builder.old from.now }
+    requires registers { AreRegisterNets builder.old sizes.now registers.now }
+    requires word { from.now.word.width ≡ 2 ^ sizes.now.wide_bits * 8 }
+    requires enables { from.now.enables.width ≡ 2 ^ sizes.now.wide_bits }
+    requires address { sizes.now.wide_bits ≤ from.now.address.width }
+    ensures part { IfOk result (λ made. ArePartNets builder.new sizes.now made) }
+    ensures widths { IfOk result (λ made. widths_of made.below ≡ narrowed sizes.now (widths_of from.now)) }
+    ensures value { IfOk result (λ made. Always builder.new (λ cycle. IsPart sizes.now from.now registers.now made cycle)) }
+    ensures adds { AddsNets 331 builder.old builder.new }
+    ensures full { result ≡ Err NetFault.TooManyNets → 2 ^ 20 < length builder.old.lines + 331 }
+{
+    let looked = look(builder, from, registers, sizes)?;
+    let below = part_below(builder, from, looked.here, &looked.above, sizes)?;
+    Ok(Part {
+        below,
+        asked: looked.asked,
+        opens: looked.opens,
+        above: looked.above,
+    })
+}
