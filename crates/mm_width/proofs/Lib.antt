@@ -1,0 +1,4 @@
+mod Machines
+mod Rows
+mod Tags
+pub mod Numbers

@@ -1,0 +1,4 @@
+pub mod Pairs
+pub mod Links
+pub mod Kept
+pub mod Widths

@@ -1,0 +1,85 @@
+-- The links of a host and an agent as nets: what their calls leave in a netlist, and what they run as.
+use Rattle.std.specs.Prelude.{◌≡◌, ℕ, ◌++◌, Bool, true, List, [], ◌∷◌}
+use Rattle.std.proofs.Common.{inl, inr}
+use Rattle.iface_roles.specs.declared.records.HostPort.{HostPort}
+use Rattle.iface_roles.specs.declared.records.AgentPort.{AgentPort}
+use Rattle.netlist.specs.Nets.{NetValue}
+use Rattle.netlist.specs.Netlists.{Netlist, IsWaiting}
+use Rattle.netlist.specs.Runs.{Run, IsEndlessRun}
+use Rattle.netlist.specs.Longer.{Extends}
+use Rattle.mm_runs.specs.Views.{Shape}
+use Rattle.mm_machines.specs.Link.{Target, Port}
+use Rattle.mm_awake.specs.Rows.{FitsWords, DropsBeats, drops_some}
+use Rattle.command_nets.specs.declared.nets.CommandNets.{CommandNets}
+use Rattle.command_nets.specs.declared.nets.AnswerNets.{AnswerNets}
+use Rattle.command_nets.specs.Nets.{port_in}
+use Rattle.link_core.specs.declared.row.Begun.{Begun}
+use Rattle.link_core.specs.Rows.{IsBegun, AreBegun, IsOfOne}
+pub use Rattle.mm_width.specs.Kept.{WidthKept, owns_width}
+use Rattle.mm_width.specs.Kept.{WidthKeeps, WidthCommand, keeps_lasts, command_lasts}
+pub use Rattle.mm_width.specs.Links.{Width, width_of}
+use Rattle.mm_width.specs.Pairs.{needs_drop}
+
+abbrev pub BegunWidth : Type 0
+BegunWidth = Begun Width WidthKept
+
+abbrev pub IsOfAnyWidth : List BegunWidth → ℕ → Type 0
+IsOfAnyWidth begun n = IsOfOne owns_width begun n
+
+-- these links are begun, and their registers, which are apart, wait
+abbrev pub AreBegunWidths : List BegunWidth → Netlist → Type 0
+AreBegunWidths begun netlist = AreBegun WidthKeeps WidthCommand owns_width begun netlist
+
+-- the command below bears the tag of the one above
+abbrev pub command_below : CommandNets → CommandNets → CommandNets
+command_below from to = record to { tag = from.tag }
+
+-- one more pair is begun, behind the others, between this command and one that leads below. Its registers didn't wait in this netlist before
+pub record IsPushed (netlist : Netlist) (link : Width) (from below : CommandNets) (old new : List BegunWidth) : Type 0 where
+  pub to : CommandNets
+  pub kept : WidthKept
+  pub below_is : below ≡ command_below from to
+  pub is : new ≡ old ++ record { link = link; from = from; to = to; kept = kept } ∷ []
+  pub fresh : (n : ℕ) → owns_width kept n → ¬ IsWaiting netlist n
+
+-- words of so many bytes, with addresses that count bytes, an enable for each lane, and commands of one beat
+abbrev pub byte_shape : ℕ → Shape
+byte_shape bytes = record { word_bytes = bytes; unit_bytes = 1; burst_bits = 1; has_enables = true }
+
+-- a target with the words of this agent
+pub record IsTargetOf (agent : AgentPort) (target : Target) : Type 0 where
+  pub words : target.shape.word_bytes ≡ agent.word_bytes
+  pub enables : target.shape.has_enables ≡ agent.enables
+
+-- words are made those of the agent, and below that beats without a lane are dropped where that is asked
+pub record RunsAsWidth (drops : Bool) (target : Target) (up down : Port) : Type 0 where
+  pub low : Port
+  pub fits : FitsWords target up low
+  pub dropped : DropsBeats target low down
+  pub is : drops_some dropped ≡ drops
+
+-- in each endless run of each longer netlist the links of the pair are their machines between these nets
+abbrev pub WidthInLonger : HostPort → AgentPort → Netlist → CommandNets → NetValue → AnswerNets → CommandNets → NetValue → AnswerNets → Type 0
+WidthInLonger host agent netlist from up back to wait answer =
+    (longer : Netlist) → Extends netlist longer → (run : Run) → IsEndlessRun longer run → (target : Target) → IsTargetOf agent target →
+    RunsAsWidth (needs_drop host agent) target (port_in (byte_shape host.word_bytes) run from up back) (port_in (byte_shape agent.word_bytes) run to wait answer)
+
+-- the most nets of each call, of a splitter between words of 16 bytes and of one, and of what drops beats behind it
+abbrev pub width_command_nets : ℕ
+width_command_nets = 368
+
+abbrev pub width_answer_nets : ℕ
+width_answer_nets = 290
+
+-- ---- what stands lasts. No contract reads these proofs
+
+pub one_lasts : (begun : BegunWidth) (old new : Netlist) → IsBegun WidthKeeps WidthCommand owns_width begun old → Extends old new → ((n : ℕ) → owns_width begun.kept n → IsWaiting old n → IsWaiting new n) → IsBegun WidthKeeps WidthCommand owns_width begun new
+one_lasts begun old new h e w = record {
+  kept = keeps_lasts begun.link begun.kept old new h.kept e w;
+  made = command_lasts begun.link begun.from begun.to begun.kept old new h.made e;
+  waits = λ n o. w n o (h.waits n o);
+}
+
+pub begun_lasts : (begun : List BegunWidth) (old new : Netlist) → AreBegunWidths begun old → Extends old new → ((n : ℕ) → IsOfAnyWidth begun n → IsWaiting old n → IsWaiting new n) → AreBegunWidths begun new
+begun_lasts [] old new h e w = tt
+begun_lasts (begun ∷ later) old new h e w = (one_lasts begun old new h.0 e (λ n o. w n (inl o)), (h.1.0, begun_lasts later old new h.1.1 e (λ n o. w n (inr o))))

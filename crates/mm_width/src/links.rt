@@ -1,0 +1,88 @@
+//! The links of a host and an agent.
+
+ghost use Rattle.std.specs.Prelude.{◌≡◌, ◌≤◌};
+ghost use Rattle.mm_width.specs.Links.{within_64, reads_below, reads_above, width_of};
+
+use crate::pairs::needs_drop;
+use iface_roles::{AgentPort, HostPort};
+use link_core::{Chain, Maybe};
+use mm_drop::{Dropper, DropperKept};
+use mm_select::{Select, SelectKept};
+use mm_split::{Split, SplitKept};
+
+/// The links of a pair: a lane selector or a splitter, and below it what drops beats without a lane, each where it is needed.
+pub type Width = Chain<Chain<Maybe<Select>, Maybe<Split>>, Maybe<Dropper>>;
+
+/// What is kept of them between their two calls, link by link.
+pub type WidthKept = ((Option<SelectKept>, Option<SplitKept>), Option<DropperKept>);
+
+/// From 1 to 64, as a plan's bound is.
+fn within_64(count: u8) -> u8
+    ensures { result ≡ within_64 count }
+{
+    count.min(64).max(1)
+}
+
+/// So many reads an agent and the stages before it can have under way.
+fn reads_below(agent: &AgentPort, stages: u8) -> u8
+    requires stages { stages ≤ 4 }
+    ensures { result ≡ reads_below agent.now stages }
+{
+    let at_agent = if agent.readdatavalid {
+        within_64(agent.pending)
+    } else {
+        within_64(agent.read_latency) + 1
+    };
+    at_agent + 3 * stages
+}
+
+/// So many reads a host keeps under way at the agent.
+fn reads_above(host: &HostPort, agent: &AgentPort, stages: u8) -> u8
+    requires stages { stages ≤ 4 }
+    ensures { result ≡ reads_above host.now agent.now stages }
+{
+    let at_host = if host.readdatavalid { 16 } else { 1 };
+    at_host.min(reads_below(agent, stages))
+}
+
+/// The links that a host and an agent need, with so many stages before the agent.
+pub fn width_of(host: &HostPort, agent: &AgentPort, stages: u8) -> Width
+    requires stages { stages ≤ 4 }
+    ensures { result ≡ width_of host.now agent.now stages }
+{
+    let above = reads_above(host, agent, stages);
+    let below = reads_below(agent, stages);
+    let narrower = host.word_bytes < agent.word_bytes;
+    let wider = agent.word_bytes < host.word_bytes;
+    let select = Select {
+        narrow_bytes: host.word_bytes,
+        wide_bytes: agent.word_bytes,
+        reads: above.max(2),
+    };
+    let split = Split {
+        wide_bytes: host.word_bytes,
+        narrow_bytes: agent.word_bytes,
+        reads: above,
+    };
+    let dropper = Dropper {
+        word_bytes: agent.word_bytes,
+        reads: if wider { below } else { above },
+    };
+    Chain {
+        first: Chain {
+            first: Maybe {
+                link: if narrower { Some(select) } else { None },
+            },
+            second: Maybe {
+                link: if wider { Some(split) } else { None },
+            },
+        },
+        second: Maybe {
+            link: if needs_drop(host, agent) {
+                Some(dropper)
+            } else {
+                None
+            },
+        },
+    }
+}
