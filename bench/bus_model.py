@@ -5,8 +5,9 @@ Reads rows as crates/bus_rows/stdin has them, and prints what crates/bus_rows mu
 
     python3 bench/bus_model.py <crates/bus_rows/stdin | diff - crates/bus_rows/stdout
 
-From a host on stand the part next to it and its route; to an agent lead the arbiter of its hosts, the pipeline stages, and the part
-next to it. Each says in a cycle what it shows below, what it tells above, and takes the clock's edge.
+From a host on stand the part next to it and its route, and the links that fit its words and lanes to those of each of its agents; to an
+agent lead the arbiter of its hosts, the pipeline stages, and the part next to it. Each says in a cycle what it shows below, what it tells
+above, and takes the clock's edge.
 """
 import sys
 
@@ -81,10 +82,11 @@ def accesses_of(host, words):
 
 
 class Command:
-    """What is shown inside: a kind, or None where nothing is, an address in bytes, a word, lanes, and the host behind the arbiter."""
+    """What is shown inside: a kind, or None where nothing is, an address in bytes, a word, lanes, whether another beat of the same command
+    follows, and the host behind the arbiter."""
 
-    def __init__(self, kind, address=0, word=0, lanes=0, tag=None):
-        self.kind, self.address, self.word, self.lanes, self.tag = kind, address, word, lanes, tag
+    def __init__(self, kind, address=0, word=0, lanes=0, more=False, tag=None):
+        self.kind, self.address, self.word, self.lanes, self.more, self.tag = kind, address, word, lanes, more, tag
 
 
 NOTHING = Command(None)
@@ -165,8 +167,159 @@ class Route:
             self.owing = self.now
 
 
+class Selector:
+    """From narrow words to wide ones: a beat goes to the lanes at its place in the wide word, and its word is repeated on all places."""
+
+    def __init__(self, host, agent, room):
+        self.narrow, self.wide, self.room, self.places = host.bytes, agent.bytes, room, []
+
+    def below(self, command):
+        self.command = command
+        self.shut = command.kind == "r" and len(self.places) >= self.room
+        if command.kind is None or self.shut:
+            return NOTHING
+        self.place = command.address % self.wide
+        word = sum(command.word << 8 * k for k in range(0, self.wide, self.narrow))
+        return Command(command.kind, command.address - self.place, word, command.lanes << self.place, command.more)
+
+    def above(self, wait, word):
+        self.taken = self.command.kind == "r" and not self.shut and not wait
+        self.came = word is not None
+        given = None if word is None else word >> 8 * (self.places + [0])[0] & (1 << 8 * self.narrow) - 1
+        return self.shut or wait, given
+
+    def edge(self):
+        self.places = self.places[self.came :] + ([self.place] if self.taken else [])
+
+
+class Splitter:
+    """From wide words to narrow ones: the pieces that have a lane go one by one, and a wide word is given as the last of its pieces comes.
+
+    All reads under way have the same pieces: one with others waits until no word is owed.
+    """
+
+    def __init__(self, host, agent, room):
+        self.wide, self.narrow, self.room = host.bytes, agent.bytes, room
+        self.place, self.pieces, self.reads, self.words = 0, [], 0, []
+
+    def piece(self, command, number):
+        lanes = command.lanes >> number * self.narrow & (1 << self.narrow) - 1
+        word = command.word >> 8 * number * self.narrow & (1 << 8 * self.narrow) - 1
+        return Command(command.kind, command.address + number * self.narrow, word, lanes, True)
+
+    def below(self, command):
+        """A read, and the end of a command, come to one piece at least."""
+        self.command, self.shown = command, NOTHING
+        if command.kind is None:
+            return NOTHING
+        self.parts = [k for k in range(self.wide // self.narrow) if self.piece(command, k).lanes]
+        if not self.parts and not (command.kind == "w" and command.more):
+            self.parts = [0]
+        fits = self.place > 0 or self.reads == 0 or self.pieces == self.parts
+        self.opens = command.kind == "w" or self.reads < self.room and fits
+        if self.opens and self.place < len(self.parts):
+            self.shown = self.piece(command, self.parts[self.place])
+            self.last = self.place + 1 == len(self.parts)
+            self.shown.more = command.more if self.last else True
+        return self.shown
+
+    def above(self, wait, word):
+        self.gone = self.shown.kind is not None and not wait
+        self.accepted = self.command.kind is not None and self.opens and (not self.parts or self.gone and self.last)
+        self.came, given = word, None
+        if word is not None and len(self.words) + 1 >= len(self.pieces):
+            given = sum(each << 8 * number * self.narrow for number, each in zip(self.pieces, self.words + [word]))
+        self.given = given is not None
+        return not self.accepted, given
+
+    def edge(self):
+        if self.came is not None:
+            self.words = [] if self.given else self.words + [self.came]
+        if self.gone and self.command.kind == "r":
+            self.pieces = self.parts
+        self.reads += (self.accepted and self.command.kind == "r") - self.given
+        self.place = 0 if self.accepted else self.place + self.gone
+
+
+class Dropper:
+    """Before an agent without byte enables: a beat without a lane goes no further. A read of it is given 0 once nothing is owed.
+
+    A write that another beat of its command may follow is kept until it is known whether one with a lane does.
+    """
+
+    def __init__(self, room):
+        self.room, self.kept, self.reads, self.own = room, None, 0, False
+
+    def below(self, command):
+        self.command, self.shown, self.acts = command, NOTHING, command.lanes != 0
+        if command.kind is None:
+            return NOTHING
+        if self.kept:
+            if self.acts or not command.more:
+                self.shown = Command("w", self.kept.address, self.kept.word, self.kept.lanes, self.acts)
+        elif self.acts and (not command.more if command.kind == "w" else self.reads < self.room):
+            self.shown = command
+        return self.shown
+
+    def accepts(self):
+        """Whether what stands above is accepted, where it is known whether a beat is taken below."""
+        now = self.command
+        if now.kind is None:
+            return False
+        if not self.acts:
+            free = now.kind == "w" or self.reads == 0
+            return free and (self.gone or not (self.kept and not now.more))
+        if now.kind == "w" and now.more:
+            return self.gone or not self.kept
+        return self.gone and not self.kept
+
+    def above(self, wait, word):
+        self.gone = self.shown.kind is not None and not wait
+        self.accepted, self.came = self.accepts(), word is not None
+        return not self.accepted, 0 if self.own else word
+
+    def edge(self):
+        now = self.command
+        self.reads += (self.gone and self.shown.kind == "r") - self.came
+        self.own = self.accepted and now.kind == "r" and not self.acts
+        if self.accepted and now.kind == "w" and now.more and self.acts:
+            self.kept = now
+        elif self.gone:
+            self.kept = None
+
+
+class Links:
+    """What fits a host's words and lanes to those of an agent."""
+
+    def __init__(self, host, agent, stages):
+        # the reads that host, agent and pipe let be under way
+        below = (max(agent.latency, 1) + 1 if agent.fixed else agent.bound()) + 3 * stages
+        above = min(MOST_READS if host.valid else 1, below)
+        self.links = []
+        if host.bytes < agent.bytes:
+            self.links.append(Selector(host, agent, max(above, 2)))
+        if host.bytes > agent.bytes:
+            self.links.append(Splitter(host, agent, above))
+        if host.enables and not agent.enables:
+            self.links.append(Dropper(below if self.links else above))
+
+    def below(self, command):
+        for link in self.links:
+            command = link.below(command)
+        return command
+
+    def above(self, wait, word):
+        for link in reversed(self.links):
+            wait, word = link.above(wait, word)
+        return wait, word
+
+    def edge(self):
+        for link in self.links:
+            link.edge()
+
+
 class Arbiter:
-    """Gives the agent's hosts turns, by round robin with shares. A command that has begun keeps the agent until it is taken."""
+    """Gives the agent's hosts turns, by round robin with shares. A command that has begun keeps the agent until its last beat is taken."""
 
     def __init__(self, seats):
         self.seats, self.holder, self.left, self.open = seats, len(seats) - 1, 0, None
@@ -188,10 +341,10 @@ class Arbiter:
             self.chosen, self.after = self.open, (self.holder, self.left)
         else:
             self.chosen, *self.after = self.choose([command.kind is not None for command in shown])
-        if self.chosen is None:
+        self.shown = NOTHING if self.chosen is None else shown[self.chosen]
+        if self.shown.kind is None:
             return NOTHING
-        self.shown = shown[self.chosen]
-        return Command(self.shown.kind, self.shown.address, self.shown.word, self.shown.lanes, self.seats[self.chosen][0])
+        return Command(self.shown.kind, self.shown.address, self.shown.word, self.shown.lanes, self.shown.more, self.seats[self.chosen][0])
 
     def above(self, wait, answer):
         """For each host by number whether it waits, and the word that it is given."""
@@ -202,7 +355,8 @@ class Arbiter:
 
     def edge(self):
         self.holder, self.left = self.after
-        self.open = self.chosen if self.chosen is not None and self.waits else None
+        if self.shown.kind is not None:
+            self.open = self.chosen if self.waits or self.shown.more else None
 
 
 class Stage:
@@ -241,7 +395,7 @@ class AgentPart:
         offset = command.address % self.agent.span()
         unit = 1 if self.agent.counts_bytes else self.agent.bytes
         assert offset % unit == 0
-        return Command(command.kind, offset // unit, command.word, command.lanes, command.tag)
+        return Command(command.kind, offset // unit, command.word, command.lanes, command.more, command.tag)
 
     def above(self, wait, port):
         """Whether the part above waits, and the host and the word that come, from what stands at the agent's port."""
@@ -335,18 +489,15 @@ class Memory:
 
 
 def is_refused(host, agents):
-    """Whether a base is no multiple of its footprint, footprints overlap, one ends past the host's range, or no kind is in common."""
+    """Whether a base is no multiple of its footprint, footprints overlap, one ends past the host's range, an agent without byte enables is
+    wider than the host, or no kind is in common."""
     spans = [(agent.at, max(agent.span(), host.bytes)) for agent in agents]
     apart = all(a + size <= b or b + other <= a
                 for k, (a, size) in enumerate(spans) for b, other in spans[:k])
     placed = all(at % size == 0 and at + size <= host.range() for at, size in spans)
     common = all(host.reads and agent.reads or host.writes and agent.writes for agent in agents)
-    return not (apart and placed and common)
-
-
-def is_built(host, agents):
-    """What needs no adapter: words of one width, and lanes that the agent knows."""
-    return all(agent.bits == host.bits and (agent.enables or not host.enables) for agent in agents)
+    wide = all(agent.bits <= host.bits or agent.enables for agent in agents)
+    return not (apart and placed and common and wide)
 
 
 class System:
@@ -355,13 +506,15 @@ class System:
     def __init__(self, row):
         self.tops = [HostPart(host) for host in row.hosts]
         self.routes = [Route(number, host, row.agents) for number, host in enumerate(row.hosts)]
+        self.links = [[Links(host, agent, row.stages) for agent in row.agents] for host in row.hosts]
         self.arbiters = [Arbiter(agent.seats) for agent in row.agents]
         self.pipes = [[Stage() for _ in range(row.stages)] for _ in row.agents]
         self.parts = [AgentPart(agent) for agent in row.agents]
 
     def below(self, shown):
         """What each agent is shown, from what each host shows."""
-        self.commands, asked = [], [route.below(top.below(each)) for top, route, each in zip(self.tops, self.routes, shown)]
+        self.commands, routed = [], [route.below(top.below(each)) for top, route, each in zip(self.tops, self.routes, shown)]
+        asked = [[link.below(command) for link, command in zip(links, commands)] for links, commands in zip(self.links, routed)]
         for place, (arbiter, pipe) in enumerate(zip(self.arbiters, self.pipes)):
             chosen = arbiter.below([commands[place] for commands in asked])
             self.commands.append([chosen] + [stage.shows() for stage in pipe])
@@ -373,8 +526,10 @@ class System:
         self.told = [part.above(wait, word) for part, wait, word in zip(self.parts, waits, words)]
         for arbiter, pipe, (wait, answer) in zip(self.arbiters, self.pipes, self.told):
             told.append(arbiter.above(pipe[0].waits() if pipe else wait, pipe[0].answer if pipe else answer))
-        return [top.above(*route.above([each[0].get(number) for each in told], [each[1].get(number) for each in told]))
-                for number, (top, route) in enumerate(zip(self.tops, self.routes))]
+        fitted = [[link.above(waits.get(number), words.get(number)) for link, (waits, words) in zip(links, told)]
+                  for number, links in enumerate(self.links)]
+        return [top.above(*route.above([wait for wait, _ in each], [word for _, word in each]))
+                for top, route, each in zip(self.tops, self.routes, fitted)]
 
     def edge(self):
         for pipe, commands, (wait, answer) in zip(self.pipes, self.commands, self.told):
@@ -382,7 +537,7 @@ class System:
             answers = [stage.answer for stage in pipe[1:]] + [answer]
             for stage, command, wait, answer in zip(pipe, commands, waits, answers):
                 stage.edge(command, wait, answer)
-        for part in self.tops + self.routes + self.arbiters + self.parts:
+        for part in self.tops + self.routes + sum(self.links, []) + self.arbiters + self.parts:
             part.edge()
 
 
@@ -443,8 +598,6 @@ def answer(line):
     row = Row(line)
     if any(is_refused(host, row.joined(number)) for number, host in enumerate(row.hosts)):
         return ["refused"]
-    if not all(is_built(host, row.joined(number)) for number, host in enumerate(row.hosts)):
-        return ["not built"]
     return step(row)
 
 

@@ -1,5 +1,5 @@
--- Which connections are built so far: each stream, and those of hosts to agents that need no adapter between them. Which streams are wires.
-use Rattle.std.specs.Prelude.{ℕ, Bool, true, false, not, ◌&&◌, ◌||◌, ◌==◌, nat_le, take, count_by, Option, slice_get}
+-- Which connections are built so far: each stream, and those of hosts to agents where neither has bursts. Which streams are wires.
+use Rattle.std.specs.Prelude.{ℕ, Bool, true, false, not, ◌&&◌, ◌==◌, nat_le, take, count_by, Option, slice_get}
 use Rattle.std.specs.List.{position_from}
 use Rattle.std.specs.Option.{option_map_or}
 use Rattle.iface_roles.specs.declared.records.HostPort.{HostPort}
@@ -34,15 +34,14 @@ abbrev pub is_wire_stream : Declared → Declared → ℕ → Bool
 is_wire_stream source sink fifo =
     has_same_beats source sink && nat_le source.max_channel sink.max_channel && has_plain_ready source sink && (fifo == 0)
 
--- each beat of the host is one of the agent: words of one width, no bursts at either end, and byte enables at the agent where the host has them
-abbrev pub is_plain_pair : HostPort → AgentPort → Bool
-is_plain_pair host agent =
-    (host.word_bytes == agent.word_bytes) && (host.burst_bits == 0) && (agent.burst_bits == 0) && (agent.enables || not host.enables)
+-- no bursts at either end
+abbrev pub has_single_beats : HostPort → AgentPort → Bool
+has_single_beats host agent = (host.burst_bits == 0) && (agent.burst_bits == 0)
 
--- a stream, or a host and an agent whose beats are the same
+-- a stream, or a host and an agent without bursts
 abbrev pub is_built_as : Finished → Finished → Bool
 is_built_as (Source source) (Sink sink) = true
-is_built_as (Host host) (Agent agent) = is_plain_pair host agent
+is_built_as (Host host) (Agent agent) = has_single_beats host agent
 is_built_as _ _ = false
 
 -- the connection is one of those that are built

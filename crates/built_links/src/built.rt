@@ -1,7 +1,7 @@
 ghost use Rattle.std.specs.Prelude.{◌≡◌};
 ghost use Rattle.system_tables.specs.Tables.{IsLogic};
 ghost use Rattle.st_timing.specs.Ends.{declared};
-ghost use Rattle.built_links.specs.Wires.{has_same_beats, has_plain_ready, is_wire_stream, is_plain_pair, is_built, pending_of};
+ghost use Rattle.built_links.specs.Wires.{has_same_beats, has_plain_ready, is_wire_stream, has_single_beats, is_built, pending_of};
 
 use iface_roles::{AgentPort, Finished, HostPort, SinkPort, SourcePort};
 use link_rules::Plan;
@@ -36,14 +36,11 @@ pub fn is_wire_stream(source: &SourcePort, sink: &SinkPort, fifo: u8) -> bool
         && fifo == 0
 }
 
-/// Whether each beat of the host is one of the agent.
-fn is_plain_pair(host: &HostPort, agent: &AgentPort) -> bool
-    ensures { result ≡ is_plain_pair host.now agent.now }
+/// Whether neither end has bursts.
+fn has_single_beats(host: &HostPort, agent: &AgentPort) -> bool
+    ensures { result ≡ has_single_beats host.now agent.now }
 {
-    host.word_bytes == agent.word_bytes
-        && host.burst_bits == 0
-        && agent.burst_bits == 0
-        && (agent.enables || !host.enables)
+    host.burst_bits == 0 && agent.burst_bits == 0
 }
 
 /// Whether the connection is one of those that are built so far.
@@ -55,7 +52,7 @@ fn is_built(plan: &Plan, connection: Connection) -> bool
     let end = plan.interface(connection.end);
     match (start, end) {
         (Finished::Source(_), Finished::Sink(_)) => true,
-        (Finished::Host(host), Finished::Agent(agent)) => is_plain_pair(&host, &agent),
+        (Finished::Host(host), Finished::Agent(agent)) => has_single_beats(&host, &agent),
         _ => false,
     }
 }

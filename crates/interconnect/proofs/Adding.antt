@@ -1,5 +1,5 @@
 -- What is asked of the hosts and agents that a fabric is made for, and what its parts are.
-use Rattle.std.proofs.Common.{◌≡◌, ℕ, ◌+◌, ◌<◌, ◌^◌, List, length, map, slice_get, Option, sym, ap, subst, ◌∙◌, inl, inr, arith}
+use Rattle.std.proofs.Common.{◌≡◌, ℕ, List, length, map, slice_get, Option, sym, ap, subst, ◌∙◌, inl, inr, arith}
 use Rattle.std.specs.Option.{option_map_or}
 use Rattle.std.proofs.lemmas.List.{length-map}
 use Rattle.iface_roles.specs.declared.records.Finished.TheVariants.{Other}
@@ -15,13 +15,14 @@ use Rattle.mm_fabric.specs.declared.begun.HostEnd.{HostEnd}
 use Rattle.mm_fabric.specs.declared.asks.AgentEnd.{AgentEnd}
 use Rattle.mm_fabric.specs.declared.fabric.FabricParts.{FabricParts}
 use Rattle.mm_fabric.specs.Askers.{HasNoRoomFor}
+use Rattle.link_rules.specs.PlanLinks.{memory_links}
 use Rattle.mm_fabric.specs.Ends.{AreHosts, AreAgents, AreParts, host_end_of, agent_end_of, fabric_nets}
 use Rattle.port_tables.specs.PortMaps.{HasKnownPorts}
 use Rattle.interconnect.specs.Hosts.{AreHostsIn}
 use Rattle.interconnect.specs.Agents.{AreAgentsIn}
 use Rattle.interconnect.specs.Fabrics.{AddsFabric}
 use Rattle.interconnect.specs.Joins.{IsBegun}
-use Rattle.interconnect.proofs.Weights.{fabric_few}
+use Rattle.interconnect.proofs.Weights.{HasFewLinks, fabric_few}
 use Rattle.interconnect.proofs.Passing.{mapped}
 
 pub are_hosts : (plan : PlanTable) (netlist : Netlist) (hosts : List HostEnd) → AreHostsIn plan.system netlist (length (hosts_of plan.system)) hosts → AreHosts plan netlist hosts
@@ -38,19 +39,20 @@ are_agents plan netlist agents h = record {
 
 -- there is room for them all
 pub room_for_all : (system : SystemTable) (netlist : Netlist) (hosts agents : ℕ) → HasKnownPorts system → IsBegun system netlist → hosts ≡ length (hosts_of system) → agents ≡ length (agents_of system)
-    → HasNoRoomFor (fabric_nets hosts agents) agents netlist → ⊥
-room_for_all system netlist hosts agents h begun many_hosts many_agents (inr full) =
+    → HasFewLinks system → HasNoRoomFor (fabric_nets hosts agents (length (memory_links system))) agents netlist → ⊥
+room_for_all system netlist hosts agents h begun many_hosts many_agents links (inr full) =
     let none = ap (λ (ms : List Memory). length ms) begun.memories in
     let few_agents = h.planned.few_agents in
     omega (arith, none, few_agents, many_agents, full)
-room_for_all system netlist hosts agents h begun many_hosts many_agents (inl full) =
-    let most = fabric_few hosts agents in
+room_for_all system netlist hosts agents h begun many_hosts many_agents links (inl full) =
+    let most = fabric_few hosts agents (length (memory_links system)) in
+    let few_links = links.agents in
     let few_hosts = h.planned.few_hosts in
     let few_agents = h.planned.few_agents in
     let streams = h.planned.few_streams in
     let inputs = h.few_inputs in
     let lines = begun.few in
-    omega (arith, most, few_hosts, few_agents, streams, inputs, lines, many_hosts, many_agents, full)
+    omega (arith, most, few_links, few_hosts, few_agents, streams, inputs, lines, many_hosts, many_agents, full)
 
 -- what was made
 pub record IsMade (plan : PlanTable) (old new : Netlist) (hosts : List HostEnd) (agents : List AgentEnd) (parts : FabricParts) : Type 0 where
@@ -59,7 +61,7 @@ pub record IsMade (plan : PlanTable) (old new : Netlist) (hosts : List HostEnd) 
   pub hosts_are : map host_end_of parts.hosts ≡ hosts
   pub agents_are : map agent_end_of parts.agents ≡ agents
   pub stands : AreParts plan new parts
-  pub grows : GrowsInMemory (fabric_nets (length hosts) (length agents)) (length agents) old new
+  pub grows : GrowsInMemory (fabric_nets (length hosts) (length agents) (length (memory_links plan.system))) (length agents) old new
   pub no_more_wait : StillWait new old
   pub no_more_wait_for_write : StillWaitForWrite new old
 
@@ -75,8 +77,8 @@ adds_fabric plan old new hosts agents parts m =
         agents = λ a part at. m.agents_in.each a (agent_end_of part) (ap (λ (es : List AgentEnd). slice_get es a) (sym m.agents_are) ∙ mapped agent_end_of parts.agents a part at);
       };
       stands = m.stands;
-      grows = subst (λ (n : ℕ). GrowsInMemory (fabric_nets n (length (agents_of plan.system))) (length (agents_of plan.system)) old new) host_count
-          (subst (λ (n : ℕ). GrowsInMemory (fabric_nets (length hosts) n) n old new) agent_count m.grows);
+      grows = subst (λ (n : ℕ). GrowsInMemory (fabric_nets n (length (agents_of plan.system)) (length (memory_links plan.system))) (length (agents_of plan.system)) old new) host_count
+          (subst (λ (n : ℕ). GrowsInMemory (fabric_nets (length hosts) n (length (memory_links plan.system))) n old new) agent_count m.grows);
       no_more_wait = m.no_more_wait;
       no_more_wait_for_write = m.no_more_wait_for_write;
     }

@@ -35,7 +35,7 @@ use Rattle.interconnect.proofs.Forms.{wire_is}
 use Rattle.port_tables.specs.Numbering.{plan_end}
 use Rattle.interconnect.proofs.StreamEnds.{source_known, sink_known, source_among, sink_among}
 use Rattle.interconnect.proofs.WireNets.{WiresAreServed, wire_serves, wire_path, low_bit, grows-none}
-use Rattle.interconnect.proofs.Weights.{memory_room}
+use Rattle.interconnect.proofs.Weights.{HasFewLinks, memory_room}
 use Rattle.interconnect.proofs.LowNets.{mul_some, wire_below, wire_test}
 use Rattle.port_tables.specs.Lists.{Among}
 
@@ -225,12 +225,12 @@ ready_if system end sink netlist net h read =
     let here = ready_input system end sink h in
     bit_if (ports_of system) netlist sink.ready (port_at system end role.Ready) net (ready_port system end sink h) (read.net_is 1 here) (read.is 1 here)
 
-pub path_room : (plan : PlanTable) (number : ℕ) (netlist : Netlist) → HasKnownPorts plan.system → number < length (streams_of plan.system) → IsJoinedUpTo plan number netlist
+pub path_room : (plan : PlanTable) (number : ℕ) (netlist : Netlist) → HasKnownPorts plan.system → HasFewLinks plan.system → number < length (streams_of plan.system) → IsJoinedUpTo plan number netlist
     → length netlist.lines + most_nets ≤ 2 ^ 20
-path_room plan number netlist h inside upto =
+path_room plan number netlist h links inside upto =
     let few = upto.few in
     let inputs = h.few_inputs in
-    let memory = memory_room plan.system h.planned in
+    let memory = memory_room plan.system h.planned links in
     let streams = h.planned.few_streams in
     omega (arith, few, inputs, memory, streams, inside)
 

@@ -1,5 +1,5 @@
--- The hosts and agents of a plan none of whose connections is pending: they have links, and need no adapter between them.
-use Rattle.std.proofs.Common.{◌≡◌, ℕ, ◌<◌, ◌≤◌, true, not, ◌||◌, List, [], ◌∷◌, length, map, slice_get, Option, Some, None, sym, ap, subst, ◌∙◌, arith}
+-- The hosts and agents of a plan none of whose connections is pending: they have links, and no bursts.
+use Rattle.std.proofs.Common.{◌≡◌, ℕ, ◌<◌, true, List, [], ◌∷◌, length, map, slice_get, Option, Some, None, sym, ap, subst, ◌∙◌, arith}
 use Rattle.std.specs.Option.{option_map_or}
 use Rattle.std.proofs.lemmas.Bool.{and_parts, eqb-true}
 use Rattle.std.proofs.lemmas.Option.{same_Some, slice_get_within}
@@ -17,14 +17,12 @@ use Rattle.address_map.specs.Maps.{mm_connections, mm_ends, end_at, IsJoined, ho
 use Rattle.link_rules.specs.declared.plan_links.MemoryLink.{MemoryLink}
 use Rattle.link_rules.specs.PlanLinks.{memory_links, IsMemoryLink, HasMemoryLink}
 use Rattle.link_rules.specs.Plans.{PlanTable, IsPlan}
-use Rattle.memory_sides.specs.Sides.{burst_width}
-use Rattle.mm_fabric.specs.Askers.{IsServed}
 use Rattle.mm_path.specs.Maps.{IsAgentOf}
 use Rattle.mm_fabric.specs.Ends.{IsPlainLink, IsPlain}
 use Rattle.port_tables.specs.EndFacts.{IsPlanned, planned, known_is}
 use Rattle.port_tables.specs.Lists.{Among, among_at, among_map, among_image}
 use Rattle.port_tables.specs.Numbering.{among_once, mm_kind}
-use Rattle.built_links.specs.Wires.{is_plain_pair, is_built_as, pending_of}
+use Rattle.built_links.specs.Wires.{has_single_beats, is_built_as, pending_of}
 use Rattle.interconnect.proofs.Forms.{all_built}
 use Rattle.interconnect.proofs.Passing.{there_at}
 
@@ -39,30 +37,11 @@ pub record LinkLaws (plan : PlanTable) : Type 0 where
 
 -- ---- a link that is built
 
--- what it keeps
-pub record IsBuiltLink (link : MemoryLink) : Type 0 where
-  pub words : link.host.word_bytes ≡ link.agent.word_bytes
-  pub host_burst : link.host.burst_bits ≡ 0
-  pub agent_burst : link.agent.burst_bits ≡ 0
-  pub lanes : (link.agent.enables || not link.host.enables) ≡ true
-
-built_by : (link : MemoryLink) → is_plain_pair link.host link.agent ≡ true → IsBuiltLink link
+-- neither of its ends has bursts
+built_by : (link : MemoryLink) → has_single_beats link.host link.agent ≡ true → IsPlainLink link
 built_by link e =
-    let f = and_parts _ (link.agent.enables || not link.host.enables) e in
-    let g = and_parts _ _ f.0 in
-    let h = and_parts _ _ g.0 in
-    record {
-      words = eqb-true link.host.word_bytes link.agent.word_bytes h.0;
-      host_burst = eqb-true link.host.burst_bits 0 h.1;
-      agent_burst = eqb-true link.agent.burst_bits 0 g.1;
-      lanes = f.1;
-    }
-
-no_longer : (n m : ℕ) → n ≡ 0 → m ≡ 0 → burst_width n ≤ burst_width m
-no_longer n m e f =
-    let one : burst_width n ≡ 1 = ap burst_width e in
-    let other : burst_width m ≡ 1 = ap burst_width f in
-    omega (arith, one, other)
+    let both = and_parts _ _ e in
+    record { host = eqb-true link.host.burst_bits 0 both.0; agent = eqb-true link.agent.burst_bits 0 both.1 }
 
 -- ---- the links of a plan
 
@@ -83,7 +62,7 @@ module _ (plan : PlanTable) (laws : LinkLaws plan) where
     pub end_known : known_at plan.system of_connection.connection.end ≡ Agent link.agent
     end_known = known_is plan.system of_connection.connection.end (Agent link.agent) of_connection.agent
 
-    pub built : IsBuiltLink link
+    pub built : IsPlainLink link
     built =
         let c = of_connection.connection in
         let is = all_built plan.system link.connection c laws.none of_connection.connection_is in
@@ -129,30 +108,20 @@ module _ (plan : PlanTable) (laws : LinkLaws plan) where
       let l = link_there End agent end.0 end.1 in
       record { place = l.0; link = l.1; at = l.2; is = laws.one End l.1.agent_number agent end.0 ((of_connection l.0 l.1 l.2).agent_is ∙ ap Some l.3) end.1 }
 
-  -- ---- no adapter is needed
-
-  -- an agent is served
-  agent_served : (a : ℕ) (port : AgentPort) → a < length (agents_of plan.system) → IsAgentOf plan a port → IsServed port
-  agent_served a port below is =
-      let l = agent_has_link a below in
-      let of = of_connection l.place l.link l.at in
-      let b = built l.place l.link l.at in
-      let there : slice_get (agents_of plan.system) a ≡ Some of.connection.end = ap (slice_get (agents_of plan.system)) (sym l.is) ∙ of.agent_is in
-      let known : Agent l.link.agent ≡ Agent port = sym (end_known l.place l.link l.at) ∙ ap (λ (o : Option EndId). option_map_or (known_at plan.system) o Other) (sym there) ∙ is in
-      let same : l.link.agent ≡ port = cc in
-      subst IsServed same (record { no_burst = b.agent_burst })
-
-  plain_link : (k : ℕ) (link : MemoryLink) → slice_get links k ≡ Some link → IsPlainLink link
-  plain_link k link at =
-      let b = built k link at in
-      record { words = b.words; bursts = no_longer link.host.burst_bits link.agent.burst_bits b.host_burst b.agent_burst; lanes = b.lanes }
+  -- ---- no bursts
 
   pub is_plain : IsPlain plan
-  is_plain = record { served = agent_served; links = plain_link }
+  is_plain k link at = built k link at
 
   -- no agent has bursts
   pub agent_burst : (a : ℕ) (port : AgentPort) → a < length (agents_of plan.system) → IsAgentOf plan a port → port.burst_bits ≡ 0
-  agent_burst a port below is = (agent_served a port below is).no_burst
+  agent_burst a port below is =
+      let l = agent_has_link a below in
+      let of = of_connection l.place l.link l.at in
+      let there : slice_get (agents_of plan.system) a ≡ Some of.connection.end = ap (slice_get (agents_of plan.system)) (sym l.is) ∙ of.agent_is in
+      let known : Agent l.link.agent ≡ Agent port = sym (end_known l.place l.link l.at) ∙ ap (λ (o : Option EndId). option_map_or (known_at plan.system) o Other) (sym there) ∙ is in
+      let same : l.link.agent ≡ port = cc in
+      ap (λ (p : AgentPort). p.burst_bits) (sym same) ∙ (built l.place l.link l.at).agent
 
   -- an agent has a host
   pub agent_has_host : (a : ℕ) → a < length (agents_of plan.system) → 0 < length (hosts_of plan.system)

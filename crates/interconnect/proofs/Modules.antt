@@ -30,7 +30,7 @@ use Rattle.built_links.specs.Wires.{is_wire, is_wire_at, wires_before, is_wire_s
 use Rattle.interconnect.specs.Streams.{IsStream}
 use Rattle.interconnect.specs.Joins.{IsJoinedUpTo}
 use Rattle.interconnect.specs.Interconnect.{IsInterconnect}
-use Rattle.interconnect.proofs.Weights.{memory_few}
+use Rattle.interconnect.proofs.Weights.{HasFewLinks, memory_few}
 use Rattle.interconnect.proofs.LowNets.{mul_some, wire_below}
 use Rattle.interconnect.proofs.Served.{IsJoinedIn, is_served, is_wired, source_driven, sink_driven}
 use Rattle.interconnect.proofs.Links.{LinkLaws}
@@ -75,6 +75,7 @@ pub record IsWhole (plan : PlanTable) (netlist : Netlist) : Type 0 where
   pub laws : LinkLaws plan
   pub upto : IsJoinedUpTo plan (length (streams_of plan.system)) netlist
   pub well_made : IsWellMade netlist
+  pub few_links : HasFewLinks plan.system
 
 joined_in : (plan : PlanTable) (number : ℕ) (connection : Connection) (source : StreamPort) (sink : StreamPort) (netlist : Netlist) → (w : IsWhole plan netlist) → IsStream plan.system number connection source sink
     → IsJoinedIn plan.system number connection netlist
@@ -165,7 +166,7 @@ all_driven plan netlist w k width o =
 
 -- the inputs are so few for the ends that there are
 module_few : (plan : PlanTable) (netlist : Netlist) → IsWhole plan netlist → length netlist.lines ≤ weight_of plan.system
-module_few plan netlist w = let most = w.upto.few in let inputs = w.known.inputs_by_ends in let memory = memory_few plan.system in omega (arith, most, inputs, memory)
+module_few plan netlist w = let most = w.upto.few in let inputs = w.known.inputs_by_ends in let memory = memory_few plan.system w.few_links in omega (arith, most, inputs, memory)
 
 pub interconnect_is : (plan : PlanTable) (netlist : Netlist) → FabricLaws plan → RunLaws → ((run : Run) (cycles : ℕ) → IsRun netlist run cycles → GoesOn netlist run cycles) → IsWhole plan netlist → IsInterconnect plan netlist
 unfolding place_of_stream joined_in

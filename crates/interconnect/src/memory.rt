@@ -14,12 +14,13 @@ use crate::hosts::{drive_hosts, host_ends};
 use address_map::{ends_are_joined, ends_have_one_number};
 use av_base::NoMemory;
 use link_rules::{Plan, memory_links_are_numbered};
-use mm_fabric::{FabricParts, emit_fabric};
+use mm_fabric::{FabricParts, emit_fabric, links_are_few};
+use mm_path::links_are_connections;
 use netlist::{Builder, NetFault};
 use port_tables::{PortMap, ports_are_known};
 use std::alloc::Global;
 
-/// Where no connection is pending, hosts and agents are joined without adapters.
+/// Where no connection is pending, no host and no agent has bursts.
 fn built_plans_are_plain()
     ensures { (plan : PlanTable) → IsPlan plan → pending_of plan.system ≡ None → IsPlain plan }
 {
@@ -44,6 +45,8 @@ fn add_fabric(
     plan.well_made();
     ports_are_known(plan);
     built_plans_are_plain();
+    links_are_connections();
+    links_are_few();
     let hosts = host_ends(alloc, builder, plan, ports)?;
     let agents = agent_ends(alloc, builder, plan, ports)?;
     match emit_fabric(alloc, builder, plan, hosts.as_slice(), agents.as_slice()) {

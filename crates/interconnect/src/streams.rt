@@ -23,6 +23,8 @@ use av_base::{List, NoMemory, Val};
 use built_links::is_wire_stream;
 use iface_roles::{SinkPort, SourcePort, proper_records_are_bounded};
 use link_rules::{Plan, StreamLink, streams_are_numbered};
+use mm_fabric::links_are_few;
+use mm_path::links_are_connections;
 use netlist::{Builder, Net, NetFault};
 use port_tables::{PortMap, PortRole, ports_are_known};
 use stage_core::BeatNets;
@@ -164,6 +166,9 @@ fn stream_nets(
     // the law of a wire, which the contract rests on
     stream_runs::wire_is_served();
     proper_records_are_bounded();
+    plan.well_made();
+    links_are_connections();
+    links_are_few();
     ports_are_known(plan);
     let from = source_nets(builder, plan, ports, link.source_end);
     let ready = input_of(builder, plan, ports, link.sink_end, PortRole::Ready);

@@ -10,7 +10,8 @@ use av_base::NoMemory;
 use iface_roles::proper_records_are_bounded;
 use link_rules::{Plan, memory_links_are_numbered};
 use memory_plans::plans_are_memory_plans;
-use mm_fabric::{fabrics_are_served, fabrics_ignore_words};
+use mm_fabric::{fabrics_are_served, fabrics_ignore_words, links_are_few};
+use mm_path::links_are_connections;
 use mm_runs::{memory_is_read_back, same_beginnings};
 use netlist::{Module, goes_on};
 use port_tables::{PortMap, ports_are_known, start};
@@ -35,6 +36,8 @@ pub fn build(alloc: Global, plan: &Plan) -> Result<Built, NoMemory>
     ends_have_one_number();
     ends_are_joined();
     plans_are_memory_plans();
+    links_are_connections();
+    links_are_few();
     fabrics_are_served();
     fabrics_ignore_words();
     same_beginnings();

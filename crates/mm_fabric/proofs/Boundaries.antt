@@ -1,31 +1,24 @@
--- The boundaries inside a fabric, as a run shows them, and the wires among them.
-use Rattle.std.proofs.Common.{◌≡◌, ℕ, zero, suc, ◌<◌, ◌≤◌, Bool, true, false, ◌&&◌, ◌||◌, nat_eq, Option, IsTrue, refl, sym, subst, ap, ◌∙◌, arith}
+-- The boundaries inside a fabric, as a run shows them, and what is shown where host and agent aren't joined.
+use Rattle.std.proofs.Common.{◌≡◌, ℕ, ◌<◌, ◌≤◌, Bool, true, false, ◌&&◌, nat_eq, Option, IsTrue, refl, sym, subst, ap, ◌∙◌, arith}
 use Rattle.std.specs.Bool.{IsFalse}
 use Rattle.std.specs.Option.{option_map_or}
 use Rattle.std.proofs.lemmas.Bool.{false≢true}
-use Rattle.std.proofs.Math.Path.{fun_ext}
 use Rattle.histories.specs.History.{is_raised, one_if}
 use Rattle.netlist.specs.Netlists.{Netlist}
-use Rattle.netlist.specs.Runs.{Run, IsEndlessRun, cycle_of}
+use Rattle.netlist.specs.Runs.{Run, IsEndlessRun}
 use Rattle.netlist.specs.Longer.{Extends}
 use Rattle.link_rules.specs.Plans.{PlanTable}
-use Rattle.mm_runs.specs.Views.{Shape, Signals}
-use Rattle.mm_runs.specs.Commands.{shows, burst_before, burst_after, transfer_of}
-use Rattle.mm_runs.specs.Views.{levels_at}
+use Rattle.mm_runs.specs.Commands.{shows}
 use Rattle.mm_runs.specs.Order.{is_joined}
 use Rattle.mm_runs.specs.Plan.{IsMemoryPlan}
-use Rattle.mm_machines.specs.Paths.{CommandView, AnswerView}
-use Rattle.mm_machines.specs.Link.{Port, takes}
+use Rattle.mm_machines.specs.Paths.{AnswerView}
+use Rattle.mm_machines.specs.Link.{Port}
 use Rattle.mm_machines.specs.Lines.{TaggedPort}
-use Rattle.mm_machines.specs.Machines.{Raw, port_of}
-use Rattle.mm_parts.specs.Joins.{JoinsBeats}
 use Rattle.mm_parts.specs.Steps.{AreSilentPast}
 use Rattle.ranks.specs.Turns.{is_seated}
-use Rattle.memory_sides.specs.Sides.{burst_width}
 use Rattle.memory_plans.specs.Routes.{routes_of, AreRoutes}
 use Rattle.memory_plans.specs.Systems.{memory_system}
-use Rattle.command_nets.specs.Nets.{port_in, raw_in, answer_view}
-use Rattle.mm_route.specs.declared.back.BackNets.{BackNets}
+use Rattle.command_nets.specs.Nets.{port_in}
 use Rattle.mm_route.specs.Machine.{has_entry, down_at, silent_port}
 use Rattle.mm_host.specs.Forms.{shape_below}
 use Rattle.mm_agent.specs.Agents.{shape_above}
@@ -34,15 +27,14 @@ use Rattle.mm_links.specs.Pipes.{PipeSides}
 use Rattle.mm_arbiter.specs.Machine.{AreSides, IsOutside, below_port, seats_from}
 use Rattle.mm_awake.specs.PipeStages.{lower_of}
 use Rattle.mm_awake.specs.Fair.{are_apart}
-use Rattle.mm_awake.specs.WiredSystem.{WiredPorts}
-use Rattle.mm_awake.specs.Wires.{IsWire, HandsAllOn, shape_with, with_bursts}
-use Rattle.mm_fabric.specs.declared.parts.Way.{Way}
+use Rattle.mm_awake.specs.RowSystem.{RowPorts}
+use Rattle.mm_awake.specs.Wires.{HandsAllOn}
 use Rattle.mm_fabric.specs.declared.parts.HostPart.{HostPart}
 use Rattle.mm_fabric.specs.declared.parts.Seat.{Seat}
 use Rattle.mm_fabric.specs.declared.parts.AgentPart.{AgentPart}
 use Rattle.mm_fabric.specs.Parts.{askers_of, commands_above, commands_below, backs_above, backs_below}
 use Rattle.mm_fabric.specs.Fabrics.{Fabric, IsFabric, AreJoined, seat_of}
-use Rattle.mm_fabric.proofs.Known.{always_valued, seated_is, seats_are_apart}
+use Rattle.mm_fabric.proofs.Known.{seated_is, seats_are_apart}
 use Rattle.mm_fabric.proofs.Seats.{not_true, seat_side, unseated, sides_are}
 use Rattle.mm_fabric.proofs.Ways.{way_side, way_is, leads_nowhere, entry_there}
 
@@ -76,57 +68,16 @@ silent_above fabric run h a = silent_port (shape_above (fabric.agent a).port) ru
 abbrev pub above_arbiter : Fabric → Run → ℕ → ℕ → Port
 above_arbiter fabric run h a = option_map_or (seat_side (shape_above (fabric.agent a).port) run) (seat_of h (fabric.agent a).seats) (silent_above fabric run h a)
 
--- with a pipe for each agent
-abbrev pub ports_in : PlanTable → Fabric → (ℕ → PipeSides) → Run → WiredPorts
-ports_in plan fabric pipe run = record {
+-- with a side among the links of each host and agent, and a pipe for each agent
+abbrev pub ports_in : PlanTable → Fabric → (ℕ → ℕ → Port) → (ℕ → PipeSides) → Run → RowPorts
+ports_in plan fabric low pipe run = record {
   after_host = λ h. below_host (fabric.host h) run;
   after_route = below_route plan fabric run;
+  below_cutter = below_route plan fabric run;
+  above_dropper = low;
   before_arbiter = above_arbiter fabric run;
   lower = λ a. lower_of plan.system.stages (pipe a);
 }
-
--- ---- a wire between sides that differ in bursts alone
-
--- the commands that show these beats
-abbrev pub commands_by : (ℕ → Raw) → (ℕ → ℕ) → CommandView
-commands_by raws wait = record {
-  signals = record {
-    read = λ c. (raws c).levels.read;
-    write = λ c. (raws c).levels.write;
-    address = λ c. (raws c).levels.address;
-    word = λ c. (raws c).levels.word;
-    enables = λ c. (raws c).levels.enables;
-    count = λ c. (raws c).levels.count;
-  };
-  more = λ c. (raws c).more;
-  tag = λ c. (raws c).tag;
-  waitrequest = wait;
-}
-
-same_side : (shape : Shape) (run : Run) (way : Way) (seat : Seat) → ((c : ℕ) → raw_in (cycle_of run c) seat.command ≡ raw_in (cycle_of run c) way.command) → seat.back ≡ way.back → way_side shape run way ≡ seat_side shape run seat
-same_side shape run way seat beat back =
-    ap (λ (raws : ℕ → Raw). port_of shape (commands_by raws (λ c. run.net c way.back.wait.number)) (answer_view run way.back.answer)) (fun_ext (λ c. sym (beat c)))
-    ∙ ap (λ (back : BackNets). port_in shape run seat.command back.wait back.answer) (sym back)
-
-wire_between : (words other bits most : ℕ) (run : Run) (way : Way) (seat : Seat) → words ≡ other → bits ≤ most → ((c : ℕ) → raw_in (cycle_of run c) seat.command ≡ raw_in (cycle_of run c) way.command) → seat.back ≡ way.back →
-    IsWire (way_side (record { word_bytes = words; unit_bytes = 1; burst_bits = bits; has_enables = true }) run way) (seat_side (record { word_bytes = other; unit_bytes = 1; burst_bits = most; has_enables = true }) run seat)
-wire_between words other bits most run way seat same longer beat back = record {
-  same = ap (λ n. way_side (record { word_bytes = n; unit_bytes = 1; burst_bits = most; has_enables = true }) run way) same ∙ same_side (record { word_bytes = other; unit_bytes = 1; burst_bits = most; has_enables = true }) run way seat beat back;
-  longer = longer;
-}
-
--- ---- what is joined above a wire is joined below
-
-same_burst : (bits : ℕ) (shape : Shape) (signals : Signals) (accepts : ℕ → Bool) (c : ℕ) → burst_before (shape_with bits shape) signals accepts c ≡ burst_before shape signals accepts c
-same_burst bits shape signals accepts zero = refl
-same_burst bits shape signals accepts (suc c) = ap (burst_after shape (levels_at signals c) (accepts c)) (same_burst bits shape signals accepts c)
-
-joins_widened : (bits : ℕ) (up : Port) (end : ℕ) → JoinsBeats up end → JoinsBeats (with_bursts bits up) end
-joins_widened bits up end joins c low shown =
-    ap (λ burst. (transfer_of up.shape (levels_at up.commands.signals c) burst).ends || is_raised (up.commands.more c)) (same_burst bits up.shape up.commands.signals (takes up) c) ∙ joins c low shown
-
-joins_on : (up down : Port) (end : ℕ) → IsWire up down → JoinsBeats up end → JoinsBeats down end
-joins_on up down end wire joins = subst (λ (p : Port). JoinsBeats p end) wire.same (joins_widened down.shape.burst_bits up end joins)
 
 raised_one_if : (b : Bool) → is_raised (one_if b) ≡ b
 raised_one_if true = refl
@@ -144,21 +95,13 @@ module _ (plan : PlanTable) (planned : IsMemoryPlan (memory_system plan)) (netli
   -- ---- the sides of a host and an agent
 
   module _ (h a : ℕ) (low : h < (memory_system plan).hosts) (joins : AreJoined netlist h a (fabric.host h) (fabric.agent a)) where
-    route_side : below_route plan fabric run h a ≡ way_side (shape_below (fabric.host h).port) run joins.way
+    pub route_side : below_route plan fabric run h a ≡ way_side (shape_below (fabric.host h).port) run joins.way
     route_side =
         let part = fabric.host h in
         way_is (shape_below part.port) run part.held.command h (λ agent. answers_to (fabric.agent agent) run h) a (routes_of plan.system h) part.ways (is.host h low).agents joins.way joins.way_is
 
-    arbiter_side : above_arbiter fabric run h a ≡ seat_side (shape_above (fabric.agent a).port) run joins.seat
+    pub arbiter_side : above_arbiter fabric run h a ≡ seat_side (shape_above (fabric.agent a).port) run joins.seat
     arbiter_side = ap (λ (o : Option Seat). option_map_or (seat_side (shape_above (fabric.agent a).port) run) o (silent_above fabric run h a)) joins.seat_is
-
-    pub wire : IsWire (below_route plan fabric run h a) (above_arbiter fabric run h a)
-    wire =
-        let host = (fabric.host h).port in
-        let agent = (fabric.agent a).port in
-        let made = wire_between host.word_bytes agent.word_bytes (burst_width host.burst_bits) (burst_width agent.burst_bits) run joins.way joins.seat joins.words joins.bursts
-        (λ c. joins.meets.beat (cycle_of run c) (always_valued netlist longer extends run endless c)) joins.meets.back in
-        subst (λ (p : Port). IsWire p (above_arbiter fabric run h a)) (sym route_side) (subst (λ (p : Port). IsWire (way_side (shape_below host) run joins.way) p) (sym arbiter_side) made)
 
   -- where host and agent aren't joined nothing is shown on both sides
   unseated_side : (h a : ℕ) → is_seated h (seats_from (askers_of (fabric.agent a).seats)) ≡ false → above_arbiter fabric run h a ≡ silent_above fabric run h a
@@ -203,6 +146,3 @@ module _ (plan : PlanTable) (planned : IsMemoryPlan (memory_system plan)) (netli
     sides distinct =
         sides_are (shape_above (fabric.agent a).port) run (λ h. above_arbiter fabric run h a) (fabric.agent a).seats (seats_are_apart plan netlist fabric is a there distinct)
         (λ h seat found. ap (λ (o : Option Seat). option_map_or (seat_side (shape_above (fabric.agent a).port) run) o (silent_above fabric run h a)) found)
-
-    pub joined : (h end : ℕ) (low : h < (memory_system plan).hosts) → IsTrue (is_joined (memory_system plan) a h) → JoinsBeats (below_route plan fabric run h a) end → JoinsBeats (above_arbiter fabric run h a) end
-    joined h end low has joins = joins_on (below_route plan fabric run h a) (above_arbiter fabric run h a) end (wire h a low (is.joined h a low there has)) joins

@@ -5,9 +5,8 @@ use Rattle.std.proofs.Math.Seq.{drop-cons}
 use Rattle.netlist.specs.Netlists.{Netlist, IsWaiting}
 use Rattle.netlist.specs.Longer.{Extends}
 use Rattle.net_parts.specs.Growth.{GrowsBy, WaitsWithout}
-use Rattle.net_parts.specs.Laws.{net_lasts, grows_none, grows_within}
+use Rattle.net_parts.specs.Laws.{grows_none, grows_within}
 use Rattle.memory_sides.specs.declared.route.Route.{Route}
-use Rattle.command_nets.specs.Groups.{answer_lasts}
 use Rattle.mm_route.specs.Forward.{forward_lasts}
 use Rattle.mm_fabric.specs.Trunks.{owns, trunk_lasts}
 use Rattle.mm_fabric.specs.declared.begun.BegunHost.{BegunHost}
@@ -18,6 +17,7 @@ use Rattle.mm_fabric.specs.Tells.{AllCanTell}
 use Rattle.mm_fabric.specs.Lasting.{host_part_lasts}
 use Rattle.mm_fabric.proofs.Beginning.{of_more}
 use Rattle.mm_fabric.proofs.LoneSeats.{lone_way_lasts}
+use Rattle.mm_fabric.proofs.Telling.{told_lasts}
 use Rattle.mm_fabric.specs.Finished.{MayFinish, AllMayFinish, IsFinished, AreFinished, finished_nets, AreFinishedSoFar}
 
 -- ---- what is given, in a longer netlist
@@ -25,7 +25,7 @@ use Rattle.mm_fabric.specs.Finished.{MayFinish, AllMayFinish, IsFinished, AreFin
 tell_lasts : (old new : Netlist) (bits host : ℕ) (parts : List AgentPart) (routes : List Route) → AllCanTell old bits host parts routes → Extends old new → AllCanTell new bits host parts routes
 tell_lasts old new bits host parts [] h e = tt
 tell_lasts old new bits host parts (route ∷ routes) h e = (
-  record { seat = h.0.seat; has = h.0.has; told = record { wait = net_lasts old new h.0.seat.back.wait 1 e h.0.told.wait; answer = answer_lasts old new h.0.seat.back.answer bits e h.0.told.answer } },
+  record { seat = h.0.seat; has = h.0.has; told = told_lasts old new bits h.0.seat h.0.told e },
   tell_lasts old new bits host parts routes h.1 e,
 )
 

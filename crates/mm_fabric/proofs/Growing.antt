@@ -15,8 +15,8 @@ older old now begun n owned w own =
 
 -- ---- the nets of the phases are those of the whole
 
-pub two_phases : (first last each hosts agents : ℕ) → first * hosts + each * agents ≤ (first + last) * hosts + each * agents
-two_phases first last each hosts agents = let parts = add-mul first last hosts in omega (arith, parts)
+pub two_phases : (first last each link hosts agents links : ℕ) → first * hosts + (each * agents + link * links) ≤ (first + last) * hosts + each * agents + link * links
+two_phases first last each link hosts agents links = let parts = add-mul first last hosts in omega (arith, parts)
 
-pub three_phases : (first last each hosts agents begun : ℕ) → begun ≡ hosts → first * hosts + each * agents + last * begun ≤ (first + last) * hosts + each * agents
-three_phases first last each hosts agents begun same = let parts = add-mul first last hosts in let nets = ap (λ n. last * n) same in omega (arith, parts, nets)
+pub three_phases : (first last each link hosts agents links begun : ℕ) → begun ≡ hosts → first * hosts + (each * agents + link * links) + last * begun ≤ (first + last) * hosts + each * agents + link * links
+three_phases first last each link hosts agents links begun same = let parts = add-mul first last hosts in let nets = ap (λ n. last * n) same in omega (arith, parts, nets)

@@ -7,28 +7,27 @@ use Rattle.link_rules.specs.Plans.{PlanTable}
 use Rattle.netlist.specs.Netlists.{Netlist}
 use Rattle.netlist.specs.Longer.{Extends}
 use Rattle.net_parts.specs.Growth.{GrowsInMemory, StillWait, StillWaitForWrite}
-use Rattle.net_parts.specs.Laws.{extends_twice, net_lasts, grows_none, grows_without_memory}
-use Rattle.mm_agent.specs.Memories.{memory_grows_within}
-use Rattle.command_nets.specs.declared.nets.CommandNets.{CommandNets}
-use Rattle.command_nets.specs.Groups.{answer_lasts}
+use Rattle.net_parts.specs.Laws.{extends_twice, grows_none, grows_without_memory}
+use Rattle.mm_agent.specs.Memories.{memory_grows_fewer, memory_grows_within}
 use Rattle.mm_agent.specs.Agents.{agent_lasts}
 use Rattle.mm_arbiter.specs.declared.asker.Asker.{Asker}
 use Rattle.mm_fabric.specs.declared.asks.AgentEnd.{AgentEnd}
 use Rattle.mm_fabric.specs.declared.begun.BegunHost.{BegunHost}
 use Rattle.mm_fabric.specs.declared.parts.AgentPart.{AgentPart}
 use Rattle.mm_fabric.specs.declared.parts.Seat.{Seat}
-use Rattle.mm_fabric.specs.Askers.{AreTold}
-use Rattle.mm_fabric.specs.Asks.{AllCanAsk, ShowsAsked}
-use Rattle.mm_fabric.specs.Lasting.{agent_part_lasts}
-use Rattle.mm_fabric.specs.Joined.{IsAgentEnd, AreAgentEnds, IsJoined, AreJoinedFrom, end_of, most_agent_nets, AreJoinedSoFar}
+use Rattle.mm_fabric.specs.Asks.{asking, AllCanAsk, IsSeatFor}
+use Rattle.mm_fabric.specs.Lasting.{agent_part_lasts, meets_lasts}
+use Rattle.mm_fabric.specs.Joined.{IsAgentEnd, AreAgentEnds, IsJoined, AreJoinedFrom, end_of, most_agent_nets, link_nets, AreJoinedSoFar}
 use Rattle.mm_fabric.proofs.Beginning.{begun_lasts}
+use Rattle.mm_fabric.proofs.Telling.{told_lasts}
+use Rattle.mm_fabric.proofs.Counting.{links_more}
 
 -- ---- what is given
 
 all_can_last : (plan : PlanTable) (old new : Netlist) (agent : ℕ) (port : AgentPort) (begun : List BegunHost) (askers : List Asker) → AllCanAsk plan old agent port begun askers → Extends old new → StillWait old new → AllCanAsk plan new agent port begun askers
 all_can_last plan old new agent port begun [] h e w = tt
 all_can_last plan old new agent port begun (asker ∷ later) h e w = (
-  record { command = h.0.command; host = h.0.host; at = h.0.at; leads = h.0.leads; is = begun_lasts plan old new asker.host h.0.host h.0.is e (λ n o. w n); words = h.0.words; span = h.0.span },
+  record { command = h.0.command; host = h.0.host; at = h.0.at; leads = h.0.leads; is = begun_lasts plan old new asker.host h.0.host h.0.is e (λ n o. w n); pair = h.0.pair; word = h.0.word; span = h.0.span },
   all_can_last plan old new agent port begun later h.1 e w,
 )
 
@@ -52,15 +51,14 @@ end_at plan old now begun k ends end h e w lt is = end_lasts plan old now begun 
 
 -- ---- what is made, in a longer netlist
 
-shows_last : (old new : Netlist) (agent : ℕ) (begun : List BegunHost) (askers : List Asker) (wide : List CommandNets) → AllZip (ShowsAsked old agent begun) askers wide → Extends old new → AllZip (ShowsAsked new agent begun) askers wide
-shows_last old new agent begun [] [] h e = tt
-shows_last old new agent begun [] (w ∷ wide) h e = absurd h
-shows_last old new agent begun (asker ∷ askers) [] h e = absurd h
-shows_last old new agent begun (asker ∷ askers) (w ∷ wide) h e = (record { command = h.0.command; is = h.0.is; beat = λ cycle v. h.0.beat cycle (e.valuations cycle v) }, shows_last old new agent begun askers wide h.1 e)
-
-told_last : (old new : Netlist) (bits : ℕ) (seats : List Seat) → AreTold old bits seats → Extends old new → AreTold new bits seats
-told_last old new bits [] h e = tt
-told_last old new bits (seat ∷ seats) h e = (record { wait = net_lasts old new seat.back.wait 1 e h.0.wait; answer = answer_lasts old new seat.back.answer bits e h.0.answer }, told_last old new bits seats h.1 e)
+seats_last : (old new : Netlist) (port : AgentPort) (agent : ℕ) (begun : List BegunHost) (askers : List Asker) (seats : List Seat) → AllZip (IsSeatFor old port agent begun) askers seats → Extends old new → AllZip (IsSeatFor new port agent begun) askers seats
+seats_last old new port agent begun [] [] h e = tt
+seats_last old new port agent begun [] (seat ∷ seats) h e = absurd h
+seats_last old new port agent begun (asker ∷ askers) [] h e = absurd h
+seats_last old new port agent begun (asker ∷ askers) (seat ∷ seats) h e = (
+  record { one = h.0.one; asks = h.0.asks; seated = record { meets = meets_lasts old new h.0.one.port port h.0.one.command seat h.0.seated.meets e; told = told_lasts old new _ seat h.0.seated.told e } },
+  seats_last old new port agent begun askers seats h.1 e,
+)
 
 pub joined_last : (plan : PlanTable) (old new : Netlist) (begun : List BegunHost) (number : ℕ) (parts : List AgentPart) → AreJoinedFrom plan old begun number parts → Extends old new → AreJoinedFrom plan new begun number parts
 joined_last plan old new begun number [] h e = tt
@@ -68,8 +66,7 @@ joined_last plan old new begun number (part ∷ parts) h e = (
   record {
     is = agent_part_lasts old new plan.system.stages part h.0.is e;
     askers = h.0.askers;
-    beats = shows_last old new number begun _ _ h.0.beats e;
-    told = told_last old new _ part.seats h.0.told e;
+    seats = seats_last old new part.port number begun _ part.seats h.0.seats e;
     bounds = λ none valid seat only longer f. h.0.bounds none valid seat only longer (extends_twice old new longer e f);
   },
   joined_last plan old new begun (number + 1) parts h.1 e,
@@ -82,16 +79,17 @@ joined_more plan netlist begun from number [] last h e l = (subst (λ n. IsJoine
 joined_more plan netlist begun from number (first ∷ later) last h e l = (h.0, joined_more plan netlist begun (from + 1) number later last h.1 (omega (arith, e)) l)
 
 pub none_joined : (plan : PlanTable) (old : Netlist) (begun : List BegunHost) (ends : List AgentEnd) → AreJoinedSoFar plan old old begun ends [] 0
-none_joined plan old begun ends = record { ends_are = refl; each = tt; grows = grows_without_memory 0 old old (grows_none old); waits = λ n w. w; no_more_wait = λ n w. w; waits_for_write = λ m w. w; no_more_wait_for_write = λ m w. w }
+none_joined plan old begun ends = record { ends_are = refl; each = tt; grows = memory_grows_fewer 0 _ 0 0 old old (omega arith) (omega arith) (grows_without_memory 0 old old (grows_none old)); waits = λ n w. w; no_more_wait = λ n w. w; waits_for_write = λ m w. w; no_more_wait_for_write = λ m w. w }
 
 pub one_more_joined : (plan : PlanTable) (old now new : Netlist) (begun : List BegunHost) (ends : List AgentEnd) (parts : List AgentPart) (count : ℕ) (end : AgentEnd) (last : AgentPart) → AreJoinedSoFar plan old now begun ends parts count → count < length ends → end ≡ get_or ends count end →
-    IsJoined plan new begun count last → end_of last ≡ end → GrowsInMemory most_agent_nets 1 now new → StillWait now new → StillWait new now → StillWaitForWrite now new → StillWaitForWrite new now → AreJoinedSoFar plan old new begun ends (parts ++ last ∷ []) (count + 1)
+    IsJoined plan new begun count last → end_of last ≡ end → GrowsInMemory (most_agent_nets + link_nets * length (asking plan.system count)) 1 now new → StillWait now new → StillWait new now → StillWaitForWrite now new → StillWaitForWrite new now → AreJoinedSoFar plan old new begun ends (parts ++ last ∷ []) (count + 1)
 one_more_joined plan old now new begun ends parts count end last h lt is one same grows waits no_more writes no_more_writes =
+    let more = links_more plan.system count in
     let many : length parts ≡ count = sym (length-map parts end_of) ∙ ap (λ (es : List AgentEnd). length es) h.ends_are ∙ length-take-le count ends (omega arith) in
     record {
       ends_are = map-append end_of parts (last ∷ []) ∙ ap (λ es. es ++ end_of last ∷ []) h.ends_are ∙ ap (λ e. take count ends ++ e ∷ []) (same ∙ is) ∙ sym (take_more ends count end lt);
       each = joined_more plan new begun 0 count parts last (joined_last plan now new begun 0 parts h.each grows.extends) (omega (arith, many)) one;
-      grows = memory_grows_within (most_agent_nets * count) most_agent_nets _ count 1 _ old now new h.grows grows (omega arith) (omega arith);
+      grows = memory_grows_within _ _ _ count 1 _ old now new h.grows grows (omega (arith, more)) (omega arith);
       waits = λ n w. waits n (h.waits n w);
       no_more_wait = λ n w. h.no_more_wait n (no_more n w);
       waits_for_write = λ m w. writes m (h.waits_for_write m w);

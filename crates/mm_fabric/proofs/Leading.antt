@@ -1,22 +1,30 @@
 -- The commands of the hosts that ask an agent.
-use Rattle.std.proofs.Common.{◌≡◌, ℕ, zero, suc, ◌*◌, ◌^◌, ◌<◌, ◌≤◌, Bool, true, false, if◌then◌else◌, nat_eq, List, [], ◌∷◌, get_or, length, drop, Some, slice_get, refl, sym, subst, ap, ◌∙◌, arith}
+use Rattle.std.proofs.Common.{◌≡◌, ℕ, zero, suc, ◌*◌, ◌^◌, ◌<◌, ◌≤◌, Bool, true, false, if◌then◌else◌, max, nat_eq, List, [], ◌∷◌, get_or, length, drop, Some, slice_get, refl, sym, subst, ap, ◌∙◌, arith}
 use Rattle.std.specs.List.{AllZip}
 use Rattle.std.proofs.lemmas.Bool.{ne_eqb}
+use Rattle.std.proofs.lemmas.Nat.{pow_pos}
 use Rattle.std.proofs.lemmas.Option.{slice_get_within, slice_get-get_or}
+use Rattle.std.proofs.Math.Nat.{mul-le-mul_left, mul-one, mul_comm}
 use Rattle.iface_roles.specs.declared.records.AgentPort.{AgentPort}
-use Rattle.iface_roles.specs.Proper.{span_of}
+use Rattle.iface_roles.specs.declared.records.HostPort.{HostPort}
+use Rattle.iface_roles.specs.Proper.{range_of, span_of}
 use Rattle.link_rules.specs.Plans.{PlanTable}
 use Rattle.netlist.specs.Netlists.{Netlist}
 use Rattle.netlist.specs.Runs.{Always}
 use Rattle.memory_sides.specs.declared.route.Route.{Route}
 use Rattle.command_nets.specs.declared.nets.CommandNets.{CommandNets}
 use Rattle.command_nets.specs.Nets.{AreCommandNets, Widths, widths_of}
-use Rattle.mm_route.specs.Shown.{AreCommandsOf}
+use Rattle.mm_host.specs.declared.host.HeldHost.{HeldHost}
+use Rattle.mm_host.specs.Forms.{IsHeld}
+use Rattle.mm_route.specs.Shown.{AreCommandsOf, widths_below}
 use Rattle.mm_route.specs.Forward.{BearTag, as_many_commands, commands_bear}
 use Rattle.mm_arbiter.specs.declared.asker.Asker.{Asker}
+use Rattle.mm_width.specs.Pairs.{MayMeet, MayAskOf}
 use Rattle.mm_fabric.specs.declared.begun.BegunHost.{BegunHost}
-use Rattle.mm_fabric.specs.Wide.{AsksFor, ShowsBeatOf}
-use Rattle.mm_fabric.specs.Asks.{command_to, IsCommandFor, AllHaveCommands, CanAsk, AllCanAsk, ShowsAsked}
+use Rattle.mm_fabric.specs.declared.parts.Asking.{Asking}
+use Rattle.mm_fabric.specs.declared.parts.Seat.{Seat}
+use Rattle.mm_fabric.specs.Wide.{AsksFor, IsSeated}
+use Rattle.mm_fabric.specs.Asks.{command_to, IsCommandFor, AsksAs, AllHaveCommands, CanAsk, AllCanAsk, IsSeatFor}
 
 -- ---- the first route to an agent
 
@@ -59,34 +67,53 @@ can_have plan netlist agent port begun [] h = tt
 can_have plan netlist agent port begun (asker ∷ later) h =
     ((h.0.command, record { host = h.0.host; at = h.0.at; many = as_many_commands _ _ _ _ h.0.host.trunk.route _ h.0.is.forward; leads = h.0.leads }), can_have plan netlist agent port begun later h.1)
 
-asks_one : (plan : PlanTable) (netlist : Netlist) (agent : ℕ) (port : AgentPort) (begun : List BegunHost) (asker : Asker) (command : CommandNets) → CanAsk plan netlist agent port begun asker → IsCommandFor agent begun asker command → AsksFor netlist port asker command
-asks_one plan netlist agent port begun asker command h f =
-    let same : f.host ≡ h.host = (let one = f.at in let other = h.at in cc) in
-    let leads : command_to agent h.host.routes h.host.commands.items ≡ Some command = subst (λ (b : BegunHost). command_to agent b.routes b.commands.items ≡ Some command) same f.leads in
-    let is = found netlist _ asker.host agent h.host.routes h.host.commands.items command h.is.commands (commands_bear _ _ _ _ h.host.trunk.route _ h.is.forward) leads in
-    let fields = h.is.trunk.held.fields in
-    let address = ap (λ (w : Widths). w.address) is.widths_are in
-    let word = ap (λ (w : Widths). w.word) is.widths_are in
-    let enables = ap (λ (w : Widths). w.enables) is.widths_are in
+-- a word of an agent is within its span
+word_within : (byte_units : Bool) (bits word : ℕ) → word ≤ (if byte_units then max (2 ^ bits) word else 2 ^ bits * word)
+word_within true bits word = omega arith
+word_within false bits word =
+    let more = mul-le-mul_left word (pow_pos bits) in
+    let one = mul-one word in
+    let turn = mul_comm word (2 ^ bits) in
+    omega (arith, more, one, turn)
+
+-- the command of a host's route may ask the agent
+may_ask : (netlist : Netlist) (host : HostPort) (port : AgentPort) (held : HeldHost) (command : CommandNets) → IsHeld netlist host held → widths_of command ≡ widths_below held.command 4 → host.word_bytes ≤ range_of host → span_of port ≤ range_of host → MayAskOf host port (widths_of command)
+may_ask netlist host port held command h widths word span =
+    let fields = h.fields in
+    let address = ap (λ (w : Widths). 2 ^ w.address) widths ∙ fields.reaches in
+    let within = word_within port.byte_units port.address_bits port.word_bytes in
+    record {
+      word = ap (λ (w : Widths). w.word) widths ∙ fields.word.has_width;
+      enables = ap (λ (w : Widths). w.enables) widths ∙ fields.enables.has_width;
+      reaches_word = omega (arith, address, word);
+      reaches_agent = omega (arith, address, within, span);
+    }
+
+asks_one : (plan : PlanTable) (netlist : Netlist) (agent : ℕ) (port : AgentPort) (begun : List BegunHost) (asker : Asker) (one : Asking) → CanAsk plan netlist agent port begun asker → AsksAs agent begun asker one → AsksFor netlist port asker one
+asks_one plan netlist agent port begun asker one h f =
+    let same : f.is.host ≡ h.host = (let mine = f.is.at in let other = h.at in cc) in
+    let own : h.host.port ≡ one.port = sym (f.port ∙ ap (λ (b : BegunHost). b.port) same) in
+    let leads : command_to agent h.host.routes h.host.commands.items ≡ Some one.command = subst (λ (b : BegunHost). command_to agent b.routes b.commands.items ≡ Some one.command) same f.is.leads in
+    let is = found netlist _ asker.host agent h.host.routes h.host.commands.items one.command h.is.commands (commands_bear _ _ _ _ h.host.trunk.route _ h.is.forward) leads in
     record {
       nets = is.nets;
-      reaches = subst (λ n. span_of port ≤ n) (sym (ap (λ n. 2 ^ n) address ∙ fields.reaches)) h.span;
-      word = word ∙ fields.word.has_width ∙ ap (λ n. n * 8) h.words;
-      enables = enables ∙ fields.enables.has_width ∙ h.words;
+      pair = subst (λ (p : HostPort). MayMeet p port) own h.pair;
+      widths = subst (λ (p : HostPort). MayAskOf p port (widths_of one.command)) own (may_ask netlist h.host.port port h.host.trunk.host one.command h.is.trunk.held is.widths_are h.word h.span);
+      reaches = subst (λ n. span_of port ≤ n) (sym (ap (λ (w : Widths). 2 ^ w.address) is.widths_are ∙ h.is.trunk.held.fields.reaches)) h.span;
       tag = ap (λ (w : Widths). w.tag) is.widths_are;
       bears = is.bears;
     }
 
-pub all_ask : (plan : PlanTable) (netlist : Netlist) (agent : ℕ) (port : AgentPort) (begun : List BegunHost) (askers : List Asker) (commands : List CommandNets) → AllCanAsk plan netlist agent port begun askers → AllZip (IsCommandFor agent begun) askers commands → AllZip (AsksFor netlist port) askers commands
+pub all_ask : (plan : PlanTable) (netlist : Netlist) (agent : ℕ) (port : AgentPort) (begun : List BegunHost) (askers : List Asker) (asking : List Asking) → AllCanAsk plan netlist agent port begun askers → AllZip (AsksAs agent begun) askers asking → AllZip (AsksFor netlist port) askers asking
 all_ask plan netlist agent port begun [] [] h f = tt
-all_ask plan netlist agent port begun [] (command ∷ commands) h f = absurd f
+all_ask plan netlist agent port begun [] (one ∷ asking) h f = absurd f
 all_ask plan netlist agent port begun (asker ∷ askers) [] h f = absurd f
-all_ask plan netlist agent port begun (asker ∷ askers) (command ∷ commands) h f = (asks_one plan netlist agent port begun asker command h.0 f.0, all_ask plan netlist agent port begun askers commands h.1 f.1)
+all_ask plan netlist agent port begun (asker ∷ askers) (one ∷ asking) h f = (asks_one plan netlist agent port begun asker one h.0 f.0, all_ask plan netlist agent port begun askers asking h.1 f.1)
 
-pub all_show : (netlist : Netlist) (agent : ℕ) (begun : List BegunHost) (askers : List Asker) (commands wide : List CommandNets) → AllZip (IsCommandFor agent begun) askers commands → AllZip (ShowsBeatOf netlist) commands wide → AllZip (ShowsAsked netlist agent begun) askers wide
-all_show netlist agent begun [] [] [] f b = tt
-all_show netlist agent begun [] [] (w ∷ wide) f b = absurd b
-all_show netlist agent begun [] (command ∷ commands) wide f b = absurd f
-all_show netlist agent begun (asker ∷ askers) [] wide f b = absurd f
-all_show netlist agent begun (asker ∷ askers) (command ∷ commands) [] f b = absurd b
-all_show netlist agent begun (asker ∷ askers) (command ∷ commands) (w ∷ wide) f b = (record { command = command; is = f.0; beat = b.0 }, all_show netlist agent begun askers commands wide f.1 b.1)
+pub all_seated : (netlist : Netlist) (port : AgentPort) (agent : ℕ) (begun : List BegunHost) (askers : List Asker) (asking : List Asking) (seats : List Seat) → AllZip (AsksAs agent begun) askers asking → AllZip (IsSeated netlist port) asking seats → AllZip (IsSeatFor netlist port agent begun) askers seats
+all_seated netlist port agent begun [] [] [] f s = tt
+all_seated netlist port agent begun [] [] (seat ∷ seats) f s = absurd s
+all_seated netlist port agent begun [] (one ∷ asking) seats f s = absurd f
+all_seated netlist port agent begun (asker ∷ askers) [] seats f s = absurd f
+all_seated netlist port agent begun (asker ∷ askers) (one ∷ asking) [] f s = absurd s
+all_seated netlist port agent begun (asker ∷ askers) (one ∷ asking) (seat ∷ seats) f s = (record { one = one; asks = f.0; seated = s.0 }, all_seated netlist port agent begun askers asking seats f.1 s.1)

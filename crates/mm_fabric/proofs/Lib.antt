@@ -6,6 +6,9 @@ pub mod LoneHosts
 pub mod Below
 pub mod HostParts
 pub mod Widening
+pub mod RowsOfLinks
+pub mod RowsApart
+pub mod RowsMade
 pub mod Choices
 pub mod Levels
 pub mod Known
@@ -16,13 +19,16 @@ pub mod Seats
 pub mod Ways
 pub mod Boundaries
 pub mod Piped
-pub mod Wired
+pub mod Singles
+pub mod Between
+pub mod Linked
 pub mod Beginning
 pub mod Leading
 pub mod Telling
 pub mod LoneSeats
 pub mod LoneWays
 pub mod Moments
+pub mod Counting
 pub mod Joining
 pub mod Finishing
 pub mod Passing

@@ -11,7 +11,10 @@ use Rattle.iface_roles.specs.declared.kinds.Kind.{Kind}
 use Rattle.iface_roles.specs.declared.kinds.Kind.TheVariants.{Clock, Reset, Mm, Stream, Conduit, Interrupt}
 use Rattle.iface_roles.specs.declared.kinds.Side.{Side}
 use Rattle.iface_roles.specs.declared.kinds.Side.TheVariants.{Start, End}
-use Rattle.iface_roles.specs.Proper.{range_of, span_of}
+use Rattle.iface_roles.specs.declared.records.AgentPort.{AgentPort}
+use Rattle.iface_roles.specs.declared.records.HostPort.{HostPort}
+use Rattle.iface_roles.specs.declared.records.Finished.TheVariants.{Host, Agent}
+use Rattle.iface_roles.specs.Proper.{IsWordSize, range_of, span_of}
 use Rattle.system_tables.specs.declared.tables.Connection.{Connection}
 use Rattle.system_tables.specs.declared.tables.EndId.{EndId}
 use Rattle.address_map.specs.Maps.{is_mm, mm_ends, end_at, IsJoined, hosts_of, agents_of}
@@ -31,7 +34,8 @@ use Rattle.mm_arbiter.specs.Shown.{AreAskers}
 use Rattle.mm_arbiter.specs.Backs.{HostsFit}
 use Rattle.mm_arbiter.specs.Machine.{seats_from, AreApart}
 use Rattle.mm_awake.specs.Fair.{are_apart}
-use Rattle.mm_path.specs.Maps.{HasHost, HasAgent, JoinsEnds}
+use Rattle.mm_path.specs.Maps.{IsHostOf, IsAgentOf, HasHost, HasAgent, JoinsEnds}
+use Rattle.mm_width.specs.Pairs.{MayMeet}
 use Rattle.mm_fabric.specs.Asks.{asking}
 use Rattle.mm_fabric.specs.Links.{HasLinkBetween, IsLinkedHost, IsLinkedAgent, IsLinkedPlan}
 use Rattle.mm_fabric.proofs.Passing.{passed, kept, mapped, image, there_at, listed, distinct}
@@ -48,6 +52,8 @@ pub record PlanLaws (plan : PlanTable) : Type 0 where
   pub few_agents : length (agents_of plan.system) ≤ 32
   pub ends : (k : ℕ) (link : MemoryLink) → slice_get (memory_links plan.system) k ≡ Some link → JoinsEnds plan link
   pub spans : (k : ℕ) (link : MemoryLink) → slice_get (memory_links plan.system) k ≡ Some link → span_of link.agent ≤ range_of link.host
+  pub words : (k : ℕ) (link : MemoryLink) → slice_get (memory_links plan.system) k ≡ Some link → link.host.word_bytes ≤ range_of link.host
+  pub lanes : (k : ℕ) (link : MemoryLink) → slice_get (memory_links plan.system) k ≡ Some link → link.host.word_bytes < link.agent.word_bytes → link.agent.enables ≡ true
   pub has : (k : ℕ) (link : MemoryLink) → slice_get (memory_links plan.system) k ≡ Some link → HasLink (memory_system plan) link
   pub keeps : IsMemoryPlan (memory_system plan)
   pub once : (agent : ℕ) → IsDistinct nat_eq ((memory_system plan).joined agent)
@@ -108,11 +114,33 @@ seats_alike system agent (link ∷ later) each =
     ap (λ (t : Turn). t ∷ seats_from (map asker_of later)) first
     ∙ ap (λ (ts : List Turn). turn_of system agent link.host_number ∷ ts) (seats_alike system agent later (λ k x at. each (suc k) x at))
 
+-- ---- ports by their numbers
+
+-- one host has a number, and one agent
+pub same_host : (plan : PlanTable) (h : ℕ) (one other : HostPort) → IsHostOf plan h one → IsHostOf plan h other → one ≡ other
+same_host plan h one other is also = let both : Host one ≡ Host other = sym is ∙ also in cc
+
+pub same_agent : (plan : PlanTable) (a : ℕ) (one other : AgentPort) → IsAgentOf plan a one → IsAgentOf plan a other → one ≡ other
+same_agent plan a one other is also = let both : Agent one ≡ Agent other = sym is ∙ also in cc
+
 module _ (plan : PlanTable) (laws : PlanLaws plan) where
   abbrev of_agent : ℕ → List MemoryLink
   of_agent agent = filter (λ (link : MemoryLink). nat_eq link.agent_number agent) (memory_links plan.system)
 
   -- ---- the link between a host and an agent
+
+  -- words are of the sizes of the standard, and where the agent's is wider it has byte enables
+  may_meet : (k : ℕ) (link : MemoryLink) → slice_get (memory_links plan.system) k ≡ Some link → MayMeet link.host link.agent
+  may_meet k link at =
+      let has = laws.has k link at in
+      let ends = laws.ends k link at in
+      let host = laws.hosts link.host_number has.host_below in
+      let agent = laws.agents link.agent_number has.agent_below in
+      record {
+        host_word = subst (λ (p : HostPort). IsWordSize p.word_bytes) (same_host plan link.host_number host.port link.host host.is ends.host) host.bounded.ports.word;
+        agent_word = subst (λ (p : AgentPort). IsWordSize p.word_bytes) (same_agent plan link.agent_number agent.port link.agent agent.is ends.agent) agent.bounded.ports.word;
+        lanes = laws.lanes k link at;
+      }
 
   between : (k : ℕ) (link : MemoryLink) → slice_get (memory_links plan.system) k ≡ Some link → HasLinkBetween plan link.host_number link.agent_number
   between k link at =
@@ -127,6 +155,8 @@ module _ (plan : PlanTable) (laws : PlanLaws plan) where
         host_below = has.host_below;
         agent_below = has.agent_below;
         span = laws.spans k link at;
+        word = laws.words k link at;
+        pair = may_meet k link at;
         route = (laws.routes link.host_number has.host_below).agents link.agent_number has.joined;
         joined = has.joined;
       }

@@ -28,6 +28,7 @@ lone_way_lasts old new parts number begun h e = record {
   has = h.has;
   alone = h.alone;
   beat = λ command only cycle v. h.beat command only cycle (e.valuations cycle v);
+  back = h.back;
   valid = h.valid;
   few = h.few;
   bounds = λ valid seat only longer f. h.bounds valid seat only longer (extends_twice old new longer e f);
@@ -47,7 +48,7 @@ bounded_route netlist parts number begun backs way zipped = record {
   few = λ below back one other longer e run endless c. (
       let last : IsBackFor number parts way.route back =
       (subst (λ (rs : List Route). AllZip (IsBackFor number parts) rs (back ∷ [])) way.only (subst (λ (bs : List BackNets). AllZip (IsBackFor number parts) begun.routes bs) other zipped)).0 in
-      let is : back ≡ way.seat.back = last.is ∙ ap (λ (s : Seat). s.back) (same_seat number parts way.route last.seat way.seat last.has way.has) in
+      let is : back ≡ way.seat.back = last.is ∙ ap (λ (s : Seat). s.told) (same_seat number parts way.route last.seat way.seat last.has way.has) ∙ sym way.back in
       let shown : (k : ℕ) → is_raised (run.net k below.read.number) ≡ is_raised (run.net k way.seat.command.read.number) = λ k. sym (ap (λ (r : Raw). is_raised r.levels.read) (way.beat below one (cycle_of run k) (always_valued netlist longer e run endless k))) in
       let most = way.bounds way.valid way.seat way.alone longer e run endless c in
       let same = unanswered_alike run below.read way.seat.command.read way.seat.back.wait way.seat.back.answer.valid shown c in

@@ -7,6 +7,7 @@ use Rattle.std.proofs.lemmas.List.{length-map}
 use Rattle.std.proofs.lemmas.List.Sums.{length-filter}
 use Rattle.std.proofs.lemmas.Option.{slice_get-map, slice_get_within, same_Some, none-some}
 use Rattle.iface_roles.specs.declared.records.AgentPort.{AgentPort}
+use Rattle.iface_roles.specs.declared.records.HostPort.{HostPort}
 use Rattle.iface_roles.specs.declared.records.Finished.TheVariants.{Agent, Other}
 use Rattle.address_map.specs.Maps.{agents_of}
 use Rattle.system_tables.specs.declared.tables.EndId.{EndId}
@@ -23,20 +24,22 @@ use Rattle.mm_route.specs.Entries.{is_lone}
 use Rattle.mm_host.specs.Hosts.{reads_words}
 use Rattle.mm_host.specs.Reads.{is_unbounded}
 use Rattle.mm_arbiter.specs.declared.asker.Asker.{Asker}
-use Rattle.mm_path.specs.Maps.{IsAgentOf, JoinsEnds}
+use Rattle.mm_path.specs.Maps.{IsHostOf, IsAgentOf, JoinsEnds}
+use Rattle.mm_width.specs.Pairs.{is_wire_pair}
 use Rattle.mm_fabric.specs.declared.asks.AgentEnd.{AgentEnd}
 use Rattle.mm_fabric.specs.declared.begun.BegunHost.{BegunHost}
 use Rattle.mm_fabric.specs.declared.parts.AgentPart.{AgentPart}
 use Rattle.mm_fabric.specs.declared.parts.Seat.{Seat}
-use Rattle.mm_fabric.specs.Parts.{askers_of, commands_above}
+use Rattle.mm_fabric.specs.Parts.{askers_of}
 use Rattle.mm_fabric.specs.Wide.{ShowsBeatOf}
 use Rattle.mm_fabric.specs.Bounds.{bears_few, has_one_host, bears_alone, first_link, first_bears_alone, needs_no_count}
 use Rattle.mm_fabric.specs.Begun.{IsBegun}
-use Rattle.mm_fabric.specs.Asks.{asking, command_to, ShowsAsked}
+use Rattle.mm_fabric.specs.Asks.{asking, command_to, IsSeatFor}
 use Rattle.mm_fabric.specs.Joined.{IsJoined, AreJoinedFrom, end_of}
 use Rattle.mm_fabric.specs.Ends.{AreAgents}
 use Rattle.mm_fabric.specs.Fabrics.{seat_of}
 use Rattle.mm_fabric.specs.Lone.{IsLoneWay}
+use Rattle.mm_fabric.proofs.Linking.{same_host}
 
 -- the first of two lists that are one
 head_same : {X : Type 0} (x y : X) (xs ys : List X) → x ∷ xs ≡ y ∷ ys → x ≡ y
@@ -159,28 +162,41 @@ only_seat asker [] e = absurd (cc)
 only_seat asker (seat ∷ []) e = (seat, record { only = refl; host = ap (λ (a : Asker). a.host) (head_same (record { host = seat.host; shares = seat.shares }) asker [] [] e) })
 only_seat asker (seat ∷ other ∷ later) e = absurd (cc)
 
--- its command shows the only command of the host
-shows_only : (netlist : Netlist) (agent : ℕ) (hosts : List BegunHost) (asker : Asker) (begun : BegunHost) (route : Route) (command wide : CommandNets) → ShowsAsked netlist agent hosts asker wide → slice_get hosts asker.host ≡ Some begun → begun.routes ≡ route ∷ [] → route.agent ≡ agent →
-    begun.commands.items ≡ command ∷ [] → ShowsBeatOf netlist command wide
-shows_only netlist agent hosts asker begun route command wide h at only leads one =
-    let same : h.is.host ≡ begun = same_Some h.is.host begun (sym h.is.at ∙ at) in
+-- where nothing stands between them, its command shows the only command of the host, and the host is told what it is
+record IsWired (netlist : Netlist) (begun : BegunHost) (seat : Seat) : Type 0 where
+  beat : (command : CommandNets) → begun.commands.items ≡ command ∷ [] → ShowsBeatOf netlist command seat.command
+  back : seat.back ≡ seat.told
+
+is_wired : (netlist : Netlist) (port : AgentPort) (agent : ℕ) (hosts : List BegunHost) (asker : Asker) (begun : BegunHost) (route : Route) (seat : Seat) → IsSeatFor netlist port agent hosts asker seat → slice_get hosts asker.host ≡ Some begun → begun.routes ≡ route ∷ [] → route.agent ≡ agent →
+    is_wire_pair begun.port port ≡ true → IsWired netlist begun seat
+is_wired netlist port agent hosts asker begun route seat h at only leads wire =
+    let asks = h.asks in
+    let same : asks.is.host ≡ begun = same_Some asks.is.host begun (sym asks.is.at ∙ at) in
     let own = eq-eqb route.agent agent leads in
-    let routed : command_to agent begun.routes begun.commands.items ≡ Some command = ap (λ (rs : List Route). command_to agent rs begun.commands.items) only ∙ ap (λ (cs : List CommandNets). command_to agent (route ∷ []) cs) one ∙ ap (λ b. if b then Some command else None) own in
-    let is : h.command ≡ command = same_Some h.command command (sym h.is.leads ∙ ap (λ (b : BegunHost). command_to agent b.routes b.commands.items) same ∙ routed) in
-    subst (λ (c : CommandNets). ShowsBeatOf netlist c wide) is h.beat
+    let pair : is_wire_pair h.one.port port ≡ true = ap (λ (p : HostPort). is_wire_pair p port) (asks.port ∙ ap (λ (b : BegunHost). b.port) same) ∙ wire in
+    let meets = h.seated.meets.wire pair in
+    let routed : (command : CommandNets) → begun.commands.items ≡ command ∷ [] → command_to agent begun.routes begun.commands.items ≡ Some command =
+    λ command one. ap (λ (rs : List Route). command_to agent rs begun.commands.items) only ∙ ap (λ (cs : List CommandNets). command_to agent (route ∷ []) cs) one ∙ ap (λ b. if b then Some command else None) own in
+    record {
+      beat = λ command one. subst (λ (c : CommandNets). ShowsBeatOf netlist c seat.command)
+          (same_Some h.one.command command (sym asks.is.leads ∙ ap (λ (b : BegunHost). command_to agent b.routes b.commands.items) same ∙ routed command one)) meets.0;
+      back = meets.1;
+    }
 
 -- ---- all together
 
 abbrev asker_of : MemoryLink → Asker
 asker_of link = record { host = link.host_number; shares = link.shares }
 
--- the link of the only route of a host, to an agent that is wholly its own and bears few
+-- the link of the only route of a host, a wire to an agent that is wholly its own and bears few
 record IsOwnLink (plan : PlanTable) (number : ℕ) (route : Route) (link : MemoryLink) : Type 0 where
   host : link.host_number ≡ number
   leads : link.agent_number ≡ route.agent
   asks : asking plan.system link.agent_number ≡ asker_of link ∷ []
+  host_port : IsHostOf plan number link.host
   agent : IsAgentOf plan link.agent_number link.agent
   bears : bears_few link.agent ≡ true
+  wire : is_wire_pair link.host link.agent ≡ true
   plain : plan.system.stages ≡ 0
 
 asks_alone : (plan : PlanTable) (k : ℕ) (link : MemoryLink) → slice_get (memory_links plan.system) k ≡ Some link → has_one_host (memory_links plan.system) link.agent_number ≡ true → asking plan.system link.agent_number ≡ asker_of link ∷ []
@@ -197,32 +213,40 @@ own_link plan number routes route joins mapped only link chosen =
     let test : MemoryLink → Bool = λ (l : MemoryLink). nat_eq l.host_number number in
     let own = found test (memory_links plan.system) link chosen.first in
     let leads : route_of link ≡ route = first_made test route_of (memory_links plan.system) link route chosen.first (sym mapped ∙ only) in
-    let tests = and_parts (nat_eq plan.system.stages 0 && has_one_host (memory_links plan.system) link.agent_number) (bears_few link.agent) chosen.bears in
+    let wired = and_parts (nat_eq plan.system.stages 0 && has_one_host (memory_links plan.system) link.agent_number && bears_few link.agent) (is_wire_pair link.host link.agent) chosen.bears in
+    let tests = and_parts (nat_eq plan.system.stages 0 && has_one_host (memory_links plan.system) link.agent_number) (bears_few link.agent) wired.0 in
+    let number_is = eqb-true link.host_number number own.passes in
+    let ends = joins own.number link own.there in
     let before = and_parts (nat_eq plan.system.stages 0) (has_one_host (memory_links plan.system) link.agent_number) tests.0 in
     record {
-      host = eqb-true link.host_number number own.passes;
+      host = number_is;
       leads = ap (λ (r : Route). r.agent) leads;
       asks = asks_alone plan own.number link own.there before.1;
-      agent = (joins own.number link own.there).agent;
+      host_port = subst (λ n. IsHostOf plan n link.host) number_is ends.host;
+      agent = ends.agent;
       bears = tests.1;
+      wire = wired.1;
       plain = eqb-true plan.system.stages 0 before.0;
     }
 
-shows_alone : (netlist : Netlist) (agent : ℕ) (hosts : List BegunHost) (asker : Asker) (askers : List Asker) (seats : List Seat) (seat : Seat) → askers ≡ asker ∷ [] → seats ≡ seat ∷ [] → AllZip (ShowsAsked netlist agent hosts) askers (commands_above seats) → ShowsAsked netlist agent hosts asker seat.command
-shows_alone netlist agent hosts asker askers seats seat one only zipped =
-    (subst (λ (ss : List Seat). AllZip (ShowsAsked netlist agent hosts) (asker ∷ []) (commands_above ss)) only
-    (subst (λ (xs : List Asker). AllZip (ShowsAsked netlist agent hosts) xs (commands_above seats)) one zipped)).0
+seat_alone : (netlist : Netlist) (port : AgentPort) (agent : ℕ) (hosts : List BegunHost) (asker : Asker) (askers : List Asker) (seats : List Seat) (seat : Seat) → askers ≡ asker ∷ [] → seats ≡ seat ∷ [] → AllZip (IsSeatFor netlist port agent hosts) askers seats → IsSeatFor netlist port agent hosts asker seat
+seat_alone netlist port agent hosts asker askers seats seat one only zipped =
+    (subst (λ (ss : List Seat). AllZip (IsSeatFor netlist port agent hosts) (asker ∷ []) ss) only
+    (subst (λ (xs : List Asker). AllZip (IsSeatFor netlist port agent hosts) xs seats) one zipped)).0
 
 bears_parts : (agent : AgentPort) → bears_few agent ≡ true → (agent.readdatavalid ≡ true) × (bound_of agent < 16)
 bears_parts agent bears =
     let few = and_parts (agent.readdatavalid && nat_eq agent.burst_bits 0) (nat_lt (bound_of agent) 16) bears in
     ((and_parts agent.readdatavalid (nat_eq agent.burst_bits 0) few.0).0, ltb-true (bound_of agent) 16 few.1)
 
-own_way : (plan : PlanTable) (netlist : Netlist) (hosts : List BegunHost) (parts : List AgentPart) (number : ℕ) (begun : BegunHost) (route : Route) (link : MemoryLink) (part : AgentPart) (seat : Seat) → is_lone begun.routes begun.trunk.host.command.address.width ≡ true → begun.routes ≡ route ∷ [] → slice_get hosts number ≡ Some begun →
+own_way : (plan : PlanTable) (netlist : Netlist) (hosts : List BegunHost) (parts : List AgentPart) (number : ℕ) (begun : BegunHost) (route : Route) (link : MemoryLink) (part : AgentPart) (seat : Seat) → is_lone begun.routes begun.trunk.host.command.address.width ≡ true → begun.routes ≡ route ∷ [] → slice_get hosts number ≡ Some begun → IsHostOf plan number begun.port →
     IsOwnLink plan number route link → IsPartOf plan netlist hosts parts link.agent_number link.agent part → IsOnlySeat (asker_of link) part.seats seat → IsLoneWay netlist parts number begun
-own_way plan netlist hosts parts number begun route link part seat lone only at own is one =
-    let shows = shows_alone netlist link.agent_number hosts (asker_of link) (asking plan.system link.agent_number) part.seats seat own.asks one.only is.joined.beats in
+own_way plan netlist hosts parts number begun route link part seat lone only at port own is one =
+    let alone = seat_alone netlist part.port link.agent_number hosts (asker_of link) (asking plan.system link.agent_number) part.seats seat own.asks one.only is.joined.seats in
     let bears = bears_parts part.port (subst (λ (p : AgentPort). bears_few p ≡ true) (sym is.port_is) own.bears) in
+    let ports : link.host ≡ begun.port = same_host plan number link.host begun.port own.host_port port in
+    let wire : is_wire_pair begun.port part.port ≡ true = subst (λ (p : HostPort). is_wire_pair p part.port ≡ true) ports (subst (λ (p : AgentPort). is_wire_pair link.host p ≡ true) (sym is.port_is) own.wire) in
+    let wired = is_wired netlist part.port link.agent_number hosts (asker_of link) begun route seat alone (subst (λ n. slice_get hosts n ≡ Some begun) (sym own.host) at) only (sym own.leads) wire in
     record {
       lone = lone;
       route = route;
@@ -234,7 +258,8 @@ own_way plan netlist hosts parts number begun route link part seat lone only at 
         leads = ap (seat_of number) one.only ∙ ap (λ b. cond b (Some seat) None) (eq-eqb seat.host number (one.host ∙ own.host));
       };
       alone = one.only;
-      beat = λ command single. shows_only netlist link.agent_number hosts (asker_of link) begun route command seat.command shows (subst (λ n. slice_get hosts n ≡ Some begun) (sym own.host) at) only (sym own.leads) single;
+      beat = wired.beat;
+      back = wired.back;
       valid = bears.0;
       few = bears.1;
       bounds = is.joined.bounds own.plain;
@@ -252,4 +277,4 @@ lone_way plan old netlist hosts parts ends number begun joins given ends_are joi
     let own = own_link plan number begun.routes route.0 joins is.routes route.1 link.0 link.1 in
     let part = part_of plan old netlist hosts parts ends link.0.agent_number link.0.agent given ends_are joined own.agent in
     let seat = only_seat (asker_of link.0) part.0.seats (part.1.joined.askers ∙ own.asks) in
-    own_way plan netlist hosts parts number begun route.0 link.0 part.0 seat.0 both.0 route.1 at own part.1 seat.1
+    own_way plan netlist hosts parts number begun route.0 link.0 part.0 seat.0 both.0 route.1 at is.port own part.1 seat.1

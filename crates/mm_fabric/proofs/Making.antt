@@ -1,5 +1,5 @@
 -- What the three phases make is the fabric of the plan.
-use Rattle.std.proofs.Common.{◌≡◌, ℕ, zero, suc, ◌+◌, ◌<◌, ◌≤◌, Bool, true, false, not, ◌||◌, cond, nat_eq, List, [], ◌∷◌, length, map, Some, IsTrue, slice_get, refl, sym, subst, ap, ◌∙◌, arith}
+use Rattle.std.proofs.Common.{◌≡◌, ℕ, zero, suc, ◌+◌, ◌<◌, Bool, true, false, cond, nat_eq, List, [], ◌∷◌, length, map, Some, slice_get, refl, sym, subst, ap, ◌∙◌, arith}
 use Rattle.std.specs.List.{AllZip}
 use Rattle.std.proofs.lemmas.Bool.{eqb-true}
 use Rattle.std.proofs.lemmas.Option.{same_Some, none-some}
@@ -9,7 +9,6 @@ use Rattle.address_map.specs.Maps.{agents_of}
 use Rattle.link_rules.specs.Plans.{PlanTable}
 use Rattle.netlist.specs.Netlists.{Netlist}
 use Rattle.memory_sides.specs.declared.route.Route.{Route}
-use Rattle.memory_sides.specs.Sides.{burst_width}
 use Rattle.memory_plans.specs.Routes.{routes_of}
 use Rattle.memory_plans.specs.Systems.{memory_system}
 use Rattle.mm_machines.specs.Turns.{seats_of}
@@ -17,6 +16,7 @@ use Rattle.command_nets.specs.declared.nets.CommandNets.{CommandNets}
 use Rattle.mm_arbiter.specs.declared.asker.Asker.{Asker}
 use Rattle.mm_arbiter.specs.Machine.{seats_from}
 use Rattle.mm_path.specs.Maps.{IsHostOf}
+use Rattle.mm_width.specs.Pairs.{MayMeet}
 use Rattle.mm_fabric.specs.declared.begun.BegunHost.{BegunHost}
 use Rattle.mm_fabric.specs.declared.begun.HostEnd.{HostEnd}
 use Rattle.mm_fabric.specs.declared.fabric.FabricParts.{FabricParts}
@@ -24,10 +24,9 @@ use Rattle.mm_fabric.specs.declared.parts.AgentPart.{AgentPart}
 use Rattle.mm_fabric.specs.declared.parts.HostPart.{HostPart}
 use Rattle.mm_fabric.specs.declared.parts.Seat.{Seat}
 use Rattle.mm_fabric.specs.declared.parts.Way.{Way}
-use Rattle.mm_fabric.specs.Parts.{IsHostPart, askers_of, commands_above, commands_below, backs_below}
+use Rattle.mm_fabric.specs.Parts.{IsHostPart, Meets, askers_of, commands_below, backs_below}
 use Rattle.mm_fabric.specs.Fabrics.{AreJoined, way_to, seat_of}
-use Rattle.mm_fabric.specs.Wide.{ShowsBeatOf}
-use Rattle.mm_fabric.specs.Asks.{command_to, ShowsAsked}
+use Rattle.mm_fabric.specs.Asks.{command_to}
 use Rattle.mm_fabric.specs.Begun.{IsBegun, AreBegun}
 use Rattle.mm_fabric.specs.Begun.{end_of as begun_end_of}
 use Rattle.mm_fabric.specs.Joined.{IsJoined}
@@ -36,7 +35,8 @@ use Rattle.mm_fabric.specs.Finished.{IsFinished, AreFinished}
 use Rattle.mm_fabric.specs.Ends.{IsPlain, AreParts, host_end_of}
 use Rattle.mm_fabric.specs.Links.{HasLinkBetween, IsLinkedPlan}
 use Rattle.mm_fabric.proofs.Ways.{AreWaysOf, head_or, tail_of}
-use Rattle.mm_fabric.proofs.Phases.{same_host, same_agent, begun_at, joined_at, joined_seat, AreAllJoined}
+use Rattle.mm_fabric.proofs.Linking.{same_host, same_agent}
+use Rattle.mm_fabric.proofs.Phases.{begun_at, joined_at, joined_seat, AsksAt, asks_at, AreAllJoined}
 
 -- ---- finished hosts by their numbers
 
@@ -103,21 +103,6 @@ leads_back host agent parts (route ∷ routes) (first ∷ ways) command are back
         let more = rest is in
         record { way = more.way; found = ap (λ b. cond b (Some first) (way_to agent ways)) (same ∙ other) ∙ more.found; shows = more.shows; route = more.route; leads = more.leads; back = more.back }
 
--- ---- the seat of a host at an agent
-
--- a found seat shows what its host asks
-record ShowsAt (netlist : Netlist) (agent host : ℕ) (begun : List BegunHost) (seat : Seat) : Type 0 where
-  own : seat.host ≡ host
-  shows : ShowsAsked netlist agent begun (record { host = seat.host; shares = seat.shares }) seat.command
-
-shows_at : (netlist : Netlist) (agent host : ℕ) (begun : List BegunHost) (seats : List Seat) (seat : Seat) → AllZip (ShowsAsked netlist agent begun) (askers_of seats) (commands_above seats) → seat_of host seats ≡ Some seat → ShowsAt netlist agent host begun seat
-shows_at netlist agent host begun [] seat all found = absurd (none-some seat found)
-shows_at netlist agent host begun (first ∷ later) seat all found = by (nat_eq first.host host) refl found (shows_at netlist agent host begun later seat all.1)
-  where
-    by : (b : Bool) → nat_eq first.host host ≡ b → cond b (Some first) (seat_of host later) ≡ Some seat → (seat_of host later ≡ Some seat → ShowsAt netlist agent host begun seat) → ShowsAt netlist agent host begun seat
-    by true own is rest = subst (ShowsAt netlist agent host begun) (same_Some first seat is) (record { own = eqb-true first.host host own; shows = all.0 })
-    by false other is rest = rest is
-
 -- ---- all of it
 
 -- hosts begun and agents joined in one netlist, and the hosts finished in a longer one
@@ -149,44 +134,38 @@ module _ (plan : PlanTable) (old new : Netlist) (begun : List BegunHost) (parts 
       seated : (seat : Seat) × (seat_of h below.seats ≡ Some seat)
       seated = joined_seat plan new begun h a below made.linked link joined_part
 
-      shown : ShowsAt new a h begun seated.0
-      shown = shows_at new a h begun below.seats seated.0 (subst (λ (askers : List Asker). AllZip (ShowsAsked new a begun) askers (commands_above below.seats)) (sym joined_part.askers) joined_part.beats) seated.1
+      -- its links lead from the command of this host
+      asks : AsksAt new below.port a ended.host seated.0
+      asks = asks_at new below.port a h begun _ below.seats seated.0 ended.host joined_part.seats joined_part.askers seated.1 ended.at
 
-      -- the seat shows the command of this host
-      asked : command_to a ended.host.routes ended.host.commands.items ≡ Some shown.shows.command
-      asked =
-          let is = shown.shows.is in
-          let here : slice_get begun h ≡ Some is.host = ap (slice_get begun) (sym shown.own) ∙ is.at in
-          let same : is.host ≡ ended.host = same_Some is.host ended.host (sym here ∙ ended.at) in
-          subst (λ (b : BegunHost). command_to a b.routes b.commands.items ≡ Some shown.shows.command) same is.leads
+      way_back : LeadsBack h a parts.agents above.ways asks.command
+      way_back = leads_back h a parts.agents ended.host.routes above.ways asks.command ended.is.is.agents ended.is.backs
+          (subst (λ (cs : List CommandNets). command_to a ended.host.routes cs ≡ Some asks.command) (sym ended.is.commands) asks.leads)
 
-      way_back : LeadsBack h a parts.agents above.ways shown.shows.command
-      way_back = leads_back h a parts.agents ended.host.routes above.ways shown.shows.command ended.is.is.agents ended.is.backs
-          (subst (λ (cs : List CommandNets). command_to a ended.host.routes cs ≡ Some shown.shows.command) (sym ended.is.commands) asked)
-
-      -- what comes back is what the seat is told
-      same_back : seated.0.back ≡ way_back.way.back
+      -- what comes back is what the links of the seat tell
+      same_back : way_back.way.back ≡ seated.0.told
       same_back =
           let b = way_back.back in
           let part : b.has.part ≡ below = same_Some b.has.part below (sym (subst (λ n. slice_get parts.agents n ≡ Some b.has.part) way_back.leads b.has.at) ∙ there) in
           let found : seat_of h below.seats ≡ Some b.seat = subst (λ (p : AgentPart). seat_of h p.seats ≡ Some b.seat) part b.has.leads in
-          let seat : seated.0 ≡ b.seat = same_Some seated.0 b.seat (sym seated.1 ∙ found) in
-          ap (λ (s : Seat). s.back) seat ∙ sym b.is
+          let seat : b.seat ≡ seated.0 = same_Some b.seat seated.0 (sym found ∙ seated.1) in
+          b.is ∙ ap (λ (s : Seat). s.told) seat
 
       are_joined : AreJoined new h a above below
       are_joined =
           let own = same_host plan h link.link.host above.port link.host_port host_port in
           let other = same_agent plan a link.link.agent below.port link.agent_port (made.agents.ports a below there) in
-          let plain = made.plain.links link.place link.link link.is in
+          let plain = made.plain link.place link.link link.is in
           record {
             way = way_back.way;
             way_is = way_back.found;
             seat = seated.0;
             seat_is = seated.1;
-            meets = record { beat = subst (λ (c : CommandNets). ShowsBeatOf new c seated.0.command) (sym way_back.shows) shown.shows.beat; back = same_back };
-            words = subst (λ (p : HostPort). p.word_bytes ≡ below.port.word_bytes) own (subst (λ (p : AgentPort). link.link.host.word_bytes ≡ p.word_bytes) other plain.words);
-            bursts = subst (λ (p : HostPort). burst_width p.burst_bits ≤ burst_width below.port.burst_bits) own (subst (λ (p : AgentPort). burst_width link.link.host.burst_bits ≤ burst_width p.burst_bits) other plain.bursts);
-            lanes = subst (λ (p : HostPort). IsTrue (below.port.enables || not p.enables)) own (subst (λ (p : AgentPort). IsTrue (p.enables || not link.link.host.enables)) other plain.lanes);
+            meets = subst (λ (c : CommandNets). Meets new above.port below.port c seated.0) (sym way_back.shows) (subst (λ (p : HostPort). Meets new p below.port asks.command seated.0) (sym ended.is.port) asks.seated.meets);
+            back = same_back;
+            pair = subst (λ (p : HostPort). MayMeet p below.port) own (subst (λ (p : AgentPort). MayMeet link.link.host p) other link.pair);
+            host_single = subst (λ (p : HostPort). p.burst_bits ≡ 0) own plain.host;
+            agent_single = subst (λ (p : AgentPort). p.burst_bits ≡ 0) other plain.agent;
           }
 
   seats_are : (a : ℕ) (below : AgentPart) → a < length (agents_of plan.system) → slice_get parts.agents a ≡ Some below → seats_from (askers_of below.seats) ≡ seats_of (memory_system plan) a

@@ -131,14 +131,14 @@ module _ (plan : PlanTable) (planned : IsMemoryPlan (memory_system plan)) (disti
         (λ n own. register_same n (part.route_registers n own)) command
 
     module _ (a : ℕ) (there : a < (memory_system plan).agents) where
-      -- the command of a seat is that of a way
+      -- the command of a seat is told by that of a way
       seat_same : (h : ℕ) (seat : Seat) → seat_of h (fabric.agent a).seats ≡ Some seat → ShowSame seat.command x y
       seat_same h seat found =
           let has : is_joined (memory_system plan) a h ≡ true = sym (seated_is plan netlist fabric is a there h) ∙ found_seated h (fabric.agent a).seats seat found in
           let low = planned.joined a h has in
           let joins = is.joined h a low there has in
           let way = way_same (fabric.host h).ways a joins.way x y joins.way_is (below_same h low) in
-          let met : ShowSame joins.seat.command x y = joins.meets.beat x at_x ∙ way ∙ sym (joins.meets.beat y at_y) in
+          let met : ShowSame joins.seat.command x y = joins.meets.ignores longer extends x y of_x of_y same_state way in
           subst (λ (s : Seat). ShowSame s.command x y) (same_Some joins.seat seat (sym joins.seat_is ∙ found)) met
 
       above_same : AllShowSame (commands_above (fabric.agent a).seats) x y

@@ -1,11 +1,11 @@
 -- What each phase of a fabric asks, of the plan and what the phases before it made.
 use Rattle.std.proofs.Common.{◌≡◌, ℕ, zero, suc, ◌+◌, ◌*◌, ◌<◌, ◌≤◌, Bool, true, false, ◌||◌, cond, nat_eq, List, [], ◌∷◌, length, map, Some, slice_get, refl, sym, subst, ap, ◌∙◌, arith}
-use Rattle.std.proofs.lemmas.Bool.{eq-eqb, false≢true}
+use Rattle.std.specs.List.{AllZip}
+use Rattle.std.proofs.lemmas.Bool.{eqb-true, eq-eqb, false≢true}
 use Rattle.std.proofs.lemmas.Option.{same_Some, none-some, slice_get_within}
 use Rattle.std.proofs.lemmas.List.{length-map}
 use Rattle.iface_roles.specs.declared.records.AgentPort.{AgentPort}
 use Rattle.iface_roles.specs.declared.records.HostPort.{HostPort}
-use Rattle.iface_roles.specs.declared.records.Finished.TheVariants.{Host, Agent}
 use Rattle.iface_roles.specs.Proper.{IsBoundedHost, IsBoundedAgent, range_of, span_of}
 use Rattle.address_map.specs.Maps.{hosts_of, agents_of}
 use Rattle.link_rules.specs.Plans.{PlanTable}
@@ -20,7 +20,8 @@ use Rattle.mm_route.specs.Forward.{as_many_commands}
 use Rattle.mm_agent.specs.Agents.{agent_lasts}
 use Rattle.mm_arbiter.specs.declared.asker.Asker.{Asker}
 use Rattle.mm_arbiter.specs.Machine.{seats_from}
-use Rattle.mm_path.specs.Maps.{IsHostOf, IsAgentOf}
+use Rattle.mm_path.specs.Maps.{IsAgentOf}
+use Rattle.mm_width.specs.Pairs.{MayMeet}
 use Rattle.mm_host.specs.Reads.{is_unbounded}
 use Rattle.mm_fabric.specs.declared.asks.AgentEnd.{AgentEnd}
 use Rattle.mm_fabric.specs.declared.begun.BegunHost.{BegunHost}
@@ -30,27 +31,20 @@ use Rattle.mm_fabric.specs.declared.parts.Seat.{Seat}
 use Rattle.mm_fabric.specs.Parts.{askers_of}
 use Rattle.mm_fabric.specs.Fabrics.{seat_of}
 use Rattle.mm_fabric.specs.Begun.{IsHostEnd, AreHostEnds, IsBegun, AreBegun}
-use Rattle.mm_fabric.specs.Asks.{asking, command_to, CanAsk, AllCanAsk}
-use Rattle.mm_fabric.specs.Askers.{IsTold, AreTold}
+use Rattle.mm_fabric.specs.Asks.{asking, command_to, CanAsk, AllCanAsk, IsSeatFor}
+use Rattle.mm_fabric.specs.Askers.{IsServed}
+use Rattle.mm_fabric.specs.Wide.{IsSeated}
 use Rattle.mm_fabric.specs.Joined.{IsAgentEnd, AreAgentEnds, IsJoined, AreJoinedFrom}
 use Rattle.mm_fabric.specs.Joined.{end_of as agent_end_of}
 use Rattle.mm_fabric.specs.Tells.{CanTell, AllCanTell}
 use Rattle.mm_fabric.specs.Finished.{MayFinish, AllMayFinish}
 use Rattle.mm_fabric.specs.Ends.{IsPlain, AreHosts, AreAgents}
-use Rattle.mm_fabric.specs.Links.{HasLinkBetween, IsLinkedPlan}
+use Rattle.mm_fabric.specs.Links.{HasLinkBetween, IsLinkedAgent, IsLinkedPlan}
 use Rattle.mm_fabric.proofs.Passing.{there_at, mapped}
+use Rattle.mm_fabric.proofs.Linking.{same_host, same_agent}
 use Rattle.mm_fabric.proofs.Seats.{seated_is_joined}
 use Rattle.mm_fabric.specs.Lone.{IsLoneWay}
 use Rattle.mm_fabric.proofs.LoneWays.{lone_way}
-
--- ---- ports by their numbers
-
--- one host has a number, and one agent
-pub same_host : (plan : PlanTable) (h : ℕ) (one other : HostPort) → IsHostOf plan h one → IsHostOf plan h other → one ≡ other
-same_host plan h one other is also = let both : Host one ≡ Host other = sym is ∙ also in cc
-
-pub same_agent : (plan : PlanTable) (a : ℕ) (one other : AgentPort) → IsAgentOf plan a one → IsAgentOf plan a other → one ≡ other
-same_agent plan a one other is also = let both : Agent one ≡ Agent other = sym is ∙ also in cc
 
 -- ---- the hosts that begin
 
@@ -105,8 +99,8 @@ all_can_ask plan netlist agent port begun [] each = tt
 all_can_ask plan netlist agent port begun (asker ∷ later) each = (each 0 asker refl, all_can_ask plan netlist agent port begun later (λ k x at. each (suc k) x at))
 
 -- a begun host may ask where a link joins it to the agent
-can_ask : (plan : PlanTable) (netlist : Netlist) (agent : ℕ) (port : AgentPort) (begun : List BegunHost) (asker : Asker) → IsPlain plan → length begun ≡ length (hosts_of plan.system) → AreBegun plan netlist 0 begun → IsAgentOf plan agent port → HasLinkBetween plan asker.host agent → CanAsk plan netlist agent port begun asker
-can_ask plan netlist agent port begun asker plain many are is link =
+can_ask : (plan : PlanTable) (netlist : Netlist) (agent : ℕ) (port : AgentPort) (begun : List BegunHost) (asker : Asker) → length begun ≡ length (hosts_of plan.system) → AreBegun plan netlist 0 begun → IsAgentOf plan agent port → HasLinkBetween plan asker.host agent → CanAsk plan netlist agent port begun asker
+can_ask plan netlist agent port begun asker many are is link =
     let below = link.host_below in
     let there = there_at begun asker.host (omega (arith, below, many)) in
     let host = begun_at plan netlist asker.host begun there.0 are there.1 in
@@ -120,7 +114,8 @@ can_ask plan netlist agent port begun asker plain many are is link =
       at = there.1;
       leads = subst (λ (rs : List Route). command_to agent rs there.0.commands.items ≡ Some leads.0) (sym host.routes) leads.1;
       is = host;
-      words = ap (λ (p : HostPort). p.word_bytes) (sym above) ∙ (plain.links link.place link.link link.is).words ∙ ap (λ (p : AgentPort). p.word_bytes) below;
+      pair = subst (λ (p : HostPort). MayMeet p port) above (subst (λ (p : AgentPort). MayMeet link.link.host p) below link.pair);
+      word = subst (λ (p : HostPort). p.word_bytes ≤ range_of p) above link.word;
       span = subst (λ (p : HostPort). span_of port ≤ range_of p) above (subst (λ (p : AgentPort). span_of p ≤ range_of link.link.host) below link.span);
     }
 
@@ -130,6 +125,14 @@ agents_from plan netlist begun from (end ∷ ends) each = (
   subst (λ n. IsAgentEnd plan netlist begun n end) (omega arith) (each 0 end refl),
   agents_from plan netlist begun (from + 1) ends (λ k x at. subst (λ n. IsAgentEnd plan netlist begun n x) (omega arith) (each (suc k) x at)),
 )
+
+-- no link of a plan without bursts leads to an agent with bursts, and each agent has a link
+served : (plan : PlanTable) (agent : ℕ) (port : AgentPort) → IsPlain plan → IsAgentOf plan agent port → IsLinkedAgent plan agent → IsServed port
+served plan agent port plain is linked =
+    let asker = there_at (asking plan.system agent) 0 linked.askers.some in
+    let link = linked.links 0 asker.0 asker.1 in
+    let own = same_agent plan agent link.link.agent port link.agent_port is in
+    record { no_burst = subst (λ (p : AgentPort). p.burst_bits ≡ 0) own (plain link.place link.link link.is).agent }
 
 pub agents_join : (plan : PlanTable) (old netlist : Netlist) (begun : List BegunHost) (ends : List AgentEnd) → IsLinkedPlan plan → IsPlain plan → AreAgents plan old ends → Extends old netlist → length begun ≡ length (hosts_of plan.system) → AreBegun plan netlist 0 begun →
     AreAgentEnds plan netlist begun 0 ends
@@ -141,11 +144,11 @@ agents_join plan old netlist begun ends linked plain are e many all = agents_fro
     let agent = linked.agents k below in
     let joins : IsAgentEnd plan netlist begun k end = record {
       bounded = subst (λ (p : AgentPort). IsBoundedAgent p) (same_agent plan k agent.ports.port end.port agent.ports.is is.port) agent.ports.bounded;
-      served = plain.served k end.port below is.port;
+      served = served plan k end.port plain is.port agent;
       nets = agent_lasts old netlist end.port end.nets is.nets e;
       askers = agent.askers;
       few = agent.few;
-      asks = all_can_ask plan netlist k end.port begun (asking plan.system k) (λ j asker there. can_ask plan netlist k end.port begun asker plain many all is.port (agent.links j asker there));
+      asks = all_can_ask plan netlist k end.port begun (asking plan.system k) (λ j asker there. can_ask plan netlist k end.port begun asker many all is.port (agent.links j asker there));
     } in
     subst (λ n. IsAgentEnd plan netlist begun n end) (omega arith) joins))
 
@@ -181,13 +184,37 @@ pub joined_seat : (plan : PlanTable) (netlist : Netlist) (begun : List BegunHost
 joined_seat plan netlist begun host agent part linked link is =
     seat_found host part.seats (ap (λ (askers : List Asker). is_seated host (seats_from askers)) is.askers ∙ ap (is_seated host) (linked.agents agent link.agent_below).seats ∙ seated_is_joined (memory_system plan) agent host ∙ link.joined)
 
-told_found : (netlist : Netlist) (bits host : ℕ) (seats : List Seat) (seat : Seat) → AreTold netlist bits seats → seat_of host seats ≡ Some seat → IsTold netlist bits seat
-told_found netlist bits host [] seat told found = absurd (none-some seat found)
-told_found netlist bits host (first ∷ later) seat told found = by (nat_eq first.host host) found (told_found netlist bits host later seat told.1)
+-- it is one for its host's asker
+pub record SeatAt (netlist : Netlist) (port : AgentPort) (agent host : ℕ) (begun : List BegunHost) (seat : Seat) : Type 0 where
+  pub own : seat.host ≡ host
+  pub is : IsSeatFor netlist port agent begun (record { host = seat.host; shares = seat.shares }) seat
+
+seat_at : (netlist : Netlist) (port : AgentPort) (agent host : ℕ) (begun : List BegunHost) (seats : List Seat) (seat : Seat) → AllZip (IsSeatFor netlist port agent begun) (askers_of seats) seats → seat_of host seats ≡ Some seat → SeatAt netlist port agent host begun seat
+seat_at netlist port agent host begun [] seat all found = absurd (none-some seat found)
+seat_at netlist port agent host begun (first ∷ later) seat all found = by (nat_eq first.host host) refl found (seat_at netlist port agent host begun later seat all.1)
   where
-    by : (b : Bool) → cond b (Some first) (seat_of host later) ≡ Some seat → (seat_of host later ≡ Some seat → IsTold netlist bits seat) → IsTold netlist bits seat
-    by true is rest = subst (IsTold netlist bits) (same_Some first seat is) told.0
-    by false is rest = rest is
+    by : (b : Bool) → nat_eq first.host host ≡ b → cond b (Some first) (seat_of host later) ≡ Some seat → (seat_of host later ≡ Some seat → SeatAt netlist port agent host begun seat) → SeatAt netlist port agent host begun seat
+    by true own is rest = subst (SeatAt netlist port agent host begun) (same_Some first seat is) (record { own = eqb-true first.host host own; is = all.0 })
+    by false other is rest = rest is
+
+-- what a host asks at its seat, along its own route
+pub record AsksAt (netlist : Netlist) (port : AgentPort) (agent : ℕ) (host : BegunHost) (seat : Seat) : Type 0 where
+  pub command : CommandNets
+  pub leads : command_to agent host.routes host.commands.items ≡ Some command
+  pub seated : IsSeated netlist port (record { port = host.port; command = command }) seat
+
+pub asks_at : (netlist : Netlist) (port : AgentPort) (agent host : ℕ) (begun : List BegunHost) (askers : List Asker) (seats : List Seat) (seat : Seat) (own : BegunHost) → AllZip (IsSeatFor netlist port agent begun) askers seats → askers_of seats ≡ askers → seat_of host seats ≡ Some seat → slice_get begun host ≡ Some own →
+    AsksAt netlist port agent own seat
+asks_at netlist port agent host begun askers seats seat own all same found at =
+    let s = seat_at netlist port agent host begun seats seat (subst (λ (xs : List Asker). AllZip (IsSeatFor netlist port agent begun) xs seats) (sym same) all) found in
+    let one = s.is.asks in
+    let is : one.is.host ≡ own = same_Some one.is.host own (sym one.is.at ∙ ap (slice_get begun) s.own ∙ at) in
+    let ports : s.is.one.port ≡ own.port = one.port ∙ ap (λ (b : BegunHost). b.port) is in
+    record {
+      command = s.is.one.command;
+      leads = subst (λ (b : BegunHost). command_to agent b.routes b.commands.items ≡ Some s.is.one.command) is one.is.leads;
+      seated = subst (λ (p : HostPort). IsSeated netlist port (record { port = p; command = s.is.one.command }) seat) ports s.is.seated;
+    }
 
 -- ---- the hosts that are finished
 
@@ -209,21 +236,18 @@ all_joined plan old netlist begun ends parts are same each = record {
 }
 
 -- the agent at the end of a link tells the host
-can_tell : (plan : PlanTable) (netlist : Netlist) (begun : List BegunHost) (parts : List AgentPart) (host : ℕ) (port : HostPort) (route : Route) → IsLinkedPlan plan → IsPlain plan → AreAllJoined plan netlist begun parts → IsHostOf plan host port → HasLinkBetween plan host route.agent →
-    CanTell netlist (port.word_bytes * 8) host parts route
-can_tell plan netlist begun parts host port route linked plain all is link =
+can_tell : (plan : PlanTable) (netlist : Netlist) (begun : List BegunHost) (parts : List AgentPart) (number : ℕ) (host : BegunHost) (route : Route) → IsLinkedPlan plan → AreAllJoined plan netlist begun parts → slice_get begun number ≡ Some host → HasLinkBetween plan number route.agent →
+    CanTell netlist (host.port.word_bytes * 8) number parts route
+can_tell plan netlist begun parts number host route linked all at link =
     let below = link.agent_below in
     let many = all.many in
     let there = there_at parts route.agent (omega (arith, below, many)) in
     let joined = joined_at plan netlist begun route.agent parts there.0 all.each there.1 in
-    let seat = joined_seat plan netlist begun host route.agent there.0 linked link joined in
-    let words : there.0.port.word_bytes ≡ port.word_bytes =
-    ap (λ (p : AgentPort). p.word_bytes) (same_agent plan route.agent there.0.port link.link.agent (all.ports route.agent there.0 there.1) link.agent_port)
-    ∙ sym (plain.links link.place link.link link.is).words ∙ ap (λ (p : HostPort). p.word_bytes) (same_host plan host link.link.host port link.host_port is) in
+    let seat = joined_seat plan netlist begun number route.agent there.0 linked link joined in
     record {
       seat = seat.0;
       has = record { part = there.0; at = there.1; leads = seat.1 };
-      told = subst (λ n. IsTold netlist (n * 8) seat.0) words (told_found netlist (there.0.port.word_bytes * 8) host there.0.seats seat.0 joined.told seat.1);
+      told = (asks_at netlist there.0.port route.agent number begun _ there.0.seats seat.0 host joined.seats joined.askers seat.1 at).seated.told;
     }
 
 -- a begun host whose agents tell it may be finished, and where nothing next to it bounds its reads its only agent does
@@ -237,13 +261,13 @@ may_from netlist parts from (host ∷ later) each = (
   may_from netlist parts (from + 1) later (λ k x at. subst (λ n. MayFinish netlist parts n x) (omega arith) (each (suc k) x at)),
 )
 
-pub hosts_finish : (plan : PlanTable) (old netlist : Netlist) (begun : List BegunHost) (ends : List AgentEnd) (parts : List AgentPart) → IsLinkedPlan plan → IsPlain plan → length begun ≡ length (hosts_of plan.system) → AreBegun plan netlist 0 begun →
+pub hosts_finish : (plan : PlanTable) (old netlist : Netlist) (begun : List BegunHost) (ends : List AgentEnd) (parts : List AgentPart) → IsLinkedPlan plan → length begun ≡ length (hosts_of plan.system) → AreBegun plan netlist 0 begun →
     AreAgents plan old ends → map agent_end_of parts ≡ ends → AreAllJoined plan netlist begun parts → AllMayFinish netlist parts 0 begun
-hosts_finish plan old netlist begun ends parts linked plain many are given same all = may_from netlist parts 0 begun (λ k host at.
+hosts_finish plan old netlist begun ends parts linked many are given same all = may_from netlist parts 0 begun (λ k host at.
     (let is = begun_at plan netlist k begun host are at in
     let inside = slice_get_within begun k host at in
     let own = linked.hosts k (omega (arith, inside, many)) in
-    let tell = all_can_tell netlist (host.port.word_bytes * 8) k parts (routes_of plan.system k) (λ j route there. can_tell plan netlist begun parts k host.port route linked plain all is.port (own.links j route there)) in
+    let tell = all_can_tell netlist (host.port.word_bytes * 8) k parts (routes_of plan.system k) (λ j route there. can_tell plan netlist begun parts k host route linked all at (own.links j route there)) in
     let lone = lone_way plan old netlist begun parts ends k host linked.ends given same all.each at is in
     let may = may_finish plan netlist parts k host is lone (subst (λ (rs : List Route). length rs ≤ 32) (sym is.routes) own.few) (subst (AllCanTell netlist (host.port.word_bytes * 8) k parts) (sym is.routes) tell) in
     subst (λ n. MayFinish netlist parts n host) (omega arith) may))

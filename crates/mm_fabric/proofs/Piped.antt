@@ -1,4 +1,4 @@
--- The pipe of each agent of a fabric, as a wired system numbers its boundaries.
+-- The pipe of each agent of a fabric, as a system of machines numbers its boundaries.
 use Rattle.std.proofs.Common.{◌≡◌, ℕ, suc, ◌<◌, [], sym, subst, ◌∙◌}
 use Rattle.std.proofs.lemmas.Nat.{pow_pos}
 use Rattle.netlist.specs.Netlists.{Netlist}

@@ -3,15 +3,22 @@ use Rattle.std.proofs.Common.{◌≡◌, ℕ, zero, suc, ◌<◌, List, [], ◌�
 use Rattle.std.specs.List.{AllZip}
 use Rattle.std.proofs.lemmas.Option.{slice_get_within, slice_get-get_or}
 use Rattle.netlist.specs.Netlists.{Netlist}
+use Rattle.netlist.specs.Longer.{Extends}
+use Rattle.net_parts.specs.Laws.{net_lasts}
 use Rattle.memory_sides.specs.declared.route.Route.{Route}
 use Rattle.command_nets.specs.Nets.{AreAnswerNets}
+use Rattle.command_nets.specs.Groups.{answer_lasts}
 use Rattle.mm_route.specs.declared.back.BackNets.{BackNets}
 use Rattle.mm_route.specs.Backward.{AreBackNets}
 use Rattle.net_parts.specs.Nets.{IsBit}
 use Rattle.mm_fabric.specs.declared.parts.Seat.{Seat}
 use Rattle.mm_fabric.specs.declared.parts.AgentPart.{AgentPart}
+use Rattle.mm_fabric.specs.Askers.{IsTold}
 use Rattle.mm_fabric.specs.Fabrics.{seat_of}
 use Rattle.mm_fabric.specs.Tells.{HasSeat, IsBackFor, AllCanTell, AllHaveSeats}
+
+pub told_lasts : (old new : Netlist) (bits : ℕ) (seat : Seat) → IsTold old bits seat → Extends old new → IsTold new bits seat
+told_lasts old new bits seat h e = record { wait = net_lasts old new seat.told.wait 1 e h.wait; answer = answer_lasts old new seat.told.answer bits e h.answer }
 
 pub seat_at : (host : ℕ) (parts : List AgentPart) (routes : List Route) (k : ℕ) (d : Route) → AllHaveSeats host parts routes → k < length routes → (seat : Seat) × HasSeat host parts (get_or routes k d) seat
 seat_at host parts [] k d h lt = absurd (omega arith)
@@ -38,5 +45,5 @@ backs_stand netlist bits host parts [] (back ∷ backs) h b = absurd b
 backs_stand netlist bits host parts (route ∷ routes) [] h b = absurd b
 backs_stand netlist bits host parts (route ∷ routes) (back ∷ backs) h b =
     let same = same_seat host parts route h.0.seat b.0.seat h.0.has b.0.has in
-    let is : h.0.seat.back ≡ back = ap (λ (s : Seat). s.back) same ∙ sym b.0.is in
+    let is : h.0.seat.told ≡ back = ap (λ (s : Seat). s.told) same ∙ sym b.0.is in
     ((subst (λ (x : BackNets). IsBit netlist x.wait) is h.0.told.wait, subst (λ (x : BackNets). AreAnswerNets netlist x.answer bits) is h.0.told.answer), backs_stand netlist bits host parts routes backs h.1 b.1)

@@ -1,5 +1,5 @@
 -- What is given to the parts next to an agent: the hosts that ask, and their commands.
-use Rattle.std.specs.Prelude.{◌≡◌, ℕ, ◌+◌, ◌*◌, ◌^◌, ◌<◌, ◌≤◌, ◌⊎◌, true, List, [], ◌∷◌, length}
+use Rattle.std.specs.Prelude.{◌≡◌, ℕ, ◌+◌, ◌*◌, ◌^◌, ◌<◌, ◌≤◌, ◌⊎◌, List, [], ◌∷◌, length}
 use Rattle.std.specs.List.{AllZip}
 use Rattle.iface_roles.specs.declared.records.AgentPort.{AgentPort}
 use Rattle.iface_roles.specs.Proper.{span_of}
@@ -50,14 +50,19 @@ pub record AreAsked (netlist : Netlist) (port : AgentPort) (askers : List Asker)
 abbrev pub told_by : AgentMade → BelowNets
 told_by made = record { wait = made.waitrequest; answer = made.answer; tag = made.answer_tag }
 
--- what comes back to each seat is of this netlist, with words of so many bits
+-- what the links of a seat tell is of this netlist, with words of so many bits
 pub record IsTold (netlist : Netlist) (bits : ℕ) (seat : Seat) : Type 0 where
+  pub wait : IsBit netlist seat.told.wait
+  pub answer : AreAnswerNets netlist seat.told.answer bits
+
+-- what the arbiter tells the links of a seat is of this netlist, with words of so many bits
+pub record IsToldBelow (netlist : Netlist) (bits : ℕ) (seat : Seat) : Type 0 where
   pub wait : IsBit netlist seat.back.wait
   pub answer : AreAnswerNets netlist seat.back.answer bits
 
-abbrev pub AreTold : Netlist → ℕ → List Seat → Type 0
-AreTold netlist bits [] = Unit {0}
-AreTold netlist bits (seat ∷ seats) = IsTold netlist bits seat × AreTold netlist bits seats
+abbrev pub AreToldBelow : Netlist → ℕ → List Seat → Type 0
+AreToldBelow netlist bits [] = Unit {0}
+AreToldBelow netlist bits (seat ∷ seats) = IsToldBelow netlist bits seat × AreToldBelow netlist bits seats
 
 -- the most nets that a pipe of four stages takes
 abbrev pub pipe_nets : ℕ

@@ -1,4 +1,4 @@
--- Which hosts need no count of their unanswered reads: those whose only agent is wholly their own and bears fewer than 16.
+-- Which hosts need no count of their unanswered reads: those whose only agent is wholly their own, with nothing between them, and bears fewer than 16.
 use Rattle.std.specs.Prelude.{ℕ, Bool, false, ◌&&◌, nat_eq, nat_lt, List, find, count_by, Option}
 use Rattle.std.specs.Option.{option_map_or}
 use Rattle.iface_roles.specs.declared.records.AgentPort.{AgentPort}
@@ -8,6 +8,7 @@ use Rattle.link_rules.specs.Plans.{PlanTable}
 use Rattle.memory_sides.specs.Sides.{bound_of}
 use Rattle.memory_sides.specs.declared.route.Route.{Route}
 use Rattle.mm_route.specs.Entries.{is_lone}
+use Rattle.mm_width.specs.Pairs.{is_wire_pair}
 
 -- the agent bears fewer than 16 unanswered reads, each of one word
 abbrev pub bears_few : AgentPort → Bool
@@ -17,9 +18,10 @@ bears_few agent = agent.readdatavalid && nat_eq agent.burst_bits 0 && nat_lt (bo
 abbrev pub has_one_host : List MemoryLink → ℕ → Bool
 has_one_host links agent = nat_eq (count_by (λ link. nat_eq link.agent_number agent) links) 1
 
--- no stage stands before the agent of the link, which is wholly the host's and bears few
+-- neither a stage nor a link stands before the agent, which is wholly the host's and bears few
 abbrev pub bears_alone : PlanTable → MemoryLink → Bool
-bears_alone plan link = nat_eq plan.system.stages 0 && has_one_host (memory_links plan.system) link.agent_number && bears_few link.agent
+bears_alone plan link =
+    nat_eq plan.system.stages 0 && has_one_host (memory_links plan.system) link.agent_number && bears_few link.agent && is_wire_pair link.host link.agent
 
 -- the first link of the host, in the order of its connections
 abbrev pub first_link : ℕ → List MemoryLink → Option MemoryLink

@@ -1,12 +1,10 @@
 -- The hosts and agents that a fabric is made for, and that its parts are those of the plan.
-use Rattle.std.specs.Prelude.{◌≡◌, ℕ, ◌+◌, ◌*◌, ◌<◌, ◌≤◌, not, ◌||◌, List, length, Some, IsTrue, slice_get}
-use Rattle.iface_roles.specs.declared.records.AgentPort.{AgentPort}
+use Rattle.std.specs.Prelude.{◌≡◌, ℕ, ◌+◌, ◌*◌, ◌<◌, List, length, Some, slice_get}
 use Rattle.address_map.specs.Maps.{hosts_of, agents_of}
 use Rattle.link_rules.specs.declared.plan_links.MemoryLink.{MemoryLink}
 use Rattle.link_rules.specs.PlanLinks.{memory_links}
 use Rattle.link_rules.specs.Plans.{PlanTable}
 use Rattle.netlist.specs.Netlists.{Netlist}
-use Rattle.memory_sides.specs.Sides.{burst_width}
 use Rattle.memory_plans.specs.Systems.{memory_system}
 use Rattle.mm_host.specs.Hosts.{AreHostNets}
 use Rattle.mm_agent.specs.Agents.{AreAgentNets}
@@ -16,7 +14,7 @@ use Rattle.mm_fabric.specs.declared.asks.AgentEnd.{AgentEnd}
 use Rattle.mm_fabric.specs.declared.parts.HostPart.{HostPart}
 use Rattle.mm_fabric.specs.declared.parts.AgentPart.{AgentPart}
 use Rattle.mm_fabric.specs.declared.fabric.FabricParts.{FabricParts}
-use Rattle.mm_fabric.specs.Askers.{IsServed}
+use Rattle.mm_width.specs.Widths.{width_command_nets, width_answer_nets}
 use Rattle.mm_fabric.specs.Begun.{begun_nets}
 use Rattle.mm_fabric.specs.Joined.{most_agent_nets}
 use Rattle.mm_fabric.specs.Finished.{finished_nets}
@@ -24,16 +22,14 @@ use Rattle.mm_fabric.specs.Fabrics.{Fabric, IsFabric}
 
 -- ---- what is given
 
--- words of one size, no burst longer than the agent bears, and no beat without an enabled lane for an agent without byte enables
+-- no bursts at either end
 pub record IsPlainLink (link : MemoryLink) : Type 0 where
-  pub words : link.host.word_bytes ≡ link.agent.word_bytes
-  pub bursts : burst_width link.host.burst_bits ≤ burst_width link.agent.burst_bits
-  pub lanes : IsTrue (link.agent.enables || not link.host.enables)
+  pub host : link.host.burst_bits ≡ 0
+  pub agent : link.agent.burst_bits ≡ 0
 
--- no adapter is needed between a host and an agent, and each agent is served
-pub record IsPlain (plan : PlanTable) : Type 0 where
-  pub served : (a : ℕ) (port : AgentPort) → a < length (agents_of plan.system) → IsAgentOf plan a port → IsServed port
-  pub links : (k : ℕ) (link : MemoryLink) → slice_get (memory_links plan.system) k ≡ Some link → IsPlainLink link
+-- each link of the plan is such a one
+abbrev pub IsPlain : PlanTable → Type 0
+IsPlain plan = (k : ℕ) (link : MemoryLink) → slice_get (memory_links plan.system) k ≡ Some link → IsPlainLink link
 
 -- the ports of the host of this number, and its nets
 pub record IsHost (plan : PlanTable) (netlist : Netlist) (number : ℕ) (end : HostEnd) : Type 0 where
@@ -70,6 +66,6 @@ pub record HasParts (plan : PlanTable) (parts : FabricParts) (fabric : Fabric) :
 abbrev pub AreParts : PlanTable → Netlist → FabricParts → Type 0
 AreParts plan netlist parts = (fabric : Fabric) → HasParts plan parts fabric → IsFabric plan netlist fabric
 
--- the most nets that so many hosts and agents take
-abbrev pub fabric_nets : ℕ → ℕ → ℕ
-fabric_nets hosts agents = (begun_nets + finished_nets) * hosts + most_agent_nets * agents
+-- the most nets that so many hosts and agents with so many links take
+abbrev pub fabric_nets : ℕ → ℕ → ℕ → ℕ
+fabric_nets hosts agents links = (begun_nets + finished_nets) * hosts + most_agent_nets * agents + (width_command_nets + width_answer_nets) * links

@@ -1,5 +1,5 @@
 -- The hosts and agents of a plan with all that stands between them.
-use Rattle.std.specs.Prelude.{◌≡◌, ℕ, ◌<◌, ◌≤◌, List, find, nat_eq, nat_lt, not, ◌||◌, if◌then◌else◌, Option, Some, IsTrue}
+use Rattle.std.specs.Prelude.{◌≡◌, ℕ, ◌<◌, List, find, nat_eq, nat_lt, if◌then◌else◌, Option, Some, IsTrue}
 use Rattle.link_rules.specs.Plans.{PlanTable}
 use Rattle.netlist.specs.Netlists.{Netlist}
 use Rattle.netlist.specs.Runs.{Cycle, Run, IsValuation, SameState}
@@ -7,12 +7,12 @@ use Rattle.mm_runs.specs.Views.{HostView, AgentView, Run as MemoryRun}
 use Rattle.mm_runs.specs.Order.{is_joined}
 use Rattle.mm_runs.specs.Moment.{Moment}
 use Rattle.mm_machines.specs.Turns.{seats_of}
-use Rattle.memory_sides.specs.Sides.{burst_width}
 use Rattle.memory_plans.specs.Routes.{routes_of}
 use Rattle.memory_plans.specs.Systems.{memory_system}
 use Rattle.mm_host.specs.Hosts.{host_view}
 use Rattle.mm_agent.specs.Agents.{agent_view}
 use Rattle.mm_arbiter.specs.Machine.{seats_from}
+use Rattle.mm_width.specs.Pairs.{MayMeet}
 use Rattle.mm_path.specs.Maps.{IsHostOf, IsAgentOf}
 use Rattle.mm_path.specs.Shown.{silent_host, silent_agent, moment_in, standing_still}
 use Rattle.mm_fabric.specs.declared.parts.Way.{Way}
@@ -32,17 +32,17 @@ way_to agent ways = find (λ (w : Way). nat_eq w.agent agent) ways
 abbrev pub seat_of : ℕ → List Seat → Option Seat
 seat_of host seats = find (λ (s : Seat). nat_eq s.host host) seats
 
--- the way of a host to an agent leads to the host's seat there
+-- the way of a host to an agent leads by their links to the host's seat there. Neither has bursts
 pub record AreJoined (netlist : Netlist) (host agent : ℕ) (above : HostPart) (below : AgentPart) : Type 0 where
   pub way : Way
   pub way_is : way_to agent above.ways ≡ Some way
   pub seat : Seat
   pub seat_is : seat_of host below.seats ≡ Some seat
-  pub meets : Meets netlist way seat
-  -- words of one size, no burst longer than the agent bears, and no beat without an enabled lane for an agent without byte enables
-  pub words : above.port.word_bytes ≡ below.port.word_bytes
-  pub bursts : burst_width above.port.burst_bits ≤ burst_width below.port.burst_bits
-  pub lanes : IsTrue (below.port.enables || not above.port.enables)
+  pub meets : Meets netlist above.port below.port way.command seat
+  pub back : way.back ≡ seat.told
+  pub pair : MayMeet above.port below.port
+  pub host_single : above.port.burst_bits ≡ 0
+  pub agent_single : below.port.burst_bits ≡ 0
 
 -- each host and each agent of the plan has its part, and where they are joined these meet
 pub record IsFabric (plan : PlanTable) (netlist : Netlist) (fabric : Fabric) : Type 0 where

@@ -16,7 +16,6 @@ use Rattle.mm_host.specs.Forms.{held_lasts, AreAnswersTo}
 use Rattle.mm_agent.specs.declared.nets.AgentMade.{AgentMade}
 use Rattle.mm_agent.specs.Agents.{agent_lasts, AreMadeNets, has_address}
 use Rattle.mm_arbiter.specs.Forward.{forward_lasts as chosen_lasts}
-use Rattle.mm_fabric.specs.declared.parts.Way.{Way}
 use Rattle.mm_fabric.specs.declared.parts.HostPart.{HostPart}
 use Rattle.mm_fabric.specs.declared.parts.Seat.{Seat}
 use Rattle.mm_fabric.specs.declared.parts.AgentPart.{AgentPart}
@@ -74,8 +73,12 @@ agent_part_lasts old new stages part h e = record {
   no_stage = h.no_stage;
 }
 
-pub meets_lasts : (old new : Netlist) (way : Way) (seat : Seat) → Meets old way seat → Extends old new → Meets new way seat
-meets_lasts old new way seat h e = record { beat = λ cycle v. h.beat cycle (e.valuations cycle v); back = h.back }
+pub meets_lasts : (old new : Netlist) (host : HostPort) (agent : AgentPort) (command : CommandNets) (seat : Seat) → Meets old host agent command seat → Extends old new → Meets new host agent command seat
+meets_lasts old new host agent command seat h e = record {
+  runs = λ longer f. h.runs longer (extends_twice old new longer e f);
+  ignores = λ longer f. h.ignores longer (extends_twice old new longer e f);
+  wire = λ same. (let wire = h.wire same in (λ cycle v. wire.0 cycle (e.valuations cycle v), wire.1));
+}
 
 pub joined_lasts : (old new : Netlist) (host agent : ℕ) (above : HostPart) (below : AgentPart) → AreJoined old host agent above below → Extends old new → AreJoined new host agent above below
 joined_lasts old new host agent above below h e = record {
@@ -83,10 +86,11 @@ joined_lasts old new host agent above below h e = record {
   way_is = h.way_is;
   seat = h.seat;
   seat_is = h.seat_is;
-  meets = meets_lasts old new h.way h.seat h.meets e;
-  words = h.words;
-  bursts = h.bursts;
-  lanes = h.lanes;
+  meets = meets_lasts old new above.port below.port h.way.command h.seat h.meets e;
+  back = h.back;
+  pair = h.pair;
+  host_single = h.host_single;
+  agent_single = h.agent_single;
 }
 
 pub fabric_lasts : (plan : PlanTable) (old new : Netlist) (fabric : Fabric) → IsFabric plan old fabric → Extends old new → IsFabric plan new fabric

@@ -1,5 +1,6 @@
 pub mod Stages
 pub mod Parts
+pub mod Rows
 pub mod Askers
 pub mod Ways
 pub mod Wide

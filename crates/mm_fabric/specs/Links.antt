@@ -12,11 +12,12 @@ use Rattle.mm_runs.specs.Order.{is_joined}
 use Rattle.mm_machines.specs.Turns.{seats_of}
 use Rattle.mm_arbiter.specs.declared.asker.Asker.{Asker}
 use Rattle.mm_arbiter.specs.Machine.{seats_from}
+use Rattle.mm_width.specs.Pairs.{MayMeet}
 use Rattle.mm_path.specs.Maps.{IsHostOf, IsAgentOf, HasHost, HasAgent, JoinsEnds}
 use Rattle.mm_fabric.specs.Askers.{MayAsk}
 use Rattle.mm_fabric.specs.Asks.{asking}
 
--- a link joins this host to this agent: the host has a route there, and its range holds the agent's span
+-- a link joins this host to this agent, which may meet: the host has a route there, and its range holds the agent's span and a word of its own
 pub record HasLinkBetween (plan : PlanTable) (host agent : ℕ) : Type 0 where
   pub link : MemoryLink
   pub place : ℕ
@@ -26,6 +27,8 @@ pub record HasLinkBetween (plan : PlanTable) (host agent : ℕ) : Type 0 where
   pub host_below : host < length (hosts_of plan.system)
   pub agent_below : agent < length (agents_of plan.system)
   pub span : span_of link.agent ≤ range_of link.host
+  pub word : link.host.word_bytes ≤ range_of link.host
+  pub pair : MayMeet link.host link.agent
   pub route : HasRoute (routes_of plan.system host) agent
   pub joined : IsTrue (is_joined (memory_system plan) agent host)
 

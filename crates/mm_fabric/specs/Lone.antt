@@ -32,7 +32,7 @@ pub record IsBoundedRoute (netlist : Netlist) (routes : List Route) (command : C
   pub lone : is_lone routes command.address.width ≡ true
   pub few : (below : CommandNets) (back : BackNets) → commands ≡ below ∷ [] → backs ≡ back ∷ [] → HasAtMost netlist 15 below back.wait back.answer
 
--- the only route of the host leads to an agent with one seat, the host's, which shows its beat; the agent bears fewer than 16 reads
+-- the only route of the host leads to an agent with one seat, the host's, which shows its beat and is told what the host is; the agent bears fewer than 16 reads
 pub record IsLoneWay (netlist : Netlist) (parts : List AgentPart) (number : ℕ) (begun : BegunHost) : Type 0 where
   pub lone : is_lone begun.routes begun.trunk.host.command.address.width ≡ true
   pub route : Route
@@ -41,6 +41,7 @@ pub record IsLoneWay (netlist : Netlist) (parts : List AgentPart) (number : ℕ)
   pub has : HasSeat number parts route seat
   pub alone : has.part.seats ≡ seat ∷ []
   pub beat : (command : CommandNets) → begun.commands.items ≡ command ∷ [] → ShowsBeatOf netlist command seat.command
+  pub back : seat.back ≡ seat.told
   pub valid : has.part.port.readdatavalid ≡ true
   pub few : bound_of has.part.port < 16
   pub bounds : BoundsReads netlist has.part

@@ -1,5 +1,7 @@
 -- The parts next to a host and next to an agent: what they run as.
-use Rattle.std.specs.Prelude.{◌≡◌, ℕ, ◌*◌, List, map}
+use Rattle.std.specs.Prelude.{◌≡◌, ℕ, ◌*◌, true, List, map}
+use Rattle.iface_roles.specs.declared.records.AgentPort.{AgentPort}
+use Rattle.iface_roles.specs.declared.records.HostPort.{HostPort}
 use Rattle.iface_roles.specs.Proper.{IsBoundedHost, IsBoundedAgent}
 use Rattle.netlist.specs.Netlists.{Netlist}
 use Rattle.netlist.specs.Runs.{Always}
@@ -24,6 +26,8 @@ use Rattle.mm_arbiter.specs.Forward.{owns as owned_by_arbiter}
 use Rattle.mm_arbiter.specs.Machine.{RunsAsArbiter}
 use Rattle.mm_fabric.specs.Trunks.{room_bits}
 use Rattle.link_core.specs.Rows.{IgnoresInLonger}
+use Rattle.mm_width.specs.Pairs.{is_wire_pair}
+use Rattle.mm_width.specs.Widths.{WidthInLonger}
 use Rattle.mm_fabric.specs.declared.parts.Way.{Way}
 use Rattle.mm_fabric.specs.declared.parts.HostPart.{HostPart}
 use Rattle.mm_fabric.specs.declared.parts.Seat.{Seat}
@@ -90,7 +94,8 @@ pub record IsAgentPart (netlist : Netlist) (stages : ℕ) (part : AgentPart) : T
 
 -- ---- between them
 
--- the beat of a way is the one of a seat, and what comes back is the same nets
-pub record Meets (netlist : Netlist) (way : Way) (seat : Seat) : Type 0 where
-  pub beat : Always netlist (λ cycle. raw_in cycle seat.command ≡ raw_in cycle way.command)
-  pub back : seat.back ≡ way.back
+-- the links of a host and an agent lead from the host's command to a seat. Where none is needed the nets are the same, but for zeros over an address
+pub record Meets (netlist : Netlist) (host : HostPort) (agent : AgentPort) (command : CommandNets) (seat : Seat) : Type 0 where
+  pub runs : WidthInLonger host agent netlist command seat.told.wait seat.told.answer seat.command seat.back.wait seat.back.answer
+  pub ignores : IgnoresInLonger netlist command seat.command
+  pub wire : is_wire_pair host agent ≡ true → Always netlist (λ cycle. raw_in cycle seat.command ≡ raw_in cycle command) × (seat.back ≡ seat.told)

@@ -14,13 +14,13 @@ pub record HasSeat (host : ℕ) (parts : List AgentPart) (route : Route) (seat :
   pub at : slice_get parts route.agent ≡ Some part
   pub leads : seat_of host part.seats ≡ Some seat
 
--- what comes back of a route is what the host's seat is told
+-- what comes back of a route is what the links of the host's seat tell
 pub record IsBackFor (host : ℕ) (parts : List AgentPart) (route : Route) (back : BackNets) : Type 0 where
   pub seat : Seat
   pub has : HasSeat host parts route seat
-  pub is : back ≡ seat.back
+  pub is : back ≡ seat.told
 
--- the host has a seat at the agent of each route, which is told words of so many bits
+-- the host has a seat at the agent of each route, whose links tell words of so many bits
 pub record CanTell (netlist : Netlist) (bits host : ℕ) (parts : List AgentPart) (route : Route) : Type 0 where
   pub seat : Seat
   pub has : HasSeat host parts route seat

@@ -8,16 +8,26 @@ use Rattle.command_nets.specs.declared.nets.CommandNets.{CommandNets}
 use Rattle.command_nets.specs.Nets.{AreCommandNets, widths_of, raw_in}
 use Rattle.mm_arbiter.specs.declared.asker.Asker.{Asker}
 use Rattle.mm_arbiter.specs.Wider.{wider}
-use Rattle.mm_fabric.specs.Askers.{agent_part_nets}
+use Rattle.mm_width.specs.Pairs.{MayMeet, MayAskOf}
+use Rattle.mm_width.specs.Widths.{width_command_nets, width_answer_nets}
+use Rattle.mm_fabric.specs.declared.parts.Asking.{Asking}
+use Rattle.mm_fabric.specs.declared.parts.Seat.{Seat}
+use Rattle.mm_fabric.specs.Askers.{IsTold, agent_part_nets}
+use Rattle.mm_fabric.specs.Parts.{Meets}
 
--- the command of an asker reaches the span of the agent, with words of its size, and bears the number of its host
-pub record AsksFor (netlist : Netlist) (port : AgentPort) (asker : Asker) (command : CommandNets) : Type 0 where
-  pub nets : AreCommandNets netlist command
-  pub reaches : span_of port ≤ 2 ^ command.address.width
-  pub word : command.word.width ≡ port.word_bytes * 8
-  pub enables : command.enables.width ≡ port.word_bytes
-  pub tag : command.tag.width ≡ 4
-  pub bears : Always netlist (λ cycle. cycle.net command.tag.number ≡ asker.host)
+-- the host of an asker may meet the agent. Its command reaches the span of the agent and bears the number of the host
+pub record AsksFor (netlist : Netlist) (port : AgentPort) (asker : Asker) (asking : Asking) : Type 0 where
+  pub nets : AreCommandNets netlist asking.command
+  pub pair : MayMeet asking.port port
+  pub widths : MayAskOf asking.port port (widths_of asking.command)
+  pub reaches : span_of port ≤ 2 ^ asking.command.address.width
+  pub tag : asking.command.tag.width ≡ 4
+  pub bears : Always netlist (λ cycle. cycle.net asking.command.tag.number ≡ asker.host)
+
+-- the links of an asking host lead to this seat, and tell it words of its size
+pub record IsSeated (netlist : Netlist) (agent : AgentPort) (asking : Asking) (seat : Seat) : Type 0 where
+  pub meets : Meets netlist asking.port agent asking.command seat
+  pub told : IsTold netlist (asking.port.word_bytes * 8) seat
 
 -- no net of an address or a count is wider
 abbrev pub AreWithin : ℕ → ℕ → List CommandNets → Type 0
@@ -34,6 +44,6 @@ pub record IsWidened (netlist : Netlist) (address count : ℕ) (command wide : C
   pub widths : widths_of wide ≡ wider command address count
   pub beat : ShowsBeatOf netlist command wide
 
--- the most nets that an agent with so many askers takes
+-- the most nets that an agent with so many askers takes, their links among them
 abbrev pub joined_agent_nets : ℕ → ℕ
-joined_agent_nets askers = 4 * askers + agent_part_nets askers
+joined_agent_nets askers = (width_command_nets + width_answer_nets) * askers + 4 * askers + agent_part_nets askers

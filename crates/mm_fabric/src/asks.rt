@@ -5,15 +5,15 @@ ghost use Rattle.std.specs.List.{AllZip};
 ghost use Rattle.iface_roles.specs.Proper.{IsBoundedAgent};
 ghost use Rattle.net_parts.specs.Growth.{GrowsInMemory, StillWait, StillWaitForWrite};
 ghost use Rattle.mm_agent.specs.Agents.{AreAgentNets};
-ghost use Rattle.mm_fabric.specs.Parts.{IsAgentPart, askers_of, commands_above};
-ghost use Rattle.mm_fabric.specs.Askers.{IsServed, MayAsk, AreTold, HasNoRoomFor};
+ghost use Rattle.mm_fabric.specs.Parts.{IsAgentPart, askers_of};
+ghost use Rattle.mm_fabric.specs.Askers.{IsServed, MayAsk, HasNoRoomFor};
 ghost use Rattle.mm_fabric.specs.Wide.{joined_agent_nets};
 ghost use Rattle.mm_fabric.specs.Lone.{BoundsReads};
-ghost use Rattle.mm_fabric.specs.Asks.{asking_among, asking, command_to, IsCommandFor, AllHaveCommands, AllCanAsk, ShowsAsked};
+ghost use Rattle.mm_fabric.specs.Asks.{asking_among, asking, command_to, AsksAs, AllHaveCommands, AllCanAsk, IsSeatFor};
 
 use crate::agents::join_agent;
 use crate::begun::BegunHost;
-use crate::parts::AgentPart;
+use crate::parts::{AgentPart, Asking};
 use command_nets::CommandNets;
 use iface_roles::AgentPort;
 use link_rules::{MemoryLink, Plan};
@@ -60,26 +60,29 @@ fn command_to(routes: &[Route], commands: &[CommandNets], agent: u8) -> Option<C
     None
 }
 
-/// The command of each asker's host for an agent.
+/// The host of each asker, with its command for an agent.
 fn commands_for(
     alloc: Global,
     begun: &[BegunHost],
     askers: &[Asker],
     agent: u8,
-) -> Result<Vec<CommandNets>, NetFault>
+) -> Result<Vec<Asking>, NetFault>
     requires { AllHaveCommands agent begun.now askers.now }
-    ensures commands { IfOk result (λ commands. AllZip (IsCommandFor agent begun.now) askers.now commands.items) }
+    ensures asking { IfOk result (λ asking. AllZip (AsksAs agent begun.now) askers.now asking.items) }
     ensures full { ¬ (result ≡ Err NetFault.TooManyNets) }
 {
-    let mut commands = Vec::new(alloc);
+    let mut asking = Vec::new(alloc);
     for asker in askers {
         let host = &begun[asker.host as usize];
         match command_to(host.routes.as_slice(), &host.commands, agent) {
-            Some(command) => commands.push(command)?,
+            Some(command) => asking.push(Asking {
+                port: host.port,
+                command,
+            })?,
             None => unreachable!(),
         }
     }
-    Ok(commands)
+    Ok(asking)
 }
 
 /// Makes what stands next to the agent of this number, behind the begun hosts that are joined to it.
@@ -103,8 +106,7 @@ pub(crate) fn join_hosts(
     ensures port { IfOk result (λ part. part.port ≡ end.now.port) }
     ensures nets { IfOk result (λ part. part.nets ≡ end.now.nets) }
     ensures askers { IfOk result (λ part. askers_of part.seats ≡ asking plan.now.system number) }
-    ensures beats { IfOk result (λ part. AllZip (ShowsAsked builder.new number begun.now) (asking plan.now.system number) (commands_above part.seats)) }
-    ensures backs { IfOk result (λ part. AreTold builder.new (end.now.port.word_bytes * 8) part.seats) }
+    ensures seats { IfOk result (λ part. AllZip (IsSeatFor builder.new end.now.port number begun.now) (asking plan.now.system number) part.seats) }
     ensures bounds { IfOk result (λ part. plan.now.system.stages ≡ 0 → BoundsReads builder.new part) }
     ensures grows { GrowsInMemory (joined_agent_nets (length (asking plan.now.system number))) 1 builder.old builder.new }
     ensures waits { StillWait builder.old builder.new }
@@ -117,14 +119,14 @@ pub(crate) fn join_hosts(
 {
     plan.well_made();
     let askers = asking_among(alloc, plan.memory_links(), number)?;
-    let commands = commands_for(alloc, begun, &askers, number)?;
+    let asking = commands_for(alloc, begun, &askers, number)?;
     join_agent(
         alloc,
         builder,
         &end.port,
         &end.nets,
         &askers,
-        &commands,
+        &asking,
         plan.stages(),
     )
 }

@@ -9,6 +9,7 @@ use iface_roles::{AgentPort, HostPort};
 use link_rules::{MemoryLink, Plan};
 use memory_sides::Route;
 use mm_route::is_lone;
+use mm_width::is_wire_pair;
 
 /// The bits of a host's addresses where these count bytes.
 fn byte_address_bits(port: &HostPort) -> u8
@@ -37,13 +38,14 @@ fn has_one_host(links: &[MemoryLink], agent: u8) -> bool
     hosts.count() == 1
 }
 
-/// Whether no stage stands before the agent of a link, no other host is joined to it, and it never has 16 reads unanswered.
+/// Whether nothing stands between the ends of a link, no other host is joined to its agent, and that never has 16 reads unanswered.
 fn bears_alone(plan: &Plan, link: &MemoryLink) -> bool
     ensures { result ≡ bears_alone plan.now link.now }
 {
     plan.stages() == 0
         && has_one_host(plan.memory_links(), link.agent_number)
         && bears_few(&link.agent)
+        && is_wire_pair(&link.host, &link.agent)
 }
 
 /// The first link of the host of this number.
@@ -68,7 +70,8 @@ fn first_bears_alone(plan: &Plan, host: u8) -> bool
     }
 }
 
-/// Whether all addresses of the host of this number lead to one agent, wholly its own, that never has 16 reads unanswered.
+/// Whether all addresses of the host of this number lead to one agent, wholly its own and with nothing between, that never has 16
+/// reads unanswered.
 pub(crate) fn needs_no_count(plan: &Plan, host: u8, port: &HostPort, routes: &[Route]) -> bool
     requires { IsBoundedHost port.now }
     ensures { (width : ℕ) → 2 ^ width ≡ range_of port.now → result ≡ needs_no_count plan.now host routes.now width }

@@ -11,6 +11,7 @@ mod hosts;
 mod joined;
 mod laws;
 mod parts;
+mod rows;
 mod served;
 mod stages;
 mod tells;
@@ -22,6 +23,9 @@ pub use begun::{BegunHost, HostEnd, begin_hosts};
 pub use fabric::{FabricParts, emit_fabric};
 pub use finished::finish_hosts;
 pub use joined::join_agents;
+pub use laws::links_are_few;
 pub use parts::{AgentPart, HostPart, Seat, Way};
-pub use served::{fabrics_are_served, fabrics_are_wired, fabrics_ignore_words, fabrics_show_views};
+pub use served::{
+    fabrics_are_linked, fabrics_are_served, fabrics_ignore_words, fabrics_show_views,
+};
 pub use trunk::Trunk;

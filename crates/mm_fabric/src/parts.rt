@@ -33,15 +33,26 @@ pub struct HostPart {
     pub told: HostAnswer,
 }
 
-/// Above an arbiter: a host with its shares, its command on nets as wide as the others', and what it is told.
+/// A host that asks an agent: its ports, and its command for the agent.
+#[derive(Clone, Copy)]
+pub(crate) struct Asking {
+    pub port: HostPort,
+    pub command: CommandNets,
+}
+
+/// Above an arbiter: a host with its shares, below the links that fit its words to the agent's.
 #[derive(Clone, Copy)]
 pub struct Seat {
     /// The host's number.
     pub host: u8,
     /// 1 to 63.
     pub shares: u8,
+    /// Below the links, on nets as wide as the others'.
     pub command: CommandNets,
+    /// What the arbiter tells the links.
     pub back: BackNets,
+    /// What the links tell the host's route.
+    pub told: BackNets,
 }
 
 /// All that stands next to an agent, its arbiter with it.

@@ -11,13 +11,16 @@ ghost use Rattle.mm_runs.specs.Whole.{IsLegalRun, IsSafe};
 ghost use Rattle.mm_runs.specs.Awake.{NeverIdles, IsFair};
 ghost use Rattle.mm_runs.specs.Moment.{IgnoresReaddata};
 ghost use Rattle.memory_plans.specs.Systems.{memory_system};
-ghost use Rattle.mm_awake.specs.WiredSystem.{WiredPorts, WiredStates, IsWiredSystem};
+ghost use Rattle.mm_awake.specs.RowSystem.{RowPorts, AreRows, boundaries_of};
+ghost use Rattle.mm_awake.specs.Theorem.{States, ArePlanned, AreMachines};
 ghost use Rattle.mm_fabric.specs.Fabrics.{Fabric, IsFabric, seen_in, FabricShows};
 
 use memory_plans::{plans_are_memory_plans, routes_are_the_map};
 use mm_arbiter::arbiter_ignores_answers;
-use mm_awake::wired::{pipes_have_stages, what_wires_carry_fits, wired_systems_are_served};
-use mm_parts::joins::routes_join_beats;
+use mm_awake::rows::{
+    machines_with_links_are_awake, machines_with_links_are_fair, what_rows_carry_fits,
+};
+use mm_awake::wired::pipes_have_stages;
 use mm_path::{fit_commands_suit_agents, plans_are_apart, routes_are_mapped};
 use mm_route::route_ignores_answers;
 
@@ -28,20 +31,22 @@ pub fn fabrics_show_views()
         → AreViews (memory_system plan) (seen_in plan fabric run) end }
 {}
 
-/// A fabric runs as machines: hosts, routes, arbiters, stages and agents, as long as the hosts and agents of the plan are legal.
-pub fn fabrics_are_wired()
+/// A fabric runs as machines: hosts, routes, links, arbiters, stages and agents, as long as the hosts and agents of the plan are legal.
+pub fn fabrics_are_linked()
     ensures { (plan : PlanTable) → IsPlan plan → (netlist : Netlist) (fabric : Fabric) → IsFabric plan netlist fabric
         → (longer : Netlist) → Extends netlist longer → (run : Run) → IsEndlessRun longer run → (end : ℕ)
         → IsLegalRun (memory_system plan) (seen_in plan fabric run) end
-        → (ports : WiredPorts) × (states : WiredStates) × IsWiredSystem AreZero (memory_system plan) (seen_in plan fabric run) ports states end }
+        → (ports : RowPorts) × (states : States)
+        × ArePlanned (memory_system plan) (boundaries_of ports) states
+        × AreMachines AreZero (memory_system plan) (seen_in plan fabric run) (boundaries_of ports) states end
+        × AreRows (memory_system plan) (seen_in plan fabric run) ports end }
 {
     plans_are_memory_plans();
     plans_are_apart();
     routes_are_the_map();
     routes_are_mapped();
     fit_commands_suit_agents();
-    routes_join_beats();
-    what_wires_carry_fits();
+    what_rows_carry_fits();
     pipes_have_stages();
     fabrics_show_views();
 }
@@ -60,9 +65,9 @@ pub fn fabrics_are_served()
 {
     plans_are_memory_plans();
     plans_are_apart();
-    fabrics_show_views();
-    fabrics_are_wired();
-    wired_systems_are_served();
+    fabrics_are_linked();
+    machines_with_links_are_awake();
+    machines_with_links_are_fair();
 }
 
 /// No command that a fabric shows depends on a word that comes in its cycle.

@@ -49,7 +49,7 @@ fn backs_for(
     for route in routes {
         let part = &parts[route.agent as usize];
         match seat_of(part.seats.as_slice(), host) {
-            Some(seat) => backs.push(seat.back)?,
+            Some(seat) => backs.push(seat.told)?,
             None => unreachable!(),
         }
     }

@@ -20,7 +20,7 @@ pub unreachable-requires : goal.unreachable-requires
 unreachable-requires c =
     let hosts = subst (AreHostsIn c.args.plan.now.system c.args.builder.now (length (hosts_of c.args.plan.now.system))) (sym c.as_slice.ensures) c.in_ok-hosts.ensures in
     let agents = subst (AreAgentsIn c.args.plan.now.system c.args.builder.now (length (agents_of c.args.plan.now.system))) (sym c.as_slice-2.ensures) c.in_ok-agents.ensures in
-    room_for_all c.args.plan.now.system c.args.builder.now _ _ c.ports_are_known.ensures c.requires.begun hosts.many agents.many (c.emit_fabric.ensures.full (c.in-Err-TooManyNets.is ∙ ap Err c.in-Err-TooManyNets.field-0-is))
+    room_for_all c.args.plan.now.system c.args.builder.now _ _ c.ports_are_known.ensures c.requires.begun hosts.many agents.many (record { connections = c.links_are_connections.ensures c.args.plan.now c.well_made.ensures; agents = c.links_are_few.ensures c.args.plan.now c.well_made.ensures }) (c.emit_fabric.ensures.full (c.in-Err-TooManyNets.is ∙ ap Err c.in-Err-TooManyNets.field-0-is))
 
 pub returns-in-Ok : goal.returns-in-Ok
 returns-in-Ok c =

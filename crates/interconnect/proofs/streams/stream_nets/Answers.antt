@@ -51,6 +51,7 @@ path_nets-requires-clause-ready c =
 pub path_nets-requires-clause-room : goal.path_nets-requires-clause-room
 path_nets-requires-clause-room c =
     path_room c.args.plan.now c.args.number c.args.builder.now c.ports_are_known.ensures
+    (record { connections = c.links_are_connections.ensures c.args.plan.now c.well_made.ensures; agents = c.links_are_few.ensures c.args.plan.now c.well_made.ensures })
     (slice_get_within (streams_of c.args.plan.now.system) c.args.number c.args.link.now.connection c.requires.link.place_is) c.requires.joined
 
 -- what holds of a result that is there

@@ -26,6 +26,7 @@ finish-module-requires-clause-driven c =
       };
       upto = c.in_ok-join_streams.ensures;
       well_made = c.well_made-2.ensures;
+      few_links = record { connections = c.links_are_connections.ensures plan is_plan; agents = c.links_are_few.ensures plan is_plan };
     } in
     all_driven plan c.join_streams.new.builder whole
 
@@ -46,6 +47,7 @@ returns-clause-module c =
       };
       upto = c.in_ok-join_streams.ensures;
       well_made = c.well_made-2.ensures;
+      few_links = record { connections = c.links_are_connections.ensures plan is_plan; agents = c.links_are_few.ensures plan is_plan };
     } in
     subst (IsInterconnect plan) (sym c.finish-module.ensures.same)
     (interconnect_is plan c.join_streams.new.builder (record {

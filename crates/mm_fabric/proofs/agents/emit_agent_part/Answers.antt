@@ -10,7 +10,7 @@ use Rattle.link_core.specs.PipeNets.{keeps_lasts as pipe_lasts}
 use Rattle.mm_agent.specs.Agents.{agent_lasts}
 use Rattle.mm_agent.specs.Memories.{memory_grows_fewer, memory_grows_within, writes_wait_alike, writes_waited_alike}
 use Rattle.mm_arbiter.specs.Forward.{keeps_lasts, forward_lasts}
-use Rattle.mm_fabric.specs.Askers.{AreTold}
+use Rattle.mm_fabric.specs.Askers.{AreToldBelow}
 use Rattle.mm_fabric.proofs.Asking.{all_widths, asked_are_commands, asked_have_widths, address_width, word_width, enables_width, tag_width, lone_bears, answers_bear, owned_wait, told_of, fewer_nets, fewer_memories, no_room_for}
 use Rattle.mm_fabric.proofs.AgentParts.{agent_part_is}
 use Rattle.mm_fabric.proofs.LoneAgents.{bounds_reads}
@@ -250,7 +250,7 @@ returns-clause-backs c =
     let e = c.finish_arbiter.ensures.grows.extends in
     let told = c.in_ok-seats.ensures.backs ∙ c.deref.ensures.value in
     let bits = c.in_ok-made.ensures.nets.answer.word.has_width in
-    subst (λ bits. AreTold c.finish_arbiter.new.builder bits c.in_ok-seats.seats) c.word_bits-bits.ensures.bits
+    subst (λ bits. AreToldBelow c.finish_arbiter.new.builder bits c.in_ok-seats.seats) c.word_bits-bits.ensures.bits
     (told_of _ _ _ _ _ _ _ c.in_ok-backs.ensures.made c.in_ok-backs.ensures.count (net_lasts _ _ _ 1 e below.wait)
     (subst (λ n. AreAnswerNets c.finish_arbiter.new.builder c.in_ok-told.told.answer n) (bits ∙ sym c.word_bits-bits.ensures.bits) (answer_lasts _ _ _ _ e below.answer)) told)
 

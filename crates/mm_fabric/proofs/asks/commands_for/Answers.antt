@@ -1,10 +1,11 @@
-use Rattle.std.proofs.Common.{List, [], ◌∷◌, ◌++◌, get_or, take, sym, subst}
+use Rattle.std.proofs.Common.{List, [], ◌∷◌, ◌++◌, get_or, take, sym, subst, ap}
 use Rattle.std.specs.List.{AllZip}
 use Rattle.std.proofs.lemmas.List.{take_more}
 use Rattle.std.proofs.lemmas.Option.{slice_get_within}
-use Rattle.command_nets.specs.declared.nets.CommandNets.{CommandNets}
 use Rattle.mm_arbiter.specs.declared.asker.Asker.{Asker}
-use Rattle.mm_fabric.specs.Asks.{IsCommandFor}
+use Rattle.mm_fabric.specs.declared.begun.BegunHost.{BegunHost}
+use Rattle.mm_fabric.specs.declared.parts.Asking.{Asking}
+use Rattle.mm_fabric.specs.Asks.{AsksAs}
 use Rattle.mm_fabric.proofs.Widening.{zip_push}
 use Rattle.mm_fabric.proofs.Leading.{have_at, same_host}
 use Rattle.mm_fabric.proofs.asks.commands_for.Goals as goal
@@ -45,7 +46,8 @@ loop-asker-preserved c =
     let commands = c.deref.ensures.value in
     let gives = c.command_to.ensures in
     let some = c.in-Some.is in
-    let last : IsCommandFor c.args.agent c.args.begun.now (get_or askers k none) c.in-Some.command = record { host = have.host; at = have.at; many = have.many; leads = cc } in
-    subst (λ (xs : List Asker). AllZip (IsCommandFor c.args.agent c.args.begun.now) xs c.push.new.self.items) (sym (take_more askers k none c.loop-asker-test.true))
-    (subst (λ (ys : List CommandNets). AllZip (IsCommandFor c.args.agent c.args.begun.now) (take k askers ++ get_or askers k none ∷ []) ys) (sym c.in_ok-push-in-Some.ensures.items)
-    (zip_push (IsCommandFor c.args.agent c.args.begun.now) (take k askers) c.loop-asker.commands.items (get_or askers k none) c.in-Some.command c.loop-asker.invariant last))
+    let one : Asking = record { port = c.index-begun-asker.result.port; command = c.in-Some.command } in
+    let last : AsksAs c.args.agent c.args.begun.now (get_or askers k none) one = record { is = record { host = have.host; at = have.at; many = have.many; leads = cc }; port = ap (λ (b : BegunHost). b.port) (sym same) } in
+    subst (λ (xs : List Asker). AllZip (AsksAs c.args.agent c.args.begun.now) xs c.push.new.self.items) (sym (take_more askers k none c.loop-asker-test.true))
+    (subst (λ (ys : List Asking). AllZip (AsksAs c.args.agent c.args.begun.now) (take k askers ++ get_or askers k none ∷ []) ys) (sym c.in_ok-push-in-Some.ensures.items)
+    (zip_push (AsksAs c.args.agent c.args.begun.now) (take k askers) c.loop-asker.asking.items (get_or askers k none) one c.loop-asker.invariant last))

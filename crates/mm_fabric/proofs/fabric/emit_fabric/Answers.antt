@@ -1,5 +1,6 @@
 use Rattle.std.proofs.Common.{List, length, sym, subst, ap, ◌∙◌, inl, inr, arith}
 use Rattle.std.proofs.lemmas.List.{length-map}
+use Rattle.link_rules.specs.PlanLinks.{memory_links}
 use Rattle.netlist.specs.declared.line.Memory.{Memory}
 use Rattle.net_parts.specs.Refusing.{handed_on}
 use Rattle.net_parts.specs.Laws.{grows_without_memory, memory_grows_twice}
@@ -8,7 +9,7 @@ use Rattle.mm_fabric.specs.declared.begun.BegunHost.{BegunHost}
 use Rattle.mm_fabric.specs.declared.begun.HostEnd.{HostEnd}
 use Rattle.mm_fabric.specs.declared.parts.AgentPart.{AgentPart}
 use Rattle.mm_fabric.specs.Begun.{IsOfAny, AreApart, end_of, begun_nets}
-use Rattle.mm_fabric.specs.Joined.{AreAgentEnds, AreJoinedFrom, most_agent_nets}
+use Rattle.mm_fabric.specs.Joined.{AreAgentEnds, AreJoinedFrom, most_agent_nets, link_nets}
 use Rattle.mm_fabric.specs.Finished.{AllMayFinish, AreFinished, finished_nets}
 use Rattle.mm_fabric.proofs.Beginning.{all_begun_last}
 use Rattle.mm_fabric.proofs.Joining.{joined_last}
@@ -38,7 +39,7 @@ finish_hosts-requires-clause-hosts c =
     let all = all_joined c.args.plan.now c.args.builder.now c.join_agents.new.builder c.in_ok-begun.begun c.args.agents.now c.in_ok-joined.joined c.requires.agents c.in_ok-joined.ensures.ends parts in
     subst (λ (bs : List BegunHost). AllMayFinish c.join_agents.new.builder c.as_slice-3.result.now 0 bs) (sym c.as_slice-2.ensures)
     (subst (λ (ps : List AgentPart). AllMayFinish c.join_agents.new.builder ps 0 c.in_ok-begun.begun) (sym c.as_slice-3.ensures)
-    (hosts_finish c.args.plan.now c.args.builder.now c.join_agents.new.builder c.in_ok-begun.begun c.args.agents.now c.in_ok-joined.joined (c.plans_are_linked.ensures c.args.plan.now c.well_made.ensures) c.requires.plain many later c.requires.agents c.in_ok-joined.ensures.ends all))
+    (hosts_finish c.args.plan.now c.args.builder.now c.join_agents.new.builder c.in_ok-begun.begun c.args.agents.now c.in_ok-joined.joined (c.plans_are_linked.ensures c.args.plan.now c.well_made.ensures) many later c.requires.agents c.in_ok-joined.ensures.ends all))
 
 pub finish_hosts-requires-clause-apart : goal.finish_hosts-requires-clause-apart
 finish_hosts-requires-clause-apart c = subst (λ (bs : List BegunHost). AreApart bs) (sym c.as_slice-2.ensures) c.in_ok-begun.ensures.begun.apart
@@ -71,19 +72,19 @@ returns-clause-hosts c =
 
 pub returns-in_err-joined-clause-grows : goal.returns-in_err-joined-clause-grows
 returns-in_err-joined-clause-grows c =
-    memory_grows_within _ _ _ _ _ _ _ _ _ (grows_without_memory _ _ _ c.begin_hosts.ensures.grows) c.join_agents.ensures.grows (two_phases begun_nets finished_nets most_agent_nets (length c.args.hosts.now) (length c.args.agents.now)) (omega arith)
+    memory_grows_within _ _ _ _ _ _ _ _ _ (grows_without_memory _ _ _ c.begin_hosts.ensures.grows) c.join_agents.ensures.grows (two_phases begun_nets finished_nets most_agent_nets link_nets (length c.args.hosts.now) (length c.args.agents.now) (length (memory_links c.args.plan.now.system))) (omega arith)
 
 pub returns-in_err-finished-clause-grows : goal.returns-in_err-finished-clause-grows
 returns-in_err-finished-clause-grows c =
     let as_many = ap (λ (bs : List BegunHost). length bs) c.as_slice-2.ensures ∙ sym (length-map c.in_ok-begun.begun end_of) ∙ ap (λ (es : List HostEnd). length es) c.in_ok-begun.ensures.begun.ends_are in
     memory_grows_within _ _ _ _ _ _ _ _ _ (memory_grows_twice _ _ _ _ _ _ _ (grows_without_memory _ _ _ c.begin_hosts.ensures.grows) c.join_agents.ensures.grows) (grows_without_memory _ _ _ c.finish_hosts.ensures.grows)
-    (three_phases begun_nets finished_nets most_agent_nets (length c.args.hosts.now) (length c.args.agents.now) (length c.as_slice-2.result.now) as_many) (omega arith)
+    (three_phases begun_nets finished_nets most_agent_nets link_nets (length c.args.hosts.now) (length c.args.agents.now) (length (memory_links c.args.plan.now.system)) (length c.as_slice-2.result.now) as_many) (omega arith)
 
 pub returns-clause-grows : goal.returns-clause-grows
 returns-clause-grows c =
     let as_many = ap (λ (bs : List BegunHost). length bs) c.as_slice-2.ensures ∙ sym (length-map c.in_ok-begun.begun end_of) ∙ ap (λ (es : List HostEnd). length es) c.in_ok-begun.ensures.begun.ends_are in
     memory_grows_within _ _ _ _ _ _ _ _ _ (memory_grows_twice _ _ _ _ _ _ _ (grows_without_memory _ _ _ c.begin_hosts.ensures.grows) c.join_agents.ensures.grows) (grows_without_memory _ _ _ c.finish_hosts.ensures.grows)
-    (three_phases begun_nets finished_nets most_agent_nets (length c.args.hosts.now) (length c.args.agents.now) (length c.as_slice-2.result.now) as_many) (omega arith)
+    (three_phases begun_nets finished_nets most_agent_nets link_nets (length c.args.hosts.now) (length c.args.agents.now) (length (memory_links c.args.plan.now.system)) (length c.as_slice-2.result.now) as_many) (omega arith)
 
 -- ---- what waits
 
@@ -119,12 +120,12 @@ returns-clause-no_more_wait_for_write c m w = writes_waited_alike c.args.builder
 pub returns-in_err-begun-clause-full : goal.returns-in_err-begun-clause-full
 returns-in_err-begun-clause-full c e =
     let full = c.begin_hosts.ensures.full (handed_on _ _ _ _ c.in_err-begun.was c.from_residual.ensures.1 e) in
-    let most = two_phases begun_nets finished_nets most_agent_nets (length c.args.hosts.now) (length c.args.agents.now) in
+    let most = two_phases begun_nets finished_nets most_agent_nets link_nets (length c.args.hosts.now) (length c.args.agents.now) (length (memory_links c.args.plan.now.system)) in
     inl (omega (arith, full, most))
 
 pub returns-in_err-joined-clause-full : goal.returns-in_err-joined-clause-full
 returns-in_err-joined-clause-full c e =
-    let most = two_phases begun_nets finished_nets most_agent_nets (length c.args.hosts.now) (length c.args.agents.now) in
+    let most = two_phases begun_nets finished_nets most_agent_nets link_nets (length c.args.hosts.now) (length c.args.agents.now) (length (memory_links c.args.plan.now.system)) in
     let grown = c.begin_hosts.ensures.grows.most in
     let memories = ap (length {A = Memory}) c.begin_hosts.ensures.grows.memories in
     elim (c.join_agents.ensures.full (handed_on _ _ _ _ c.in_err-joined.was c.from_residual-in_err-joined.ensures.1 e)) [
@@ -135,7 +136,7 @@ returns-in_err-joined-clause-full c e =
 pub returns-in_err-finished-clause-full : goal.returns-in_err-finished-clause-full
 returns-in_err-finished-clause-full c e =
     let as_many = ap (λ (bs : List BegunHost). length bs) c.as_slice-2.ensures ∙ sym (length-map c.in_ok-begun.begun end_of) ∙ ap (λ (es : List HostEnd). length es) c.in_ok-begun.ensures.begun.ends_are in
-    let most = three_phases begun_nets finished_nets most_agent_nets (length c.args.hosts.now) (length c.args.agents.now) (length c.as_slice-2.result.now) as_many in
+    let most = three_phases begun_nets finished_nets most_agent_nets link_nets (length c.args.hosts.now) (length c.args.agents.now) (length (memory_links c.args.plan.now.system)) (length c.as_slice-2.result.now) as_many in
     let grown = c.begin_hosts.ensures.grows.most in
     let joined = c.join_agents.ensures.grows.most in
     let full = c.finish_hosts.ensures.full (handed_on _ _ _ _ c.in_err-finished.was c.from_residual-in_err-finished.ensures.1 e) in

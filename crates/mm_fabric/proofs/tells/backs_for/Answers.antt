@@ -37,7 +37,7 @@ loop-route-preserved c =
     let gives = c.seat_of.ensures in
     let some = c.in-Some.is in
     let seat : c.in-Some.seat ≡ found.0 = cc in
-    let last : IsBackFor c.args.host c.args.parts.now (get_or routes k none) c.in-Some.seat.back = record { seat = found.0; has = have; is = cc } in
+    let last : IsBackFor c.args.host c.args.parts.now (get_or routes k none) c.in-Some.seat.told = record { seat = found.0; has = have; is = cc } in
     subst (λ (xs : List Route). AllZip (IsBackFor c.args.host c.args.parts.now) xs c.push.new.self.items) (sym (take_more routes k none c.loop-route-test.true))
     (subst (λ (ys : List BackNets). AllZip (IsBackFor c.args.host c.args.parts.now) (take k routes ++ get_or routes k none ∷ []) ys) (sym c.in_ok-push-in-Some.ensures.items)
-    (zip_push (IsBackFor c.args.host c.args.parts.now) (take k routes) c.loop-route.backs.items (get_or routes k none) c.in-Some.seat.back c.loop-route.invariant last))
+    (zip_push (IsBackFor c.args.host c.args.parts.now) (take k routes) c.loop-route.backs.items (get_or routes k none) c.in-Some.seat.told c.loop-route.invariant last))

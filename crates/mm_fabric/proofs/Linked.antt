@@ -1,5 +1,6 @@
--- A fabric runs as machines: hosts, routes, arbiters, stages and agents.
-use Rattle.std.proofs.Common.{◌≡◌, ℕ, zero, suc, ◌+◌, ◌-◌, ◌*◌, ◌^◌, ◌<◌, ◌≤◌, Bool, true, false, not, ◌||◌, if◌then◌else◌, nat_eq, List, [], None, IsTrue, refl, sym, subst, ap, ap₂, ◌∙◌, arith}
+-- A fabric runs as machines: hosts, routes, links, arbiters, stages and agents.
+use Rattle.std.specs.Bool.{IsFalse}
+use Rattle.std.proofs.Common.{◌≡◌, ℕ, zero, suc, ◌+◌, ◌-◌, ◌*◌, ◌^◌, ◌<◌, ◌≤◌, Bool, true, false, not, ◌||◌, if◌then◌else◌, nat_eq, List, [], None, IsTrue, refl, sym, subst, ap, ◌∙◌, arith}
 use Rattle.std.proofs.Math.Nat.{two-pow-succ, le_refl}
 use Rattle.std.proofs.lemmas.Bool.{ne_eqb}
 use Rattle.std.proofs.lemmas.Nat.{pow-add, pow_pos}
@@ -13,12 +14,11 @@ use Rattle.link_rules.specs.Plans.{PlanTable}
 use Rattle.mm_runs.specs.Views.{System, HostSide, HostView, AgentSide, AgentView, Responses, Run as MemoryRun}
 use Rattle.mm_runs.specs.Views.Responses.{AreZero}
 use Rattle.mm_runs.specs.Commands.{longest_burst}
-use Rattle.mm_runs.specs.Legal.{IsLegalHost}
 use Rattle.mm_runs.specs.Order.{is_joined}
 use Rattle.mm_runs.specs.Plan.{IsMemoryPlan, AreViews}
 use Rattle.mm_runs.specs.Whole.{IsLegalRun}
 use Rattle.mm_machines.specs.Link.{Port}
-use Rattle.mm_machines.specs.Lines.{IsFit, TaggedPort}
+use Rattle.mm_machines.specs.Lines.{IsFit, TaggedPort, target_of}
 use Rattle.mm_machines.specs.Turns.{Grant, seats_of}
 use Rattle.ranks.specs.Turns.{Seat, is_seated}
 use Rattle.mm_parts.specs.Agent.{AgentState, IsAgentMachine}
@@ -35,17 +35,23 @@ use Rattle.mm_agent.specs.Agents.{shape_above}
 use Rattle.mm_agent.specs.Forms.{AreFitFor}
 use Rattle.mm_arbiter.specs.Machine.{Surrounds, seats_from}
 use Rattle.mm_awake.specs.Fair.{are_apart}
-use Rattle.mm_awake.specs.WiredSystem.{WiredPorts, WiredStates, IsWiredFront, ServeWhatFits, with_agents, IsWiredSystem}
+use Rattle.mm_awake.specs.Rows.{CutsBursts.no_cutter, drops_some}
+use Rattle.mm_awake.specs.RowSystem.{RowPorts, AreRows, AreIdleWires, boundaries_of}
+use Rattle.mm_awake.specs.RowFront.{IsRowFront, ServeWhatFits, with_agents}
+use Rattle.mm_awake.specs.Theorem.{States, ArePlanned, AreMachines}
 use Rattle.mm_awake.specs.PipeStages.{stage_of}
 use Rattle.mm_links.specs.Pipes.{PipeSides}
+use Rattle.mm_width.specs.Pairs.{needs_drop}
 use Rattle.mm_path.specs.Maps.{IsHostOf, IsAgentOf, RoutesAreMapped}
 use Rattle.mm_fabric.specs.Trunks.{room_bits}
 use Rattle.mm_fabric.specs.Parts.{askers_of, commands_above, backs_above}
 use Rattle.mm_fabric.specs.Fabrics.{Fabric, IsFabric, seen_at_host, seen_at_agent, seen_in}
 use Rattle.mm_fabric.proofs.Piped.{IsPipeAt}
-use Rattle.mm_fabric.proofs.Boundaries.{below_host, above_agent, below_arbiter, answers_to, below_route, above_arbiter, ports_in, wire, idle, silent, outside, sides, joined}
+use Rattle.mm_fabric.proofs.Boundaries.{below_host, above_agent, below_arbiter, answers_to, below_route, above_arbiter, ports_in, idle, silent, outside, sides}
+use Rattle.mm_fabric.proofs.Between.{StandsBetween, hands_on, alike_wire, joined_below, lanes, some_word, wired_to_itself}
 use Rattle.mm_fabric.proofs.Choices.{choose}
-use Rattle.mm_fabric.proofs.Known.{seen_host, seen_agent, host_is, agent_is, seated_is}
+use Rattle.mm_fabric.proofs.Known.{seen_host, seen_agent, host_is, agent_is, seated_is, single_host}
+use Rattle.mm_fabric.proofs.Singles.{HaveOneBeat}
 use Rattle.mm_fabric.proofs.SilentReader.{no_word, never_reads, seen_as_machine}
 
 -- ---- what the crates below give
@@ -56,17 +62,14 @@ RoutesMap plan = (host : ℕ) (port : HostPort) → IsHostOf plan host port → 
 abbrev pub FitCommandsSuit : Type 0
 FitCommandsSuit = (plan : PlanTable) (agent : ℕ) (port : AgentPort) → IsAgentOf plan agent port → (up : Port) → up.shape ≡ shape_above port → (end : ℕ) → IsFit (memory_system plan) agent up end → AreFitFor port up end
 
-abbrev pub RoutesJoinBeats : Type 0
-RoutesJoinBeats =
-    (responses : Responses) (system : System) (run : MemoryRun) (host room : ℕ) (middle : Port) (down : ℕ → Port) (host_state : HostState) (route_state : RouteState) (end : ℕ)
-    → IsLegalHost (system.host host) (run.at_host host) end → IsHostMachine responses (system.host host) (run.at_host host) middle host_state end → IsRouteMachine responses system host room middle down route_state end
-    → (a : ℕ) → a < system.agents → JoinsBeats (down a) end
-
-abbrev pub WiresCarryWhatFits : Type 0
-WiresCarryWhatFits =
-    (responses : Responses) (system : System) (run : MemoryRun) (ports : WiredPorts) (states : WiredStates) (end : ℕ)
-    → IsMemoryPlan system → AreViews system run end → IsWiredFront responses system run ports states end → ServeWhatFits responses system run ports end → IsLegalRun system run end
-    → (agent : ℕ → AgentState) × IsWiredSystem responses system run ports (with_agents states agent) end
+abbrev pub RowsCarryWhatFits : Type 0
+RowsCarryWhatFits =
+    (responses : Responses) (system : System) (run : MemoryRun) (ports : RowPorts) (states : States) (end : ℕ)
+    → IsMemoryPlan system → AreViews system run end → IsRowFront responses system run ports states end → ServeWhatFits responses system run ports.lower end → IsLegalRun system run end
+    → (agent : ℕ → AgentState)
+    × ArePlanned system (boundaries_of ports) (with_agents states agent)
+    × AreMachines responses system run (boundaries_of ports) (with_agents states agent) end
+    × AreRows system run ports end
 
 -- ---- states where there is no part
 
@@ -106,9 +109,10 @@ room_fits : (bits : ℕ) → 16 * longest_burst (burst_width bits) < 2 ^ (4 + bu
 room_fits bits = room_of (burst_width bits) (some_width bits)
 
 module _ (plan : PlanTable) (planned : IsMemoryPlan (memory_system plan)) (distinct : (a : ℕ) → IsTrue (are_apart ((memory_system plan).joined a))) (routed : (h : ℕ) → h < (memory_system plan).hosts → AreRoutes (memory_system plan) h (routes_of plan.system h))
-    (mapped : RoutesMap plan) (suits : FitCommandsSuit) (join : RoutesJoinBeats)
+    (mapped : RoutesMap plan) (suits : FitCommandsSuit)
     (netlist : Netlist) (fabric : Fabric) (is : IsFabric plan netlist fabric) (longer : Netlist) (extends : Extends netlist longer) (run : Run) (endless : IsEndlessRun longer run) (end : ℕ)
-    (legal : IsLegalRun (memory_system plan) (seen_in plan fabric run) end)
+    (legal : IsLegalRun (memory_system plan) (seen_in plan fabric run) end) (views : AreViews (memory_system plan) (seen_in plan fabric run) end)
+    (low_side : ℕ → ℕ → Port) (stands : (h : ℕ) → h < (memory_system plan).hosts → (a : ℕ) → a < (memory_system plan).agents → StandsBetween plan fabric run h a (low_side h a))
     (pipe : ℕ → PipeSides) (piped : (a : ℕ) → a < (memory_system plan).agents → IsPipeAt plan fabric run a (pipe a)) where
   abbrev pub system : System
   system = memory_system plan
@@ -116,8 +120,8 @@ module _ (plan : PlanTable) (planned : IsMemoryPlan (memory_system plan)) (disti
   abbrev pub seen : MemoryRun
   seen = seen_in plan fabric run
 
-  abbrev pub ports : WiredPorts
-  ports = ports_in plan fabric pipe run
+  abbrev pub ports : RowPorts
+  ports = ports_in plan fabric low_side pipe run
 
   abbrev pub room : ℕ → ℕ
   room h = 2 ^ room_bits (fabric.host h).port
@@ -149,12 +153,10 @@ module _ (plan : PlanTable) (planned : IsMemoryPlan (memory_system plan)) (disti
 
   -- ---- an arbiter
 
-  -- what a route shows to an agent joins its beats
-  route_joins : (h a : ℕ) → h < (memory_system plan).hosts → a < (memory_system plan).agents → JoinsBeats (below_route plan fabric run h a) end
-  route_joins h a low there =
-      let host = host_machine h low in
-      let route = route_run h low in
-      join AreZero (memory_system plan) (seen_in plan fabric run) h (room h) (below_host (fabric.host h) run) (below_route plan fabric run h) host.0 route.state end (legal.hosts h low) host.1 route.is_machine a there
+  -- a host without bursts shows single beats, and its route hands these on
+  route_singles : (h a : ℕ) → h < (memory_system plan).hosts → a < (memory_system plan).agents → ((memory_system plan).host h).has_burst ≡ false → HaveOneBeat (below_route plan fabric run h a) end
+  route_singles h a low there plain = λ c before shown.
+      ((route_run h low).is_machine.count a c there before ∙ (host_machine h low).1.count c before ∙ (views.hosts h low).one_beat plain c before)
 
   abbrev pub is_host_seated : ℕ → ℕ → Bool
   is_host_seated a h = is_seated h (seats_from (askers_of (fabric.agent a).seats))
@@ -163,7 +165,8 @@ module _ (plan : PlanTable) (planned : IsMemoryPlan (memory_system plan)) (disti
   seat_joins a there h seated =
       let has : is_joined (memory_system plan) a h ≡ true = sym (seated_is plan netlist fabric is a there h) ∙ seated in
       let low = planned.joined a h has in
-      joined plan planned netlist fabric is longer extends run endless a there h end low has (route_joins h a low there)
+      let plain = single_host plan netlist fabric is h a low (is.joined h a low there has) in
+      joined_below (target_of (memory_system plan) a) (needs_drop (fabric.host h).port (fabric.agent a).port) (below_route plan fabric run h a) (above_arbiter fabric run h a) (low_side h a) end ((stands h low a there).leads has) (route_singles h a low there plain)
 
   surrounds : (a : ℕ) → a < (memory_system plan).agents →
       Surrounds (askers_of (fabric.agent a).seats) (commands_above (fabric.agent a).seats) (backs_above (fabric.agent a).seats) (shape_above (fabric.agent a).port) run (memory_system plan).hosts
@@ -198,16 +201,21 @@ module _ (plan : PlanTable) (planned : IsMemoryPlan (memory_system plan)) (disti
   grants_run =
       choose {X = ℕ → Grant} (λ a grant. IsArbiterMachine (seats_of (memory_system plan) a) (memory_system plan).hosts (λ h. ports.before_arbiter h a) (ports.lower a plan.system.stages) grant end) (memory_system plan).agents no_grant arbiter
 
-  abbrev pub states : WiredStates
+  abbrev pub states : States
   states = record { host = hosts_run.0; route = routes_run.0; room = room; grant = grants_run.0; stage = λ a. stage_of plan.system.stages (pipe a); agent = λ a. no_agent_state }
 
-  lanes_at : (h a : ℕ) → h < (memory_system plan).hosts → a < (memory_system plan).agents → IsTrue (is_joined (memory_system plan) a h) → IsTrue (((memory_system plan).agent a).has_enables || not ((memory_system plan).host h).has_enables)
-  lanes_at h a low there has =
-      let agent : ((memory_system plan).agent a).has_enables ≡ (fabric.agent a).port.enables = ap (λ (s : AgentSide). s.has_enables) (agent_is plan netlist fabric is a there) in
-      let host : ((memory_system plan).host h).has_enables ≡ (fabric.host h).port.enables = ap (λ (s : HostSide). s.has_enables) (host_is plan netlist fabric is h low) in
-      ap₂ (λ x y. x || not y) agent host ∙ (is.joined h a low there has).lanes
+  -- ---- the links
 
-  pub front : IsWiredFront AreZero (memory_system plan) (seen_in plan fabric run) ports states end
+  lanes_at : (h a : ℕ) (low : h < (memory_system plan).hosts) (there : a < (memory_system plan).agents) (joined : IsTrue (is_joined (memory_system plan) a h)) → IsFalse (drops_some (((stands h low a there).leads joined).dropped)) →
+      IsTrue (((memory_system plan).agent a).has_enables || not ((memory_system plan).host h).has_enables)
+  lanes_at h a low there joined none = lanes plan planned netlist fabric is longer extends run endless h a low there (sym ((stands h low a there).leads joined).is ∙ none)
+
+  idle_at : (h a : ℕ) → h < (memory_system plan).hosts → a < (memory_system plan).agents → IsFalse (is_joined (memory_system plan) a h) → AreIdleWires ports h a
+  idle_at h a low there apart =
+      let hands = hands_on (below_route plan fabric run h a) (low_side h a) (above_arbiter fabric run h a) ((stands h low a there).none apart) (idle plan planned netlist fabric is longer extends run endless a there h (routed h low) apart) in
+      record { high = record { commands = refl; answers = refl }; mid = hands.high; low = hands.rest }
+
+  pub front : IsRowFront AreZero (memory_system plan) (seen_in plan fabric run) ports states end
   front = record {
     host = hosts_run.1;
     room = λ h low. room_fits (fabric.host h).port.burst_bits;
@@ -215,14 +223,17 @@ module _ (plan : PlanTable) (planned : IsMemoryPlan (memory_system plan)) (disti
     arbiter = grants_run.1;
     silent = λ a there. silent plan planned netlist fabric is longer extends run endless a there end;
     stage = λ a i there few. (piped a there).stage i few;
-    wires = λ h a low there has. wire plan planned netlist fabric is longer extends run endless h a low (is.joined h a low there has);
+    cuts = λ h a low there has. no_cutter (wired_to_itself (below_route plan fabric run h a) (some_word plan planned netlist fabric is longer extends run endless h a low there (is.joined h a low there has)));
+    fits = λ h a low there has. ((stands h low a there).leads has).fits;
+    drops = λ h a low there has. ((stands h low a there).leads has).dropped;
     lanes = lanes_at;
-    idle = λ h a low there apart. idle plan planned netlist fabric is longer extends run endless a there h (routed h low) apart;
+    wired = λ h a low there has valid alike. alike_wire plan planned netlist fabric is longer extends run endless h a low there (is.joined h a low there has) alike;
+    idle = idle_at;
   }
 
   -- ---- the agents
 
-  pub served : ServeWhatFits AreZero (memory_system plan) (seen_in plan fabric run) ports end
+  pub served : ServeWhatFits AreZero (memory_system plan) (seen_in plan fabric run) ports.lower end
   served = λ a c there within fit.
       (let part = fabric.agent a in
       let lowest = (piped a there).lowest in
@@ -235,8 +246,9 @@ module _ (plan : PlanTable) (planned : IsMemoryPlan (memory_system plan)) (disti
             (subst (λ (view : AgentView). IsAgentMachine AreZero ((memory_system plan).agent a) view (above_agent part run) found.state c) (sym (seen_agent plan fabric run a there)) at_side);
       })
 
-  pub wired : WiresCarryWhatFits → AreViews (memory_system plan) (seen_in plan fabric run) end →
-      (ports : WiredPorts) × (states : WiredStates) × IsWiredSystem AreZero (memory_system plan) (seen_in plan fabric run) ports states end
-  wired law views =
+  pub linked : RowsCarryWhatFits →
+      (ports : RowPorts) × (states : States) × ArePlanned (memory_system plan) (boundaries_of ports) states × AreMachines AreZero (memory_system plan) (seen_in plan fabric run) (boundaries_of ports) states end
+      × AreRows (memory_system plan) (seen_in plan fabric run) ports end
+  linked law =
       let made = law AreZero (memory_system plan) (seen_in plan fabric run) ports states end planned views front served legal in
-      (ports, with_agents states made.0, made.1)
+      (ports, with_agents states made.0, made.1, made.2, made.3)
