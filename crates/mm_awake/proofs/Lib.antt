@@ -71,6 +71,4 @@ pub mod LinkRuns
 pub mod PlanLinks
 pub mod ModestRow
 pub mod SplitCounts
-pub mod WiredSystem
-pub mod WiresFit
 pub mod PipeStages

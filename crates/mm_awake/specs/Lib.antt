@@ -14,5 +14,4 @@ pub mod RowSystem
 pub mod RowFront
 pub mod RowRun
 pub mod LinkSystem
-pub mod WiredSystem
 pub mod PipeStages

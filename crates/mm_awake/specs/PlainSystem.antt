@@ -1,10 +1,10 @@
 -- A plain system of machines, wired without links and stages: its boundaries, states and ranks, as `IsBuilt` asks for them.
-use Rattle.std.specs.Prelude.{ℕ, ◌≤◌, IsFalse}
+use Rattle.std.specs.Prelude.{ℕ, ◌≤◌, [], IsFalse}
 use Rattle.mm_runs.specs.Views.{Responses}
 use Rattle.mm_runs.specs.Commands.{shows}
 use Rattle.mm_machines.specs.Link.{Port}
+use Rattle.mm_machines.specs.Machines.{Stage}
 use Rattle.mm_parts.specs.SystemRun.{PlainPlan, Outside, Registers, after_host, before_arbiter, before_agent, states_run}
-use Rattle.mm_awake.specs.WiredSystem.{WiredPorts, no_stage}
 use Rattle.mm_awake.specs.RowSystem.{RowPorts}
 use Rattle.mm_awake.specs.Theorem.{Boundaries, States, LinkRanks}
 
@@ -15,6 +15,15 @@ AreQuietPast plan outside = (h c : ℕ) → plan.hosts ≤ h → IsFalse (shows 
 -- a wire keeps nothing back, and has nothing to do
 abbrev pub wire_ranks : LinkRanks
 wire_ranks = record { standing = λ h a i. record { rank = λ c. 0; largest = 0 }; slack = λ h a i. record { hold = 0; kept = 0 } }
+
+-- where no stage is there: this one is of no boundary
+abbrev pub no_stage : Port → Stage
+no_stage port = record {
+  depth = 0;
+  shape = port.shape;
+  sides = record { commands_above = port.commands; answers_above = port.answers; commands_below = port.commands; answers_below = port.answers };
+  queue = λ c. [];
+}
 
 module _ (responses : Responses) (plan : PlainPlan) (outside : Outside) (registers : ℕ → Registers) where
   -- each host's route is wired to each arbiter, and each arbiter to its agent's part
@@ -36,12 +45,3 @@ module _ (responses : Responses) (plan : PlainPlan) (outside : Outside) (registe
   wired_ports =
       let wire : ℕ → ℕ → Port = before_arbiter responses plan outside registers in
       record { after_host = after_host responses plan outside registers; after_route = wire; below_cutter = wire; above_dropper = wire; before_arbiter = wire; lower = λ a i. before_agent responses plan outside registers a }
-
-  -- and as the boundaries of a system without links
-  abbrev pub plain_ports : WiredPorts
-  plain_ports = record {
-    after_host = after_host responses plan outside registers;
-    after_route = before_arbiter responses plan outside registers;
-    before_arbiter = before_arbiter responses plan outside registers;
-    lower = λ a i. before_agent responses plan outside registers a;
-  }

@@ -109,8 +109,8 @@ pub fn plain_systems_have_rows()
         × AreMachines responses (plain_system plan) run (boundaries_of ports) (wired_states responses plan outside registers room) end
         × AreRows (plain_system plan) run ports end }
 {
-    crate::wired::plain_systems_are_wired();
-    crate::wired::wired_systems_have_rows()
+    crate::plain::plain_systems_are_built();
+    crate::built::memory_plans_are_planned()
 }
 
 /// A row of links has a run for all commands from above, and all waits and answers from below, whatever stands in it: a cutter of either kind, a lane selector or a splitter, what drops beats, and wires.
