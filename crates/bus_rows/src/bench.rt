@@ -1,12 +1,6 @@
-//! Hosts and agents that keep to what they declare, and what happens at them.
+//! Hosts and agents at the ports of a module, and what happens at them.
 
-use crate::driver::Driver;
-use crate::ends::Agent;
-use crate::events::{Event, Log, Tally};
-use crate::memory::Memory;
-use crate::row::{HostWork, Row};
-use crate::rules::Rule;
-use crate::signals::{Answer, Command};
+use bus_ends::{Agent, Answer, Command, Driver, Event, HostWork, Log, Memory, Row, Rule, Tally};
 use iface_roles::Role;
 use netlist::Module;
 use row_steps::{Bench, Inputs, Outputs, System, port_that_ends};

@@ -2,22 +2,12 @@
 //! to that, and prints what the agents accept and what the hosts are given.
 #![tactic(auto)]
 
-mod access;
 mod bench;
-mod driver;
-mod ends;
-mod events;
-mod memory;
-mod row;
-mod rules;
-mod scripts;
-mod signals;
 mod steps;
 
 use av_base::NoMemory;
-use events::push_tally;
-use row::Row;
-use row_steps::{Answers, answer_lines};
+use bus_ends::{Row, push_tally};
+use row_words::{Answers, answer_lines};
 use std::alloc::Global;
 use std::io;
 use steps::{Outcome, run_row};

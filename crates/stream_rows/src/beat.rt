@@ -1,7 +1,7 @@
 //! Beats, their text, and their symbols.
 
 use crate::end::End;
-use row_steps::{hex_number, parted, small_number};
+use row_words::{hex_number, parted, small_number};
 use std::alloc::{AllocError, Global};
 
 #[derive(Clone, Copy, PartialEq)]

@@ -1,6 +1,6 @@
 //! What is declared of an end of a stream.
 
-use row_steps::{parted, small_number};
+use row_words::{parted, small_number};
 
 /// An end, its widths in bits, 0 where it doesn't have the port.
 #[derive(Clone, Copy)]

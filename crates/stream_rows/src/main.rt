@@ -13,7 +13,7 @@ use av_base::NoMemory;
 use beat::{Beat, Symbol, push_beat, symbols_of};
 use bench::Tally;
 use row::Row;
-use row_steps::{Answers, answer_lines};
+use row_words::{Answers, answer_lines};
 use std::alloc::{AllocError, Global};
 use std::io;
 use steps::run_row;

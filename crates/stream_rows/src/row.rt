@@ -2,7 +2,7 @@
 
 use crate::beat::Beat;
 use crate::end::End;
-use row_steps::small_number;
+use row_words::small_number;
 use std::alloc::{AllocError, Global};
 use std::str::SplitWhitespace;
 

@@ -3,7 +3,7 @@
 use crate::end::End;
 use crate::row::Row;
 use av_base::Bytes;
-use row_steps::push_port;
+use row_words::push_port;
 use std::alloc::{AllocError, Global};
 
 /// What the scripts call an end, and the directions of its ports.

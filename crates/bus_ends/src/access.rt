@@ -1,7 +1,7 @@
 //! The accesses of a host.
 
 use crate::ends::{Shape, address_of};
-use row_steps::{hex_number, parted, small_number};
+use row_words::{hex_number, parted, small_number};
 use std::alloc::AllocError;
 
 /// A read or a write.

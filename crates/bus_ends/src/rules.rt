@@ -2,6 +2,7 @@
 
 use std::alloc::AllocError;
 
+/// A rule that was broken, and where.
 #[derive(Clone, Copy)]
 pub enum Rule {
     /// A word comes to a host that it hasn't asked for.

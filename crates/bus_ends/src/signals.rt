@@ -19,6 +19,7 @@ pub struct Answer {
 }
 
 impl Command {
+    /// Whether a read or a write is shown.
     pub fn is_shown(&self) -> bool {
         self.read || self.write
     }

@@ -3,7 +3,7 @@
 use crate::ends::{Agent, Host, Shape};
 use crate::row::{Connection, HostWork, Row};
 use av_base::Bytes;
-use row_steps::push_port;
+use row_words::push_port;
 use std::alloc::{AllocError, Global};
 
 /// What the scripts call an interface, and the directions of its ports.

@@ -2,7 +2,7 @@
 
 use crate::access::{Access, push_accesses};
 use crate::ends::{Agent, Host};
-use row_steps::{parted, small_number};
+use row_words::{parted, small_number};
 use std::alloc::{AllocError, Global};
 
 /// A host, and what it does.

@@ -37,6 +37,7 @@ fn gets_word(host: &Host, shown: &Command, answer: &Answer) -> bool {
 }
 
 impl Driver {
+    /// The host before the first cycle.
     pub fn new() -> Driver {
         Driver {
             accepted: 0,
@@ -109,6 +110,7 @@ impl Driver {
         work.accesses.len().saturating_sub(self.accepted)
     }
 
+    /// For how many words the host waits.
     pub fn unanswered(&self) -> u32 {
         self.unanswered
     }

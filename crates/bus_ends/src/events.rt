@@ -42,6 +42,7 @@ pub struct Log {
     breach: Option<Breach>,
 }
 
+/// What came of a run.
 #[derive(Drop)]
 pub struct Tally {
     pub log: Log,
@@ -52,6 +53,7 @@ pub struct Tally {
 }
 
 impl Log {
+    /// Nothing has happened.
     pub fn new(alloc: Global) -> Log {
         Log {
             moments: Vec::new(alloc),
@@ -69,6 +71,7 @@ impl Log {
         }
     }
 
+    /// Notes an event.
     pub fn push(&mut self, cycle: u32, event: Event) -> Result<(), AllocError> {
         self.moments.push(Moment { cycle, event })?;
         Ok(())

@@ -1,6 +1,6 @@
 //! What is declared of a host and of an agent.
 
-use row_steps::{hex_number, parted, small_number};
+use row_words::{hex_number, parted, small_number};
 
 /// What hosts and agents have alike.
 #[derive(Clone, Copy)]
@@ -16,6 +16,7 @@ pub struct Shape {
     pub counts_words: bool,
 }
 
+/// What is declared of a host.
 #[derive(Clone, Copy)]
 pub struct Host {
     pub shape: Shape,
@@ -30,6 +31,7 @@ pub struct Pattern {
     cycles: u32,
 }
 
+/// What is declared of an agent.
 #[derive(Clone, Copy)]
 pub struct Agent {
     pub shape: Shape,
@@ -92,6 +94,7 @@ impl Shape {
         Some(())
     }
 
+    /// The bytes of a word.
     pub fn word_bytes(&self) -> u8 {
         self.bits / 8
     }
@@ -111,6 +114,7 @@ impl Shape {
         above.wrapping_sub(1)
     }
 
+    /// The byte enables that name each lane.
     pub fn all_lanes(&self) -> u128 {
         let above = 1u128.checked_shl(u32::from(self.word_bytes())).unwrap_or(0);
         above.wrapping_sub(1)
@@ -149,6 +153,7 @@ impl Pattern {
         })
     }
 
+    /// Whether the level is high in a cycle.
     pub fn is_high(&self, cycle: u32) -> bool {
         let place = cycle.checked_rem(self.cycles).unwrap_or(0);
         let below = self.cycles.saturating_sub(place).saturating_sub(1);

@@ -38,6 +38,7 @@ fn bits_of(lanes: u128) -> u128 {
 }
 
 impl Memory {
+    /// The agent before the first cycle.
     pub fn new(alloc: Global) -> Memory {
         Memory {
             written: Vec::new(alloc),

@@ -1,0 +1,22 @@
+//! Hosts and agents that keep to what they declare, the rows that tell of them, and what is told of their runs.
+#![tactic(auto)]
+
+mod access;
+mod driver;
+mod ends;
+mod events;
+mod memory;
+mod row;
+mod rules;
+mod scripts;
+mod signals;
+
+pub use access::Access;
+pub use driver::Driver;
+pub use ends::{Agent, Host, Pattern, Shape};
+pub use events::{Event, Log, Tally, push_tally};
+pub use memory::Memory;
+pub use row::{Connection, HostWork, Row};
+pub use rules::Rule;
+pub use scripts::files_of;
+pub use signals::{Answer, Command};
