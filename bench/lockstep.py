@@ -28,6 +28,10 @@ def end_of(name):
     return name.rsplit("$", 1)
 
 
+def random(bits):
+    return "{" + ", ".join(["$random"] * ((bits + 31) // 32)) + "}"
+
+
 def bench(ports):
     inputs = [p for p in ports if p[0] == "input" and p[2] not in ("clk", "reset")]
     outputs = [p for p in ports if p[0] == "output"]
@@ -52,12 +56,12 @@ def bench(ports):
     for host in hosts:
         h = flat(host)
         lines.append(f"      if (!stands_{h}) begin")
-        for _, _, name in inputs:
+        for _, bits, name in inputs:
             if end_of(name)[0] == host:
                 role = end_of(name)[1]
                 if role in ("read", "write"):
                     continue
-                lines.append(f"        {flat(name)} = $random;")
+                lines.append(f"        {flat(name)} = {random(bits)};")
                 if role == "address":
                     # few high bits, so that most addresses are near a base
                     lines.append(f"        if ($random & 3) {flat(name)} = {flat(name)} & $random & $random;")
@@ -65,7 +69,8 @@ def bench(ports):
         lines.append("      end")
     for agent in agents:
         a = flat(agent)
-        gives = {"waitrequest": "($random & 3) == 0", "readdata": "$random"}
+        words = [bits for _, bits, name in inputs if name == f"{agent}$readdata"]
+        gives = {"waitrequest": "($random & 3) == 0", "readdata": random(max(words, default=1))}
         if agent in saying:
             gives["readdatavalid"] = f"owed_{a} > 0 && ($random & 1)"
         lines += [f"      {a}_{role} = {value};" for role, value in gives.items() if f"{agent}${role}" in names]

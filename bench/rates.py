@@ -1,0 +1,40 @@
+#!/usr/bin/env python3
+"""Prints how many of a host's writes and reads a cycle are taken where the host always asks for a whole word and nothing waits:
+rates.py TEXT FOLDER [FURTHER]..
+
+TEXT is a module that widths.py describes, and FURTHER are files with what it may be made of. Run by Icarus Verilog.
+"""
+import re
+import subprocess
+import sys
+from pathlib import Path
+
+CYCLES = 1600
+
+
+def bench(text):
+    header = text[: text.index(");")]
+    ports = re.findall(r"(input|output)\s+(?:wire\s+)?(?:\[(\d+):0\]\s+)?([\w$]+)", header)
+    module = re.search(r"\bmodule\s+(\w+_interconnect)", text).group(1)
+    lines = ["module bench;", "  reg clk = 0, reset = 1; integer cycle, writes = 0, reads = 0;"]
+    joins = [".clk(clk)", ".reset(reset)"]
+    for way, high, name in ports:
+        flat = name.replace("$", "_")
+        if name not in ("clk", "reset"):
+            lines.append(f"  {'reg' if way == 'input' else 'wire'} [{high or 0}:0] {flat}{' = 0' if way == 'input' else ''};")
+            joins.append(f".{name}({flat})")
+    lines.append(f"  {module} join_ ({', '.join(joins)});")
+    full = ["h_m_byteenable = ~0;"] if "h$m$byteenable" in header else []
+    phase = f"for (cycle = 0; cycle < {CYCLES}; cycle = cycle + 1) begin #4 clk = 0;"
+    lines += ["  initial begin", "    #5 clk = 1; #1 reset = 0;"] + full + ["    h_m_write = 1;", f"    {phase}"]
+    lines += ["      writes = writes + !h_m_waitrequest; #5 clk = 1; #1;", "    end", "    h_m_write = 0; h_m_read = 1;", f"    {phase}"]
+    lines += ["      reads = reads + h_m_readdatavalid; #5 clk = 1; #1;", "    end"]
+    lines += [f'    $display("%0.2f writes and %0.2f reads a cycle", writes / {CYCLES}.0, reads / {CYCLES}.0);', "    $finish;", "  end", "endmodule"]
+    return "\n".join(lines) + "\n"
+
+
+text, folder = Path(sys.argv[1]), Path(sys.argv[2])
+(folder / "rates.v").write_text(bench(text.read_text()))
+files = [folder / "rates.v", text] + sys.argv[3:]
+subprocess.run(["iverilog", "-g2005", "-s", "bench", "-o", folder / "rates"] + files, check=True)
+print(subprocess.run(["vvp", folder / "rates"], check=True, capture_output=True, text=True).stdout, end="")
