@@ -5,3 +5,6 @@ pub mod Lines
 pub mod Memories
 pub mod Headers
 pub mod Texts
+pub mod Walks
+pub mod RightReads
+pub mod RightSound

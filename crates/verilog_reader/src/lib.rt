@@ -2,5 +2,7 @@
 #![tactic(auto)]
 
 mod laws;
+mod rule;
 
-pub use laws::no_two_modules;
+pub use laws::{forms_judge, no_two_modules, right_sides};
+pub use rule::Rule;
