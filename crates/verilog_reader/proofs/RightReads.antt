@@ -22,7 +22,7 @@ use Rattle.verilog_writer.specs.Text.{hex_digit, hex_digits, net_name, memory_na
 use Rattle.verilog_reader.specs.declared.rule.Rule.{Rule}
 use Rattle.verilog_reader.specs.declared.rule.Rule.TheVariants.{Width, Spelling, NotThere, Bounds}
 use Rattle.verilog_reader.specs.Forms.{is_hole_byte, next, Form, fixed, ends_hole, IsHole, Due, Reads}
-use Rattle.verilog_reader.specs.RightSides.{unless, guarded, same_bytes, value_of, is_number, net_of, is_net, or_zero, width_of, fit_any, operand_test, operand, second, choice_form, sign_form, behind_form, constant_form, is_constant, words_of, bits_of, memory_test, begun_form, right_form, Here, IsRightSide}
+use Rattle.verilog_reader.specs.RightSides.{unless, guarded, same_bytes, value_of, is_number, net_of, is_net, or_zero, width_of, fit_any, operand_test, operand, second, choice_form, sign_form, behind_form, constant_form, is_constant, words_of, bits_of, memory_test, begun_form, right_form, Here}
 use Rattle.verilog_reader.proofs.Nets.{width_at-line}
 use Rattle.verilog_reader.proofs.Cuts.{first, digit, decimal_passes}
 use Rattle.verilog_reader.proofs.Rights.{hex_value, width_fits, first_digit}

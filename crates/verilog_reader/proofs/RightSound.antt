@@ -11,7 +11,7 @@ use Rattle.netlist.specs.declared.line.Equation.TheVariants.{Constant, And, Or, 
 use Rattle.netlist.specs.declared.line.Line.{Line}
 use Rattle.netlist.specs.declared.line.PortLine.{PortLine}
 use Rattle.netlist.specs.declared.line.Memory.{Memory}
-use Rattle.netlist.specs.Netlists.{width_at, IsOperand, AreOperands, IsComparison, IsSound}
+use Rattle.netlist.specs.Netlists.{width_at, IsOperand, AreOperands, IsComparison}
 use Rattle.verilog_reader.proofs.Nets.{slice_get-some}
 use Rattle.verilog_writer.specs.Text.{hex_digits, net_name, memory_name, infix_text, right_text}
 use Rattle.verilog_reader.specs.declared.rule.Rule.{Rule}

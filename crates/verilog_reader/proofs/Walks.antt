@@ -190,3 +190,23 @@ judge (Form.hole test form) text =
     subst (Judged (Form.hole test form)) (sym s.parts) (hole_as test form s.run s.behind s.is (test s.run) refl (judge (form s.run) s.behind))
 judge (Form.turn form) text = turn_judged form text (judge (form (next text)) text)
 judge (Form.refuse rule) text = misfit_judged (Form.refuse rule) text rule (Misfits.refuse rule)
+
+-- what a walk finds stands in the text
+
+pub walk_reads : {A : Type 0} (form : Form A) (text : List ℕ) (a : A) (rest : List ℕ) → walk form text ≡ Outcome.good a rest → Reads form text a rest
+walk_reads form text a rest e =
+    elim (judge form text) [
+      | Judged.reads b back r ↦
+        let same = same_good b a back rest (sym (reads_walks form text b back r) ∙ e) in
+        rw (sym same.value, sym same.rest) r
+      | Judged.breaks at rule f ↦ absurd (apart a rest at rule (sym e ∙ fault_walks form text at rule f))
+    ]
+
+pub walk_refuses : {A : Type 0} (form : Form A) (text : List ℕ) (at : ℕ) (rule : Rule) → walk form text ≡ Outcome.bad at rule → HasFault form text at rule
+walk_refuses {A} form text at rule e =
+    elim (judge form text) [
+      | Judged.reads a rest r ↦ absurd (apart a rest at rule (sym (reads_walks form text a rest r) ∙ e))
+      | Judged.breaks place other f ↦
+        let same = same_bad A place at other rule (sym (fault_walks form text place other f) ∙ e) in
+        rw (sym same.same_place, sym same.same_rule) f
+    ]

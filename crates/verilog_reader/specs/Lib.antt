@@ -1,3 +1,4 @@
 pub mod Rules
 pub mod Forms
 pub mod RightSides
+pub mod Worked

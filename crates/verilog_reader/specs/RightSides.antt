@@ -13,6 +13,11 @@ use Rattle.verilog_reader.specs.declared.rule.Rule.{Rule}
 use Rattle.verilog_reader.specs.declared.rule.Rule.TheVariants.{OtherByte, Width, Spelling, NotThere, Bounds}
 use Rattle.verilog_reader.specs.Forms.{Form, fixed}
 
+-- the byte is this character
+abbrev pub is_char : List ℕ → ℕ → Bool
+is_char [] b = false
+is_char (c ∷ cs) b = b == c
+
 -- the rule, unless the test holds; then what comes later
 abbrev pub unless : Bool → Rule → Option Rule → Option Rule
 unless true rule later = later
@@ -73,27 +78,27 @@ abbrev pub sign_form : List Line → ℕ → ℕ → ℕ → Option ℕ → Form
 sign_form lines n w a None = Form.refuse OtherByte
 sign_form lines n w a (Some sign) =
     let v = width_of lines a in
-    if sign == 38 then guarded (v == w) Width (second lines n (codes "& ") (λ u. u == w) (And a))
-    else if sign == 124 then guarded (v == w) Width (second lines n (codes "| ") (λ u. u == w) (Or a))
-    else if sign == 94 then guarded (v == w) Width (second lines n (codes "^ ") (λ u. u == w) (Xor a))
-    else if sign == 43 then guarded (v == w) Width (second lines n (codes "+ ") (λ u. u == w) (Add a))
-    else if sign == 45 then guarded (v == w) Width (second lines n (codes "- ") (λ u. u == w) (Sub a))
-    else if sign == 61 then guarded (w == 1) Width (second lines n (codes "== ") (λ u. u == v) (Eq a))
-    else if sign == 60 then guarded (w == 1) Width (second lines n (codes "< ") (λ u. u == v) (Less a))
-    else if sign == 63 then guarded (v == 1) Width (choice_form lines n w a)
+    if is_char (codes "&") sign then guarded (v == w) Width (second lines n (codes "& ") (λ u. u == w) (And a))
+    else if is_char (codes "|") sign then guarded (v == w) Width (second lines n (codes "| ") (λ u. u == w) (Or a))
+    else if is_char (codes "^") sign then guarded (v == w) Width (second lines n (codes "^ ") (λ u. u == w) (Xor a))
+    else if is_char (codes "+") sign then guarded (v == w) Width (second lines n (codes "+ ") (λ u. u == w) (Add a))
+    else if is_char (codes "-") sign then guarded (v == w) Width (second lines n (codes "- ") (λ u. u == w) (Sub a))
+    else if is_char (codes "=") sign then guarded (w == 1) Width (second lines n (codes "== ") (λ u. u == v) (Eq a))
+    else if is_char (codes "<") sign then guarded (w == 1) Width (second lines n (codes "< ") (λ u. u == v) (Less a))
+    else if is_char (codes "?") sign then guarded (v == 1) Width (choice_form lines n w a)
     else Form.refuse OtherByte
 
 -- the bits of net a from the first bound on
 abbrev pub slice_form : List Line → ℕ → ℕ → Form Equation
 slice_form lines w a =
-    Form.byte 91 (Form.hole (λ run. unless (is_number run) Spelling (unless (nat_lt (value_of run) (width_of lines a)) Bounds None)) (λ high.
-    Form.byte 58 (Form.hole (λ run. unless (is_number run) Spelling (unless (value_of run + w == value_of high + 1) Bounds None)) (λ low.
-    Form.byte 93 (Form.whole (Slice a (value_of high) (value_of low)))))))
+    fixed (codes "[") (Form.hole (λ run. unless (is_number run) Spelling (unless (nat_lt (value_of run) (width_of lines a)) Bounds None)) (λ high.
+    fixed (codes ":") (Form.hole (λ run. unless (is_number run) Spelling (unless (value_of run + w == value_of high + 1) Bounds None)) (λ low.
+    fixed (codes "]") (Form.whole (Slice a (value_of high) (value_of low)))))))
 
 -- what stands behind a first operand
 abbrev pub behind_form : List Line → ℕ → ℕ → ℕ → Option ℕ → Form Equation
 behind_form lines n w a None = Form.refuse OtherByte
-behind_form lines n w a (Some b) = if b == 91 then slice_form lines w a else Form.byte 32 (Form.turn (sign_form lines n w a))
+behind_form lines n w a (Some b) = if is_char (codes "[") b then slice_form lines w a else fixed (codes " ") (Form.turn (sign_form lines n w a))
 
 abbrev pub is_constant : ℕ → List ℕ → Bool
 is_constant w run = same_bytes run (hex_digits ((w + 3) / 4) (digits_value 16 run)) && nat_lt (digits_value 16 run) (2 ^ w)
@@ -117,23 +122,23 @@ memory_test memories w run = unless (is_number run) Spelling (unless (nat_lt (va
 
 abbrev pub read_form : List Memory → List Line → ℕ → ℕ → Form Equation
 read_form memories lines n w =
-    Form.byte 109 (Form.hole (memory_test memories w) (λ m.
-    Form.byte 91 (operand lines n (λ v. v == bits_of (slice_get memories (value_of m))) (λ a.
-    Form.byte 93 (Form.whole (Read (value_of m) a))))))
+    fixed (codes "m") (Form.hole (memory_test memories w) (λ m.
+    fixed (codes "[") (operand lines n (λ v. v == bits_of (slice_get memories (value_of m))) (λ a.
+    fixed (codes "]") (Form.whole (Read (value_of m) a))))))
 
 abbrev pub concat_form : List Line → ℕ → ℕ → Form Equation
 concat_form lines n w =
-    Form.byte 123 (operand lines n fit_any (λ a. fixed (codes ", ") (operand lines n (λ v. width_of lines a + v == w) (λ b. Form.byte 125 (Form.whole (Concat a b))))))
+    fixed (codes "{") (operand lines n fit_any (λ a. fixed (codes ", ") (operand lines n (λ v. width_of lines a + v == w) (λ b. fixed (codes "}") (Form.whole (Concat a b))))))
 
 abbrev pub begun_form : List Memory → List Line → ℕ → ℕ → Option ℕ → Form Equation
 begun_form memories lines n w None = Form.refuse OtherByte
 begun_form memories lines n w (Some b) =
     if is_digit b 10 then constant_form w
-    else if b == 126 then Form.byte 126 (operand lines n (λ v. v == w) (λ a. Form.whole (Not a)))
-    else if b == 124 then guarded (w == 1) Width (Form.byte 124 (operand lines n fit_any (λ a. Form.whole (Any a))))
-    else if b == 123 then concat_form lines n w
-    else if b == 110 then operand lines n fit_any (λ a. Form.turn (behind_form lines n w a))
-    else if b == 109 then read_form memories lines n w
+    else if is_char (codes "~") b then fixed (codes "~") (operand lines n (λ v. v == w) (λ a. Form.whole (Not a)))
+    else if is_char (codes "|") b then guarded (w == 1) Width (fixed (codes "|") (operand lines n fit_any (λ a. Form.whole (Any a))))
+    else if is_char (codes "{") b then concat_form lines n w
+    else if is_char (codes "n") b then operand lines n fit_any (λ a. Form.turn (behind_form lines n w a))
+    else if is_char (codes "m") b then read_form memories lines n w
     else Form.refuse OtherByte
 
 -- the right side of net n, of w bits, among these memories and the lines before it

@@ -1,6 +1,6 @@
 //! What holds of every text. The functions do nothing; their contracts are the laws.
 
-ghost use Rattle.std.specs.Prelude.{◌≡◌, ℕ, ◌++◌, List, true, false, ◌⊎◌, slice_get, Some};
+ghost use Rattle.std.specs.Prelude.{◌≡◌, ℕ, ◌++◌, List, [], true, false, ◌⊎◌, codes, slice_get, Some};
 ghost use Rattle.netlist.specs.declared.line.Equation.{Equation};
 ghost use Rattle.netlist.specs.declared.line.Line.{Line};
 ghost use Rattle.netlist.specs.declared.line.Memory.{Memory};
@@ -8,8 +8,10 @@ ghost use Rattle.netlist.specs.declared.line.PortLine.{PortLine};
 ghost use Rattle.netlist.specs.Netlists.{Netlist, IsModule, is_input, is_register};
 ghost use Rattle.verilog_writer.specs.Text.{text_of, right_text};
 ghost use Rattle.verilog_reader.specs.declared.rule.Rule.{Rule};
+ghost use Rattle.verilog_reader.specs.declared.rule.Rule.TheVariants.{OtherByte, Width, Spelling, NotThere, Bounds};
 ghost use Rattle.verilog_reader.specs.Forms.{Form, ends_hole, Reads, HasFault};
 ghost use Rattle.verilog_reader.specs.RightSides.{Here, IsRightSide, right_form};
+ghost use Rattle.verilog_reader.specs.Worked.{IsReadAs, IsRefused};
 
 /// No bytes are the text of two modules.
 pub fn no_two_modules()
@@ -32,4 +34,39 @@ pub fn right_sides()
         → (text ≡ right_text ports e ++ rest) × IsRightSide ports memories lines n w e }
     ensures of_modules { (one : Netlist) → IsModule one → (n : ℕ) (line : Line) (rest : List ℕ) → slice_get one.lines n ≡ Some line → is_input line.equation ≡ false → is_register line.equation ≡ false → ends_hole rest ≡ true
         → Reads (right_form one.memories one.lines n line.width) (right_text one.ports line.equation ++ rest) line.equation rest }
+{}
+
+/// Right sides that are read.
+pub fn read_right_sides()
+    ensures and { IsReadAs 8 (codes "n0 & n1;\n") (Equation.And 0 1) (codes ";\n") }
+    ensures slice { IsReadAs 4 (codes "n0[6:3];\n") (Equation.Slice 0 6 3) (codes ";\n") }
+    ensures choice { IsReadAs 8 (codes "n2 ? n0 : n1;\n") (Equation.Mux 2 0 1) (codes ";\n") }
+    ensures concatenation { IsReadAs 9 (codes "{n2, n0};\n") (Equation.Concat 2 0) (codes ";\n") }
+    ensures word { IsReadAs 8 (codes "m0[n3];\n") (Equation.Read 0 3) (codes ";\n") }
+{}
+
+/// Right sides that a rule refuses, at the place of their first fault.
+pub fn refused_right_sides()
+    ensures byte_at_the_begin { IsRefused 8 (codes "x0;\n") 0 OtherByte }
+    ensures unknown_sign { IsRefused 8 (codes "n0 * n1;\n") 3 OtherByte }
+    ensures one_equals_sign { IsRefused 1 (codes "n0 = n1;\n") 4 OtherByte }
+    ensures nothing { IsRefused 8 [] 0 OtherByte }
+    ensures width_before_one_equals_sign { IsRefused 8 (codes "n0 = n1;\n") 3 Width }
+    ensures width_of_first { IsRefused 8 (codes "n2 & n1;\n") 3 Width }
+    ensures width_of_second { IsRefused 8 (codes "n0 & n2;\n") 5 Width }
+    ensures width_of_sum { IsRefused 8 (codes "{n0, n2};\n") 5 Width }
+    ensures width_of_test { IsRefused 8 (codes "n0 ? n0 : n1;\n") 3 Width }
+    ensures any_on_wide_net { IsRefused 8 (codes "|n0;\n") 0 Width }
+    ensures width_of_memory { IsRefused 1 (codes "m0[n3];\n") 1 Width }
+    ensures width_of_address { IsRefused 8 (codes "m0[n2];\n") 3 Width }
+    ensures width_of_constant { IsRefused 8 (codes "4'h0;\n") 0 Width }
+    ensures leading_zero { IsRefused 8 (codes "n00 & n1;\n") 0 Spelling }
+    ensures name_for_operand { IsRefused 8 (codes "n0$x;\n") 0 Spelling }
+    ensures upper_case_digits { IsRefused 8 (codes "8'hAB;\n") 3 Spelling }
+    ensures large_constant { IsRefused 3 (codes "3'hf;\n") 3 Spelling }
+    ensures end_at_operand { IsRefused 8 (codes "~") 1 Spelling }
+    ensures own_number { IsRefused 8 (codes "n0 & n4;\n") 5 NotThere }
+    ensures missing_memory { IsRefused 8 (codes "m1[n3];\n") 1 NotThere }
+    ensures high_bound { IsRefused 8 (codes "n0[8:1];\n") 3 Bounds }
+    ensures length_of_slice { IsRefused 8 (codes "n0[7:1];\n") 5 Bounds }
 {}
