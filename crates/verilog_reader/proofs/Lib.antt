@@ -8,3 +8,4 @@ pub mod Texts
 pub mod Walks
 pub mod RightReads
 pub mod RightSound
+pub mod WireLines

@@ -78,10 +78,10 @@ number_hole n behind h ends = record { bytes = digits_in_hole (decimal n) (decim
 net_hole : (n : ℕ) (behind : List ℕ) → n < 2 ^ 64 → ends_hole behind ≡ true → IsHole (net_name n) behind
 net_hole n behind h ends = record { bytes = digits_in_hole (decimal n) (decimal_passes n h); ends = ends }
 
-value-decimal : (n : ℕ) → n < 2 ^ 64 → value_of (decimal n) ≡ n
+pub value-decimal : (n : ℕ) → n < 2 ^ 64 → value_of (decimal n) ≡ n
 value-decimal n h = (decimal_is_IsNumeral n h).1
 
-number_is : (n : ℕ) → n < 2 ^ 64 → is_number (decimal n) ≡ true
+pub number_is : (n : ℕ) → n < 2 ^ 64 → is_number (decimal n) ≡ true
 number_is n h = ap (λ (m : ℕ). same_bytes (decimal n) (decimal m)) (value-decimal n h) ∙ same-refl (decimal n)
 
 net_is : (n : ℕ) → n < 2 ^ 64 → is_net (net_name n) ≡ true
@@ -109,7 +109,7 @@ operand_due due rest lines n fits form a front o ends d =
     Due.hole (operand_test lines n fits) (λ run. form (net_of run)) (net_name a) (net_hole a (front ++ rest) o.small ends) (operand_passes lines n fits a o)
         (subst (λ (m : ℕ). Due due rest (form m) front) (sym (value-decimal a o.small)) d)
 
-fixed_due : {A : Type 0} (due : Form A) (rest bs : List ℕ) (form : Form A) (front : List ℕ) → Due due rest form front → Due due rest (fixed bs form) (bs ++ front)
+pub fixed_due : {A : Type 0} (due : Form A) (rest bs : List ℕ) (form : Form A) (front : List ℕ) → Due due rest form front → Due due rest (fixed bs form) (bs ++ front)
 fixed_due due rest [] form front d = d
 fixed_due due rest (b ∷ bs) form front d = Due.byte b (fixed_due due rest bs form front d)
 
@@ -209,13 +209,13 @@ choice_read memories lines n w s a b rest few c ends =
       good = Due.turn (begun_form memories lines n w) first;
     }
 
-number_passes : (k : ℕ) (t : ℕ → Bool) (rule : Rule) (later : ℕ → Option Rule) → k < 2 ^ 64 → t k ≡ true → unless (is_number (decimal k)) Spelling (unless (t (value_of (decimal k))) rule (later (value_of (decimal k)))) ≡ later k
+pub number_passes : (k : ℕ) (t : ℕ → Bool) (rule : Rule) (later : ℕ → Option Rule) → k < 2 ^ 64 → t k ≡ true → unless (is_number (decimal k)) Spelling (unless (t (value_of (decimal k))) rule (later (value_of (decimal k)))) ≡ later k
 number_passes k t rule later h holds =
     ap (λ (b : Bool). unless b Spelling (unless (t (value_of (decimal k))) rule (later (value_of (decimal k))))) (number_is k h)
     ∙ ap (λ (m : ℕ). unless (t m) rule (later m)) (value-decimal k h)
     ∙ ap (λ (b : Bool). unless b rule (later k)) holds
 
-numbered_due : {A : Type 0} (due : Form A) (rest : List ℕ) (test : List ℕ → Option Rule) (form : ℕ → Form A) (k : ℕ) (front : List ℕ) → k < 2 ^ 64 → ends_hole (front ++ rest) ≡ true → test (decimal k) ≡ None
+pub numbered_due : {A : Type 0} (due : Form A) (rest : List ℕ) (test : List ℕ → Option Rule) (form : ℕ → Form A) (k : ℕ) (front : List ℕ) → k < 2 ^ 64 → ends_hole (front ++ rest) ≡ true → test (decimal k) ≡ None
     → Due due rest (form k) front → Due due rest (Form.hole test (λ run. form (value_of run))) (decimal k ++ front)
 numbered_due due rest test form k front h ends passes d =
     Due.hole test (λ run. form (value_of run)) (decimal k) (number_hole k (front ++ rest) h ends) passes (subst (λ (m : ℕ). Due due rest (form m) front) (sym (value-decimal k h)) d)

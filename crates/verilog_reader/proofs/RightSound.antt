@@ -16,7 +16,7 @@ use Rattle.verilog_reader.proofs.Nets.{slice_get-some}
 use Rattle.verilog_writer.specs.Text.{hex_digits, net_name, memory_name, infix_text, right_text}
 use Rattle.verilog_reader.specs.declared.rule.Rule.{Rule}
 use Rattle.verilog_reader.specs.declared.rule.Rule.TheVariants.{Width, Spelling, NotThere, Bounds}
-use Rattle.verilog_reader.specs.Forms.{next, Form, fixed, Due, Reads}
+use Rattle.verilog_reader.specs.Forms.{next, Form, fixed, IsHole, Due, Reads}
 use Rattle.verilog_reader.specs.RightSides.{unless, guarded, same_bytes, value_of, is_number, net_of, is_net, width_of, fit_any, operand, second, choice_form, sign_form, slice_form, behind_form, constant_form, is_constant, words_of, bits_of, read_form, concat_form, begun_form, right_form, IsRightSide}
 use Rattle.verilog_reader.proofs.Lines.{true_false}
 
@@ -24,27 +24,27 @@ use Rattle.verilog_reader.proofs.Lines.{true_false}
 abbrev pub Inverted : {A : Type 0} → A → List ℕ → Form A → List ℕ → Type 0
 Inverted a rest (Form.whole b) front = (b ≡ a) × (front ≡ [])
 Inverted a rest (Form.byte b form) front = (later : List ℕ) × (front ≡ b ∷ later) × Due (Form.whole a) rest form later
-Inverted a rest (Form.hole test form) front = (run later : List ℕ) × (front ≡ run ++ later) × (test run ≡ None) × Due (Form.whole a) rest (form run) later
+Inverted a rest (Form.hole test form) front = (run later : List ℕ) × (front ≡ run ++ later) × (test run ≡ None) × Due (Form.whole a) rest (form run) later × IsHole run (later ++ rest)
 Inverted a rest (Form.turn form) front = Due (Form.whole a) rest (form (next (front ++ rest))) front
 Inverted a rest (Form.refuse rule) front = ⊥
 
 pub inverted : {A : Type 0} {due : Form A} {rest : List ℕ} {form : Form A} {front : List ℕ} (a : A) → due ≡ Form.whole a → Due due rest form front → Inverted a rest form front
 inverted {A} {due} {rest} a e Due.nothing = subst (λ (f : Form A). Inverted a rest f []) (sym e) (refl, refl)
 inverted {A} {due} {rest} a e (Due.byte {form} {front} b d) = (front, refl, subst (λ (f : Form A). Due f rest form front) e d)
-inverted {A} {due} {rest} a e (Due.hole {front} test form run is none d) = (run, front, refl, none, subst (λ (f : Form A). Due f rest (form run) front) e d)
+inverted {A} {due} {rest} a e (Due.hole {front} test form run is none d) = (run, front, refl, none, subst (λ (f : Form A). Due f rest (form run) front) e d, is)
 inverted {A} {due} {rest} a e (Due.turn {front} form d) = subst (λ (f : Form A). Due f rest (form (next (front ++ rest))) front) e d
 
-abbrev Walked : Equation → List ℕ → Form Equation → List ℕ → Type 0
+abbrev pub Walked : {A : Type 0} → A → List ℕ → Form A → List ℕ → Type 0
 Walked e rest form front = Due (Form.whole e) rest form front
 
 some_none : {X : Type 0} (rule : Rule) → Some rule ≡ None → X
 some_none rule e = absurd (none-some rule (sym e))
 
-unless_held : (t : Bool) (rule : Rule) (later : Option Rule) → unless t rule later ≡ None → (t ≡ true) × (later ≡ None)
+pub unless_held : (t : Bool) (rule : Rule) (later : Option Rule) → unless t rule later ≡ None → (t ≡ true) × (later ≡ None)
 unless_held true rule later e = (refl, e)
 unless_held false rule later e = some_none rule e
 
-same_equal : (cs ds : List ℕ) → same_bytes cs ds ≡ true → cs ≡ ds
+pub same_equal : (cs ds : List ℕ) → same_bytes cs ds ≡ true → cs ≡ ds
 same_equal [] [] h = refl
 same_equal [] (d ∷ ds) h = absurd (true_false (sym h))
 same_equal (c ∷ cs) [] h = absurd (true_false (sym h))
@@ -60,7 +60,7 @@ cond_walked : (e : Equation) (rest : List ℕ) (t : Bool) (f g : Form Equation) 
 cond_walked e rest true f g front d = inl d
 cond_walked e rest false f g front d = inr d
 
-fixed_walked : (e : Equation) (rest bs : List ℕ) (form : Form Equation) (front : List ℕ) → Walked e rest (fixed bs form) front → (later : List ℕ) × (front ≡ bs ++ later) × Walked e rest form later
+pub fixed_walked : {A : Type 0} (e : A) (rest bs : List ℕ) (form : Form A) (front : List ℕ) → Walked e rest (fixed bs form) front → (later : List ℕ) × (front ≡ bs ++ later) × Walked e rest form later
 fixed_walked e rest [] form front d = (front, refl, d)
 fixed_walked e rest (b ∷ bs) form front d =
     let one = inverted e refl d in
@@ -80,7 +80,7 @@ width_there lines a h = let found = slice_get-some lines a h in rw found.1 refl
 
 operand_walked : (lines : List Line) (n : ℕ) (fits : ℕ → Bool) (form : ℕ → Form Equation) (e : Equation) (rest front : List ℕ) → n ≤ length lines → Walked e rest (operand lines n fits form) front → OperandRead lines n fits form e rest front
 operand_walked lines n fits form e rest front room d =
-    let (run, later, parts, none, walked) = inverted e refl d in
+    let (run, later, parts, none, walked, ends) = inverted e refl d in
     let spelled = unless_held (is_net run) Spelling _ none in
     let below = unless_held (nat_lt (net_of run) n) NotThere _ spelled.1 in
     let fit = unless_held (fits (width_of lines (net_of run))) Width None below.1 in
@@ -240,7 +240,7 @@ pub record Tail (ports : List PortLine) (memories : List Memory) (lines : List L
   pub whole : net_name a ++ front ≡ right_text ports e
   pub sound : IsRightSide ports memories lines n w e
 
-number_held : (run : List ℕ) (t : ℕ → Bool) (rule : Rule) (later : ℕ → Option Rule) → unless (is_number run) Spelling (unless (t (value_of run)) rule (later (value_of run))) ≡ None
+pub number_held : (run : List ℕ) (t : ℕ → Bool) (rule : Rule) (later : ℕ → Option Rule) → unless (is_number run) Spelling (unless (t (value_of run)) rule (later (value_of run))) ≡ None
     → (run ≡ decimal (value_of run)) × (t (value_of run) ≡ true) × (later (value_of run) ≡ None)
 number_held run t rule later none =
     let spelled = unless_held (is_number run) Spelling _ none in
@@ -254,10 +254,10 @@ slice_walked : (ports : List PortLine) (memories : List Memory) (lines : List Li
     → Walked e rest (slice_form lines w a) front → Tail ports memories lines n w a e front
 slice_walked ports memories lines n w a e rest front some o d =
     let opened = inverted e refl d in
-    let (high_run, high_later, high_parts, high_none, high_walked) = inverted e refl opened.2 in
+    let (high_run, high_later, high_parts, high_none, high_walked, high_ends) = inverted e refl opened.2 in
     let high = number_held high_run (λ m. nat_lt m (width_of lines a)) Bounds (λ m. None) high_none in
     let colon = inverted e refl high_walked in
-    let (low_run, low_later, low_parts, low_none, low_walked) = inverted e refl colon.2 in
+    let (low_run, low_later, low_parts, low_none, low_walked, low_ends) = inverted e refl colon.2 in
     let low = number_held low_run (λ m. m + w == value_of high_run + 1) Bounds (λ m. None) low_none in
     let closed = inverted e refl low_walked in
     let last = inverted e refl closed.2 in
@@ -303,7 +303,7 @@ address_form memories lines n m = Form.byte 91 (operand lines n (λ v. v == bits
 word_walked : (ports : List PortLine) (memories : List Memory) (lines : List Line) (n w : ℕ) (e : Equation) (rest front : List ℕ) → n ≤ length lines → Walked e rest (read_form memories lines n w) front → Side ports memories lines n w e front
 word_walked ports memories lines n w e rest front room d =
     let begun = inverted e refl d in
-    let (run, later, parts, none, walked) = inverted e refl begun.2 in
+    let (run, later, parts, none, walked, ends) = inverted e refl begun.2 in
     let number = number_held run (λ k. nat_lt k (length memories)) NotThere (λ k. unless (words_of (slice_get memories k) == w) Width None) none in
     let m = value_of run in
     let words = unless_held (words_of (slice_get memories m) == w) Width None number.2 in
@@ -327,11 +327,11 @@ constant_whole d h x = simp (append_assoc, append-nil)
 
 constant_walked : (ports : List PortLine) (memories : List Memory) (lines : List Line) (n w : ℕ) (e : Equation) (rest front : List ℕ) → 1 ≤ w → w ≤ 128 → Walked e rest (constant_form w) front → Side ports memories lines n w e front
 constant_walked ports memories lines n w e rest front some small d =
-    let (width_run, later, parts, none, walked) = inverted e refl d in
+    let (width_run, later, parts, none, walked, ends) = inverted e refl d in
     let width = number_held width_run (λ k. k == w) Width (λ k. None) none in
     let is_w : value_of width_run ≡ w = eqb-true (value_of width_run) w width.1 in
     let mark = fixed_walked e rest (codes "'h") (Form.hole (λ run. unless (is_constant w run) Spelling None) (λ run. Form.whole (Constant (record { width = w; bits = digits_value 16 run })))) later walked in
-    let (run, after, run_parts, run_none, run_walked) = inverted e refl mark.2 in
+    let (run, after, run_parts, run_none, run_walked, run_ends) = inverted e refl mark.2 in
     let held = unless_held (is_constant w run) Spelling None run_none in
     let bits = digits_value 16 run in
     let hex = hex_digits ((w + 3) / 4) bits in
@@ -345,7 +345,7 @@ constant_walked ports memories lines n w e rest front some small d =
       sound = record { sound = record { word = record { some_bit = some; small = small; fits = ltb-true bits (2 ^ w) both.1 }; width = refl }; no_input = refl; no_register = refl };
     })
 
-begun_walked : (ports : List PortLine) (memories : List Memory) (lines : List Line) (n w : ℕ) (e : Equation) (rest front : List ℕ) (o : Option ℕ) → n ≤ length lines → 1 ≤ w → w ≤ 128
+pub begun_walked : (ports : List PortLine) (memories : List Memory) (lines : List Line) (n w : ℕ) (e : Equation) (rest front : List ℕ) (o : Option ℕ) → n ≤ length lines → 1 ≤ w → w ≤ 128
     → Walked e rest (begun_form memories lines n w o) front → Side ports memories lines n w e front
 begun_walked ports memories lines n w e rest front None room some small d = absurd (inverted e refl d)
 begun_walked ports memories lines n w e rest front (Some b) room some small d =

@@ -69,3 +69,11 @@ pub record HasFault {A : Type 0} (form : Form A) (text : List ℕ) (at : ℕ) (r
   pub due : Form A
   pub good : Due due rest form front
   pub misfit : Misfits rest due rule
+
+-- one form, and behind it another that its value chooses
+abbrev pub followed : {A B : Type 0} → Form A → (A → Form B) → Form B
+followed (Form.whole a) later = later a
+followed (Form.byte b form) later = Form.byte b (followed form later)
+followed (Form.hole test form) later = Form.hole test (λ run. followed (form run) later)
+followed (Form.turn form) later = Form.turn (λ b. followed (form b) later)
+followed (Form.refuse rule) later = Form.refuse rule

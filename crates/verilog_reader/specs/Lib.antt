@@ -1,4 +1,5 @@
 pub mod Rules
 pub mod Forms
 pub mod RightSides
+pub mod WireLines
 pub mod Worked

@@ -6,11 +6,12 @@ ghost use Rattle.netlist.specs.declared.line.Line.{Line};
 ghost use Rattle.netlist.specs.declared.line.Memory.{Memory};
 ghost use Rattle.netlist.specs.declared.line.PortLine.{PortLine};
 ghost use Rattle.netlist.specs.Netlists.{Netlist, IsModule, is_input, is_register};
-ghost use Rattle.verilog_writer.specs.Text.{text_of, right_text};
+ghost use Rattle.verilog_writer.specs.Text.{text_of, right_text, wire_line, net_line};
 ghost use Rattle.verilog_reader.specs.declared.rule.Rule.{Rule};
 ghost use Rattle.verilog_reader.specs.declared.rule.Rule.TheVariants.{OtherByte, Width, Spelling, NotThere, Bounds};
 ghost use Rattle.verilog_reader.specs.Forms.{Form, ends_hole, Reads, HasFault};
 ghost use Rattle.verilog_reader.specs.RightSides.{Here, IsRightSide, right_form};
+ghost use Rattle.verilog_reader.specs.WireLines.{wire_form, Behind, IsWire};
 ghost use Rattle.verilog_reader.specs.Worked.{IsReadAs, IsRefused};
 
 /// No bytes are the text of two modules.
@@ -34,6 +35,16 @@ pub fn right_sides()
         → (text ≡ right_text ports e ++ rest) × IsRightSide ports memories lines n w e }
     ensures of_modules { (one : Netlist) → IsModule one → (n : ℕ) (line : Line) (rest : List ℕ) → slice_get one.lines n ≡ Some line → is_input line.equation ≡ false → is_register line.equation ≡ false → ends_hole rest ≡ true
         → Reads (right_form one.memories one.lines n line.width) (right_text one.ports line.equation ++ rest) line.equation rest }
+{}
+
+/// The form of a wire's line reads exactly the lines of sound wires, those of a module's nets among them.
+pub fn wire_lines()
+    ensures read { (ports : List PortLine) (memories : List Memory) (lines : List Line) (n : ℕ) (line : Line) (rest : List ℕ) → Behind memories lines n → IsWire ports memories lines n line
+        → Reads (wire_form memories lines n) (wire_line ports n line.width line.equation ++ rest) line rest }
+    ensures sound { (ports : List PortLine) (memories : List Memory) (lines : List Line) (n : ℕ) (line : Line) (text rest : List ℕ) → Behind memories lines n → Reads (wire_form memories lines n) text line rest
+        → (text ≡ wire_line ports n line.width line.equation ++ rest) × IsWire ports memories lines n line }
+    ensures of_modules { (one : Netlist) → IsModule one → (n : ℕ) (line : Line) (rest : List ℕ) → slice_get one.lines n ≡ Some line → is_input line.equation ≡ false → is_register line.equation ≡ false
+        → Reads (wire_form one.memories one.lines n) (net_line one.ports n line ++ rest) line rest }
 {}
 
 /// Right sides that are read.
