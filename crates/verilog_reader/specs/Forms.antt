@@ -1,6 +1,6 @@
 -- A form: what has to stand next in a text, and with which rule a text is refused that has something else there.
 -- A form is walked from left to right. What was walked is good; the first fault stands where the next part doesn't fit.
-use Rattle.std.specs.Prelude.{◌≡◌, ◌≢◌, ℕ, Bool, true, ◌||◌, not, List, [], ◌∷◌, ◌++◌, length, Option, Some, None}
+use Rattle.std.specs.Prelude.{◌≡◌, ◌≢◌, ◌⊎◌, ℕ, Bool, true, ◌||◌, not, List, [], ◌∷◌, ◌++◌, length, Option, Some, None}
 use Rattle.std.specs.List.{list_all}
 use Rattle.netlist.specs.Names.{is_name_byte, is_dollar}
 use Rattle.verilog_reader.specs.declared.rule.Rule.{Rule}
@@ -69,6 +69,13 @@ pub record HasFault {A : Type 0} (form : Form A) (text : List ℕ) (at : ℕ) (r
   pub due : Form A
   pub good : Due due rest form front
   pub misfit : Misfits rest due rule
+
+-- each text begins with what the form asks or has a first fault, never both, and no second value or fault
+pub record IsJudged {A : Type 0} (form : Form A) : Type 0 where
+  pub either : (text : List ℕ) → ((value : A) × (rest : List ℕ) × Reads form text value rest) ⊎ ((at : ℕ) × (rule : Rule) × HasFault form text at rule)
+  pub never_both : (text : List ℕ) (value : A) (rest : List ℕ) (at : ℕ) (rule : Rule) → Reads form text value rest → ¬ HasFault form text at rule
+  pub one_value : (text : List ℕ) (one other : A) (rest back : List ℕ) → Reads form text one rest → Reads form text other back → (one ≡ other) × (rest ≡ back)
+  pub one_fault : (text : List ℕ) (at place : ℕ) (rule other : Rule) → HasFault form text at rule → HasFault form text place other → (at ≡ place) × (rule ≡ other)
 
 -- one form, and behind it another that its value chooses
 abbrev pub followed : {A B : Type 0} → Form A → (A → Form B) → Form B

@@ -1,15 +1,14 @@
 //! What holds of every text. The functions do nothing; their contracts are the laws.
 
-ghost use Rattle.std.specs.Prelude.{◌≡◌, ℕ, ◌++◌, List, [], true, false, ◌⊎◌, codes, slice_get, Some};
+ghost use Rattle.std.specs.Prelude.{◌≡◌, ℕ, ◌++◌, List, [], true, false, codes, slice_get, Some};
 ghost use Rattle.netlist.specs.declared.line.Equation.{Equation};
 ghost use Rattle.netlist.specs.declared.line.Line.{Line};
 ghost use Rattle.netlist.specs.declared.line.Memory.{Memory};
 ghost use Rattle.netlist.specs.declared.line.PortLine.{PortLine};
 ghost use Rattle.netlist.specs.Netlists.{Netlist, IsModule, is_input, is_register};
 ghost use Rattle.verilog_writer.specs.Text.{text_of, right_text, wire_line, net_line};
-ghost use Rattle.verilog_reader.specs.declared.rule.Rule.{Rule};
 ghost use Rattle.verilog_reader.specs.declared.rule.Rule.TheVariants.{OtherByte, Width, Spelling, NotThere, Bounds};
-ghost use Rattle.verilog_reader.specs.Forms.{Form, ends_hole, Reads, HasFault};
+ghost use Rattle.verilog_reader.specs.Forms.{Form, ends_hole, Reads, IsJudged};
 ghost use Rattle.verilog_reader.specs.RightSides.{Here, IsRightSide, right_form};
 ghost use Rattle.verilog_reader.specs.WireLines.{wire_form, Behind, IsWire};
 ghost use Rattle.verilog_reader.specs.Worked.{IsReadAs, IsRefused};
@@ -19,12 +18,10 @@ pub fn no_two_modules()
     ensures { (one other : Netlist) → IsModule one → IsModule other → text_of one ≡ text_of other → one ≡ other }
 {}
 
-/// A text begins with what a form asks or has a first fault, never both, and no second value or fault.
+/// A form reads a text or tells its first fault, never both, in one way.
 pub fn forms_judge()
-    ensures either { (form : Form Equation) (text : List ℕ) → ((e : Equation) × (rest : List ℕ) × Reads form text e rest) ⊎ ((at : ℕ) × (rule : Rule) × HasFault form text at rule) }
-    ensures never_both { (form : Form Equation) (text : List ℕ) (e : Equation) (rest : List ℕ) (at : ℕ) (rule : Rule) → Reads form text e rest → ¬ HasFault form text at rule }
-    ensures one_value { (form : Form Equation) (text : List ℕ) (e f : Equation) (rest back : List ℕ) → Reads form text e rest → Reads form text f back → (e ≡ f) × (rest ≡ back) }
-    ensures one_fault { (form : Form Equation) (text : List ℕ) (at place : ℕ) (rule other : Rule) → HasFault form text at rule → HasFault form text place other → (at ≡ place) × (rule ≡ other) }
+    ensures of_right_sides { (form : Form Equation) → IsJudged form }
+    ensures of_lines { (form : Form Line) → IsJudged form }
 {}
 
 /// The form of a right side reads exactly the right sides that are sound, those of a module's nets among them.

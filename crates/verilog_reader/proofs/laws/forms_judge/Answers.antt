@@ -1,22 +1,23 @@
 use Rattle.std.proofs.Common.{ℕ, inl, inr, ◌⊎◌, List}
-use Rattle.netlist.specs.declared.line.Equation.{Equation}
 use Rattle.verilog_reader.specs.declared.rule.Rule.{Rule}
-use Rattle.verilog_reader.specs.Forms.{Form, Reads, HasFault}
+use Rattle.verilog_reader.specs.Forms.{Form, Reads, HasFault, IsJudged}
 use Rattle.verilog_reader.proofs.Walks.{Judged, judge, never_both, one_value, one_fault}
 use Rattle.verilog_reader.proofs.laws.forms_judge.Goals as goal
 
-told : (form : Form Equation) (text : List ℕ) → Judged form text → ((e : Equation) × (rest : List ℕ) × Reads form text e rest) ⊎ ((at : ℕ) × (rule : Rule) × HasFault form text at rule)
-told form text (Judged.reads e rest r) = inl (e, rest, r)
+told : {A : Type 0} (form : Form A) (text : List ℕ) → Judged form text → ((value : A) × (rest : List ℕ) × Reads form text value rest) ⊎ ((at : ℕ) × (rule : Rule) × HasFault form text at rule)
+told form text (Judged.reads value rest r) = inl (value, rest, r)
 told form text (Judged.breaks at rule f) = inr (at, rule, f)
 
-pub returns-clause-either : goal.returns-clause-either
-returns-clause-either c form text = told form text (judge form text)
+judged : {A : Type 0} (form : Form A) → IsJudged form
+judged form = record {
+  either = λ text. told form text (judge form text);
+  never_both = never_both form;
+  one_value = λ text one other rest back x y. (let same = one_value form text one other rest back x y in (same.value, same.rest));
+  one_fault = λ text at place rule other x y. (let same = one_fault form text at place rule other x y in (same.same_place, same.same_rule));
+}
 
-pub returns-clause-never_both : goal.returns-clause-never_both
-returns-clause-never_both c = never_both
+pub returns-clause-of_right_sides : goal.returns-clause-of_right_sides
+returns-clause-of_right_sides c = judged
 
-pub returns-clause-one_value : goal.returns-clause-one_value
-returns-clause-one_value c form text e f rest back x y = let same = one_value form text e f rest back x y in (same.value, same.rest)
-
-pub returns-clause-one_fault : goal.returns-clause-one_fault
-returns-clause-one_fault c form text at place rule other x y = let same = one_fault form text at place rule other x y in (same.same_place, same.same_rule)
+pub returns-clause-of_lines : goal.returns-clause-of_lines
+returns-clause-of_lines c = judged
