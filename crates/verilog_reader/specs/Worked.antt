@@ -8,6 +8,7 @@ use Rattle.netlist.specs.Netlists.{line_of, memory_with}
 use Rattle.verilog_reader.specs.declared.rule.Rule.{Rule}
 use Rattle.verilog_reader.specs.Forms.{Form, Reads, HasFault}
 use Rattle.verilog_reader.specs.RightSides.{right_form}
+use Rattle.verilog_reader.specs.WireLines.{wire_form}
 
 -- nets 0 and 1 of 8 bits, net 2 of one bit, net 3 of 3 bits
 abbrev pub four_nets : List Line
@@ -28,3 +29,7 @@ IsReadAs w text e rest = Reads (fourth w) text e rest
 -- there the text breaks the rule at this place
 abbrev pub IsRefused : ℕ → List ℕ → ℕ → Rule → Type 0
 IsRefused w text at rule = HasFault (fourth w) text at rule
+
+-- as the line of net 4, a wire, the text breaks the rule at this place
+abbrev pub IsRefusedLine : List ℕ → ℕ → Rule → Type 0
+IsRefusedLine text at rule = HasFault (wire_form one_memory four_nets 4) text at rule

@@ -11,7 +11,7 @@ ghost use Rattle.verilog_reader.specs.declared.rule.Rule.TheVariants.{OtherByte,
 ghost use Rattle.verilog_reader.specs.Forms.{Form, ends_hole, Reads, IsJudged};
 ghost use Rattle.verilog_reader.specs.RightSides.{Here, IsRightSide, right_form};
 ghost use Rattle.verilog_reader.specs.WireLines.{wire_form, Behind, IsWire};
-ghost use Rattle.verilog_reader.specs.Worked.{IsReadAs, IsRefused};
+ghost use Rattle.verilog_reader.specs.Worked.{IsReadAs, IsRefused, IsRefusedLine};
 
 /// No bytes are the text of two modules.
 pub fn no_two_modules()
@@ -77,4 +77,14 @@ pub fn refused_right_sides()
     ensures missing_memory { IsRefused 8 (codes "m1[n3];\n") 1 NotThere }
     ensures high_bound { IsRefused 8 (codes "n0[8:1];\n") 3 Bounds }
     ensures length_of_slice { IsRefused 8 (codes "n0[7:1];\n") 5 Bounds }
+{}
+
+/// Lines of wires that a rule refuses, at the place of their first fault.
+pub fn refused_wire_lines()
+    ensures width_above_128 { IsRefusedLine (codes "  wire [128:0] n4 = ~n0;\n") 8 Width }
+    ensures leading_zero_in_width { IsRefusedLine (codes "  wire [07:0] n4 = ~n0;\n") 8 Spelling }
+    ensures no_blank_before_name { IsRefusedLine (codes "  wire [7:0]n4 = ~n0;\n") 12 OtherByte }
+    ensures another_number { IsRefusedLine (codes "  wire [7:0] n5 = ~n0;\n") 14 Spelling }
+    ensures own_number_on_the_right { IsRefusedLine (codes "  wire [7:0] n4 = ~n4;\n") 19 NotThere }
+    ensures no_line_feed { IsRefusedLine (codes "  wire [7:0] n4 = ~n0;") 22 OtherByte }
 {}
