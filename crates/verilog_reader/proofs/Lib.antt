@@ -9,3 +9,4 @@ pub mod Walks
 pub mod RightReads
 pub mod RightSound
 pub mod WireLines
+pub mod RegisterLines

@@ -78,7 +78,7 @@ here_behind memories lines n w at some small = record { few = at.few; room = at.
 front_parts : (a b c d e f g h i r : List ℕ) → a ++ (b ++ (c ++ (d ++ (e ++ (f ++ (g ++ (h ++ (i ++ r)))))))) ≡ (a ++ (b ++ (c ++ (d ++ (e ++ (f ++ (g ++ (h ++ i)))))))) ++ r
 front_parts a b c d e f g h i r = simp append_assoc
 
-number_test_passes : (n : ℕ) → n < 2 ^ 64 → number_test n (decimal n) ≡ None
+pub number_test_passes : (n : ℕ) → n < 2 ^ 64 → number_test n (decimal n) ≡ None
 number_test_passes n few =
     let is : (is_number (decimal n) && value_of (decimal n) == n) ≡ true = rw (number_is n few, eq-eqb (value_of (decimal n)) n (value-decimal n few)) refl in
     ap (λ (t : Bool). unless t Spelling None) is

@@ -2,4 +2,5 @@ pub mod Rules
 pub mod Forms
 pub mod RightSides
 pub mod WireLines
+pub mod RegisterLines
 pub mod Worked

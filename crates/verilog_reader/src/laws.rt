@@ -1,16 +1,17 @@
 //! What holds of every text. The functions do nothing; their contracts are the laws.
 
-ghost use Rattle.std.specs.Prelude.{◌≡◌, ℕ, ◌++◌, List, [], true, false, codes, slice_get, Some};
+ghost use Rattle.std.specs.Prelude.{◌≡◌, ℕ, ◌^◌, ◌<◌, ◌≤◌, ◌++◌, List, [], true, false, codes, slice_get, Some};
 ghost use Rattle.netlist.specs.declared.line.Equation.{Equation};
 ghost use Rattle.netlist.specs.declared.line.Line.{Line};
 ghost use Rattle.netlist.specs.declared.line.Memory.{Memory};
 ghost use Rattle.netlist.specs.declared.line.PortLine.{PortLine};
 ghost use Rattle.netlist.specs.Netlists.{Netlist, IsModule, is_input, is_register};
-ghost use Rattle.verilog_writer.specs.Text.{text_of, right_text, wire_line, net_line};
+ghost use Rattle.verilog_writer.specs.Text.{text_of, right_text, wire_line, register_line, net_line};
 ghost use Rattle.verilog_reader.specs.declared.rule.Rule.TheVariants.{OtherByte, Width, Spelling, NotThere, Bounds};
 ghost use Rattle.verilog_reader.specs.Forms.{Form, ends_hole, Reads, IsJudged};
 ghost use Rattle.verilog_reader.specs.RightSides.{Here, IsRightSide, right_form};
 ghost use Rattle.verilog_reader.specs.WireLines.{wire_form, Behind, IsWire};
+ghost use Rattle.verilog_reader.specs.RegisterLines.{register_form, untold};
 ghost use Rattle.verilog_reader.specs.Worked.{IsReadAs, IsRefused, IsRefusedLine};
 
 /// No bytes are the text of two modules.
@@ -42,6 +43,15 @@ pub fn wire_lines()
         → (text ≡ wire_line ports n line.width line.equation ++ rest) × IsWire ports memories lines n line }
     ensures of_modules { (one : Netlist) → IsModule one → (n : ℕ) (line : Line) (rest : List ℕ) → slice_get one.lines n ≡ Some line → is_input line.equation ≡ false → is_register line.equation ≡ false
         → Reads (wire_form one.memories one.lines n) (net_line one.ports n line ++ rest) line rest }
+{}
+
+/// The form of a register's line reads exactly the lines of registers, those of a module's among them.
+pub fn register_lines()
+    ensures read { (n w : ℕ) (rest : List ℕ) → n < 2 ^ 64 → 1 ≤ w → w ≤ 128 → Reads (register_form n) (register_line n w ++ rest) (untold n w) rest }
+    ensures sound { (n : ℕ) (line : Line) (text rest : List ℕ) → Reads (register_form n) text line rest
+        → (w : ℕ) × (1 ≤ w) × (w ≤ 128) × (line ≡ untold n w) × (text ≡ register_line n w ++ rest) }
+    ensures of_modules { (one : Netlist) → IsModule one → (n : ℕ) (line : Line) (rest : List ℕ) → slice_get one.lines n ≡ Some line → is_register line.equation ≡ true
+        → Reads (register_form n) (net_line one.ports n line ++ rest) (untold n line.width) rest }
 {}
 
 /// Right sides that are read.
