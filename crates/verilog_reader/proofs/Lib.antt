@@ -10,3 +10,4 @@ pub mod RightReads
 pub mod RightSound
 pub mod WireLines
 pub mod RegisterLines
+pub mod MemoryLines

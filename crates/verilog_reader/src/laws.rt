@@ -1,17 +1,18 @@
 //! What holds of every text. The functions do nothing; their contracts are the laws.
 
-ghost use Rattle.std.specs.Prelude.{◌≡◌, ℕ, ◌^◌, ◌<◌, ◌≤◌, ◌++◌, List, [], true, false, codes, slice_get, Some};
+ghost use Rattle.std.specs.Prelude.{◌≡◌, ℕ, ◌^◌, ◌<◌, ◌≤◌, ◌++◌, List, [], true, false, codes, slice_get, Some, None};
 ghost use Rattle.netlist.specs.declared.line.Equation.{Equation};
 ghost use Rattle.netlist.specs.declared.line.Line.{Line};
 ghost use Rattle.netlist.specs.declared.line.Memory.{Memory};
 ghost use Rattle.netlist.specs.declared.line.PortLine.{PortLine};
-ghost use Rattle.netlist.specs.Netlists.{Netlist, IsModule, is_input, is_register};
-ghost use Rattle.verilog_writer.specs.Text.{text_of, right_text, wire_line, register_line, net_line};
+ghost use Rattle.netlist.specs.Netlists.{Netlist, IsModule, IsSoundMemory, memory_with, is_input, is_register};
+ghost use Rattle.verilog_writer.specs.Text.{text_of, right_text, wire_line, register_line, net_line, memory_line};
 ghost use Rattle.verilog_reader.specs.declared.rule.Rule.TheVariants.{OtherByte, Width, Spelling, NotThere, Bounds};
 ghost use Rattle.verilog_reader.specs.Forms.{Form, ends_hole, Reads, IsJudged};
 ghost use Rattle.verilog_reader.specs.RightSides.{Here, IsRightSide, right_form};
 ghost use Rattle.verilog_reader.specs.WireLines.{wire_form, Behind, IsWire};
 ghost use Rattle.verilog_reader.specs.RegisterLines.{register_form, untold};
+ghost use Rattle.verilog_reader.specs.MemoryLines.{memory_form};
 ghost use Rattle.verilog_reader.specs.Worked.{IsReadAs, IsRefused, IsRefusedLine};
 
 /// No bytes are the text of two modules.
@@ -23,6 +24,7 @@ pub fn no_two_modules()
 pub fn forms_judge()
     ensures of_right_sides { (form : Form Equation) → IsJudged form }
     ensures of_lines { (form : Form Line) → IsJudged form }
+    ensures of_memories { (form : Form Memory) → IsJudged form }
 {}
 
 /// The form of a right side reads exactly the right sides that are sound, those of a module's nets among them.
@@ -52,6 +54,16 @@ pub fn register_lines()
         → (w : ℕ) × (1 ≤ w) × (w ≤ 128) × (line ≡ untold n w) × (text ≡ register_line n w ++ rest) }
     ensures of_modules { (one : Netlist) → IsModule one → (n : ℕ) (line : Line) (rest : List ℕ) → slice_get one.lines n ≡ Some line → is_register line.equation ≡ true
         → Reads (register_form n) (net_line one.ports n line ++ rest) (untold n line.width) rest }
+{}
+
+/// The form of a memory's line reads exactly the lines of memories, those of a module's among them.
+pub fn memory_lines()
+    ensures read { (lines : List Line) (m : ℕ) (memory : Memory) (rest : List ℕ) → m < 2 ^ 64 → IsSoundMemory lines memory
+        → Reads (memory_form m) (memory_line m memory ++ rest) (memory_with memory.width memory.address_bits) rest }
+    ensures sound { (lines : List Line) (m : ℕ) (memory : Memory) (text rest : List ℕ) → Reads (memory_form m) text memory rest
+        → IsSoundMemory lines memory × (memory.write ≡ None) × (text ≡ memory_line m memory ++ rest) }
+    ensures of_modules { (one : Netlist) → IsModule one → (m : ℕ) (memory : Memory) (rest : List ℕ) → slice_get one.memories m ≡ Some memory
+        → Reads (memory_form m) (memory_line m memory ++ rest) (memory_with memory.width memory.address_bits) rest }
 {}
 
 /// Right sides that are read.

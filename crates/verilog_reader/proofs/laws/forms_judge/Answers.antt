@@ -21,3 +21,6 @@ returns-clause-of_right_sides c = judged
 
 pub returns-clause-of_lines : goal.returns-clause-of_lines
 returns-clause-of_lines c = judged
+
+pub returns-clause-of_memories : goal.returns-clause-of_memories
+returns-clause-of_memories c = judged
