@@ -9,6 +9,7 @@ use Rattle.verilog_reader.specs.declared.rule.Rule.{Rule}
 use Rattle.verilog_reader.specs.Forms.{Form, Reads, HasFault}
 use Rattle.verilog_reader.specs.RightSides.{right_form}
 use Rattle.verilog_reader.specs.WireLines.{wire_form}
+use Rattle.verilog_reader.specs.MemoryLines.{memory_form}
 
 -- nets 0 and 1 of 8 bits, net 2 of one bit, net 3 of 3 bits
 abbrev pub four_nets : List Line
@@ -33,3 +34,7 @@ IsRefused w text at rule = HasFault (fourth w) text at rule
 -- as the line of net 4, a wire, the text breaks the rule at this place
 abbrev pub IsRefusedLine : List ℕ → ℕ → Rule → Type 0
 IsRefusedLine text at rule = HasFault (wire_form one_memory four_nets 4) text at rule
+
+-- as the line of memory 1 the text breaks the rule at this place
+abbrev pub IsRefusedMemory : List ℕ → ℕ → Rule → Type 0
+IsRefusedMemory text at rule = HasFault (memory_form 1) text at rule

@@ -7,13 +7,13 @@ ghost use Rattle.netlist.specs.declared.line.Memory.{Memory};
 ghost use Rattle.netlist.specs.declared.line.PortLine.{PortLine};
 ghost use Rattle.netlist.specs.Netlists.{Netlist, IsModule, IsSoundMemory, memory_with, is_input, is_register};
 ghost use Rattle.verilog_writer.specs.Text.{text_of, right_text, wire_line, register_line, net_line, memory_line};
-ghost use Rattle.verilog_reader.specs.declared.rule.Rule.TheVariants.{OtherByte, Width, Spelling, NotThere, Bounds};
+ghost use Rattle.verilog_reader.specs.declared.rule.Rule.TheVariants.{OtherByte, Width, Spelling, NotThere, Bounds, Depth};
 ghost use Rattle.verilog_reader.specs.Forms.{Form, ends_hole, Reads, IsJudged};
 ghost use Rattle.verilog_reader.specs.RightSides.{Here, IsRightSide, right_form};
 ghost use Rattle.verilog_reader.specs.WireLines.{wire_form, Behind, IsWire};
 ghost use Rattle.verilog_reader.specs.RegisterLines.{register_form, untold};
 ghost use Rattle.verilog_reader.specs.MemoryLines.{memory_form};
-ghost use Rattle.verilog_reader.specs.Worked.{IsReadAs, IsRefused, IsRefusedLine};
+ghost use Rattle.verilog_reader.specs.Worked.{IsReadAs, IsRefused, IsRefusedLine, IsRefusedMemory};
 
 /// No bytes are the text of two modules.
 pub fn no_two_modules()
@@ -109,4 +109,14 @@ pub fn refused_wire_lines()
     ensures another_number { IsRefusedLine (codes "  wire [7:0] n5 = ~n0;\n") 14 Spelling }
     ensures own_number_on_the_right { IsRefusedLine (codes "  wire [7:0] n4 = ~n4;\n") 19 NotThere }
     ensures no_line_feed { IsRefusedLine (codes "  wire [7:0] n4 = ~n0;") 22 OtherByte }
+{}
+
+/// Lines of memories that a rule refuses, at the place of their first fault.
+pub fn refused_memory_lines()
+    ensures another_memory { IsRefusedMemory (codes "  reg [7:0] m0 [0:7];\n") 13 Spelling }
+    ensures seven_words { IsRefusedMemory (codes "  reg [7:0] m1 [0:6];\n") 18 Depth }
+    ensures one_word { IsRefusedMemory (codes "  reg [7:0] m1 [0:0];\n") 18 Depth }
+    ensures too_many_words { IsRefusedMemory (codes "  reg [7:0] m1 [0:2047];\n") 18 Depth }
+    ensures width_above_128 { IsRefusedMemory (codes "  reg [128:0] m1 [0:7];\n") 7 Width }
+    ensures register { IsRefusedMemory (codes "  reg [7:0] n1;\n") 12 OtherByte }
 {}

@@ -5,7 +5,7 @@ mod laws;
 mod rule;
 
 pub use laws::{
-    forms_judge, memory_lines, no_two_modules, read_right_sides, refused_right_sides,
-    refused_wire_lines, register_lines, right_sides, wire_lines,
+    forms_judge, memory_lines, no_two_modules, read_right_sides, refused_memory_lines,
+    refused_right_sides, refused_wire_lines, register_lines, right_sides, wire_lines,
 };
 pub use rule::Rule;
