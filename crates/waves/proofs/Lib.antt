@@ -1,0 +1,4 @@
+pub mod Powers
+pub mod CutLemmas
+pub mod RowLemmas
+pub mod Reading

@@ -1,0 +1,5 @@
+pub mod Digits
+pub mod Cuts
+pub mod Rows
+pub mod Header
+pub mod Waves
