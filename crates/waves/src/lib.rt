@@ -5,8 +5,10 @@ mod cuts;
 mod digits;
 mod faults;
 mod header;
+mod laws;
 mod rows;
 mod whole;
 
 pub use faults::{WavesFault, WavesRule};
+pub use laws::{never_both, no_two_readings, read_files, refused_files};
 pub use whole::Waves;

@@ -1,0 +1,84 @@
+-- Waves have no fault, and one reading.
+use Rattle.std.proofs.Common.{◌≡◌, ℕ, zero, suc, ◌<◌, ◌≤◌, cond, List, [], ◌∷◌, length, drop, map, slice_get, Option, Some, None, refl, sym, ap, subst, ◌∙◌, eq-eqb, arith}
+use Rattle.std.specs.Prelude.{is_some, option_map}
+use Rattle.std.proofs.lemmas.Option.{same_Some, slice_get-map, slice_get_within}
+use Rattle.std.proofs.lemmas.Bool.Decides.{Decides-ltb}
+use Rattle.std.proofs.lemmas.List.{length-map}
+use Rattle.av_base.specs.Word.{Word}
+use Rattle.waves.specs.declared.faults.WavesRule.{WavesRule}
+use Rattle.waves.specs.declared.faults.WavesRule.TheVariants.{Lines, Values, Spelling}
+use Rattle.waves.specs.declared.faults.WavesFault.TheVariants.{Refused}
+use Rattle.waves.specs.Cuts.{lines, texts}
+use Rattle.waves.specs.Rows.{both, values, row_of, row_rule}
+use Rattle.waves.specs.Digits.{value_in}
+use Rattle.waves.proofs.CutLemmas.{not_less}
+use Rattle.waves.specs.Waves.{IsWavesOf, IsFaultOf, IsFaultIn, IsFaultBy, later, rule_at, line_rule}
+
+heads : (x y : List Word) (xs ys : List (List Word)) → map Some (x ∷ xs) ≡ map Some (y ∷ ys) → x ≡ y
+heads x y xs ys e = same_Some x y (same_Some _ _ (ap (λ os. slice_get os 0) e))
+
+same_rows : (one other : List (List Word)) → map Some one ≡ map Some other → one ≡ other
+same_rows [] [] e = refl
+same_rows [] (x ∷ xs) e = cc
+same_rows (x ∷ xs) [] e = cc
+same_rows (x ∷ xs) (y ∷ ys) e = ap (λ z. z ∷ xs) (heads x y xs ys e) ∙ ap (λ zs. y ∷ zs) (same_rows xs ys (ap (λ os. drop 1 os) e))
+
+pub one_reading : (widths bytes : List ℕ) (one other : List (List Word)) → IsWavesOf widths bytes one → IsWavesOf widths bytes other → one ≡ other
+one_reading widths bytes one other h g = same_rows one other (sym h.each ∙ g.each)
+
+count_both : (n m : ℕ) (row : List Word) (first : Option Word) (others : Option (List Word)) → ((vs : List Word) → others ≡ Some vs → n ≡ m) → both first others ≡ Some row → suc n ≡ suc m
+count_both n m row (Some v) (Some vs) more e = ap suc (more vs refl)
+count_both n m row (Some v) None more e = cc
+count_both n m row None others more e = cc
+
+count : (widths : List ℕ) (ts : List (List ℕ)) (row : List Word) → values widths ts ≡ Some row → length ts ≡ length widths
+count [] [] row e = refl
+count [] (t ∷ ts) row e = cc
+count (w ∷ ws) [] row e = cc
+count (w ∷ ws) (t ∷ ts) row e = count_both (length ts) (length ws) row (value_in w t) (values ws ts) (λ vs h. count ws ts vs h) e
+
+good_line : (widths line : List ℕ) (row : List Word) → row_of widths line ≡ Some row → row_rule widths line ≡ None
+good_line widths line row e =
+    ap (λ b. cond b (cond (is_some (row_of widths line)) None (Some Spelling)) (Some Values)) (eq-eqb (length (texts line)) (length widths) (count widths (texts line) row e))
+    ∙ ap (λ o. cond (is_some o) None (Some Spelling)) e
+
+read_there : (widths line : List ℕ) (o : Option (List Word)) → Some (row_of widths line) ≡ option_map Some o → row_rule widths line ≡ None
+read_there widths line (Some row) e = good_line widths line row (same_Some _ _ e)
+read_there widths line None e = cc
+
+none_past : (there : List (List ℕ)) (cycle : ℕ) → slice_get there cycle ≡ None → length there ≤ cycle
+none_past [] cycle e = omega arith
+none_past (x ∷ xs) zero e = cc
+none_past (x ∷ xs) (suc k) e = let less = none_past xs k e in omega arith
+
+by_line : (widths : List ℕ) (there : List (List ℕ)) (rows : List (List Word)) (cycle : ℕ) (o : Option (List ℕ)) → slice_get there cycle ≡ o → length there ≡ length rows
+    → option_map (row_of widths) (slice_get there cycle) ≡ option_map Some (slice_get rows cycle) → line_rule widths (length rows) o cycle ≡ None
+by_line widths there rows cycle None e n h = let past = none_past there cycle e in ap (λ b. cond b (Some Lines) None) (not_less cycle (length rows) (omega arith))
+by_line widths there rows cycle (Some line) e n h =
+    let within = slice_get_within there cycle line e in
+    let less : cycle < length rows = omega arith in
+    ap (λ b. cond b (row_rule widths line) (Some Lines)) ((Decides-ltb cycle (length rows)).1 less)
+    ∙ read_there widths line (slice_get rows cycle) (ap (option_map (row_of widths)) (sym e) ∙ h)
+
+good_rule : (widths : List ℕ) (there : List (List ℕ)) (rows : List (List Word)) (cycle : ℕ) → map (row_of widths) there ≡ map Some rows → rule_at widths (length rows) there cycle ≡ None
+good_rule widths there rows cycle e =
+    let n : length there ≡ length rows = sym (length-map there (row_of widths)) ∙ ap length e ∙ length-map rows Some in
+    by_line widths there rows cycle (slice_get there cycle) refl n (sym (slice_get-map (row_of widths) there cycle) ∙ ap (λ os. slice_get os cycle) e ∙ slice_get-map Some rows cycle)
+
+pub no_fault : (widths bytes : List ℕ) (rows : List (List Word)) (line : ℕ) (rule : WavesRule) → IsWavesOf widths bytes rows → IsFaultOf widths bytes (Refused line rule) → ⊥
+no_fault widths bytes rows line rule w f =
+    let g : IsFaultBy widths bytes (Some (length rows)) (Refused line rule) = subst (λ o. IsFaultBy widths bytes o (Refused line rule)) w.cycles f in
+    let good = good_rule widths (later (lines bytes)) rows g.0 w.each in
+    let bad = g.2.broken in
+    cc
+
+-- the first line behind the first, and the second
+pub at_second : (widths : List ℕ) (due : ℕ) (there : List (List ℕ)) (rule : WavesRule) → rule_at widths due there 0 ≡ Some rule → IsFaultIn widths due there (Refused 2 rule)
+at_second widths due there rule e = (0, refl, record { broken = e; before = λ k l. absurd (omega arith) })
+
+first_good : (widths : List ℕ) (due : ℕ) (there : List (List ℕ)) → rule_at widths due there 0 ≡ None → (k : ℕ) → k < 1 → rule_at widths due there k ≡ None
+first_good widths due there e zero l = e
+first_good widths due there e (suc k) l = absurd (omega arith)
+
+pub at_third : (widths : List ℕ) (due : ℕ) (there : List (List ℕ)) (rule : WavesRule) → rule_at widths due there 0 ≡ None → rule_at widths due there 1 ≡ Some rule → IsFaultIn widths due there (Refused 3 rule)
+at_third widths due there rule g e = (1, refl, record { broken = e; before = first_good widths due there g })
