@@ -1,5 +1,5 @@
 -- Waves have no fault, and one reading.
-use Rattle.std.proofs.Common.{◌≡◌, ℕ, zero, suc, ◌<◌, ◌≤◌, cond, List, [], ◌∷◌, length, drop, map, slice_get, Option, Some, None, refl, sym, ap, subst, ◌∙◌, eq-eqb, arith}
+use Rattle.std.proofs.Common.{◌≡◌, ℕ, zero, suc, ◌+◌, ◌<◌, ◌≤◌, cond, List, [], ◌∷◌, length, drop, map, slice_get, Option, Some, None, refl, sym, ap, subst, ◌∙◌, eq-eqb, arith}
 use Rattle.std.specs.Prelude.{is_some, option_map}
 use Rattle.std.proofs.lemmas.Option.{same_Some, slice_get-map, slice_get_within}
 use Rattle.std.proofs.lemmas.Bool.Decides.{Decides-ltb}
@@ -12,7 +12,7 @@ use Rattle.waves.specs.Cuts.{lines, texts}
 use Rattle.waves.specs.Rows.{both, values, row_of, row_rule}
 use Rattle.waves.specs.Digits.{value_in}
 use Rattle.waves.proofs.CutLemmas.{not_less}
-use Rattle.waves.specs.Waves.{IsWavesOf, IsFaultOf, IsFaultIn, IsFaultBy, later, rule_at, line_rule}
+use Rattle.waves.specs.Waves.{IsWavesOf, IsFirstBroken, IsFaultOf, IsFaultIn, IsFaultBy, cycles_of, later, rule_at, line_rule}
 
 heads : (x y : List Word) (xs ys : List (List Word)) → map Some (x ∷ xs) ≡ map Some (y ∷ ys) → x ≡ y
 heads x y xs ys e = same_Some x y (same_Some _ _ (ap (λ os. slice_get os 0) e))
@@ -82,3 +82,26 @@ first_good widths due there e (suc k) l = absurd (omega arith)
 
 pub at_third : (widths : List ℕ) (due : ℕ) (there : List (List ℕ)) (rule : WavesRule) → rule_at widths due there 0 ≡ None → rule_at widths due there 1 ≡ Some rule → IsFaultIn widths due there (Refused 3 rule)
 at_third widths due there rule g e = (1, refl, record { broken = e; before = first_good widths due there g })
+
+broken_no_later : (widths : List ℕ) (due : ℕ) (there : List (List ℕ)) (a b : ℕ) (r s : WavesRule) → IsFirstBroken widths due there a r → IsFirstBroken widths due there b s → a < b → ⊥
+broken_no_later widths due there a b r s f g l = let none = g.before a l in let some = f.broken in cc
+
+one_place : (widths : List ℕ) (due : ℕ) (there : List (List ℕ)) (a b : ℕ) (r s : WavesRule) → IsFirstBroken widths due there a r → IsFirstBroken widths due there b s → a ≡ b
+one_place widths due there a b r s f g =
+    let after = broken_no_later widths due there a b r s f g in
+    let before = broken_no_later widths due there b a s r g f in
+    grind (arith, after, before)
+
+one_rule : (widths : List ℕ) (due : ℕ) (there : List (List ℕ)) (a b : ℕ) (r s : WavesRule) → IsFirstBroken widths due there a r → IsFirstBroken widths due there b s → a ≡ b → r ≡ s
+one_rule widths due there a b r s f g e = same_Some r s (sym f.broken ∙ ap (λ k. rule_at widths due there k) e ∙ g.broken)
+
+one_by : (widths bytes : List ℕ) (cycles : Option ℕ) (line other : ℕ) (rule second : WavesRule) → IsFaultBy widths bytes cycles (Refused line rule) → IsFaultBy widths bytes cycles (Refused other second)
+    → (line ≡ other) × (rule ≡ second)
+one_by widths bytes None line other rule second f g = (f.0 ∙ sym g.0, f.1 ∙ sym g.1)
+one_by widths bytes (Some due) line other rule second f g =
+    let same = one_place widths due (later (lines bytes)) f.0 g.0 rule second f.2 g.2 in
+    (f.1 ∙ ap (λ k. k + 2) same ∙ sym g.1, one_rule widths due (later (lines bytes)) f.0 g.0 rule second f.2 g.2 same)
+
+pub one_fault : (widths bytes : List ℕ) (line other : ℕ) (rule second : WavesRule) → IsFaultOf widths bytes (Refused line rule) → IsFaultOf widths bytes (Refused other second)
+    → (line ≡ other) × (rule ≡ second)
+one_fault widths bytes line other rule second f g = one_by widths bytes (cycles_of (lines bytes)) line other rule second f g

@@ -17,6 +17,11 @@ pub fn no_two_readings()
     ensures { (widths bytes : List ℕ) (one other : List (List Word)) → IsWavesOf widths bytes one → IsWavesOf widths bytes other → one ≡ other }
 {}
 
+/// A file has one first fault at most: one line and one rule.
+pub fn no_two_first_faults()
+    ensures { (widths bytes : List ℕ) (line other : ℕ) (rule second : WavesRule) → IsFaultOf widths bytes (Refused line rule) → IsFaultOf widths bytes (Refused other second) → (line ≡ other) × (rule ≡ second) }
+{}
+
 /// Files that are read.
 pub fn read_files()
     ensures two_inputs { IsWavesOf (1 ∷ 8 ∷ []) (codes "cycles 2\n0 1f\r\n1 a0") ((word 1 0 ∷ word 8 31 ∷ []) ∷ (word 1 1 ∷ word 8 160 ∷ []) ∷ []) }
