@@ -1,6 +1,6 @@
 //! Lines, and the values on a line, as pieces between bytes that part them.
 
-ghost use Rattle.std.specs.Prelude.{◌≡◌, ◌+◌, ◌-◌, ◌≤◌, ◌<◌, ◌↔◌, ◌==◌, not, length, take, drop, IsTrue, [], ◌∷◌};
+ghost use Rattle.std.specs.Prelude.{◌≡◌, ◌+◌, ◌-◌, ◌≤◌, ◌<◌, ◌==◌, not, length, take, drop, ◌∷◌};
 ghost use Rattle.std.specs.List.{prefix_len};
 ghost use Rattle.waves.specs.Cuts.{without_return, lines, texts, texts_from};
 

@@ -1,8 +1,8 @@
 //! Values as waves files write them.
 
-ghost use Rattle.std.specs.Prelude.{◌≡◌, ◌≤◌, ◌^◌, ◌<◌, length, IsTrue, ◌↔◌, true};
+ghost use Rattle.std.specs.Prelude.{◌≡◌, ◌≤◌, ◌<◌, length, true};
 ghost use Rattle.std.specs.List.{list_all};
-ghost use Rattle.waves.specs.Digits.{is_decimal, is_digit, digit_value, number_behind, digits_for, value_in};
+ghost use Rattle.waves.specs.Digits.{is_digit, digit_value, number_behind, digits_for, value_in};
 
 use av_base::Val;
 

@@ -1,6 +1,6 @@
 //! The first line of a waves file.
 
-ghost use Rattle.std.specs.Prelude.{◌≡◌, ◌≤◌, ◌<◌, ◌^◌, length, true, Some, None, if◌then◌else◌};
+ghost use Rattle.std.specs.Prelude.{◌≡◌, ◌≤◌, ◌<◌, length, true, Some, None, if◌then◌else◌};
 ghost use Rattle.std.specs.List.{list_all};
 ghost use Rattle.waves.specs.Digits.{is_decimal, number_behind};
 ghost use Rattle.waves.specs.Header.{is_count, cycles_in};

@@ -1,7 +1,6 @@
 //! Waves as a whole.
 
-ghost use Rattle.std.specs.Prelude.{◌≡◌, ◌+◌, ◌≤◌, ◌<◌, length, drop, map, All, slice_get, Some, IfOk, IfErr, true, is_some};
-ghost use Rattle.netlist.specs.Netlists.{IsModule};
+ghost use Rattle.std.specs.Prelude.{◌≡◌, ◌+◌, ◌≤◌, ◌<◌, length, drop, map, All, slice_get, Some, IfOk, IfErr};
 ghost use Rattle.netlist.specs.declared.line.PortLine.{PortLine};
 ghost use Rattle.av_base.specs.Word.{Word};
 ghost use Rattle.waves.specs.declared.faults.WavesRule.TheVariants.{Lines};
