@@ -39,8 +39,39 @@ found_among [] last few some = no_zero some
 found_among (k ∷ ks) last few some = found_as k ks last (2 ^ k - 1 == last) refl few some (λ h. found_among ks last few.2 h)
 
 all_few : AllFew (1 ∷ 2 ∷ 3 ∷ 4 ∷ 5 ∷ 6 ∷ 7 ∷ 8 ∷ 9 ∷ 10 ∷ [])
-all_few = (omega arith, omega arith, (omega arith, omega arith, (omega arith, omega arith, (omega arith, omega arith, (omega arith, omega arith, (omega arith, omega arith, (omega arith, omega arith, (omega arith, omega arith,
-    (omega arith, omega arith, (omega arith, omega arith, tt))))))))))
+all_few = (
+  omega arith,
+  omega arith,
+  (
+    omega arith,
+    omega arith,
+    (
+      omega arith,
+      omega arith,
+      (
+        omega arith,
+        omega arith,
+        (
+          omega arith,
+          omega arith,
+          (
+            omega arith,
+            omega arith,
+            (
+              omega arith,
+              omega arith,
+              (
+                omega arith,
+                omega arith,
+                (omega arith, omega arith, (omega arith, omega arith, tt)),
+              ),
+            ),
+          ),
+        ),
+      ),
+    ),
+  ),
+)
 
 bits_found : (last : ℕ) → nat_lt 0 (address_bits_of last) ≡ true → Found last (address_bits_of last)
 bits_found last some = found_among (1 ∷ 2 ∷ 3 ∷ 4 ∷ 5 ∷ 6 ∷ 7 ∷ 8 ∷ 9 ∷ 10 ∷ []) last all_few some
@@ -125,12 +156,12 @@ memory_sound lines m memory text rest r =
     let name_is : named.0 ≡ decimal m ++ (codes " [0:" ++ (decimal (2 ^ b - 1) ++ codes "];\n")) = name_parts ∙ ap (λ (t : List ℕ). t ++ after) is_m ∙ ap (λ (t : List ℕ). decimal m ++ t) after_is in
     let left_is : left ≡ codes ":0] m" ++ (decimal m ++ (codes " [0:" ++ (decimal (2 ^ b - 1) ++ codes "];\n"))) = named.1 ∙ ap (λ (t : List ℕ). codes ":0] m" ++ t) name_is in
     let begun_is : begun.0 ≡ decimal (w - 1) ++ (codes ":0] m" ++ (decimal m ++ (codes " [0:" ++ (decimal (2 ^ b - 1) ++ codes "];\n")))) =
-        parts ∙ ap (λ (t : List ℕ). t ++ left) is_high ∙ ap (λ (t : List ℕ). decimal (w - 1) ++ t) left_is in
+    parts ∙ ap (λ (t : List ℕ). t ++ left) is_high ∙ ap (λ (t : List ℕ). decimal (w - 1) ++ t) left_is in
     let front_is : r.front ≡ codes "  reg [" ++ (decimal (w - 1) ++ (codes ":0] m" ++ (decimal m ++ (codes " [0:" ++ (decimal (2 ^ b - 1) ++ codes "];\n"))))) = begun.1 ∙ ap (λ (t : List ℕ). codes "  reg [" ++ t) begun_is in
     let all : text ≡ memory_line m (memory_with w b) ++ rest = r.parts ∙ ap (λ (t : List ℕ). t ++ rest) front_is
-        ∙ sym (regrouped (codes "  reg [") (decimal (w - 1)) (codes ":0] m") (decimal m) (codes " [0:") (decimal (2 ^ b - 1)) (codes "];\n") rest) ∙ sym (memory_shape m (memory_with w b) rest) in
+    ∙ sym (regrouped (codes "  reg [") (decimal (w - 1)) (codes ":0] m") (decimal m) (codes " [0:") (decimal (2 ^ b - 1)) (codes "];\n") rest) ∙ sym (memory_shape m (memory_with w b) rest) in
     subst (λ (x : Memory). IsSoundMemory lines x × (x.write ≡ None) × (text ≡ memory_line m x ++ rest)) last.0
-        (record { some_bit = some; small = small; some_address = found.some; few_addresses = found.few; write = tt }, refl, all)
+    (record { some_bit = some; small = small; some_address = found.some; few_addresses = found.few; write = tt }, refl, all)
 
 -- the line of a module's memory
 pub module_memory : (one : Netlist) (m : ℕ) (memory : Memory) (rest : List ℕ) → IsModule one → slice_get one.memories m ≡ Some memory

@@ -53,11 +53,11 @@ hex_in_hole : (d : ℕ) → d < 16 → is_hole_byte (hex_digit d) ≡ true
 hex_in_hole d h =
     elim (cases_lt d 10) [
       | inl low ↦
-        let is : hex_digit d ≡ 48 + d = rw (lt-ltb d 10 low) refl in
-        ap is_hole_byte is ∙ digit_byte (48 + d) (omega arith) (omega (arith, low))
+          let is : hex_digit d ≡ 48 + d = rw (lt-ltb d 10 low) refl in
+          ap is_hole_byte is ∙ digit_byte (48 + d) (omega arith) (omega (arith, low))
       | inr high ↦
-        let is : hex_digit d ≡ 87 + d = rw (le-ltb d 10 high) refl in
-        ap is_hole_byte is ∙ letter_byte (87 + d) (omega (arith, high)) (omega (arith, h))
+          let is : hex_digit d ≡ 87 + d = rw (le-ltb d 10 high) refl in
+          ap is_hole_byte is ∙ letter_byte (87 + d) (omega (arith, high)) (omega (arith, h))
     ]
 
 hexes_in_hole : (count n : ℕ) → list_all is_hole_byte (hex_digits count n) ≡ true
@@ -107,7 +107,7 @@ operand_due : {A : Type 0} (due : Form A) (rest : List ℕ) (lines : List Line) 
     → Due due rest (form a) front → Due due rest (operand lines n fits form) (net_name a ++ front)
 operand_due due rest lines n fits form a front o ends d =
     Due.hole (operand_test lines n fits) (λ run. form (net_of run)) (net_name a) (net_hole a (front ++ rest) o.small ends) (operand_passes lines n fits a o)
-        (subst (λ (m : ℕ). Due due rest (form m) front) (sym (value-decimal a o.small)) d)
+    (subst (λ (m : ℕ). Due due rest (form m) front) (sym (value-decimal a o.small)) d)
 
 pub fixed_due : {A : Type 0} (due : Form A) (rest bs : List ℕ) (form : Form A) (front : List ℕ) → Due due rest form front → Due due rest (fixed bs form) (bs ++ front)
 fixed_due due rest [] form front d = d
@@ -149,7 +149,7 @@ same_read : (memories : List Memory) (lines : List Line) (n w a b s : ℕ) (make
     → Reads (right_form memories lines n w) (infix_text a (s ∷ []) b ++ rest) (make b) rest
 same_read memories lines n w a b s make rest few o ends is =
     infix_read memories lines n w a b s [] (width_of lines a == w) (λ v. v == w) make rest (side lines n a w fit_any few o.left refl) (side lines n b w (λ v. v == w) few o.right (eq-eqb w w refl)) ends
-        (of_width lines a w o.left.width) is
+    (of_width lines a w o.left.width) is
 
 -- and between two nets that are compared
 compared_read : (memories : List Memory) (lines : List Line) (n w a b s : ℕ) (op : List ℕ) (make : ℕ → Equation) (rest : List ℕ) → n < 2 ^ 64 → IsComparison lines n w a b → ends_hole rest ≡ true
@@ -158,7 +158,7 @@ compared_read : (memories : List Memory) (lines : List Line) (n w a b s : ℕ) (
 compared_read memories lines n w a b s op make rest few c ends is =
     let v : (c.width == width_of lines a) ≡ true = eq-eqb c.width (width_of lines a) (sym (width_is lines a c.width c.operands.left.width)) in
     infix_read memories lines n w a b s op (w == 1) (λ u. u == width_of lines a) make rest (side lines n a c.width fit_any few c.operands.left refl)
-        (side lines n b c.width (λ u. u == width_of lines a) few c.operands.right v) ends (eq-eqb w 1 c.one_bit) is
+    (side lines n b c.width (λ u. u == width_of lines a) few c.operands.right v) ends (eq-eqb w 1 c.one_bit) is
 
 not_read : (memories : List Memory) (lines : List Line) (n w a : ℕ) (rest : List ℕ) → n < 2 ^ 64 → IsOperand lines n a w → ends_hole rest ≡ true → Reads (right_form memories lines n w) ((codes "~" ++ net_name a) ++ rest) (Not a) rest
 not_read memories lines n w a rest few o ends =
@@ -183,7 +183,7 @@ concat_read memories lines n w a b rest few c =
     let closing : Due due rest (Form.byte 125 (Form.whole (Concat a b))) (125 ∷ []) = Due.byte 125 Due.nothing in
     let low = operand_due due rest lines n (λ v. width_of lines a + v == w) (λ m. Form.byte 125 (Form.whole (Concat a m))) b (125 ∷ []) (side lines n b c.low_width (λ v. width_of lines a + v == w) few c.low sum) refl closing in
     let high = operand_due due rest lines n fit_any (λ m. fixed (codes ", ") (operand lines n (λ v. width_of lines m + v == w) (λ k. Form.byte 125 (Form.whole (Concat m k))))) a _
-        (side lines n a c.high_width fit_any few c.high refl) refl (fixed_due due rest (codes ", ") _ _ low) in
+    (side lines n a c.high_width fit_any few c.high refl) refl (fixed_due due rest (codes ", ") _ _ low) in
     record {
       front = 123 ∷ (net_name a ++ (codes ", " ++ (net_name b ++ (125 ∷ []))));
       parts = ap (λ (t : List ℕ). t ++ rest) (concat_front (codes "{") (net_name a) (codes ", ") (net_name b) (codes "}"));
@@ -199,7 +199,7 @@ choice_read memories lines n w s a b rest few c ends =
     let due = Form.whole (Mux s a b) in
     let last = operand_due due rest lines n (λ v. v == w) (λ m. Form.whole (Mux s a m)) b [] (side lines n b w (λ v. v == w) few c.branches.right (eq-eqb w w refl)) ends Due.nothing in
     let middle = operand_due due rest lines n (λ v. v == w) (λ m. fixed (codes " : ") (operand lines n (λ v. v == w) (λ k. Form.whole (Mux s m k)))) a _
-        (side lines n a w (λ v. v == w) few c.branches.left (eq-eqb w w refl)) refl (fixed_due due rest (codes " : ") _ _ last) in
+    (side lines n a w (λ v. v == w) few c.branches.left (eq-eqb w w refl)) refl (fixed_due due rest (codes " : ") _ _ last) in
     let sign = guarded_due due rest (width_of lines s == 1) Width (choice_form lines n w s) _ (of_width lines s 1 c.test.width) (fixed_due due rest (codes "? ") _ _ middle) in
     let turned = Due.byte 32 (Due.turn (sign_form lines n w s) sign) in
     let first = operand_due due rest lines n fit_any (λ m. Form.turn (behind_form lines n w m)) s _ (side lines n s 1 fit_any few c.test refl) refl (Due.turn (behind_form lines n w s) turned) in
@@ -238,9 +238,9 @@ slice_read memories lines n w a high low rest here s =
     let count : low + w ≡ high + 1 = omega (arith, s.bits, s.order) in
     let closing : Due due rest (Form.byte 93 (Form.whole (Slice a high low))) (93 ∷ []) = Due.byte 93 Due.nothing in
     let lower = numbered_due due rest (λ run. unless (is_number run) Spelling (unless (value_of run + w == high + 1) Bounds None)) (λ m. Form.byte 93 (Form.whole (Slice a high m))) low (93 ∷ []) bottom refl
-        (number_passes low (λ m. m + w == high + 1) Bounds (λ m. None) bottom (eq-eqb (low + w) (high + 1) count)) closing in
+    (number_passes low (λ m. m + w == high + 1) Bounds (λ m. None) bottom (eq-eqb (low + w) (high + 1) count)) closing in
     let upper = numbered_due due rest (λ run. unless (is_number run) Spelling (unless (nat_lt (value_of run) (width_of lines a)) Bounds None)) (low_form w a) high _ top refl
-        (number_passes high (λ m. nat_lt m (width_of lines a)) Bounds (λ m. None) top inside) (Due.byte 58 lower) in
+    (number_passes high (λ m. nat_lt m (width_of lines a)) Bounds (λ m. None) top inside) (Due.byte 58 lower) in
     let turned = Due.turn (behind_form lines n w a) (Due.byte 91 upper) in
     let first = operand_due due rest lines n fit_any (λ m. Form.turn (behind_form lines n w m)) a _ (side lines n a s.width fit_any here.few s.operand refl) refl turned in
     record {
@@ -265,10 +265,10 @@ word_read memories lines n w m a rest here s =
     let bits : (s.memory.address_bits == bits_of (slice_get memories m)) ≡ true = eq-eqb s.memory.address_bits _ (sym (ap bits_of s.is)) in
     let closing : Due due rest (Form.byte 93 (Form.whole (Read m a))) (93 ∷ []) = Due.byte 93 Due.nothing in
     let address = operand_due due rest lines n (λ v. v == bits_of (slice_get memories m)) (λ k. Form.byte 93 (Form.whole (Read m k))) a (93 ∷ [])
-        (side lines n a s.memory.address_bits (λ v. v == bits_of (slice_get memories m)) here.few s.address bits) refl closing in
+    (side lines n a s.memory.address_bits (λ v. v == bits_of (slice_get memories m)) here.few s.address bits) refl closing in
     let number = numbered_due due rest (memory_test memories w) (address_form memories lines n) m _ small refl
-        (number_passes m (λ k. nat_lt k (length memories)) NotThere (λ k. unless (words_of (slice_get memories k) == w) Width None) small (lt-ltb m (length memories) inside) ∙ ap (λ (b : Bool). unless b Width None) words)
-        (Due.byte 91 address) in
+    (number_passes m (λ k. nat_lt k (length memories)) NotThere (λ k. unless (words_of (slice_get memories k) == w) Width None) small (lt-ltb m (length memories) inside) ∙ ap (λ (b : Bool). unless b Width None) words)
+    (Due.byte 91 address) in
     record {
       front = 109 ∷ (decimal m ++ (91 ∷ (net_name a ++ (93 ∷ []))));
       parts = ap (λ (t : List ℕ). t ++ rest) (read_front (memory_name m) (codes "[") (net_name a) (codes "]"));
@@ -298,14 +298,14 @@ constant_read memories lines n w bits rest is ends =
     let value = hex_value ((w + 3) / 4) bits (width_fits w bits is.fits) in
     let done : Due due rest (make (digits_value 16 hex)) [] = subst (λ (k : ℕ). Due due rest (make k) []) (sym value) Due.nothing in
     let digits_due = Due.hole (λ run. unless (is_constant w run) Spelling None) (λ run. make (digits_value 16 run)) hex (record { bytes = hexes_in_hole ((w + 3) / 4) bits; ends = ends })
-        (ap (λ (b : Bool). unless b Spelling None) (hex_passes w bits is)) done in
+    (ap (λ (b : Bool). unless b Spelling None) (hex_passes w bits is)) done in
     let marked = fixed_due due rest (codes "'h") _ _ digits_due in
     let number = numbered_due due rest (λ run. unless (is_number run) Spelling (unless (value_of run == w) Width None))
-        (λ k. fixed (codes "'h") (Form.hole (λ run. unless (is_constant w run) Spelling None) (λ run. make (digits_value 16 run)))) w _ small refl
-        (number_passes w (λ k. k == w) Width (λ k. None) small (eq-eqb w w refl)) marked in
+    (λ k. fixed (codes "'h") (Form.hole (λ run. unless (is_constant w run) Spelling None) (λ run. make (digits_value 16 run)))) w _ small refl
+    (number_passes w (λ k. k == w) Width (λ k. None) small (eq-eqb w w refl)) marked in
     let tail = codes "'h" ++ (hex ++ []) in
     let begun : begun_form memories lines n w (next ((decimal w ++ tail) ++ rest)) ≡ constant_form w =
-        constant_turn memories lines n w ((decimal w ++ tail) ++ rest) (ap (λ (t : List ℕ). digit (first t)) (append_assoc (decimal w) tail rest) ∙ first_digit w (tail ++ rest) small) in
+    constant_turn memories lines n w ((decimal w ++ tail) ++ rest) (ap (λ (t : List ℕ). digit (first t)) (append_assoc (decimal w) tail rest) ∙ first_digit w (tail ++ rest) small) in
     record {
       front = decimal w ++ tail;
       parts = ap (λ (t : List ℕ). t ++ rest) (constant_front (decimal w) (codes "'h") hex);

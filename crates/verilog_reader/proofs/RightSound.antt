@@ -142,7 +142,7 @@ concat_walked ports memories lines n w e rest front room d =
     let close = inverted e refl b.walked in
     let last = inverted e refl close.2 in
     let text : front ≡ 123 ∷ (net_name a.net ++ (codes ", " ++ (net_name b.net ++ (125 ∷ [])))) =
-        opened.1 ∙ ap (λ (t : List ℕ). 123 ∷ t) (a.spelled ∙ ap (λ (t : List ℕ). net_name a.net ++ t) (comma.1 ∙ ap (λ (t : List ℕ). codes ", " ++ t) (b.spelled ∙ ap (λ (t : List ℕ). net_name b.net ++ t) (close.1 ∙ ap (λ (t : List ℕ). 125 ∷ t) last.1)))) in
+    opened.1 ∙ ap (λ (t : List ℕ). 123 ∷ t) (a.spelled ∙ ap (λ (t : List ℕ). net_name a.net ++ t) (comma.1 ∙ ap (λ (t : List ℕ). codes ", " ++ t) (b.spelled ∙ ap (λ (t : List ℕ). net_name b.net ++ t) (close.1 ∙ ap (λ (t : List ℕ). 125 ∷ t) last.1)))) in
     subst (λ (x : Equation). Side ports memories lines n w x front) last.0 (record {
       spelled = text ∙ sym (together (codes "{") (net_name a.net) (codes ", ") (net_name b.net) (codes "}"));
       sound = record { sound = record { high_width = width_of lines a.net; low_width = width_of lines b.net; high = a.is; low = b.is; sum = sym (eqb-true _ w b.fit) }; no_input = refl; no_register = refl };
@@ -218,21 +218,28 @@ sign_walked ports memories lines n w a e rest front (Some s) room is d =
     elim (cond_walked e rest (s == 38) _ _ front d) [
       | inl x ↦ same_walked ports memories lines n w a 38 (And a) e rest front room is (λ b h. (record { sound = h; no_input = refl; no_register = refl })) (λ b. refl) x
       | inr d ↦ elim (cond_walked e rest (s == 124) _ _ front d) [
-      | inl x ↦ same_walked ports memories lines n w a 124 (Or a) e rest front room is (λ b h. (record { sound = h; no_input = refl; no_register = refl })) (λ b. refl) x
-      | inr d ↦ elim (cond_walked e rest (s == 94) _ _ front d) [
-      | inl x ↦ same_walked ports memories lines n w a 94 (Xor a) e rest front room is (λ b h. (record { sound = h; no_input = refl; no_register = refl })) (λ b. refl) x
-      | inr d ↦ elim (cond_walked e rest (s == 43) _ _ front d) [
-      | inl x ↦ same_walked ports memories lines n w a 43 (Add a) e rest front room is (λ b h. (record { sound = h; no_input = refl; no_register = refl })) (λ b. refl) x
-      | inr d ↦ elim (cond_walked e rest (s == 45) _ _ front d) [
-      | inl x ↦ same_walked ports memories lines n w a 45 (Sub a) e rest front room is (λ b h. (record { sound = h; no_input = refl; no_register = refl })) (λ b. refl) x
-      | inr d ↦ elim (cond_walked e rest (s == 61) _ _ front d) [
-      | inl x ↦ compared_walked ports memories lines n w a 61 (61 ∷ []) (Eq a) e rest front room is (λ b h. (record { sound = h; no_input = refl; no_register = refl })) (λ b. refl) x
-      | inr d ↦ elim (cond_walked e rest (s == 60) _ _ front d) [
-      | inl x ↦ compared_walked ports memories lines n w a 60 [] (Less a) e rest front room is (λ b h. (record { sound = h; no_input = refl; no_register = refl })) (λ b. refl) x
-      | inr d ↦ elim (cond_walked e rest (s == 63) _ _ front d) [
-      | inl x ↦ choice_walked ports memories lines n w a e rest front room is x
-      | inr d ↦ absurd (inverted e refl d)
-      ] ] ] ] ] ] ] ]
+        | inl x ↦ same_walked ports memories lines n w a 124 (Or a) e rest front room is (λ b h. (record { sound = h; no_input = refl; no_register = refl })) (λ b. refl) x
+        | inr d ↦ elim (cond_walked e rest (s == 94) _ _ front d) [
+          | inl x ↦ same_walked ports memories lines n w a 94 (Xor a) e rest front room is (λ b h. (record { sound = h; no_input = refl; no_register = refl })) (λ b. refl) x
+          | inr d ↦ elim (cond_walked e rest (s == 43) _ _ front d) [
+            | inl x ↦ same_walked ports memories lines n w a 43 (Add a) e rest front room is (λ b h. (record { sound = h; no_input = refl; no_register = refl })) (λ b. refl) x
+            | inr d ↦ elim (cond_walked e rest (s == 45) _ _ front d) [
+              | inl x ↦ same_walked ports memories lines n w a 45 (Sub a) e rest front room is (λ b h. (record { sound = h; no_input = refl; no_register = refl })) (λ b. refl) x
+              | inr d ↦ elim (cond_walked e rest (s == 61) _ _ front d) [
+                | inl x ↦ compared_walked ports memories lines n w a 61 (61 ∷ []) (Eq a) e rest front room is (λ b h. (record { sound = h; no_input = refl; no_register = refl })) (λ b. refl) x
+                | inr d ↦ elim (cond_walked e rest (s == 60) _ _ front d) [
+                  | inl x ↦ compared_walked ports memories lines n w a 60 [] (Less a) e rest front room is (λ b h. (record { sound = h; no_input = refl; no_register = refl })) (λ b. refl) x
+                  | inr d ↦ elim (cond_walked e rest (s == 63) _ _ front d) [
+                    | inl x ↦ choice_walked ports memories lines n w a e rest front room is x
+                    | inr d ↦ absurd (inverted e refl d)
+                  ]
+                ]
+              ]
+            ]
+          ]
+        ]
+      ]
+    ]
 
 -- behind a first operand: the rest of the right side
 
@@ -281,10 +288,10 @@ behind_walked ports memories lines n w a e rest front (Some b) room some is d =
     elim (cond_walked e rest (b == 91) _ _ front d) [
       | inl x ↦ slice_walked ports memories lines n w a e rest front some is x
       | inr d ↦
-        let blank = inverted e refl d in
-        let turned = inverted e refl blank.2 in
-        let sign = sign_walked ports memories lines n w a e rest blank.0 (next (blank.0 ++ rest)) room is turned in
-        record { whole = ap (λ (t : List ℕ). net_name a ++ t) (blank.1 ∙ ap (λ (t : List ℕ). 32 ∷ t) sign.spelled) ∙ sign.whole; sound = sign.sound }
+          let blank = inverted e refl d in
+          let turned = inverted e refl blank.2 in
+          let sign = sign_walked ports memories lines n w a e rest blank.0 (next (blank.0 ++ rest)) room is turned in
+          record { whole = ap (λ (t : List ℕ). net_name a ++ t) (blank.1 ∙ ap (λ (t : List ℕ). 32 ∷ t) sign.spelled) ∙ sign.whole; sound = sign.sound }
     ]
 
 net_walked : (ports : List PortLine) (memories : List Memory) (lines : List Line) (n w : ℕ) (e : Equation) (rest front : List ℕ) → n ≤ length lines → 1 ≤ w
@@ -313,8 +320,8 @@ word_walked ports memories lines n w e rest front room d =
     let closed = inverted e refl a.walked in
     let last = inverted e refl closed.2 in
     let text : front ≡ 109 ∷ (decimal m ++ (91 ∷ (net_name a.net ++ (93 ∷ [])))) =
-        begun.1 ∙ ap (λ (t : List ℕ). 109 ∷ t) (parts ∙ ap (λ (t : List ℕ). t ++ later) number.0 ∙ ap (λ (t : List ℕ). decimal m ++ t) (opened.1 ∙ ap (λ (t : List ℕ). 91 ∷ t)
-            (a.spelled ∙ ap (λ (t : List ℕ). net_name a.net ++ t) (closed.1 ∙ ap (λ (t : List ℕ). 93 ∷ t) last.1)))) in
+    begun.1 ∙ ap (λ (t : List ℕ). 109 ∷ t) (parts ∙ ap (λ (t : List ℕ). t ++ later) number.0 ∙ ap (λ (t : List ℕ). decimal m ++ t) (opened.1 ∙ ap (λ (t : List ℕ). 91 ∷ t)
+    (a.spelled ∙ ap (λ (t : List ℕ). net_name a.net ++ t) (closed.1 ∙ ap (λ (t : List ℕ). 93 ∷ t) last.1)))) in
     let width : there.0.width ≡ w = sym (ap words_of there.1) ∙ eqb-true _ w words.0 in
     let bits : bits_of (slice_get memories m) ≡ there.0.address_bits = ap bits_of there.1 in
     subst (λ (x : Equation). Side ports memories lines n w x front) last.0 (record {
@@ -338,8 +345,8 @@ constant_walked ports memories lines n w e rest front some small d =
     let both = and_parts (same_bytes run hex) (nat_lt bits (2 ^ w)) held.0 in
     let last = inverted e refl run_walked in
     let text : front ≡ decimal w ++ (codes "'h" ++ (hex ++ [])) =
-        parts ∙ ap (λ (t : List ℕ). t ++ later) (width.0 ∙ ap (λ (k : ℕ). decimal k) is_w) ∙ ap (λ (t : List ℕ). decimal w ++ t) (mark.1 ∙ ap (λ (t : List ℕ). codes "'h" ++ t)
-            (run_parts ∙ ap (λ (t : List ℕ). t ++ after) (same_equal run hex both.0) ∙ ap (λ (t : List ℕ). hex ++ t) last.1)) in
+    parts ∙ ap (λ (t : List ℕ). t ++ later) (width.0 ∙ ap (λ (k : ℕ). decimal k) is_w) ∙ ap (λ (t : List ℕ). decimal w ++ t) (mark.1 ∙ ap (λ (t : List ℕ). codes "'h" ++ t)
+    (run_parts ∙ ap (λ (t : List ℕ). t ++ after) (same_equal run hex both.0) ∙ ap (λ (t : List ℕ). hex ++ t) last.1)) in
     subst (λ (x : Equation). Side ports memories lines n w x front) last.0 (record {
       spelled = text ∙ constant_whole (decimal w) (codes "'h") hex;
       sound = record { sound = record { word = record { some_bit = some; small = small; fits = ltb-true bits (2 ^ w) both.1 }; width = refl }; no_input = refl; no_register = refl };
@@ -352,17 +359,22 @@ begun_walked ports memories lines n w e rest front (Some b) room some small d =
     elim (cond_walked e rest (is_digit b 10) _ _ front d) [
       | inl x ↦ constant_walked ports memories lines n w e rest front some small x
       | inr d ↦ elim (cond_walked e rest (b == 126) _ _ front d) [
-      | inl x ↦ not_walked ports memories lines n w e rest front room x
-      | inr d ↦ elim (cond_walked e rest (b == 124) _ _ front d) [
-      | inl x ↦ any_walked ports memories lines n w e rest front room x
-      | inr d ↦ elim (cond_walked e rest (b == 123) _ _ front d) [
-      | inl x ↦ concat_walked ports memories lines n w e rest front room x
-      | inr d ↦ elim (cond_walked e rest (b == 110) _ _ front d) [
-      | inl x ↦ net_walked ports memories lines n w e rest front room some x
-      | inr d ↦ elim (cond_walked e rest (b == 109) _ _ front d) [
-      | inl x ↦ word_walked ports memories lines n w e rest front room x
-      | inr d ↦ absurd (inverted e refl d)
-      ] ] ] ] ] ]
+        | inl x ↦ not_walked ports memories lines n w e rest front room x
+        | inr d ↦ elim (cond_walked e rest (b == 124) _ _ front d) [
+          | inl x ↦ any_walked ports memories lines n w e rest front room x
+          | inr d ↦ elim (cond_walked e rest (b == 123) _ _ front d) [
+            | inl x ↦ concat_walked ports memories lines n w e rest front room x
+            | inr d ↦ elim (cond_walked e rest (b == 110) _ _ front d) [
+              | inl x ↦ net_walked ports memories lines n w e rest front room some x
+              | inr d ↦ elim (cond_walked e rest (b == 109) _ _ front d) [
+                | inl x ↦ word_walked ports memories lines n w e rest front room x
+                | inr d ↦ absurd (inverted e refl d)
+              ]
+            ]
+          ]
+        ]
+      ]
+    ]
 
 pub right_sound : (ports : List PortLine) (memories : List Memory) (lines : List Line) (n w : ℕ) (e : Equation) (text rest : List ℕ) → n ≤ length lines → 1 ≤ w → w ≤ 128
     → Reads (right_form memories lines n w) text e rest → (text ≡ right_text ports e ++ rest) × IsRightSide ports memories lines n w e

@@ -172,13 +172,13 @@ same_line a b e = cc
 pub agree_on_inputs : (one other : Netlist) → IsModule one → IsModule other → one.ports ≡ other.ports → Pairs AgreeOnInputs one.lines other.lines
 agree_on_inputs one other h h' same k a b at at' =
     let left = λ (i : is_input a.equation ≡ true).
-        (let here = h.well_made.inputs.no_others k a at i in
-         let there = h'.well_made.inputs.first k a (ap (λ (ps : List PortLine). slice_get (input_lines 0 ps) k) (sym same) ∙ here) in
-         same_line a b (sym there ∙ at')) in
+    (let here = h.well_made.inputs.no_others k a at i in
+    let there = h'.well_made.inputs.first k a (ap (λ (ps : List PortLine). slice_get (input_lines 0 ps) k) (sym same) ∙ here) in
+    same_line a b (sym there ∙ at')) in
     let right = λ (i : is_input b.equation ≡ true).
-        (let there = h'.well_made.inputs.no_others k b at' i in
-         let here = h.well_made.inputs.first k b (ap (λ (ps : List PortLine). slice_get (input_lines 0 ps) k) same ∙ there) in
-         same_line a b (sym at ∙ here)) in
+    (let there = h'.well_made.inputs.no_others k b at' i in
+    let here = h.well_made.inputs.first k b (ap (λ (ps : List PortLine). slice_get (input_lines 0 ps) k) same ∙ there) in
+    same_line a b (sym at ∙ here)) in
     (left, right)
 
 -- the text in its parts
@@ -205,7 +205,7 @@ text_shape : (one : Netlist)
     → text_of one ≡ codes "module " ++ (one.name ++ (codes " (\n  input wire clk,\n  input wire reset" ++ (ports_text one.ports ++ (codes "\n);\n" ++ behind_header one))))
 text_shape one =
     module_parts (codes "module ") one.name (codes " (\n  input wire clk,\n  input wire reset") (ports_text one.ports) (codes "\n);\n") (memories_text 0 one.memories) (nets_text one.ports 0 one.lines)
-        (clocked_text 0 one.lines) (writes_text 0 one.memories) (assigns_text one.ports one.drivers) (codes "endmodule\n")
+    (clocked_text 0 one.lines) (writes_text 0 one.memories) (assigns_text one.ports one.drivers) (codes "endmodule\n")
 
 nets_stop : (one : Netlist) → begins_net (behind_nets one) ≡ false
 nets_stop one = all_clocked_stop 0 one.lines (behind_clocked one) (all_written_stop 0 one.memories (behind_writes one) (all_assigns_stop one.ports one.drivers (codes "endmodule\n") refl))
@@ -232,16 +232,16 @@ pub one_module : (one other : Netlist) → IsModule one → IsModule other → t
 one_module one other h h' e =
     let name = cut name_byte one.name other.name _ _ (good_name one h) (good_name other h') refl refl (append_cancel_left (codes "module ") _ _ (sym (text_shape one) ∙ e ∙ text_shape other)) in
     let ports = ports_tell one.ports other.ports (codes ");\n" ++ behind_header one) (codes ");\n" ++ behind_header other) (good_ports one h) (good_ports other h')
-        (append_cancel_left (codes " (\n  input wire clk,\n  input wire reset") _ _ name.rest) in
+    (append_cancel_left (codes " (\n  input wire clk,\n  input wire reset") _ _ name.rest) in
     let memories = memories_tell 0 one.memories other.memories (behind_memories one) (behind_memories other) (whole_memories one h) (whole_memories other h')
-        (no_memory_in_nets one.ports 0 one.lines (behind_nets one) (sound_lines one h) (nets_stop one))
-        (no_memory_in_nets other.ports 0 other.lines (behind_nets other) (sound_lines other h') (nets_stop other))
-        (append_cancel_left (codes ");\n") _ _ ports.rest) in
+    (no_memory_in_nets one.ports 0 one.lines (behind_nets one) (sound_lines one h) (nets_stop one))
+    (no_memory_in_nets other.ports 0 other.lines (behind_nets other) (sound_lines other h') (nets_stop other))
+    (append_cancel_left (codes ");\n") _ _ ports.rest) in
     let nets = nets_tell one.ports 0 one.lines other.lines (behind_nets one) (behind_nets other) (sound_lines one h) (sound_lines other h') (agree_on_inputs one other h h' ports.what) (nets_stop one) (nets_stop other)
-        (memories.rest ∙ ap (λ (ps : List PortLine). nets_text ps 0 other.lines ++ behind_nets other) (sym ports.what)) in
+    (memories.rest ∙ ap (λ (ps : List PortLine). nets_text ps 0 other.lines ++ behind_nets other) (sym ports.what)) in
     let clocked = clocked_tell 0 one.lines other.lines (behind_clocked one) (behind_clocked other) nets.what nets.rest in
     let writes = writes_tell 0 one.memories other.memories (behind_writes one) (behind_writes other) (whole_memories one h) (whole_memories other h') memories.what clocked.rest in
     let driven : AllDriven one.ports other.drivers = rw ports.what (all_driven other h') in
     let assigns = assigns_tell one.ports one.drivers other.drivers (codes "endmodule\n") (codes "endmodule\n") (all_driven one h) driven
-        (writes.rest ∙ ap (λ (ps : List PortLine). assigns_text ps other.drivers ++ codes "endmodule\n") (sym ports.what)) in
+    (writes.rest ∙ ap (λ (ps : List PortLine). assigns_text ps other.drivers ++ codes "endmodule\n") (sym ports.what)) in
     netlist_is one other name.run ports.what clocked.what assigns.what writes.what

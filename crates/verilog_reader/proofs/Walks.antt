@@ -197,8 +197,8 @@ pub walk_reads : {A : Type 0} (form : Form A) (text : List ℕ) (a : A) (rest : 
 walk_reads form text a rest e =
     elim (judge form text) [
       | Judged.reads b back r ↦
-        let same = same_good b a back rest (sym (reads_walks form text b back r) ∙ e) in
-        rw (sym same.value, sym same.rest) r
+          let same = same_good b a back rest (sym (reads_walks form text b back r) ∙ e) in
+          rw (sym same.value, sym same.rest) r
       | Judged.breaks at rule f ↦ absurd (apart a rest at rule (sym e ∙ fault_walks form text at rule f))
     ]
 
@@ -207,6 +207,6 @@ walk_refuses {A} form text at rule e =
     elim (judge form text) [
       | Judged.reads a rest r ↦ absurd (apart a rest at rule (sym (reads_walks form text a rest r) ∙ e))
       | Judged.breaks place other f ↦
-        let same = same_bad A place at other rule (sym (fault_walks form text place other f) ∙ e) in
-        rw (sym same.same_place, sym same.same_rule) f
+          let same = same_bad A place at other rule (sym (fault_walks form text place other f) ∙ e) in
+          rw (sym same.same_place, sym same.same_rule) f
     ]

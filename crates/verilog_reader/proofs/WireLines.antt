@@ -118,7 +118,7 @@ pub wire_read : (ports : List PortLine) (memories : List Memory) (lines : List L
     → Reads (wire_form memories lines n) (wire_line ports n line.width line.equation ++ rest) line rest
 wire_read ports memories lines n line rest at wire =
     subst (λ (x : Line). Reads (wire_form memories lines n) (wire_line ports n line.width line.equation ++ rest) x rest) (sym (line_is line line.width line.equation wire.complete refl refl))
-        (wire_read_of ports memories lines n line.width line.equation rest at wire.some_bit wire.small wire.right)
+    (wire_read_of ports memories lines n line.width line.equation rest at wire.some_bit wire.small wire.right)
 
 -- and what is read is one
 
@@ -158,10 +158,10 @@ wire_walked ports memories lines n line rest front at d =
     let name_is : named.0 ≡ decimal n ++ (codes " = " ++ (right_text ports e ++ codes ";\n")) = name_parts ∙ ap (λ (t : List ℕ). t ++ behind) is_n ∙ ap (λ (t : List ℕ). decimal n ++ t) behind_is in
     let left_is : left ≡ codes ":0] n" ++ (decimal n ++ (codes " = " ++ (right_text ports e ++ codes ";\n"))) = named.1 ∙ ap (λ (t : List ℕ). codes ":0] n" ++ t) name_is in
     let begun_is : begun.0 ≡ decimal (w - 1) ++ (codes ":0] n" ++ (decimal n ++ (codes " = " ++ (right_text ports e ++ codes ";\n")))) =
-        parts ∙ ap (λ (t : List ℕ). t ++ left) is_high ∙ ap (λ (t : List ℕ). decimal (w - 1) ++ t) left_is in
+    parts ∙ ap (λ (t : List ℕ). t ++ left) is_high ∙ ap (λ (t : List ℕ). decimal (w - 1) ++ t) left_is in
     let text : front ≡ wire_line ports n w e =
-        begun.1 ∙ ap (λ (t : List ℕ). codes "  wire [" ++ t) begun_is
-        ∙ range_parts (codes "  wire ") (codes "[") (decimal (w - 1)) (codes ":0]") (codes " ") (net_name n) (codes " = ") (right_text ports e) (codes ";\n") in
+    begun.1 ∙ ap (λ (t : List ℕ). codes "  wire [" ++ t) begun_is
+    ∙ range_parts (codes "  wire ") (codes "[") (decimal (w - 1)) (codes ":0]") (codes " ") (net_name n) (codes " = ") (right_text ports e) (codes ";\n") in
     subst (λ (x : Line). WireMeaning ports memories lines n x front) last.0 (record {
       spelled = text;
       wire = record { some_bit = some; small = small; right = side.sound; complete = refl };
