@@ -1,5 +1,5 @@
 -- The headers of modules of three ports.
-use Rattle.std.proofs.Common.{◌≡◌, ◌≢◌, ℕ, zero, suc, ◌<◌, ◌≤◌, Bool, true, false, List, [], ◌∷◌, length, slice_get, get_or, ◌⊎◌, inl, inr, Some, None, refl, subst, ◌∙◌, arith}
+use Rattle.std.proofs.Common.{◌≡◌, ◌≢◌, ℕ, zero, suc, ◌<◌, ◌≤◌, Bool, true, false, List, ◌∷◌, length, get_or, ◌⊎◌, inl, inr, Some, None, refl, subst, ◌∙◌, arith}
 use Rattle.std.specs.Prelude.{codes, All, IsSome}
 use Rattle.std.proofs.lemmas.List.{get_or-set_other}
 use Rattle.netlist.specs.declared.line.PortLine.{PortLine}

@@ -7,12 +7,14 @@ mod modules;
 mod room;
 mod steps;
 mod values;
+mod wave_files;
 
 use modules::push_module;
 use room::NoRoom;
 use std::alloc::Global;
 use std::io;
 use steps::{push_bytes, push_counted, push_joined, push_operators, push_outputs, push_run};
+use wave_files::push_waves;
 
 /// Appends what is said of a row.
 fn push_answer(alloc: Global, text: &mut String, row: &str) -> Result<(), NoRoom> {
@@ -24,6 +26,7 @@ fn push_answer(alloc: Global, text: &mut String, row: &str) -> Result<(), NoRoom
         "bytes" => push_bytes(alloc, text, words),
         "outputs" => push_outputs(alloc, text, words),
         "run" => push_run(alloc, text, words),
+        "waves" => push_waves(alloc, text, words),
         _ => push_module(alloc, text, name, words),
     }
 }

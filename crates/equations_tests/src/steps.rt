@@ -1,6 +1,6 @@
 //! Modules by hand, stepped. The expected values were worked out with whole numbers of Python.
 
-ghost use Rattle.std.specs.Prelude.{◌≡◌, ℕ, ◌+◌, ◌<◌, ◌≤◌, IfOk, None, length};
+ghost use Rattle.std.specs.Prelude.{◌≡◌, ℕ, ◌+◌, ◌<◌, ◌≤◌, IfOk, None, false, length};
 ghost use Rattle.equations_tests.specs.Headers.{three_ports};
 ghost use Rattle.netlist.specs.Longer.{Extends, GrowsByOne};
 ghost use Rattle.netlist.specs.Netlists.{IsClocked, IsNet, IsOutputPort, IsWritten, driver_of};
@@ -200,7 +200,9 @@ pub(crate) fn push_joined(alloc: Global, text: &mut String, words: &str) -> Resu
 }
 
 /// A register that begins at 10 and gains the first input in each cycle; the last net is what it takes next.
-fn counter(alloc: Global) -> Result<Module, NoRoom> {
+pub(crate) fn counter(alloc: Global) -> Result<Module, NoRoom>
+    ensures { IfOk result (λ m. m.ports ≡ three_ports 8 1 1 false) }
+{
     let mut builder = builder_of(alloc, (8, 1, 1), false)?;
     let input = builder.input(0);
     let register = builder.reg(Val::new(8, 10).unwrap())?;

@@ -1,0 +1,53 @@
+//! Waves files, read for a module of three inputs.
+
+ghost use Rattle.std.specs.Prelude.{◌≡◌, length};
+
+use crate::room::NoRoom;
+use crate::steps::counter;
+use crate::values::push_value;
+use av_base::Val;
+use std::alloc::{AllocError, Global};
+use waves::{Waves, WavesFault, WavesRule};
+
+/// The bytes of a file, of which a row has a semicolon for each line feed.
+fn file_of(alloc: Global, row: &str) -> Result<Vec<u8>, AllocError> {
+    let mut bytes = Vec::new(alloc);
+    for byte in row.as_bytes() {
+        bytes.push(if *byte == b';' { b'\n' } else { *byte })?;
+    }
+    Ok(bytes)
+}
+
+/// The values of each cycle.
+fn push_rows(text: &mut String, waves: &Waves) -> Result<(), AllocError>
+    requires { length waves.now.widths ≡ 3 }
+{
+    let mut values = [Val::new(1, 0).unwrap(); 3];
+    for cycle in 0..waves.cycles() {
+        waves.row(cycle, &mut values);
+        for value in &values {
+            push_value(text, Some(value.bits()))?;
+        }
+    }
+    Ok(())
+}
+
+fn push_fault(text: &mut String, line: u32, rule: WavesRule) -> Result<(), AllocError> {
+    match rule {
+        WavesRule::Lines => write!(text, " line {line}: lines"),
+        WavesRule::Values => write!(text, " line {line}: values"),
+        WavesRule::Spelling => write!(text, " line {line}: spelling"),
+    }
+}
+
+/// What is read of a file, or what refuses it.
+pub(crate) fn push_waves(alloc: Global, text: &mut String, row: &str) -> Result<(), NoRoom> {
+    let module = counter(alloc)?;
+    let bytes = file_of(alloc, row)?;
+    match Waves::read(alloc, bytes.as_slice(), &module) {
+        Ok(waves) => push_rows(text, &waves)?,
+        Err(WavesFault::Refused { line, rule }) => push_fault(text, line, rule)?,
+        Err(WavesFault::NoMemory) => return Err(NoRoom),
+    }
+    Ok(())
+}
