@@ -9,22 +9,23 @@ import subprocess
 import sys
 from pathlib import Path
 
+from lockstep import ports_of
+
 CYCLES = 1600
 
 
 def bench(text):
-    header = text[: text.index(");")]
-    ports = re.findall(r"(input|output)\s+(?:wire\s+)?(?:\[(\d+):0\]\s+)?([\w$]+)", header)
+    ports = ports_of(text)
     module = re.search(r"\bmodule\s+(\w+_interconnect)", text).group(1)
     lines = ["module bench;", "  reg clk = 0, reset = 1; integer cycle, writes = 0, reads = 0;"]
     joins = [".clk(clk)", ".reset(reset)"]
-    for way, high, name in ports:
+    for way, bits, name in ports:
         flat = name.replace("$", "_")
         if name not in ("clk", "reset"):
-            lines.append(f"  {'reg' if way == 'input' else 'wire'} [{high or 0}:0] {flat}{' = 0' if way == 'input' else ''};")
+            lines.append(f"  {'reg' if way == 'input' else 'wire'} [{bits - 1}:0] {flat}{' = 0' if way == 'input' else ''};")
             joins.append(f".{name}({flat})")
     lines.append(f"  {module} join_ ({', '.join(joins)});")
-    full = ["h_m_byteenable = ~0;"] if "h$m$byteenable" in header else []
+    full = ["h_m_byteenable = ~0;"] if "h$m$byteenable" in {name for _, _, name in ports} else []
     phase = f"for (cycle = 0; cycle < {CYCLES}; cycle = cycle + 1) begin #4 clk = 0;"
     lines += ["  initial begin", "    #5 clk = 1; #1 reset = 0;"] + full + ["    h_m_write = 1;", f"    {phase}"]
     lines += ["      writes = writes + !h_m_waitrequest; #5 clk = 1; #1;", "    end", "    h_m_write = 0; h_m_read = 1;", f"    {phase}"]
