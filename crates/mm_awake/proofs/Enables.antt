@@ -15,121 +15,62 @@ use Rattle.mm_runs.specs.Plan.{FitsPorts}
 use Rattle.mm_machines.specs.Link.{Port, takes, is_nonempty}
 use Rattle.mm_machines.specs.Lines.{Sent, HavePlacedLanes, sent_by}
 use Rattle.mm_machines.specs.Machines.{Raw, raw_at}
-use Rattle.mm_links.specs.Bursts.{BurstState, Rest, RunsAsBurst, IsBurstPlan, after_beat, behind_first, cut_parts, head_or, is_sending, reads_from, write_beat_of}
-use Rattle.mm_links.specs.Cuts.{RunsAsCut, IsCutPlan, behind_burst, first_burst, read_burst_of, whole_read, write_of_burst}
+use Rattle.mm_links.specs.Cutters.{CutterState, Rest, RunsAsCutter, IsCutPlan, is_sending, behind_burst, first_burst, read_burst_of, whole_read, write_of_burst}
 use Rattle.mm_links.specs.Selects.{EnablesFit, takes_read}
-use Rattle.mm_awake.specs.Rows.{CutsBursts, CutsBursts.cutter, CutsBursts.shorter, CutsBursts.no_cutter}
+use Rattle.mm_awake.specs.Rows.{CutsBursts, CutsBursts.cutter, CutsBursts.no_cutter}
 use Rattle.mm_awake.proofs.Bits.{no_true, takes_shows}
 use Rattle.mm_awake.proofs.FairWaiting.{some_lanes}
 
 -- ---- below a cutter of bursts
 
 -- what it shows has the byte enables of what stands above, or of the read that it sends by itself
-record HandsEnablesOn (up down : Port) (state : BurstState) : Type 0 where
-  pub same : down.shape.word_bytes ≡ up.shape.word_bytes
-  pub shown : (c : ℕ) → shows down.commands.signals c ≡ (if is_sending state c then true else shows up.commands.signals c)
-  pub enables : (c : ℕ) → shows down.commands.signals c ≡ true → down.commands.enables c ≡ (if is_sending state c then (state.rest c).command.levels.enables else up.commands.enables c)
-  pub begins : (state.rest 0).left ≡ 0
-  pub later : ℕ → Rest
-  pub kept : (c : ℕ) → (later c).command ≡ (state.rest c).command
-  pub first : ℕ → Rest
-  pub taken : (c : ℕ) → (first c).command ≡ raw_at up c
-  pub next : (c : ℕ) → state.rest (suc c) ≡ (if is_sending state c then (if takes down c then later c else state.rest c) else if takes_read up c then first c else state.rest c)
-
-module _ (up down : Port) (state : BurstState) (end : ℕ) (hands : HandsEnablesOn up down state) (fit : EnablesFit up end) where
+module _ (longest : ℕ) (up down : Port) (state : CutterState) (end : ℕ) (plan : IsCutPlan longest up.shape down.shape) (run : RunsAsCutter longest up down state) (fit : EnablesFit up end) where
   abbrev Fits : Rest → Type 0
   Fits rest = IsTrue (nat_lt 0 rest.left) → rest.command.levels.enables < 2 ^ up.shape.word_bytes
 
+  abbrev later : Rest → Rest
+  later rest = behind_burst longest up.shape.word_bytes rest
+
   rest_fits : (c : ℕ) → c ≤ end → Fits (state.rest c)
-  rest_fits zero h = λ some. absurd (no_true (sym (ap (nat_lt 0) hands.begins) ∙ some))
-  rest_fits (suc c) h = subst Fits (sym (hands.next c)) (by_sending (rest_fits c (omega (arith, h))) (is_sending state c) refl)
+  rest_fits zero h = λ some. absurd (no_true (sym (ap (nat_lt 0) run.rest_begins) ∙ some))
+  rest_fits (suc c) h = subst Fits (sym (run.rest_next c)) (by_sending (rest_fits c (omega (arith, h))) (is_sending state c) refl)
     where
-      by_take : Fits (state.rest c) → (t : Bool) → IsTrue (is_sending state c) → Fits (if t then hands.later c else state.rest c)
-      by_take before true e some = let same = ap (λ (r : Raw). r.levels.enables) (hands.kept c) in let few = before e in omega (arith, same, few)
+      by_take : Fits (state.rest c) → (t : Bool) → IsTrue (is_sending state c) → Fits (if t then later (state.rest c) else state.rest c)
+      by_take before true e some = before e
       by_take before false e some = before e
 
-      by_read : Fits (state.rest c) → (t : Bool) → takes_read up c ≡ t → Fits (if t then hands.first c else state.rest c)
-      by_read before true e some =
-          let shown = takes_shows up c (and_parts (takes up c) (not (is_raised (up.commands.write c))) e).0 in
-          let same = ap (λ (r : Raw). r.levels.enables) (hands.taken c) in
-          let few = fit c (omega (arith, h)) shown in
-          omega (arith, same, few)
+      by_read : Fits (state.rest c) → (t : Bool) → takes_read up c ≡ t → Fits (if t then later (whole_read up.shape (raw_at up c)) else state.rest c)
+      by_read before true e some = fit c (omega (arith, h)) (takes_shows up c (and_parts (takes up c) (not (is_raised (up.commands.write c))) e).0)
       by_read before false e some = before some
 
-      by_sending : Fits (state.rest c) → (b : Bool) → is_sending state c ≡ b → Fits (if b then (if takes down c then hands.later c else state.rest c) else if takes_read up c then hands.first c else state.rest c)
+      by_sending : Fits (state.rest c) → (b : Bool) → is_sending state c ≡ b → Fits (if b then (if takes down c then later (state.rest c) else state.rest c) else if takes_read up c then later (whole_read up.shape (raw_at up c)) else state.rest c)
       by_sending before true e = by_take before (takes down c) e
       by_sending before false e = by_read before (takes_read up c) refl
 
   below_fits : EnablesFit down end
-  below_fits c h shown = subst (λ n. down.commands.enables c < 2 ^ n) (sym hands.same) (by_sending (is_sending state c) refl)
+  below_fits c h shown = subst (λ n. down.commands.enables c < 2 ^ n) (sym plan.same) (by_sending (is_sending state c) refl)
     where
-      enables_are : (b : Bool) → is_sending state c ≡ b → down.commands.enables c ≡ (if b then (state.rest c).command.levels.enables else up.commands.enables c)
-      enables_are b e = hands.enables c shown ∙ ap (λ b. if b then (state.rest c).command.levels.enables else up.commands.enables c) e
+      enables_of : Raw → ℕ
+      enables_of raw = raw.levels.enables
+
+      by_write : (w : Bool) → enables_of (if w then write_of_burst longest up.shape (state.place c) (raw_at up c) else read_burst_of longest (whole_read up.shape (raw_at up c))) ≡ up.commands.enables c
+      by_write true = refl
+      by_write false = refl
+
+      enables_are : (b : Bool) → is_sending state c ≡ b → down.commands.enables c ≡ enables_of (if b then read_burst_of longest (state.rest c) else first_burst longest up.shape (state.place c) (raw_at up c))
+      enables_are b e = ap enables_of (run.beat c shown) ∙ ap (λ b. enables_of (if b then read_burst_of longest (state.rest c) else first_burst longest up.shape (state.place c) (raw_at up c))) e
 
       by_sending : (b : Bool) → is_sending state c ≡ b → down.commands.enables c < 2 ^ up.shape.word_bytes
       by_sending true e = let same = enables_are true e in let few = rest_fits c (omega (arith, h)) e in omega (arith, same, few)
       by_sending false e =
-          let above : shows up.commands.signals c ≡ true = ap (λ b. if b then true else shows up.commands.signals c) (sym e) ∙ sym (hands.shown c) ∙ shown in
-          let same = enables_are false e in
+          let above : shows up.commands.signals c ≡ true = ap (λ b. if b then true else shows up.commands.signals c) (sym e) ∙ sym (run.shown c) ∙ shown in
+          let same = enables_are false e ∙ by_write (is_raised (up.commands.write c)) in
           let few = fit c h above in
           omega (arith, same, few)
 
-first_read : (bytes : ℕ) (first raw : Raw) (address left : ℕ) → IsTrue (nat_lt 0 left) → (head_or first (reads_from bytes raw address left)).levels.enables ≡ raw.levels.enables
-first_read bytes first raw address zero some = absurd (no_true some)
-first_read bytes first raw address (suc left) some = refl
-
-first_part : (shape : Shape) (burst : Burst) (raw : Raw) → (head_or raw (cut_parts shape burst raw)).levels.enables ≡ raw.levels.enables
-first_part shape burst raw = by_write (is_raised raw.levels.write) raw.levels.count
-  where
-    by_write : (w : Bool) (n : ℕ) → (head_or raw (if w then write_beat_of shape burst raw ∷ [] else reads_from shape.word_bytes raw (byte_address shape raw.levels.address) n)).levels.enables ≡ raw.levels.enables
-    by_write true n = refl
-    by_write false zero = refl
-    by_write false (suc n) = refl
-
-burst_hands : (up down : Port) (state : BurstState) → IsBurstPlan up.shape down.shape → RunsAsBurst up down state → HandsEnablesOn up down state
-burst_hands up down state plan run = record {
-  same = plan.same;
-  shown = run.shown;
-  enables = λ c shown. ap (λ (r : Raw). r.levels.enables) (run.beat c shown) ∙ by_sending c (is_sending state c) refl;
-  begins = run.rest_begins;
-  later = λ c. after_beat up.shape.word_bytes (state.rest c);
-  kept = λ c. refl;
-  first = λ c. behind_first up.shape (raw_at up c);
-  taken = λ c. refl;
-  next = run.rest_next;
-}
-  where
-    by_sending : (c : ℕ) (b : Bool) → is_sending state c ≡ b →
-        (if b then head_or (raw_at up c) (reads_from up.shape.word_bytes (state.rest c).command (state.rest c).address (state.rest c).left) else head_or (raw_at up c) (cut_parts up.shape (state.burst c) (raw_at up c))).levels.enables
-        ≡ (if b then (state.rest c).command.levels.enables else up.commands.enables c)
-    by_sending c true e = first_read up.shape.word_bytes (raw_at up c) (state.rest c).command (state.rest c).address (state.rest c).left e
-    by_sending c false e = first_part up.shape (state.burst c) (raw_at up c)
-
-cut_hands : (longest : ℕ) (up down : Port) (state : BurstState) → IsCutPlan longest up.shape down.shape → RunsAsCut longest up down state → HandsEnablesOn up down state
-cut_hands longest up down state plan run = record {
-  same = plan.same;
-  shown = run.shown;
-  enables = λ c shown. ap (λ (r : Raw). r.levels.enables) (run.beat c shown) ∙ by_sending c (is_sending state c);
-  begins = run.rest_begins;
-  later = λ c. behind_burst longest up.shape.word_bytes (state.rest c);
-  kept = λ c. refl;
-  first = λ c. behind_burst longest up.shape.word_bytes (whole_read up.shape (raw_at up c));
-  taken = λ c. refl;
-  next = run.rest_next;
-}
-  where
-    by_write : (c : ℕ) (w : Bool) → (if w then write_of_burst longest up.shape (state.burst c) (raw_at up c) else read_burst_of longest (whole_read up.shape (raw_at up c))).levels.enables ≡ up.commands.enables c
-    by_write c true = refl
-    by_write c false = refl
-
-    by_sending : (c : ℕ) (b : Bool) → (if b then read_burst_of longest (state.rest c) else first_burst longest up.shape (state.burst c) (raw_at up c)).levels.enables ≡ (if b then (state.rest c).command.levels.enables else up.commands.enables c)
-    by_sending c true = refl
-    by_sending c false = by_write c (is_raised (up.commands.write c))
-
 -- byte enables that fit above a cutter of bursts, or a wire, fit below it
 pub enables_below : {up down : Port} (end : ℕ) → CutsBursts up down → EnablesFit up end → EnablesFit down end
-enables_below {up} {down} end (cutter state plan run) fit = below_fits up down state end (burst_hands up down state plan run) fit
-enables_below {up} {down} end (shorter longest state plan run) fit = below_fits up down state end (cut_hands longest up down state plan run) fit
+enables_below {up} {down} end (cutter longest state plan run) fit = below_fits longest up down state end plan run fit
 enables_below {up} {down} end (no_cutter wired) fit = subst (λ p. EnablesFit p end) wired.wire.same fit
 
 -- ---- a host without byte enables

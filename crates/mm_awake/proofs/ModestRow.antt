@@ -3,13 +3,12 @@ use Rattle.std.proofs.Common.{ℕ, zero, suc, ◌<◌, ◌≤◌, List, arith, l
 use Rattle.mm_machines.specs.Link.{Target, Port, AreLegalAt, AnswersAreOwed}
 use Rattle.mm_machines.specs.Machines.{MaySplit}
 use Rattle.mm_machines.specs.PartRanks.{JoinsAlike}
-use Rattle.mm_links.specs.Bursts.{BurstState, RunsAsBurst, IsBurstPlan}
-use Rattle.mm_links.specs.Cuts.{RunsAsCut, IsCutPlan}
+use Rattle.mm_links.specs.Cutters.{CutterState, RunsAsCutter, IsCutPlan}
 use Rattle.mm_links.specs.Drops.{DropState, RunsAsDrop, IsDropPlan}
 use Rattle.mm_links.specs.Going.{KeepsGoing}
 use Rattle.mm_links.specs.Selects.{RunsAsSelect, IsSelectPlan, EnablesFit}
 use Rattle.mm_links.specs.Splits.{SplitState, RunsAsSplit}
-use Rattle.mm_awake.specs.Rows.{IsModestRow, IsWired, CutsBursts, CutsBursts.cutter, CutsBursts.shorter, CutsBursts.no_cutter, FitsWords, FitsWords.selector, FitsWords.splitter, FitsWords.no_width, DropsBeats, DropsBeats.dropper, DropsBeats.no_dropper, by_number, ports_of_three, one_beat_lowest}
+use Rattle.mm_awake.specs.Rows.{IsModestRow, IsWired, CutsBursts, CutsBursts.cutter, CutsBursts.no_cutter, FitsWords, FitsWords.selector, FitsWords.splitter, FitsWords.no_width, DropsBeats, DropsBeats.dropper, DropsBeats.no_dropper, by_number, ports_of_three, one_beat_lowest}
 use Rattle.mm_awake.specs.Slack.{PassesWhileStill}
 use Rattle.mm_awake.specs.Still.{StirsAbove, SpentStirs}
 use Rattle.mm_awake.specs.Ways.{Standing}
@@ -33,13 +32,10 @@ WhenSettled target up down end Kept = AreLegalAt up end → AnswersAreOwed down 
 pub record Laws : Type 0 where
   pub links : LinkLaws
   pub wire_goes : (target : Target) (port : Port) (end : ℕ) → AreLegalAt port end → KeepsGoing target port port (λ c. 0) 0 end
-  pub burst_goes : (target : Target) (up down : Port) (state : BurstState) (end : ℕ) → IsBurstPlan up.shape down.shape → RunsAsBurst up down state → WhenSettled target up down end ((rank : ℕ → ℕ) × KeepsGoing target up down rank 0 end)
-  pub burst_stirs : (up down : Port) (state : BurstState) → RunsAsBurst up down state → (end : ℕ) → StirsAbove up down end
-  pub burst_passes : (top up down : Port) (state : BurstState) → RunsAsBurst up down state → (end : ℕ) → PassesWhileStill (record { hold = 0; kept = 0 }) top up down end
-  pub cut_goes : (target : Target) (longest : ℕ) (up down : Port) (state : BurstState) (end : ℕ) → IsCutPlan longest up.shape down.shape → RunsAsCut longest up down state →
+  pub cut_goes : (target : Target) (longest : ℕ) (up down : Port) (state : CutterState) (end : ℕ) → IsCutPlan longest up.shape down.shape → RunsAsCutter longest up down state →
       WhenSettled target up down end ((rank : ℕ → ℕ) × KeepsGoing target up down rank 0 end)
-  pub cut_stirs : (longest : ℕ) (up down : Port) (state : BurstState) → RunsAsCut longest up down state → (end : ℕ) → StirsAbove up down end
-  pub cut_passes : (longest : ℕ) (top up down : Port) (state : BurstState) → RunsAsCut longest up down state → (end : ℕ) → PassesWhileStill (record { hold = 0; kept = 0 }) top up down end
+  pub cut_stirs : (longest : ℕ) (up down : Port) (state : CutterState) → RunsAsCutter longest up down state → (end : ℕ) → StirsAbove up down end
+  pub cut_passes : (longest : ℕ) (top up down : Port) (state : CutterState) → RunsAsCutter longest up down state → (end : ℕ) → PassesWhileStill (record { hold = 0; kept = 0 }) top up down end
   pub select_goes : (target : Target) (up down : Port) (many room : ℕ) (offsets : ℕ → List ℕ) (end : ℕ) → IsSelectPlan target up.shape down.shape many → 1 < room → RunsAsSelect room up down offsets → EnablesFit up end →
       WhenSettled target up down end ((rank : ℕ → ℕ) × KeepsGoing target up down rank 0 end)
   pub select_stirs : (room : ℕ) (up down : Port) (offsets : ℕ → List ℕ) → RunsAsSelect room up down offsets → (end : ℕ) → StirsAbove up down end
@@ -82,13 +78,7 @@ module _ (laws : Laws) (target : Target) (end : ℕ) where
     pub passes : PassesWhileStill (record { hold = 0; kept = 0 }) top top middle end
 
   high_of : (top middle : Port) → CutsBursts top middle → High top middle
-  high_of top middle (cutter state plan run) = record {
-    carries = carries_of (laws.links.burst target top middle state end plan run);
-    goes = λ legal owed alike. ranked 0 (laws.burst_goes target top middle state end plan run legal owed alike);
-    stirs_so = laws.burst_stirs top middle state run end;
-    passes = laws.burst_passes top top middle state run end;
-  }
-  high_of top middle (shorter longest state plan run) = record {
+  high_of top middle (cutter longest state plan run) = record {
     carries = carries_of (laws.links.cut target longest top middle state end plan run);
     goes = λ legal owed alike. ranked 0 (laws.cut_goes target longest top middle state end plan run legal owed alike);
     stirs_so = laws.cut_stirs longest top middle state run end;

@@ -1,5 +1,5 @@
 -- Every plan without stages has links that suit it.
-use Rattle.std.proofs.Common.{ℕ, zero, suc, ◌<◌, ◌≤◌, ◌≡◌, ◌-◌, ◌+◌, ◌*◌, ◌^◌, ◌&&◌, ◌||◌, Bool, true, false, not, nat_lt, nat_eq, arith, tests, refl, sym, ap, ◌∙◌, subst, le_refl, le-ltb, IsTrue, IsFalse}
+use Rattle.std.proofs.Common.{ℕ, zero, suc, ◌<◌, ◌≤◌, ◌≡◌, ◌-◌, ◌+◌, ◌*◌, ◌^◌, ◌&&◌, ◌||◌, Bool, true, false, not, if◌then◌else◌, nat_lt, nat_eq, arith, tests, refl, sym, ap, ◌∙◌, subst, le_refl, le-ltb, IsTrue, IsFalse}
 use Rattle.std.proofs.lemmas.Bool.{ltb-true, ltb-false, eqb-true}
 use Rattle.std.proofs.lemmas.Nat.{pow_pos, pow-add}
 use Rattle.std.proofs.Math.Pow.{pow-lt}
@@ -9,7 +9,7 @@ use Rattle.mm_runs.specs.Order.{is_joined}
 use Rattle.mm_runs.specs.Plan.{IsMemoryPlan, IsPowerOfTwo}
 use Rattle.mm_machines.specs.Link.{Target}
 use Rattle.mm_machines.specs.Lines.{target_of}
-use Rattle.mm_awake.specs.RowRun.{Cutter, Fitter, Cutter.Uncut, Cutter.ByBeats, Fitter.Unfitted, Fitter.Selects, Fitter.Splits, RowPlan, SuitsRow, SuitsDropper, SuitsFitter, by_cutter, by_fitter}
+use Rattle.mm_awake.specs.RowRun.{Cutter, Fitter, Cutter.Uncut, Cutter.Cuts, Fitter.Unfitted, Fitter.Selects, Fitter.Splits, RowPlan, SuitsRow, SuitsDropper, SuitsFitter, by_cutter, by_fitter}
 use Rattle.mm_awake.specs.LinkSystem.{LinkPlan, SuitsLinks, IsWireRow, links_for, fitter_for, row_of, inner_shape}
 
 bits_below : (small large : ℕ) → 2 ^ small ≤ 2 ^ large → small ≤ large
@@ -87,8 +87,8 @@ row_by host agent cutter fitter drops = record {
   fitter = fitter;
   drops = drops;
   top = inner_shape host.word_bytes host.burst_bits;
-  middle = inner_shape host.word_bytes (by_cutter cutter host.burst_bits 1 (λ longest. agent.burst_bits));
-  low = inner_shape agent.word_bytes (by_fitter fitter (by_cutter cutter host.burst_bits 1 (λ longest. agent.burst_bits)) 1 1);
+  middle = inner_shape host.word_bytes (by_cutter cutter host.burst_bits (λ longest. if nat_eq longest 1 then 1 else agent.burst_bits));
+  low = inner_shape agent.word_bytes (by_fitter fitter (by_cutter cutter host.burst_bits (λ longest. if nat_eq longest 1 then 1 else agent.burst_bits)) 1 1);
   bottom = inner_shape agent.word_bytes agent.burst_bits;
   room = 2;
 }
@@ -133,7 +133,7 @@ module _ (system : System) (is_plan : IsMemoryPlan system) where
     cut_alike : IsTrue (is_alike host agent) → links.cutter h a ≡ Uncut
     cut_alike alike = rw (joined, alike) refl
 
-    cut_other : IsFalse (is_alike host agent) → links.cutter h a ≡ ByBeats
+    cut_other : IsFalse (is_alike host agent) → links.cutter h a ≡ Cuts 1
     cut_other other = rw (joined, other) refl
 
     dropper : (drops : Bool) → (host.has_enables && not agent.has_enables) ≡ drops → SuitsDropper drops target (inner_shape agent.word_bytes 1) (inner_shape agent.word_bytes agent.burst_bits)
@@ -142,9 +142,9 @@ module _ (system : System) (is_plan : IsMemoryPlan system) where
 
     -- a row of which single beats go down
     cut_row : (fitter : Fitter) → fitter_for host.word_bytes agent.word_bytes ≡ fitter → SuitsFitter fitter target (inner_shape host.word_bytes 1) (inner_shape agent.word_bytes (single_bits fitter)) → single_bits fitter ≡ 1 →
-        SuitsRow target (row_by host agent ByBeats fitter (host.has_enables && not agent.has_enables))
+        SuitsRow target (row_by host agent (Cuts 1) fitter (host.has_enables && not agent.has_enables))
     cut_row fitter is fits one = record {
-      cutter = record { some = some_host; same = refl; bytes = refl; one_beat = refl };
+      cutter = record { some = some_host; same = refl; bytes = refl; least = omega arith; most = omega arith };
       fitter = fits;
       dropper = subst (λ n. SuitsDropper (host.has_enables && not agent.has_enables) target (inner_shape agent.word_bytes n) (inner_shape agent.word_bytes agent.burst_bits)) (sym one) (dropper _ refl);
       room = omega arith;
@@ -191,7 +191,7 @@ module _ (system : System) (is_plan : IsMemoryPlan system) where
             place_in Uncut Unfitted false (cut_alike e) (fitter_is ∙ unfitted_at parts.words) (drops_are ∙ none_dropped host.has_enables agent.has_enables parts.enables) (wire_row parts)
         by_alike false e =
             let found = by_words (nat_lt agent.word_bytes host.word_bytes) (nat_lt host.word_bytes agent.word_bytes) refl refl in
-            place_in ByBeats found.0 (host.has_enables && not agent.has_enables) (cut_other e) (fitter_is ∙ found.1) drops_are (cut_row found.0 found.1 found.2 found.3)
+            place_in (Cuts 1) found.0 (host.has_enables && not agent.has_enables) (cut_other e) (fitter_is ∙ found.1) drops_are (cut_row found.0 found.1 found.2 found.3)
 
   idle_row : (h a : ℕ) → IsFalse (is_joined system a h) → IsWireRow (row_of links h a)
   idle_row h a none = record { uncut = rw none refl; unfitted = rw none refl; undropped = rw none refl }

@@ -7,14 +7,13 @@ use Rattle.mm_machines.specs.Machines.{MaySplit}
 use Rattle.mm_machines.specs.PartRanks.{JoinsAlike}
 use Rattle.mm_machines.specs.Straight.{GoesStraightThrough, IsShownPromptly, shows_plain, may_be_prompt}
 use Rattle.mm_links.specs.Begins.{BeginsBelow}
-use Rattle.mm_links.specs.Bursts.{BurstState, RunsAsBurst, IsBurstPlan, burst_form}
-use Rattle.mm_links.specs.Cuts.{RunsAsCut, IsCutPlan}
+use Rattle.mm_links.specs.Cutters.{CutterState, RunsAsCutter, IsCutPlan, cut_form}
 use Rattle.mm_links.specs.Drops.{DropState, RunsAsDrop, IsDropPlan, drop_form}
 use Rattle.mm_links.specs.InStep.{GoesInStep, AreInStep}
 use Rattle.mm_links.specs.Links.{LinkForm, IsLink, IsStraightLink, chain_form, pass_form}
 use Rattle.mm_links.specs.Selects.{RunsAsSelect, IsSelectPlan, EnablesFit}
 use Rattle.mm_links.specs.Splits.{SplitState, RunsAsSplit, split_form}
-use Rattle.mm_awake.specs.Rows.{IsWired, CutsBursts, CutsBursts.cutter, CutsBursts.shorter, CutsBursts.no_cutter, FitsWords, FitsWords.selector, FitsWords.splitter, FitsWords.no_width, DropsBeats, DropsBeats.dropper, DropsBeats.no_dropper}
+use Rattle.mm_awake.specs.Rows.{IsWired, CutsBursts, CutsBursts.cutter, CutsBursts.no_cutter, FitsWords, FitsWords.selector, FitsWords.splitter, FitsWords.no_width, DropsBeats, DropsBeats.dropper, DropsBeats.no_dropper}
 use Rattle.mm_awake.proofs.Enables.{enables_below}
 use Rattle.mm_awake.proofs.RowOfThree.{Carries, IsSettled, settled}
 use Rattle.mm_awake.proofs.RowLine.{RowLaws, cut_linked, fit_linked, drop_linked, linked_carries, cut_words, drop_words, same_below}
@@ -26,10 +25,8 @@ pub record LeadLaws : Type 0 where
   -- straight and in step
   pub wire : (target : Target) (port : Port) (end : ℕ) → IsStraightLink 0 false false target port port end
   pub wire_steps : (ahead : Bool) (target : Target) (port : Port) (end : ℕ) → GoesInStep ahead target port port end
-  pub burst : (target : Target) (up down : Port) (state : BurstState) (end : ℕ) → IsBurstPlan up.shape down.shape → RunsAsBurst up down state → (few : ℕ) (may_burst : Bool) → IsStraightLink few false may_burst target up down end
-  pub burst_steps : (target : Target) (up down : Port) (state : BurstState) (end : ℕ) → IsBurstPlan up.shape down.shape → RunsAsBurst up down state → AreLegalAt up end → AnswersAreOwed down end → GoesInStep false target up down end
-  pub cut : (target : Target) (longest : ℕ) (up down : Port) (state : BurstState) (end : ℕ) → IsCutPlan longest up.shape down.shape → RunsAsCut longest up down state → (few : ℕ) (may_burst : Bool) → IsStraightLink few false may_burst target up down end
-  pub cut_steps : (target : Target) (longest : ℕ) (up down : Port) (state : BurstState) (end : ℕ) → IsCutPlan longest up.shape down.shape → RunsAsCut longest up down state → AreLegalAt up end → AnswersAreOwed down end → GoesInStep false target up down end
+  pub cut : (target : Target) (longest : ℕ) (up down : Port) (state : CutterState) (end : ℕ) → IsCutPlan longest up.shape down.shape → RunsAsCutter longest up down state → (few : ℕ) (may_burst : Bool) → IsStraightLink few false may_burst target up down end
+  pub cut_steps : (target : Target) (longest : ℕ) (up down : Port) (state : CutterState) (end : ℕ) → IsCutPlan longest up.shape down.shape → RunsAsCutter longest up down state → AreLegalAt up end → AnswersAreOwed down end → GoesInStep false target up down end
   pub drop : (target : Target) (room : ℕ) (up down : Port) (state : DropState) (end : ℕ) → IsDropPlan target up.shape down.shape → 0 < room → RunsAsDrop room up down state → JoinsAlike target up end → (few : ℕ) → IsStraightLink few false false target up down end
   pub drop_steps : (target : Target) (room : ℕ) (up down : Port) (state : DropState) (end : ℕ) → IsDropPlan target up.shape down.shape → 0 < room → RunsAsDrop room up down state → JoinsAlike target up end → AreLegalAt up end → AnswersAreOwed down end → GoesInStep false target up down end
   pub split : (target : Target) (room : ℕ) (up down : Port) (state : SplitState) (end : ℕ) → MaySplit target up.shape down.shape 1 → 0 < room → RunsAsSplit room up down state → AreLegalAt up end → AnswersAreOwed down end → GoesStraightThrough (λ c. false) target up down end
@@ -50,9 +47,7 @@ pub record LeadLaws : Type 0 where
   pub drop_begins : (target : Target) (room : ℕ) (up down : Port) (state : DropState) (end : ℕ) → IsDropPlan target up.shape down.shape → 0 < room → RunsAsDrop room up down state → JoinsAlike target up end → AreLegalAt up end → AnswersAreOwed down end → (few : ℕ) → BeginsBelow few false target up down end
   pub split_over_drop : (target : Target) (deep room count : ℕ) (up middle down : Port) (splits : SplitState) (drops : DropState) (end : ℕ) → MaySplit target up.shape middle.shape count → 0 < deep → RunsAsSplit deep up middle splits → IsDropPlan target middle.shape down.shape → 0 < room →
       RunsAsDrop room middle down drops → JoinsAlike target up end → AreLegalAt up end → AnswersAreOwed down end → (few : ℕ) → 0 < few → BeginsBelow few false target up down end
-  pub burst_over : (target : Target) (up middle down : Port) (state : BurstState) (end few : ℕ) (may_burst : Bool) → IsBurstPlan up.shape middle.shape → RunsAsBurst up middle state → AreLegalAt up end → AnswersAreOwed middle end →
-      BeginsBelow few may_burst target middle down end → BeginsBelow few may_burst target up down end
-  pub cut_over : (target : Target) (longest : ℕ) (up middle down : Port) (state : BurstState) (end few : ℕ) (may_burst : Bool) → IsCutPlan longest up.shape middle.shape → RunsAsCut longest up middle state → AreLegalAt up end → AnswersAreOwed middle end →
+  pub cut_over : (target : Target) (longest : ℕ) (up middle down : Port) (state : CutterState) (end few : ℕ) (may_burst : Bool) → IsCutPlan longest up.shape middle.shape → RunsAsCutter longest up middle state → AreLegalAt up end → AnswersAreOwed middle end →
       BeginsBelow few may_burst target middle down end → BeginsBelow few may_burst target up down end
 
 -- an agent before which beats are dropped has no byte enables, so where write bursts to it are counted the host has none either
@@ -145,15 +140,8 @@ module _ (laws : LeadLaws) (target : Target) (end : ℕ) where
   }
 
   cut_led : (top middle : Port) → CutsBursts top middle → Led top middle
-  cut_led top middle (cutter state plan run) = record {
-    form = burst_form target;
-    link = laws.rows.links.burst target top middle state end plan run;
-    some = plan.some;
-    same = plan.same;
-    leads = λ legal owed. record { straight = (laws.burst target top middle state end plan run 0 false).straight legal owed; step = laws.burst_steps target top middle state end plan run legal owed };
-  }
-  cut_led top middle (shorter longest state plan run) = record {
-    form = burst_form target;
+  cut_led top middle (cutter longest state plan run) = record {
+    form = cut_form target;
     link = laws.rows.links.cut target longest top middle state end plan run;
     some = plan.some;
     same = plan.same;
@@ -266,8 +254,7 @@ module _ (laws : LeadLaws) (target : Target) (end : ℕ) where
           by_burst false e (dropper room state plan some run) = subst (λ b. BeginsBelow few b target middle down end) (sym e) (single_begins fits room state plan some run)
 
       upper_begins : CutsBursts top middle → BeginsBelow few may_burst target middle down end → BeginsBelow few may_burst target top down end
-      upper_begins (cutter state plan run) below = laws.burst_over target top middle down state end few may_burst plan run legal between.owed_middle below
-      upper_begins (shorter longest state plan run) below = laws.cut_over target longest top middle down state end few may_burst plan run legal between.owed_middle below
+      upper_begins (cutter longest state plan run) below = laws.cut_over target longest top middle down state end few may_burst plan run legal between.owed_middle below
       upper_begins (no_cutter wired) below = begins_before_wire top middle wired.wire target end down few may_burst below
 
       legal_below : AreLegalAt down end

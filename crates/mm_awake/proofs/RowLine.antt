@@ -10,13 +10,12 @@ use Rattle.mm_machines.specs.Link.{Target, Port, AreLegalAt, AnswersAreOwed}
 use Rattle.mm_machines.specs.Lines.{KeepsRow, BringsLanes, BringsLanes.made, BringsLanes.kept, HavePlacedLanes, sent_by, target_of}
 use Rattle.mm_machines.specs.Machines.{MaySplit}
 use Rattle.mm_machines.specs.PartRanks.{JoinsAlike}
-use Rattle.mm_links.specs.Bursts.{BurstState, RunsAsBurst, IsBurstPlan, burst_form}
-use Rattle.mm_links.specs.Cuts.{RunsAsCut, IsCutPlan}
+use Rattle.mm_links.specs.Cutters.{CutterState, RunsAsCutter, IsCutPlan, cut_form}
 use Rattle.mm_links.specs.Drops.{DropState, RunsAsDrop, IsDropPlan, drop_form}
 use Rattle.mm_links.specs.Links.{LinkForm, IsLink, FormsFit, BringsLanesDown, chain_form, pass_form}
 use Rattle.mm_links.specs.Selects.{RunsAsSelect, IsSelectPlan, EnablesFit, select_form}
 use Rattle.mm_links.specs.Splits.{SplitState, RunsAsSplit, split_form}
-use Rattle.mm_awake.specs.Rows.{IsWired, CutsBursts, CutsBursts.cutter, CutsBursts.shorter, CutsBursts.no_cutter, FitsWords, FitsWords.selector, FitsWords.splitter, FitsWords.no_width, DropsBeats, DropsBeats.dropper, DropsBeats.no_dropper, drops_some}
+use Rattle.mm_awake.specs.Rows.{IsWired, CutsBursts, CutsBursts.cutter, CutsBursts.no_cutter, FitsWords, FitsWords.selector, FitsWords.splitter, FitsWords.no_width, DropsBeats, DropsBeats.dropper, DropsBeats.no_dropper, drops_some}
 use Rattle.mm_awake.proofs.Enables.{enables_below}
 use Rattle.mm_awake.proofs.RowOfThree.{Carries, settled}
 use Rattle.mm_awake.proofs.Widened.{wire_link}
@@ -24,8 +23,7 @@ use Rattle.mm_awake.proofs.Widened.{wire_link}
 -- each machine is a link
 pub record LinkLaws : Type 0 where
   pub wire : (target : Target) (port : Port) (end : ℕ) → 0 < port.shape.word_bytes → IsLink (pass_form target) port port end
-  pub burst : (target : Target) (up down : Port) (state : BurstState) (end : ℕ) → IsBurstPlan up.shape down.shape → RunsAsBurst up down state → IsLink (burst_form target) up down end
-  pub cut : (target : Target) (longest : ℕ) (up down : Port) (state : BurstState) (end : ℕ) → IsCutPlan longest up.shape down.shape → RunsAsCut longest up down state → IsLink (burst_form target) up down end
+  pub cut : (target : Target) (longest : ℕ) (up down : Port) (state : CutterState) (end : ℕ) → IsCutPlan longest up.shape down.shape → RunsAsCutter longest up down state → IsLink (cut_form target) up down end
   pub select : (target : Target) (up down : Port) (many room : ℕ) (offsets : ℕ → List ℕ) (end : ℕ) → IsSelectPlan target up.shape down.shape many → 1 < room → RunsAsSelect room up down offsets → EnablesFit up end → IsLink (select_form target) up down end
   pub split : (target : Target) (room count : ℕ) (up down : Port) (state : SplitState) (end : ℕ) → MaySplit target up.shape down.shape count → 0 < room → RunsAsSplit room up down state → IsLink (split_form target) up down end
   pub drop : (target : Target) (room : ℕ) (up down : Port) (state : DropState) (end : ℕ) → IsDropPlan target up.shape down.shape → 0 < room → RunsAsDrop room up down state → JoinsAlike target up end → IsLink (drop_form target) up down end
@@ -67,8 +65,7 @@ wired_words : {up down : Port} → IsWired up down → HasSameWords up down
 wired_words {up} {down} wired = record { some = wired.some; same = sym (ap (λ p. p.shape.word_bytes) wired.wire.same) }
 
 pub cut_words : {up down : Port} → CutsBursts up down → HasSameWords up down
-cut_words (cutter state plan run) = record { some = plan.some; same = plan.same }
-cut_words (shorter longest state plan run) = record { some = plan.some; same = plan.same }
+cut_words (cutter longest state plan run) = record { some = plan.some; same = plan.same }
 cut_words (no_cutter wired) = wired_words wired
 
 pub drop_words : {target : Target} {up down : Port} → DropsBeats target up down → HasSameWords up down
@@ -86,8 +83,7 @@ module _ (laws : RowLaws) (target : Target) where
       record { form = pass_form target; for_target = refl; few = omega arith; lanes = refl; words = or_right gathers true refl; link = wire_link target up down end wired.wire (laws.links.wire target up end wired.some) }
 
   pub cut_linked : (up down : Port) → CutsBursts up down → (end : ℕ) → Linked target 1 false false up down end
-  cut_linked up down (cutter state plan run) end = record { form = burst_form target; for_target = refl; few = omega arith; lanes = refl; words = refl; link = laws.links.burst target up down state end plan run }
-  cut_linked up down (shorter longest state plan run) end = record { form = burst_form target; for_target = refl; few = omega arith; lanes = refl; words = refl; link = laws.links.cut target longest up down state end plan run }
+  cut_linked up down (cutter longest state plan run) end = record { form = cut_form target; for_target = refl; few = omega arith; lanes = refl; words = refl; link = laws.links.cut target longest up down state end plan run }
   cut_linked up down (no_cutter wired) end = wired_linked 1 false up down wired end
 
   pub fit_linked : (up down : Port) → FitsWords target up down → (end : ℕ) → EnablesFit up end → Linked target 0 false true up down end

@@ -3,22 +3,20 @@ use Rattle.std.proofs.Common.{◌≡◌, ℕ, zero, suc, ◌<◌, Bool, true, fa
 use Rattle.std.proofs.Math.Path.{fun_ext}
 use Rattle.mm_runs.specs.Views.{Shape}
 use Rattle.mm_machines.specs.Link.{Target, Port}
-use Rattle.mm_links.specs.Bursts.{RunsAsBurst}
-use Rattle.mm_links.specs.Cuts.{RunsAsCut}
+use Rattle.mm_links.specs.Cutters.{RunsAsCutter}
 use Rattle.mm_links.specs.Drops.{RunsAsDrop}
 use Rattle.mm_links.specs.Selects.{RunsAsSelect}
 use Rattle.mm_links.specs.Splits.{RunsAsSplit}
-use Rattle.mm_links.specs.Driven.{Inputs, SelectInputs, SplitInputs, BurstInputs, CutInputs, DropInputs, SplitRegisters, BurstRegisters, DropRegisters}
+use Rattle.mm_links.specs.Driven.{Inputs, SelectInputs, SplitInputs, CutInputs, DropInputs, SplitRegisters, CutRegisters, DropRegisters}
 use Rattle.mm_links.specs.Driven.{select_step, select_queue, select_above, select_below, select_above_with, select_below_with, split_step, split_registers, split_above, split_below, split_state, split_above_with, split_below_with, split_state_with}
-use Rattle.mm_links.specs.Driven.{burst_step, burst_registers, burst_above, burst_below, burst_state, burst_above_with, burst_below_with, burst_state_with, cut_step, cut_registers, cut_above, cut_below, cut_state, cut_above_with, cut_below_with, cut_state_with}
+use Rattle.mm_links.specs.Driven.{cut_step, cut_registers, cut_above, cut_below, cut_state, cut_above_with, cut_below_with, cut_state_with}
 use Rattle.mm_links.specs.Driven.{drop_step, drop_registers, drop_above, drop_below, drop_state, drop_above_with, drop_below_with, drop_state_with}
-use Rattle.mm_awake.specs.Rows.{IsWired, CutsBursts, FitsWords, DropsBeats, CutsBursts.cutter, CutsBursts.shorter, CutsBursts.no_cutter, FitsWords.selector, FitsWords.splitter, FitsWords.no_width, DropsBeats.dropper, DropsBeats.no_dropper, drops_some}
-use Rattle.mm_awake.specs.RowRun.{Cutter, Fitter, RowPlan, SuitsWire, SuitsCutter, SuitsFitter, SuitsDropper, Cutter.Uncut, Cutter.ByBeats, Cutter.ByBursts, Fitter.Unfitted, Fitter.Selects, Fitter.Splits}
-use Rattle.mm_awake.specs.RowRun.{row_registers, row_top, row_middle, row_low, row_bottom, cut_shown, fit_shown, drop_shown, beats_given, bursts_given, selects_given, splits_given, drops_given}
+use Rattle.mm_awake.specs.Rows.{IsWired, CutsBursts, FitsWords, DropsBeats, CutsBursts.cutter, CutsBursts.no_cutter, FitsWords.selector, FitsWords.splitter, FitsWords.no_width, DropsBeats.dropper, DropsBeats.no_dropper, drops_some}
+use Rattle.mm_awake.specs.RowRun.{Cutter, Fitter, RowPlan, SuitsWire, SuitsCutter, SuitsFitter, SuitsDropper, Cutter.Uncut, Cutter.Cuts, Fitter.Unfitted, Fitter.Selects, Fitter.Splits}
+use Rattle.mm_awake.specs.RowRun.{row_registers, row_top, row_middle, row_low, row_bottom, cut_shown, fit_shown, drop_shown, cuts_given, selects_given, splits_given, drops_given}
 
 pub record Links : Type 0 where
-  pub burst : (given : BurstInputs) → RunsAsBurst (burst_above given) (burst_below given) (burst_state given)
-  pub cut : (given : CutInputs) → RunsAsCut given.longest (cut_above given) (cut_below given) (cut_state given)
+  pub cut : (given : CutInputs) → RunsAsCutter given.longest (cut_above given) (cut_below given) (cut_state given)
   pub select : (given : SelectInputs) → RunsAsSelect given.room (select_above given) (select_below given) (select_queue given)
   pub split : (given : SplitInputs) → RunsAsSplit given.room (split_above given) (split_below given) (split_state given)
   pub drop : (given : DropInputs) → RunsAsDrop given.room (drop_above given) (drop_below given) (drop_state given)
@@ -39,27 +37,18 @@ module _ (links : Links) (inputs : Inputs) where
   abbrev cut_inputs : RowPlan → Inputs
   cut_inputs plan = cut_shown plan inputs (row_registers plan inputs)
 
-  same_beats : (rest : RowPlan) (c : ℕ) → let plan = cut_plan ByBeats rest in burst_registers (beats_given plan (cut_inputs plan)) c ≡ (row_registers plan inputs c).burst
-  same_beats rest zero = refl
-  same_beats rest (suc c) = let plan = cut_plan ByBeats rest in ap (λ (now : BurstRegisters). burst_step (beats_given plan (cut_inputs plan)) now c) (same_beats rest c)
-
-  same_bursts : (longest : ℕ) (rest : RowPlan) (c : ℕ) → let plan = cut_plan (ByBursts longest) rest in cut_registers (bursts_given plan longest (cut_inputs plan)) c ≡ (row_registers plan inputs c).burst
-  same_bursts longest rest zero = refl
-  same_bursts longest rest (suc c) = let plan = cut_plan (ByBursts longest) rest in ap (λ (now : BurstRegisters). cut_step (bursts_given plan longest (cut_inputs plan)) now c) (same_bursts longest rest c)
+  same_cuts : (longest : ℕ) (rest : RowPlan) (c : ℕ) → let plan = cut_plan (Cuts longest) rest in cut_registers (cuts_given plan longest (cut_inputs plan)) c ≡ (row_registers plan inputs c).cut
+  same_cuts longest rest zero = refl
+  same_cuts longest rest (suc c) = let plan = cut_plan (Cuts longest) rest in ap (λ (now : CutRegisters). cut_step (cuts_given plan longest (cut_inputs plan)) now c) (same_cuts longest rest c)
 
   pub cuts_run : (kind : Cutter) (rest : RowPlan) → SuitsCutter kind rest.top rest.middle →
       let plan = cut_plan kind rest in CutsBursts (row_top plan inputs (row_registers plan inputs)) (row_middle plan inputs (row_registers plan inputs))
   cuts_run Uncut rest suits = let plan = cut_plan Uncut rest in no_cutter (wire (row_middle plan inputs (row_registers plan inputs)) rest.top rest.middle suits)
-  cuts_run ByBeats rest suits =
-      let plan = cut_plan ByBeats rest in
-      let given = beats_given plan (cut_inputs plan) in
-      cutter (burst_state_with (λ c. (row_registers plan inputs c).burst)) suits
-      (subst (λ (r : ℕ → BurstRegisters). RunsAsBurst (burst_above_with given r) (burst_below_with given r) (burst_state_with r)) (fun_ext (same_beats rest)) (links.burst given))
-  cuts_run (ByBursts longest) rest suits =
-      let plan = cut_plan (ByBursts longest) rest in
-      let given = bursts_given plan longest (cut_inputs plan) in
-      shorter longest (cut_state_with (λ c. (row_registers plan inputs c).burst)) suits
-      (subst (λ (r : ℕ → BurstRegisters). RunsAsCut longest (cut_above_with given r) (cut_below_with given r) (cut_state_with r)) (fun_ext (same_bursts longest rest)) (links.cut given))
+  cuts_run (Cuts longest) rest suits =
+      let plan = cut_plan (Cuts longest) rest in
+      let given = cuts_given plan longest (cut_inputs plan) in
+      cutter longest (cut_state_with given (λ c. (row_registers plan inputs c).cut)) suits
+      (subst (λ (r : ℕ → CutRegisters). RunsAsCutter longest (cut_above_with given r) (cut_below_with given r) (cut_state_with given r)) (fun_ext (same_cuts longest rest)) (links.cut given))
 
   -- ---- what fits words
 

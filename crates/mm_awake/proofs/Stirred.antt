@@ -1,14 +1,13 @@
 -- What stirs the port below a lane selector or a cutter of bursts stirs the one above it.
-use Rattle.std.proofs.Common.{ℕ, zero, suc, ◌≡◌, inl, inr, Bool, true, false, not, ◌&&◌, ◌||◌, List, [], ◌∷◌, if◌then◌else◌, refl, sym, ap, ap₂, ◌∙◌, length, nat_lt, IsTrue, IsFalse}
+use Rattle.std.proofs.Common.{ℕ, suc, ◌≡◌, inl, inr, Bool, true, false, not, ◌&&◌, ◌||◌, List, if◌then◌else◌, refl, sym, ap, ap₂, ◌∙◌, length, nat_lt, IsTrue}
 use Rattle.std.proofs.lemmas.Bool.{and_parts, or_left, or_right}
 use Rattle.histories.specs.History.{is_raised}
 use Rattle.mm_runs.specs.Views.{Levels}
-use Rattle.mm_runs.specs.Commands.{shows, byte_address}
+use Rattle.mm_runs.specs.Commands.{shows}
 use Rattle.mm_machines.specs.Link.{Port, takes}
 use Rattle.mm_machines.specs.Machines.{Raw, raw_at}
-use Rattle.mm_links.specs.Bursts.{BurstState, RunsAsBurst, is_sending, head_or, reads_from, cut_parts, write_beat_of}
+use Rattle.mm_links.specs.Cutters.{CutterState, RunsAsCutter, is_sending, read_burst_of, first_burst, write_of_burst, whole_read}
 use Rattle.mm_links.specs.Drops.{any_lane}
-use Rattle.mm_links.specs.Cuts.{RunsAsCut, read_burst_of, first_burst, write_of_burst, whole_read}
 use Rattle.mm_links.specs.Selects.{RunsAsSelect, is_shut}
 use Rattle.mm_awake.specs.Slack.{stirs, brings_next}
 use Rattle.mm_awake.specs.Still.{StirsAbove, SpentStirs}
@@ -42,50 +41,22 @@ select_stirs room up down offsets run = stirs_above up down written (λ c. ap is
         let ready = (and_parts (shows down.commands.signals c) (not (is_raised (down.commands.waitrequest c))) taken).1 in
         (ap₂ (λ x y. x && y) (or_right (is_raised (up.commands.read c)) (is_raised (up.commands.write c)) above) (ap not (run.waitrequest c ∙ ap (λ b. b || is_raised (down.commands.waitrequest c)) open_now) ∙ ready), above)
 
--- the first of the reads of a burst is a read
-reads_first : (bytes : ℕ) (first raw : Raw) (address left : ℕ) → IsTrue (nat_lt 0 left) → IsFalse (is_raised (head_or first (reads_from bytes raw address left)).levels.write)
-reads_first bytes first raw address zero some = absurd (no_true some)
-reads_first bytes first raw address (suc left) some = refl
-
-reads_stay : (bytes : ℕ) (raw : Raw) (address left : ℕ) → IsFalse (is_raised raw.levels.write) → IsFalse (is_raised (head_or raw (reads_from bytes raw address left)).levels.write)
-reads_stay bytes raw address zero is = is
-reads_stay bytes raw address (suc left) is = refl
-
-pub burst_stirs : (up down : Port) (state : BurstState) → RunsAsBurst up down state → (end : ℕ) → StirsAbove up down end
-burst_stirs up down state run = stirs_above up down written (λ c. ap is_raised (run.valid c))
-  where
-    written : (c : ℕ) → IsTrue (takes down c) → IsTrue (is_raised (down.commands.write c)) → IsTrue (takes up c) × IsTrue (is_raised (up.commands.write c))
-    written c taken write = by_sending (is_sending state c) refl (is_raised (up.commands.write c)) refl
-      where
-        beat : (b : Bool) → is_sending state c ≡ b → IsTrue (is_raised (if b then head_or (raw_at up c) (reads_from up.shape.word_bytes (state.rest c).command (state.rest c).address (state.rest c).left) else head_or (raw_at up c) (cut_parts up.shape (state.burst c) (raw_at up c))).levels.write)
-        beat b e =
-            ap (λ b. is_raised (if b then head_or (raw_at up c) (reads_from up.shape.word_bytes (state.rest c).command (state.rest c).address (state.rest c).left) else head_or (raw_at up c) (cut_parts up.shape (state.burst c) (raw_at up c))).levels.write) (sym e)
-            ∙ sym (ap (λ (r : Raw). is_raised r.levels.write) (run.beat c (takes_shows down c taken))) ∙ write
-
-        by_sending : (b : Bool) → is_sending state c ≡ b → (w : Bool) → is_raised (up.commands.write c) ≡ w → IsTrue (takes up c) × IsTrue (is_raised (up.commands.write c))
-        by_sending true e w f = absurd (no_true (sym (reads_first up.shape.word_bytes (raw_at up c) (state.rest c).command (state.rest c).address (state.rest c).left e) ∙ beat true e))
-        by_sending false e true f = (run.accepts c ∙ ap₂ (λ x y. not x && y) e taken, f)
-        by_sending false e false f =
-            absurd (no_true
-            (sym (ap (λ b. is_raised (head_or (raw_at up c) (if b then write_beat_of up.shape (state.burst c) (raw_at up c) ∷ [] else reads_from up.shape.word_bytes (raw_at up c) (byte_address up.shape (up.commands.address c)) (up.commands.count c))).levels.write) f
-            ∙ reads_stay up.shape.word_bytes (raw_at up c) (byte_address up.shape (up.commands.address c)) (up.commands.count c) f) ∙ beat false e))
-
-pub cut_stirs : (longest : ℕ) (up down : Port) (state : BurstState) → RunsAsCut longest up down state → (end : ℕ) → StirsAbove up down end
+pub cut_stirs : (longest : ℕ) (up down : Port) (state : CutterState) → RunsAsCutter longest up down state → (end : ℕ) → StirsAbove up down end
 cut_stirs longest up down state run = stirs_above up down written (λ c. ap is_raised (run.valid c))
   where
     written : (c : ℕ) → IsTrue (takes down c) → IsTrue (is_raised (down.commands.write c)) → IsTrue (takes up c) × IsTrue (is_raised (up.commands.write c))
     written c taken write = by_sending (is_sending state c) refl (is_raised (up.commands.write c)) refl
       where
-        beat : (b : Bool) → is_sending state c ≡ b → IsTrue (is_raised (if b then read_burst_of longest (state.rest c) else first_burst longest up.shape (state.burst c) (raw_at up c)).levels.write)
+        beat : (b : Bool) → is_sending state c ≡ b → IsTrue (is_raised (if b then read_burst_of longest (state.rest c) else first_burst longest up.shape (state.place c) (raw_at up c)).levels.write)
         beat b e =
-            ap (λ b. is_raised (if b then read_burst_of longest (state.rest c) else first_burst longest up.shape (state.burst c) (raw_at up c)).levels.write) (sym e)
+            ap (λ b. is_raised (if b then read_burst_of longest (state.rest c) else first_burst longest up.shape (state.place c) (raw_at up c)).levels.write) (sym e)
             ∙ sym (ap (λ (r : Raw). is_raised r.levels.write) (run.beat c (takes_shows down c taken))) ∙ write
 
         by_sending : (b : Bool) → is_sending state c ≡ b → (w : Bool) → is_raised (up.commands.write c) ≡ w → IsTrue (takes up c) × IsTrue (is_raised (up.commands.write c))
         by_sending true e w f = absurd (no_true (beat true e))
         by_sending false e true f = (run.accepts c ∙ ap₂ (λ x y. not x && y) e taken, f)
         by_sending false e false f =
-            absurd (no_true (ap (λ b. is_raised (if b then write_of_burst longest up.shape (state.burst c) (raw_at up c) else read_burst_of longest (whole_read up.shape (raw_at up c))).levels.write) (sym f) ∙ beat false e))
+            absurd (no_true (ap (λ b. is_raised (if b then write_of_burst longest up.shape (state.place c) (raw_at up c) else read_burst_of longest (whole_read up.shape (raw_at up c))).levels.write) (sym f) ∙ beat false e))
 
 pub spent_above : (up down : Port) (end : ℕ) → StirsAbove up down end → SpentStirs up down end
 spent_above up down end above c h spent = above c h (and_parts (takes down c && not (any_lane down.shape (down.commands.enables c))) (stirs down c) spent).1

@@ -5,31 +5,28 @@ use Rattle.histories.specs.History.{is_raised, one_if}
 use Rattle.mm_runs.specs.Views.{Shape, levels_at}
 use Rattle.mm_machines.specs.Paths.{AnswerView}
 use Rattle.mm_machines.specs.Link.{Target, Port}
-use Rattle.mm_machines.specs.Machines.{Raw, MaySplit, idle}
+use Rattle.mm_machines.specs.Machines.{Raw, MaySplit}
 use Rattle.mm_parts.specs.Inputs.{Commands, with_wait}
-use Rattle.mm_links.specs.Bursts.{IsBurstPlan}
-use Rattle.mm_links.specs.Cuts.{IsCutPlan}
+use Rattle.mm_links.specs.Cutters.{IsCutPlan}
 use Rattle.mm_links.specs.Drops.{IsDropPlan}
 use Rattle.mm_links.specs.Selects.{IsSelectPlan, selected, silenced, first_of}
 use Rattle.mm_links.specs.Splits.{nothing}
-use Rattle.mm_links.specs.Driven.{Inputs, SelectInputs, SplitInputs, BurstInputs, CutInputs, DropInputs, SplitRegisters, BurstRegisters, DropRegisters}
-use Rattle.mm_links.specs.Driven.{signals_of, silent_raw, shuts, select_waits, select_step, split_part, split_waits, split_valid, split_added, split_step, burst_part, burst_waits, burst_step, cut_part, cut_step, drop_part, drop_waits, drop_step}
+use Rattle.mm_links.specs.Driven.{Inputs, SelectInputs, SplitInputs, CutInputs, DropInputs, SplitRegisters, CutRegisters, DropRegisters}
+use Rattle.mm_links.specs.Driven.{signals_of, shuts, select_waits, select_step, split_part, split_waits, split_valid, split_added, split_step, cut_at_rest, cut_part, cut_waits, cut_step, drop_part, drop_waits, drop_step}
 use Rattle.mm_awake.specs.Wires.{shape_with}
 
 pub data Cutter : Type 0 where
   Uncut : Cutter
-  ByBeats : Cutter
-  ByBursts : (longest : ℕ) → Cutter
+  Cuts : (longest : ℕ) → Cutter
 
 pub data Fitter : Type 0 where
   Unfitted : Fitter
   Selects : Fitter
   Splits : Fitter
 
-abbrev pub by_cutter : {A : Type 0} → Cutter → A → A → (ℕ → A) → A
-by_cutter {A} Uncut wire beats bursts = wire
-by_cutter {A} ByBeats wire beats bursts = beats
-by_cutter {A} (ByBursts longest) wire beats bursts = bursts longest
+abbrev pub by_cutter : {A : Type 0} → Cutter → A → (ℕ → A) → A
+by_cutter {A} Uncut wire cut = wire
+by_cutter {A} (Cuts longest) wire cut = cut longest
 
 abbrev pub by_fitter : {A : Type 0} → Fitter → A → A → A → A
 by_fitter {A} Unfitted wire selects splits = wire
@@ -49,14 +46,14 @@ pub record RowPlan : Type 0 where
 
 -- what the registers hold in one cycle
 pub record RowRegisters : Type 0 where
-  pub burst : BurstRegisters
+  pub cut : CutRegisters
   pub offsets : List ℕ
   pub split : SplitRegisters
   pub drop : DropRegisters
 
 abbrev pub row_at_rest : RowRegisters
 row_at_rest = record {
-  burst = record { burst = idle; rest = record { left = 0; address = 0; command = silent_raw } };
+  cut = cut_at_rest;
   offsets = [];
   split = record { place = 0; set = []; reads = 0; come = 0; gathered = nothing };
   drop = record { kept = []; reads = 0; own = false };
@@ -68,11 +65,8 @@ commands_by raw = record { signals = signals_of (λ c. (raw c).levels); more = �
 abbrev pub shown_with : Commands → (ℕ → ℕ) → AnswerView → Inputs
 shown_with commands wait answers = record { signals = commands.signals; more = commands.more; tag = commands.tag; waitrequest = wait; answers = answers }
 
-abbrev pub beats_given : RowPlan → Inputs → BurstInputs
-beats_given plan shown = record { shape = plan.top; below = plan.middle; inputs = shown }
-
-abbrev pub bursts_given : RowPlan → ℕ → Inputs → CutInputs
-bursts_given plan longest shown = record { longest = longest; bursts = beats_given plan shown }
+abbrev pub cuts_given : RowPlan → ℕ → Inputs → CutInputs
+cuts_given plan longest shown = record { longest = longest; shape = plan.top; below = plan.middle; inputs = shown }
 
 abbrev pub selects_given : RowPlan → Inputs → SelectInputs
 selects_given plan shown = record { narrow = plan.middle; wide = plan.low; room = plan.room; inputs = shown }
@@ -86,8 +80,7 @@ drops_given plan shown = record { shape = plan.low; below = plan.bottom; room = 
 module _ (plan : RowPlan) (inputs : Inputs) (registers : ℕ → RowRegisters) where
   -- down
   abbrev pub cut_raw : ℕ → Raw
-  cut_raw c = by_cutter plan.cutter (record { levels = levels_at inputs.signals c; more = inputs.more c; tag = inputs.tag c })
-      (burst_part (beats_given plan inputs) (registers c).burst c) (λ longest. cut_part (bursts_given plan longest inputs) (registers c).burst c)
+  cut_raw c = by_cutter plan.cutter (record { levels = levels_at inputs.signals c; more = inputs.more c; tag = inputs.tag c }) (λ longest. cut_part (cuts_given plan longest inputs) (registers c).cut c)
 
   abbrev pub fit_raw : ℕ → Raw
   fit_raw c =
@@ -133,7 +126,7 @@ module _ (plan : RowPlan) (inputs : Inputs) (registers : ℕ → RowRegisters) w
   cut_shown = record { signals = inputs.signals; more = inputs.more; tag = inputs.tag; waitrequest = fit_wait; answers = fit_answers }
 
   abbrev pub cut_wait : ℕ → ℕ
-  cut_wait c = by_cutter plan.cutter (fit_wait c) (burst_waits (beats_given plan cut_shown) (registers c).burst c) (λ longest. burst_waits (beats_given plan cut_shown) (registers c).burst c)
+  cut_wait c = by_cutter plan.cutter (fit_wait c) (λ longest. cut_waits (cuts_given plan longest cut_shown) (registers c).cut c)
 
   -- the boundaries, from above
   abbrev pub row_top : Port
@@ -150,7 +143,7 @@ module _ (plan : RowPlan) (inputs : Inputs) (registers : ℕ → RowRegisters) w
 
 abbrev pub row_step : RowPlan → Inputs → RowRegisters → ℕ → RowRegisters
 row_step plan inputs now c = record {
-  burst = by_cutter plan.cutter now.burst (burst_step (beats_given plan (cut_shown plan inputs (λ _. now))) now.burst c) (λ longest. cut_step (bursts_given plan longest (cut_shown plan inputs (λ _. now))) now.burst c);
+  cut = by_cutter plan.cutter now.cut (λ longest. cut_step (cuts_given plan longest (cut_shown plan inputs (λ _. now))) now.cut c);
   offsets = select_step (selects_given plan (fit_shown plan inputs (λ _. now))) now.offsets c;
   split = split_step (splits_given plan (fit_shown plan inputs (λ _. now))) now.split c;
   drop = drop_step (drops_given plan (drop_shown plan inputs (λ _. now))) now.drop c;
@@ -167,8 +160,7 @@ SuitsWire up down = (shape_with down.burst_bits up ≡ down) × (up.burst_bits �
 
 abbrev pub SuitsCutter : Cutter → Shape → Shape → Type 0
 SuitsCutter Uncut up down = SuitsWire up down
-SuitsCutter ByBeats up down = IsBurstPlan up down
-SuitsCutter (ByBursts longest) up down = IsCutPlan longest up down
+SuitsCutter (Cuts longest) up down = IsCutPlan longest up down
 
 abbrev pub SuitsFitter : Fitter → Target → Shape → Shape → Type 0
 SuitsFitter Unfitted target up down = SuitsWire up down

@@ -2,8 +2,7 @@
 use Rattle.std.specs.Prelude.{ℕ, zero, suc, ◌<◌, ◌≤◌, Bool, true, false, List}
 use Rattle.mm_machines.specs.Link.{Target, Port}
 use Rattle.mm_machines.specs.Machines.{MaySplit}
-use Rattle.mm_links.specs.Bursts.{BurstState, RunsAsBurst, IsBurstPlan}
-use Rattle.mm_links.specs.Cuts.{RunsAsCut, IsCutPlan}
+use Rattle.mm_links.specs.Cutters.{CutterState, RunsAsCutter, IsCutPlan}
 use Rattle.mm_links.specs.Drops.{DropState, RunsAsDrop, IsDropPlan}
 use Rattle.mm_links.specs.Going.{KeepsGoing}
 use Rattle.mm_links.specs.Selects.{RunsAsSelect, IsSelectPlan}
@@ -26,10 +25,9 @@ pub record IsWired (up down : Port) : Type 0 where
   pub wire : IsWire up down
   pub some : 0 < up.shape.word_bytes
 
--- below the route bursts are cut into single beats, or into those that the agent takes, or stay
+-- below the route bursts are cut into those that the agent takes, or into single beats, or stay
 pub data CutsBursts (up down : Port) : Type 0 where
-  cutter : (state : BurstState) → IsBurstPlan up.shape down.shape → RunsAsBurst up down state → CutsBursts up down
-  shorter : (longest : ℕ) (state : BurstState) → IsCutPlan longest up.shape down.shape → RunsAsCut longest up down state → CutsBursts up down
+  cutter : (longest : ℕ) (state : CutterState) → IsCutPlan longest up.shape down.shape → RunsAsCutter longest up down state → CutsBursts up down
   no_cutter : IsWired up down → CutsBursts up down
 
 -- below that words are made those of the agent

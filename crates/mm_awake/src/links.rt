@@ -8,8 +8,7 @@ ghost use Rattle.mm_machines.specs.Link.{Target, Port, AreLegalAt, AnswersAreOwe
 ghost use Rattle.mm_machines.specs.Machines.{MaySplit};
 ghost use Rattle.mm_machines.specs.PartRanks.{JoinsAlike};
 ghost use Rattle.mm_machines.specs.Straight.{GoesStraightThrough, IsShownPromptly, may_be_prompt};
-ghost use Rattle.mm_links.specs.Bursts.{BurstState, RunsAsBurst, IsBurstPlan};
-ghost use Rattle.mm_links.specs.Cuts.{RunsAsCut, IsCutPlan};
+ghost use Rattle.mm_links.specs.Cutters.{CutterState, RunsAsCutter, IsCutPlan};
 ghost use Rattle.mm_links.specs.Drops.{DropState, RunsAsDrop, IsDropPlan};
 ghost use Rattle.mm_links.specs.Going.{KeepsGoing};
 ghost use Rattle.mm_links.specs.InStep.{GoesInStep};
@@ -21,16 +20,14 @@ ghost use Rattle.mm_awake.specs.Slack.{Slack, Slacks, PassesOn, PassesWhileStill
 ghost use Rattle.mm_awake.specs.Ways.{Ways, Standing, Standings};
 ghost use Rattle.mm_awake.specs.Still.{StirsAbove, SpentStirs};
 
-/// What passes on in each stretch of cycles does so while any port is still. A lane selector and the cutters of bursts keep nothing back, wherever they stand.
+/// What passes on in each stretch of cycles does so while any port is still. A lane selector and a cutter of bursts keep nothing back, wherever they stand.
 /// A splitter keeps nothing back while `top` is still, where all that stirs its upper port stirs `top`, which may be that port.
 /// What drops beats keeps back one beat, and no word, while `top` is still, where each beat without a lane that stirs its upper port stirs `top`.
 pub fn links_pass_while_still()
     ensures any { (slack : Slack) (top up down : Port) (end : ℕ) → PassesOn slack up down end → PassesWhileStill slack top up down end }
     ensures select { (target : Target) (top up down : Port) (many room : ℕ) (offsets : ℕ → List ℕ) → IsSelectPlan target up.shape down.shape many
         → 1 < room → RunsAsSelect room up down offsets → (end : ℕ) → PassesWhileStill (record { hold = 0; kept = 0 }) top up down end }
-    ensures burst { (top up down : Port) (state : BurstState) → RunsAsBurst up down state
-        → (end : ℕ) → PassesWhileStill (record { hold = 0; kept = 0 }) top up down end }
-    ensures cut { (longest : ℕ) (top up down : Port) (state : BurstState) → RunsAsCut longest up down state
+    ensures cut { (longest : ℕ) (top up down : Port) (state : CutterState) → RunsAsCutter longest up down state
         → (end : ℕ) → PassesWhileStill (record { hold = 0; kept = 0 }) top up down end }
     ensures split { (room : ℕ) (top up down : Port) (state : SplitState) → RunsAsSplit room up down state
         → (end : ℕ) → StirsAbove top up end → PassesWhileStill (record { hold = 0; kept = 0 }) top up down end }
@@ -43,8 +40,7 @@ pub fn links_pass_while_still()
 /// What stirs the port below a lane selector or a cutter of bursts stirs the one above it in the same cycle. Below a splitter each beat without a lane does that stirs the port there. So it is in rows of these.
 pub fn what_is_swallowed_stirs()
     ensures select { (room : ℕ) (up down : Port) (offsets : ℕ → List ℕ) → RunsAsSelect room up down offsets → (end : ℕ) → StirsAbove up down end }
-    ensures burst { (up down : Port) (state : BurstState) → RunsAsBurst up down state → (end : ℕ) → StirsAbove up down end }
-    ensures cut { (longest : ℕ) (up down : Port) (state : BurstState) → RunsAsCut longest up down state → (end : ℕ) → StirsAbove up down end }
+    ensures cut { (longest : ℕ) (up down : Port) (state : CutterState) → RunsAsCutter longest up down state → (end : ℕ) → StirsAbove up down end }
     ensures split { (room : ℕ) (up down : Port) (state : SplitState) → RunsAsSplit room up down state
         → (end : ℕ) → AreLegalAt up end → AnswersAreOwed down end → SpentStirs up down end }
     ensures above { (up down : Port) (end : ℕ) → StirsAbove up down end → SpentStirs up down end }
@@ -56,11 +52,8 @@ pub fn links_keep_going()
     ensures select { (target : Target) (up down : Port) (many room : ℕ) (offsets : ℕ → List ℕ) (end : ℕ) → IsSelectPlan target up.shape down.shape many
         → 1 < room → RunsAsSelect room up down offsets → EnablesFit up end → AreLegalAt up end → AnswersAreOwed down end → JoinsAlike target up end
         → (rank : ℕ → ℕ) × KeepsGoing target up down rank 0 end }
-    ensures burst { (target : Target) (up down : Port) (state : BurstState) (end : ℕ) → IsBurstPlan up.shape down.shape
-        → RunsAsBurst up down state → AreLegalAt up end → AnswersAreOwed down end → JoinsAlike target up end
-        → (rank : ℕ → ℕ) × KeepsGoing target up down rank 0 end }
-    ensures cut { (target : Target) (longest : ℕ) (up down : Port) (state : BurstState) (end : ℕ) → IsCutPlan longest up.shape down.shape
-        → RunsAsCut longest up down state → AreLegalAt up end → AnswersAreOwed down end → JoinsAlike target up end
+    ensures cut { (target : Target) (longest : ℕ) (up down : Port) (state : CutterState) (end : ℕ) → IsCutPlan longest up.shape down.shape
+        → RunsAsCutter longest up down state → AreLegalAt up end → AnswersAreOwed down end → JoinsAlike target up end
         → (rank : ℕ → ℕ) × KeepsGoing target up down rank 0 end }
     ensures split { (target : Target) (room count : ℕ) (up down : Port) (state : SplitState) (end : ℕ) → MaySplit target up.shape down.shape count
         → 0 < room → RunsAsSplit room up down state → AreLegalAt up end → AnswersAreOwed down end → JoinsAlike target up end
@@ -70,7 +63,6 @@ pub fn links_keep_going()
         → (rank : ℕ → ℕ) × KeepsGoing target up down rank 1 end }
 {
     mm_links::widths::select_is_a_link();
-    mm_links::bursts::burst_is_a_link();
     mm_links::bursts::cut_is_a_link();
     mm_links::widths::split_is_a_link();
     mm_links::drops::drop_is_a_link()
@@ -91,7 +83,6 @@ pub fn rows_are_modest()
     crate::wires_keep_going();
     crate::modest_links_fit();
     mm_links::rows::pass_is_a_link();
-    mm_links::bursts::burst_is_a_link();
     mm_links::bursts::cut_is_a_link();
     mm_links::widths::select_is_a_link();
     mm_links::widths::split_is_a_link();
@@ -110,7 +101,6 @@ pub fn rows_keep_their_lines()
     mm_machines::links::rows_compose();
     mm_links::rows::pass_is_a_link();
     mm_links::rows::chain_is_a_link();
-    mm_links::bursts::burst_is_a_link();
     mm_links::bursts::cut_is_a_link();
     mm_links::widths::select_is_a_link();
     mm_links::widths::split_is_a_link();
@@ -137,9 +127,6 @@ pub fn rows_are_straight()
     mm_links::rows::pass_goes_in_step();
     mm_links::rows::chain_is_a_link();
     mm_links::rows::chain_is_straight();
-    mm_links::bursts::burst_is_a_link();
-    mm_links::bursts::burst_is_straight();
-    mm_links::bursts::burst_goes_in_step();
     mm_links::bursts::cut_is_a_link();
     mm_links::bursts::cut_is_straight();
     mm_links::bursts::cut_goes_in_step();

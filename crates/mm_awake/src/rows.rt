@@ -113,7 +113,7 @@ pub fn plain_systems_have_rows()
     crate::built::memory_plans_are_planned()
 }
 
-/// A row of links has a run for all commands from above, and all waits and answers from below, whatever stands in it: a cutter of either kind, a lane selector or a splitter, what drops beats, and wires.
+/// A row of links has a run for all commands from above, and all waits and answers from below, whatever stands in it: a cutter of bursts, a lane selector or a splitter, what drops beats, and wires.
 pub fn rows_run()
     ensures { (plan : RowPlan) (inputs : Inputs) (target : Target)
         → let registers = row_registers plan inputs in
@@ -122,7 +122,6 @@ pub fn rows_run()
         × FitsWords target (row_middle plan inputs registers) (row_low plan inputs registers)
         × DropsBeats target (row_low plan inputs registers) (row_bottom plan inputs registers) }
 {
-    mm_links::runs::burst_runs();
     mm_links::runs::cut_runs();
     mm_links::runs::select_runs();
     mm_links::runs::split_runs();
@@ -140,7 +139,6 @@ pub fn linked_systems_run()
         × AreMachines responses plan.system run (boundaries_of ports) (linked_states responses plan outside registers) end
         × AreRows plan.system run ports end }
 {
-    mm_links::runs::burst_runs();
     mm_links::runs::cut_runs();
     mm_links::runs::select_runs();
     mm_links::runs::split_runs();

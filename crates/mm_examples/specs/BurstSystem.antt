@@ -10,7 +10,7 @@ use Rattle.mm_machines.specs.Lines.{TaggedPort}
 use Rattle.mm_machines.specs.Machines.{Stage}
 use Rattle.mm_machines.specs.Turns.{grant_before, seats_of}
 use Rattle.mm_parts.specs.Route.{kind_at}
-use Rattle.mm_links.specs.Driven.{BurstInputs, DropInputs, PipeInputs, burst_above, burst_below, drop_above, drop_below, pipe_run}
+use Rattle.mm_links.specs.Driven.{CutInputs, DropInputs, PipeInputs, cut_above, cut_below, drop_above, drop_below, pipe_run}
 use Rattle.mm_links.specs.Pipes.{PipeSides, tagged_side}
 use Rattle.mm_awake.specs.RowSystem.{RowPorts}
 use Rattle.mm_awake.specs.Theorem.{States}
@@ -93,8 +93,9 @@ abbrev pub given_to : ℕ → List ℕ → AnswerView
 given_to a valid = record { valid = signal valid; word = (after_arbiter a).answers.word; code = (after_arbiter a).answers.code }
 
 -- host 0 to an agent
-abbrev pub cutting : ℕ → BurstInputs
+abbrev pub cutting : ℕ → CutInputs
 cutting a = record {
+  longest = 1;
   shape = host_shape 0;
   below = plain_shape 4;
   inputs = record {
@@ -133,13 +134,13 @@ abbrev pub no_port : Port
 no_port = record { shape = plain_shape 4; commands = record { signals = quiet; more = always 0; tag = always 0; waitrequest = always 0 }; answers = given_to 0 [] }
 
 abbrev pub after_route : ℕ → ℕ → Port
-after_route h a = of_two (burst_above (cutting a)) (first_or wire (drop_above dropping) a) no_port h
+after_route h a = of_two (cut_above (cutting a)) (first_or wire (drop_above dropping) a) no_port h
 
 abbrev pub below_cutter : ℕ → ℕ → Port
-below_cutter h a = first_or (burst_below (cutting a)) (after_route h a) h
+below_cutter h a = first_or (cut_below (cutting a)) (after_route h a) h
 
 abbrev pub below_dropper : ℕ → ℕ → Port
-below_dropper h a = of_two (burst_below (cutting a)) (first_or wire (drop_below dropping) a) no_port h
+below_dropper h a = of_two (cut_below (cutting a)) (first_or wire (drop_below dropping) a) no_port h
 
 -- the agents take bursts, so the wires before the arbiters lead to ports with bursts
 abbrev pub before_arbiter : ℕ → ℕ → Port

@@ -3,7 +3,7 @@ use Rattle.std.specs.Prelude.{ℕ, true, List, [], ◌∷◌}
 use Rattle.mm_runs.specs.Views.{Shape}
 use Rattle.mm_machines.specs.Link.{Port, Target}
 use Rattle.mm_machines.specs.Lines.{TaggedPort}
-use Rattle.mm_links.specs.Driven.{Inputs, SelectInputs, PipeInputs, SplitInputs, BurstInputs, CutInputs, DropInputs}
+use Rattle.mm_links.specs.Driven.{Inputs, SelectInputs, PipeInputs, SplitInputs, CutInputs, DropInputs}
 use Rattle.mm_examples.specs.Examples.{signal, always}
 use Rattle.mm_examples.specs.MoreExamples.{write_port}
 
@@ -160,14 +160,15 @@ swaps_bytes = record {
 abbrev pub byte_lanes : Target
 byte_lanes = record { shape = lane_shape 1; span = 16 }
 
--- ---- a cutter of bursts
+-- ---- a cutter of bursts into single beats
 
 abbrev pub burst_shape : ℕ → Shape
 burst_shape bytes = record { word_bytes = bytes; unit_bytes = 1; burst_bits = 3; has_enables = true }
 
 -- a read of three words at address 8, then a write of two words at address 32, which waits until the read has gone
-abbrev pub cutting : BurstInputs
+abbrev pub cutting : CutInputs
 cutting = record {
+  longest = 1;
   shape = burst_shape 4;
   below = lane_shape 4;
   inputs = record {
@@ -213,8 +214,9 @@ two_beats more = record {
 }
 
 -- a read of two bytes without an enabled lane, and behind it a plain write, which comes while the second beat of the read is sent
-abbrev pub behind_empty : BurstInputs
+abbrev pub behind_empty : CutInputs
 behind_empty = record {
+  longest = 1;
   shape = burst_shape 1;
   below = lane_shape 1;
   inputs = record {
@@ -226,7 +228,7 @@ behind_empty = record {
   };
 }
 
--- ---- a cutter into bursts of two
+-- ---- and into bursts of two
 
 abbrev pub pair_shape : ℕ → Shape
 pair_shape bytes = record { word_bytes = bytes; unit_bytes = 1; burst_bits = 2; has_enables = true }
@@ -235,23 +237,21 @@ pair_shape bytes = record { word_bytes = bytes; unit_bytes = 1; burst_bits = 2; 
 abbrev pub pairing : CutInputs
 pairing = record {
   longest = 2;
-  bursts = record {
-    shape = record (burst_shape 4) { burst_bits = 4 };
-    below = pair_shape 4;
-    inputs = record {
-      signals = record {
-        read = signal (1 ∷ []);
-        write = signal (0 ∷ 1 ∷ 1 ∷ 1 ∷ 1 ∷ 1 ∷ []);
-        address = signal (8 ∷ 32 ∷ 32 ∷ 32 ∷ 0 ∷ 0 ∷ []);
-        word = signal (0 ∷ 0xaa ∷ 0xaa ∷ 0xaa ∷ 0xbb ∷ 0xcc ∷ []);
-        enables = always 15;
-        count = signal (5 ∷ 3 ∷ 3 ∷ 3 ∷ 0 ∷ 0 ∷ []);
-      };
-      more = signal (0 ∷ 1 ∷ 1 ∷ 1 ∷ 1 ∷ 0 ∷ []);
-      tag = always 0;
-      waitrequest = always 0;
-      answers = record { valid = always 0; word = always 0; code = always 0 };
+  shape = record (burst_shape 4) { burst_bits = 4 };
+  below = pair_shape 4;
+  inputs = record {
+    signals = record {
+      read = signal (1 ∷ []);
+      write = signal (0 ∷ 1 ∷ 1 ∷ 1 ∷ 1 ∷ 1 ∷ []);
+      address = signal (8 ∷ 32 ∷ 32 ∷ 32 ∷ 0 ∷ 0 ∷ []);
+      word = signal (0 ∷ 0xaa ∷ 0xaa ∷ 0xaa ∷ 0xbb ∷ 0xcc ∷ []);
+      enables = always 15;
+      count = signal (5 ∷ 3 ∷ 3 ∷ 3 ∷ 0 ∷ 0 ∷ []);
     };
+    more = signal (0 ∷ 1 ∷ 1 ∷ 1 ∷ 1 ∷ 0 ∷ []);
+    tag = always 0;
+    waitrequest = always 0;
+    answers = record { valid = always 0; word = always 0; code = always 0 };
   };
 }
 
@@ -308,11 +308,9 @@ near_pairs = record {
 abbrev pub behind_pairs : CutInputs
 behind_pairs = record {
   longest = 2;
-  bursts = record {
-    shape = behind_empty.shape;
-    below = pair_shape 1;
-    inputs = record behind_empty.inputs { signals = record behind_empty.inputs.signals { count = signal (4 ∷ 1 ∷ []) } };
-  };
+  shape = behind_empty.shape;
+  below = pair_shape 1;
+  inputs = record behind_empty.inputs { signals = record behind_empty.inputs.signals { count = signal (4 ∷ 1 ∷ []) } };
 }
 
 -- ---- what keeps beats without a lane from an agent

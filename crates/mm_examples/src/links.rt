@@ -7,8 +7,7 @@ ghost use Rattle.mm_machines.specs.Link.{AreLegalAt, CarriesCommands, takes, wor
 ghost use Rattle.mm_machines.specs.Machines.{MaySplit};
 ghost use Rattle.mm_links.specs.Drops.{IsDropPlan};
 ghost use Rattle.mm_machines.specs.Lines.{BringsBack, PipeCarriesCommands, AreDelayed};
-ghost use Rattle.mm_links.specs.Driven.{select_above, select_below, split_above, split_below, burst_above, burst_below, drop_above, drop_below, pipe_run};
-ghost use Rattle.mm_links.specs.Driven.{cut_above, cut_below};
+ghost use Rattle.mm_links.specs.Driven.{select_above, select_below, split_above, split_below, cut_above, cut_below, drop_above, drop_below, pipe_run};
 ghost use Rattle.mm_links.specs.Pipes.{side_of};
 ghost use Rattle.mm_examples.specs.LinkRuns.{two_writes, hides_wait, shows_twice, selecting, lane_target, read_port, three_writes, stalled_writes, tagged_port, stage_top, newer_first, answered_at_once, accepts_early, gathering, empty_writes, byte_lanes, byte_reads, swaps_bytes};
 ghost use Rattle.mm_examples.specs.PartRows.{levels};
@@ -89,19 +88,19 @@ pub fn held_reads()
 /// A cutter that leaves `more` low ends a command too early. One that accepts a read with its last beat gives a word that isn't owed.
 /// While words of an earlier read without lanes are owed, a plain write doesn't go straight through a cutter.
 pub fn bursts()
-    ensures places { map (λ m. m.transfer.first) (taken_at (burst_below cutting) 5) ≡ 8 ∷ 12 ∷ 16 ∷ 32 ∷ 36 ∷ [] }
-    ensures joined { map (λ m. m.more) (taken_at (burst_below cutting) 5) ≡ true ∷ true ∷ false ∷ true ∷ false ∷ [] }
-    ensures accepts { takes (burst_above cutting) 0 ≡ true }
-    ensures waits { takes (burst_above cutting) 2 ≡ false }
+    ensures places { map (λ m. m.transfer.first) (taken_at (cut_below cutting) 5) ≡ 8 ∷ 12 ∷ 16 ∷ 32 ∷ 36 ∷ [] }
+    ensures joined { map (λ m. m.more) (taken_at (cut_below cutting) 5) ≡ true ∷ true ∷ false ∷ true ∷ false ∷ [] }
+    ensures accepts { takes (cut_above cutting) 0 ≡ true }
+    ensures waits { takes (cut_above cutting) 2 ≡ false }
     ensures loose { CarriesCommands byte_lanes 1 (two_bytes []) (two_beats 0) 2 → ⊥ }
     ensures late { BringsBack byte_lanes (two_bytes (1 ∷ [])) (two_beats 1) 2 → ⊥ }
-    ensures behind { GoesStraightThrough (λ c. true) byte_lanes (burst_above behind_empty) (burst_below behind_empty) 2 → ⊥ }
+    ensures behind { GoesStraightThrough (λ c. true) byte_lanes (cut_above behind_empty) (cut_below behind_empty) 2 → ⊥ }
 {}
 
 /// A read of five words and a write of three are sent in bursts of two words and of one, joined by `more`; the read is accepted with its first burst.
 /// A cutter that doesn't join its bursts ends a command too early, and one that shows a burst as it is shows one that is too long.
 /// One whose next burst begins a word too early reads a byte twice. One that accepts a read with its last burst gives a word that isn't owed.
-/// While words of an earlier read without lanes are owed, a plain write doesn't go straight through this cutter either.
+/// While words of an earlier read without lanes are owed, a plain write doesn't go straight through such a cutter either.
 pub fn cuts()
     ensures places { map (λ m. m.transfer.first) (taken_at (cut_below pairing) 6) ≡ 8 ∷ 16 ∷ 24 ∷ 32 ∷ 32 ∷ 40 ∷ [] }
     ensures sizes { map (λ m. length m.transfer.beats) (taken_at (cut_below pairing) 6) ≡ 2 ∷ 2 ∷ 1 ∷ 1 ∷ 1 ∷ 1 ∷ [] }

@@ -52,7 +52,7 @@ pub fn burst_system_keeps_all()
     ensures awake { NeverIdles burst_system burst_run 10 }
     ensures fair { IsFair burst_system burst_run 12 }
 {
-    mm_links::runs::burst_runs();
+    mm_links::runs::cut_runs();
     mm_links::runs::drop_runs();
     mm_links::runs::pipe_runs();
     mm_awake::rows::machines_with_links_are_awake();

@@ -23,7 +23,7 @@ use Rattle.mm_links.specs.Going.{GoesOn, GivesWhatHasCome, has_link_work, is_beh
 use Rattle.mm_links.specs.Going.RowGoesOn.{at_end, further}
 use Rattle.mm_links.specs.Passes.{ShowsWrite}
 use Rattle.mm_links.specs.Links.{IsLink}
-use Rattle.mm_links.specs.Bursts.{burst_form}
+use Rattle.mm_links.specs.Cutters.{cut_form}
 use Rattle.mm_links.proofs.Alike.{have_operations}
 use Rattle.mm_links.proofs.Gated.{items_prefix, total_sizes, four_of, by_not, open_rests}
 use Rattle.mm_links.proofs.Stages.{all_front, alike_prefix, accepted_of, total_accepted}
@@ -562,7 +562,7 @@ module _ (wire : (target : Target) (port : Port) (end : ℕ) → 0 < port.shape.
     hands_on = λ c h legal owed. (cuts c h legal).hands_on;
   }
 
-  pub cut_is_link : IsLink (burst_form target) up down end
+  pub cut_is_link : IsLink (cut_form target) up down end
   cut_is_link = record {
     row = cut_row;
     words = λ is c h legal owed. cut_words target up down c (cuts c h legal) c (le_refl c) owed;

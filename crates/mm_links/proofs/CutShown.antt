@@ -1,47 +1,52 @@
--- What is shown below a machine that cuts bursts is legal: no burst is under way there but of the one above, and none is longer than may be.
+-- What is shown below a machine that cuts bursts is fit where all above is, and legal: no burst is under way there but of the one above, and none is longer than may be.
 -- It has the tags and kinds of what is shown above.
 use Rattle.std.proofs.Common.{ℕ, zero, suc, ◌<◌, ◌≤◌, ◌≡◌, ◌+◌, ◌-◌, ◌*◌, ◌%◌, min, Bool, true, false, not, ◌&&◌, ◌||◌, if◌then◌else◌, arith, refl, sym, ap, ap₂, subst, ◌∙◌, nat_eq, nat_lt, IsTrue, ltb-true, one-mul, add-mul, zero-mul}
 use Rattle.std.proofs.Math.Nat.{add-mul-mod_self_right, zero-mod}
 use Rattle.std.proofs.lemmas.Bool.{and_parts, not-true, both_ways, eqb-true, eq-eqb, or_left, or_right}
 use Rattle.histories.specs.History.{is_raised}
 use Rattle.mm_runs.specs.Views.{Shape, Levels, levels_at}
-use Rattle.mm_runs.specs.Commands.{Burst, shows, is_held, burst_before, burst_after, next_burst, byte_address, Transfer, write_transfer, read_transfer}
+use Rattle.mm_runs.specs.Commands.{Burst, shows, is_held, burst_before, burst_after, next_burst, byte_address, longest_burst, Transfer, write_transfer, read_transfer}
 use Rattle.mm_machines.specs.Link.{Port, AreLegalAt, takes}
 use Rattle.mm_machines.specs.Lines.{HandsOn}
-use Rattle.mm_machines.specs.Machines.{Raw, raw_at, IsFitBeat}
+use Rattle.mm_machines.specs.Machines.{Raw, raw_at, IsFitBeat, ShowsFitBeats}
 use Rattle.mm_machines.specs.SideLaws.{legal_when_shown}
-use Rattle.mm_links.specs.Bursts.{BurstState, Rest, is_sending}
-use Rattle.mm_links.specs.Cuts.{IsCutPlan, read_burst_of, behind_burst, whole_read, write_of_burst, first_burst}
+use Rattle.mm_links.specs.Cutters.{CutterState, Rest, RunsAsCutter, IsCutPlan, is_sending, beats_of, read_burst_of, behind_burst, whole_read, write_of_burst, first_burst}
+use Rattle.mm_links.specs.Driven.{place_in}
 use Rattle.mm_links.specs.Selects.{takes_read}
 use Rattle.mm_links.proofs.HandOn.{IsShownFor, hands_on_shown}
 use Rattle.mm_links.proofs.OneBeat.{raw_by, aligned, whole_address}
-use Rattle.mm_links.proofs.CutRuns.{Cuts, not_zero, fit_shown, free_at_read, some_left, some_read}
+use Rattle.mm_links.proofs.CutRuns.{not_zero, beats_are, fits_before, free_at_read, some_left, some_read, placed}
 
 -- a count that is cut has a beat at least, and no more than may be
-cut_least : (longest n : ℕ) → 0 < longest → 0 < n → 1 ≤ min longest n
-cut_least longest n a b = omega arith
+cut_least : (longest n : ℕ) → 0 < longest → 0 < n → 1 ≤ beats_of longest n
+cut_least longest n least some = (let size = beats_are longest n some in omega (arith, least, some, size))
 
-module _ (longest : ℕ) (up down : Port) (state : BurstState) (plan : IsCutPlan longest up.shape down.shape) (end : ℕ) (run : Cuts longest up down state end) (legal : AreLegalAt up end) where
+cut_most : (longest n bound : ℕ) → longest ≤ bound → 0 < n → beats_of longest n ≤ bound
+cut_most longest n bound most some = (let size = beats_are longest n some in omega (arith, most, size))
+
+module _ (longest : ℕ) (up down : Port) (state : CutterState) (plan : IsCutPlan longest up.shape down.shape) (run : RunsAsCutter longest up down state) (end : ℕ) (fit : ShowsFitBeats up end) where
   abbrev above : ℕ → Burst
   above c = burst_before up.shape up.commands.signals (takes up) c
 
   abbrev below : ℕ → Burst
   below c = burst_before down.shape down.commands.signals (takes down) c
 
-  pub burst_is : (c : ℕ) → state.burst c ≡ above c
-  burst_is zero = run.burst_begins
-  burst_is (suc c) = run.burst_next c ∙ ap (burst_after up.shape (levels_at up.commands.signals c) (takes up c)) (burst_is c)
-
   pub shows_first : (c : ℕ) → is_sending state c ≡ false → shows down.commands.signals c ≡ shows up.commands.signals c
   shows_first c e = run.shown c ∙ ap (λ b. if b then true else shows up.commands.signals c) e
 
   pub sent_beat : (c : ℕ) → c < end → is_sending state c ≡ true → shows down.commands.signals c ≡ true → raw_at down c ≡ read_burst_of longest (state.rest c)
-  sent_beat c h e shown = run.beat c h shown ∙ ap (λ b. if b then read_burst_of longest (state.rest c) else first_burst longest up.shape (state.burst c) (raw_at up c)) e
+  sent_beat c h e shown = run.beat c shown ∙ ap (λ b. if b then read_burst_of longest (state.rest c) else first_burst longest up.shape (state.place c) (raw_at up c)) e
+
+  -- a write beat at the place of the burst above
+  abbrev pub written_at : ℕ → Raw
+  written_at c = write_of_burst longest up.shape (place_in up.shape.word_bytes (above c)) (raw_at up c)
 
   pub first_beat : (c : ℕ) → c < end → is_sending state c ≡ false → shows down.commands.signals c ≡ true → (w : Bool) → is_raised (up.commands.write c) ≡ w →
-      raw_at down c ≡ (if w then write_of_burst longest up.shape (state.burst c) (raw_at up c) else read_burst_of longest (whole_read up.shape (raw_at up c)))
+      raw_at down c ≡ (if w then written_at c else read_burst_of longest (whole_read up.shape (raw_at up c)))
   first_beat c h e shown w f =
-      run.beat c h shown ∙ ap₂ (λ b w. if b then read_burst_of longest (state.rest c) else if w then write_of_burst longest up.shape (state.burst c) (raw_at up c) else read_burst_of longest (whole_read up.shape (raw_at up c))) e f
+      run.beat c shown
+      ∙ ap₂ (λ b w. if b then read_burst_of longest (state.rest c) else if w then write_of_burst longest up.shape (state.place c) (raw_at up c) else read_burst_of longest (whole_read up.shape (raw_at up c))) e f
+      ∙ ap (λ r. if w then r else read_burst_of longest (whole_read up.shape (raw_at up c))) (placed longest up.shape (raw_at up c) (above c) (state.place c) (run.place c (fits_before up end fit c (omega (arith, h)))))
 
   pub takes_first : (c : ℕ) → is_sending state c ≡ false → takes up c ≡ takes down c
   takes_first c e = run.accepts c ∙ ap (λ b. not b && takes down c) e
@@ -182,7 +187,7 @@ module _ (longest : ℕ) (up down : Port) (state : BurstState) (plan : IsCutPlan
               let low = sym (takes_first c e) ∙ t in
               let up_same = same_above (ap₂ (λ b w. b && w) t f) in
               let low_same = same_below (ap₂ (λ b w. b && w) low (ap (λ (r : Raw). is_raised r.levels.write) (first_beat c h e (shown_taken down c low) false f))) in
-              let none = free_at_read up end legal c h (shown_taken up c t) f in
+              let none = free_at_read up end fit c h (shown_taken up c t) f in
               let left = now.left in
               record {
                 left = subst (λ (l : Burst). l.left ≤ (above (suc c)).left) (sym low_same) (subst (λ (a : Burst). (below c).left ≤ a.left) (sym up_same) left);
@@ -198,7 +203,7 @@ module _ (longest : ℕ) (up down : Port) (state : BurstState) (plan : IsCutPlan
               let up_next : (above (suc c)).left ≡ (if nat_eq (above c).left 0 then up.commands.count c - 1 else (above c).left - 1) =
               ap (λ (b : Burst). b.left) up_is ∙ after_one up.shape (levels_at up.commands.signals c) (above c) in
               let count : down.commands.count c ≡ min longest (if nat_eq (above c).left 0 then up.commands.count c else (above c).left) =
-              ap (λ (r : Raw). r.levels.count) beat ∙ ap (λ (b : Burst). min longest (if nat_eq b.left 0 then up.commands.count c else b.left)) (burst_is c) in
+              ap (λ (r : Raw). r.levels.count) beat ∙ beats_are longest (if nat_eq (above c).left 0 then up.commands.count c else (above c).left) (some_left up end fit c h (shown_taken up c t)) in
               let low_next : (below (suc c)).left ≡ (if nat_eq (below c).left 0 then down.commands.count c - 1 else (below c).left - 1) =
               ap (λ (b : Burst). b.left) low_is ∙ after_one down.shape (levels_at down.commands.signals c) (below c) in
               let few = fewer_left (up.commands.count c) (above c).left (below c).left now.left in
@@ -209,11 +214,11 @@ module _ (longest : ℕ) (up down : Port) (state : BurstState) (plan : IsCutPlan
                 free = λ on. absurd (both_ways (is_sending state (suc c)) (rest_still c e (ap₂ (λ b w. b && not w) t f)) on);
               }
             where
-              here : (b : Bool) → nat_eq (below c).left 0 ≡ b → down.commands.address c ≡ (if nat_eq (state.burst c).left 0 then byte_address up.shape (up.commands.address c) else (state.burst c).first + (state.burst c).done * up.shape.word_bytes) →
+              here : (b : Bool) → nat_eq (below c).left 0 ≡ b → down.commands.address c ≡ address_of c →
                   (if nat_eq (below c).left 0 then byte_address down.shape (down.commands.address c) else spot (below c)) ≡ (if nat_eq (above c).left 0 then byte_address up.shape (up.commands.address c) else spot (above c))
               here true k shown =
                   ap (λ b. if b then byte_address down.shape (down.commands.address c) else spot (below c)) k
-                  ∙ ap (byte_address down.shape) (shown ∙ ap (λ (b : Burst). if nat_eq b.left 0 then byte_address up.shape (up.commands.address c) else b.first + b.done * up.shape.word_bytes) (burst_is c)) ∙ address_is c
+                  ∙ ap (byte_address down.shape) shown ∙ address_is c
               here false k shown = ap (λ b. if b then byte_address down.shape (down.commands.address c) else spot (below c)) k ∙ now.place k ∙ ap (λ b. if b then byte_address up.shape (up.commands.address c) else spot (above c)) (sym (busy_above c now k))
 
   -- ---- each beat is fit
@@ -235,9 +240,10 @@ module _ (longest : ℕ) (up down : Port) (state : BurstState) (plan : IsCutPlan
 
   -- a write beat below ends its burst, or `more` joins it to the next
   pub ends_or_joined : (c : ℕ) → c < end → shows up.commands.signals c ≡ true → is_raised (up.commands.write c) ≡ true →
-      (write_transfer down.shape (write_of_burst longest up.shape (state.burst c) (raw_at up c)).levels (below c)).ends || is_raised (up.commands.more c) ≡ true
+      (write_transfer down.shape (written_at c).levels (below c)).ends || is_raised (up.commands.more c) ≡ true
   ends_or_joined c h shown f =
-      ap (λ (b : Burst). (write_transfer down.shape (write_of_burst longest up.shape b (raw_at up c)).levels (below c)).ends || is_raised (up.commands.more c)) (burst_is c)
+      ap (λ n. (if nat_eq (below c).left 0 then nat_eq n 1 else nat_eq (below c).left 1) || is_raised (up.commands.more c))
+      (beats_are longest (if nat_eq (above c).left 0 then up.commands.count c else (above c).left) (some_left up end fit c h shown))
       ∙ by_ends (if nat_eq (above c).left 0 then nat_eq (up.commands.count c) 1 else nat_eq (above c).left 1) refl upper
     where
       now : Within c
@@ -249,7 +255,7 @@ module _ (longest : ℕ) (up down : Port) (state : BurstState) (plan : IsCutPlan
       upper : (if nat_eq (above c).left 0 then nat_eq (up.commands.count c) 1 else nat_eq (above c).left 1) || is_raised (up.commands.more c) ≡ true
       upper =
           ap (λ w. ends_in (if w then write_transfer up.shape (levels_at up.commands.signals c) (above c) else read_transfer up.shape (levels_at up.commands.signals c)) || is_raised (up.commands.more c)) (sym f)
-          ∙ (fit_shown up end legal c h shown).joined
+          ∙ (fit c h shown).joined
 
       by_ends : (b : Bool) → (if nat_eq (above c).left 0 then nat_eq (up.commands.count c) 1 else nat_eq (above c).left 1) ≡ b → b || is_raised (up.commands.more c) ≡ true →
           (if nat_eq (below c).left 0 then nat_eq (min longest (if nat_eq (above c).left 0 then up.commands.count c else (above c).left)) 1 else nat_eq (below c).left 1) || is_raised (up.commands.more c) ≡ true
@@ -263,12 +269,12 @@ module _ (longest : ℕ) (up down : Port) (state : BurstState) (plan : IsCutPlan
   fit_read c rest some now none = record {
     one_kind = refl;
     least = λ free. cut_least longest rest.left plan.least some;
-    most = λ free. (let most = plan.most in omega (arith, most));
+    most = λ free. cut_most longest rest.left (longest_burst down.shape.burst_bits) plan.most some;
     finished = λ busy. absurd (no_busy c now none busy);
     joined = refl;
   }
 
-  fit_below : (c : ℕ) → c < end → shows down.commands.signals c ≡ true → IsFitBeat down.shape (below c) (raw_at down c)
+  pub fit_below : (c : ℕ) → c < end → shows down.commands.signals c ≡ true → IsFitBeat down.shape (below c) (raw_at down c)
   fit_below c h shown = by_sends (is_sending state c) refl
     where
       now : Within c
@@ -283,55 +289,17 @@ module _ (longest : ℕ) (up down : Port) (state : BurstState) (plan : IsCutPlan
 
           by_write : (w : Bool) → is_raised (up.commands.write c) ≡ w → IsFitBeat down.shape (below c) (raw_at down c)
           by_write false f =
-              let none = free_at_read up end legal c h there f in
-              let some = some_read up end legal c h there f in
+              let none = free_at_read up end fit c h there f in
+              let some = some_read up end fit c h there f in
               subst (IsFitBeat down.shape (below c)) (sym (first_beat c h e shown false f)) (fit_read c (whole_read up.shape (raw_at up c)) some now none)
           by_write true f =
-              subst (IsFitBeat down.shape (below c)) (sym (first_beat c h e shown true f ∙ ap (λ b. write_of_burst longest up.shape b (raw_at up c)) (burst_is c))) (record {
+              subst (IsFitBeat down.shape (below c)) (sym (first_beat c h e shown true f)) (record {
                 one_kind = refl;
-                least = λ free. cut_least longest (if nat_eq (above c).left 0 then up.commands.count c else (above c).left) plan.least (some_left up end legal c h there);
-                most = λ free. (let most = plan.most in omega (arith, most));
+                least = λ free. cut_least longest (if nat_eq (above c).left 0 then up.commands.count c else (above c).left) plan.least (some_left up end fit c h there);
+                most = λ free. cut_most longest (if nat_eq (above c).left 0 then up.commands.count c else (above c).left) (longest_burst down.shape.burst_bits) plan.most (some_left up end fit c h there);
                 finished = λ busy. refl;
-                joined = subst (λ b. (write_transfer down.shape (write_of_burst longest up.shape b (raw_at up c)).levels (below c)).ends || is_raised (up.commands.more c) ≡ true) (burst_is c) (ends_or_joined c h there f);
+                joined = ends_or_joined c h there f;
               })
-
-  held_on : (c : ℕ) → suc c < end → is_held down.commands.signals (takes down) c ≡ true → raw_at down c ≡ raw_at down (suc c)
-  held_on c h held = by_sends (is_sending state c) refl
-    where
-      parts : (shows down.commands.signals c ≡ true) × (not (takes down c) ≡ true)
-      parts = and_parts (shows down.commands.signals c) (not (takes down c)) held
-
-      not_taken : takes down c ≡ false
-      not_taken = not-true (takes down c) parts.1
-
-      rest_same : (b : Bool) → is_sending state c ≡ b → (takes_read up c ≡ false) → state.rest (suc c) ≡ state.rest c
-      rest_same b e t =
-          run.rest_next c ∙ ap₂ (λ d t. if is_sending state c then (if d then behind_burst longest up.shape.word_bytes (state.rest c) else state.rest c)
-          else if t then behind_burst longest up.shape.word_bytes (whole_read up.shape (raw_at up c)) else state.rest c) not_taken t ∙ by_case (is_sending state c)
-        where
-          by_case : (x : Bool) → (if x then state.rest c else state.rest c) ≡ state.rest c
-          by_case true = refl
-          by_case false = refl
-
-      by_sends : (b : Bool) → is_sending state c ≡ b → raw_at down c ≡ raw_at down (suc c)
-      by_sends true e =
-          let rest = rest_same true e (ap (λ t. t && not (is_raised (up.commands.write c))) (waits_sending c e)) in
-          let next : is_sending state (suc c) ≡ true = ap (λ (r : Rest). nat_lt 0 r.left) rest ∙ e in
-          sent_beat c (omega (arith, h)) e parts.0 ∙ ap (read_burst_of longest) (sym rest) ∙ sym (sent_beat (suc c) h next (run.shown (suc c) ∙ ap (λ b. if b then true else shows up.commands.signals (suc c)) next))
-      by_sends false e =
-          let above_shown = sym (shows_first c e) ∙ parts.0 in
-          let not_up = takes_first c e ∙ not_taken in
-          let stands : is_held up.commands.signals (takes up) c ≡ true = ap₂ (λ s t. s && not t) above_shown not_up in
-          let levels = legal.legal.held c h stands in
-          let same : raw_at up c ≡ raw_at up (suc c) =
-          ap₂ (λ l m. raw_by l m (up.commands.tag c)) levels (legal.more c h stands) ∙ ap (raw_by (levels_at up.commands.signals (suc c)) (up.commands.more (suc c))) (legal.tag c h stands) in
-          let next = rest_still c e (ap (λ t. t && not (is_raised (up.commands.write c))) not_up) in
-          let burst : state.burst (suc c) ≡ state.burst c = run.burst_next c ∙ ap (λ t. burst_after up.shape (levels_at up.commands.signals c) t (state.burst c)) not_up in
-          let later : shows down.commands.signals (suc c) ≡ true = shows_first (suc c) next ∙ ap (λ (l : Levels). is_raised l.read || is_raised l.write) (sym levels) ∙ above_shown in
-          first_beat c (omega (arith, h)) e parts.0 (is_raised (up.commands.write c)) refl ∙ ap₂ (λ b r. first_burst longest up.shape b r) (sym burst) same ∙ sym (first_beat (suc c) h next later (is_raised (up.commands.write (suc c))) refl)
-
-  pub cut_legal : AreLegalAt down end
-  cut_legal = legal_when_shown down.shape down.commands down.answers end fit_below held_on
 
   -- ---- each burst below stems from a beat above
 
@@ -376,7 +344,7 @@ module _ (longest : ℕ) (up down : Port) (state : BurstState) (plan : IsCutPlan
               (c, record { before = omega arith; command = next_with false true e f; shown = shown_taken up c parts.0; read = not-true (is_raised (up.commands.write c)) parts.1 })
 
   one_kind : (k : ℕ) → k < end → shows up.commands.signals k ≡ true → is_raised (up.commands.read k) ≡ not (is_raised (up.commands.write k))
-  one_kind k h shown = by_kinds (is_raised (up.commands.read k)) (is_raised (up.commands.write k)) shown (legal.legal.one_kind k h)
+  one_kind k h shown = by_kinds (is_raised (up.commands.read k)) (is_raised (up.commands.write k)) shown (fit k h shown).one_kind
     where
       by_kinds : (r w : Bool) → r || w ≡ true → IsTrue (not (r && w)) → r ≡ not w
       by_kinds true true s o = cc
@@ -426,3 +394,44 @@ module _ (longest : ℕ) (up down : Port) (state : BurstState) (plan : IsCutPlan
                 reads = ap (λ (r : Raw). is_raised r.levels.read) beat ∙ ap not (sym f) ∙ sym (one_kind c low there);
                 writes = ap (λ (r : Raw). is_raised r.levels.write) beat ∙ sym f;
               }
+
+  -- ---- and held while it waits
+
+  module _ (legal : AreLegalAt up end) where
+    held_on : (c : ℕ) → suc c < end → is_held down.commands.signals (takes down) c ≡ true → raw_at down c ≡ raw_at down (suc c)
+    held_on c h held = by_sends (is_sending state c) refl
+      where
+        parts : (shows down.commands.signals c ≡ true) × (not (takes down c) ≡ true)
+        parts = and_parts (shows down.commands.signals c) (not (takes down c)) held
+
+        not_taken : takes down c ≡ false
+        not_taken = not-true (takes down c) parts.1
+
+        rest_same : (b : Bool) → is_sending state c ≡ b → (takes_read up c ≡ false) → state.rest (suc c) ≡ state.rest c
+        rest_same b e t =
+            run.rest_next c ∙ ap₂ (λ d t. if is_sending state c then (if d then behind_burst longest up.shape.word_bytes (state.rest c) else state.rest c)
+            else if t then behind_burst longest up.shape.word_bytes (whole_read up.shape (raw_at up c)) else state.rest c) not_taken t ∙ by_case (is_sending state c)
+          where
+            by_case : (x : Bool) → (if x then state.rest c else state.rest c) ≡ state.rest c
+            by_case true = refl
+            by_case false = refl
+
+        by_sends : (b : Bool) → is_sending state c ≡ b → raw_at down c ≡ raw_at down (suc c)
+        by_sends true e =
+            let rest = rest_same true e (ap (λ t. t && not (is_raised (up.commands.write c))) (waits_sending c e)) in
+            let next : is_sending state (suc c) ≡ true = ap (λ (r : Rest). nat_lt 0 r.left) rest ∙ e in
+            sent_beat c (omega (arith, h)) e parts.0 ∙ ap (read_burst_of longest) (sym rest) ∙ sym (sent_beat (suc c) h next (run.shown (suc c) ∙ ap (λ b. if b then true else shows up.commands.signals (suc c)) next))
+        by_sends false e =
+            let above_shown = sym (shows_first c e) ∙ parts.0 in
+            let not_up = takes_first c e ∙ not_taken in
+            let stands : is_held up.commands.signals (takes up) c ≡ true = ap₂ (λ s t. s && not t) above_shown not_up in
+            let levels = legal.legal.held c h stands in
+            let same : raw_at up c ≡ raw_at up (suc c) =
+            ap₂ (λ l m. raw_by l m (up.commands.tag c)) levels (legal.more c h stands) ∙ ap (raw_by (levels_at up.commands.signals (suc c)) (up.commands.more (suc c))) (legal.tag c h stands) in
+            let next = rest_still c e (ap (λ t. t && not (is_raised (up.commands.write c))) not_up) in
+            let burst : above (suc c) ≡ above c = ap (λ t. burst_after up.shape (levels_at up.commands.signals c) t (above c)) not_up in
+            let later : shows down.commands.signals (suc c) ≡ true = shows_first (suc c) next ∙ ap (λ (l : Levels). is_raised l.read || is_raised l.write) (sym levels) ∙ above_shown in
+            first_beat c (omega (arith, h)) e parts.0 (is_raised (up.commands.write c)) refl ∙ ap₂ (λ b r. first_burst longest up.shape (place_in up.shape.word_bytes b) r) (sym burst) same ∙ sym (first_beat (suc c) h next later (is_raised (up.commands.write (suc c))) refl)
+
+    pub cut_legal : AreLegalAt down end
+    cut_legal = legal_when_shown down.shape down.commands down.answers end fit_below held_on

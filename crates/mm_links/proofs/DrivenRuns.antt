@@ -1,17 +1,17 @@
 -- The runs that recursion on the cycle gives are runs of the machines.
-use Rattle.std.proofs.Common.{ℕ, zero, suc, ◌<◌, ◌≡◌, ◌-◌, Bool, true, false, not, ◌&&◌, ◌||◌, List, [], ◌∷◌, ◌++◌, if◌then◌else◌, arith, refl, sym, ap, ap₂, ◌∙◌, length, drop, nat_lt, Some, slice_get, lt-ltb, tests}
+use Rattle.std.proofs.Common.{ℕ, zero, suc, ◌<◌, ◌≡◌, ◌+◌, ◌-◌, ◌*◌, Bool, true, false, not, ◌&&◌, ◌||◌, List, [], ◌∷◌, ◌++◌, if◌then◌else◌, arith, refl, sym, ap, ap₂, ◌∙◌, length, drop, nat_lt, Some, slice_get, lt-ltb, tests}
 use Rattle.std.proofs.lemmas.Bool.{and_parts, not-true, ltb-true}
 use Rattle.histories.specs.History.{is_raised, one_if, only_if}
 use Rattle.mm_runs.specs.Operations.{Beat}
-use Rattle.mm_runs.specs.Commands.{Burst, shows, is_of_reads, byte_address}
+use Rattle.mm_runs.specs.Views.{levels_at}
+use Rattle.mm_runs.specs.Commands.{Burst, shows, is_of_reads, burst_before, burst_after}
+use Rattle.mm_machines.specs.Link.{takes}
 use Rattle.mm_machines.specs.Machines.{Raw, ShowsHead, IsStageRun, single, joined}
 use Rattle.mm_links.specs.Pipes.{RunsAsPipe, side_of}
 use Rattle.mm_links.specs.Selects.{RunsAsSelect}
 use Rattle.mm_links.specs.Splits.{RunsAsSplit}
-use Rattle.mm_links.specs.Bursts.{RunsAsBurst, reads_from, write_beat_of, cut_parts, head_or}
-use Rattle.mm_links.specs.Cuts.{RunsAsCut, read_burst_of, first_burst, write_of_burst, whole_read}
-use Rattle.mm_links.specs.Driven.{CutInputs, cut_part, cut_registers, cut_state, cut_above, cut_below}
-use Rattle.mm_links.specs.Driven.{BurstInputs, BurstRegisters, burst_raw, burst_sends, burst_beat, burst_shows, burst_part, burst_takes_below, burst_takes, burst_registers, burst_state, burst_above, burst_below}
+use Rattle.mm_links.specs.Cutters.{RunsAsCutter, read_burst_of, first_burst, write_of_burst, whole_read}
+use Rattle.mm_links.specs.Driven.{CutInputs, CutRegisters, place_in, cut_raw, cut_sends, cut_beat, cut_shows, cut_part, cut_takes, cut_registers, cut_state, cut_above, cut_below}
 use Rattle.mm_links.specs.Driven.{SelectInputs, PipeInputs, select_above, select_below, select_queue, shuts, pipe_run, pipe_queues, raw_there, waits_there, takes_there, shows_raw, head_of, late_by, SplitInputs, split_registers, split_above, split_below, split_state, split_list, split_shows, split_part, split_opens, split_completes, part_at, silent_raw}
 use Rattle.mm_links.specs.Drops.{RunsAsDrop, sends, sent_beat}
 use Rattle.mm_links.specs.Driven.{DropInputs, DropRegisters, drop_raw, drop_stands, drop_part, drop_registers, drop_state, drop_above, drop_below}
@@ -176,88 +176,46 @@ module _ (given : SplitInputs) where
 
 -- ---- a cutter of bursts
 
-module _ (given : BurstInputs) where
-  reads_show : (bytes : ℕ) (raw other : Raw) (address left : ℕ) → 0 < left → shows_raw (head_or other (reads_from bytes raw address left)) ≡ true
-  reads_show bytes raw other address zero h = absurd (omega (arith, h))
-  reads_show bytes raw other address (suc left) h = refl
-
-  cut_shows : (c : ℕ) (burst : Burst) → shows given.inputs.signals c ≡ true → shows_raw (head_or (burst_raw given c) (cut_parts given.shape burst (burst_raw given c))) ≡ true
-  cut_shows c burst shown = by_write (is_raised (given.inputs.signals.write c)) (given.inputs.signals.count c)
+module _ (given : CutInputs) where
+  part_shown : (now : CutRegisters) (c : ℕ) → shows_raw (cut_part given now c) ≡ cut_shows given now c
+  part_shown now c = by_shown (cut_shows given now c)
     where
-      by_write : (w : Bool) (n : ℕ) → shows_raw (head_or (burst_raw given c) (if w then write_beat_of given.shape burst (burst_raw given c) ∷ [] else reads_from given.shape.word_bytes (burst_raw given c) (byte_address given.shape (given.inputs.signals.address c)) n)) ≡ true
-      by_write true n = refl
-      by_write false zero = shown
-      by_write false (suc n) = refl
+      by_write : (w : Bool) → shows_raw (if w then write_of_burst given.longest given.shape (place_in given.shape.word_bytes now.burst) (cut_raw given c) else read_burst_of given.longest (whole_read given.shape (cut_raw given c))) ≡ true
+      by_write true = refl
+      by_write false = refl
 
-  beat_shows : (now : BurstRegisters) (c : ℕ) → burst_shows given now c ≡ true → shows_raw (burst_beat given now c) ≡ true
-  beat_shows now c shown = by_sends (burst_sends now) refl shown
-    where
-      by_sends : (b : Bool) → burst_sends now ≡ b → (if b then true else shows given.inputs.signals c) ≡ true →
-          shows_raw (if b then head_or (burst_raw given c) (reads_from given.shape.word_bytes now.rest.command now.rest.address now.rest.left) else head_or (burst_raw given c) (cut_parts given.shape now.burst (burst_raw given c))) ≡ true
-      by_sends true e k = reads_show given.shape.word_bytes now.rest.command (burst_raw given c) now.rest.address now.rest.left (ltb-true 0 now.rest.left e)
-      by_sends false e k = cut_shows c now.burst k
+      by_sends : (s : Bool) → shows_raw (if s then read_burst_of given.longest now.rest else first_burst given.longest given.shape (place_in given.shape.word_bytes now.burst) (cut_raw given c)) ≡ true
+      by_sends true = refl
+      by_sends false = by_write (is_raised (given.inputs.signals.write c))
 
-  part_shown : (now : BurstRegisters) (c : ℕ) → shows_raw (burst_part given now c) ≡ burst_shows given now c
-  part_shown now c = by_shown (burst_shows given now c) refl
-    where
-      by_shown : (b : Bool) → burst_shows given now c ≡ b → shows_raw (if b then burst_beat given now c else silent_raw) ≡ b
-      by_shown true e = beat_shows now c e
-      by_shown false e = refl
+      by_shown : (b : Bool) → shows_raw (if b then cut_beat given now c else silent_raw) ≡ b
+      by_shown true = by_sends (cut_sends now)
+      by_shown false = refl
 
   -- what stands above is accepted with the first beat below
-  accepts_first : (now : BurstRegisters) (c : ℕ) → burst_takes given now c ≡ not (burst_sends now) && (burst_shows given now c && not (is_raised (given.inputs.waitrequest c)))
+  accepts_first : (now : CutRegisters) (c : ℕ) → cut_takes given now c ≡ not (cut_sends now) && (cut_shows given now c && not (is_raised (given.inputs.waitrequest c)))
   accepts_first now c =
-      ap (λ b. shows given.inputs.signals c && not b) (raised_one (burst_sends now || is_raised (given.inputs.waitrequest c)))
-      ∙ by_sends (burst_sends now) (shows given.inputs.signals c) (is_raised (given.inputs.waitrequest c))
+      ap (λ b. shows given.inputs.signals c && not b) (raised_one (cut_sends now || is_raised (given.inputs.waitrequest c)))
+      ∙ by_sends (cut_sends now) (shows given.inputs.signals c) (is_raised (given.inputs.waitrequest c))
     where
       by_sends : (b s w : Bool) → s && not (b || w) ≡ not b && ((if b then true else s) && not w)
       by_sends true true w = refl
       by_sends true false w = refl
       by_sends false s w = refl
 
-  pub burst_runs : RunsAsBurst (burst_above given) (burst_below given) (burst_state given)
-  burst_runs = record {
-    shown = λ c. part_shown (burst_registers given c) c;
-    beat = λ c shown. ap (λ b. if b then burst_beat given (burst_registers given c) c else silent_raw) (sym (part_shown (burst_registers given c) c) ∙ shown);
-    accepts = λ c. accepts_so (burst_registers given c) c;
-    burst_begins = refl;
-    burst_next = λ c. refl;
-    rest_begins = refl;
-    rest_next = λ c. refl;
-    valid = λ c. refl;
-    word = λ c. refl;
-    code = λ c. refl;
-  }
-    where
-      accepts_so : (now : BurstRegisters) (c : ℕ) → burst_takes given now c ≡ not (burst_sends now) && burst_takes_below given now c
-      accepts_so now c = accepts_first now c ∙ ap (λ b. not (burst_sends now) && (b && not (is_raised (given.inputs.waitrequest c)))) (sym (part_shown now c))
+  burst_is : (c : ℕ) → (cut_registers given c).burst ≡ burst_before given.shape given.inputs.signals (takes (cut_above given)) c
+  burst_is zero = refl
+  burst_is (suc c) = ap (burst_after given.shape (levels_at given.inputs.signals c) (takes (cut_above given) c)) (burst_is c)
 
--- ---- one that cuts them into the bursts that an agent takes
-
-module _ (given : CutInputs) where
-  cut_part_shown : (now : BurstRegisters) (c : ℕ) → shows_raw (cut_part given now c) ≡ burst_shows given.bursts now c
-  cut_part_shown now c = by_shown (burst_shows given.bursts now c)
-    where
-      by_write : (w : Bool) → shows_raw (if w then write_of_burst given.longest given.shape now.burst (burst_raw given.bursts c) else read_burst_of given.longest (whole_read given.shape (burst_raw given.bursts c))) ≡ true
-      by_write true = refl
-      by_write false = refl
-
-      by_sends : (s : Bool) → shows_raw (if s then read_burst_of given.longest now.rest else first_burst given.longest given.shape now.burst (burst_raw given.bursts c)) ≡ true
-      by_sends true = refl
-      by_sends false = by_write (is_raised (given.inputs.signals.write c))
-
-      by_shown : (b : Bool) → shows_raw (if b then (if burst_sends now then read_burst_of given.longest now.rest else first_burst given.longest given.shape now.burst (burst_raw given.bursts c)) else silent_raw) ≡ b
-      by_shown true = by_sends (burst_sends now)
-      by_shown false = refl
-
-  pub cut_runs : RunsAsCut given.longest (cut_above given) (cut_below given) (cut_state given)
+  pub cut_runs : RunsAsCutter given.longest (cut_above given) (cut_below given) (cut_state given)
   cut_runs = record {
-    shown = λ c. cut_part_shown (cut_registers given c) c;
-    beat = λ c shown. ap (λ b. if b then (if burst_sends (cut_registers given c) then read_burst_of given.longest (cut_registers given c).rest else first_burst given.longest given.shape (cut_registers given c).burst (burst_raw given.bursts c)) else silent_raw)
-        (sym (cut_part_shown (cut_registers given c) c) ∙ shown);
-    accepts = λ c. (let now = cut_registers given c in accepts_first given.bursts now c ∙ ap (λ b. not (burst_sends now) && (b && not (is_raised (given.inputs.waitrequest c)))) (sym (cut_part_shown now c)));
-    burst_begins = refl;
-    burst_next = λ c. refl;
+    shown = λ c. part_shown (cut_registers given c) c;
+    beat = λ c shown. ap (λ b. if b then cut_beat given (cut_registers given c) c else silent_raw) (sym (part_shown (cut_registers given c) c) ∙ shown);
+    accepts = λ c. (let now = cut_registers given c in accepts_first now c ∙ ap (λ b. not (cut_sends now) && (b && not (is_raised (given.inputs.waitrequest c)))) (sym (part_shown now c)));
+    place = λ c fit. record {
+      left = ap (λ (b : Burst). b.left) (burst_is c);
+      address = λ busy. ap (λ (b : Burst). b.first + b.done * given.shape.word_bytes) (burst_is c);
+    };
     rest_begins = refl;
     rest_next = λ c. refl;
     valid = λ c. refl;

@@ -1,5 +1,5 @@
 -- Runs of the machines, for all that is shown to them: the state is told by recursion on the cycle.
-use Rattle.std.specs.Prelude.{ℕ, zero, suc, ◌+◌, ◌-◌, ◌/◌, ◌%◌, ◌^◌, max, ◌&&◌, ◌||◌, Bool, true, false, not, List, [], ◌∷◌, ◌++◌, length, drop, if◌then◌else◌, nat_lt, nat_eq}
+use Rattle.std.specs.Prelude.{ℕ, zero, suc, ◌+◌, ◌-◌, ◌*◌, ◌/◌, ◌%◌, ◌^◌, max, ◌&&◌, ◌||◌, Bool, true, false, not, List, [], ◌∷◌, ◌++◌, length, drop, if◌then◌else◌, nat_lt, nat_eq}
 use Rattle.histories.specs.History.{is_raised, one_if, only_if}
 use Rattle.mm_runs.specs.Views.{Shape, Signals, Levels, levels_at}
 use Rattle.mm_runs.specs.Commands.{Burst, shows, burst_after}
@@ -10,8 +10,7 @@ use Rattle.mm_machines.specs.Machines.{Raw, idle, split_parts, beat_of}
 use Rattle.mm_links.specs.Pipes.{PipeSides}
 use Rattle.mm_links.specs.Selects.{offset_in, selected, silenced, first_of}
 use Rattle.mm_links.specs.Splits.{SplitState, pieces_asked, are_same, put_piece, nothing}
-use Rattle.mm_links.specs.Bursts.{BurstState, Rest, reads_from, cut_parts, head_or, after_beat, behind_first}
-use Rattle.mm_links.specs.Cuts.{read_burst_of, first_burst, behind_burst, whole_read}
+use Rattle.mm_links.specs.Cutters.{CutterState, Rest, Place, read_burst_of, first_burst, behind_burst, whole_read}
 use Rattle.mm_links.specs.Drops.{DropState, Standing, any_lane, sends, accepted, keeps, owes_itself, sent_beat}
 
 -- what is shown to a link: commands from above, wait and answers from below
@@ -268,129 +267,76 @@ split_below given = split_below_with given (split_registers given)
 
 -- ---- a cutter of bursts
 
-pub record BurstInputs : Type 0 where
+pub record CutInputs : Type 0 where
+  pub longest : ℕ
   pub shape : Shape
   pub below : Shape
   pub inputs : Inputs
 
--- the registers in one cycle
-pub record BurstRegisters : Type 0 where
+-- the registers in one cycle: the write burst under way above, and the read
+pub record CutRegisters : Type 0 where
   pub burst : Burst
   pub rest : Rest
 
-abbrev pub burst_raw : BurstInputs → ℕ → Raw
-burst_raw given c = record { levels = levels_at given.inputs.signals c; more = given.inputs.more c; tag = given.inputs.tag c }
+abbrev pub place_in : ℕ → Burst → Place
+place_in bytes burst = record { left = burst.left; address = burst.first + burst.done * bytes }
 
-abbrev pub burst_sends : BurstRegisters → Bool
-burst_sends now = nat_lt 0 now.rest.left
+abbrev pub cut_raw : CutInputs → ℕ → Raw
+cut_raw given c = record { levels = levels_at given.inputs.signals c; more = given.inputs.more c; tag = given.inputs.tag c }
 
-abbrev pub burst_beat : BurstInputs → BurstRegisters → ℕ → Raw
-burst_beat given now c =
-    if burst_sends now then head_or (burst_raw given c) (reads_from given.shape.word_bytes now.rest.command now.rest.address now.rest.left)
-    else head_or (burst_raw given c) (cut_parts given.shape now.burst (burst_raw given c))
+abbrev pub cut_sends : CutRegisters → Bool
+cut_sends now = nat_lt 0 now.rest.left
 
-abbrev pub burst_shows : BurstInputs → BurstRegisters → ℕ → Bool
-burst_shows given now c = if burst_sends now then true else shows given.inputs.signals c
+abbrev pub cut_shows : CutInputs → CutRegisters → ℕ → Bool
+cut_shows given now c = if cut_sends now then true else shows given.inputs.signals c
 
-abbrev pub burst_part : BurstInputs → BurstRegisters → ℕ → Raw
-burst_part given now c = if burst_shows given now c then burst_beat given now c else silent_raw
+abbrev pub cut_beat : CutInputs → CutRegisters → ℕ → Raw
+cut_beat given now c = if cut_sends now then read_burst_of given.longest now.rest else first_burst given.longest given.shape (place_in given.shape.word_bytes now.burst) (cut_raw given c)
 
-abbrev pub burst_takes_below : BurstInputs → BurstRegisters → ℕ → Bool
-burst_takes_below given now c = shows_raw (burst_part given now c) && not (is_raised (given.inputs.waitrequest c))
+abbrev pub cut_part : CutInputs → CutRegisters → ℕ → Raw
+cut_part given now c = if cut_shows given now c then cut_beat given now c else silent_raw
 
-abbrev pub burst_waits : BurstInputs → BurstRegisters → ℕ → ℕ
-burst_waits given now c = one_if (burst_sends now || is_raised (given.inputs.waitrequest c))
-
-abbrev pub burst_takes : BurstInputs → BurstRegisters → ℕ → Bool
-burst_takes given now c = shows given.inputs.signals c && not (is_raised (burst_waits given now c))
-
-abbrev pub burst_step : BurstInputs → BurstRegisters → ℕ → BurstRegisters
-burst_step given now c =
-    record {
-      burst = burst_after given.shape (levels_at given.inputs.signals c) (burst_takes given now c) now.burst;
-      rest = if burst_sends now then (if burst_takes_below given now c then after_beat given.shape.word_bytes now.rest else now.rest)
-          else if burst_takes given now c && not (is_raised (given.inputs.signals.write c)) then behind_first given.shape (burst_raw given c) else now.rest;
-    }
-
-abbrev pub burst_registers : BurstInputs → ℕ → BurstRegisters
-burst_registers given zero = record { burst = idle; rest = record { left = 0; address = 0; command = silent_raw } }
-burst_registers given (suc c) = burst_step given (burst_registers given c) c
-
-abbrev pub burst_state_with : (ℕ → BurstRegisters) → BurstState
-burst_state_with registers = record { burst = λ c. (registers c).burst; rest = λ c. (registers c).rest }
-
-abbrev pub burst_state : BurstInputs → BurstState
-burst_state given = burst_state_with (burst_registers given)
-
-abbrev pub burst_above_with : BurstInputs → (ℕ → BurstRegisters) → Port
-burst_above_with given registers = record {
-  shape = given.shape;
-  commands = record { signals = given.inputs.signals; more = given.inputs.more; tag = given.inputs.tag; waitrequest = λ c. burst_waits given (registers c) c };
-  answers = given.inputs.answers;
-}
-
-abbrev pub burst_above : BurstInputs → Port
-burst_above given = burst_above_with given (burst_registers given)
-
-abbrev pub burst_below_with : BurstInputs → (ℕ → BurstRegisters) → Port
-burst_below_with given registers = record {
-  shape = given.below;
-  commands = record {
-    signals = signals_of (λ c. (burst_part given (registers c) c).levels);
-    more = λ c. (burst_part given (registers c) c).more;
-    tag = λ c. (burst_part given (registers c) c).tag;
-    waitrequest = given.inputs.waitrequest;
-  };
-  answers = given.inputs.answers;
-}
-
-abbrev pub burst_below : BurstInputs → Port
-burst_below given = burst_below_with given (burst_registers given)
-
--- ---- one that cuts them into the bursts that an agent takes
-
-pub record CutInputs : Type 0 where
-  pub longest : ℕ
-  pub bursts : BurstInputs
-  pub open bursts use *
-
-abbrev pub cut_part : CutInputs → BurstRegisters → ℕ → Raw
-cut_part given now c =
-    if burst_shows given.bursts now c then (if burst_sends now then read_burst_of given.longest now.rest else first_burst given.longest given.shape now.burst (burst_raw given.bursts c))
-    else silent_raw
-
-abbrev pub cut_takes_below : CutInputs → BurstRegisters → ℕ → Bool
+abbrev pub cut_takes_below : CutInputs → CutRegisters → ℕ → Bool
 cut_takes_below given now c = shows_raw (cut_part given now c) && not (is_raised (given.inputs.waitrequest c))
 
-abbrev pub cut_step : CutInputs → BurstRegisters → ℕ → BurstRegisters
+abbrev pub cut_waits : CutInputs → CutRegisters → ℕ → ℕ
+cut_waits given now c = one_if (cut_sends now || is_raised (given.inputs.waitrequest c))
+
+abbrev pub cut_takes : CutInputs → CutRegisters → ℕ → Bool
+cut_takes given now c = shows given.inputs.signals c && not (is_raised (cut_waits given now c))
+
+abbrev pub cut_step : CutInputs → CutRegisters → ℕ → CutRegisters
 cut_step given now c =
     record {
-      burst = burst_after given.shape (levels_at given.inputs.signals c) (burst_takes given.bursts now c) now.burst;
-      rest = if burst_sends now then (if cut_takes_below given now c then behind_burst given.longest given.shape.word_bytes now.rest else now.rest)
-          else if burst_takes given.bursts now c && not (is_raised (given.inputs.signals.write c)) then behind_burst given.longest given.shape.word_bytes (whole_read given.shape (burst_raw given.bursts c)) else now.rest;
+      burst = burst_after given.shape (levels_at given.inputs.signals c) (cut_takes given now c) now.burst;
+      rest = if cut_sends now then (if cut_takes_below given now c then behind_burst given.longest given.shape.word_bytes now.rest else now.rest)
+          else if cut_takes given now c && not (is_raised (given.inputs.signals.write c)) then behind_burst given.longest given.shape.word_bytes (whole_read given.shape (cut_raw given c)) else now.rest;
     }
 
-abbrev pub cut_registers : CutInputs → ℕ → BurstRegisters
-cut_registers given zero = record { burst = idle; rest = record { left = 0; address = 0; command = silent_raw } }
+abbrev pub cut_at_rest : CutRegisters
+cut_at_rest = record { burst = idle; rest = record { left = 0; address = 0; command = silent_raw } }
+
+abbrev pub cut_registers : CutInputs → ℕ → CutRegisters
+cut_registers given zero = cut_at_rest
 cut_registers given (suc c) = cut_step given (cut_registers given c) c
 
-abbrev pub cut_state_with : (ℕ → BurstRegisters) → BurstState
-cut_state_with registers = record { burst = λ c. (registers c).burst; rest = λ c. (registers c).rest }
+abbrev pub cut_state_with : CutInputs → (ℕ → CutRegisters) → CutterState
+cut_state_with given registers = record { place = λ c. place_in given.shape.word_bytes (registers c).burst; rest = λ c. (registers c).rest }
 
-abbrev pub cut_state : CutInputs → BurstState
-cut_state given = cut_state_with (cut_registers given)
+abbrev pub cut_state : CutInputs → CutterState
+cut_state given = cut_state_with given (cut_registers given)
 
-abbrev pub cut_above_with : CutInputs → (ℕ → BurstRegisters) → Port
+abbrev pub cut_above_with : CutInputs → (ℕ → CutRegisters) → Port
 cut_above_with given registers = record {
   shape = given.shape;
-  commands = record { signals = given.inputs.signals; more = given.inputs.more; tag = given.inputs.tag; waitrequest = λ c. burst_waits given.bursts (registers c) c };
+  commands = record { signals = given.inputs.signals; more = given.inputs.more; tag = given.inputs.tag; waitrequest = λ c. cut_waits given (registers c) c };
   answers = given.inputs.answers;
 }
 
 abbrev pub cut_above : CutInputs → Port
 cut_above given = cut_above_with given (cut_registers given)
 
-abbrev pub cut_below_with : CutInputs → (ℕ → BurstRegisters) → Port
+abbrev pub cut_below_with : CutInputs → (ℕ → CutRegisters) → Port
 cut_below_with given registers = record {
   shape = given.below;
   commands = record {

@@ -4,10 +4,9 @@ pub mod InStep
 pub mod Pipes
 pub mod Selects
 pub mod Splits
-pub mod Bursts
-pub mod Cuts
 pub mod Drops
 pub mod Passes
 pub mod Driven
 pub mod Soon
 pub mod Begins
+pub mod Cutters

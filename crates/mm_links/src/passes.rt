@@ -4,20 +4,18 @@ ghost use Rattle.std.specs.Prelude.{◌≡◌, ◌<◌, ℕ, List, false};
 ghost use Rattle.mm_machines.specs.Link.{Target, Port, AreLegalAt};
 ghost use Rattle.mm_machines.specs.Machines.{MaySplit};
 ghost use Rattle.mm_machines.specs.PartRanks.{JoinsAlike};
-ghost use Rattle.mm_links.specs.Bursts.{BurstState, RunsAsBurst, IsBurstPlan, is_sending};
-ghost use Rattle.mm_links.specs.Cuts.{RunsAsCut, IsCutPlan};
+ghost use Rattle.mm_links.specs.Cutters.{CutterState, RunsAsCutter, IsCutPlan, is_sending};
 ghost use Rattle.mm_links.specs.Drops.{DropState, RunsAsDrop, IsDropPlan};
 ghost use Rattle.mm_links.specs.Passes.{ShowsWrite, PassesAtOnce, PassesActs, AcceptsActs};
 ghost use Rattle.mm_links.specs.Selects.{RunsAsSelect, IsSelectPlan, EnablesFit};
 ghost use Rattle.mm_links.specs.Splits.{SplitState, RunsAsSplit};
 
-/// A lane selector and the cutters of bursts take a beat below with each one that they accept, and give only words that come from below.
+/// A lane selector and a cutter of bursts take a beat below with each one that they accept, and give only words that come from below.
 /// So does a splitter, where each beat that it accepts has an operation: it swallows empty write beats that are joined to others.
 pub fn links_pass_at_once()
     ensures select { (target : Target) (up down : Port) (many room : ℕ) (offsets : ℕ → List ℕ) → IsSelectPlan target up.shape down.shape many
         → 1 < room → RunsAsSelect room up down offsets → (end : ℕ) → PassesAtOnce up down end }
-    ensures burst { (up down : Port) (state : BurstState) → RunsAsBurst up down state → (end : ℕ) → PassesAtOnce up down end }
-    ensures cut { (longest : ℕ) (up down : Port) (state : BurstState) → RunsAsCut longest up down state → (end : ℕ) → PassesAtOnce up down end }
+    ensures cut { (longest : ℕ) (up down : Port) (state : CutterState) → RunsAsCutter longest up down state → (end : ℕ) → PassesAtOnce up down end }
     ensures split { (target : Target) (room count : ℕ) (up down : Port) (state : SplitState) → MaySplit target up.shape down.shape count
         → RunsAsSplit room up down state → (end : ℕ) → AreLegalAt up end → AcceptsActs target up end → PassesAtOnce up down end }
 {
@@ -31,13 +29,11 @@ pub fn drop_passes_others()
         → RunsAsDrop room up down state → AreLegalAt up end → JoinsAlike target up end → PassesActs 1 target up down end }
 {}
 
-/// A lane selector shows each write beat that ends its command below as such a beat. The cutters of bursts do while they send no read by themselves.
+/// A lane selector shows each write beat that ends its command below as such a beat. A cutter of bursts does while it sends no read by itself.
 pub fn links_show_writes()
     ensures select { (target : Target) (up down : Port) (many room : ℕ) (offsets : ℕ → List ℕ) → IsSelectPlan target up.shape down.shape many
         → 1 < room → RunsAsSelect room up down offsets → (end : ℕ) → EnablesFit up end → AreLegalAt up end → (c : ℕ) → c < end → ShowsWrite up down c }
-    ensures burst { (target : Target) (up down : Port) (state : BurstState) → IsBurstPlan up.shape down.shape → RunsAsBurst up down state
-        → (end : ℕ) → AreLegalAt up end → (c : ℕ) → c < end → is_sending state c ≡ false → ShowsWrite up down c }
-    ensures cut { (target : Target) (longest : ℕ) (up down : Port) (state : BurstState) → IsCutPlan longest up.shape down.shape → RunsAsCut longest up down state
+    ensures cut { (target : Target) (longest : ℕ) (up down : Port) (state : CutterState) → IsCutPlan longest up.shape down.shape → RunsAsCutter longest up down state
         → (end : ℕ) → AreLegalAt up end → (c : ℕ) → c < end → is_sending state c ≡ false → ShowsWrite up down c }
 {
     mm_machines::machines::beat_is_selected()

@@ -1,11 +1,9 @@
 //! Runs of the machines exist for all that is shown to them.
 
 ghost use Rattle.mm_links.specs.Driven.{SelectInputs, PipeInputs, SplitInputs, select_above, select_below, select_queue, pipe_run, split_above, split_below, split_state};
-ghost use Rattle.mm_links.specs.Driven.{BurstInputs, burst_above, burst_below, burst_state};
 ghost use Rattle.mm_links.specs.Driven.{CutInputs, cut_above, cut_below, cut_state};
 ghost use Rattle.mm_links.specs.Driven.{DropInputs, drop_above, drop_below, drop_state};
-ghost use Rattle.mm_links.specs.Bursts.{RunsAsBurst};
-ghost use Rattle.mm_links.specs.Cuts.{RunsAsCut};
+ghost use Rattle.mm_links.specs.Cutters.{RunsAsCutter};
 ghost use Rattle.mm_links.specs.Drops.{RunsAsDrop};
 ghost use Rattle.mm_links.specs.Pipes.{RunsAsPipe};
 ghost use Rattle.mm_links.specs.Selects.{RunsAsSelect};
@@ -26,17 +24,12 @@ pub fn split_runs()
     ensures { (given : SplitInputs) → RunsAsSplit given.room (split_above given) (split_below given) (split_state given) }
 {}
 
-/// There is a run of a cutter of bursts for all commands, waits and answers.
-pub fn burst_runs()
-    ensures { (given : BurstInputs) → RunsAsBurst (burst_above given) (burst_below given) (burst_state given) }
-{}
-
 /// There is a run of what keeps beats without a lane from an agent, for all commands, waits and answers.
 pub fn drop_runs()
     ensures { (given : DropInputs) → RunsAsDrop given.room (drop_above given) (drop_below given) (drop_state given) }
 {}
 
-/// There is a run of what cuts bursts into those that an agent takes, for all commands, waits and answers.
+/// There is a run of a cutter of bursts for all commands, waits and answers.
 pub fn cut_runs()
-    ensures { (given : CutInputs) → RunsAsCut given.longest (cut_above given) (cut_below given) (cut_state given) }
+    ensures { (given : CutInputs) → RunsAsCutter given.longest (cut_above given) (cut_below given) (cut_state given) }
 {}

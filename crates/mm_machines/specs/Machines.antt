@@ -47,6 +47,11 @@ pub record IsFitBeat (shape : Shape) (burst : Burst) (raw : Raw) : Type 0 where
   pub finished : IsTrue (nat_lt 0 burst.left) → IsFalse (is_raised raw.levels.read)
   pub joined : IsTrue ((transfer_of shape raw.levels burst).ends || is_raised raw.more)
 
+-- what a side shows in the cycles before `end` fits where its bursts stand, whatever is accepted
+abbrev pub ShowsFitBeats : Port → ℕ → Type 0
+ShowsFitBeats port end =
+    (c : ℕ) → c < end → IsTrue (shows port.commands.signals c) → IsFitBeat port.shape (burst_before port.shape port.commands.signals (takes port) c) (raw_at port c)
+
 abbrev pub port_of : Shape → CommandView → AnswerView → Port
 port_of shape commands answers = record { shape = shape; commands = commands; answers = answers }
 

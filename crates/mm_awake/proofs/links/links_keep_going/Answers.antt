@@ -5,9 +5,6 @@ pub returns-clause-select : goal.returns-clause-select
 returns-clause-select c = λ target up down many room offsets end plan deep run fit legal owed alike.
     going_alone ((c.select_is_a_link.ensures target up down many room offsets end plan deep run fit).goes_on legal owed alike)
 
-pub returns-clause-burst : goal.returns-clause-burst
-returns-clause-burst c = λ target up down state end plan run legal owed alike. going_alone ((c.burst_is_a_link.ensures target up down state end plan run).goes_on legal owed alike)
-
 pub returns-clause-cut : goal.returns-clause-cut
 returns-clause-cut c = λ target longest up down state end plan run legal owed alike. going_alone ((c.cut_is_a_link.ensures target longest up down state end plan run).goes_on legal owed alike)
 

@@ -8,9 +8,6 @@ returns-clause-any c = λ slack top up down end passes. on_while_still top passe
 pub returns-clause-select : goal.returns-clause-select
 returns-clause-select c = λ target top up down many room offsets plan deep run end. on_while_still top (at_once_passes up down end (c.links_pass_at_once.ensures.select target up down many room offsets plan deep run end))
 
-pub returns-clause-burst : goal.returns-clause-burst
-returns-clause-burst c = λ top up down state run end. on_while_still top (at_once_passes up down end (c.links_pass_at_once.ensures.burst up down state run end))
-
 pub returns-clause-cut : goal.returns-clause-cut
 returns-clause-cut c = λ longest top up down state run end. on_while_still top (at_once_passes up down end (c.links_pass_at_once.ensures.cut longest up down state run end))
 

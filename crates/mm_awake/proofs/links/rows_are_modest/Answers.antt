@@ -5,16 +5,12 @@ pub returns-clause-rows : goal.returns-clause-rows
 returns-clause-rows c = row_is_modest (record {
   links = record {
     wire = c.pass_is_a_link.ensures.link;
-    burst = c.burst_is_a_link.ensures;
     cut = c.cut_is_a_link.ensures;
     select = c.select_is_a_link.ensures;
     split = c.split_is_a_link.ensures;
     drop = c.drop_is_a_link.ensures;
   };
   wire_goes = c.wires_keep_going.ensures;
-  burst_goes = c.links_keep_going.ensures.burst;
-  burst_stirs = c.what_is_swallowed_stirs.ensures.burst;
-  burst_passes = c.links_pass_while_still.ensures.burst;
   cut_goes = c.links_keep_going.ensures.cut;
   cut_stirs = c.what_is_swallowed_stirs.ensures.cut;
   cut_passes = c.links_pass_while_still.ensures.cut;

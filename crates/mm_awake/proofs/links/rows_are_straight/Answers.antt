@@ -8,7 +8,6 @@ laws c = record {
   rows = record {
     links = record {
       wire = c.pass_is_a_link.ensures.link;
-      burst = c.burst_is_a_link.ensures;
       cut = c.cut_is_a_link.ensures;
       select = c.select_is_a_link.ensures;
       split = c.split_is_a_link.ensures;
@@ -19,8 +18,6 @@ laws c = record {
   };
   wire = c.pass_is_a_link.ensures.straight 0 false false;
   wire_steps = c.pass_goes_in_step.ensures;
-  burst = c.burst_is_straight.ensures;
-  burst_steps = c.burst_goes_in_step.ensures;
   cut = c.cut_is_straight.ensures;
   cut_steps = c.cut_goes_in_step.ensures;
   drop = c.drop_is_straight.ensures.straight;
@@ -37,8 +34,7 @@ laws c = record {
   split_begins = c.links_begin_below.ensures.split;
   drop_begins = c.links_begin_below.ensures.drop;
   split_over_drop = c.split_begins_over_drop.ensures;
-  burst_over = c.cutters_begin_over_links.ensures.burst;
-  cut_over = c.cutters_begin_over_links.ensures.cut;
+  cut_over = c.cutters_begin_over_links.ensures;
 }
 
 pub returns-clause-straight : goal.returns-clause-straight

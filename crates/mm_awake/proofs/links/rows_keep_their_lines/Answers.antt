@@ -6,7 +6,6 @@ laws : After-drop_is_a_link → RowLaws
 laws c = record {
   links = record {
     wire = c.pass_is_a_link.ensures.link;
-    burst = c.burst_is_a_link.ensures;
     cut = c.cut_is_a_link.ensures;
     select = c.select_is_a_link.ensures;
     split = c.split_is_a_link.ensures;

@@ -1,12 +1,9 @@
 use Rattle.mm_awake.proofs.Pieces.{split_spent}
-use Rattle.mm_awake.proofs.Stirred.{select_stirs, burst_stirs, cut_stirs, spent_above, spent_further}
+use Rattle.mm_awake.proofs.Stirred.{select_stirs, cut_stirs, spent_above, spent_further}
 use Rattle.mm_awake.proofs.links.what_is_swallowed_stirs.Goals as goal
 
 pub returns-clause-select : goal.returns-clause-select
 returns-clause-select c = select_stirs
-
-pub returns-clause-burst : goal.returns-clause-burst
-returns-clause-burst c = burst_stirs
 
 pub returns-clause-cut : goal.returns-clause-cut
 returns-clause-cut c = cut_stirs

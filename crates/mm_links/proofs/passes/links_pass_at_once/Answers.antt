@@ -1,13 +1,10 @@
-use Rattle.mm_links.specs.Bursts.{is_sending}
+use Rattle.mm_links.specs.Cutters.{is_sending}
 use Rattle.mm_links.proofs.Handing.{select_passes, cutter_passes, split_passes}
 use Rattle.mm_links.proofs.passes.links_pass_at_once.Goals as goal
 
 pub returns-clause-select : goal.returns-clause-select
 returns-clause-select c = λ target up down many room offsets plan deep run end.
     select_passes (λ narrow wide target span may beat lies. c.beat_is_selected.ensures narrow wide target span may beat lies) target up down many room offsets plan deep run end
-
-pub returns-clause-burst : goal.returns-clause-burst
-returns-clause-burst c = λ up down state run end. cutter_passes up down (is_sending state) run.accepts run.valid end
 
 pub returns-clause-cut : goal.returns-clause-cut
 returns-clause-cut c = λ longest up down state run end. cutter_passes up down (is_sending state) run.accepts run.valid end

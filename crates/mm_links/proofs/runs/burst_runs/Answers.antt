@@ -1,5 +1,0 @@
-use Rattle.mm_links.proofs.DrivenRuns.{burst_runs}
-use Rattle.mm_links.proofs.runs.burst_runs.Goals as goal
-
-pub returns : goal.returns
-returns c = burst_runs
