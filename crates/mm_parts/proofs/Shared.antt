@@ -21,6 +21,9 @@ both_idle one other a b = record { left = a ∙ sym b; all = λ e. let is : nat_
 pub same_all : (one other : Burst) → one ≡ other → IsSameBurst one other
 same_all one other e = record { left = ap (λ (b : Burst). b.left) e; all = λ _. e }
 
+pub same_back : (one other : Burst) → IsSameBurst one other → IsSameBurst other one
+same_back one other same = record { left = sym same.left; all = λ e. sym (same.all (ap (λ n. nat_eq n 0) same.left ∙ e)) }
+
 pub same_transfer : (shape : Shape) (levels : Levels) (one other : Burst) → IsSameBurst one other → transfer_of shape levels one ≡ transfer_of shape levels other
 same_transfer shape levels one other same = by_test (nat_eq one.left 0) refl
   where
