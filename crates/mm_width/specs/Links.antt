@@ -1,17 +1,22 @@
--- The links of a host and an agent in a row: a lane selector or a splitter, and below it what drops beats without a lane.
+-- The links of a host and an agent in a row: a cutter of bursts, a lane selector or a splitter, and below it what drops beats without a lane.
 use Rattle.std.specs.Prelude.{ℕ, ◌+◌, ◌*◌, min, max, Bool, if◌then◌else◌, nat_lt, Option, Some, None}
 use Rattle.iface_roles.specs.declared.records.HostPort.{HostPort}
 use Rattle.iface_roles.specs.declared.records.AgentPort.{AgentPort}
 use Rattle.link_core.specs.declared.chain.Chain.{Chain}
 use Rattle.link_core.specs.declared.maybe.Maybe.{Maybe}
+use Rattle.mm_burst.specs.declared.cutter.Cutter.{Cutter}
 use Rattle.mm_select.specs.declared.select.Select.{Select}
 use Rattle.mm_split.specs.declared.split.Split.{Split}
 use Rattle.mm_drop.specs.declared.dropper.Dropper.{Dropper}
-use Rattle.mm_width.specs.Pairs.{needs_drop}
+use Rattle.mm_width.specs.Pairs.{needs_drop, needs_cut, cutter_between}
+
+-- what fits words and beats, below the cutter
+abbrev pub Fitting : Type 0
+Fitting = Chain (Chain (Maybe Select) (Maybe Split)) (Maybe Dropper)
 
 -- each link where it is needed
 abbrev pub Width : Type 0
-Width = Chain (Chain (Maybe Select) (Maybe Split)) (Maybe Dropper)
+Width = Chain (Maybe Cutter) Fitting
 
 -- ---- how many reads they have room for
 
@@ -30,6 +35,9 @@ reads_above host agent stages = min (if host.readdatavalid then 16 else 1) (read
 
 -- ---- each link
 
+abbrev pub cutter_if : Bool → HostPort → AgentPort → Option Cutter
+cutter_if there host agent = if there then Some (cutter_between host agent) else None
+
 -- a selector can't do with less than two
 abbrev pub selector_if : Bool → HostPort → AgentPort → ℕ → Option Select
 selector_if there host agent stages =
@@ -45,11 +53,14 @@ dropper_if there is_split host agent stages =
     if there then Some (record { word_bytes = agent.word_bytes; reads = if is_split then reads_below agent stages else reads_above host agent stages }) else None
 
 -- where the agent is wider, where the host is wider, and where beats are dropped
-abbrev pub width_by : Bool → Bool → Bool → HostPort → AgentPort → ℕ → Width
-width_by narrower wider drops host agent stages = record {
+abbrev pub fitting_by : Bool → Bool → Bool → HostPort → AgentPort → ℕ → Fitting
+fitting_by narrower wider drops host agent stages = record {
   first = record { first = record { link = selector_if narrower host agent stages }; second = record { link = splitter_if wider host agent stages } };
   second = record { link = dropper_if drops wider host agent stages };
 }
 
+abbrev pub fitting_of : HostPort → AgentPort → ℕ → Fitting
+fitting_of host agent stages = fitting_by (nat_lt host.word_bytes agent.word_bytes) (nat_lt agent.word_bytes host.word_bytes) (needs_drop host agent) host agent stages
+
 abbrev pub width_of : HostPort → AgentPort → ℕ → Width
-width_of host agent stages = width_by (nat_lt host.word_bytes agent.word_bytes) (nat_lt agent.word_bytes host.word_bytes) (needs_drop host agent) host agent stages
+width_of host agent stages = record { first = record { link = cutter_if (needs_cut host agent) host agent }; second = fitting_of host agent stages }

@@ -1,37 +1,64 @@
 -- What a host and an agent need between them, and what is asked of the host's command.
-use Rattle.std.specs.Prelude.{◌≡◌, ℕ, ◌*◌, ◌^◌, ◌<◌, ◌≤◌, Bool, true, not, ◌&&◌, ◌==◌}
+use Rattle.std.specs.Prelude.{◌≡◌, ℕ, ◌*◌, ◌^◌, ◌<◌, ◌≤◌, Bool, true, not, ◌&&◌, ◌==◌, if◌then◌else◌, nat_lt}
 use Rattle.iface_roles.specs.declared.records.HostPort.{HostPort}
 use Rattle.iface_roles.specs.declared.records.AgentPort.{AgentPort}
 use Rattle.iface_roles.specs.Proper.{IsWordSize}
+use Rattle.memory_sides.specs.Sides.{burst_width}
 use Rattle.netlist.specs.Netlists.{Netlist}
 use Rattle.netlist.specs.Runs.{Always}
 use Rattle.command_nets.specs.declared.nets.CommandNets.{CommandNets}
 use Rattle.command_nets.specs.Nets.{Widths}
+use Rattle.mm_burst.specs.declared.cutter.Cutter.{Cutter}
+use Rattle.mm_burst.specs.CutterNets.{given_widths}
 
 -- a beat may have no enabled lane, and the agent couldn't see it
 abbrev pub needs_drop : HostPort → AgentPort → Bool
 needs_drop host agent = host.enables && not agent.enables
 
 -- each beat of the host is one of the agent
-abbrev pub is_wire_pair : HostPort → AgentPort → Bool
-is_wire_pair host agent = (host.word_bytes == agent.word_bytes) && not (needs_drop host agent)
+abbrev pub keeps_beats : HostPort → AgentPort → Bool
+keeps_beats host agent = (host.word_bytes == agent.word_bytes) && not (needs_drop host agent)
 
--- words have sizes of the standard, and an agent that is wider than its host has byte enables
+-- bursts may have so many bits of burstcount below the cutter: the agent's, or where a beat may become none or many, that of single beats
+abbrev pub bits_between : HostPort → AgentPort → ℕ
+bits_between host agent = if keeps_beats host agent then burst_width agent.burst_bits else 1
+
+-- the host may have longer ones
+abbrev pub needs_cut : HostPort → AgentPort → Bool
+needs_cut host agent = nat_lt (bits_between host agent) (burst_width host.burst_bits)
+
+-- nothing stands between them
+abbrev pub is_wire_pair : HostPort → AgentPort → Bool
+is_wire_pair host agent = keeps_beats host agent && not (needs_cut host agent)
+
+-- words and bursts have sizes of the standard, and an agent that is wider than its host has byte enables
 pub record MayMeet (host : HostPort) (agent : AgentPort) : Type 0 where
   pub host_word : IsWordSize host.word_bytes
   pub agent_word : IsWordSize agent.word_bytes
+  pub host_bursts : host.burst_bits ≤ 11
+  pub agent_bursts : agent.burst_bits ≤ 11
   pub lanes : host.word_bytes < agent.word_bytes → agent.enables ≡ true
 
--- the nets of a host's command have its word, and an address that counts the bytes of a word of either end
+-- the nets of a host's command have its word and its burstcount, and an address that counts the bytes of a word of either end
 pub record MayAskOf (host : HostPort) (agent : AgentPort) (widths : Widths) : Type 0 where
   pub word : widths.word ≡ host.word_bytes * 8
   pub enables : widths.enables ≡ host.word_bytes
+  pub count : widths.count ≡ burst_width host.burst_bits
   pub reaches_word : host.word_bytes ≤ 2 ^ widths.address
   pub reaches_agent : agent.word_bytes ≤ 2 ^ widths.address
+  pub few : widths.address ≤ 64
+
+-- what cuts the host's bursts, where that is needed
+abbrev pub cutter_between : HostPort → AgentPort → Cutter
+cutter_between host agent = record { word_bytes = host.word_bytes; count_bits = burst_width host.burst_bits; below_bits = bits_between host agent }
+
+-- below the cutter
+abbrev pub widths_between : HostPort → AgentPort → Widths → Widths
+widths_between host agent widths = if needs_cut host agent then given_widths (cutter_between host agent) widths else widths
 
 -- the same with the agent's word
-abbrev pub widths_below : AgentPort → Widths → Widths
-widths_below agent widths = record widths { word = agent.word_bytes * 8; enables = agent.word_bytes }
+abbrev pub widths_below : HostPort → AgentPort → Widths → Widths
+widths_below host agent widths = record (widths_between host agent widths) { word = agent.word_bytes * 8; enables = agent.word_bytes }
 
 -- each command bears this one tag, the number of its host
 pub record BearsOneTag (netlist : Netlist) (command : CommandNets) : Type 0 where

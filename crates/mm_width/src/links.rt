@@ -1,20 +1,27 @@
 //! The links of a host and an agent.
 
 ghost use Rattle.std.specs.Prelude.{◌≡◌, ◌≤◌};
-ghost use Rattle.mm_width.specs.Links.{within_64, reads_below, reads_above, width_of};
+ghost use Rattle.mm_width.specs.Links.{within_64, reads_below, reads_above, fitting_of, width_of};
 
-use crate::pairs::needs_drop;
+use crate::pairs::{cutter_between, needs_cut, needs_drop};
 use iface_roles::{AgentPort, HostPort};
 use link_core::{Chain, Maybe};
+use mm_burst::{Cutter, CutterKept};
 use mm_drop::{Dropper, DropperKept};
 use mm_select::{Select, SelectKept};
 use mm_split::{Split, SplitKept};
 
-/// The links of a pair: a lane selector or a splitter, and below it what drops beats without a lane, each where it is needed.
-pub type Width = Chain<Chain<Maybe<Select>, Maybe<Split>>, Maybe<Dropper>>;
+/// The links of a pair below its cutter: a lane selector or a splitter, and what drops beats without a lane.
+type Fitting = Chain<Chain<Maybe<Select>, Maybe<Split>>, Maybe<Dropper>>;
+
+/// The links of a pair, each where it is needed. The highest one is a cutter of bursts.
+pub type Width = Chain<Maybe<Cutter>, Fitting>;
 
 /// What is kept of them between their two calls, link by link.
-pub type WidthKept = ((Option<SelectKept>, Option<SplitKept>), Option<DropperKept>);
+pub type WidthKept = (
+    Option<CutterKept>,
+    ((Option<SelectKept>, Option<SplitKept>), Option<DropperKept>),
+);
 
 /// From 1 to 64, as a plan's bound is.
 fn within_64(count: u8) -> u8
@@ -45,10 +52,10 @@ fn reads_above(host: &HostPort, agent: &AgentPort, stages: u8) -> u8
     at_host.min(reads_below(agent, stages))
 }
 
-/// The links that a host and an agent need, with so many stages before the agent.
-pub fn width_of(host: &HostPort, agent: &AgentPort, stages: u8) -> Width
+/// What fits words and beats, with so many stages before the agent.
+fn fitting_of(host: &HostPort, agent: &AgentPort, stages: u8) -> Fitting
     requires stages { stages ≤ 4 }
-    ensures { result ≡ width_of host.now agent.now stages }
+    ensures { result ≡ fitting_of host.now agent.now stages }
 {
     let above = reads_above(host, agent, stages);
     let below = reads_below(agent, stages);
@@ -84,5 +91,23 @@ pub fn width_of(host: &HostPort, agent: &AgentPort, stages: u8) -> Width
                 None
             },
         },
+    }
+}
+
+/// The links that a host and an agent need, with so many stages before the agent.
+pub fn width_of(host: &HostPort, agent: &AgentPort, stages: u8) -> Width
+    requires stages { stages ≤ 4 }
+    ensures { result ≡ width_of host.now agent.now stages }
+{
+    let cutter = cutter_between(host, agent);
+    Chain {
+        first: Maybe {
+            link: if needs_cut(host, agent) {
+                Some(cutter)
+            } else {
+                None
+            },
+        },
+        second: fitting_of(host, agent, stages),
     }
 }

@@ -1,9 +1,11 @@
 //! What a host and an agent need between them.
 
 ghost use Rattle.std.specs.Prelude.{◌≡◌};
-ghost use Rattle.mm_width.specs.Pairs.{needs_drop, is_wire_pair};
+ghost use Rattle.memory_sides.specs.Sides.{burst_width};
+ghost use Rattle.mm_width.specs.Pairs.{needs_drop, keeps_beats, bits_between, needs_cut, is_wire_pair, cutter_between};
 
 use iface_roles::{AgentPort, HostPort};
+use mm_burst::Cutter;
 
 /// Whether a beat may have no enabled lane that the agent, which lacks byte enables, can't see.
 pub fn needs_drop(host: &HostPort, agent: &AgentPort) -> bool
@@ -12,9 +14,52 @@ pub fn needs_drop(host: &HostPort, agent: &AgentPort) -> bool
     host.enables && !agent.enables
 }
 
-/// Whether each beat of the host is one of the agent, so that nothing stands between them.
+/// Whether each beat of the host is one of the agent.
+fn keeps_beats(host: &HostPort, agent: &AgentPort) -> bool
+    ensures { result ≡ keeps_beats host.now agent.now }
+{
+    host.word_bytes == agent.word_bytes && !needs_drop(host, agent)
+}
+
+/// The width of a burstcount, 1 where there is none.
+fn burst_width(bits: u8) -> u8
+    ensures { result ≡ burst_width bits }
+{
+    if bits == 0 { 1 } else { bits }
+}
+
+/// The bits of the burstcount below a cutter: the agent's, or where a beat may become none or many, that of single beats.
+fn bits_between(host: &HostPort, agent: &AgentPort) -> u8
+    ensures { result ≡ bits_between host.now agent.now }
+{
+    if keeps_beats(host, agent) {
+        burst_width(agent.burst_bits)
+    } else {
+        1
+    }
+}
+
+/// Whether the host may have longer bursts than those.
+pub fn needs_cut(host: &HostPort, agent: &AgentPort) -> bool
+    ensures { result ≡ needs_cut host.now agent.now }
+{
+    bits_between(host, agent) < burst_width(host.burst_bits)
+}
+
+/// What cuts the host's bursts, where that is needed.
+pub fn cutter_between(host: &HostPort, agent: &AgentPort) -> Cutter
+    ensures { result ≡ cutter_between host.now agent.now }
+{
+    Cutter {
+        word_bytes: host.word_bytes,
+        count_bits: burst_width(host.burst_bits),
+        below_bits: bits_between(host, agent),
+    }
+}
+
+/// Whether nothing stands between a host and an agent.
 pub fn is_wire_pair(host: &HostPort, agent: &AgentPort) -> bool
     ensures { result ≡ is_wire_pair host.now agent.now }
 {
-    host.word_bytes == agent.word_bytes && !needs_drop(host, agent)
+    keeps_beats(host, agent) && !needs_cut(host, agent)
 }

@@ -35,7 +35,7 @@ pub fn begin_width(
     requires tag { BearsOneTag builder.old from }
     requires begun { AreBegunWidths begun.old.items builder.old }
     ensures command { IfOk result (λ to. AreCommandNets builder.new to) }
-    ensures widths { IfOk result (λ to. widths_of to ≡ widths_below agent.now (widths_of from)) }
+    ensures widths { IfOk result (λ to. widths_of to ≡ widths_below host.now agent.now (widths_of from)) }
     ensures tag { IfOk result (λ to. to.tag ≡ from.tag) }
     ensures wire { is_wire_pair host.now agent.now ≡ true → IfOk result (λ to. to ≡ from) }
     ensures begun { OnOk result (AreBegunWidths begun.new.items builder.new) }
@@ -97,8 +97,9 @@ pub fn finish_width(
     ensures full { result ≡ Err NetFault.TooManyNets → 2 ^ 20 < length builder.old.lines + width_answer_nets }
 {
     let Begun { link, kept, .. } = one;
-    link.first.first.law();
-    link.first.second.law();
-    link.second.law();
+    link.first.law();
+    link.second.first.first.law();
+    link.second.first.second.law();
+    link.second.second.law();
     link.emit_answer(builder, kept, wait, answer)
 }

@@ -20,7 +20,7 @@ returns-clause-others c =
 pub returns-clause-machine : goal.returns-clause-machine
 returns-clause-machine c =
     let begun = begun_last c.args.others.now c.args.one c.args.builder.now c.requires.begun in
-    let laws : AreLaws c.args.one.link = record { select = c.law.ensures.machine; split = c.law-2.ensures.machine; drop = c.law-3.ensures.machine } in
+    let laws : AreLaws c.args.one.link = record { cut = c.law.ensures.machine; select = c.law-2.ensures.machine; split = c.law-3.ensures.machine; drop = c.law-4.ensures.machine } in
     if_ok c.emit_answer.result _
     (λ (p : NetValue × AnswerNets). WidthInLonger c.args.host.now c.args.agent.now c.emit_answer.new.builder c.args.one.from p.0 p.1 (command_below c.args.one.from c.args.one.to) c.args.wait c.args.answer)
     (λ p made. machines_between c.args.host.now c.args.agent.now c.args.stages c.requires.pair (subst AreLaws c.requires.link laws) c.args.one.from c.args.one.to c.args.one.kept c.args.wait c.args.answer p.0 p.1 c.args.builder.now c.emit_answer.new.builder c.requires.tag

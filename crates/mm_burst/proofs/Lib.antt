@@ -1,0 +1,3 @@
+mod CutterLaw
+mod Levels
+mod Steps
