@@ -6,6 +6,7 @@ use Rattle.netlist.specs.Netlists.{Netlist}
 use Rattle.netlist.specs.Longer.{Extends}
 use Rattle.net_parts.specs.Nets.{IsRegister}
 use Rattle.net_parts.specs.Laws.{extends_twice, net_lasts, register_lasts}
+use Rattle.memory_sides.specs.Sides.{burst_width}
 use Rattle.command_nets.specs.declared.nets.CommandNets.{CommandNets}
 use Rattle.command_nets.specs.Nets.{AreCommandNets}
 use Rattle.command_nets.specs.Groups.{command_lasts, answer_lasts}
@@ -44,6 +45,7 @@ pub record StandsBelow (begun grown done : Netlist) (stages : ℕ) (port : Agent
   pub command_is : AreCommandNets begun command
   pub word : command.word.width ≡ port.word_bytes * 8
   pub enables : command.enables.width ≡ port.word_bytes
+  pub count : command.count.width ≡ burst_width port.burst_bits
   pub tag : command.tag.width ≡ 4
   pub chosen : ArbiterForward askers commands asked arbiter begun
   pub stages_ignore : IgnoresInLonger begun asked command
@@ -69,6 +71,7 @@ agent_part_is begun grown done stages port nets askers commands asked told comma
       command = command_lasts begun done command e h.command_is;
       word = h.word;
       enables = h.enables;
+      count = h.count;
       tag = h.tag;
       made = made_last grown done port command made h.made_are h.ends;
       registers = λ n o. register_lasts grown done n h.ends (h.registers n o);

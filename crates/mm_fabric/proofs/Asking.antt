@@ -60,6 +60,9 @@ address_width widths command e = ap (λ ws. first_value (drop 2 ws)) e
 pub word_width : (widths : Widths) (command : CommandNets) → group_widths (group_of command) ≡ all_widths widths → command.word.width ≡ widths.word
 word_width widths command e = ap (λ ws. first_value (drop 3 ws)) e
 
+pub count_width : (widths : Widths) (command : CommandNets) → group_widths (group_of command) ≡ all_widths widths → command.count.width ≡ widths.count
+count_width widths command e = ap (λ ws. first_value (drop 5 ws)) e
+
 pub enables_width : (widths : Widths) (command : CommandNets) → group_widths (group_of command) ≡ all_widths widths → command.enables.width ≡ widths.enables
 enables_width widths command e = ap (λ ws. first_value (drop 4 ws)) e
 

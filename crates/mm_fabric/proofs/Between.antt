@@ -1,10 +1,10 @@
 -- The links between the route of a host and the arbiter of an agent, as a run shows them.
-use Rattle.std.proofs.Common.{◌≡◌, ℕ, ◌<◌, Bool, true, false, not, ◌&&◌, ◌||◌, nat_eq, IsTrue, refl, sym, subst, ap, ap₂, ◌∙◌}
+use Rattle.std.proofs.Common.{◌≡◌, ℕ, ◌<◌, ◌≤◌, Bool, true, false, not, ◌&&◌, ◌||◌, nat_eq, IsTrue, refl, sym, subst, ap, ap₂, ◌∙◌, arith}
 use Rattle.std.specs.Bool.{IsFalse}
-use Rattle.std.proofs.Math.Nat.{le_refl}
 use Rattle.std.proofs.Math.Path.{fun_ext}
-use Rattle.std.proofs.lemmas.Bool.{and_parts, eqb-true, false≢true}
-use Rattle.std.proofs.lemmas.Nat.{pow_pos}
+use Rattle.std.proofs.lemmas.Bool.{and_parts, eqb-true, le-ltb, false≢true}
+use Rattle.iface_roles.specs.declared.records.AgentPort.{AgentPort}
+use Rattle.iface_roles.specs.declared.records.HostPort.{HostPort}
 use Rattle.netlist.specs.Netlists.{Netlist}
 use Rattle.netlist.specs.Runs.{Run, IsEndlessRun, cycle_of}
 use Rattle.netlist.specs.Longer.{Extends}
@@ -15,26 +15,25 @@ use Rattle.mm_runs.specs.Plan.{IsMemoryPlan}
 use Rattle.mm_runs.specs.Views.{AgentSide, HostSide}
 use Rattle.mm_machines.specs.Link.{Port, Target}
 use Rattle.mm_machines.specs.Lines.{target_of}
-use Rattle.mm_machines.specs.Machines.{Raw, port_of}
+use Rattle.mm_machines.specs.Machines.{Raw, ShowsFitBeats, port_of}
 use Rattle.mm_machines.specs.Paths.{CommandView}
-use Rattle.mm_parts.specs.Joins.{JoinsBeats}
+use Rattle.mm_arbiter.specs.Machine.{JoinsBeats}
 use Rattle.memory_sides.specs.Sides.{burst_width, host_side, agent_side}
 use Rattle.memory_plans.specs.Systems.{memory_system}
 use Rattle.command_nets.specs.Nets.{port_in, raw_in, answer_view}
 use Rattle.mm_route.specs.declared.back.BackNets.{BackNets}
-use Rattle.mm_awake.specs.Rows.{IsWired, FitsWords, DropsBeats, drops_some}
+use Rattle.mm_awake.specs.Rows.{IsWired, CutsBursts, FitsWords, DropsBeats, DropsBeats.dropper, DropsBeats.no_dropper, drops_some}
 use Rattle.mm_awake.specs.Wires.{IsWire, HandsAllOn}
-use Rattle.mm_width.specs.Pairs.{needs_drop, is_wire_pair}
-use Rattle.mm_width.specs.Widths.{IsTargetOf, RunsAsWidth, byte_shape}
+use Rattle.mm_width.specs.Pairs.{needs_drop, keeps_beats, bits_between, needs_cut, is_wire_pair}
+use Rattle.mm_width.specs.Widths.{IsTargetOf, RunsAsWidth, inner_shape}
 use Rattle.mm_fabric.specs.declared.parts.Seat.{Seat}
 use Rattle.mm_fabric.specs.declared.parts.Way.{Way}
 use Rattle.mm_fabric.specs.Fabrics.{Fabric, IsFabric, AreJoined}
-use Rattle.mm_fabric.proofs.Boundaries.{below_route, above_arbiter, route_side, arbiter_side}
+use Rattle.mm_fabric.proofs.BurstWidths.{some_width, width_or_one}
+use Rattle.mm_fabric.proofs.Boundaries.{Inner, below_route, above_arbiter, route_side, arbiter_side}
 use Rattle.mm_fabric.proofs.Choices.{choose}
 use Rattle.mm_fabric.proofs.Known.{always_valued, host_is, agent_is}
-use Rattle.mm_fabric.proofs.Seats.{seat_side}
-use Rattle.mm_fabric.proofs.Singles.{HaveOneBeat, singles_join, fits_keep, drops_keep}
-use Rattle.mm_fabric.proofs.Ways.{way_side}
+use Rattle.mm_fabric.proofs.Singles.{CuttersShowFit, cuts_keep, words_keep, drops_join}
 
 -- ---- a wire between sides with the same beats
 
@@ -55,32 +54,45 @@ commands_by raws wait = record {
 }
 
 -- of a seat, below and above its links
-abbrev pub below_links : ℕ → Run → Seat → Port
-below_links bytes run seat = port_in (byte_shape bytes) run seat.command seat.back.wait seat.back.answer
+abbrev pub below_links : AgentPort → Run → Seat → Port
+below_links agent run seat = port_in (inner_shape agent.word_bytes (burst_width agent.burst_bits)) run seat.command seat.back.wait seat.back.answer
 
-abbrev pub above_links : ℕ → Run → Way → Seat → Port
-above_links bytes run way seat = port_in (byte_shape bytes) run way.command seat.told.wait seat.told.answer
+abbrev pub above_links : HostPort → Run → Way → Seat → Port
+above_links host run way seat = port_in (inner_shape host.word_bytes (burst_width host.burst_bits)) run way.command seat.told.wait seat.told.answer
 
-wire_between : (words other : ℕ) (run : Run) (way : Way) (seat : Seat) → words ≡ other → ((c : ℕ) → raw_in (cycle_of run c) seat.command ≡ raw_in (cycle_of run c) way.command) → seat.back ≡ seat.told →
-    IsWire (above_links words run way seat) (below_links other run seat)
-wire_between words other run way seat same beat back = record {
-  same =
-      ap (λ n. above_links n run way seat) same
-      ∙ ap (λ (raws : ℕ → Raw). port_of (byte_shape other) (commands_by raws (λ c. run.net c seat.told.wait.number)) (answer_view run seat.told.answer)) (fun_ext (λ c. sym (beat c)))
-      ∙ ap (λ (back : BackNets). port_in (byte_shape other) run seat.command back.wait back.answer) (sym back);
-  longer = le_refl 1;
-}
+wire_between : (host : HostPort) (agent : AgentPort) (run : Run) (way : Way) (seat : Seat) → host.word_bytes ≡ agent.word_bytes → burst_width host.burst_bits ≤ burst_width agent.burst_bits → ((c : ℕ) → raw_in (cycle_of run c) seat.command ≡ raw_in (cycle_of run c) way.command) → seat.back ≡ seat.told →
+    IsWire (above_links host run way seat) (below_links agent run seat)
+wire_between host agent run way seat same longer beat back =
+    let bits : ℕ = burst_width agent.burst_bits in
+    record {
+      same =
+          ap (λ n. port_in (inner_shape n bits) run way.command seat.told.wait seat.told.answer) same
+          ∙ ap (λ (raws : ℕ → Raw). port_of (inner_shape agent.word_bytes bits) (commands_by raws (λ c. run.net c seat.told.wait.number)) (answer_view run seat.told.answer)) (fun_ext (λ c. sym (beat c)))
+          ∙ ap (λ (back : BackNets). port_in (inner_shape agent.word_bytes bits) run seat.command back.wait back.answer) (sym back);
+      longer = longer;
+    }
 
 -- ---- what a host and an agent need between them
 
 -- where plain commands go one for one, no beat is dropped
-no_drop_alike : (words bursts host agent : Bool) → ((words && bursts) && (not host || agent)) ≡ true → (words ≡ true) × ((host && not agent) ≡ false)
-no_drop_alike words bursts true true alike = ((and_parts words bursts (and_parts _ _ alike).0).0, refl)
-no_drop_alike words bursts true false alike = absurd (false≢true (and_parts (words && bursts) false alike).1)
-no_drop_alike words bursts false agent alike = ((and_parts words bursts (and_parts _ _ alike).0).0, refl)
+no_drop_alike : (words single host agent : Bool) → ((words && single) && (not host || agent)) ≡ true → ((words ≡ true) × (single ≡ true)) × ((host && not agent) ≡ false)
+no_drop_alike words single true true alike = (and_parts words single (and_parts _ _ alike).0, refl)
+no_drop_alike words single true false alike = absurd (false≢true (and_parts (words && single) false alike).1)
+no_drop_alike words single false agent alike = (and_parts words single (and_parts _ _ alike).0, refl)
 
 wire_if : (words drops : Bool) → words ≡ true → drops ≡ false → (words && not drops) ≡ true
 wire_if words drops same none = ap₂ (λ x y. x && not y) same none
+
+-- a host without bursts needs none cut
+single_uncut : (host : HostPort) (agent : AgentPort) → host.burst_bits ≡ 0 → needs_cut host agent ≡ false
+single_uncut host agent none =
+    let one : burst_width host.burst_bits ≡ 1 = ap burst_width none in
+    let some = width_or_one (keeps_beats host agent) agent.burst_bits in
+    le-ltb (bits_between host agent) (burst_width host.burst_bits) (omega (arith, one, some))
+
+low_twice : (b : Bool) → not (not b) ≡ true → b ≡ true
+low_twice true e = refl
+low_twice false e = e
 
 lanes_if : (host agent : Bool) → (host && not agent) ≡ false → (agent || not host) ≡ true
 lanes_if true true none = refl
@@ -88,21 +100,25 @@ lanes_if true false none = absurd (false≢true (sym none))
 lanes_if false true none = refl
 lanes_if false false none = refl
 
--- ---- a side among the links
+-- ---- the sides among the links
 
--- by this side words are made those of the agent above, and beats are dropped below
-pub record LeadsBy (target : Target) (drops : Bool) (up down low : Port) : Type 0 where
-  pub fits : FitsWords target up low
-  pub dropped : DropsBeats target low down
+-- by these sides bursts are cut, words are made those of the agent, and beats are dropped below
+pub record LeadsBy (target : Target) (drops : Bool) (up down : Port) (inner : Inner) : Type 0 where
+  pub cuts : CutsBursts up inner.middle
+  pub fits : FitsWords target inner.middle inner.low
+  pub dropped : DropsBeats target inner.low down
   pub is : drops_some dropped ≡ drops
 
--- of a host and an agent. Where these aren't joined it is the one above
-pub record StandsBetween (plan : PlanTable) (fabric : Fabric) (run : Run) (h a : ℕ) (low : Port) : Type 0 where
-  pub leads : IsTrue (is_joined (memory_system plan) a h) → LeadsBy (target_of (memory_system plan) a) (needs_drop (fabric.host h).port (fabric.agent a).port) (below_route plan fabric run h a) (above_arbiter fabric run h a) low
-  pub none : IsFalse (is_joined (memory_system plan) a h) → low ≡ below_route plan fabric run h a
+abbrev pub inner_of : Port → Inner
+inner_of port = record { middle = port; low = port }
 
-leads_by : (target : Target) (drops : Bool) (up down : Port) → RunsAsWidth drops target up down → (low : Port) × LeadsBy target drops up down low
-leads_by target drops up down run = (run.low, record { fits = run.fits; dropped = run.dropped; is = run.is })
+-- of a host and an agent. Where these aren't joined both are the one above
+pub record StandsBetween (plan : PlanTable) (fabric : Fabric) (run : Run) (h a : ℕ) (inner : Inner) : Type 0 where
+  pub leads : IsTrue (is_joined (memory_system plan) a h) → LeadsBy (target_of (memory_system plan) a) (needs_drop (fabric.host h).port (fabric.agent a).port) (below_route plan fabric run h a) (above_arbiter fabric run h a) inner
+  pub none : IsFalse (is_joined (memory_system plan) a h) → inner ≡ inner_of (below_route plan fabric run h a)
+
+leads_by : (target : Target) (drops : Bool) (up down : Port) → RunsAsWidth drops target up down → (inner : Inner) × LeadsBy target drops up down inner
+leads_by target drops up down run = (record { middle = run.middle; low = run.low }, record { cuts = run.cuts; fits = run.fits; dropped = run.dropped; is = run.is })
 
 module _ (plan : PlanTable) (planned : IsMemoryPlan (memory_system plan)) (netlist : Netlist) (fabric : Fabric) (is : IsFabric plan netlist fabric)
     (longer : Netlist) (extends : Extends netlist longer) (run : Run) (endless : IsEndlessRun longer run) where
@@ -110,18 +126,14 @@ module _ (plan : PlanTable) (planned : IsMemoryPlan (memory_system plan)) (netli
     abbrev Joins : Type 0
     Joins = AreJoined netlist h a (fabric.host h) (fabric.agent a)
 
-    above_is : (joins : Joins) → below_route plan fabric run h a ≡ above_links (fabric.host h).port.word_bytes run joins.way joins.seat
+    above_is : (joins : Joins) → below_route plan fabric run h a ≡ above_links (fabric.host h).port run joins.way joins.seat
     above_is joins =
-        let words = (fabric.host h).port.word_bytes in
+        let host = (fabric.host h).port in
         route_side plan planned netlist fabric is longer extends run endless h a low joins
-        ∙ ap (λ bits. way_side (record { word_bytes = words; unit_bytes = 1; burst_bits = burst_width bits; has_enables = true }) run joins.way) joins.host_single
-        ∙ ap (λ (back : BackNets). port_in (byte_shape words) run joins.way.command back.wait back.answer) joins.back
+        ∙ ap (λ (back : BackNets). port_in (inner_shape host.word_bytes (burst_width host.burst_bits)) run joins.way.command back.wait back.answer) joins.back
 
-    below_is : (joins : Joins) → above_arbiter fabric run h a ≡ below_links (fabric.agent a).port.word_bytes run joins.seat
-    below_is joins =
-        let words = (fabric.agent a).port.word_bytes in
-        arbiter_side plan planned netlist fabric is longer extends run endless h a low joins
-        ∙ ap (λ bits. seat_side (record { word_bytes = words; unit_bytes = 1; burst_bits = burst_width bits; has_enables = true }) run joins.seat) joins.agent_single
+    below_is : (joins : Joins) → above_arbiter fabric run h a ≡ below_links (fabric.agent a).port run joins.seat
+    below_is joins = arbiter_side plan planned netlist fabric is longer extends run endless h a low joins
 
     target_is : IsTargetOf (fabric.agent a).port (target_of (memory_system plan) a)
     target_is =
@@ -134,22 +146,16 @@ module _ (plan : PlanTable) (planned : IsMemoryPlan (memory_system plan)) (netli
         let drops = needs_drop (fabric.host h).port (fabric.agent a).port in
         let made = joins.meets.runs longer extends run endless target target_is in
         subst (λ (p : Port). RunsAsWidth drops target p (above_arbiter fabric run h a)) (sym (above_is joins))
-        (subst (λ (p : Port). RunsAsWidth drops target (above_links (fabric.host h).port.word_bytes run joins.way joins.seat) p) (sym (below_is joins)) made)
+        (subst (λ (p : Port). RunsAsWidth drops target (above_links (fabric.host h).port run joins.way joins.seat) p) (sym (below_is joins)) made)
 
-    between : (low : Port) × StandsBetween plan fabric run h a low
+    between : (inner : Inner) × StandsBetween plan fabric run h a inner
     between = by (is_joined (memory_system plan) a h) refl
       where
-        by : (b : Bool) → is_joined (memory_system plan) a h ≡ b → (low : Port) × StandsBetween plan fabric run h a low
+        by : (b : Bool) → is_joined (memory_system plan) a h ≡ b → (inner : Inner) × StandsBetween plan fabric run h a inner
         by true has =
             let found = leads_by (target_of (memory_system plan) a) (needs_drop (fabric.host h).port (fabric.agent a).port) (below_route plan fabric run h a) (above_arbiter fabric run h a) (width_runs (is.joined h a low there has)) in
             (found.0, record { leads = λ joined. found.1; none = λ apart. absurd (false≢true (sym apart ∙ has)) })
-        by false apart = (below_route plan fabric run h a, record { leads = λ joined. absurd (false≢true (sym apart ∙ joined)); none = λ apart. refl })
-
-    -- words of both ends have a byte
-    pub some_word : (joins : Joins) → 0 < (below_route plan fabric run h a).shape.word_bytes
-    some_word joins =
-        let size = joins.pair.host_word in
-        subst (λ (p : Port). 0 < p.shape.word_bytes) (sym (above_is joins)) (subst (λ n. 0 < n) (sym size.power) (pow_pos size.exponent))
+        by false apart = (inner_of (below_route plan fabric run h a), record { leads = λ joined. absurd (false≢true (sym apart ∙ joined)); none = λ apart. refl })
 
     -- a host that is alike to the agent is wired to it
     pub alike_wire : (joins : Joins) → IsTrue (is_alike ((memory_system plan).host h) ((memory_system plan).agent a)) → IsWire (below_route plan fabric run h a) (above_arbiter fabric run h a)
@@ -158,11 +164,15 @@ module _ (plan : PlanTable) (planned : IsMemoryPlan (memory_system plan)) (netli
         let agent = (fabric.agent a).port in
         let sides : is_alike (host_side host) (agent_side agent) ≡ true = sym (ap₂ (λ (x : HostSide) (y : AgentSide). is_alike x y) (host_is plan netlist fabric is h low) (agent_is plan netlist fabric is a there)) ∙ alike in
         let plain = no_drop_alike (nat_eq host.word_bytes agent.word_bytes) (not (not (nat_eq host.burst_bits 0))) host.enables agent.enables sides in
-        let pair : is_wire_pair host agent ≡ true = wire_if (nat_eq host.word_bytes agent.word_bytes) (needs_drop host agent) plain.0 plain.1 in
+        let single : host.burst_bits ≡ 0 = eqb-true host.burst_bits 0 (low_twice (nat_eq host.burst_bits 0) plain.0.1) in
+        let keeps : keeps_beats host agent ≡ true = wire_if (nat_eq host.word_bytes agent.word_bytes) (needs_drop host agent) plain.0.0 plain.1 in
+        let pair : is_wire_pair host agent ≡ true = wire_if (keeps_beats host agent) (needs_cut host agent) keeps (single_uncut host agent single) in
         let met = joins.meets.wire pair in
-        let made = wire_between host.word_bytes agent.word_bytes run joins.way joins.seat (eqb-true host.word_bytes agent.word_bytes plain.0) (λ c. met.0 (cycle_of run c) (always_valued netlist longer extends run endless c)) met.1 in
+        let one : burst_width host.burst_bits ≡ 1 = ap burst_width single in
+        let some = some_width agent.burst_bits in
+        let made = wire_between host agent run joins.way joins.seat (eqb-true host.word_bytes agent.word_bytes plain.0.0) (omega (arith, one, some)) (λ c. met.0 (cycle_of run c) (always_valued netlist longer extends run endless c)) met.1 in
         subst (λ (p : Port). IsWire p (above_arbiter fabric run h a)) (sym (above_is joins))
-        (subst (λ (p : Port). IsWire (above_links host.word_bytes run joins.way joins.seat) p) (sym (below_is joins)) made)
+        (subst (λ (p : Port). IsWire (above_links host run joins.way joins.seat) p) (sym (below_is joins)) made)
 
     -- where no beat is dropped the agent has byte enables, or the host none
     pub lanes : needs_drop (fabric.host h).port (fabric.agent a).port ≡ false → IsTrue (((memory_system plan).agent a).has_enables || not ((memory_system plan).host h).has_enables)
@@ -171,23 +181,30 @@ module _ (plan : PlanTable) (planned : IsMemoryPlan (memory_system plan)) (netli
         let host : ((memory_system plan).host h).has_enables ≡ (fabric.host h).port.enables = ap (λ (s : HostSide). s.has_enables) (host_is plan netlist fabric is h low) in
         ap₂ (λ x y. x || not y) agent host ∙ lanes_if (fabric.host h).port.enables (fabric.agent a).port.enables none
 
-  pub sides_between : (low : ℕ → ℕ → Port) × ((h : ℕ) → h < (memory_system plan).hosts → (a : ℕ) → a < (memory_system plan).agents → StandsBetween plan fabric run h a (low h a))
+  pub sides_between : (inner : ℕ → ℕ → Inner) × ((h : ℕ) → h < (memory_system plan).hosts → (a : ℕ) → a < (memory_system plan).agents → StandsBetween plan fabric run h a (inner h a))
   sides_between =
-      choose {X = ℕ → Port} (λ h row. (a : ℕ) → a < (memory_system plan).agents → StandsBetween plan fabric run h a (row a)) (memory_system plan).hosts (λ a. below_route plan fabric run 0 a)
-      (λ h low. choose {X = Port} (λ a side. StandsBetween plan fabric run h a side) (memory_system plan).agents (below_route plan fabric run h 0) (λ a there. between h a low there))
+      choose {X = ℕ → Inner} (λ h row. (a : ℕ) → a < (memory_system plan).agents → StandsBetween plan fabric run h a (row a)) (memory_system plan).hosts (λ a. inner_of (below_route plan fabric run 0 a))
+      (λ h low. choose {X = Inner} (λ a inner. StandsBetween plan fabric run h a inner) (memory_system plan).agents (inner_of (below_route plan fabric run h 0)) (λ a there. between h a low there))
 
--- a side as a wire to itself
-pub wired_to_itself : (port : Port) → 0 < port.shape.word_bytes → IsWired port port
-wired_to_itself port some = record { wire = record { same = refl; longer = le_refl port.shape.burst_bits }; some = some }
+-- where nothing is joined all that is shown goes on by these sides
+pub record HandsOnBy (up down : Port) (inner : Inner) : Type 0 where
+  pub high : HandsAllOn up inner.middle
+  pub mid : HandsAllOn inner.middle inner.low
+  pub low : HandsAllOn inner.low down
 
--- where nothing is joined all that is shown goes on by this side
-pub record HandsOnBy (up low down : Port) : Type 0 where
-  pub high : HandsAllOn up low
-  pub rest : HandsAllOn low down
+pub hands_on : (up down : Port) (inner : Inner) → inner ≡ inner_of up → HandsAllOn up down → HandsOnBy up down inner
+hands_on up down inner same hands =
+    subst (λ (i : Inner). HandsOnBy up down i) (sym same) (record { high = record { commands = refl; answers = refl }; mid = record { commands = refl; answers = refl }; low = hands })
 
-pub hands_on : (up low down : Port) → low ≡ up → HandsAllOn up down → HandsOnBy up low down
-hands_on up low down same hands = subst (λ (p : Port). HandsOnBy up p down) (sym same) (record { high = record { commands = refl; answers = refl }; rest = hands })
+-- what fits above the links leads to joined beats below
+pub joined_below : CuttersShowFit → (target : Target) (drops : Bool) (up down : Port) (inner : Inner) (end : ℕ) → LeadsBy target drops up down inner → ShowsFitBeats up end → JoinsBeats down end
+joined_below law target drops up down inner end leads fit =
+    drops_join target inner.low down end leads.dropped (words_keep target inner.middle inner.low end leads.fits (cuts_keep law up inner.middle end leads.cuts fit))
 
--- single commands above the links lead to joined ones below
-pub joined_below : (target : Target) (drops : Bool) (up down low : Port) (end : ℕ) → LeadsBy target drops up down low → HaveOneBeat up end → JoinsBeats down end
-joined_below target drops up down low end leads one = singles_join down end (drops_keep target low down end leads.dropped (fits_keep target up low end leads.fits one))
+none_dropped : (target : Target) (up down : Port) (drops : DropsBeats target up down) → drops_some drops ≡ false → IsWired up down
+none_dropped target up down (dropper room state plan some run) none = absurd (false≢true (sym none))
+none_dropped target up down (no_dropper wired) none = wired
+
+-- below a host without byte enables no beats are dropped
+pub wired_below : (target : Target) (host : HostPort) (agent : AgentPort) (up down : Port) (inner : Inner) → LeadsBy target (needs_drop host agent) up down inner → host.enables ≡ false → IsWired inner.low down
+wired_below target host agent up down inner leads lacks = none_dropped target inner.low down leads.dropped (leads.is ∙ ap (λ b. b && not agent.enables) lacks)

@@ -68,13 +68,18 @@ silent_above fabric run h a = silent_port (shape_above (fabric.agent a).port) ru
 abbrev pub above_arbiter : Fabric → Run → ℕ → ℕ → Port
 above_arbiter fabric run h a = option_map_or (seat_side (shape_above (fabric.agent a).port) run) (seat_of h (fabric.agent a).seats) (silent_above fabric run h a)
 
--- with a side among the links of each host and agent, and a pipe for each agent
-abbrev pub ports_in : PlanTable → Fabric → (ℕ → ℕ → Port) → (ℕ → PipeSides) → Run → RowPorts
-ports_in plan fabric low pipe run = record {
+-- the sides among the links of a host and an agent: below what cuts bursts, and above what drops beats
+pub record Inner : Type 0 where
+  pub middle : Port
+  pub low : Port
+
+-- with those of each host and agent, and a pipe for each agent
+abbrev pub ports_in : PlanTable → Fabric → (ℕ → ℕ → Inner) → (ℕ → PipeSides) → Run → RowPorts
+ports_in plan fabric inner pipe run = record {
   after_host = λ h. below_host (fabric.host h) run;
   after_route = below_route plan fabric run;
-  below_cutter = below_route plan fabric run;
-  above_dropper = low;
+  below_cutter = λ h a. (inner h a).middle;
+  above_dropper = λ h a. (inner h a).low;
   before_arbiter = above_arbiter fabric run;
   lower = λ a. lower_of plan.system.stages (pipe a);
 }

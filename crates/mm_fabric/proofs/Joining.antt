@@ -34,7 +34,6 @@ all_can_last plan old new agent port begun (asker ∷ later) h e w = (
 end_lasts : (plan : PlanTable) (old new : Netlist) (begun : List BegunHost) (number : ℕ) (end : AgentEnd) → IsAgentEnd plan old begun number end → Extends old new → StillWait old new → IsAgentEnd plan new begun number end
 end_lasts plan old new begun number end h e w = record {
   bounded = h.bounded;
-  served = h.served;
   nets = agent_lasts old new end.port end.nets h.nets e;
   askers = h.askers;
   few = h.few;
@@ -67,7 +66,7 @@ joined_last plan old new begun number (part ∷ parts) h e = (
     is = agent_part_lasts old new plan.system.stages part h.0.is e;
     askers = h.0.askers;
     seats = seats_last old new part.port number begun _ part.seats h.0.seats e;
-    bounds = λ none valid seat only longer f. h.0.bounds none valid seat only longer (extends_twice old new longer e f);
+    bounds = λ none words valid seat only longer f. h.0.bounds none words valid seat only longer (extends_twice old new longer e f);
   },
   joined_last plan old new begun (number + 1) parts h.1 e,
 )

@@ -1,5 +1,5 @@
 -- The hosts and agents of a fabric by their numbers, what a run shows there, and which hosts are seated at an agent.
-use Rattle.std.proofs.Common.{◌≡◌, ℕ, ◌+◌, ◌<◌, false, not, nat_eq, if◌then◌else◌, List, IsTrue, sym, subst, ap, ◌∙◌, arith}
+use Rattle.std.proofs.Common.{◌≡◌, ℕ, ◌+◌, ◌<◌, if◌then◌else◌, List, IsTrue, sym, subst, ap, ◌∙◌, arith}
 use Rattle.std.proofs.lemmas.Bool.{lt-ltb}
 use Rattle.ranks.specs.Turns.{is_seated}
 use Rattle.ranks.specs.Turns.{Seat as Turn}
@@ -8,14 +8,13 @@ use Rattle.netlist.specs.Runs.{Run, IsEndlessRun, IsValuation, cycle_of}
 use Rattle.netlist.specs.Longer.{Extends}
 use Rattle.link_rules.specs.Plans.{PlanTable}
 use Rattle.mm_runs.specs.Order.{is_joined}
-use Rattle.mm_runs.specs.Views.{HostSide}
 use Rattle.memory_sides.specs.Sides.{host_side, agent_side}
 use Rattle.memory_plans.specs.Systems.{memory_system, side_of_host, side_of_agent}
 use Rattle.mm_arbiter.specs.Machine.{AreApart, seats_from}
 use Rattle.mm_awake.specs.Fair.{are_apart}
 use Rattle.mm_path.specs.Shown.{silent_host, silent_agent}
 use Rattle.mm_fabric.specs.Parts.{askers_of}
-use Rattle.mm_fabric.specs.Fabrics.{Fabric, IsFabric, AreJoined, seen_at_host, seen_at_agent, seen_in}
+use Rattle.mm_fabric.specs.Fabrics.{Fabric, IsFabric, seen_at_host, seen_at_agent, seen_in}
 use Rattle.mm_fabric.proofs.Seats.{seated_is_joined, seats_apart}
 
 -- at a host and at an agent of the plan the run shows what is seen there
@@ -35,10 +34,6 @@ module _ (plan : PlanTable) (netlist : Netlist) (fabric : Fabric) (is : IsFabric
 
   pub agent_is : (a : ℕ) → a < (memory_system plan).agents → (memory_system plan).agent a ≡ agent_side (fabric.agent a).port
   agent_is a low = ap side_of_agent (is.agent_port a low)
-
-  -- a host that is joined has no bursts
-  pub single_host : (h a : ℕ) → h < (memory_system plan).hosts → AreJoined netlist h a (fabric.host h) (fabric.agent a) → ((memory_system plan).host h).has_burst ≡ false
-  single_host h a low joins = ap (λ (side : HostSide). side.has_burst) (host_is h low) ∙ ap (λ bits. not (nat_eq bits 0)) joins.host_single
 
   module _ (a : ℕ) (there : a < (memory_system plan).agents) where
     -- the hosts with a seat are those that are joined

@@ -1,13 +1,14 @@
 -- The commands of the hosts that ask an agent.
-use Rattle.std.proofs.Common.{◌≡◌, ℕ, zero, suc, ◌*◌, ◌^◌, ◌<◌, ◌≤◌, Bool, true, false, if◌then◌else◌, max, nat_eq, List, [], ◌∷◌, get_or, length, drop, Some, slice_get, refl, sym, subst, ap, ◌∙◌, arith}
+use Rattle.std.proofs.Common.{◌≡◌, ℕ, zero, suc, ◌*◌, ◌^◌, ◌<◌, ◌≤◌, Bool, true, false, if◌then◌else◌, max, nat_eq, List, [], ◌∷◌, get_or, length, drop, Some, slice_get, ◌⊎◌, inl, inr, refl, sym, subst, ap, ◌∙◌, arith}
 use Rattle.std.specs.List.{AllZip}
-use Rattle.std.proofs.lemmas.Bool.{ne_eqb}
+use Rattle.std.proofs.lemmas.Bool.{ne_eqb, cases_lt}
+use Rattle.std.proofs.Math.Pow.{pow_mono}
 use Rattle.std.proofs.lemmas.Nat.{pow_pos}
 use Rattle.std.proofs.lemmas.Option.{slice_get_within, slice_get-get_or}
 use Rattle.std.proofs.Math.Nat.{mul-le-mul_left, mul-one, mul_comm}
 use Rattle.iface_roles.specs.declared.records.AgentPort.{AgentPort}
 use Rattle.iface_roles.specs.declared.records.HostPort.{HostPort}
-use Rattle.iface_roles.specs.Proper.{range_of, span_of}
+use Rattle.iface_roles.specs.Proper.{IsBoundedHost, range_of, span_of}
 use Rattle.link_rules.specs.Plans.{PlanTable}
 use Rattle.netlist.specs.Netlists.{Netlist}
 use Rattle.netlist.specs.Runs.{Always}
@@ -76,10 +77,19 @@ word_within false bits word =
     let turn = mul_comm word (2 ^ bits) in
     omega (arith, more, one, turn)
 
+-- an address within such a range has few bits
+few_address : (bits : ℕ) → 2 ^ bits ≤ 2 ^ 32 → bits ≤ 64
+few_address bits within = by (cases_lt bits 64)
+  where
+    by : (bits < 64) ⊎ (64 ≤ bits) → bits ≤ 64
+    by (inl few) = omega (arith, few)
+    by (inr many) = absurd (let more = pow_mono many in omega (arith, more, within))
+
 -- the command of a host's route may ask the agent
-may_ask : (netlist : Netlist) (host : HostPort) (port : AgentPort) (held : HeldHost) (command : CommandNets) → IsHeld netlist host held → widths_of command ≡ widths_below held.command 4 → host.word_bytes ≤ range_of host → span_of port ≤ range_of host → MayAskOf host port (widths_of command)
-may_ask netlist host port held command h widths word span =
+may_ask : (netlist : Netlist) (host : HostPort) (port : AgentPort) (held : HeldHost) (command : CommandNets) → IsHeld netlist host held → widths_of command ≡ widths_below held.command 4 → IsBoundedHost host → host.word_bytes ≤ range_of host → span_of port ≤ range_of host → MayAskOf host port (widths_of command)
+may_ask netlist host port held command h widths bounded word span =
     let fields = h.fields in
+    let low = bounded.range in
     let address = ap (λ (w : Widths). 2 ^ w.address) widths ∙ fields.reaches in
     let within = word_within port.byte_units port.address_bits port.word_bytes in
     record {
@@ -87,6 +97,8 @@ may_ask netlist host port held command h widths word span =
       enables = ap (λ (w : Widths). w.enables) widths ∙ fields.enables.has_width;
       reaches_word = omega (arith, address, word);
       reaches_agent = omega (arith, address, within, span);
+      count = ap (λ (w : Widths). w.count) widths ∙ fields.count.has_width;
+      few = few_address (widths_of command).address (omega (arith, address, low));
     }
 
 asks_one : (plan : PlanTable) (netlist : Netlist) (agent : ℕ) (port : AgentPort) (begun : List BegunHost) (asker : Asker) (one : Asking) → CanAsk plan netlist agent port begun asker → AsksAs agent begun asker one → AsksFor netlist port asker one
@@ -98,7 +110,7 @@ asks_one plan netlist agent port begun asker one h f =
     record {
       nets = is.nets;
       pair = subst (λ (p : HostPort). MayMeet p port) own h.pair;
-      widths = subst (λ (p : HostPort). MayAskOf p port (widths_of one.command)) own (may_ask netlist h.host.port port h.host.trunk.host one.command h.is.trunk.held is.widths_are h.word h.span);
+      widths = subst (λ (p : HostPort). MayAskOf p port (widths_of one.command)) own (may_ask netlist h.host.port port h.host.trunk.host one.command h.is.trunk.held is.widths_are h.is.bounded h.word h.span);
       reaches = subst (λ n. span_of port ≤ n) (sym (ap (λ (w : Widths). 2 ^ w.address) is.widths_are ∙ h.is.trunk.held.fields.reaches)) h.span;
       tag = ap (λ (w : Widths). w.tag) is.widths_are;
       bears = is.bears;

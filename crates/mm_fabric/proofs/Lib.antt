@@ -1,4 +1,5 @@
 pub mod Seating
+pub mod BurstWidths
 pub mod Asking
 pub mod AgentParts
 pub mod LoneAgents

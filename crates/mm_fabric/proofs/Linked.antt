@@ -1,8 +1,7 @@
 -- A fabric runs as machines: hosts, routes, links, arbiters, stages and agents.
 use Rattle.std.specs.Bool.{IsFalse}
-use Rattle.std.proofs.Common.{◌≡◌, ℕ, zero, suc, ◌+◌, ◌-◌, ◌*◌, ◌^◌, ◌<◌, ◌≤◌, Bool, true, false, not, ◌||◌, if◌then◌else◌, nat_eq, List, [], None, IsTrue, refl, sym, subst, ap, ◌∙◌, arith}
+use Rattle.std.proofs.Common.{◌≡◌, ℕ, zero, suc, ◌+◌, ◌-◌, ◌*◌, ◌^◌, ◌<◌, ◌≤◌, Bool, true, false, not, ◌||◌, List, [], None, IsTrue, refl, sym, subst, ap, ◌∙◌, arith}
 use Rattle.std.proofs.Math.Nat.{two-pow-succ, le_refl}
-use Rattle.std.proofs.lemmas.Bool.{ne_eqb}
 use Rattle.std.proofs.lemmas.Nat.{pow-add, pow_pos}
 use Rattle.iface_roles.specs.declared.records.AgentPort.{AgentPort}
 use Rattle.iface_roles.specs.declared.records.HostPort.{HostPort}
@@ -16,15 +15,16 @@ use Rattle.mm_runs.specs.Views.Responses.{AreZero}
 use Rattle.mm_runs.specs.Commands.{longest_burst}
 use Rattle.mm_runs.specs.Order.{is_joined}
 use Rattle.mm_runs.specs.Plan.{IsMemoryPlan, AreViews}
+use Rattle.mm_runs.specs.Legal.{IsLegalHost}
 use Rattle.mm_runs.specs.Whole.{IsLegalRun}
 use Rattle.mm_machines.specs.Link.{Port}
 use Rattle.mm_machines.specs.Lines.{IsFit, TaggedPort, target_of}
+use Rattle.mm_machines.specs.Machines.{ShowsFitBeats}
 use Rattle.mm_machines.specs.Turns.{Grant, seats_of}
 use Rattle.ranks.specs.Turns.{Seat, is_seated}
 use Rattle.mm_parts.specs.Agent.{AgentState, IsAgentMachine}
 use Rattle.mm_parts.specs.Arbiter.{IsArbiterMachine}
 use Rattle.mm_parts.specs.Host.{HostState, IsHostMachine}
-use Rattle.mm_parts.specs.Joins.{JoinsBeats}
 use Rattle.mm_parts.specs.Route.{RouteState, IsRouteMachine}
 use Rattle.memory_sides.specs.Sides.{burst_width}
 use Rattle.memory_plans.specs.Routes.{routes_of, AreRoutes}
@@ -33,10 +33,10 @@ use Rattle.mm_route.specs.Machine.{MapsAs, RunsAsRoute}
 use Rattle.mm_host.specs.Forms.{shape_below}
 use Rattle.mm_agent.specs.Agents.{shape_above}
 use Rattle.mm_agent.specs.Forms.{AreFitFor}
-use Rattle.mm_arbiter.specs.Machine.{Surrounds, seats_from}
+use Rattle.mm_arbiter.specs.Machine.{Surrounds, seats_from, JoinsBeats}
 use Rattle.mm_awake.specs.Fair.{are_apart}
-use Rattle.mm_awake.specs.Rows.{CutsBursts.no_cutter, drops_some}
-use Rattle.mm_awake.specs.RowSystem.{RowPorts, AreRows, AreIdleWires, boundaries_of}
+use Rattle.mm_awake.specs.Rows.{drops_some}
+use Rattle.mm_awake.specs.RowSystem.{RowPorts, AreRows, AreIdleWires, IsFairRow, boundaries_of}
 use Rattle.mm_awake.specs.RowFront.{IsRowFront, ServeWhatFits, with_agents}
 use Rattle.mm_awake.specs.Theorem.{States, ArePlanned, AreMachines}
 use Rattle.mm_awake.specs.PipeStages.{stage_of}
@@ -47,11 +47,12 @@ use Rattle.mm_fabric.specs.Trunks.{room_bits}
 use Rattle.mm_fabric.specs.Parts.{askers_of, commands_above, backs_above}
 use Rattle.mm_fabric.specs.Fabrics.{Fabric, IsFabric, seen_at_host, seen_at_agent, seen_in}
 use Rattle.mm_fabric.proofs.Piped.{IsPipeAt}
-use Rattle.mm_fabric.proofs.Boundaries.{below_host, above_agent, below_arbiter, answers_to, below_route, above_arbiter, ports_in, idle, silent, outside, sides}
-use Rattle.mm_fabric.proofs.Between.{StandsBetween, hands_on, alike_wire, joined_below, lanes, some_word, wired_to_itself}
+use Rattle.mm_fabric.proofs.Boundaries.{Inner, below_host, above_agent, below_arbiter, answers_to, below_route, above_arbiter, ports_in, idle, silent, outside, sides}
+use Rattle.mm_fabric.proofs.BurstWidths.{some_width}
+use Rattle.mm_fabric.proofs.Between.{StandsBetween, hands_on, alike_wire, joined_below, lanes, wired_below}
 use Rattle.mm_fabric.proofs.Choices.{choose}
-use Rattle.mm_fabric.proofs.Known.{seen_host, seen_agent, host_is, agent_is, seated_is, single_host}
-use Rattle.mm_fabric.proofs.Singles.{HaveOneBeat}
+use Rattle.mm_fabric.proofs.Known.{seen_host, seen_agent, host_is, agent_is, seated_is}
+use Rattle.mm_fabric.proofs.Singles.{CuttersShowFit}
 use Rattle.mm_fabric.proofs.SilentReader.{no_word, never_reads, seen_as_machine}
 
 -- ---- what the crates below give
@@ -71,6 +72,14 @@ RowsCarryWhatFits =
     × AreMachines responses system run (boundaries_of ports) (with_agents states agent) end
     × AreRows system run ports end
 
+abbrev pub RoutesShowFit : Type 0
+RoutesShowFit =
+    (responses : Responses) (system : System) (run : MemoryRun) (host room : ℕ) (middle : Port) (down : ℕ → Port) (host_state : HostState) (route_state : RouteState) (end : ℕ)
+    → IsLegalHost (system.host host) (run.at_host host) end
+    → IsHostMachine responses (system.host host) (run.at_host host) middle host_state end
+    → IsRouteMachine responses system host room middle down route_state end
+    → (a : ℕ) → a < system.agents → ShowsFitBeats (down a) end
+
 -- ---- states where there is no part
 
 abbrev pub no_host_state : HostState
@@ -86,13 +95,6 @@ abbrev pub no_grant : ℕ → Grant
 no_grant c = record { open_host = None; round = record { left = 0; ring = [] } }
 
 -- ---- numbers
-
-some_width : (bits : ℕ) → 1 ≤ burst_width bits
-some_width zero = le_refl 1
-some_width (suc bits) =
-    let other : nat_eq (suc bits) 0 ≡ false = ne_eqb (suc bits) 0 (λ e. (let no : suc bits ≡ 0 = e in omega (arith, no))) in
-    let same : burst_width (suc bits) ≡ suc bits = ap (λ b. if b then 1 else suc bits) other in
-    omega (arith, same)
 
 -- 16 longest bursts are less than what the count of owed words holds
 room_of : (width : ℕ) → 1 ≤ width → 16 * 2 ^ (width - 1) < 2 ^ (4 + width)
@@ -112,7 +114,8 @@ module _ (plan : PlanTable) (planned : IsMemoryPlan (memory_system plan)) (disti
     (mapped : RoutesMap plan) (suits : FitCommandsSuit)
     (netlist : Netlist) (fabric : Fabric) (is : IsFabric plan netlist fabric) (longer : Netlist) (extends : Extends netlist longer) (run : Run) (endless : IsEndlessRun longer run) (end : ℕ)
     (legal : IsLegalRun (memory_system plan) (seen_in plan fabric run) end) (views : AreViews (memory_system plan) (seen_in plan fabric run) end)
-    (low_side : ℕ → ℕ → Port) (stands : (h : ℕ) → h < (memory_system plan).hosts → (a : ℕ) → a < (memory_system plan).agents → StandsBetween plan fabric run h a (low_side h a))
+    (shown : RoutesShowFit) (cut : CuttersShowFit)
+    (inner : ℕ → ℕ → Inner) (stands : (h : ℕ) → h < (memory_system plan).hosts → (a : ℕ) → a < (memory_system plan).agents → StandsBetween plan fabric run h a (inner h a))
     (pipe : ℕ → PipeSides) (piped : (a : ℕ) → a < (memory_system plan).agents → IsPipeAt plan fabric run a (pipe a)) where
   abbrev pub system : System
   system = memory_system plan
@@ -121,7 +124,7 @@ module _ (plan : PlanTable) (planned : IsMemoryPlan (memory_system plan)) (disti
   seen = seen_in plan fabric run
 
   abbrev pub ports : RowPorts
-  ports = ports_in plan fabric low_side pipe run
+  ports = ports_in plan fabric inner pipe run
 
   abbrev pub room : ℕ → ℕ
   room h = 2 ^ room_bits (fabric.host h).port
@@ -153,10 +156,12 @@ module _ (plan : PlanTable) (planned : IsMemoryPlan (memory_system plan)) (disti
 
   -- ---- an arbiter
 
-  -- a host without bursts shows single beats, and its route hands these on
-  route_singles : (h a : ℕ) → h < (memory_system plan).hosts → a < (memory_system plan).agents → ((memory_system plan).host h).has_burst ≡ false → HaveOneBeat (below_route plan fabric run h a) end
-  route_singles h a low there plain = λ c before shown.
-      ((route_run h low).is_machine.count a c there before ∙ (host_machine h low).1.count c before ∙ (views.hosts h low).one_beat plain c before)
+  -- what a route shows behind its legal host fits
+  route_fits : (h a : ℕ) → h < (memory_system plan).hosts → a < (memory_system plan).agents → ShowsFitBeats (below_route plan fabric run h a) end
+  route_fits h a low there =
+      let host = host_machine h low in
+      let route = route_run h low in
+      shown AreZero (memory_system plan) (seen_in plan fabric run) h (room h) (below_host (fabric.host h) run) (below_route plan fabric run h) host.0 route.state end (legal.hosts h low) host.1 route.is_machine a there
 
   abbrev pub is_host_seated : ℕ → ℕ → Bool
   is_host_seated a h = is_seated h (seats_from (askers_of (fabric.agent a).seats))
@@ -165,8 +170,7 @@ module _ (plan : PlanTable) (planned : IsMemoryPlan (memory_system plan)) (disti
   seat_joins a there h seated =
       let has : is_joined (memory_system plan) a h ≡ true = sym (seated_is plan netlist fabric is a there h) ∙ seated in
       let low = planned.joined a h has in
-      let plain = single_host plan netlist fabric is h a low (is.joined h a low there has) in
-      joined_below (target_of (memory_system plan) a) (needs_drop (fabric.host h).port (fabric.agent a).port) (below_route plan fabric run h a) (above_arbiter fabric run h a) (low_side h a) end ((stands h low a there).leads has) (route_singles h a low there plain)
+      joined_below cut (target_of (memory_system plan) a) (needs_drop (fabric.host h).port (fabric.agent a).port) (below_route plan fabric run h a) (above_arbiter fabric run h a) (inner h a) end ((stands h low a there).leads has) (route_fits h a low there)
 
   surrounds : (a : ℕ) → a < (memory_system plan).agents →
       Surrounds (askers_of (fabric.agent a).seats) (commands_above (fabric.agent a).seats) (backs_above (fabric.agent a).seats) (shape_above (fabric.agent a).port) run (memory_system plan).hosts
@@ -212,8 +216,8 @@ module _ (plan : PlanTable) (planned : IsMemoryPlan (memory_system plan)) (disti
 
   idle_at : (h a : ℕ) → h < (memory_system plan).hosts → a < (memory_system plan).agents → IsFalse (is_joined (memory_system plan) a h) → AreIdleWires ports h a
   idle_at h a low there apart =
-      let hands = hands_on (below_route plan fabric run h a) (low_side h a) (above_arbiter fabric run h a) ((stands h low a there).none apart) (idle plan planned netlist fabric is longer extends run endless a there h (routed h low) apart) in
-      record { high = record { commands = refl; answers = refl }; mid = hands.high; low = hands.rest }
+      let hands = hands_on (below_route plan fabric run h a) (above_arbiter fabric run h a) (inner h a) ((stands h low a there).none apart) (idle plan planned netlist fabric is longer extends run endless a there h (routed h low) apart) in
+      record { high = hands.high; mid = hands.mid; low = hands.low }
 
   pub front : IsRowFront AreZero (memory_system plan) (seen_in plan fabric run) ports states end
   front = record {
@@ -223,7 +227,7 @@ module _ (plan : PlanTable) (planned : IsMemoryPlan (memory_system plan)) (disti
     arbiter = grants_run.1;
     silent = λ a there. silent plan planned netlist fabric is longer extends run endless a there end;
     stage = λ a i there few. (piped a there).stage i few;
-    cuts = λ h a low there has. no_cutter (wired_to_itself (below_route plan fabric run h a) (some_word plan planned netlist fabric is longer extends run endless h a low there (is.joined h a low there has)));
+    cuts = λ h a low there has. ((stands h low a there).leads has).cuts;
     fits = λ h a low there has. ((stands h low a there).leads has).fits;
     drops = λ h a low there has. ((stands h low a there).leads has).dropped;
     lanes = lanes_at;
@@ -246,9 +250,18 @@ module _ (plan : PlanTable) (planned : IsMemoryPlan (memory_system plan)) (disti
             (subst (λ (view : AgentView). IsAgentMachine AreZero ((memory_system plan).agent a) view (above_agent part run) found.state c) (sym (seen_agent plan fabric run a there)) at_side);
       })
 
+  -- ---- all of it
+
+  fair_row : (a h : ℕ) → a < (memory_system plan).agents → IsTrue (is_joined (memory_system plan) a h) → IsFairRow (memory_system plan) ports a h
+  fair_row a h there has lacks bursts =
+      let low = planned.joined a h has in
+      let enables = sym (ap (λ (side : HostSide). side.has_enables) (host_is plan netlist fabric is h low)) ∙ lacks in
+      wired_below (target_of (memory_system plan) a) (fabric.host h).port (fabric.agent a).port (below_route plan fabric run h a) (above_arbiter fabric run h a) (inner h a) ((stands h low a there).leads has) enables
+
   pub linked : RowsCarryWhatFits →
       (ports : RowPorts) × (states : States) × ArePlanned (memory_system plan) (boundaries_of ports) states × AreMachines AreZero (memory_system plan) (seen_in plan fabric run) (boundaries_of ports) states end
       × AreRows (memory_system plan) (seen_in plan fabric run) ports end
+      × ((agent host : ℕ) → agent < (memory_system plan).agents → IsTrue (is_joined (memory_system plan) agent host) → IsFairRow (memory_system plan) ports agent host)
   linked law =
       let made = law AreZero (memory_system plan) (seen_in plan fabric run) ports states end planned views front served legal in
-      (ports, with_agents states made.0, made.1, made.2, made.3)
+      (ports, with_agents states made.0, made.1, made.2, made.3, fair_row)

@@ -140,6 +140,8 @@ module _ (plan : PlanTable) (laws : PlanLaws plan) where
         host_word = subst (λ (p : HostPort). IsWordSize p.word_bytes) (same_host plan link.host_number host.port link.host host.is ends.host) host.bounded.ports.word;
         agent_word = subst (λ (p : AgentPort). IsWordSize p.word_bytes) (same_agent plan link.agent_number agent.port link.agent agent.is ends.agent) agent.bounded.ports.word;
         lanes = laws.lanes k link at;
+        host_bursts = subst (λ (p : HostPort). p.burst_bits ≤ 11) (same_host plan link.host_number host.port link.host host.is ends.host) host.bounded.ports.burst;
+        agent_bursts = subst (λ (p : AgentPort). p.burst_bits ≤ 11) (same_agent plan link.agent_number agent.port link.agent agent.is ends.agent) agent.bounded.ports.burst;
       }
 
   between : (k : ℕ) (link : MemoryLink) → slice_get (memory_links plan.system) k ≡ Some link → HasLinkBetween plan link.host_number link.agent_number

@@ -27,7 +27,7 @@ use Rattle.mm_arbiter.specs.declared.arbiter.HeldArbiter.{HeldArbiter}
 use Rattle.mm_arbiter.specs.Backward.{lone_back}
 use Rattle.mm_fabric.specs.declared.parts.Seat.{Seat}
 use Rattle.mm_fabric.specs.Parts.{askers_of, commands_above, backs_above}
-use Rattle.mm_fabric.specs.Askers.{IsServed, told_by}
+use Rattle.mm_fabric.specs.Askers.{told_by}
 use Rattle.mm_fabric.specs.Lone.{HasAtMost, BoundsReads}
 use Rattle.mm_fabric.proofs.Asking.{none_of}
 
@@ -113,11 +113,11 @@ counted netlist port read shown busy came told (Row row) h g none valid run endl
 counted netlist port read shown busy came told (Queued queue) h g none valid run endless c = absurd (false≢true (sym none))
 counted netlist port read shown busy came told (Counts unanswered full) h g none valid run endless c = few_unanswered netlist port read shown unanswered full busy came told h g run endless c
 
-made_bounds : (grown done : Netlist) (several : Bool) (port : AgentPort) (nets : AgentNets) (command : CommandNets) (made : AgentMade) → IsServed port → IsMadePart grown several port nets command made → Extends grown done → several ≡ false → port.readdatavalid ≡ true →
+made_bounds : (grown done : Netlist) (several : Bool) (port : AgentPort) (nets : AgentNets) (command : CommandNets) (made : AgentMade) → port.burst_bits ≡ 0 → IsMadePart grown several port nets command made → Extends grown done → several ≡ false → port.readdatavalid ≡ true →
     HasAtMost done (bound_of port) command made.waitrequest made.answer
-made_bounds grown done several port nets command made served part grows alone valid longer e run endless c =
+made_bounds grown done several port nets command made words part grows alone valid longer e run endless c =
     let later = part_lasts grown longer several port nets command made part (extends_twice grown done longer grows e) in
-    let plain : bursts port ≡ false = ap (λ n. not (nat_eq n 0)) served.no_burst in
+    let plain : bursts port ≡ false = ap (λ n. not (nat_eq n 0)) words in
     let none = part.queued ∙ ap (λ (b : Bool). (b || bursts port) && (port.reads && port.readdatavalid)) alone ∙ ap (λ (b : Bool). b && (port.reads && port.readdatavalid)) plain in
     counted longer port command.read later.shown later.busy made.answer.valid made.waitrequest made.reads later.held later.on none valid run endless c
 
@@ -125,7 +125,6 @@ made_bounds grown done several port nets command made served part grows alone va
 
 -- what stands when each is made; there is no stage between
 pub record StandsAlone (grown done : Netlist) (port : AgentPort) (nets : AgentNets) (askers : List Asker) (commands : List CommandNets) (asked command : CommandNets) (arbiter : HeldArbiter) (told : BelowNets) (made : AgentMade) (backs : List BackNets) : Type 0 where
-  pub served : IsServed port
   pub part : IsMadePart grown (nat_lt 1 (length askers)) port nets command made
   pub grows : Extends grown done
   pub kind : is_some arbiter.round ≡ nat_lt 1 (length askers)
@@ -137,7 +136,7 @@ pub record StandsAlone (grown done : Netlist) (port : AgentPort) (nets : AgentNe
 pub bounds_reads : (grown done : Netlist) (port : AgentPort) (nets : AgentNets) (askers : List Asker) (commands : List CommandNets) (asked command : CommandNets) (arbiter : HeldArbiter) (told : BelowNets) (made : AgentMade) (backs : List BackNets) (seats : List Seat) →
     StandsAlone grown done port nets askers commands asked command arbiter told made backs → askers_of seats ≡ askers → commands_above seats ≡ commands → backs_above seats ≡ backs →
     BoundsReads done (record { port = port; nets = nets; seats = seats; arbiter = arbiter; asked = asked; told = told; command = command; made = made })
-bounds_reads grown done port nets askers commands asked command arbiter told made backs seats h same_askers same_commands same_backs valid seat only =
+bounds_reads grown done port nets askers commands asked command arbiter told made backs seats h same_askers same_commands same_backs words valid seat only =
     let one : nat_lt 1 (length askers) ≡ false = ap (λ (xs : List Asker). nat_lt 1 (length xs)) (sym same_askers ∙ ap askers_of only) in
     let alone = none_of arbiter.round (h.kind ∙ one) in
     let shown : seat.command ≡ command = (let one = sym (ap commands_above only) ∙ same_commands ∙ h.command_is alone in let below = h.asked_is in cc) in
@@ -145,4 +144,4 @@ bounds_reads grown done port nets askers commands asked command arbiter told mad
     subst (λ (above : CommandNets). HasAtMost done (bound_of port) above seat.back.wait seat.back.answer) (sym shown)
     (subst (λ (wait : NetValue). HasAtMost done (bound_of port) command wait seat.back.answer) (sym (ap (λ (b : BackNets). b.wait) back))
     (subst (λ (answer : AnswerNets). HasAtMost done (bound_of port) command made.waitrequest answer) (sym (ap (λ (b : BackNets). b.answer) back))
-    (made_bounds grown done (nat_lt 1 (length askers)) port nets command made h.served h.part h.grows one valid)))
+    (made_bounds grown done (nat_lt 1 (length askers)) port nets command made words h.part h.grows one valid)))

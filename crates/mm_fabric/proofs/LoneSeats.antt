@@ -29,9 +29,10 @@ lone_way_lasts old new parts number begun h e = record {
   alone = h.alone;
   beat = λ command only cycle v. h.beat command only cycle (e.valuations cycle v);
   back = h.back;
+  words = h.words;
   valid = h.valid;
   few = h.few;
-  bounds = λ valid seat only longer f. h.bounds valid seat only longer (extends_twice old new longer e f);
+  bounds = λ words valid seat only longer f. h.bounds words valid seat only longer (extends_twice old new longer e f);
 }
 
 -- where a read is shown by both, as many are unanswered
@@ -50,7 +51,7 @@ bounded_route netlist parts number begun backs way zipped = record {
       (subst (λ (rs : List Route). AllZip (IsBackFor number parts) rs (back ∷ [])) way.only (subst (λ (bs : List BackNets). AllZip (IsBackFor number parts) begun.routes bs) other zipped)).0 in
       let is : back ≡ way.seat.back = last.is ∙ ap (λ (s : Seat). s.told) (same_seat number parts way.route last.seat way.seat last.has way.has) ∙ sym way.back in
       let shown : (k : ℕ) → is_raised (run.net k below.read.number) ≡ is_raised (run.net k way.seat.command.read.number) = λ k. sym (ap (λ (r : Raw). is_raised r.levels.read) (way.beat below one (cycle_of run k) (always_valued netlist longer e run endless k))) in
-      let most = way.bounds way.valid way.seat way.alone longer e run endless c in
+      let most = way.bounds way.words way.valid way.seat way.alone longer e run endless c in
       let same = unanswered_alike run below.read way.seat.command.read way.seat.back.wait way.seat.back.answer.valid shown c in
       let few = way.few in
       subst (λ (b : BackNets). unanswered_in run below.read b.wait b.answer.valid c ≤ 15) (sym is) (omega (arith, most, same, few))

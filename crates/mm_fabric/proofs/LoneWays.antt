@@ -234,10 +234,11 @@ seat_alone netlist port agent hosts asker askers seats seat one only zipped =
     (subst (λ (ss : List Seat). AllZip (IsSeatFor netlist port agent hosts) (asker ∷ []) ss) only
     (subst (λ (xs : List Asker). AllZip (IsSeatFor netlist port agent hosts) xs seats) one zipped)).0
 
-bears_parts : (agent : AgentPort) → bears_few agent ≡ true → (agent.readdatavalid ≡ true) × (bound_of agent < 16)
+bears_parts : (agent : AgentPort) → bears_few agent ≡ true → (agent.readdatavalid ≡ true) × (agent.burst_bits ≡ 0) × (bound_of agent < 16)
 bears_parts agent bears =
     let few = and_parts (agent.readdatavalid && nat_eq agent.burst_bits 0) (nat_lt (bound_of agent) 16) bears in
-    ((and_parts agent.readdatavalid (nat_eq agent.burst_bits 0) few.0).0, ltb-true (bound_of agent) 16 few.1)
+    let words = and_parts agent.readdatavalid (nat_eq agent.burst_bits 0) few.0 in
+    (words.0, eqb-true agent.burst_bits 0 words.1, ltb-true (bound_of agent) 16 few.1)
 
 own_way : (plan : PlanTable) (netlist : Netlist) (hosts : List BegunHost) (parts : List AgentPart) (number : ℕ) (begun : BegunHost) (route : Route) (link : MemoryLink) (part : AgentPart) (seat : Seat) → is_lone begun.routes begun.trunk.host.command.address.width ≡ true → begun.routes ≡ route ∷ [] → slice_get hosts number ≡ Some begun → IsHostOf plan number begun.port →
     IsOwnLink plan number route link → IsPartOf plan netlist hosts parts link.agent_number link.agent part → IsOnlySeat (asker_of link) part.seats seat → IsLoneWay netlist parts number begun
@@ -260,8 +261,9 @@ own_way plan netlist hosts parts number begun route link part seat lone only at 
       alone = one.only;
       beat = wired.beat;
       back = wired.back;
+      words = bears.1;
       valid = bears.0;
-      few = bears.1;
+      few = bears.2;
       bounds = is.joined.bounds own.plain;
     }
 

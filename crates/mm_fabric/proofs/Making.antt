@@ -32,7 +32,7 @@ use Rattle.mm_fabric.specs.Begun.{end_of as begun_end_of}
 use Rattle.mm_fabric.specs.Joined.{IsJoined}
 use Rattle.mm_fabric.specs.Tells.{IsBackFor}
 use Rattle.mm_fabric.specs.Finished.{IsFinished, AreFinished}
-use Rattle.mm_fabric.specs.Ends.{IsPlain, AreParts, host_end_of}
+use Rattle.mm_fabric.specs.Ends.{AreParts, host_end_of}
 use Rattle.mm_fabric.specs.Links.{HasLinkBetween, IsLinkedPlan}
 use Rattle.mm_fabric.proofs.Ways.{AreWaysOf, head_or, tail_of}
 use Rattle.mm_fabric.proofs.Linking.{same_host, same_agent}
@@ -108,7 +108,6 @@ leads_back host agent parts (route ∷ routes) (first ∷ ways) command are back
 -- hosts begun and agents joined in one netlist, and the hosts finished in a longer one
 pub record AreMade (plan : PlanTable) (old new : Netlist) (begun : List BegunHost) (parts : FabricParts) : Type 0 where
   pub linked : IsLinkedPlan plan
-  pub plain : IsPlain plan
   pub hosts : AreBegun plan old 0 begun
   pub agents : AreAllJoined plan new begun parts.agents
   pub finished : AreFinished new parts.agents 0 begun parts.hosts
@@ -155,7 +154,6 @@ module _ (plan : PlanTable) (old new : Netlist) (begun : List BegunHost) (parts 
       are_joined =
           let own = same_host plan h link.link.host above.port link.host_port host_port in
           let other = same_agent plan a link.link.agent below.port link.agent_port (made.agents.ports a below there) in
-          let plain = made.plain link.place link.link link.is in
           record {
             way = way_back.way;
             way_is = way_back.found;
@@ -164,8 +162,6 @@ module _ (plan : PlanTable) (old new : Netlist) (begun : List BegunHost) (parts 
             meets = subst (λ (c : CommandNets). Meets new above.port below.port c seated.0) (sym way_back.shows) (subst (λ (p : HostPort). Meets new p below.port asks.command seated.0) (sym ended.is.port) asks.seated.meets);
             back = same_back;
             pair = subst (λ (p : HostPort). MayMeet p below.port) own (subst (λ (p : AgentPort). MayMeet link.link.host p) other link.pair);
-            host_single = subst (λ (p : HostPort). p.burst_bits ≡ 0) own plain.host;
-            agent_single = subst (λ (p : AgentPort). p.burst_bits ≡ 0) other plain.agent;
           }
 
   seats_are : (a : ℕ) (below : AgentPart) → a < length (agents_of plan.system) → slice_get parts.agents a ≡ Some below → seats_from (askers_of below.seats) ≡ seats_of (memory_system plan) a

@@ -32,14 +32,13 @@ use Rattle.mm_fabric.specs.Parts.{askers_of}
 use Rattle.mm_fabric.specs.Fabrics.{seat_of}
 use Rattle.mm_fabric.specs.Begun.{IsHostEnd, AreHostEnds, IsBegun, AreBegun}
 use Rattle.mm_fabric.specs.Asks.{asking, command_to, CanAsk, AllCanAsk, IsSeatFor}
-use Rattle.mm_fabric.specs.Askers.{IsServed}
 use Rattle.mm_fabric.specs.Wide.{IsSeated}
 use Rattle.mm_fabric.specs.Joined.{IsAgentEnd, AreAgentEnds, IsJoined, AreJoinedFrom}
 use Rattle.mm_fabric.specs.Joined.{end_of as agent_end_of}
 use Rattle.mm_fabric.specs.Tells.{CanTell, AllCanTell}
 use Rattle.mm_fabric.specs.Finished.{MayFinish, AllMayFinish}
-use Rattle.mm_fabric.specs.Ends.{IsPlain, AreHosts, AreAgents}
-use Rattle.mm_fabric.specs.Links.{HasLinkBetween, IsLinkedAgent, IsLinkedPlan}
+use Rattle.mm_fabric.specs.Ends.{AreHosts, AreAgents}
+use Rattle.mm_fabric.specs.Links.{HasLinkBetween, IsLinkedPlan}
 use Rattle.mm_fabric.proofs.Passing.{there_at, mapped}
 use Rattle.mm_fabric.proofs.Linking.{same_host, same_agent}
 use Rattle.mm_fabric.proofs.Seats.{seated_is_joined}
@@ -126,17 +125,9 @@ agents_from plan netlist begun from (end ∷ ends) each = (
   agents_from plan netlist begun (from + 1) ends (λ k x at. subst (λ n. IsAgentEnd plan netlist begun n x) (omega arith) (each (suc k) x at)),
 )
 
--- no link of a plan without bursts leads to an agent with bursts, and each agent has a link
-served : (plan : PlanTable) (agent : ℕ) (port : AgentPort) → IsPlain plan → IsAgentOf plan agent port → IsLinkedAgent plan agent → IsServed port
-served plan agent port plain is linked =
-    let asker = there_at (asking plan.system agent) 0 linked.askers.some in
-    let link = linked.links 0 asker.0 asker.1 in
-    let own = same_agent plan agent link.link.agent port link.agent_port is in
-    record { no_burst = subst (λ (p : AgentPort). p.burst_bits ≡ 0) own (plain link.place link.link link.is).agent }
-
-pub agents_join : (plan : PlanTable) (old netlist : Netlist) (begun : List BegunHost) (ends : List AgentEnd) → IsLinkedPlan plan → IsPlain plan → AreAgents plan old ends → Extends old netlist → length begun ≡ length (hosts_of plan.system) → AreBegun plan netlist 0 begun →
+pub agents_join : (plan : PlanTable) (old netlist : Netlist) (begun : List BegunHost) (ends : List AgentEnd) → IsLinkedPlan plan → AreAgents plan old ends → Extends old netlist → length begun ≡ length (hosts_of plan.system) → AreBegun plan netlist 0 begun →
     AreAgentEnds plan netlist begun 0 ends
-agents_join plan old netlist begun ends linked plain are e many all = agents_from plan netlist begun 0 ends (λ k end at.
+agents_join plan old netlist begun ends linked are e many all = agents_from plan netlist begun 0 ends (λ k end at.
     (let is = are.each k end at in
     let inside = slice_get_within ends k end at in
     let as_many = are.many in
@@ -144,7 +135,6 @@ agents_join plan old netlist begun ends linked plain are e many all = agents_fro
     let agent = linked.agents k below in
     let joins : IsAgentEnd plan netlist begun k end = record {
       bounded = subst (λ (p : AgentPort). IsBoundedAgent p) (same_agent plan k agent.ports.port end.port agent.ports.is is.port) agent.ports.bounded;
-      served = served plan k end.port plain is.port agent;
       nets = agent_lasts old netlist end.port end.nets is.nets e;
       askers = agent.askers;
       few = agent.few;

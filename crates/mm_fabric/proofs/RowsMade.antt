@@ -30,7 +30,7 @@ pub record RowsSoFar (old now : Netlist) (agent : AgentPort) (stages count : ℕ
 -- what the first call of the links gave
 pub record IsBegunRow (now new : Netlist) (agent : AgentPort) (one : Asking) (below : CommandNets) (later : List BegunWidth) : Type 0 where
   pub nets : AreCommandNets new below
-  pub widths : widths_of below ≡ widths_below agent (widths_of one.command)
+  pub widths : widths_of below ≡ widths_below one.port agent (widths_of one.command)
   pub tag : below.tag ≡ one.command.tag
   pub wire : is_wire_pair one.port agent ≡ true → below ≡ one.command
   pub begun : AreBegunWidths later new

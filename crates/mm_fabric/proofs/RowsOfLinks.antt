@@ -19,7 +19,8 @@ use Rattle.command_nets.specs.Nets.{AreAnswerNets, raw_in, port_in, answer_view}
 use Rattle.command_nets.specs.Groups.{command_lasts, answer_lasts}
 use Rattle.mm_route.specs.declared.back.BackNets.{BackNets}
 use Rattle.mm_width.specs.Pairs.{BearsOneTag, is_wire_pair, needs_drop}
-use Rattle.mm_width.specs.Widths.{BegunWidth, WidthInLonger, RunsAsWidth, byte_shape, command_below, owns_width}
+use Rattle.memory_sides.specs.Sides.{burst_width}
+use Rattle.mm_width.specs.Widths.{BegunWidth, WidthInLonger, RunsAsWidth, inner_shape, command_below, owns_width}
 use Rattle.mm_fabric.specs.declared.parts.Asking.{Asking}
 use Rattle.mm_fabric.specs.declared.parts.Seat.{Seat}
 use Rattle.mm_fabric.specs.Lasting.{meets_lasts}
@@ -152,9 +153,9 @@ machine_to : (old now : Netlist) (agent : AgentPort) (stages : ℕ) (asking : As
 machine_to old now agent stages asking row seat told h e f longer further run endless target of_agent =
     let beats : (c : ℕ) → raw_in (cycle_of run c) seat.command ≡ raw_in (cycle_of run c) h.below = λ c. h.beat (cycle_of run c) (always_valued old longer (extends_twice old now longer e further) run endless c) in
     let made = f.machine longer further run endless target of_agent in
-    let above = subst (λ (from : CommandNets). RunsAsWidth (needs_drop asking.port agent) target (port_in (byte_shape asking.port.word_bytes) run from told.wait told.answer) (port_in (byte_shape agent.word_bytes) run (command_below row.from row.to) seat.back.wait seat.back.answer)) h.leads.row_is.from made in
-    let here = subst (λ (to : CommandNets). RunsAsWidth (needs_drop asking.port agent) target (port_in (byte_shape asking.port.word_bytes) run asking.command told.wait told.answer) (port_in (byte_shape agent.word_bytes) run to seat.back.wait seat.back.answer)) (sym h.leads.is) above in
-    subst (λ (port : Port). RunsAsWidth (needs_drop asking.port agent) target (port_in (byte_shape asking.port.word_bytes) run asking.command told.wait told.answer) port) (same_port (byte_shape agent.word_bytes) run h.below seat.command seat.back.wait seat.back.answer beats) here
+    let above = subst (λ (from : CommandNets). RunsAsWidth (needs_drop asking.port agent) target (port_in (inner_shape asking.port.word_bytes (burst_width asking.port.burst_bits)) run from told.wait told.answer) (port_in (inner_shape agent.word_bytes (burst_width agent.burst_bits)) run (command_below row.from row.to) seat.back.wait seat.back.answer)) h.leads.row_is.from made in
+    let here = subst (λ (to : CommandNets). RunsAsWidth (needs_drop asking.port agent) target (port_in (inner_shape asking.port.word_bytes (burst_width asking.port.burst_bits)) run asking.command told.wait told.answer) (port_in (inner_shape agent.word_bytes (burst_width agent.burst_bits)) run to seat.back.wait seat.back.answer)) (sym h.leads.is) above in
+    subst (λ (port : Port). RunsAsWidth (needs_drop asking.port agent) target (port_in (inner_shape asking.port.word_bytes (burst_width asking.port.burst_bits)) run asking.command told.wait told.answer) port) (same_port (inner_shape agent.word_bytes (burst_width agent.burst_bits)) run h.below seat.command seat.back.wait seat.back.answer beats) here
 
 same_back : (back told : BackNets) → told.wait ≡ back.wait → told.answer ≡ back.answer → back ≡ told
 same_back back told wait answer =

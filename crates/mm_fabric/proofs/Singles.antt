@@ -1,16 +1,18 @@
--- Commands of one beat: each beat that is shown ends its own, and links keep it so.
-use Rattle.std.proofs.Common.{◌≡◌, ℕ, zero, suc, ◌-◌, ◌+◌, ◌<◌, ◌≤◌, Bool, true, false, ◌||◌, nat_eq, if◌then◌else◌, List, [], ◌∷◌, Some, slice_get, IsTrue, refl, sym, subst, ap, ap₂, ◌∙◌, arith}
+-- Beats that fit, and commands of one beat: each beat that is shown ends its own. Links keep it so.
+use Rattle.std.proofs.Common.{◌≡◌, ℕ, zero, suc, ◌-◌, ◌+◌, ◌^◌, ◌<◌, ◌≤◌, ◌⊎◌, inl, inr, Bool, true, false, ◌||◌, nat_eq, nat_lt, if◌then◌else◌, List, [], ◌∷◌, Some, slice_get, IsTrue, refl, sym, subst, ap, ap₂, ◌∙◌, arith}
 use Rattle.std.proofs.lemmas.Bool.{and_parts}
+use Rattle.std.proofs.Math.Pow.{pow_mono}
 use Rattle.histories.specs.History.{is_raised}
-use Rattle.mm_runs.specs.Views.{Shape, Levels, levels_at}
+use Rattle.mm_runs.specs.Views.{Shape, Signals, Levels, levels_at}
 use Rattle.mm_runs.specs.Operations.{Beat}
 use Rattle.mm_runs.specs.Commands.{Burst, shows, burst_before, burst_after, next_burst, transfer_of, write_transfer, read_transfer, byte_address}
 use Rattle.mm_machines.specs.Link.{Port, Target, takes}
-use Rattle.mm_machines.specs.Machines.{Raw, raw_at, joined, single}
-use Rattle.mm_parts.specs.Joins.{JoinsBeats}
+use Rattle.mm_machines.specs.Machines.{Raw, raw_at, joined, single, IsFitBeat, ShowsFitBeats}
+use Rattle.mm_arbiter.specs.Machine.{JoinsBeats}
+use Rattle.mm_links.specs.Cutters.{CutterState, RunsAsCutter, IsCutPlan}
 use Rattle.mm_links.specs.Drops.{DropState, RunsAsDrop, standing_at, keeps, sends, sent_beat}
-use Rattle.mm_awake.specs.Rows.{FitsWords, FitsWords.selector, FitsWords.splitter, FitsWords.no_width, DropsBeats, DropsBeats.dropper, DropsBeats.no_dropper}
-use Rattle.mm_awake.specs.Wires.{IsWire}
+use Rattle.mm_awake.specs.Rows.{CutsBursts, CutsBursts.cutter, CutsBursts.no_cutter, FitsWords, FitsWords.selector, FitsWords.splitter, FitsWords.no_width, DropsBeats, DropsBeats.dropper, DropsBeats.no_dropper}
+use Rattle.mm_awake.specs.Wires.{IsWire, shape_with, with_bursts}
 
 -- each beat that is shown is a command by itself
 abbrev pub HaveOneBeat : Port → ℕ → Type 0
@@ -53,6 +55,55 @@ module _ (port : Port) (end : ℕ) (one : HaveOneBeat port end) where
   singles_join c low shown =
       ap (λ b. b || is_raised (port.commands.more c))
       (ends_alone port.shape (levels_at port.commands.signals c) (burst_before port.shape port.commands.signals (takes port) c) (none_left c (omega (arith, low))) (one c low shown))
+
+-- ---- beats that fit
+
+pub fit_join : (port : Port) (end : ℕ) → ShowsFitBeats port end → JoinsBeats port end
+fit_join port end fit c low shown = (fit c low shown).joined
+
+-- where bursts have one beat, what fits is a command by itself
+module _ (port : Port) (end : ℕ) (fit : ShowsFitBeats port end) (short : port.shape.burst_bits ≡ 1) where
+  one_count : (c : ℕ) → c < end → (burst_before port.shape port.commands.signals (takes port) c).left ≡ 0 → IsTrue (shows port.commands.signals c) → port.commands.count c ≡ 1
+  one_count c low none shown =
+      let here = fit c low shown in
+      let free = ap (nat_lt 0) none in
+      let least = here.least free in
+      let most = subst (λ n. port.commands.count c ≤ 2 ^ (n - 1)) short (here.most free) in
+      omega (arith, least, most)
+
+  no_burst : (c : ℕ) → c ≤ end → (burst_before port.shape port.commands.signals (takes port) c).left ≡ 0
+  no_burst zero within = refl
+  no_burst (suc c) within =
+      let before = no_burst c (omega (arith, within)) in
+      left_after port.shape (levels_at port.commands.signals c) (takes port c) (burst_before port.shape port.commands.signals (takes port) c) before
+      (λ taken. one_count c (omega (arith, within)) before (and_parts _ _ taken).0)
+
+  pub fit_singles : HaveOneBeat port end
+  fit_singles c low shown = one_count c low (no_burst c (omega (arith, low))) shown
+
+-- bursts are under way alike where a longer one may be
+same_bursts : (bits : ℕ) (shape : Shape) (signals : Signals) (accepts : ℕ → Bool) (c : ℕ) → burst_before shape signals accepts c ≡ burst_before (shape_with bits shape) signals accepts c
+same_bursts bits shape signals accepts zero = refl
+same_bursts bits shape signals accepts (suc c) = ap (burst_after shape (levels_at signals c) (accepts c)) (same_bursts bits shape signals accepts c)
+
+fits_longer : (bits : ℕ) (shape : Shape) (burst : Burst) (raw : Raw) → shape.burst_bits ≤ bits → IsFitBeat shape burst raw → IsFitBeat (shape_with bits shape) burst raw
+fits_longer bits shape burst raw longer fit = record {
+  one_kind = fit.one_kind;
+  least = fit.least;
+  most = λ free. (let most = fit.most free in let more = pow_mono (let less : shape.burst_bits - 1 ≤ bits - 1 = omega (arith, longer) in less) in omega (arith, most, more));
+  finished = fit.finished;
+  joined = fit.joined;
+}
+
+pub wire_fits : (up down : Port) (end : ℕ) → IsWire up down → ShowsFitBeats up end → ShowsFitBeats down end
+wire_fits up down end wire fit =
+    let bits : ℕ = down.shape.burst_bits in
+    let longer : ShowsFitBeats (with_bursts bits up) end = λ c low shown.
+    (let here : Burst = burst_before up.shape up.commands.signals (takes up) c in
+    let same = same_bursts bits up.shape up.commands.signals (takes up) c in
+    let fits = fits_longer bits up.shape here (raw_at up c) wire.longer (fit c low shown) in
+    subst (λ (burst : Burst). IsFitBeat (shape_with bits up.shape) burst (raw_at up c)) same fits) in
+    subst (λ (p : Port). ShowsFitBeats p end) wire.same longer
 
 -- ---- links keep it so
 
@@ -104,3 +155,24 @@ module _ (up down : Port) (room : ℕ) (state : DropState) (run : RunsAsDrop roo
 pub drops_keep : (target : Target) (up down : Port) (end : ℕ) → DropsBeats target up down → HaveOneBeat up end → HaveOneBeat down end
 drops_keep target up down end (dropper room state plan some run) one = sent_one up down room state run end one
 drops_keep target up down end (no_dropper wired) one = wire_keeps up down end wired.wire one
+
+-- ---- all links of a host and an agent
+
+-- what a cutter shows fits where all fits that it is shown
+abbrev pub CuttersShowFit : Type 0
+CuttersShowFit = (longest : ℕ) (up down : Port) (state : CutterState) (end : ℕ) → IsCutPlan longest up.shape down.shape → RunsAsCutter longest up down state → ShowsFitBeats up end → ShowsFitBeats down end
+
+pub cuts_keep : CuttersShowFit → (up down : Port) (end : ℕ) → CutsBursts up down → ShowsFitBeats up end → ShowsFitBeats down end
+cuts_keep law up down end (cutter longest state plan run) fit = law longest up down state end plan run fit
+cuts_keep law up down end (no_cutter wired) fit = wire_fits up down end wired.wire fit
+
+-- words are fitted to single beats alone
+pub words_keep : (target : Target) (up down : Port) (end : ℕ) → FitsWords target up down → ShowsFitBeats up end → ShowsFitBeats down end ⊎ HaveOneBeat down end
+words_keep target up down end (selector many room offsets plan some run) fit = inr (fits_keep target up down end (selector many room offsets plan some run) (fit_singles up end fit plan.one_beat))
+words_keep target up down end (splitter count room state plan some run) fit = inr (fits_keep target up down end (splitter count room state plan some run) (fit_singles up end fit plan.one_beat))
+words_keep target up down end (no_width wired) fit = inl (wire_fits up down end wired.wire fit)
+
+pub drops_join : (target : Target) (up down : Port) (end : ℕ) → DropsBeats target up down → ShowsFitBeats up end ⊎ HaveOneBeat up end → JoinsBeats down end
+drops_join target up down end drops (inr one) = singles_join down end (drops_keep target up down end drops one)
+drops_join target up down end (dropper room state plan some run) (inl fit) = singles_join down end (drops_keep target up down end (dropper room state plan some run) (fit_singles up end fit plan.one_beat))
+drops_join target up down end (no_dropper wired) (inl fit) = fit_join down end (wire_fits up down end wired.wire fit)

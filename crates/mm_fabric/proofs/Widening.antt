@@ -1,14 +1,16 @@
 -- Commands on wider nets.
-use Rattle.std.proofs.Common.{◌≡◌, ℕ, zero, suc, ◌+◌, ◌*◌, ◌^◌, ◌≤◌, ◌<◌, List, [], ◌∷◌, ◌++◌, take, length, get_or, refl, sym, subst, ap, ◌∙◌, arith}
+use Rattle.std.proofs.Common.{◌≡◌, ℕ, zero, suc, ◌+◌, ◌*◌, ◌^◌, ◌≤◌, ◌<◌, Bool, true, false, if◌then◌else◌, List, [], ◌∷◌, ◌++◌, take, length, get_or, refl, sym, subst, ap, ◌∙◌, arith}
 use Rattle.std.proofs.lemmas.List.{take_more}
+use Rattle.std.proofs.lemmas.Bool.{ltb-false}
 use Rattle.std.proofs.Math.Pow.{pow_mono}
 use Rattle.std.specs.List.{AllZip, AllByRecursion}
 use Rattle.iface_roles.specs.declared.records.AgentPort.{AgentPort}
+use Rattle.iface_roles.specs.declared.records.HostPort.{HostPort}
 use Rattle.iface_roles.specs.Proper.{span_of}
 use Rattle.netlist.specs.Netlists.{Netlist}
 use Rattle.netlist.specs.Longer.{Extends}
 use Rattle.command_nets.specs.declared.nets.CommandNets.{CommandNets}
-use Rattle.command_nets.specs.Nets.{AreCommandNets, Widths}
+use Rattle.command_nets.specs.Nets.{AreCommandNets, Widths, widths_of}
 use Rattle.command_nets.specs.Groups.{command_lasts}
 use Rattle.mm_machines.specs.Machines.{Raw}
 use Rattle.mm_arbiter.specs.declared.asker.Asker.{Asker}
@@ -18,8 +20,10 @@ use Rattle.mm_arbiter.specs.Forward.{ArbiterForward}
 use Rattle.mm_arbiter.specs.Machine.{RunsAsArbiter}
 use Rattle.mm_host.specs.Reads.{unanswered_in}
 use Rattle.mm_route.specs.declared.back.BackNets.{BackNets}
+use Rattle.mm_burst.specs.CutterNets.{given_widths}
+use Rattle.mm_width.specs.Pairs.{MayAskOf, keeps_beats, bits_between, needs_cut, cutter_between, widths_below}
 use Rattle.mm_width.specs.Widths.{BegunWidth}
-use Rattle.memory_sides.specs.Sides.{bound_of}
+use Rattle.memory_sides.specs.Sides.{burst_width, bound_of}
 use Rattle.netlist.specs.Nets.{NetValue}
 use Rattle.netlist.specs.Runs.{Always}
 use Rattle.net_parts.specs.Laws.{extends_twice}
@@ -31,7 +35,8 @@ use Rattle.mm_fabric.specs.Lasting.{agent_part_lasts}
 use Rattle.mm_fabric.specs.Lone.{BoundsReads}
 use Rattle.mm_fabric.specs.Parts.{IsAgentPart, askers_of, commands_above, backs_above}
 use Rattle.mm_fabric.specs.Rows.{AllThree, MayLead, LeadsBelow, LeadsToSeat, TellsSeat, told_seat, told_seats}
-use Rattle.mm_fabric.specs.Wide.{AsksFor, AreWithin, IsWidened, IsSeated}
+use Rattle.mm_fabric.specs.Wide.{AsksFor, ReachWithin, AreWithin, IsWidened, IsSeated}
+use Rattle.mm_fabric.proofs.BurstWidths.{some_width}
 use Rattle.mm_fabric.proofs.RowsOfLinks.{leads_last}
 
 -- ---- the command at a place
@@ -54,10 +59,9 @@ taken_with commands k command lt e = sym (take_more commands k command lt ∙ ap
 
 -- ---- one more command
 
-pub within_more : (old_address old_count address count : ℕ) (commands : List CommandNets) (command : CommandNets) → AreWithin old_address old_count commands → old_address ≤ address → old_count ≤ count →
-    command.address.width ≤ address → command.count.width ≤ count → AreWithin address count (commands ++ command ∷ [])
-within_more old_address old_count address count [] command h e f a c = ((a, c), tt)
-within_more old_address old_count address count (first ∷ commands) command h e f a c = ((let w = h.0.0 in omega (arith, w, e), let w = h.0.1 in omega (arith, w, f)), within_more old_address old_count address count commands command h.1 e f a c)
+pub reach_more : (old address : ℕ) (commands : List CommandNets) (command : CommandNets) → ReachWithin old commands → old ≤ address → command.address.width ≤ address → ReachWithin address (commands ++ command ∷ [])
+reach_more old address [] command h e a = (a, tt)
+reach_more old address (first ∷ commands) command h e a = (let w = h.0 in omega (arith, w, e), reach_more old address commands command h.1 e a)
 
 widened_last : (old new : Netlist) (address count : ℕ) (commands wide : List CommandNets) → AllZip (IsWidened old address count) commands wide → Extends old new → AllZip (IsWidened new address count) commands wide
 widened_last old new address count [] [] h e = tt
@@ -83,12 +87,37 @@ all_may_lead netlist port [] (one ∷ asking) h = absurd h
 all_may_lead netlist port (asker ∷ askers) [] h = absurd h
 all_may_lead netlist port (asker ∷ askers) (one ∷ asking) h = (record { nets = h.0.nets; pair = h.0.pair; widths = h.0.widths; bears = record { tag = asker.host; always = h.0.bears } }, all_may_lead netlist port askers asking h.1)
 
--- below the links of an asker: words of the agent, an address that reaches its span, and the number of the host
+-- the links don't make an address shorter
+address_grows : (host : HostPort) (port : AgentPort) (widths : Widths) → widths.address ≤ (widths_below host port widths).address
+address_grows host port widths = by (needs_cut host port)
+  where
+    by : (b : Bool) → widths.address ≤ (if b then given_widths (cutter_between host port) widths else widths).address
+    by true = omega arith
+    by false = omega arith
+
+-- nor a count longer than the agent's
+count_fits : (host : HostPort) (port : AgentPort) (widths : Widths) → MayAskOf host port widths → (widths_below host port widths).count ≤ burst_width port.burst_bits
+count_fits host port widths may = by (needs_cut host port) refl
+  where
+    between : (b : Bool) → (if b then burst_width port.burst_bits else 1) ≤ burst_width port.burst_bits
+    between true = omega arith
+    between false = some_width port.burst_bits
+
+    by : (b : Bool) → needs_cut host port ≡ b → (if b then given_widths (cutter_between host port) widths else widths).count ≤ burst_width port.burst_bits
+    by true cut = between (keeps_beats host port)
+    by false whole =
+        let most = between (keeps_beats host port) in
+        let least = ltb-false (bits_between host port) (burst_width host.burst_bits) whole in
+        let own = may.count in
+        omega (arith, most, least, own)
+
+-- below the links of an asker: words of the agent, an address that reaches its span, a count of the agent's bursts at most, and the number of the host
 record IsBelow (netlist : Netlist) (port : AgentPort) (asker : Asker) (command : CommandNets) : Type 0 where
   nets : AreCommandNets netlist command
   word : command.word.width ≡ port.word_bytes * 8
   enables : command.enables.width ≡ port.word_bytes
   reaches : span_of port ≤ 2 ^ command.address.width
+  count : command.count.width ≤ burst_width port.burst_bits
   tag : command.tag.width ≡ 4
   bears : Always netlist (λ cycle. cycle.net command.tag.number ≡ asker.host)
 
@@ -97,7 +126,8 @@ is_below old now port stages asker one row command h b e = record {
   nets = b.nets;
   word = ap (λ (w : Widths). w.word) b.widths;
   enables = ap (λ (w : Widths). w.enables) b.widths;
-  reaches = subst (λ n. span_of port ≤ 2 ^ n) (sym (ap (λ (w : Widths). w.address) b.widths)) h.reaches;
+  reaches = (let far = pow_mono (address_grows one.port port (widths_of one.command)) in let near = h.reaches in subst (λ n. span_of port ≤ 2 ^ n) (sym (ap (λ (w : Widths). w.address) b.widths)) (omega (arith, far, near)));
+  count = subst (λ n. n ≤ burst_width port.burst_bits) (sym (ap (λ (w : Widths). w.count) b.widths)) (count_fits one.port port (widths_of one.command) h.widths);
   tag = ap (λ (net : NetValue). net.width) b.tag ∙ h.tag;
   bears = λ cycle v. ap (λ (net : NetValue). cycle.net net.number) b.tag ∙ h.bears cycle (e.valuations cycle v);
 }
@@ -122,44 +152,56 @@ below_are_commands netlist port stages (one ∷ asking) (row ∷ rows) (command 
 
 -- ---- what the parts next to an agent ask
 
-abbrev asked_widths : AgentPort → ℕ → ℕ → Widths
-asked_widths port address count = record { address = address; word = port.word_bytes * 8; enables = port.word_bytes; count = count; tag = 4 }
+abbrev asked_widths : AgentPort → ℕ → Widths
+asked_widths port address = record { address = address; word = port.word_bytes * 8; enables = port.word_bytes; count = burst_width port.burst_bits; tag = 4 }
 
-wide_asked : (old new : Netlist) (port : AgentPort) (address count : ℕ) (asker : Asker) (command wide : CommandNets) → IsBelow old port asker command → IsWidened new address count command wide → Extends old new → IsAsked new (asked_widths port address count) asker wide
-wide_asked old new port address count asker command wide h w e = record {
+wide_asked : (old new : Netlist) (port : AgentPort) (address : ℕ) (asker : Asker) (command wide : CommandNets) → IsBelow old port asker command → IsWidened new address (burst_width port.burst_bits) command wide → Extends old new → IsAsked new (asked_widths port address) asker wide
+wide_asked old new port address asker command wide h w e = record {
   nets = w.nets;
   widths_are = (let same = w.widths in let word = h.word in let enables = h.enables in let tag = h.tag in cc);
   tag = λ cycle v. ap (λ (raw : Raw). raw.tag) (w.beat cycle v) ∙ h.bears cycle (e.valuations cycle v);
 }
 
-all_asked : (old new : Netlist) (port : AgentPort) (address count : ℕ) (askers : List Asker) (commands wide : List CommandNets) → AllZip (IsBelow old port) askers commands → AllZip (IsWidened new address count) commands wide → Extends old new →
-    AllZip (IsAsked new (asked_widths port address count)) askers wide
-all_asked old new port address count [] [] [] h w e = tt
-all_asked old new port address count [] [] (made ∷ wide) h w e = absurd w
-all_asked old new port address count [] (command ∷ commands) wide h w e = absurd h
-all_asked old new port address count (asker ∷ askers) [] wide h w e = absurd h
-all_asked old new port address count (asker ∷ askers) (command ∷ commands) [] h w e = absurd w
-all_asked old new port address count (asker ∷ askers) (command ∷ commands) (made ∷ wide) h w e = (wide_asked old new port address count asker command made h.0 w.0 e, all_asked old new port address count askers commands wide h.1 w.1 e)
+all_asked : (old new : Netlist) (port : AgentPort) (address : ℕ) (askers : List Asker) (commands wide : List CommandNets) → AllZip (IsBelow old port) askers commands → AllZip (IsWidened new address (burst_width port.burst_bits)) commands wide → Extends old new →
+    AllZip (IsAsked new (asked_widths port address)) askers wide
+all_asked old new port address [] [] [] h w e = tt
+all_asked old new port address [] [] (made ∷ wide) h w e = absurd w
+all_asked old new port address [] (command ∷ commands) wide h w e = absurd h
+all_asked old new port address (asker ∷ askers) [] wide h w e = absurd h
+all_asked old new port address (asker ∷ askers) (command ∷ commands) [] h w e = absurd w
+all_asked old new port address (asker ∷ askers) (command ∷ commands) (made ∷ wide) h w e = (wide_asked old new port address asker command made h.0 w.0 e, all_asked old new port address askers commands wide h.1 w.1 e)
 
-reaches_far : (netlist : Netlist) (port : AgentPort) (address count : ℕ) (askers : List Asker) (commands : List CommandNets) → AllZip (IsBelow netlist port) askers commands → AreWithin address count commands → 1 ≤ length askers → span_of port ≤ 2 ^ address
-reaches_far netlist port address count [] commands h w some = absurd (omega (arith, some))
-reaches_far netlist port address count (asker ∷ askers) [] h w some = absurd h
-reaches_far netlist port address count (asker ∷ askers) (command ∷ commands) h w some = let more = pow_mono w.0.0 in let reaches = h.0.reaches in omega (arith, more, reaches)
+reaches_far : (netlist : Netlist) (port : AgentPort) (address : ℕ) (askers : List Asker) (commands : List CommandNets) → AllZip (IsBelow netlist port) askers commands → ReachWithin address commands → 1 ≤ length askers → span_of port ≤ 2 ^ address
+reaches_far netlist port address [] commands h w some = absurd (omega (arith, some))
+reaches_far netlist port address (asker ∷ askers) [] h w some = absurd h
+reaches_far netlist port address (asker ∷ askers) (command ∷ commands) h w some = let more = pow_mono w.0 in let reaches = h.0.reaches in omega (arith, more, reaches)
 
-wide_are_asked : (old new : Netlist) (port : AgentPort) (address count : ℕ) (askers : List Asker) (commands wide : List CommandNets) → AllZip (IsBelow old port) askers commands → AreWithin address count commands → 1 ≤ length askers →
-    AllZip (IsWidened new address count) commands wide → Extends old new → AreAsked new port askers wide
-wide_are_asked old new port address count askers commands wide h within some w e = record {
-  widths = asked_widths port address count;
-  reaches = reaches_far old port address count askers commands h within some;
+wide_are_asked : (old new : Netlist) (port : AgentPort) (address : ℕ) (askers : List Asker) (commands wide : List CommandNets) → AllZip (IsBelow old port) askers commands → ReachWithin address commands → 1 ≤ length askers →
+    AllZip (IsWidened new address (burst_width port.burst_bits)) commands wide → Extends old new → AreAsked new port askers wide
+wide_are_asked old new port address askers commands wide h within some w e = record {
+  widths = asked_widths port address;
+  reaches = reaches_far old port address askers commands h within some;
   word = refl;
   enables = refl;
+  count = refl;
   tag = refl;
-  each = all_asked old new port address count askers commands wide h w e;
+  each = all_asked old new port address askers commands wide h w e;
 }
 
-pub asked_wide : (old begun new : Netlist) (port : AgentPort) (stages address count : ℕ) (askers : List Asker) (asking : List Asking) (rows : List BegunWidth) (commands wide : List CommandNets) → AllZip (AsksFor old port) askers asking → AllThree (LeadsBelow begun port stages) asking rows commands → Extends old begun →
-    AreWithin address count commands → 1 ≤ length askers → AllZip (IsWidened new address count) commands wide → Extends begun new → AreAsked new port askers wide
-asked_wide old begun new port stages address count askers asking rows commands wide h b e within some w f = wide_are_asked begun new port address count askers commands wide (all_below old begun port stages askers asking rows commands h b e) within some w f
+pub asked_wide : (old begun new : Netlist) (port : AgentPort) (stages address : ℕ) (askers : List Asker) (asking : List Asking) (rows : List BegunWidth) (commands wide : List CommandNets) → AllZip (AsksFor old port) askers asking → AllThree (LeadsBelow begun port stages) asking rows commands → Extends old begun →
+    ReachWithin address commands → 1 ≤ length askers → AllZip (IsWidened new address (burst_width port.burst_bits)) commands wide → Extends begun new → AreAsked new port askers wide
+asked_wide old begun new port stages address askers asking rows commands wide h b e within some w f = wide_are_asked begun new port address askers commands wide (all_below old begun port stages askers asking rows commands h b e) within some w f
+
+both_within : (netlist : Netlist) (port : AgentPort) (address : ℕ) (askers : List Asker) (commands : List CommandNets) → AllZip (IsBelow netlist port) askers commands → ReachWithin address commands → AreWithin address (burst_width port.burst_bits) commands
+both_within netlist port address [] [] h w = tt
+both_within netlist port address [] (command ∷ commands) h w = absurd h
+both_within netlist port address (asker ∷ askers) [] h w = absurd h
+both_within netlist port address (asker ∷ askers) (command ∷ commands) h w = ((w.0, h.0.count), both_within netlist port address askers commands h.1 w.1)
+
+-- no count below the links is longer than the agent's
+pub below_within : (old begun : Netlist) (port : AgentPort) (stages address : ℕ) (askers : List Asker) (asking : List Asking) (rows : List BegunWidth) (commands : List CommandNets) → AllZip (AsksFor old port) askers asking → AllThree (LeadsBelow begun port stages) asking rows commands → Extends old begun →
+    ReachWithin address commands → AreWithin address (burst_width port.burst_bits) commands
+below_within old begun port stages address askers asking rows commands h b e within = both_within begun port address askers commands (all_below old begun port stages askers asking rows commands h b e) within
 
 -- ---- the seats of the links
 
@@ -219,6 +261,7 @@ part_lasts_told old new stages part told many h e =
       command = stands.command;
       word = stands.word;
       enables = stands.enables;
+      count = stands.count;
       tag = stands.tag;
       made = stands.made;
       registers = stands.registers;
@@ -251,9 +294,9 @@ only_told (first ∷ second ∷ seats) (back ∷ []) seat many e = absurd (omega
 only_told (first ∷ second ∷ seats) (back ∷ next ∷ told) seat many e = absurd (let one = ap (length {A = Seat}) e in omega (arith, one))
 
 pub bounds_told : (old new : Netlist) (part : AgentPart) (told : List BackNets) → length told ≡ length part.seats → BoundsReads old part → Extends old new → BoundsReads new (part_with part (told_seats part.seats told))
-bounds_told old new part told many h e valid seat only =
+bounds_told old new part told many h e words valid seat only =
     let was = only_told part.seats told seat many only in
-    let most = h valid was.0 was.1.0 in
+    let most = h words valid was.0 was.1.0 in
     λ longer f run endless c. (
     subst (λ (back : BackNets). unanswered_in run seat.command.read back.wait back.answer.valid c ≤ bound_of part.port) was.1.1.1
     (subst (λ (command : CommandNets). unanswered_in run command.read was.0.back.wait was.0.back.answer.valid c ≤ bound_of part.port) was.1.1.0 (most longer (extends_twice old new longer e f) run endless c)))

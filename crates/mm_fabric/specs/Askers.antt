@@ -5,6 +5,7 @@ use Rattle.iface_roles.specs.declared.records.AgentPort.{AgentPort}
 use Rattle.iface_roles.specs.Proper.{span_of}
 use Rattle.netlist.specs.Netlists.{Netlist}
 use Rattle.netlist.specs.Runs.{Always}
+use Rattle.memory_sides.specs.Sides.{burst_width}
 use Rattle.command_nets.specs.declared.nets.CommandNets.{CommandNets}
 use Rattle.command_nets.specs.Nets.{AreCommandNets, AreAnswerNets, Widths, widths_of}
 use Rattle.net_parts.specs.Nets.{IsBit}
@@ -33,16 +34,13 @@ pub record IsAsked (netlist : Netlist) (widths : Widths) (asker : Asker) (comman
   pub widths_are : widths_of command ≡ widths
   pub tag : Always netlist (λ cycle. cycle.net command.tag.number ≡ asker.host)
 
--- the agents that are joined: without bursts
-pub record IsServed (port : AgentPort) : Type 0 where
-  pub no_burst : port.burst_bits ≡ 0
-
--- the commands reach the span of the agent with words of its size, on nets as wide as the others'
+-- the commands reach the span of the agent with words of its size and counts of its bursts, on nets as wide as the others'
 pub record AreAsked (netlist : Netlist) (port : AgentPort) (askers : List Asker) (commands : List CommandNets) : Type 0 where
   pub widths : Widths
   pub reaches : span_of port ≤ 2 ^ widths.address
   pub word : widths.word ≡ port.word_bytes * 8
   pub enables : widths.enables ≡ port.word_bytes
+  pub count : widths.count ≡ burst_width port.burst_bits
   pub tag : widths.tag ≡ 4
   pub each : AllZip (IsAsked netlist widths) askers commands
 

@@ -1,8 +1,6 @@
 -- The hosts and agents that a fabric is made for, and that its parts are those of the plan.
 use Rattle.std.specs.Prelude.{◌≡◌, ℕ, ◌+◌, ◌*◌, ◌<◌, List, length, Some, slice_get}
 use Rattle.address_map.specs.Maps.{hosts_of, agents_of}
-use Rattle.link_rules.specs.declared.plan_links.MemoryLink.{MemoryLink}
-use Rattle.link_rules.specs.PlanLinks.{memory_links}
 use Rattle.link_rules.specs.Plans.{PlanTable}
 use Rattle.netlist.specs.Netlists.{Netlist}
 use Rattle.memory_plans.specs.Systems.{memory_system}
@@ -21,15 +19,6 @@ use Rattle.mm_fabric.specs.Finished.{finished_nets}
 use Rattle.mm_fabric.specs.Fabrics.{Fabric, IsFabric}
 
 -- ---- what is given
-
--- no bursts at either end
-pub record IsPlainLink (link : MemoryLink) : Type 0 where
-  pub host : link.host.burst_bits ≡ 0
-  pub agent : link.agent.burst_bits ≡ 0
-
--- each link of the plan is such a one
-abbrev pub IsPlain : PlanTable → Type 0
-IsPlain plan = (k : ℕ) (link : MemoryLink) → slice_get (memory_links plan.system) k ≡ Some link → IsPlainLink link
 
 -- the ports of the host of this number, and its nets
 pub record IsHost (plan : PlanTable) (netlist : Netlist) (number : ℕ) (end : HostEnd) : Type 0 where

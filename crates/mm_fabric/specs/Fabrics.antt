@@ -32,7 +32,7 @@ way_to agent ways = find (λ (w : Way). nat_eq w.agent agent) ways
 abbrev pub seat_of : ℕ → List Seat → Option Seat
 seat_of host seats = find (λ (s : Seat). nat_eq s.host host) seats
 
--- the way of a host to an agent leads by their links to the host's seat there. Neither has bursts
+-- the way of a host to an agent leads by their links to the host's seat there
 pub record AreJoined (netlist : Netlist) (host agent : ℕ) (above : HostPart) (below : AgentPart) : Type 0 where
   pub way : Way
   pub way_is : way_to agent above.ways ≡ Some way
@@ -41,8 +41,6 @@ pub record AreJoined (netlist : Netlist) (host agent : ℕ) (above : HostPart) (
   pub meets : Meets netlist above.port below.port way.command seat
   pub back : way.back ≡ seat.told
   pub pair : MayMeet above.port below.port
-  pub host_single : above.port.burst_bits ≡ 0
-  pub agent_single : below.port.burst_bits ≡ 0
 
 -- each host and each agent of the plan has its part, and where they are joined these meet
 pub record IsFabric (plan : PlanTable) (netlist : Netlist) (fabric : Fabric) : Type 0 where

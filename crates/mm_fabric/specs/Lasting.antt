@@ -60,6 +60,7 @@ agent_part_lasts old new stages part h e = record {
   command = command_lasts old new part.command e h.command;
   word = h.word;
   enables = h.enables;
+  count = h.count;
   tag = h.tag;
   made = made_lasts old new part.port part.command part.made h.made e;
   registers = λ n o. register_lasts old new n e (h.registers n o);
@@ -89,8 +90,6 @@ joined_lasts old new host agent above below h e = record {
   meets = meets_lasts old new above.port below.port h.way.command h.seat h.meets e;
   back = h.back;
   pair = h.pair;
-  host_single = h.host_single;
-  agent_single = h.agent_single;
 }
 
 pub fabric_lasts : (plan : PlanTable) (old new : Netlist) (fabric : Fabric) → IsFabric plan old fabric → Extends old new → IsFabric plan new fabric

@@ -22,17 +22,17 @@ abbrev pub HasAtMost : Netlist → ℕ → CommandNets → NetValue → AnswerNe
 HasAtMost netlist most command wait answer =
     (longer : Netlist) → Extends netlist longer → (run : Run) → IsEndlessRun longer run → (c : ℕ) → unanswered_in run command.read wait answer.valid c ≤ most
 
--- a host that alone has a seat at an agent with readdatavalid has no more than the agent bears
+-- a host that alone has a seat at an agent with readdatavalid and without bursts has no more than the agent bears
 abbrev pub BoundsReads : Netlist → AgentPart → Type 0
 BoundsReads netlist part =
-    part.port.readdatavalid ≡ true → (seat : Seat) → part.seats ≡ seat ∷ [] → HasAtMost netlist (bound_of part.port) seat.command seat.back.wait seat.back.answer
+    part.port.burst_bits ≡ 0 → part.port.readdatavalid ≡ true → (seat : Seat) → part.seats ≡ seat ∷ [] → HasAtMost netlist (bound_of part.port) seat.command seat.back.wait seat.back.answer
 
 -- the route is to one agent alone, where fewer than 16 reads are unanswered
 pub record IsBoundedRoute (netlist : Netlist) (routes : List Route) (command : CommandNets) (commands : List CommandNets) (backs : List BackNets) : Type 0 where
   pub lone : is_lone routes command.address.width ≡ true
   pub few : (below : CommandNets) (back : BackNets) → commands ≡ below ∷ [] → backs ≡ back ∷ [] → HasAtMost netlist 15 below back.wait back.answer
 
--- the only route of the host leads to an agent with one seat, the host's, which shows its beat and is told what the host is; the agent bears fewer than 16 reads
+-- the only route of the host leads to an agent with one seat, the host's, which shows its beat and is told what the host is; the agent bears fewer than 16 reads, each of one word
 pub record IsLoneWay (netlist : Netlist) (parts : List AgentPart) (number : ℕ) (begun : BegunHost) : Type 0 where
   pub lone : is_lone begun.routes begun.trunk.host.command.address.width ≡ true
   pub route : Route
@@ -42,6 +42,7 @@ pub record IsLoneWay (netlist : Netlist) (parts : List AgentPart) (number : ℕ)
   pub alone : has.part.seats ≡ seat ∷ []
   pub beat : (command : CommandNets) → begun.commands.items ≡ command ∷ [] → ShowsBeatOf netlist command seat.command
   pub back : seat.back ≡ seat.told
+  pub words : has.part.port.burst_bits ≡ 0
   pub valid : has.part.port.readdatavalid ≡ true
   pub few : bound_of has.part.port < 16
   pub bounds : BoundsReads netlist has.part

@@ -38,7 +38,7 @@ pub record LeadsBelow (netlist : Netlist) (agent : AgentPort) (stages : ℕ) (as
   pub row_is : IsRowOf netlist agent stages asking row
   pub nets : AreCommandNets netlist below
   pub is : below ≡ command_below row.from row.to
-  pub widths : widths_of below ≡ widths_below agent (widths_of asking.command)
+  pub widths : widths_of below ≡ widths_below asking.port agent (widths_of asking.command)
   pub tag : below.tag ≡ asking.command.tag
   pub ignores : IgnoresInLonger netlist asking.command below
   pub wire : is_wire_pair asking.port agent ≡ true → below ≡ asking.command

@@ -1,4 +1,4 @@
--- The commands that are asked of an agent on nets as wide as the widest.
+-- The commands that are asked of an agent: addresses on nets as wide as the widest, and counts on nets of the agent's width.
 use Rattle.std.specs.Prelude.{◌≡◌, ℕ, ◌+◌, ◌*◌, ◌^◌, ◌≤◌, List, [], ◌∷◌}
 use Rattle.iface_roles.specs.declared.records.AgentPort.{AgentPort}
 use Rattle.iface_roles.specs.Proper.{span_of}
@@ -29,7 +29,12 @@ pub record IsSeated (netlist : Netlist) (agent : AgentPort) (asking : Asking) (s
   pub meets : Meets netlist asking.port agent asking.command seat
   pub told : IsTold netlist (asking.port.word_bytes * 8) seat
 
--- no net of an address or a count is wider
+-- no net of an address is wider
+abbrev pub ReachWithin : ℕ → List CommandNets → Type 0
+ReachWithin address [] = Unit {0}
+ReachWithin address (command ∷ commands) = (command.address.width ≤ address) × ReachWithin address commands
+
+-- nor one of a count
 abbrev pub AreWithin : ℕ → ℕ → List CommandNets → Type 0
 AreWithin address count [] = Unit {0}
 AreWithin address count (command ∷ commands) = ((command.address.width ≤ address) × (command.count.width ≤ count)) × AreWithin address count commands

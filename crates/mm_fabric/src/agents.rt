@@ -8,7 +8,7 @@ ghost use Rattle.mm_agent.specs.Agents.{AreAgentNets};
 ghost use Rattle.mm_fabric.specs.Parts.{IsAgentPart, askers_of, commands_above, backs_above};
 ghost use Rattle.mm_fabric.specs.Wide.{AsksFor, IsSeated, joined_agent_nets};
 ghost use Rattle.mm_fabric.specs.Rows.{told_seats};
-ghost use Rattle.mm_fabric.specs.Askers.{IsServed, MayAsk, AreAsked, AreToldBelow, agent_part_nets, HasNoRoomFor};
+ghost use Rattle.mm_fabric.specs.Askers.{MayAsk, AreAsked, AreToldBelow, agent_part_nets, HasNoRoomFor};
 ghost use Rattle.mm_fabric.specs.Lone.{BoundsReads};
 
 use crate::parts::{AgentPart, Asking, Seat};
@@ -103,7 +103,6 @@ pub(crate) fn emit_agent_part(
 ) -> Result<AgentPart, NetFault>
     requires stages { stages ≤ 4 }
     requires port { IsBoundedAgent port.now }
-    requires served { IsServed port.now }
     requires nets { AreAgentNets builder.old port.now nets.now }
     requires askers { MayAsk askers.now }
     requires commands { AreAsked builder.old port.now askers.now commands.now }
@@ -144,8 +143,8 @@ pub(crate) fn emit_agent_part(
     })
 }
 
-/// Makes what stands next to an agent, behind the hosts that ask, in their order: their links, the arbiter on nets as wide as the
-/// widest, so many stages, and the part next to the agent.
+/// Makes what stands next to an agent, behind the hosts that ask, in their order: their links, the arbiter on addresses as wide
+/// as the widest and counts of the agent's bursts, so many stages, and the part next to the agent.
 ///
 /// `TooManyNets` comes where the module has no room for these nets. After an error the builder is to be dropped: registers may
 /// stand in it that wait.
@@ -160,7 +159,6 @@ pub(crate) fn join_agent(
 ) -> Result<AgentPart, NetFault>
     requires stages { stages ≤ 4 }
     requires port { IsBoundedAgent port.now }
-    requires served { IsServed port.now }
     requires nets { AreAgentNets builder.old port.now nets.now }
     requires askers { MayAsk askers.now }
     requires asking { AllZip (AsksFor builder.old port.now) askers.now asking.now }
@@ -180,7 +178,7 @@ pub(crate) fn join_agent(
     ensures full { result ≡ Err NetFault.TooManyNets → HasNoRoomFor (joined_agent_nets (length askers.now)) 1 builder.old }
 {
     let begun = begin_rows(alloc, builder, port, stages, asking)?;
-    let bits = widest(builder, &begun.commands);
+    let bits = widest(builder, port, &begun.commands);
     let wide = widen_all(alloc, builder, &begun.commands, bits)?;
     let mut part = emit_agent_part(alloc, builder, port, nets, askers, &wide, stages)?;
     let told = finish_rows(

@@ -6,7 +6,7 @@ ghost use Rattle.iface_roles.specs.Proper.{IsBoundedAgent};
 ghost use Rattle.net_parts.specs.Growth.{GrowsInMemory, StillWait, StillWaitForWrite};
 ghost use Rattle.mm_agent.specs.Agents.{AreAgentNets};
 ghost use Rattle.mm_fabric.specs.Parts.{IsAgentPart, askers_of};
-ghost use Rattle.mm_fabric.specs.Askers.{IsServed, MayAsk, HasNoRoomFor};
+ghost use Rattle.mm_fabric.specs.Askers.{MayAsk, HasNoRoomFor};
 ghost use Rattle.mm_fabric.specs.Wide.{joined_agent_nets};
 ghost use Rattle.mm_fabric.specs.Lone.{BoundsReads};
 ghost use Rattle.mm_fabric.specs.Asks.{asking_among, asking, command_to, AsksAs, AllHaveCommands, AllCanAsk, IsSeatFor};
@@ -98,7 +98,6 @@ pub(crate) fn join_hosts(
     end: &AgentEnd,
 ) -> Result<AgentPart, NetFault>
     requires port { IsBoundedAgent end.now.port }
-    requires served { IsServed end.now.port }
     requires nets { AreAgentNets builder.old end.now.port end.now.nets }
     requires askers { MayAsk (asking plan.now.system number) }
     requires asks { AllCanAsk plan.now builder.old number end.now.port begun.now (asking plan.now.system number) }

@@ -4,7 +4,7 @@ ghost use Rattle.std.specs.Prelude.{◌≡◌, length, map, IfOk, OnOk};
 ghost use Rattle.link_rules.specs.PlanLinks.{memory_links};
 ghost use Rattle.net_parts.specs.Growth.{GrowsInMemory, StillWait, StillWaitForWrite};
 ghost use Rattle.mm_fabric.specs.Askers.{HasNoRoomFor};
-ghost use Rattle.mm_fabric.specs.Ends.{IsPlain, AreHosts, AreAgents, AreParts, host_end_of, agent_end_of, fabric_nets};
+ghost use Rattle.mm_fabric.specs.Ends.{AreHosts, AreAgents, AreParts, host_end_of, agent_end_of, fabric_nets};
 
 use crate::asks::AgentEnd;
 use crate::begun::{HostEnd, begin_hosts};
@@ -35,7 +35,6 @@ pub fn emit_fabric(
     hosts: &[HostEnd],
     agents: &[AgentEnd],
 ) -> Result<FabricParts, NetFault>
-    requires plain { IsPlain plan.now }
     requires hosts { AreHosts plan.now builder.old hosts.now }
     requires agents { AreAgents plan.now builder.old agents.now }
     ensures parts { IfOk result (AreParts plan.now builder.new) }

@@ -1,12 +1,14 @@
-//! The commands that are asked of an agent, on nets as wide as the widest.
+//! The commands that are asked of an agent: addresses on nets as wide as the widest, and counts on nets of the agent's width.
 
 ghost use Rattle.std.specs.Prelude.{◌≡◌, ◌+◌, ◌*◌, ◌^◌, ◌<◌, ◌≤◌, length, IfOk};
 ghost use Rattle.std.specs.List.{AllZip};
 ghost use Rattle.net_parts.specs.Growth.{AddsNets};
 ghost use Rattle.mm_arbiter.specs.Shown.{AreCommands};
-ghost use Rattle.mm_fabric.specs.Wide.{AreWithin, IsWidened};
+ghost use Rattle.memory_sides.specs.Sides.{burst_width};
+ghost use Rattle.mm_fabric.specs.Wide.{ReachWithin, AreWithin, IsWidened};
 
 use command_nets::CommandNets;
+use iface_roles::AgentPort;
 use mm_arbiter::widen_command;
 use netlist::{Builder, NetFault};
 use std::alloc::Global;
@@ -18,22 +20,32 @@ pub(crate) struct WideBits {
     pub count: u8,
 }
 
-/// The bits of the widest address and of the widest count.
-pub(crate) fn widest(builder: &Builder, commands: &[CommandNets]) -> WideBits
+/// The bits of the widest address.
+fn widest_address(builder: &Builder, commands: &[CommandNets]) -> u8
     requires { AreCommands builder.now commands.now }
-    ensures within { AreWithin result.address result.count commands.now }
+    ensures within { ReachWithin result commands.now }
+    ensures few { result ≤ 128 }
+{
+    let mut bits: u8 = 0;
+    for command in commands {
+        bits = bits.max(builder.width(command.address));
+    }
+    bits
+}
+
+/// The bits of the widest address, and of the count of the agent's bursts.
+pub(crate) fn widest(builder: &Builder, port: &AgentPort, commands: &[CommandNets]) -> WideBits
+    requires port { port.now.burst_bits ≤ 11 }
+    requires commands { AreCommands builder.now commands.now }
+    ensures within { ReachWithin result.address commands.now }
+    ensures count { result.count ≡ burst_width port.now.burst_bits }
     ensures few_address { result.address ≤ 128 }
     ensures few_count { result.count ≤ 128 }
 {
-    let mut bits = WideBits {
-        address: 0,
-        count: 0,
-    };
-    for command in commands {
-        bits.address = bits.address.max(builder.width(command.address));
-        bits.count = bits.count.max(builder.width(command.count));
+    WideBits {
+        address: widest_address(builder, commands),
+        count: port.burst_bits.max(1),
     }
-    bits
 }
 
 /// The same beats, each address and each count on nets of so many bits.

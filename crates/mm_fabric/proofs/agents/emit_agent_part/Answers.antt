@@ -1,4 +1,4 @@
-use Rattle.std.proofs.Common.{◌≤◌, ◌^◌, not, nat_eq, nat_lt, length, sym, subst, ap, ◌∙◌, inl, inr, arith}
+use Rattle.std.proofs.Common.{◌≤◌, ◌^◌, nat_lt, length, sym, subst, ap, ◌∙◌, inl, inr, arith}
 use Rattle.std.proofs.lemmas.Slice.Zip.{AllZip-long}
 use Rattle.iface_roles.specs.Proper.{span_of}
 use Rattle.netlist.specs.declared.line.Memory.{Memory}
@@ -11,7 +11,8 @@ use Rattle.mm_agent.specs.Agents.{agent_lasts}
 use Rattle.mm_agent.specs.Memories.{memory_grows_fewer, memory_grows_within, writes_wait_alike, writes_waited_alike}
 use Rattle.mm_arbiter.specs.Forward.{keeps_lasts, forward_lasts}
 use Rattle.mm_fabric.specs.Askers.{AreToldBelow}
-use Rattle.mm_fabric.proofs.Asking.{all_widths, asked_are_commands, asked_have_widths, address_width, word_width, enables_width, tag_width, lone_bears, answers_bear, owned_wait, told_of, fewer_nets, fewer_memories, no_room_for}
+use Rattle.mm_fabric.proofs.BurstWidths.{few_bits}
+use Rattle.mm_fabric.proofs.Asking.{all_widths, asked_are_commands, asked_have_widths, address_width, word_width, enables_width, count_width, tag_width, lone_bears, answers_bear, owned_wait, told_of, fewer_nets, fewer_memories, no_room_for}
 use Rattle.mm_fabric.proofs.AgentParts.{agent_part_is}
 use Rattle.mm_fabric.proofs.LoneAgents.{bounds_reads}
 use Rattle.mm_arbiter.specs.Backward.{AreBelowNets}
@@ -76,7 +77,13 @@ emit_agent-requires-clause-tag c lone =
     bears_below _ c.in_ok-asked.asked _ (c.in_ok-command.ensures.one_tag lone) (bears_on _ _ c.in_ok-asked.asked c.begin_stages.ensures.grows.extends bears)
 
 pub emit_agent-requires-clause-words : goal.emit_agent-requires-clause-words
-emit_agent-requires-clause-words c some = absurd (let none = ap (λ n. not (nat_eq n 0)) c.requires.served.no_burst in let both = sym some ∙ none in cc)
+emit_agent-requires-clause-words c some =
+    let asked = c.requires.commands in
+    let widths = c.in_ok-asked.ensures.widths (all_widths asked.widths) (asked_have_widths _ _ _ _ asked.each) in
+    let count = ap (λ (w : Widths). w.count) c.in_ok-command.ensures.widths ∙ count_width asked.widths c.in_ok-asked.asked widths ∙ asked.count in
+    let tag = ap (λ (w : Widths). w.tag) c.in_ok-command.ensures.widths ∙ tag_width asked.widths c.in_ok-asked.asked widths ∙ asked.tag in
+    let few = few_bits c.args.port.now.burst_bits c.requires.port.ports.burst in
+    omega (arith, count, tag, few)
 
 pub returns-in_err-made-clause-grows : goal.returns-in_err-made-clause-grows
 returns-in_err-made-clause-grows c =
@@ -278,6 +285,7 @@ returns-clause-part c =
       command_is = pipe.command;
       word = ap (λ (w : Widths). w.word) pipe.widths ∙ word_width asked.widths c.in_ok-asked.asked widths ∙ asked.word;
       enables = ap (λ (w : Widths). w.enables) pipe.widths ∙ enables_width asked.widths c.in_ok-asked.asked widths ∙ asked.enables;
+      count = ap (λ (w : Widths). w.count) pipe.widths ∙ count_width asked.widths c.in_ok-asked.asked widths ∙ asked.count;
       tag = ap (λ (w : Widths). w.tag) pipe.widths ∙ tag_width asked.widths c.in_ok-asked.asked widths ∙ asked.tag;
       chosen = chosen;
       stages_ignore = pipe.ignores_answer;
@@ -299,7 +307,6 @@ returns-clause-bounds c none =
     let same = AllZip-long _ _ _ c.requires.commands.each in
     bounds_reads c.emit_agent.new.builder c.finish_arbiter.new.builder c.args.port.now c.args.nets.now c.args.askers.now c.args.commands.now c.in_ok-asked.asked c.in_ok-command.command c.in_ok-asked.arbiter c.in_ok-told.told c.in_ok-made.made c.in_ok-backs.backs.items c.in_ok-seats.seats
     (record {
-      served = c.requires.served;
       part = c.in_ok-made.ensures.part;
       grows = extends_twice _ _ _ c.finish_stages.ensures.grows.extends c.finish_arbiter.ensures.grows.extends;
       kind = c.in_ok-asked.ensures.kept.kind ∙ ap (nat_lt 1) same;

@@ -15,9 +15,9 @@ use Rattle.mm_fabric.specs.Askers.{AreAsked}
 use Rattle.mm_fabric.specs.Lone.{BoundsReads}
 use Rattle.mm_fabric.specs.Parts.{IsAgentPart, askers_of}
 use Rattle.mm_fabric.specs.Rows.{AllThree, LeadsToSeat, TellsSeat, told_seats}
-use Rattle.mm_fabric.specs.Wide.{AreWithin, IsWidened, IsSeated}
+use Rattle.mm_fabric.specs.Wide.{ReachWithin, AreWithin, IsWidened, IsSeated}
 use Rattle.mm_fabric.proofs.RowsOfLinks.{three_first, three_last}
-use Rattle.mm_fabric.proofs.Widening.{all_may_lead, below_are_commands, asked_wide, all_to_seats, all_seated, told_askers, part_lasts_told, bounds_told}
+use Rattle.mm_fabric.proofs.Widening.{all_may_lead, below_are_commands, below_within, asked_wide, all_to_seats, all_seated, told_askers, part_lasts_told, bounds_told}
 use Rattle.mm_fabric.proofs.agents.join_agent.Goals as goal
 
 pub begin_rows-requires-clause-asking : goal.begin_rows-requires-clause-asking
@@ -32,14 +32,19 @@ returns-in_err-begun-clause-full c e =
     let full = c.begin_rows.ensures.full (handed_on _ _ _ _ c.in_err-begun.was c.from_residual.ensures.1 e) in
     inl (omega (arith, same, full))
 
-pub widest-bits-requires : goal.widest-bits-requires
-widest-bits-requires c = subst (λ (ws : List CommandNets). AreCommands c.begin_rows.new.builder ws) (sym c.deref.ensures.value) (below_are_commands _ _ _ _ _ _ c.in_ok-begun.ensures.rows)
+pub widest-bits-requires-clause-commands : goal.widest-bits-requires-clause-commands
+widest-bits-requires-clause-commands c = subst (λ (ws : List CommandNets). AreCommands c.begin_rows.new.builder ws) (sym c.deref.ensures.value) (below_are_commands _ _ _ _ _ _ c.in_ok-begun.ensures.rows)
 
 pub widen_all-requires-clause-commands : goal.widen_all-requires-clause-commands
 widen_all-requires-clause-commands c = subst (λ (ws : List CommandNets). AreCommands c.begin_rows.new.builder ws) (sym c.deref-2.ensures.value) (below_are_commands _ _ _ _ _ _ c.in_ok-begun.ensures.rows)
 
 pub widen_all-requires-clause-within : goal.widen_all-requires-clause-within
-widen_all-requires-clause-within c = subst (λ (ws : List CommandNets). AreWithin c.widest-bits.result.address c.widest-bits.result.count ws) (c.deref.ensures.value ∙ sym c.deref-2.ensures.value) c.widest-bits.ensures.within
+widen_all-requires-clause-within c =
+    let commands = c.in_ok-begun.begun.commands.items in
+    let within = subst (λ (ws : List CommandNets). ReachWithin c.widest-bits.result.address ws) c.deref.ensures.value c.widest-bits.ensures.within in
+    subst (λ (ws : List CommandNets). AreWithin c.widest-bits.result.address c.widest-bits.result.count ws) (sym c.deref-2.ensures.value)
+    (subst (λ n. AreWithin c.widest-bits.result.address n commands) (sym c.widest-bits.ensures.count)
+    (below_within c.args.builder.now c.begin_rows.new.builder c.args.port.now c.args.stages c.widest-bits.result.address c.args.askers.now c.args.asking.now c.in_ok-begun.begun.rows.items commands c.requires.asking c.in_ok-begun.ensures.rows c.begin_rows.ensures.grows.extends within))
 
 pub returns-in_err-wide-clause-grows : goal.returns-in_err-wide-clause-grows
 returns-in_err-wide-clause-grows c =
@@ -68,10 +73,10 @@ emit_agent_part-requires-clause-commands c =
     let count = c.widest-bits.result.count in
     let commands = c.in_ok-begun.begun.commands.items in
     let wide = c.in_ok-wide.wide.items in
-    let within = subst (λ (ws : List CommandNets). AreWithin address count ws) c.deref.ensures.value c.widest-bits.ensures.within in
-    let widened = subst (λ (ws : List CommandNets). AllZip (IsWidened c.widen_all.new.builder address count) ws wide) c.deref-2.ensures.value c.in_ok-wide.ensures.wide in
+    let within = subst (λ (ws : List CommandNets). ReachWithin address ws) c.deref.ensures.value c.widest-bits.ensures.within in
+    let widened = subst (λ n. AllZip (IsWidened c.widen_all.new.builder address n) commands wide) c.widest-bits.ensures.count (subst (λ (ws : List CommandNets). AllZip (IsWidened c.widen_all.new.builder address count) ws wide) c.deref-2.ensures.value c.in_ok-wide.ensures.wide) in
     subst (λ (ws : List CommandNets). AreAsked c.widen_all.new.builder c.args.port.now c.args.askers.now ws) (sym c.deref-3.ensures.value)
-    (asked_wide c.args.builder.now c.begin_rows.new.builder c.widen_all.new.builder c.args.port.now c.args.stages address count c.args.askers.now c.args.asking.now c.in_ok-begun.begun.rows.items commands wide
+    (asked_wide c.args.builder.now c.begin_rows.new.builder c.widen_all.new.builder c.args.port.now c.args.stages address c.args.askers.now c.args.asking.now c.in_ok-begun.begun.rows.items commands wide
     c.requires.asking c.in_ok-begun.ensures.rows c.begin_rows.ensures.grows.extends within c.requires.askers.some widened c.widen_all.ensures.adds.grows.extends)
 
 pub returns-in_err-part-clause-grows : goal.returns-in_err-part-clause-grows

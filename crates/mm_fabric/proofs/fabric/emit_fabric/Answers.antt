@@ -28,7 +28,7 @@ join_agents-requires-clause-ends c =
     let begun = c.in_ok-begun.ensures.begun in
     let many = sym (length-map c.in_ok-begun.begun end_of) ∙ ap (λ (es : List HostEnd). length es) begun.ends_are ∙ c.requires.hosts.many in
     subst (λ (bs : List BegunHost). AreAgentEnds c.args.plan.now c.begin_hosts.new.builder bs 0 c.args.agents.now) (sym c.as_slice.ensures)
-    (agents_join c.args.plan.now c.args.builder.now c.begin_hosts.new.builder c.in_ok-begun.begun c.args.agents.now (c.plans_are_linked.ensures c.args.plan.now c.well_made.ensures) c.requires.plain c.requires.agents c.begin_hosts.ensures.grows.extends many begun.each)
+    (agents_join c.args.plan.now c.args.builder.now c.begin_hosts.new.builder c.in_ok-begun.begun c.args.agents.now (c.plans_are_linked.ensures c.args.plan.now c.well_made.ensures) c.requires.agents c.begin_hosts.ensures.grows.extends many begun.each)
 
 pub finish_hosts-requires-clause-hosts : goal.finish_hosts-requires-clause-hosts
 finish_hosts-requires-clause-hosts c =
@@ -54,7 +54,6 @@ returns-clause-parts c =
     are_parts c.args.plan.now c.join_agents.new.builder c.finish_hosts.new.builder c.in_ok-begun.begun (record { hosts = c.in_ok-finished.finished; agents = c.in_ok-joined.joined })
     (record {
       linked = c.plans_are_linked.ensures c.args.plan.now c.well_made.ensures;
-      plain = c.requires.plain;
       hosts = later;
       agents = all_joined c.args.plan.now c.args.builder.now c.finish_hosts.new.builder c.in_ok-begun.begun c.args.agents.now c.in_ok-joined.joined c.requires.agents c.in_ok-joined.ensures.ends
           (joined_last c.args.plan.now c.join_agents.new.builder c.finish_hosts.new.builder c.in_ok-begun.begun 0 c.in_ok-joined.joined parts c.finish_hosts.ensures.grows.extends);

@@ -15,9 +15,6 @@ loop-number-init c = subst (λ parts. AreJoinedSoFar c.args.plan.now c.args.buil
 pub join_hosts-requires-clause-port : goal.join_hosts-requires-clause-port
 join_hosts-requires-clause-port c = (end_at _ _ _ _ c.loop-number.number c.args.ends.now _ c.requires.ends c.loop-number.invariant.grows.extends c.loop-number.invariant.waits c.loop-number-test.true c.index-ends-number.is).bounded
 
-pub join_hosts-requires-clause-served : goal.join_hosts-requires-clause-served
-join_hosts-requires-clause-served c = (end_at _ _ _ _ c.loop-number.number c.args.ends.now _ c.requires.ends c.loop-number.invariant.grows.extends c.loop-number.invariant.waits c.loop-number-test.true c.index-ends-number.is).served
-
 pub join_hosts-requires-clause-nets : goal.join_hosts-requires-clause-nets
 join_hosts-requires-clause-nets c = (end_at _ _ _ _ c.loop-number.number c.args.ends.now _ c.requires.ends c.loop-number.invariant.grows.extends c.loop-number.invariant.waits c.loop-number-test.true c.index-ends-number.is).nets
 
