@@ -1,10 +1,9 @@
 -- the first of some words, and a fact on each of them, seen through a map
-use Rattle.std.proofs.Common.{◌≡◌, ◌≢◌, ◌<◌, ◌≤◌, ℕ, List, [], ◌∷◌, length, map, get_or, Option, Some, None, refl, sym, ap, ◌∙◌, arith}
+use Rattle.std.proofs.Common.{◌≡◌, ◌≢◌, ◌<◌, ◌≤◌, ℕ, List, [], ◌∷◌, length, map, get_or, Option, Some, None, sym, ap, ◌∙◌, arith}
 use Rattle.std.specs.Prelude.{slice_get, All, MatchOption}
 use Rattle.std.proofs.lemmas.List.Elements.{All-map, All-get_or}
 use Rattle.std.proofs.lemmas.List.{get_or-map, length-map}
 use Rattle.avalon_top.specs.declared.words.Task.{Task}
-use Rattle.avalon_top.specs.declared.words.Task.TheVariants.{Generate, Check}
 use Rattle.avalon_top.specs.Words.{IsPlainWord, AsksFor, AsksForNothing, word_of}
 
 first_is : {A B : Type 0} (f : A → B) (xs : List A) (x : A) → 0 < length xs → x ≡ get_or xs 0 x → slice_get (map f xs) 0 ≡ Some (f x)
@@ -30,10 +29,3 @@ asked f ws first (Some task) two is plain named =
 -- words that ask for something are plain
 pub asked_plain : {Y : Type 0} (f : Y → List ℕ) (ws : List Y) (task : Task) → AsksFor (map f ws) task → All (λ w. IsPlainWord (f w)) ws
 asked_plain f ws task h = All-unmap IsPlainWord f ws h.plain
-
--- words ask for one task at most
-pub one_task : (words : List (List ℕ)) (a b : Task) → AsksFor words a → AsksFor words b → a ≡ b
-one_task words Generate Generate u v = refl
-one_task words Check Check u v = refl
-one_task words Generate Check u v = let e : Some (word_of Generate) ≡ Some (word_of Check) = sym u.command ∙ v.command in cc
-one_task words Check Generate u v = let e : Some (word_of Check) ≡ Some (word_of Generate) = sym u.command ∙ v.command in cc

@@ -1,13 +1,11 @@
 -- What the steps of a run answer before its result is written.
-use Rattle.std.specs.Prelude.{◌≡◌, ℕ, ◌<◌, ◌⊎◌, List, length, Some, None}
+use Rattle.std.specs.Prelude.{◌≡◌, ℕ, ◌<◌, ◌⊎◌, List, length}
 use Rattle.av_files.specs.Outside.{Rose, WhereTold}
-use Rattle.system_tables.specs.Tables.{SystemTable}
-use Rattle.link_rules.specs.declared.faults.LinkRule.TheVariants as link
 use Rattle.answer_lines.specs.declared.exit.Exit.{Exit}
 use Rattle.answer_lines.specs.declared.exit.Exit.TheVariants as exit
 use Rattle.avalon_top.specs.declared.words.Task.{Task}
 use Rattle.avalon_top.specs.Words.{AsksFor, AsksForNothing}
-use Rattle.avalon_top.specs.Run.{Reads, AreFiles, IsReadFault, IsBytesLimit, IsOnlyAnswer, IsResult, StopsTask, unbuilt_of}
+use Rattle.avalon_top.specs.Run.{Reads, AreFiles, IsReadFault, IsBytesLimit, IsOnlyAnswer, IsResult, StopsTask}
 
 -- one file was not loaded
 abbrev pub StopsAtFile : ℕ → Reads → Exit → Type 0
@@ -23,21 +21,15 @@ StopsLoading words reads (exit.Limit which count) = IsBytesLimit which count wor
 StopsLoading words reads exit.NoMemory = Unit {0}
 StopsLoading words reads _ = ⊥
 
--- the task can't build this connection of the system yet, or memory was wanted
-abbrev pub StopsWriting : Task → SystemTable → Exit → Type 0
-StopsWriting task system (exit.LinkRefused connection rule other) = (unbuilt_of task system ≡ Some connection) × (rule ≡ link.Mm 10) × (other ≡ None)
-StopsWriting task system exit.NoMemory = Unit {0}
-StopsWriting task system _ = ⊥
-
 -- the files call for this answer alone, or memory was wanted
-abbrev pub StopsFiles : Task → List (List ℕ) → Exit → Type 0
-StopsFiles task files exit.Done = ⊥
-StopsFiles task files e = (e ≡ exit.NoMemory) ⊎ IsOnlyAnswer task files e
+abbrev pub StopsFiles : List (List ℕ) → Exit → Type 0
+StopsFiles files exit.Done = ⊥
+StopsFiles files e = (e ≡ exit.NoMemory) ⊎ IsOnlyAnswer files e
 
 -- what stops a run of these words
 abbrev pub Stops : List (List ℕ) → Reads → Exit → Type 0
 Stops words reads exit.Usage = AsksForNothing words
-Stops words reads e = (task : Task) × AsksFor words task × StopsTask task (length words) reads e
+Stops words reads e = (task : Task) × AsksFor words task × StopsTask (length words) reads e
 
 -- the result of a run of these words
 pub record IsResultOf (words : List (List ℕ)) (reads : Reads) (text : List ℕ) : Type 0 where

@@ -1,14 +1,10 @@
 -- What a run answers, and when.
-use Rattle.std.specs.Prelude.{◌≡◌, ℕ, ◌+◌, ◌<◌, ◌≤◌, ◌⊎◌, List, length, take, slice_get, All, Option, Some, None}
+use Rattle.std.specs.Prelude.{◌≡◌, ℕ, ◌+◌, ◌<◌, ◌≤◌, ◌⊎◌, List, length, take, slice_get, All, Option, Some}
 use Rattle.av_files.specs.Outside.{Rose, with_more, WhereTold}
-use Rattle.link_rules.specs.declared.faults.LinkRule.{LinkRule}
-use Rattle.link_rules.specs.declared.faults.LinkRule.TheVariants as link
 use Rattle.link_rules.specs.Plans.{PlanTable}
-use Rattle.system_tables.specs.Tables.{SystemTable}
 use Rattle.system_plan.specs.declared.faults.Refusal.TheVariants as refusal
 use Rattle.system_plan.specs.Plans.{IsPlanned, IsAccepted, IsRefusedBy}
 use Rattle.map_text.specs.Text.{map_text}
-use Rattle.built_links.specs.Wires.{pending_of}
 use Rattle.interconnect.specs.Interconnect.{IsInterconnect}
 use Rattle.netlist.specs.Netlists.{Netlist}
 use Rattle.verilog_writer.specs.Text.{text_of}
@@ -20,48 +16,30 @@ use Rattle.avalon_top.specs.Words.{AsksFor, AsksForNothing}
 
 -- ---- what files call for
 
--- the least connection that a task would have to build and can't yet; checking builds nothing
-abbrev pub unbuilt_of : Task → SystemTable → Option ℕ
-unbuilt_of Generate system = pending_of system
-unbuilt_of Check system = None
-
--- no rule and no limit refuses the files, and the task can be done
-pub record CanBeDone (task : Task) (files : List (List ℕ)) : Type 0 where
-  pub accepted : IsAccepted files
-  pub built : unbuilt_of task accepted.system ≡ None
-
--- no rule and no limit refuses the files, but this is the least connection that can't be built yet; P10 refuses it
-pub record IsUnbuilt (task : Task) (files : List (List ℕ)) (connection : ℕ) (rule : LinkRule) (other : Option ℕ) : Type 0 where
-  pub accepted : IsAccepted files
-  pub pending : unbuilt_of task accepted.system ≡ Some connection
-  pub rule_is : rule ≡ link.Mm 10
-  pub alone : other ≡ None
-
--- the answer that a task's files call for, where nothing fails
-abbrev pub CallsFor : Task → List (List ℕ) → Exit → Type 0
-CallsFor task files exit.Done = CanBeDone task files
-CallsFor task files (exit.ScriptRefused place rule) = IsRefusedBy files (refusal.Script place rule)
-CallsFor task files (exit.LinkRefused connection rule other) = IsRefusedBy files (refusal.Link connection rule other) ⊎ IsUnbuilt task files connection rule other
-CallsFor task files (exit.Limit which count) = IsRefusedBy files (refusal.Limit which count)
-CallsFor task files _ = ⊥
+-- the answer that files call for, where nothing fails, whatever the task
+abbrev pub CallsFor : List (List ℕ) → Exit → Type 0
+CallsFor files exit.Done = IsAccepted files
+CallsFor files (exit.ScriptRefused place rule) = IsRefusedBy files (refusal.Script place rule)
+CallsFor files (exit.LinkRefused connection rule other) = IsRefusedBy files (refusal.Link connection rule other)
+CallsFor files (exit.Limit which count) = IsRefusedBy files (refusal.Limit which count)
+CallsFor files _ = ⊥
 
 -- they call for this answer and for no other
-pub record IsOnlyAnswer (task : Task) (files : List (List ℕ)) (answer : Exit) : Type 0 where
-  pub called : CallsFor task files answer
-  pub only : (other : Exit) → CallsFor task files other → other ≡ answer
+pub record IsOnlyAnswer (files : List (List ℕ)) (answer : Exit) : Type 0 where
+  pub called : CallsFor files answer
+  pub only : (other : Exit) → CallsFor files other → other ≡ answer
 
 -- the text that a task writes of a plan
 abbrev pub IsTextOf : Task → PlanTable → List ℕ → Type 0
 IsTextOf Generate plan text = (netlist : Netlist) × IsInterconnect plan netlist × (text ≡ text_of netlist)
 IsTextOf Check plan text = text ≡ map_text plan
 
--- the files state a plan, none of whose connections is in the task's way, and this is its text
+-- the files state a plan, and this is its text
 pub record IsResult (task : Task) (files : List (List ℕ)) (text : List ℕ) : Type 0 where
   pub plan : PlanTable
   pub planned : IsPlanned files plan
-  pub built : unbuilt_of task plan.system ≡ None
   pub is_text : IsTextOf task plan text
-  pub only : IsOnlyAnswer task files exit.Done
+  pub only : IsOnlyAnswer files exit.Done
 
 -- ---- what is seen of the outside
 
@@ -126,10 +104,10 @@ pub record IsReadFault (file words : ℕ) (reads : Reads) : Type 0 where
   pub is_failed : reads.failed ≡ file
 
 -- all files were loaded, and this is the one answer that they call for
-pub record IsCalledFor (task : Task) (words : ℕ) (told : ℕ → Option (List ℕ)) (answer : Exit) : Type 0 where
+pub record IsCalledFor (words : ℕ) (told : ℕ → Option (List ℕ)) (answer : Exit) : Type 0 where
   pub files : List (List ℕ)
   pub are_files : AreFiles told words files
-  pub only : IsOnlyAnswer task files answer
+  pub only : IsOnlyAnswer files answer
 
 -- all files were loaded, and the text of their plan was written whole
 pub record IsWritten (task : Task) (words : ℕ) (told : ℕ → Option (List ℕ)) (writes : Writes) : Type 0 where
@@ -151,20 +129,20 @@ pub record IsWriteFault (task : Task) (words : ℕ) (told : ℕ → Option (List
   pub rose : Rose writes.before writes.after
 
 -- what stops a task before its result is written
-abbrev pub StopsTask : Task → ℕ → Reads → Exit → Type 0
-StopsTask task words reads (exit.ReadFault file) = IsReadFault file words reads
-StopsTask task words reads (exit.ScriptRefused place rule) = IsCalledFor task words reads.told (exit.ScriptRefused place rule)
-StopsTask task words reads (exit.LinkRefused connection rule other) = IsCalledFor task words reads.told (exit.LinkRefused connection rule other)
-StopsTask task words reads (exit.Limit which count) =
-    IsFilesLimit which count words ⊎ (IsBytesLimit which count words reads.told ⊎ IsCalledFor task words reads.told (exit.Limit which count))
-StopsTask task words reads exit.NoMemory = words ≤ 65
-StopsTask task words reads _ = ⊥
+abbrev pub StopsTask : ℕ → Reads → Exit → Type 0
+StopsTask words reads (exit.ReadFault file) = IsReadFault file words reads
+StopsTask words reads (exit.ScriptRefused place rule) = IsCalledFor words reads.told (exit.ScriptRefused place rule)
+StopsTask words reads (exit.LinkRefused connection rule other) = IsCalledFor words reads.told (exit.LinkRefused connection rule other)
+StopsTask words reads (exit.Limit which count) =
+    IsFilesLimit which count words ⊎ (IsBytesLimit which count words reads.told ⊎ IsCalledFor words reads.told (exit.Limit which count))
+StopsTask words reads exit.NoMemory = words ≤ 65
+StopsTask words reads _ = ⊥
 
 -- when each answer to a task comes, and what stands after it
 abbrev pub AnswersTask : Task → ℕ → Reads → Writes → Exit → Type 0
 AnswersTask task words reads writes exit.Done = IsWritten task words reads.told writes
 AnswersTask task words reads writes exit.WriteFault = IsWriteFault task words reads.told writes
-AnswersTask task words reads writes e = StopsTask task words reads e
+AnswersTask task words reads writes e = StopsTask words reads e
 
 -- the same, for any words
 abbrev pub Answers : List (List ℕ) → Reads → Writes → Exit → Type 0
@@ -196,4 +174,4 @@ pub record NothingFails (task : Task) (files words : List (List ℕ)) (reads : R
 -- where nothing fails, the answer is the one that the files call for, or want of memory
 abbrev pub IsComplete : List (List ℕ) → Reads → Writes → Exit → Type 0
 IsComplete words reads writes answer =
-    (task : Task) (files : List (List ℕ)) → NothingFails task files words reads writes → (answer ≡ exit.NoMemory) ⊎ IsOnlyAnswer task files answer
+    (task : Task) (files : List (List ℕ)) → NothingFails task files words reads writes → (answer ≡ exit.NoMemory) ⊎ IsOnlyAnswer files answer

@@ -1,19 +1,18 @@
-ghost use Rattle.std.specs.Prelude.{◌≡◌, ℕ, ◌+◌, ◌^◌, ◌<◌, ◌≤◌, ◌⊎◌, None, length, map, string_bytes, All, IfOk, IfErr, OnOk};
+ghost use Rattle.std.specs.Prelude.{◌≡◌, ℕ, ◌+◌, ◌^◌, ◌<◌, ◌≤◌, ◌⊎◌, length, map, string_bytes, All, IfOk, IfErr};
 ghost use Rattle.av_files.specs.Outside.{WhereTold};
 ghost use Rattle.netlist.specs.Netlists.{Netlist};
 ghost use Rattle.verilog_writer.specs.Text.{text_of};
-ghost use Rattle.built_links.specs.Wires.{pending_of};
 ghost use Rattle.interconnect.specs.Interconnect.{IsInterconnect};
 ghost use Rattle.answer_lines.specs.Lines.{line_of};
-ghost use Rattle.avalon_top.specs.Run.{reads_by, writes_by, Reads, Writes, AreFiles, Answers, IsComplete, IsRefusal, WritesLine, IsResult, IsTextOf, unbuilt_of};
-ghost use Rattle.avalon_top.specs.Loading.{StopsAtFile, StopsFiles, StopsWriting, StopsLoading, Stops, IsResultOf};
+ghost use Rattle.avalon_top.specs.Run.{reads_by, writes_by, Reads, Writes, AreFiles, Answers, IsComplete, IsRefusal, WritesLine, IsResult, IsTextOf};
+ghost use Rattle.avalon_top.specs.Loading.{StopsAtFile, StopsFiles, StopsLoading, Stops, IsResultOf};
 
 use crate::words::{Task, read_words};
 use answer_lines::Exit;
 use av_base::{Bytes, List, NoMemory};
 use av_files::{LoadFault, Shelf, Sink, load_all, put_all};
-use interconnect::{build, pending};
-use link_rules::{LinkRule, Plan};
+use interconnect::build;
+use link_rules::Plan;
 use map_text::map_text;
 use std::alloc::Global;
 use system_plan::plan_of;
@@ -64,29 +63,19 @@ fn load_files<S: Shelf>(alloc: Global, shelf: &mut S, words: usize) -> Result<Li
 
 /// The Verilog text of the interconnect of a plan.
 fn interconnect_text(alloc: Global, plan: &Plan) -> Result<Bytes, NoMemory>
-    requires { pending_of plan.now.system ≡ None }
     ensures { IfOk result (λ text. (netlist : Netlist) × IsInterconnect plan.now netlist × (text ≡ text_of netlist)) }
 {
     let built = build(alloc, plan)?;
     write_module(alloc, &built.module)
 }
 
-/// What a task writes of a plan, or the least connection that it can't build yet.
-fn text_of_plan(alloc: Global, task: Task, plan: &Plan) -> Result<Bytes, Exit>
-    ensures stops { IfErr result (StopsWriting task plan.now.system) }
-    ensures built { OnOk result (unbuilt_of task plan.now.system ≡ None) }
-    ensures text { IfOk result (IsTextOf task plan.now) }
+/// What a task writes of a plan.
+fn text_of_plan(alloc: Global, task: Task, plan: &Plan) -> Result<Bytes, NoMemory>
+    ensures { IfOk result (IsTextOf task plan.now) }
 {
     match task {
-        Task::Check => Ok(map_text(alloc, plan)?),
-        Task::Generate => match pending(plan) {
-            Some(connection) => Err(Exit::LinkRefused {
-                connection,
-                rule: LinkRule::Mm(10),
-                other: None,
-            }),
-            None => Ok(interconnect_text(alloc, plan)?),
-        },
+        Task::Check => map_text(alloc, plan),
+        Task::Generate => interconnect_text(alloc, plan),
     }
 }
 
@@ -95,11 +84,11 @@ fn text_of_files(alloc: Global, task: Task, files: &[Bytes]) -> Result<Bytes, Ex
     requires some { 1 ≤ length files.now }
     requires few { length files.now ≤ 64 }
     requires short { All (λ bytes. length bytes ≤ 1048576) files.now }
-    ensures stops { IfErr result (StopsFiles task files.now) }
+    ensures stops { IfErr result (StopsFiles files.now) }
     ensures result { IfOk result (IsResult task files.now) }
 {
     let plan = plan_of(alloc, files)?;
-    text_of_plan(alloc, task, &plan)
+    Ok(text_of_plan(alloc, task, &plan)?)
 }
 
 /// All that comes before a result is written: the result, or the refusal.
@@ -138,8 +127,8 @@ fn refuse<K: Sink>(sink: &mut K, exit: &Exit)
 ///
 /// The number of a file is the place of its word, counted from 0.
 pub fn run<S: Shelf, K: Sink>(alloc: Global, words: &[String], shelf: &mut S, sink: &mut K) -> Exit
-    // When each answer comes. At `Done` of `generate` the text of a module is written that serves each stream of the plan, or its
-    // host and its agent, in every run.
+    // When each answer comes. At `Done` of `generate` the text of a module is written that serves each stream of the plan, and its
+    // hosts and agents, in every run.
     ensures answers { Answers (map string_bytes words.now)
         (record { told = S.told shelf.old; before = S.faults shelf.old; after = S.faults shelf.new; failed = S.failed shelf.new })
         (record { held = K.held sink.old; holds = K.held sink.new; before = K.faults sink.old; after = K.faults sink.new }) result }

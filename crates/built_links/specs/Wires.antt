@@ -1,11 +1,8 @@
--- Which connections are built so far: each stream, and those of hosts to agents where neither has bursts. Which streams are wires.
-use Rattle.std.specs.Prelude.{ℕ, Bool, true, false, not, ◌&&◌, ◌==◌, nat_le, take, count_by, Option, slice_get}
-use Rattle.std.specs.List.{position_from}
+-- Which streams of a plan are wires.
+use Rattle.std.specs.Prelude.{ℕ, Bool, true, false, not, ◌&&◌, ◌==◌, nat_le, take, count_by, slice_get}
 use Rattle.std.specs.Option.{option_map_or}
-use Rattle.iface_roles.specs.declared.records.HostPort.{HostPort}
-use Rattle.iface_roles.specs.declared.records.AgentPort.{AgentPort}
 use Rattle.iface_roles.specs.declared.records.Finished.{Finished}
-use Rattle.iface_roles.specs.declared.records.Finished.TheVariants.{Host, Agent, Source, Sink}
+use Rattle.iface_roles.specs.declared.records.Finished.TheVariants.{Source, Sink}
 use Rattle.system_tables.specs.declared.tables.Connection.{Connection}
 use Rattle.system_tables.specs.Tables.{SystemTable}
 use Rattle.address_map.specs.Footprints.{known_at}
@@ -34,20 +31,6 @@ abbrev pub is_wire_stream : Declared → Declared → ℕ → Bool
 is_wire_stream source sink fifo =
     has_same_beats source sink && nat_le source.max_channel sink.max_channel && has_plain_ready source sink && (fifo == 0)
 
--- no bursts at either end
-abbrev pub has_single_beats : HostPort → AgentPort → Bool
-has_single_beats host agent = (host.burst_bits == 0) && (agent.burst_bits == 0)
-
--- a stream, or a host and an agent without bursts
-abbrev pub is_built_as : Finished → Finished → Bool
-is_built_as (Source source) (Sink sink) = true
-is_built_as (Host host) (Agent agent) = has_single_beats host agent
-is_built_as _ _ = false
-
--- the connection is one of those that are built
-abbrev pub is_built : SystemTable → Connection → Bool
-is_built system connection = is_built_as (known_at system connection.start) (known_at system connection.end)
-
 abbrev pub is_wire_as : ℕ → Finished → Finished → Bool
 is_wire_as fifo (Source source) (Sink sink) = is_wire_stream (declared source) (declared sink) fifo
 is_wire_as fifo _ _ = false
@@ -67,7 +50,3 @@ is_wire_at system number = option_map_or (is_wire system) (slice_get system.conn
 -- how many of the streams before this one are wires
 abbrev pub wires_before : SystemTable → ℕ → ℕ
 wires_before system number = count_by (is_wire_at system) (take number (streams_of system))
-
--- the least connection that isn't built
-abbrev pub pending_of : SystemTable → Option ℕ
-pending_of system = position_from (λ connection. not (is_built system connection)) 0 system.connections

@@ -1,6 +1,6 @@
-//! Which connections of a plan are built so far, and which of its streams are wires.
+//! Which streams of a plan are wires.
 #![tactic(auto)]
 
 mod built;
 
-pub use built::{is_wire_stream, pending};
+pub use built::is_wire_stream;

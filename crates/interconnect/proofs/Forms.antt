@@ -1,13 +1,11 @@
--- What is built: that the ends of each stream keep what a path rests on, and which of them are joined by a wire.
-use Rattle.std.proofs.Common.{◌≡◌, ℕ, zero, suc, ◌+◌, ◌*◌, ◌≤◌, Bool, true, false, ◌&&◌, ◌||◌, not, cond, List, [], ◌∷◌, slice_get, Some, None, refl, sym, subst, arith}
+-- The ends of each stream keep what a path rests on, and which of them are joined by a wire.
+use Rattle.std.proofs.Common.{◌≡◌, ℕ, ◌*◌, ◌≤◌, Bool, true, false, ◌&&◌, ◌||◌, not, refl, sym, subst, arith}
 use Rattle.std.specs.Prelude.{nat_le, nat_lt, ◌%◌, if◌then◌else◌, ◌==◌}
-use Rattle.std.specs.List.{position_from}
 use Rattle.std.proofs.lemmas.Bool.{and_parts, or_parts, eqb-true, leb-true, ltb-false, lt-ltb, false≢true}
 use Rattle.iface_roles.specs.declared.records.Finished.{Finished}
 use Rattle.iface_roles.specs.declared.records.Finished.TheVariants.{Source}
 use Rattle.iface_roles.specs.declared.records.StreamPort.{StreamPort}
 use Rattle.iface_roles.specs.Proper.{IsBoundedStream}
-use Rattle.system_tables.specs.declared.tables.Connection.{Connection}
 use Rattle.system_tables.specs.Tables.{SystemTable}
 use Rattle.address_map.specs.Footprints.{known_at}
 use Rattle.link_rules.specs.Pairs.{KeepsAll, stream_tests, is_multiple}
@@ -17,32 +15,13 @@ use Rattle.link_rules.specs.PlanLinks.{IsStreamLink}
 use Rattle.stream_runs.specs.Ends.{Declared, AreAlike, pace_of}
 use Rattle.st_timing.specs.Ends.{declared}
 use Rattle.stream_path.specs.Joining.{IsStrict, FitsPorts, CanJoin}
-use Rattle.built_links.specs.Wires.{both_or_neither, has_same_beats, has_plain_ready, is_wire_stream, is_built, pending_of}
+use Rattle.built_links.specs.Wires.{both_or_neither, has_same_beats, has_plain_ready, is_wire_stream}
 use Rattle.port_tables.specs.EndFacts.{IsPlanned}
 use Rattle.interconnect.proofs.StreamEnds.{connection_of, start_known, finish_known}
-
--- ---- what is built
-
-none_before : (test : Connection → Bool) (n k : ℕ) (xs : List Connection) (a : Connection) → position_from test n xs ≡ None → slice_get xs k ≡ Some a → test a ≡ false
-none_before test n k [] a e f = absurd (let none : None ≡ Some a = f in cc)
-none_before test n zero (x ∷ xs) a e f = let is : x ≡ a = cc in subst (λ z. test z ≡ false) is (by_test (test x) refl e)
-  where
-    by_test : (b : Bool) → test x ≡ b → cond b (Some n) (position_from test (n + 1) xs) ≡ None → test x ≡ false
-    by_test true g h = absurd (let none : Some n ≡ None = h in cc)
-    by_test false g h = g
-none_before test n (suc k) (x ∷ xs) a e f = none_before test (n + 1) k xs a (rest (test x) e) f
-  where
-    rest : (b : Bool) → cond b (Some n) (position_from test (n + 1) xs) ≡ None → position_from test (n + 1) xs ≡ None
-    rest true h = absurd (let none : Some n ≡ None = h in cc)
-    rest false h = h
 
 not_false : (b : Bool) → not b ≡ false → b ≡ true
 not_false true e = refl
 not_false false e = absurd (false≢true (sym e))
-
--- where no connection is pending, each is built
-pub all_built : (system : SystemTable) (k : ℕ) (a : Connection) → pending_of system ≡ None → slice_get system.connections k ≡ Some a → is_built system a ≡ true
-all_built system k a none at = not_false _ (none_before (λ (c : Connection). not (is_built system c)) 0 k system.connections a none at)
 
 -- ---- ends that agree
 

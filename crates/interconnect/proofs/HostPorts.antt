@@ -22,6 +22,7 @@ use Rattle.mm_host.specs.Hosts.{AreHostNets, bursts}
 use Rattle.mm_host.specs.Forms.{AreAnswersTo}
 use Rattle.mm_agent.specs.declared.nets.AgentNets.{AgentNets}
 use Rattle.mm_agent.specs.Agents.{AreAgentNets, has_address}
+use Rattle.mm_agent.specs.Agents.{bursts as agent_bursts}
 use Rattle.mm_fabric.specs.declared.parts.HostPart.{HostPart}
 use Rattle.mm_fabric.specs.declared.parts.AgentPart.{AgentPart}
 use Rattle.mm_fabric.specs.Parts.{IsAgentPart}
@@ -59,7 +60,7 @@ pub record AreAgentPorts (system : SystemTable) (end : EndId) (agent : AgentPort
   pub write : IsPortIf (ports_of system) true (bits_if agent.writes 1) (port_at system end role.Write)
   pub writedata : IsPortIf (ports_of system) true (bits_if agent.writes (agent.word_bytes * 8)) (port_at system end role.WriteData)
   pub byteenable : IsPortIf (ports_of system) true (bits_if agent.enables agent.word_bytes) (port_at system end role.ByteEnable)
-  pub burstcount : IsPortIf (ports_of system) true agent.burst_bits (port_at system end role.BurstCount)
+  pub burstcount : IsPortIf (ports_of system) true (bits_if (agent_bursts agent) (burst_width agent.burst_bits)) (port_at system end role.BurstCount)
   pub waitrequest : IsPortIf (ports_of system) false (bits_if agent.waitrequest 1) (port_at system end role.WaitRequest)
   pub readdata : IsPortIf (ports_of system) false (bits_if agent.reads (agent.word_bytes * 8)) (port_at system end role.ReadData)
   pub readdatavalid : IsPortIf (ports_of system) false (bits_if agent.readdatavalid 1) (port_at system end role.ReadDataValid)
@@ -105,7 +106,7 @@ agent_ports_are system end agent h a e =
       write = port (port_of role.Write (bits_if agent.writes 1)) (inr (inr (inl refl)));
       writedata = subst (λ (n : ℕ). IsPortIf (ports_of system) true (bits_if agent.writes n) (port_at system end role.WriteData)) (eight agent.word_bytes) (port (port_of role.WriteData (bits_if agent.writes (8 * agent.word_bytes))) (inr (inr (inr (inl refl)))));
       byteenable = port (port_of role.ByteEnable (bits_if agent.enables agent.word_bytes)) (inr (inr (inr (inr (inl refl)))));
-      burstcount = port (port_of role.BurstCount agent.burst_bits) (inr (inr (inr (inr (inr (inl refl))))));
+      burstcount = subst (λ (n : ℕ). IsPortIf (ports_of system) true n (port_at system end role.BurstCount)) (burst_bits agent.burst_bits) (port (port_of role.BurstCount agent.burst_bits) (inr (inr (inr (inr (inr (inl refl)))))));
       waitrequest = port (port_of role.WaitRequest (bits_if agent.waitrequest 1)) (inr (inr (inr (inr (inr (inr (inl refl)))))));
       readdata = subst (λ (n : ℕ). IsPortIf (ports_of system) false (bits_if agent.reads n) (port_at system end role.ReadData)) (eight agent.word_bytes) (port (port_of role.ReadData (bits_if agent.reads (8 * agent.word_bytes))) (inr (inr (inr (inr (inr (inr (inr (inl refl)))))))));
       readdatavalid = port (port_of role.ReadDataValid (bits_if agent.readdatavalid 1)) (inr (inr (inr (inr (inr (inr (inr (inr (inl refl)))))))));
@@ -155,7 +156,7 @@ some_bytes bytes size = let low : 0 ≤ size.exponent = omega arith in let least
 pub some_bits : (bytes : ℕ) → IsWordSize bytes → 0 < bytes * 8
 some_bits bytes size = let some = some_bytes bytes size in omega (arith, some)
 
-some_burst : (n : ℕ) → 0 < burst_width n
+pub some_burst : (n : ℕ) → 0 < burst_width n
 some_burst n = by (nat_eq n 0) refl
   where
     by : (b : Bool) → nat_eq n 0 ≡ b → 0 < burst_width n
@@ -258,6 +259,7 @@ agent_may system end stages part netlist h ports b undriven =
     let command = part.command in
     let word : IsNetOfWidth netlist command.word (agent.word_bytes * 8) = record { is_net = b.command.word; has_width = b.word } in
     let enables : IsNetOfWidth netlist command.enables agent.word_bytes = record { is_net = b.command.enables; has_width = b.enables } in
+    let count : IsNetOfWidth netlist command.count (burst_width agent.burst_bits) = record { is_net = b.command.count; has_width = b.count } in
     let tagged : IsNetOfWidth netlist command.tag 4 = record { is_net = b.command.tag; has_width = b.tag } in
     may_by system end (agent_net part) agent_roles netlist
     (λ n r is. each_at (λ (r : PortRole). IfSome (port_at system end r) (MayDrive netlist (agent_net part r))) agent_roles n r (
@@ -275,7 +277,11 @@ agent_may system end stages part netlist h ports b undriven =
             (
               can_drive netlist (ports_of system) (bits_if agent.enables agent.word_bytes) command.enables (port_at system end role.ByteEnable) ports h.byteenable
                   (word_there netlist command.enables agent.enables agent.word_bytes enables) (undriven role.ByteEnable),
-              (can_drive netlist (ports_of system) 4 command.tag (port_at system end role.Grant) ports h.grant (λ some. tagged) (undriven role.Grant), tt),
+              (
+                can_drive netlist (ports_of system) (bits_if (agent_bursts agent) (burst_width agent.burst_bits)) command.count (port_at system end role.BurstCount) ports h.burstcount
+                    (word_there netlist command.count (agent_bursts agent) (burst_width agent.burst_bits) count) (undriven role.BurstCount),
+                (can_drive netlist (ports_of system) 4 command.tag (port_at system end role.Grant) ports h.grant (λ some. tagged) (undriven role.Grant), tt),
+              ),
             ),
           ),
         ),
@@ -289,10 +295,11 @@ agent_place role.Read = 1
 agent_place role.Write = 2
 agent_place role.WriteData = 3
 agent_place role.ByteEnable = 4
-agent_place _ = 5
+agent_place role.BurstCount = 5
+agent_place _ = 6
 
 pub agent_own : (part : AgentPart) → HaveOwnRoles (agent_outputs part)
-agent_own part = own_roles (agent_net part) agent_place agent_roles (refl, (refl, (refl, (refl, (refl, (refl, tt))))))
+agent_own part = own_roles (agent_net part) agent_place agent_roles (refl, (refl, (refl, (refl, (refl, (refl, (refl, tt)))))))
 
 -- ---- an agent
 

@@ -1,42 +1,31 @@
 -- Each output at a host or an agent of a finished module is driven.
-use Rattle.std.proofs.Common.{◌≡◌, ℕ, true, false, slice_get, Option, Some, refl, sym, ap, subst, ◌∙◌, arith}
+use Rattle.std.proofs.Common.{◌≡◌, ℕ, true, false, slice_get, Some, refl, sym, ap, subst, ◌∙◌, arith}
 use Rattle.std.specs.Prelude.{IsSome}
-use Rattle.std.specs.Option.{option_map_or}
 use Rattle.std.proofs.lemmas.Option.{same_Some, slice_get_within}
 use Rattle.iface_roles.specs.declared.records.Finished.{Finished}
-use Rattle.iface_roles.specs.declared.records.Finished.TheVariants.{Host, Agent, Other}
+use Rattle.iface_roles.specs.declared.records.Finished.TheVariants.{Host, Agent}
 use Rattle.system_tables.specs.declared.tables.EndId.{EndId}
 use Rattle.system_tables.specs.Tables.{SystemTable}
 use Rattle.address_map.specs.Footprints.{known_at}
 use Rattle.address_map.specs.Maps.{hosts_of, agents_of}
 use Rattle.link_rules.specs.Plans.{PlanTable}
 use Rattle.netlist.specs.Netlists.{Netlist, driver_of}
-use Rattle.mm_path.specs.Maps.{IsAgentOf}
 use Rattle.mm_fabric.specs.declared.parts.HostPart.{HostPart}
 use Rattle.mm_fabric.specs.declared.parts.AgentPart.{AgentPart}
 use Rattle.port_tables.specs.declared.roles.PortRole.{PortRole}
 use Rattle.port_tables.specs.declared.roles.PortRole.TheVariants as role
 use Rattle.port_tables.specs.declared.roles.RolePort.{RolePort}
-use Rattle.port_tables.specs.Lists.{Among, among_at}
-use Rattle.port_tables.specs.Ports.{host_ports, agent_ports, is_output, may_have, starts, ports_of}
-use Rattle.port_tables.specs.PortMaps.{IsPortIf, port_at}
+use Rattle.port_tables.specs.Lists.{Among}
+use Rattle.port_tables.specs.Ports.{host_ports, agent_ports, is_output, may_have, starts}
+use Rattle.port_tables.specs.PortMaps.{port_at}
 use Rattle.interconnect.specs.Outputs.{AreDrivenAt}
 use Rattle.interconnect.specs.Hosts.{host_roles, host_net, host_outputs}
 use Rattle.interconnect.specs.Agents.{agent_roles, agent_net, agent_outputs}
 use Rattle.interconnect.proofs.Driving.{role_driven, each_among}
 use Rattle.interconnect.proofs.Shown.{driven_some, no_input}
 use Rattle.interconnect.proofs.Passing.{there_at}
-use Rattle.interconnect.proofs.Links.{agent_has_host, agent_burst}
-use Rattle.interconnect.proofs.HostPorts.{agent_ports_are}
-use Rattle.interconnect.proofs.Apart.{agent_end}
+use Rattle.interconnect.proofs.Links.{agent_has_host}
 use Rattle.interconnect.proofs.HostsServed.{IsMemoryIn}
-
--- a port without bits isn't there
-no_port : (system : SystemTable) (end : EndId) (r : PortRole) (k : ℕ) {P : Type 0} → IsPortIf (ports_of system) true 0 (port_at system end r) → port_at system end r ≡ Some k → P
-no_port system end r k p e =
-    let there = subst (λ (o : Option ℕ). IsPortIf (ports_of system) true 0 o) e p in
-    let some = there.some in
-    absurd (omega (arith, some))
 
 host_ports_driven : (system : SystemTable) (netlist : Netlist) (end : EndId) (part : HostPart) (k : ℕ) (p : RolePort) → AreDrivenAt system end (host_outputs part) netlist → Among p (host_ports part.port)
     → is_output true p.role ≡ true → port_at system end p.role ≡ Some k → IsSome (driver_of netlist k)
@@ -65,9 +54,9 @@ host_ports_driven system netlist end part k p driven among =
     drives n r e is = driven_some netlist k (port_at system end r) (host_net part.told r) is (role_driven system end (host_net part.told) host_roles netlist driven n r e)
 
 agent_ports_driven : (system : SystemTable) (netlist : Netlist) (end : EndId) (part : AgentPart) (k : ℕ) (p : RolePort) → AreDrivenAt system end (agent_outputs part) netlist
-    → IsPortIf (ports_of system) true 0 (port_at system end role.BurstCount) → Among p (agent_ports part.port)
+    → Among p (agent_ports part.port)
     → is_output false p.role ≡ true → port_at system end p.role ≡ Some k → IsSome (driver_of netlist k)
-agent_ports_driven system netlist end part k p driven no_burst among =
+agent_ports_driven system netlist end part k p driven among =
     each_among (λ (p : RolePort). is_output false p.role ≡ true → port_at system end p.role ≡ Some k → IsSome (driver_of netlist k)) (agent_ports part.port) p (
       λ way is. drives 0 role.Address refl is,
       (
@@ -79,10 +68,10 @@ agent_ports_driven system netlist end part k p driven no_burst among =
             (
               λ way is. drives 4 role.ByteEnable refl is,
               (
-                λ way is. no_port system end role.BurstCount k no_burst is,
+                λ way is. drives 5 role.BurstCount refl is,
                 (
                   λ way is. no_input _ way refl,
-                  (λ way is. no_input _ way refl, (λ way is. no_input _ way refl, (λ way is. no_input _ way refl, (λ way is. drives 5 role.Grant refl is, tt)))),
+                  (λ way is. no_input _ way refl, (λ way is. no_input _ way refl, (λ way is. no_input _ way refl, (λ way is. drives 6 role.Grant refl is, tt)))),
                 ),
               ),
             ),
@@ -124,8 +113,5 @@ module _ (plan : PlanTable) (netlist : Netlist) (m : IsMemoryIn plan netlist) wh
       let in_system = j.of.agents a there.0 there.1 in
       let same : in_system.end ≡ end = same_Some in_system.end end (sym in_system.end_is ∙ at) in
       let known : known_at system end ≡ Agent there.0.port = ap (known_at system) (sym same) ∙ in_system.port_is in
-      let is : IsAgentOf plan a there.0.port = ap (λ (o : Option EndId). option_map_or (known_at system) o Other) at ∙ known in
-      let among = (agent_end system end m.known.planned (among_at (agents_of system) a end at)).among in
-      let no_burst = subst (λ (n : ℕ). IsPortIf (ports_of system) true n (port_at system end role.BurstCount)) (agent_burst plan m.laws a there.0.port below is) (agent_ports_are system end there.0.port m.known among known).burstcount in
-      agent_ports_driven system netlist end there.0 k p (j.agents_driven a end there.0 at there.1) no_burst
+      agent_ports_driven system netlist end there.0 k p (j.agents_driven a end there.0 at there.1)
       (subst (λ (f : Finished). Among p (may_have f)) known may) (subst (λ (f : Finished). is_output (starts f) p.role ≡ true) known output) named

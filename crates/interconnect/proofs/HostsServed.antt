@@ -39,7 +39,7 @@ use Rattle.interconnect.specs.Memory.{host_view, agent_view, host_in, agent_in, 
 use Rattle.interconnect.specs.Fabrics.{HasFabric}
 use Rattle.interconnect.proofs.Driving.{nat_cases, extends-refl}
 use Rattle.interconnect.proofs.Apart.{host_end, agent_end}
-use Rattle.interconnect.proofs.Links.{LinkLaws, of_connection, start_known, end_known, host_below, host_has_link, agent_has_link, agent_burst}
+use Rattle.interconnect.proofs.Links.{LinkLaws, of_connection, start_known, end_known, host_below, host_has_link, agent_has_link}
 use Rattle.interconnect.proofs.HostPorts.{host_ports_are, agent_ports_are}
 use Rattle.interconnect.proofs.FabricJoins.{IsFabricOf, fabric_there}
 use Rattle.interconnect.proofs.HostsShown.{HostsAgreeAt, AgentsAgreeAt, host_same, agent_same, IsEndIn, host_shown, agent_shown}
@@ -235,7 +235,7 @@ module _ (plan : PlanTable) (netlist : Netlist) (m : IsMemoryIn plan netlist) (s
         let ports = agent_ports_are system end part.port m.known (agent_end system end m.known.planned (among_at (agents_of system) a end in_system.end_is)).among in_system.port_is in
         let stands = standing.is.agent a below in
         subst (λ (v : AgentView). AgentsAgreeAt v (seen_at_agent part run) c) (sym view)
-        (agent_shown system netlist at_end end run c part ports stands.bounded (agent_burst plan m.laws a part.port below is) in_system.inputs stands.made (memory.joined.agents_driven a end part in_system.end_is at))
+        (agent_shown system netlist at_end end run c part ports stands.bounded in_system.inputs stands.made (memory.joined.agents_driven a end part in_system.end_is at))
 
     agent_seen : (a : ℕ) → AgentsAgreeAt (agent_in plan netlist run a) ((seen_in plan fabric run).at_agent a) c
     agent_seen a = elim (nat_cases a agents) [

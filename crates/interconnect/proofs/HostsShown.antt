@@ -18,6 +18,7 @@ use Rattle.mm_host.specs.Hosts.{bursts}
 use Rattle.mm_host.specs.Forms.{AreAnswersTo}
 use Rattle.mm_agent.specs.declared.nets.AgentNets.{AgentNets}
 use Rattle.mm_agent.specs.Agents.{AreMadeNets, has_address}
+use Rattle.mm_agent.specs.Agents.{bursts as agent_bursts}
 use Rattle.mm_fabric.specs.declared.parts.HostPart.{HostPart}
 use Rattle.mm_fabric.specs.declared.parts.AgentPart.{AgentPart}
 use Rattle.mm_fabric.specs.Fabrics.{seen_at_host, seen_at_agent}
@@ -31,7 +32,7 @@ use Rattle.interconnect.specs.Hosts.{AreHostInputs, host_roles, host_net, host_o
 use Rattle.interconnect.specs.Agents.{agent_inputs, agent_roles, agent_net, agent_outputs}
 use Rattle.interconnect.proofs.Driving.{role_driven}
 use Rattle.interconnect.proofs.Shown.{shown, shown_at, no_driver}
-use Rattle.interconnect.proofs.HostPorts.{AreHostPorts, AreAgentPorts, some_bytes, some_bits, some_number, address_bits}
+use Rattle.interconnect.proofs.HostPorts.{AreHostPorts, AreAgentPorts, some_bytes, some_bits, some_burst, some_number, address_bits}
 
 -- ---- views that are the same in one cycle
 
@@ -118,10 +119,6 @@ made_value netlist true bits absent (Some net) other cycle h = refl
 made_value netlist false bits absent None other cycle h = refl
 made_value netlist false bits absent (Some net) other cycle h = absurd (false≢true h.0)
 
-none_by : (ports : List PortLine) (netlist : Netlist) (run : Run) (output : Bool) (absent : ℕ) (o : Option ℕ) (c : ℕ) → IsPortIf ports output 0 o → signal_or absent (shown netlist run o) c ≡ absent
-none_by ports netlist run output absent None c p = refl
-none_by ports netlist run output absent (Some k) c p = (let some = p.some in absurd (omega (arith, some)))
-
 addressed : (n : ℕ) → not (nat_eq n 0) ≡ true → 0 < n
 addressed n e = some_number n (by (nat_eq n 0) e)
   where
@@ -177,10 +174,10 @@ module _ (system : SystemTable) (netlist : Netlist) (at : IsEndIn system netlist
 
   -- ---- an agent
 
-  pub agent_shown : (part : AgentPart) → AreAgentPorts system end part.port → IsBoundedAgent part.port → part.port.burst_bits ≡ 0 → part.nets ≡ agent_inputs system end part.port
+  pub agent_shown : (part : AgentPart) → AreAgentPorts system end part.port → IsBoundedAgent part.port → part.nets ≡ agent_inputs system end part.port
       → AreMadeNets netlist part.port part.command part.made → AreDrivenAt system end (agent_outputs part) netlist
       → AgentsAgreeAt (agent_view netlist run part.port.word_bytes (name_at system end)) (seen_at_agent part run) c
-  agent_shown part ports bounded no_burst nets made driven =
+  agent_shown part ports bounded nets made driven =
       let agent = part.port in
       let command = part.command in
       let out = role_driven system end (agent_net part) agent_roles netlist driven in
@@ -192,12 +189,10 @@ module _ (system : SystemTable) (netlist : Netlist) (at : IsEndIn system netlist
             (subst (λ (n : ℕ). IsPortIf (ports_of system) true n (port_at system end role.Address)) (address_bits agent.address_bits) ports.address) made.address (out 0 role.Address refl))
             (out_level role.WriteData agent.writes (agent.word_bytes * 8) 0 command.word (λ is. some_bits agent.word_bytes bounded.ports.word) ports.writedata (out 3 role.WriteData refl))
             (out_level role.ByteEnable agent.enables agent.word_bytes (2 ^ agent.word_bytes - 1) command.enables (λ is. some_bytes agent.word_bytes bounded.ports.word) ports.byteenable (out 4 role.ByteEnable refl))
-            (here role.BurstCount 1
-            ∙ none_by (ports_of system) netlist run true 1 (port_at system end role.BurstCount) c (subst (λ (n : ℕ). IsPortIf (ports_of system) true n (port_at system end role.BurstCount)) no_burst ports.burstcount)
-            ∙ ap (λ (n : ℕ). if not (nat_eq n 0) then run.net c command.count.number else 1) (sym no_burst));
+            (out_level role.BurstCount (agent_bursts agent) (burst_width agent.burst_bits) 1 command.count (λ is. some_burst agent.burst_bits) ports.burstcount (out 5 role.BurstCount refl));
         waitrequest = in_level role.WaitRequest (bits_if agent.waitrequest 1) 1 0 part.nets.waitrequest ports.waitrequest (ap (λ (n : AgentNets). n.waitrequest) nets);
         readdata = in_level role.ReadData (bits_if agent.reads (agent.word_bytes * 8)) (agent.word_bytes * 8) 0 part.nets.readdata ports.readdata (ap (λ (n : AgentNets). n.readdata) nets);
         readdatavalid = in_level role.ReadDataValid (bits_if agent.readdatavalid 1) 1 0 part.nets.readdatavalid ports.readdatavalid (ap (λ (n : AgentNets). n.readdatavalid) nets);
         response = in_level role.Response (bits_if agent.response 2) 2 0 part.nets.response ports.response (ap (λ (n : AgentNets). n.response) nets);
-        grant = out_level role.Grant true 4 0 command.tag (λ is. omega arith) ports.grant (out 5 role.Grant refl);
+        grant = out_level role.Grant true 4 0 command.tag (λ is. omega arith) ports.grant (out 6 role.Grant refl);
       }

@@ -1,13 +1,10 @@
--- The hosts and agents of a plan none of whose connections is pending: they have links, and no bursts.
-use Rattle.std.proofs.Common.{◌≡◌, ℕ, ◌<◌, true, List, [], ◌∷◌, length, map, slice_get, Option, Some, None, sym, ap, subst, ◌∙◌, arith}
-use Rattle.std.specs.Option.{option_map_or}
-use Rattle.std.proofs.lemmas.Bool.{and_parts, eqb-true}
+-- The hosts and agents of a plan have links.
+use Rattle.std.proofs.Common.{◌≡◌, ℕ, ◌<◌, List, [], ◌∷◌, length, map, slice_get, Some, sym, ap, ◌∙◌, arith}
 use Rattle.std.proofs.lemmas.Option.{same_Some, slice_get_within}
 use Rattle.iface_roles.specs.declared.kinds.Kind.TheVariants.{Mm}
 use Rattle.iface_roles.specs.declared.kinds.Side.{Side}
 use Rattle.iface_roles.specs.declared.kinds.Side.TheVariants.{Start, End}
-use Rattle.iface_roles.specs.declared.records.Finished.TheVariants.{Host, Agent, Other}
-use Rattle.iface_roles.specs.declared.records.AgentPort.{AgentPort}
+use Rattle.iface_roles.specs.declared.records.Finished.TheVariants.{Host, Agent}
 use Rattle.system_tables.specs.declared.tables.Connection.{Connection}
 use Rattle.system_tables.specs.declared.tables.EndId.{EndId}
 use Rattle.system_tables.specs.Tables.{SystemTable}
@@ -17,31 +14,18 @@ use Rattle.address_map.specs.Maps.{mm_connections, mm_ends, end_at, IsJoined, ho
 use Rattle.link_rules.specs.declared.plan_links.MemoryLink.{MemoryLink}
 use Rattle.link_rules.specs.PlanLinks.{memory_links, IsMemoryLink, HasMemoryLink}
 use Rattle.link_rules.specs.Plans.{PlanTable, IsPlan}
-use Rattle.mm_path.specs.Maps.{IsAgentOf}
-use Rattle.mm_fabric.specs.Ends.{IsPlainLink, IsPlain}
 use Rattle.port_tables.specs.EndFacts.{IsPlanned, planned, known_is}
 use Rattle.port_tables.specs.Lists.{Among, among_at, among_map, among_image}
 use Rattle.port_tables.specs.Numbering.{among_once, mm_kind}
-use Rattle.built_links.specs.Wires.{has_single_beats, is_built_as, pending_of}
-use Rattle.interconnect.proofs.Forms.{all_built}
 use Rattle.interconnect.proofs.Passing.{there_at}
 
 -- what the laws of links and ends say of a plan
 pub record LinkLaws (plan : PlanTable) : Type 0 where
   pub is_plan : IsPlan plan
-  pub none : pending_of plan.system ≡ None
   pub numbered : (k : ℕ) (link : MemoryLink) → slice_get (memory_links plan.system) k ≡ Some link → IsMemoryLink plan.system link
   pub each : (number : ℕ) (connection : Connection) → slice_get plan.system.connections number ≡ Some connection → connection.kind ≡ Mm → HasMemoryLink plan.system number
   pub one : (side : Side) (j k : ℕ) (end : EndId) → slice_get (mm_ends side plan.system) j ≡ Some end → slice_get (mm_ends side plan.system) k ≡ Some end → j ≡ k
   pub joined : (side : Side) (number : ℕ) (end : EndId) → slice_get (mm_ends side plan.system) number ≡ Some end → IsJoined plan.system side end
-
--- ---- a link that is built
-
--- neither of its ends has bursts
-built_by : (link : MemoryLink) → has_single_beats link.host link.agent ≡ true → IsPlainLink link
-built_by link e =
-    let both = and_parts _ _ e in
-    record { host = eqb-true link.host.burst_bits 0 both.0; agent = eqb-true link.agent.burst_bits 0 both.1 }
 
 -- ---- the links of a plan
 
@@ -61,12 +45,6 @@ module _ (plan : PlanTable) (laws : LinkLaws plan) where
 
     pub end_known : known_at plan.system of_connection.connection.end ≡ Agent link.agent
     end_known = known_is plan.system of_connection.connection.end (Agent link.agent) of_connection.agent
-
-    pub built : IsPlainLink link
-    built =
-        let c = of_connection.connection in
-        let is = all_built plan.system link.connection c laws.none of_connection.connection_is in
-        built_by link (subst (λ b. is_built_as (Host link.host) b ≡ true) end_known (subst (λ a. is_built_as a (known_at plan.system c.end) ≡ true) start_known is))
 
     pub agent_below : link.agent_number < length (agents_of plan.system)
     agent_below = slice_get_within (agents_of plan.system) link.agent_number of_connection.connection.end of_connection.agent_is
@@ -107,21 +85,6 @@ module _ (plan : PlanTable) (laws : LinkLaws plan) where
       let end = there_at (agents_of plan.system) agent below in
       let l = link_there End agent end.0 end.1 in
       record { place = l.0; link = l.1; at = l.2; is = laws.one End l.1.agent_number agent end.0 ((of_connection l.0 l.1 l.2).agent_is ∙ ap Some l.3) end.1 }
-
-  -- ---- no bursts
-
-  pub is_plain : IsPlain plan
-  is_plain k link at = built k link at
-
-  -- no agent has bursts
-  pub agent_burst : (a : ℕ) (port : AgentPort) → a < length (agents_of plan.system) → IsAgentOf plan a port → port.burst_bits ≡ 0
-  agent_burst a port below is =
-      let l = agent_has_link a below in
-      let of = of_connection l.place l.link l.at in
-      let there : slice_get (agents_of plan.system) a ≡ Some of.connection.end = ap (slice_get (agents_of plan.system)) (sym l.is) ∙ of.agent_is in
-      let known : Agent l.link.agent ≡ Agent port = sym (end_known l.place l.link l.at) ∙ ap (λ (o : Option EndId). option_map_or (known_at plan.system) o Other) (sym there) ∙ is in
-      let same : l.link.agent ≡ port = cc in
-      ap (λ (p : AgentPort). p.burst_bits) (sym same) ∙ (built l.place l.link l.at).agent
 
   -- an agent has a host
   pub agent_has_host : (a : ℕ) → a < length (agents_of plan.system) → 0 < length (hosts_of plan.system)

@@ -46,7 +46,7 @@ pub record AreAgentsIn (system : SystemTable) (netlist : Netlist) (count : ℕ) 
 -- ---- outputs
 
 abbrev pub agent_roles : List PortRole
-agent_roles = role.Address ∷ role.Read ∷ role.Write ∷ role.WriteData ∷ role.ByteEnable ∷ role.Grant ∷ []
+agent_roles = role.Address ∷ role.Read ∷ role.Write ∷ role.WriteData ∷ role.ByteEnable ∷ role.BurstCount ∷ role.Grant ∷ []
 
 -- the net for each output of an agent: the command's own, but for its address and its read
 abbrev pub agent_net : AgentPart → PortRole → NetValue
@@ -55,6 +55,7 @@ agent_net part role.Read = unwrap_or part.made.read part.command.write
 agent_net part role.Write = part.command.write
 agent_net part role.WriteData = part.command.word
 agent_net part role.ByteEnable = part.command.enables
+agent_net part role.BurstCount = part.command.count
 agent_net part _ = part.command.tag
 
 abbrev pub agent_outputs : AgentPart → List Output

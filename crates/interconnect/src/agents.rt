@@ -86,7 +86,7 @@ pub(crate) fn agent_ends(
 }
 
 /// What drives the outputs at an agent.
-fn agent_outputs(part: &AgentPart) -> [Output; 6]
+fn agent_outputs(part: &AgentPart) -> [Output; 7]
     ensures { result ≡ agent_outputs part.now }
 {
     let command = &part.command;
@@ -97,6 +97,7 @@ fn agent_outputs(part: &AgentPart) -> [Output; 6]
         Output::new(PortRole::Write, command.write),
         Output::new(PortRole::WriteData, command.word),
         Output::new(PortRole::ByteEnable, command.enables),
+        Output::new(PortRole::BurstCount, command.count),
         Output::new(PortRole::Grant, command.tag),
     ]
 }

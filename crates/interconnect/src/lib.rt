@@ -1,4 +1,4 @@
-//! From an accepted plan to its module, for the plans that are built so far.
+//! From an accepted plan to its module.
 #![tactic(auto)]
 
 mod agents;
@@ -8,6 +8,5 @@ mod outputs;
 mod streams;
 mod whole;
 
-pub use built_links::pending;
 pub use port_tables::PortMap;
 pub use whole::{Built, build};

@@ -1,33 +1,21 @@
 //! The hosts and agents of a plan joined to each other.
 
-ghost use Rattle.std.specs.Prelude.{◌≡◌, ◌<◌, length, None, IfOk, OnOk};
+ghost use Rattle.std.specs.Prelude.{◌≡◌, ◌<◌, length, IfOk, OnOk};
 ghost use Rattle.address_map.specs.Maps.{hosts_of};
-ghost use Rattle.link_rules.specs.Plans.{PlanTable, IsPlan};
-ghost use Rattle.mm_fabric.specs.Ends.{IsPlain};
 ghost use Rattle.port_tables.specs.PortMaps.{entries_of};
-ghost use Rattle.built_links.specs.Wires.{pending_of};
 ghost use Rattle.interconnect.specs.Fabrics.{AddsFabric};
 ghost use Rattle.interconnect.specs.Joins.{IsBegun, IsJoinedUpTo};
 
 use crate::agents::{agent_ends, drive_agents};
 use crate::hosts::{drive_hosts, host_ends};
-use address_map::{ends_are_joined, ends_have_one_number};
+use address_map::ends_have_one_number;
 use av_base::NoMemory;
-use link_rules::{Plan, memory_links_are_numbered};
+use link_rules::Plan;
 use mm_fabric::{FabricParts, emit_fabric, links_are_few};
 use mm_path::links_are_connections;
 use netlist::{Builder, NetFault};
 use port_tables::{PortMap, ports_are_known};
 use std::alloc::Global;
-
-/// Where no connection is pending, no host and no agent has bursts.
-fn built_plans_are_plain()
-    ensures { (plan : PlanTable) → IsPlan plan → pending_of plan.system ≡ None → IsPlain plan }
-{
-    memory_links_are_numbered();
-    ends_have_one_number();
-    ends_are_joined();
-}
 
 /// Adds all that stands between hosts and agents.
 fn add_fabric(
@@ -36,7 +24,6 @@ fn add_fabric(
     plan: &Plan,
     ports: &PortMap,
 ) -> Result<FabricParts, NoMemory>
-    requires built { pending_of plan.now.system ≡ None }
     requires some { 0 < length (hosts_of plan.now.system) }
     requires map { ports.now.entries ≡ entries_of plan.now.system }
     requires begun { IsBegun plan.now.system builder.old }
@@ -44,7 +31,6 @@ fn add_fabric(
 {
     plan.well_made();
     ports_are_known(plan);
-    built_plans_are_plain();
     links_are_connections();
     links_are_few();
     let hosts = host_ends(alloc, builder, plan, ports)?;
@@ -63,7 +49,6 @@ pub(crate) fn join_memory(
     plan: &Plan,
     ports: &PortMap,
 ) -> Result<(), NoMemory>
-    requires built { pending_of plan.now.system ≡ None }
     requires map { ports.now.entries ≡ entries_of plan.now.system }
     requires begun { IsBegun plan.now.system builder.old }
     ensures { OnOk result (IsJoinedUpTo plan.now 0 builder.new) }

@@ -1,5 +1,4 @@
-ghost use Rattle.std.specs.Prelude.{◌≡◌, None, IfOk};
-ghost use Rattle.built_links.specs.Wires.{pending_of};
+ghost use Rattle.std.specs.Prelude.{IfOk};
 ghost use Rattle.interconnect.specs.Interconnect.{IsInterconnect};
 ghost use Rattle.port_tables.specs.PortMaps.{AreTold};
 
@@ -24,9 +23,8 @@ pub struct Built {
     pub ports: PortMap,
 }
 
-/// The module of a plan none of whose connections is pending.
+/// The module of a plan.
 pub fn build(alloc: Global, plan: &Plan) -> Result<Built, NoMemory>
-    requires { pending_of plan.now.system ≡ None }
     ensures module { IfOk result (λ built. IsInterconnect plan.now built.module) }
     ensures ports { IfOk result (λ built. AreTold plan.now.system built.ports) }
 {

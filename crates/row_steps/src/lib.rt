@@ -7,4 +7,4 @@ mod systems;
 
 pub use ports::port_that_ends;
 pub use steps::{Bench, Inputs, Outputs, run_cycles};
-pub use systems::{Made, System, system_of};
+pub use systems::{System, system_of};

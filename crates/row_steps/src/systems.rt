@@ -3,7 +3,7 @@
 ghost use Rattle.std.specs.Prelude.{◌^◌, ◌<◌, length, All, IsTrue};
 
 use av_base::{Bytes, NoMemory};
-use interconnect::{Built, build, pending};
+use interconnect::{Built, build};
 use link_rules::Plan;
 use std::alloc::Global;
 use system_plan::plan_of;
@@ -13,15 +13,6 @@ use system_plan::plan_of;
 pub struct System {
     pub plan: Plan,
     pub built: Built,
-}
-
-/// What comes of the files of a row.
-#[derive(Drop)]
-pub enum Made {
-    Refused,
-    /// They are accepted, and have what isn't built yet.
-    NotBuilt,
-    System(System),
 }
 
 /// Whether the texts are as short as a row's are.
@@ -39,14 +30,11 @@ fn planned(alloc: Global, files: &[Bytes]) -> Option<Plan> {
     plan_of(alloc, files).ok()
 }
 
-/// The system of files, the first of which is the system's script.
-pub fn system_of(alloc: Global, files: &[Bytes]) -> Result<Made, NoMemory> {
+/// The system of files, the first of which is the system's script; None where they are refused.
+pub fn system_of(alloc: Global, files: &[Bytes]) -> Result<Option<System>, NoMemory> {
     let Some(plan) = planned(alloc, files) else {
-        return Ok(Made::Refused);
+        return Ok(None);
     };
-    if pending(&plan).is_some() {
-        return Ok(Made::NotBuilt);
-    }
     let built = build(alloc, &plan)?;
-    Ok(Made::System(System { plan, built }))
+    Ok(Some(System { plan, built }))
 }

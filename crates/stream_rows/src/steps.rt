@@ -6,7 +6,7 @@ use crate::row::Row;
 use crate::scripts::files_of;
 use av_base::NoMemory;
 use iface_roles::Role;
-use row_steps::{Bench, Inputs, Made, Outputs, System, port_that_ends, run_cycles, system_of};
+use row_steps::{Bench, Inputs, Outputs, System, port_that_ends, run_cycles, system_of};
 use std::alloc::{AllocError, Global};
 use system_tables::EndId;
 
@@ -100,11 +100,11 @@ fn stepped(alloc: Global, system: System, row: &Row) -> Result<Option<Tally>, No
     }
 }
 
-/// Builds the module of a row and steps it. None where the system is refused or not built yet.
+/// Builds the module of a row and steps it. None where the system is refused.
 pub fn run_row(alloc: Global, row: &Row) -> Result<Option<Tally>, NoMemory> {
     let files = files_of(alloc, row)?;
     match system_of(alloc, &files)? {
-        Made::System(system) => stepped(alloc, system, row),
-        Made::Refused | Made::NotBuilt => Ok(None),
+        Some(system) => stepped(alloc, system, row),
+        None => Ok(None),
     }
 }

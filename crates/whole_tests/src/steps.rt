@@ -4,7 +4,7 @@ ghost use Rattle.std.specs.Prelude.{◌≡◌, ◌^◌, ◌<◌, ◌≤◌, true
 
 use av_base::{Bytes, Val};
 use cycle_sim::Sim;
-use interconnect::{build, pending};
+use interconnect::build;
 use link_rules::Plan;
 use std::alloc::Global;
 use std::process::Abort;
@@ -75,10 +75,7 @@ fn bus_plan(alloc: Global) -> Result<Plan, Fail> {
 
 /// The module of a plan, before its first cycle.
 fn sim_of(alloc: Global, plan: &Plan) -> Result<Sim, Fail> {
-    match pending(plan) {
-        None => Ok(Sim::new(alloc, build(alloc, plan)?.module)?),
-        Some(_) => Err(Fail::new("the bus isn't built")),
-    }
+    Ok(Sim::new(alloc, build(alloc, plan)?.module)?)
 }
 
 fn bus_sim(alloc: Global) -> Result<Sim, Fail> {

@@ -78,7 +78,7 @@ returns-clause-stops g c =
     let words = map string_bytes c.args.words.now in
     let files = c.in_ok-files.files in
     let are = subst (λ n. AreFiles (g.S.Shelf.told c.args.shelf.now) n files) (sym (length-map c.args.words.now string_bytes)) c.in_ok-files.ensures.loaded in
-    IfErr-weaker c.text_of_files.result (StopsFiles c.in-Some.task files) _
+    IfErr-weaker c.text_of_files.result (StopsFiles files) _
     (λ exit s. files_stop words _ c.in-Some.task files exit c.in-Some.ensures are s)
     (rw c.as_slice.ensures at c.text_of_files.ensures.stops)
 

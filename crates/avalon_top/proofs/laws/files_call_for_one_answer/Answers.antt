@@ -4,4 +4,4 @@ use Rattle.avalon_top.proofs.laws.files_call_for_one_answer.Goals as goal
 pub returns : goal.returns
 returns c =
     let law = c.accepted_or_refused.ensures in
-    λ task files some. one_answer task files (law.never_both files) (law.one_system files) (law.one_refusal files) (law.either files some)
+    λ files some. one_answer files (law.never_both files) (law.one_refusal files) (law.either files some)

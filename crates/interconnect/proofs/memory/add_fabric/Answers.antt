@@ -5,9 +5,6 @@ use Rattle.interconnect.specs.Agents.{AreAgentsIn}
 use Rattle.interconnect.proofs.Adding.{are_hosts, are_agents, room_for_all, adds_fabric}
 use Rattle.interconnect.proofs.memory.add_fabric.Goals as goal
 
-pub emit_fabric-requires-clause-plain : goal.emit_fabric-requires-clause-plain
-emit_fabric-requires-clause-plain c = c.built_plans_are_plain.ensures c.args.plan.now c.well_made.ensures c.requires.built
-
 pub emit_fabric-requires-clause-hosts : goal.emit_fabric-requires-clause-hosts
 emit_fabric-requires-clause-hosts c =
     are_hosts c.args.plan.now c.args.builder.now _ (subst (AreHostsIn c.args.plan.now.system c.args.builder.now (length (hosts_of c.args.plan.now.system))) (sym c.as_slice.ensures) c.in_ok-hosts.ensures)
