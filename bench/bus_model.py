@@ -24,9 +24,9 @@ class Properties:
         bits, kinds, *properties = word.split(",")
         self.bits, self.bytes = int(bits), int(bits) // 8
         self.reads, self.writes = "r" in kinds, "w" in kinds
-        self.address = self.pending = self.at = self.first = self.readwait = self.writewait = 0
+        self.address = self.pending = self.at = self.first = self.readwait = self.writewait = self.burst = 0
         self.latency, self.wait, self.late, self.seats = 1, None, None, None
-        self.valid = self.fixed = self.enables = self.counts_words = self.counts_bytes = False
+        self.valid = self.fixed = self.enables = self.counts_words = self.counts_bytes = self.loose = False
         for each in properties:
             name, _, value = each.partition("=")
             if name in ("words", "bytes"):
@@ -54,15 +54,40 @@ class Properties:
     def bound(self):
         return max(self.pending, 1)
 
+    def longest(self):
+        """The beats of its longest burst."""
+        return 1 << max(self.burst, 1) - 1
+
     def joins(self, number):
         return any(host == number for host, _ in self.seats)
 
 
 class Access:
-    """A read or a write, behind so many cycles in which the host shows nothing."""
+    """A read command or a beat of a write, behind so many cycles in which the host shows nothing. `left` are the beats of its command from it
+    on, and `begins` says whether it is the first of them. The address is the beat's own, whatever stands at the host's port."""
 
-    def __init__(self, gap, kind, address, word, lanes):
-        self.gap, self.kind, self.address, self.word, self.lanes = gap, kind, address, word, lanes
+    def __init__(self, gap, kind, address, word, lanes, left=1, begins=True):
+        self.gap, self.kind, self.address, self.word, self.lanes, self.left, self.begins = gap, kind, address, word, lanes, left, begins
+
+
+def beats_of(host, gap, address, beats):
+    """The beats of a write: (gap, word, lanes) of each."""
+    step = 1 if host.counts_words else host.bytes
+    for k, (further, word, lanes) in enumerate(beats):
+        yield Access(gap if k == 0 else further, "w", address + k * step, word % (1 << host.bits), lanes, len(beats) - k, k == 0)
+
+
+def listed_beats(host, text):
+    """The beats of `10/f;11/3;+2;12`, each with the gap before it."""
+    gap, beats = 0, []
+    for part in text.split(";"):
+        if part.startswith("+"):
+            gap += int(part[1:])
+            continue
+        word, _, lanes = part.partition("/")
+        beats.append((gap, int(word, 16), int(lanes, 16) if lanes else host.all_lanes()))
+        gap = 0
+    return beats
 
 
 def accesses_of(host, words):
@@ -72,21 +97,37 @@ def accesses_of(host, words):
             gap += int(word[1:])
             continue
         one, _, times = word.partition("*")
-        one, _, lanes = one.partition("/")
-        address, _, data = one[1:].partition("=")
-        step = 1 if host.counts_words else host.bytes
+        one, _, count = one.partition(":")
+        place, _, data = one[1:].partition("=")
+        place, _, lanes = place.partition("/")
+        address, lanes = int(place, 16), int(lanes, 16) if lanes else host.all_lanes()
+        count, step = int(count or 1), 1 if host.counts_words else host.bytes
         for k in range(int(times or 1)):
-            yield Access(gap, word[0], int(address, 16) + k * step, (int(data, 16) + k) % (1 << host.bits) if data else 0,
-                         int(lanes, 16) if lanes else host.all_lanes())
+            behind = address + k * count * step
+            if word[0] == "r":
+                yield Access(gap, "r", behind, 0, lanes, count)
+            else:
+                beats = listed_beats(host, data or "0")
+                if len(beats) == 1:
+                    beats = [(0, beats[0][1] + k * count + beat, beats[0][2]) for beat in range(count)]
+                yield from beats_of(host, gap, behind, beats)
             gap = 0
 
 
 class Command:
-    """What is shown inside: a kind, or None where nothing is, an address in bytes, a word, lanes, whether another beat of the same command
-    follows, and the host behind the arbiter."""
+    """What is shown inside: a kind, or None where nothing is, an address in bytes, a word, lanes, the beats of its burst from it on, whether it
+    begins the burst, whether another beat of the same command follows, and the host behind the arbiter."""
 
-    def __init__(self, kind, address=0, word=0, lanes=0, more=False, tag=None):
-        self.kind, self.address, self.word, self.lanes, self.more, self.tag = kind, address, word, lanes, more, tag
+    def __init__(self, kind, address=0, word=0, lanes=0, left=1, begins=True, more=False, tag=None):
+        self.kind, self.address, self.word, self.lanes, self.left, self.begins = kind, address, word, lanes, left, begins
+        self.more, self.tag = more, tag
+
+    def but(self, **changed):
+        return Command(**{**vars(self), **changed})
+
+    def words(self):
+        """The words that a read asks for."""
+        return self.left if self.kind == "r" else 0
 
 
 NOTHING = Command(None)
@@ -96,19 +137,20 @@ class HostPart:
     """Lets at most 16 reads go unanswered. A read of a host without readdatavalid waits until its word comes."""
 
     def __init__(self, host):
-        self.host, self.unanswered, self.asked = host, 0, False
+        self.host, self.reads, self.asked = host, Reads(), False
 
     def below(self, access):
         self.shown = access
         if access is None:
             return NOTHING
-        shut = self.unanswered >= MOST_READS if self.host.valid else self.asked
+        shut = len(self.reads.left) >= MOST_READS if self.host.valid else self.asked
         self.held = access.kind == "r" and shut
         if self.held:
             return NOTHING
         unit = self.host.bytes if self.host.counts_words else 1
         address = access.address * unit
-        return Command(access.kind, address - address % self.host.bytes, access.word, access.lanes)
+        more = access.kind == "w" and access.left > 1
+        return Command(access.kind, address - address % self.host.bytes, access.word, access.lanes, access.left, access.begins, more)
 
     def above(self, wait, word):
         """Whether the host waits, and the word that it is given."""
@@ -123,16 +165,33 @@ class HostPart:
 
     def edge(self):
         if self.host.valid:
-            self.unanswered += self.taken - self.came
+            self.reads.edge(self.shown if self.taken else None, self.came)
         else:
             self.asked = (self.asked or self.taken) and not self.came
 
 
+class Reads:
+    """Reads that aren't fully answered, oldest first: the words that each still lacks, and its host."""
+
+    def __init__(self):
+        self.left, self.tags = [], []
+
+    def edge(self, taken, came):
+        if came and self.left:
+            self.left[0] -= 1
+            if self.left[0] == 0:
+                del self.left[0], self.tags[0]
+        if taken:
+            self.left.append(taken.left)
+            self.tags.append(getattr(taken, "tag", None))
+
+
 class Route:
-    """Sends each command to its place, None for the default agent. A read waits while another place owes words."""
+    """Sends each command to its place, None for the default agent, and a burst whole to that of its first beat. A read waits while another
+    place owes words."""
 
     def __init__(self, number, host, agents):
-        self.number, self.host, self.agents, self.owed, self.owing = number, host, agents, 0, None
+        self.number, self.host, self.agents, self.owed, self.owing, self.now = number, host, agents, 0, None, None
 
     def place(self, command):
         for number, agent in enumerate(self.agents):
@@ -145,7 +204,8 @@ class Route:
         self.command = command
         commands = [NOTHING] * len(self.agents)
         if command.kind is not None:
-            self.now = self.place(command)
+            if command.begins:
+                self.now = self.place(command)
             self.open = command.kind == "w" or self.owed == 0 or self.owing == self.now
             if self.open and self.now is not None:
                 commands[self.now] = command
@@ -162,9 +222,44 @@ class Route:
         return wait, word
 
     def edge(self):
-        self.owed += self.taken - self.came
+        self.owed += (self.command.words() if self.taken else 0) - self.came
         if self.taken:
             self.owing = self.now
+
+
+class Cutter:
+    """Makes bursts of at most so many beats. A write passes beat by beat; a read is accepted with its first burst, and the others are sent by
+    itself, one a cycle, while what stands above waits."""
+
+    def __init__(self, host, longest):
+        self.bytes, self.longest, self.rest, self.place = host.bytes, longest, None, 0
+
+    def below(self, command):
+        self.command, self.shown = command, self.rest or command
+        if self.shown.kind is None:
+            return NOTHING
+        if self.shown.kind == "r":
+            follows = self.shown.left > self.longest
+            return self.shown.but(left=min(self.shown.left, self.longest), more=follows)
+        self.done = 0 if command.begins else self.place
+        begins = self.done % self.longest == 0
+        behind = self.longest - self.done % self.longest
+        return command.but(left=min(command.left, behind), begins=begins)
+
+    def above(self, wait, word):
+        self.gone = self.shown.kind is not None and not wait
+        return self.rest is not None or wait, word
+
+    def edge(self):
+        if not self.gone:
+            return
+        if self.shown.kind == "w":
+            self.place = self.done + 1
+        elif self.shown.left > self.longest:
+            address = self.shown.address + self.longest * self.bytes
+            self.rest = self.shown.but(address=address, left=self.shown.left - self.longest)
+        else:
+            self.rest = None
 
 
 class Selector:
@@ -180,7 +275,7 @@ class Selector:
             return NOTHING
         self.place = command.address % self.wide
         word = sum(command.word << 8 * k for k in range(0, self.wide, self.narrow))
-        return Command(command.kind, command.address - self.place, word, command.lanes << self.place, command.more)
+        return command.but(address=command.address - self.place, word=word, lanes=command.lanes << self.place)
 
     def above(self, wait, word):
         self.taken = self.command.kind == "r" and not self.shut and not wait
@@ -205,7 +300,7 @@ class Splitter:
     def piece(self, command, number):
         lanes = command.lanes >> number * self.narrow & (1 << self.narrow) - 1
         word = command.word >> 8 * number * self.narrow & (1 << 8 * self.narrow) - 1
-        return Command(command.kind, command.address + number * self.narrow, word, lanes, True)
+        return command.but(address=command.address + number * self.narrow, word=word, lanes=lanes, more=True)
 
     def below(self, command):
         """A read, and the end of a command, come to one piece at least."""
@@ -256,7 +351,7 @@ class Dropper:
             return NOTHING
         if self.kept:
             if self.acts or not command.more:
-                self.shown = Command("w", self.kept.address, self.kept.word, self.kept.lanes, self.acts)
+                self.shown = self.kept.but(more=self.acts)
         elif self.acts and (not command.more if command.kind == "w" else self.reads < self.room):
             self.shown = command
         return self.shown
@@ -289,19 +384,23 @@ class Dropper:
 
 
 class Links:
-    """What fits a host's words and lanes to those of an agent."""
+    """What fits a host's bursts, words and lanes to those of an agent. Where words or lanes differ, bursts are of one beat."""
 
     def __init__(self, host, agent, stages):
         # the reads that host, agent and pipe let be under way
         below = (max(agent.latency, 1) + 1 if agent.fixed else agent.bound()) + 3 * stages
         above = min(MOST_READS if host.valid else 1, below)
+        drops = host.enables and not agent.enables
+        longest = agent.longest() if host.bytes == agent.bytes and not drops else 1
         self.links = []
+        if longest < host.longest():
+            self.links.append(Cutter(host, longest))
         if host.bytes < agent.bytes:
             self.links.append(Selector(host, agent, max(above, 2)))
         if host.bytes > agent.bytes:
             self.links.append(Splitter(host, agent, above))
-        if host.enables and not agent.enables:
-            self.links.append(Dropper(below if self.links else above))
+        if drops:
+            self.links.append(Dropper(below if host.bytes > agent.bytes else above))
 
     def below(self, command):
         for link in self.links:
@@ -344,7 +443,7 @@ class Arbiter:
         self.shown = NOTHING if self.chosen is None else shown[self.chosen]
         if self.shown.kind is None:
             return NOTHING
-        return Command(self.shown.kind, self.shown.address, self.shown.word, self.shown.lanes, self.shown.more, self.seats[self.chosen][0])
+        return self.shown.but(tag=self.seats[self.chosen][0])
 
     def above(self, wait, answer):
         """For each host by number whether it waits, and the word that it is given."""
@@ -385,17 +484,17 @@ class AgentPart:
     """
 
     def __init__(self, agent):
-        self.agent, self.tags, self.row, self.word = agent, [], [None] * max(agent.latency, 1), None
+        self.agent, self.reads, self.row, self.word = agent, Reads(), [None] * max(agent.latency, 1), None
 
     def below(self, command):
         self.command = command
-        self.held = command.kind == "r" and not self.agent.fixed and len(self.tags) >= self.agent.bound()
+        self.held = command.kind == "r" and not self.agent.fixed and len(self.reads.left) >= self.agent.bound()
         if command.kind is None or self.held:
             return NOTHING
         offset = command.address % self.agent.span()
         unit = 1 if self.agent.counts_bytes else self.agent.bytes
         assert offset % unit == 0
-        return Command(command.kind, offset // unit, command.word, command.lanes, command.more, command.tag)
+        return command.but(address=offset // unit)
 
     def above(self, wait, port):
         """Whether the part above waits, and the host and the word that come, from what stands at the agent's port."""
@@ -404,20 +503,20 @@ class AgentPart:
         if self.agent.fixed:
             tag, word = self.row[-1], self.word if self.agent.latency == 0 else port
             return self.held or wait, None if tag is None else (tag, word)
-        return self.held or wait, None if port is None else (self.tags[0], port)
+        return self.held or wait, None if port is None else (self.reads.tags[0], port)
 
     def edge(self):
         if self.agent.fixed:
             self.row, self.word = [self.command.tag if self.taken else None] + self.row[:-1], self.port
             return
-        self.tags = self.tags[self.port is not None :] + ([self.command.tag] if self.taken else [])
+        self.reads.edge(self.command if self.taken else None, self.port is not None)
 
 
 class Host:
     """Shows its accesses in order, each as soon as the one before is accepted and its gap is over."""
 
     def __init__(self, host, accesses):
-        self.host, self.accesses, self.waited, self.unanswered, self.kept = host, list(accesses), 0, 0, True
+        self.host, self.accesses, self.waited, self.reads, self.kept = host, list(accesses), 0, Reads(), True
 
     def shows(self):
         ready = self.accesses and self.waited >= self.accesses[0].gap
@@ -425,24 +524,25 @@ class Host:
 
     def sees(self, shown, wait, word):
         accepted = shown is not None and not wait
-        read = accepted and shown.kind == "r"
         if self.host.valid:
-            self.kept &= word is None or self.unanswered > 0
-            self.unanswered += read - (word is not None)
-            self.kept &= self.unanswered <= MOST_READS
+            self.kept &= word is None or bool(self.reads.left)
+            self.reads.edge(shown if accepted and shown.kind == "r" else None, word is not None)
+            self.kept &= len(self.reads.left) <= MOST_READS
         if accepted:
             self.accesses.pop(0)
         self.waited = self.waited + 1 if shown is None else 0 if accepted else self.waited
 
 
 class Memory:
-    """An agent: word k is `first` and k at first, and a read's word comes so many cycles after it was accepted.
+    """An agent: word k is `first` and k at first, and a read's word comes so many cycles after it was accepted, or after the word before it.
+    Behind the last word of its span comes the first.
 
     With a fixed latency of 0 it is a clock: its word in each cycle is `first` and the cycle's number.
     """
 
     def __init__(self, number, agent):
         self.number, self.agent, self.words, self.owed, self.held, self.stood, self.kept = number, agent, {}, [], None, 0, True
+        self.reads, self.left, self.place = Reads(), 0, 0
 
     def waits(self, cycle, command):
         pattern = self.agent.wait
@@ -464,40 +564,63 @@ class Memory:
         mask = sum(0xFF << 8 * lane for lane in range(self.agent.bytes) if lanes >> lane & 1)
         self.words[place] = self.word_at(place) & ~mask | word & mask
 
+    def next_place(self, place):
+        return (place + 1) % (self.agent.span() // self.agent.bytes)
+
+    def reads_words(self, cycle, command, place):
+        for _ in range(command.left):
+            if not (self.agent.fixed and self.agent.latency == 0):
+                self.owed.append((cycle + self.agent.latency, self.word_at(place)))
+            place = self.next_place(place)
+
+    def judges(self, command):
+        """Whether a beat begins a burst just where none is under way, and has as many beats as may be."""
+        free = self.left == 0
+        fits = 1 <= command.left <= self.agent.longest() if command.begins else command.left == self.left
+        return command.begins == free and fits
+
     def sees(self, cycle, command, wait, word):
         """What is said of the beat that it accepts."""
-        levels = (command.kind, command.address, command.word, command.lanes)
+        levels = vars(command)
         self.kept &= self.held is None or levels == self.held
         self.held = levels if command.kind is not None and wait else None
         self.stood = self.stood + 1 if self.held else 0
+        accepts = command.kind is not None and not wait
         if word is not None and self.owed:
             self.owed.pop(0)
-        if command.kind is None or wait:
-            return None
+        self.reads.edge(command if accepts and command.kind == "r" else None, word is not None)
+        self.kept &= self.agent.fixed or len(self.reads.left) <= self.agent.bound()
+        if command.kind is not None:
+            self.kept &= self.judges(command)
+        return self.accepts(cycle, command) if accepts else None
+
+    def accepts(self, cycle, command):
         lanes = command.lanes if self.agent.enables else self.agent.all_lanes()
+        self.left = command.left - 1 if command.kind == "w" else 0
         place = command.address // self.agent.bytes if self.agent.counts_bytes else command.address
         if command.kind == "r":
-            if not (self.agent.fixed and self.agent.latency == 0):
-                self.owed.append((cycle + self.agent.latency, self.word_at(place)))
-            self.kept &= self.agent.fixed or len(self.owed) <= self.agent.bound()
+            self.reads_words(cycle, command, place)
             does = f"reads {command.address:x}"
         else:
             self.write(place, command.word, lanes)
             does = f"writes {command.word:x} to {command.address:x}"
+        burst = f" in a burst of {command.left}" if self.agent.burst and command.begins else ""
         lanes = f" in lanes {lanes:x}" if self.agent.enables else ""
-        return f"agent {self.number} {does}{lanes} for host {command.tag}"
+        return f"agent {self.number} {does}{burst}{lanes} for host {command.tag}"
 
 
 def is_refused(host, agents):
     """Whether a base is no multiple of its footprint, footprints overlap, one ends past the host's range, an agent without byte enables is
-    wider than the host, or no kind is in common."""
+    wider than the host, or no kind is in common; or bursts lack what they need."""
     spans = [(agent.at, max(agent.span(), host.bytes)) for agent in agents]
     apart = all(a + size <= b or b + other <= a
                 for k, (a, size) in enumerate(spans) for b, other in spans[:k])
     placed = all(at % size == 0 and at + size <= host.range() for at, size in spans)
     common = all(host.reads and agent.reads or host.writes and agent.writes for agent in agents)
     wide = all(agent.bits <= host.bits or agent.enables for agent in agents)
-    return not (apart and placed and common and wide)
+    bursts = (host.valid or not host.reads or not host.burst) and all(
+        not agent.burst or agent.wait and (not agent.reads or not agent.fixed) for agent in agents)
+    return not (apart and placed and common and wide and bursts)
 
 
 class System:
@@ -587,7 +710,7 @@ def step(row):
             if word is not None:
                 yield f"{cycle} host {number} gets {word:x}"
         system.edge()
-    behind, unanswered = sum(len(host.accesses) for host in hosts), sum(host.unanswered for host in hosts)
+    behind, unanswered = sum(len(host.accesses) for host in hosts), sum(sum(host.reads.left) for host in hosts)
     left = [f"{behind} not accepted"] if behind else []
     left += [f"{unanswered} unanswered"] if unanswered else []
     kept = all(each.kept for each in hosts + memories)
@@ -601,8 +724,13 @@ def answer(line):
     return step(row)
 
 
-for line in sys.stdin:
-    print(line.rstrip("\n"))
-    if not line.startswith("#"):
-        for told in answer(line):
-            print(f"  {told}")
+def main():
+    for line in sys.stdin:
+        print(line.rstrip("\n"))
+        if not line.startswith("#"):
+            for told in answer(line):
+                print(f"  {told}")
+
+
+if __name__ == "__main__":
+    main()

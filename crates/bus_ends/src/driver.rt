@@ -13,17 +13,39 @@ pub struct Driver {
     accepted: usize,
     /// For how many cycles of its gap the next one has waited.
     waited: u32,
+    /// How many reads are accepted, and how many of these have all their words.
+    asked: usize,
+    answered: usize,
+    /// How many words the next one has.
+    got: u16,
+    /// The words that are asked and haven't come.
     unanswered: u32,
 }
 
 /// Where an access isn't shown its other levels stand there.
-fn command_of(access: &Access, shown: bool) -> Command {
+fn command_of(host: &Host, access: &Access, shown: bool) -> Command {
+    let holds = access.begins || !host.loose;
     Command {
         read: shown && !access.writes,
         write: shown && access.writes,
-        address: u128::from(access.address),
+        address: if holds { u128::from(access.address) } else { 0 },
         word: access.word,
         lanes: access.lanes,
+        count: if holds { u128::from(access.count) } else { 0 },
+    }
+}
+
+/// How many words the read with a number asks for.
+fn words_of(work: &HostWork, number: usize) -> u16 {
+    let read = work
+        .accesses
+        .as_slice()
+        .iter()
+        .filter(|access| !access.writes)
+        .nth(number);
+    match read {
+        Some(read) => read.count,
+        None => 0,
     }
 }
 
@@ -42,6 +64,9 @@ impl Driver {
         Driver {
             accepted: 0,
             waited: 0,
+            asked: 0,
+            answered: 0,
+            got: 0,
             unanswered: 0,
         }
     }
@@ -49,31 +74,37 @@ impl Driver {
     /// What the host shows.
     pub fn shows(&self, work: &HostWork) -> Command {
         match work.accesses.get(self.accepted) {
-            Some(access) => command_of(access, self.waited >= access.gap),
+            Some(access) => command_of(&work.host, access, self.waited >= access.gap),
             None => Command {
                 read: false,
                 write: false,
                 address: 0,
                 word: 0,
                 lanes: 0,
+                count: 0,
             },
         }
     }
 
-    /// Counts the words that are owed to the host of this number; gives the rule that is broken.
-    fn count(&mut self, host: u32, asks: bool, gets: bool) -> Option<Rule> {
-        let unasked = gets && self.unanswered == 0;
-        self.unanswered = self
-            .unanswered
-            .saturating_add(u32::from(asks))
-            .saturating_sub(u32::from(gets));
-        if unasked {
-            Some(Rule::Unasked { host })
-        } else if self.unanswered > 16 {
-            Some(Rule::HostBound { host })
-        } else {
-            None
+    /// A read of so many words is accepted.
+    fn asks(&mut self, words: u128) {
+        let words = u32::try_from(words).unwrap_or(0);
+        self.unanswered = self.unanswered.saturating_add(words);
+        self.asked = self.asked.saturating_add(1);
+    }
+
+    /// A word comes; says whether it was asked for.
+    fn gets(&mut self, work: &HostWork) -> bool {
+        if self.unanswered == 0 {
+            return false;
         }
+        self.unanswered = self.unanswered.saturating_sub(1);
+        self.got = self.got.saturating_add(1);
+        if self.got >= words_of(work, self.answered) {
+            self.answered = self.answered.saturating_add(1);
+            self.got = 0;
+        }
+        true
     }
 
     /// The cycle ends; gives the word that the host is given.
@@ -94,15 +125,25 @@ impl Driver {
     /// The rule that is broken in this cycle at the host, which has this number.
     pub fn judges(
         &mut self,
-        host: &Host,
-        number: u32,
+        work: &HostWork,
+        host: u32,
         shown: &Command,
         answer: &Answer,
     ) -> Option<Rule> {
-        if !host.valid {
+        if !work.host.valid {
             return None;
         }
-        self.count(number, shown.read && !answer.wait, answer.valid)
+        let unasked = answer.valid && !self.gets(work);
+        if shown.read && !answer.wait {
+            self.asks(shown.count);
+        }
+        if unasked {
+            Some(Rule::Unasked { host })
+        } else if self.asked.saturating_sub(self.answered) > 16 {
+            Some(Rule::HostBound { host })
+        } else {
+            None
+        }
     }
 
     /// How many accesses aren't accepted.

@@ -13,6 +13,8 @@ pub struct Shape {
     pub writes: bool,
     /// Whether there is `byteenable`.
     pub enables: bool,
+    /// The bits of `burstcount`, 0 where there is none.
+    pub burst_bits: u8,
     pub counts_words: bool,
 }
 
@@ -22,6 +24,8 @@ pub struct Host {
     pub shape: Shape,
     /// Whether there is `readdatavalid`.
     pub valid: bool,
+    /// Whether address and `burstcount` aren't held behind the first beat of a write: they are 0 then.
+    pub loose: bool,
 }
 
 /// In which cycles a level is high, over and over; the first cycle in the highest bit.
@@ -77,6 +81,7 @@ impl Shape {
             reads,
             writes,
             enables: false,
+            burst_bits: 0,
             counts_words,
         })
     }
@@ -87,6 +92,7 @@ impl Shape {
         match name {
             "address" => self.address_bits = small_number(number)?,
             "enables" => self.enables = true,
+            "burst" => self.burst_bits = small_number(number)?,
             "words" => self.counts_words = true,
             "bytes" => self.counts_words = false,
             _ => return None,
@@ -97,6 +103,12 @@ impl Shape {
     /// The bytes of a word.
     pub fn word_bytes(&self) -> u8 {
         self.bits / 8
+    }
+
+    /// The beats of the longest burst.
+    pub fn longest_burst(&self) -> u16 {
+        let shift = u32::from(self.burst_bits.saturating_sub(1));
+        1u16.checked_shl(shift).unwrap_or(1)
     }
 
     /// From the address of a word to that of the next.
@@ -124,11 +136,12 @@ impl Shape {
 impl Host {
     /// Sets one more property, as `valid` or `enables`; None where there is no such property.
     fn set(&mut self, property: &str) -> Option<()> {
-        if property == "valid" {
-            self.valid = true;
-            return Some(());
+        match property {
+            "valid" => self.valid = true,
+            "loose" => self.loose = true,
+            _ => self.shape.set(property)?,
         }
-        self.shape.set(property)
+        Some(())
     }
 
     /// The host of a word, as `32,rw,address=10,valid,enables`.
@@ -137,6 +150,7 @@ impl Host {
         let mut host = Host {
             shape: Shape::read(parts.next()?, parts.next()?, false)?,
             valid: false,
+            loose: false,
         };
         for property in parts {
             host.set(property)?;
@@ -239,5 +253,24 @@ impl Agent {
         address
             .checked_div(u128::from(self.shape.step()))
             .unwrap_or(0)
+    }
+
+    /// The address of the word with a number.
+    pub fn address_of(&self, number: u128) -> u128 {
+        number.wrapping_mul(u128::from(self.shape.step()))
+    }
+
+    /// How many words its address can name: at least one.
+    fn span_words(&self) -> u128 {
+        let addresses = 1u128
+            .checked_shl(u32::from(self.shape.address_bits))
+            .unwrap_or(1);
+        self.word_number(addresses).max(1)
+    }
+
+    /// The number of the word so many behind another. Behind the last comes the first.
+    pub fn number_behind(&self, number: u128, words: u128) -> u128 {
+        let behind = number.wrapping_add(words);
+        behind.checked_rem(self.span_words()).unwrap_or(behind)
     }
 }

@@ -1,18 +1,20 @@
 //! What is told of a run.
 
 use crate::rules::{Rule, push_broken};
-use crate::signals::Command;
+use crate::signals::{Beat, Command};
 use std::alloc::{AllocError, Global};
 
 /// What happens in a cycle.
 #[derive(Clone, Copy)]
 pub enum Event {
-    /// An agent accepts a beat of the host that it is told of; its lanes are told where the agent has byte enables.
+    /// An agent accepts a beat of the host that it is told of; its lanes are told where the agent has byte enables, and where it has
+    /// `burstcount` the beats of a burst that begins.
     Accepts {
         agent: u32,
         host: u128,
-        command: Command,
+        beat: Beat,
         enables: bool,
+        bursts: bool,
     },
     /// A host is given a word.
     Gets {
@@ -89,6 +91,15 @@ fn push_beat(text: &mut String, agent: u32, command: &Command) -> Result<(), All
     }
 }
 
+/// Appends the beats of a burst that begins, where they are told.
+fn push_burst(text: &mut String, bursts: bool, beat: &Beat) -> Result<(), AllocError> {
+    if !bursts || !beat.begins {
+        return Ok(());
+    }
+    let count = beat.command.count;
+    write!(text, " in a burst of {count}")
+}
+
 /// Appends the lanes of a beat, where they are told.
 fn push_lanes(text: &mut String, enables: bool, command: &Command) -> Result<(), AllocError> {
     if !enables {
@@ -103,11 +114,13 @@ fn push_event(text: &mut String, event: Event) -> Result<(), AllocError> {
         Event::Accepts {
             agent,
             host,
-            command,
+            beat,
             enables,
+            bursts,
         } => {
-            push_beat(text, agent, &command)?;
-            push_lanes(text, enables, &command)?;
+            push_beat(text, agent, &beat.command)?;
+            push_burst(text, bursts, &beat)?;
+            push_lanes(text, enables, &beat.command)?;
             write!(text, " for host {host}")
         }
         Event::Gets { host, word } => write!(text, "host {host} gets {word:x}"),

@@ -19,4 +19,4 @@ pub use memory::Memory;
 pub use row::{Connection, HostWork, Row};
 pub use rules::Rule;
 pub use scripts::files_of;
-pub use signals::{Answer, Command};
+pub use signals::{Answer, Beat, Command};

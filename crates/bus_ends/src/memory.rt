@@ -2,24 +2,43 @@
 
 use crate::ends::{Agent, is_high_in};
 use crate::rules::Rule;
-use crate::signals::{Answer, Command};
+use crate::signals::{Answer, Beat, Command};
 use std::alloc::{AllocError, Global};
 
-/// A word, and its place or its cycle.
+/// A word that was written, and its number.
 #[derive(Clone, Copy)]
-struct Word {
-    at: u128,
+struct Written {
+    number: u128,
     word: u128,
+}
+
+/// A word of a read, and the cycle in which it is given.
+#[derive(Clone, Copy)]
+struct Owed {
+    cycle: u128,
+    word: u128,
+    /// Whether it is the last of its read.
+    ends: bool,
+}
+
+/// The write under way: the number of its next word, and how many are to come.
+#[derive(Clone, Copy)]
+struct Burst {
+    number: u128,
+    left: u128,
 }
 
 /// The agent, as a cycle begins.
 #[derive(Drop)]
 pub struct Memory {
     /// What was written, the latest last.
-    written: Vec<Word>,
-    /// The words of the reads that were accepted, each with the cycle in which it is given.
-    owed: Vec<Word>,
+    written: Vec<Written>,
+    /// The words of the reads that were accepted.
+    owed: Vec<Owed>,
     given: usize,
+    /// How many reads aren't fully answered.
+    unanswered: u32,
+    burst: Burst,
     /// The beat that it has let wait.
     waiting: Option<Command>,
     /// For how many cycles.
@@ -44,6 +63,8 @@ impl Memory {
             written: Vec::new(alloc),
             owed: Vec::new(alloc),
             given: 0,
+            unanswered: 0,
+            burst: Burst { number: 0, left: 0 },
             waiting: None,
             stood: 0,
         }
@@ -53,7 +74,7 @@ impl Memory {
     fn word_at(&self, agent: &Agent, number: u128) -> u128 {
         let mut word = agent.word_of(number);
         for written in self.written.as_slice() {
-            if written.at == number {
+            if written.number == number {
                 word = written.word;
             }
         }
@@ -61,12 +82,12 @@ impl Memory {
     }
 
     /// The word that comes in a cycle.
-    fn comes(&self, agent: &Agent, cycle: u32) -> Option<u128> {
+    fn comes(&self, agent: &Agent, cycle: u32) -> Option<Owed> {
         if is_high_in(agent.late, cycle) {
             return None;
         }
         match self.owed.get(self.given) {
-            Some(owed) if owed.at <= u128::from(cycle) => Some(owed.word),
+            Some(owed) if owed.cycle <= u128::from(cycle) => Some(*owed),
             _ => None,
         }
     }
@@ -82,7 +103,10 @@ impl Memory {
         Answer {
             wait: is_high_in(agent.wait, cycle),
             valid: next.is_some(),
-            word: next.unwrap_or(other),
+            word: match next {
+                Some(owed) => owed.word,
+                None => other,
+            },
         }
     }
 
@@ -102,45 +126,123 @@ impl Memory {
         self.stood = 0;
     }
 
-    /// A beat is accepted.
-    fn accepts(&mut self, agent: &Agent, command: &Command, cycle: u32) -> Result<(), AllocError> {
-        let number = agent.word_number(command.address);
-        let word = self.word_at(agent, number);
-        if command.read && !agent.is_clock() {
-            let at = u128::from(cycle).saturating_add(u128::from(agent.latency));
-            self.owed.push(Word { at, word })?;
+    /// Whether a command begins with a beat that is shown.
+    fn begins(&self) -> bool {
+        self.burst.left == 0
+    }
+
+    /// The number of the word that a beat is of.
+    fn number_of(&self, agent: &Agent, command: &Command) -> u128 {
+        if self.begins() {
+            agent.word_number(command.address)
+        } else {
+            self.burst.number
         }
-        if command.write {
-            let bits = bits_of(command.lanes);
-            let word = (word & !bits) | (command.word & bits);
-            self.written.push(Word { at: number, word })?;
+    }
+
+    /// A read is accepted that begins with the word of this number.
+    fn reads(
+        &mut self,
+        agent: &Agent,
+        number: u128,
+        count: u128,
+        cycle: u32,
+    ) -> Result<(), AllocError> {
+        let cycle = u128::from(cycle).saturating_add(u128::from(agent.latency));
+        let count = u16::try_from(count).unwrap_or(0);
+        for behind in 0..count {
+            let word = self.word_at(agent, agent.number_behind(number, u128::from(behind)));
+            let ends = behind.saturating_add(1) == count;
+            self.owed.push(Owed { cycle, word, ends })?;
         }
+        self.unanswered = self.unanswered.saturating_add(1);
         Ok(())
     }
 
-    /// The cycle ends; says whether the beat that the agent sees is accepted.
+    /// A beat of a write is accepted, of the word with this number.
+    fn writes(&mut self, agent: &Agent, number: u128, command: &Command) -> Result<(), AllocError> {
+        let left = if self.begins() {
+            command.count
+        } else {
+            self.burst.left
+        };
+        self.burst = Burst {
+            number: agent.number_behind(number, 1),
+            left: left.saturating_sub(1),
+        };
+        let bits = bits_of(command.lanes);
+        let word = (self.word_at(agent, number) & !bits) | (command.word & bits);
+        self.written.push(Written { number, word })?;
+        Ok(())
+    }
+
+    /// A beat is accepted.
+    fn accepts(
+        &mut self,
+        agent: &Agent,
+        command: &Command,
+        cycle: u32,
+    ) -> Result<Beat, AllocError> {
+        let begins = self.begins();
+        let number = self.number_of(agent, command);
+        if command.read && !agent.is_clock() {
+            self.reads(agent, number, command.count, cycle)?;
+        }
+        if command.write {
+            self.writes(agent, number, command)?;
+        }
+        Ok(Beat {
+            command: Command {
+                address: if begins {
+                    command.address
+                } else {
+                    agent.address_of(number)
+                },
+                ..*command
+            },
+            begins,
+        })
+    }
+
+    /// A word is given.
+    fn gave(&mut self) {
+        if let Some(owed) = self.owed.get(self.given) {
+            if owed.ends {
+                self.unanswered = self.unanswered.saturating_sub(1);
+            }
+        }
+        self.given = self.given.saturating_add(1);
+    }
+
+    /// The cycle ends; gives the beat that the agent accepts.
     pub fn sees(
         &mut self,
         agent: &Agent,
         command: &Command,
         answer: &Answer,
         cycle: u32,
-    ) -> Result<bool, AllocError> {
+    ) -> Result<Option<Beat>, AllocError> {
         if answer.valid {
-            self.given = self.given.saturating_add(1);
+            self.gave();
         }
         if !command.is_shown() {
             self.begin_anew();
-            return Ok(false);
+            return Ok(None);
         }
         if answer.wait || self.is_early(agent, command) {
             self.waiting = Some(*command);
             self.stood = self.stood.saturating_add(1);
-            return Ok(false);
+            return Ok(None);
         }
         self.begin_anew();
-        self.accepts(agent, command, cycle)?;
-        Ok(true)
+        let beat = self.accepts(agent, command, cycle)?;
+        Ok(Some(beat))
+    }
+
+    /// Whether a burst that begins has no beat, or more than the agent takes.
+    fn is_too_long(&self, agent: &Agent, command: &Command) -> bool {
+        let longest = u128::from(agent.shape.longest_burst());
+        self.begins() && (command.count == 0 || command.count > longest)
     }
 
     /// The rule that is broken by what the agent of this number sees.
@@ -160,6 +262,10 @@ impl Memory {
             Some(Rule::OneKind { agent: number })
         } else if command.is_shown() && command.address.checked_rem(bytes).unwrap_or(0) != 0 {
             Some(Rule::Aligned { agent: number })
+        } else if command.is_shown() && self.is_too_long(agent, command) {
+            Some(Rule::Longest { agent: number })
+        } else if command.read && !self.begins() {
+            Some(Rule::Unfinished { agent: number })
         } else {
             None
         }
@@ -167,6 +273,6 @@ impl Memory {
 
     /// Whether more reads are unanswered than the agent bears.
     pub fn bears_too_many(&self, agent: &Agent) -> bool {
-        !agent.fixed && self.owed.len().saturating_sub(self.given) > usize::from(agent.bound())
+        !agent.fixed && self.unanswered > u32::from(agent.bound())
     }
 }

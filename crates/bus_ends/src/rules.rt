@@ -15,6 +15,10 @@ pub enum Rule {
     OneKind { agent: u32 },
     /// The address at an agent isn't that of a whole word.
     Aligned { agent: u32 },
+    /// A burst at an agent has no beat, or more than the agent takes.
+    Longest { agent: u32 },
+    /// An agent sees a read before the last beat of a write.
+    Unfinished { agent: u32 },
     /// More reads are unanswered than the agent bears.
     AgentBound { agent: u32 },
 }
@@ -27,6 +31,8 @@ pub fn push_broken(text: &mut String, rule: Rule) -> Result<(), AllocError> {
         Rule::Held { agent } => write!(text, "a beat that waits at agent {agent} changed"),
         Rule::OneKind { agent } => write!(text, "agent {agent} shown a read and a write at once"),
         Rule::Aligned { agent } => write!(text, "agent {agent} shown an address inside a word"),
+        Rule::Longest { agent } => write!(text, "agent {agent} shown a burst that it can't take"),
+        Rule::Unfinished { agent } => write!(text, "agent {agent} shown a read inside a write"),
         Rule::AgentBound { agent } => write!(text, "more reads than agent {agent} bears"),
     }
 }

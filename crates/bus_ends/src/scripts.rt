@@ -44,6 +44,7 @@ fn push_ports(text: &mut String, side: &Side, shape: &Shape) -> Result<(), Alloc
             side.command,
             bits_if(shape.enables, shape.word_bytes()),
         ),
+        ("burstcount", side.command, shape.burst_bits),
         ("readdata", side.answer, bits_if(shape.reads, bits)),
     ];
     for (role, direction, bits) in ports {

@@ -8,6 +8,8 @@ pub struct Command {
     pub address: u128,
     pub word: u128,
     pub lanes: u128,
+    /// The beats of a burst, 1 where there is no `burstcount`.
+    pub count: u128,
 }
 
 /// The levels of an answer.
@@ -16,6 +18,14 @@ pub struct Answer {
     pub wait: bool,
     pub valid: bool,
     pub word: u128,
+}
+
+/// A beat that an agent accepts, with its own address.
+#[derive(Clone, Copy)]
+pub struct Beat {
+    pub command: Command,
+    /// Whether its command begins with it.
+    pub begins: bool,
 }
 
 impl Command {

@@ -44,6 +44,7 @@ fn set_command(inputs: &mut Inputs, host: EndId, command: &Command) -> Result<()
         (Role::Write, u128::from(command.write)),
         (Role::WriteData, command.word),
         (Role::ByteEnable, command.lanes),
+        (Role::BurstCount, command.count),
     ];
     for (role, bits) in levels {
         inputs.set(host, role, bits)?;
@@ -78,19 +79,33 @@ impl AgentAt {
         }
     }
 
-    /// What the agent sees, in all lanes where it has no byte enables.
-    fn command_at(&self, outputs: &Outputs) -> Command {
-        let lanes = if self.agent.shape.enables {
+    /// The lanes that the agent sees: all of them where it has no byte enables.
+    fn lanes_at(&self, outputs: &Outputs) -> u128 {
+        if self.agent.shape.enables {
             outputs.level(self.end, Role::ByteEnable)
         } else {
             self.agent.shape.all_lanes()
-        };
+        }
+    }
+
+    /// The beats of a burst that the agent sees.
+    fn count_at(&self, outputs: &Outputs) -> u128 {
+        if self.agent.shape.burst_bits > 0 {
+            outputs.level(self.end, Role::BurstCount)
+        } else {
+            1
+        }
+    }
+
+    /// What the agent sees.
+    fn command_at(&self, outputs: &Outputs) -> Command {
         Command {
             read: outputs.is_high(self.end, Role::Read),
             write: outputs.is_high(self.end, Role::Write),
             address: outputs.level(self.end, Role::Address),
             word: outputs.level(self.end, Role::WriteData),
-            lanes,
+            lanes: self.lanes_at(outputs),
+            count: self.count_at(outputs),
         }
     }
 
@@ -113,14 +128,15 @@ impl AgentAt {
         );
         let accepted = self.memory.sees(&self.agent, &command, &answer, cycle)?;
         log.note(cycle, self.broken_after());
-        if !accepted {
+        let Some(beat) = accepted else {
             return Ok(());
-        }
+        };
         let event = Event::Accepts {
             agent: self.number,
             host: outputs.level_at(self.grant),
-            command,
+            beat,
             enables: self.agent.shape.enables,
+            bursts: self.agent.shape.burst_bits > 0,
         };
         log.push(cycle, event)
     }
@@ -134,7 +150,7 @@ impl HostAt<'_> {
         let answer = answer_at(outputs, self.end);
         log.note(
             cycle,
-            self.driver.judges(host, self.number, &shown, &answer),
+            self.driver.judges(self.work, self.number, &shown, &answer),
         );
         let Some(word) = self.driver.sees(host, &shown, &answer) else {
             return Ok(());

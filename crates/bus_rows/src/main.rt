@@ -10,14 +10,13 @@ use bus_ends::{Row, push_tally};
 use row_words::{Answers, answer_lines};
 use std::alloc::Global;
 use std::io;
-use steps::{Outcome, run_row};
+use steps::run_row;
 
 /// Appends what is said of a row.
 fn push_row(alloc: Global, text: &mut String, row: &Row) -> Result<(), NoMemory> {
     match run_row(alloc, row)? {
-        Outcome::Refused => text.push_str("\n  refused")?,
-        Outcome::NotBuilt => text.push_str("\n  not built")?,
-        Outcome::Ran(tally) => push_tally(text, &tally)?,
+        Some(tally) => push_tally(text, &tally)?,
+        None => text.push_str("\n  refused")?,
     }
     Ok(())
 }
