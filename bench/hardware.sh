@@ -50,21 +50,35 @@ share() {
   weigh "$1 hosts, latency $2" share_interconnect "$folder/generated.v" "$folder/share.v" || true
 }
 
+# How many writes and reads a cycle ours and the one by hand take.
+rate() {
+  echo "  ours: $("$top/bench/rates.py" "$folder/generated.v" "$folder")"
+  echo "  by hand: $("$top/bench/rates.py" "$folder/$1.v" "$folder" "${further[@]}")"
+}
+
 # A host and an agent of so many bits, and the kind of their lanes.
 width() {
   "$top/bench/widths.py" "$1" "$2" "$3" "$folder"
   (cd "$folder" && "$top/avalon" generate width.tcl host.tcl agent.tcl) >"$folder/generated.v" || exit 1
   weigh "$1 bits to $2, $3" width_interconnect "$folder/generated.v" "$folder/width.v" || true
-  echo "  ours: $("$top/bench/rates.py" "$folder/generated.v" "$folder")"
-  echo "  by hand: $("$top/bench/rates.py" "$folder/width.v" "$folder" "${further[@]}")"
+  rate width
 }
 
-further=("$top/bench/by_hand/arbiter.v" "$top/bench/by_hand/widths.v")
+# A host with bursts of up to 16 beats, and an agent whose burstcount has so many bits, 0 where it has none.
+bursts() {
+  "$top/bench/bursts.py" "$1" "$folder"
+  (cd "$folder" && "$top/avalon" generate bursts.tcl host.tcl agent.tcl) >"$folder/generated.v" || exit 1
+  weigh "bursts, $1 bits at the agent" bursts_interconnect "$folder/generated.v" "$folder/bursts.v" || true
+  rate bursts
+}
+
+further=("$top/bench/by_hand/arbiter.v" "$top/bench/by_hand/widths.v" "$top/bench/by_hand/bursts.v")
 compare control control control.tcl cpu.tcl ram.tcl flash.tcl port.tcl
 compare bus bus bus.tcl master.tcl memory.tcl
 compare shared shared shared.tcl cpu.tcl ram.tcl || true
 for hosts in 2 4 8 16; do share $hosts 1; done
 for hosts in 2 4 8 16; do share $hosts 0; done
+for bits in 0 1 3 5; do bursts $bits; done
 for host in 8 16 32 64 128; do
   for agent in 8 16 32 64 128; do
     if [ $host = $agent ]; then

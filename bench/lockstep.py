@@ -2,8 +2,9 @@
 """Runs two modules of one header side by side over random inputs, by Icarus Verilog: lockstep.py OURS THEIRS FOLDER [FURTHER]..
 
 FURTHER are files with what THEIRS may be made of. Agents with readdatavalid, which have waitrequest too, give a word only where they owe
-one, as the rules ask, since the two may differ where a word comes that nobody asked.
-What an output shows counts only where it means something: a host's word where it is valid, a command where it is shown.
+one, as the rules ask, since the two may differ where a word comes that nobody asked. So hosts with burstcount keep its rules too.
+What an output shows counts only where it means something: a host's word where it is valid, a command where it is shown, the address and the
+burstcount of a burst in its first beat.
 """
 import re
 import subprocess
@@ -52,6 +53,9 @@ def bench(ports):
         lines.append(f"  integer owed_{flat(agent)} = 0;")
     for host in hosts:
         lines.append(f"  reg stands_{flat(host)} = 0;")
+    bursting = sorted({end_of(n)[0] for _, _, n in ports if end_of(n)[-1] == "burstcount"})
+    for end in bursting:
+        lines.append(f"  integer left_{flat(end)} = 0;")
     lines += ["  initial begin", "    #5 clk = 1; #1 reset = 0;", f"    for (cycle = 0; cycle < {CYCLES}; cycle = cycle + 1) begin"]
     for host in hosts:
         h = flat(host)
@@ -65,7 +69,11 @@ def bench(ports):
                 if role == "address":
                     # few high bits, so that most addresses are near a base
                     lines.append(f"        if ($random & 3) {flat(name)} = {flat(name)} & $random & $random;")
+                if role == "burstcount":
+                    lines.append(f"        if (left_{h} == 0) {flat(name)} = 1 + ($random & {(1 << bits - 1) - 1});")
         lines.append(f"        case ($random & 3) 0: begin {h}_read = 0; {h}_write = 0; end 1: begin {h}_read = 0; {h}_write = 1; end default: begin {h}_read = 1; {h}_write = 0; end endcase")
+        if host in bursting and f"{host}$read" in names:
+            lines.append(f"        if (left_{h} > 0) {h}_read = 0;")
         lines.append("      end")
     for agent in agents:
         a = flat(agent)
@@ -81,11 +89,13 @@ def bench(ports):
         e = flat(end)
         if role in ("readdata",):
             when = f"a_{e}_readdatavalid" if f"{end}$readdatavalid" in names else f"{e}_read && !a_{e}_waitrequest"
-        elif role in ("address", "writedata", "byteenable", "grant"):
+        elif role in ("address", "writedata", "byteenable", "burstcount", "grant"):
             shows = [f"a_{e}_{k}" for k in ("read", "write") if f"{end}${k}" in names]
             if role in ("writedata", "byteenable"):
                 shows = [s for s in shows if s.endswith("write")]
             when = " || ".join(shows) or "1"
+            if end in bursting and role in ("address", "burstcount"):
+                when = f"left_{e} == 0 && ({when})"
         elif role == "waitrequest":
             when = f"{e}_read || {e}_write"
         else:
@@ -93,7 +103,13 @@ def bench(ports):
         lines.append(f"      if (({when}) && a_{f} !== b_{f}) begin errors = errors + 1; if (errors < 5) $display(\"cycle %0d: {name} %h %h\", cycle, a_{f}, b_{f}); end")
     for agent in saying:
         a = flat(agent)
-        lines.append(f"      owed_{a} = owed_{a} + (a_{a}_read && !{a}_waitrequest) - {a}_readdatavalid;")
+        asked = f"a_{a}_burstcount" if agent in bursting else "1"
+        lines.append(f"      owed_{a} = owed_{a} + (a_{a}_read && !{a}_waitrequest ? {asked} : 0) - {a}_readdatavalid;")
+    for end in bursting:
+        e = flat(end)
+        beat, wait = (f"a_{e}", f"{e}_waitrequest") if end in agents else (e, f"a_{e}_waitrequest")
+        if f"{end}$write" in names:
+            lines.append(f"      if ({beat}_write && !{wait}) left_{e} = (left_{e} ? left_{e} : {beat}_burstcount) - 1;")
     for host in hosts:
         h = flat(host)
         lines.append(f"      stands_{h} = ({h}_read || {h}_write) && a_{h}_waitrequest;")

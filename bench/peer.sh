@@ -56,6 +56,7 @@ show stream stream.tcl camera.tcl scaler.tcl
 show stream packets.tcl tuner.tcl framer.tcl voices.tcl mixer.tcl
 show top board.tcl master.tcl memory.tcl counter.tcl display.tcl
 run_bench top board bench.v board.v master.v memory.v counter.v display.v
+show video video.tcl cpu.tcl rom.tcl dram.tcl camera.tcl writer.tcl reader.tcl screen.tcl
 show control control.tcl cpu.tcl ram.tcl flash.tcl port.tcl
 run_bench control control bench.v control.v cpu.v ram.v flash.v port.v
 show shared shared.tcl cpu.tcl ram.tcl
