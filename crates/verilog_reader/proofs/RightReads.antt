@@ -28,7 +28,7 @@ use Rattle.verilog_reader.proofs.Cuts.{first, digit, decimal_passes}
 use Rattle.verilog_reader.proofs.Rights.{hex_value, width_fits, first_digit}
 use Rattle.verilog_reader.proofs.Lines.{true_false}
 
-same-refl : (bs : List ℕ) → same_bytes bs bs ≡ true
+pub same-refl : (bs : List ℕ) → same_bytes bs bs ≡ true
 same-refl [] = refl
 same-refl (b ∷ bs) = rw (eq-eqb b b refl, same-refl bs) refl
 
@@ -72,10 +72,10 @@ digits_in_hole (b ∷ bs) h =
     let parts = and_parts (digit b) (list_all digit bs) h in
     rw (digit_in_hole b parts.0, digits_in_hole bs parts.1) refl
 
-number_hole : (n : ℕ) (behind : List ℕ) → n < 2 ^ 64 → ends_hole behind ≡ true → IsHole (decimal n) behind
+pub number_hole : (n : ℕ) (behind : List ℕ) → n < 2 ^ 64 → ends_hole behind ≡ true → IsHole (decimal n) behind
 number_hole n behind h ends = record { bytes = digits_in_hole (decimal n) (decimal_passes n h); ends = ends }
 
-net_hole : (n : ℕ) (behind : List ℕ) → n < 2 ^ 64 → ends_hole behind ≡ true → IsHole (net_name n) behind
+pub net_hole : (n : ℕ) (behind : List ℕ) → n < 2 ^ 64 → ends_hole behind ≡ true → IsHole (net_name n) behind
 net_hole n behind h ends = record { bytes = digits_in_hole (decimal n) (decimal_passes n h); ends = ends }
 
 pub value-decimal : (n : ℕ) → n < 2 ^ 64 → value_of (decimal n) ≡ n
@@ -84,7 +84,7 @@ value-decimal n h = (decimal_is_IsNumeral n h).1
 pub number_is : (n : ℕ) → n < 2 ^ 64 → is_number (decimal n) ≡ true
 number_is n h = ap (λ (m : ℕ). same_bytes (decimal n) (decimal m)) (value-decimal n h) ∙ same-refl (decimal n)
 
-net_is : (n : ℕ) → n < 2 ^ 64 → is_net (net_name n) ≡ true
+pub net_is : (n : ℕ) → n < 2 ^ 64 → is_net (net_name n) ≡ true
 net_is n h = ap (λ (m : ℕ). same_bytes (net_name n) (net_name m)) (value-decimal n h) ∙ same-refl (net_name n)
 
 width_is : (lines : List Line) (a w : ℕ) → width_at lines a ≡ Some w → width_of lines a ≡ w
@@ -103,7 +103,7 @@ operand_passes lines n fits a o =
     ∙ ap (λ (t : Bool). unless t NotThere (unless (fits (width_of lines a)) Width None)) (lt-ltb a n o.below)
     ∙ ap (λ (t : Bool). unless t Width None) o.fit
 
-operand_due : {A : Type 0} (due : Form A) (rest : List ℕ) (lines : List Line) (n : ℕ) (fits : ℕ → Bool) (form : ℕ → Form A) (a : ℕ) (front : List ℕ) → Operand lines n fits a → ends_hole (front ++ rest) ≡ true
+pub operand_due : {A : Type 0} (due : Form A) (rest : List ℕ) (lines : List Line) (n : ℕ) (fits : ℕ → Bool) (form : ℕ → Form A) (a : ℕ) (front : List ℕ) → Operand lines n fits a → ends_hole (front ++ rest) ≡ true
     → Due due rest (form a) front → Due due rest (operand lines n fits form) (net_name a ++ front)
 operand_due due rest lines n fits form a front o ends d =
     Due.hole (operand_test lines n fits) (λ run. form (net_of run)) (net_name a) (net_hole a (front ++ rest) o.small ends) (operand_passes lines n fits a o)
@@ -136,7 +136,7 @@ infix_read memories lines n w a b s op test fits make rest x y ends holds is =
       good = Due.turn (begun_form memories lines n w) first;
     }
 
-side : (lines : List Line) (n a v : ℕ) (fits : ℕ → Bool) → n < 2 ^ 64 → IsOperand lines n a v → fits v ≡ true → Operand lines n fits a
+pub side : (lines : List Line) (n a v : ℕ) (fits : ℕ → Bool) → n < 2 ^ 64 → IsOperand lines n a v → fits v ≡ true → Operand lines n fits a
 side lines n a v fits few o fit =
     record { small = omega (arith, o.below, few); below = o.below; fit = ap fits (width_is lines a v o.width) ∙ fit }
 
@@ -279,18 +279,15 @@ constant_turn : (memories : List Memory) (lines : List Line) (n w : ℕ) (t : Li
 constant_turn memories lines n w [] h = absurd (true_false (sym h))
 constant_turn memories lines n w (b ∷ bs) h = rw h refl
 
-constant_front : (d h x : List ℕ) → d ++ h ++ x ≡ d ++ (h ++ (x ++ []))
-constant_front d h x = simp (append_assoc, append-nil)
-
 hex_passes : (w bits : ℕ) → IsWord w bits → is_constant w (hex_digits ((w + 3) / 4) bits) ≡ true
 hex_passes w bits is =
     let value = hex_value ((w + 3) / 4) bits (width_fits w bits is.fits) in
     ap (λ (k : ℕ). same_bytes (hex_digits ((w + 3) / 4) bits) (hex_digits ((w + 3) / 4) k) && nat_lt k (2 ^ w)) value
     ∙ rw (same-refl (hex_digits ((w + 3) / 4) bits), lt-ltb bits (2 ^ w) is.fits) refl
 
-constant_read : (memories : List Memory) (lines : List Line) (n w bits : ℕ) (rest : List ℕ) → IsWord w bits → ends_hole rest ≡ true
-    → Reads (right_form memories lines n w) (constant_text w bits ++ rest) (Constant (record { width = w; bits = bits })) rest
-constant_read memories lines n w bits rest is ends =
+pub constant_due : (w bits : ℕ) (rest : List ℕ) → IsWord w bits → ends_hole rest ≡ true
+    → Due (Form.whole (Constant (record { width = w; bits = bits }))) rest (constant_form w) (decimal w ++ (codes "'h" ++ (hex_digits ((w + 3) / 4) bits ++ [])))
+constant_due w bits rest is ends =
     let due : Form Equation = Form.whole (Constant (record { width = w; bits = bits })) in
     let small : w < 2 ^ 64 = omega (arith, is.small) in
     let hex = hex_digits ((w + 3) / 4) bits in
@@ -300,9 +297,20 @@ constant_read memories lines n w bits rest is ends =
     let digits_due = Due.hole (λ run. unless (is_constant w run) Spelling None) (λ run. make (digits_value 16 run)) hex (record { bytes = hexes_in_hole ((w + 3) / 4) bits; ends = ends })
     (ap (λ (b : Bool). unless b Spelling None) (hex_passes w bits is)) done in
     let marked = fixed_due due rest (codes "'h") _ _ digits_due in
-    let number = numbered_due due rest (λ run. unless (is_number run) Spelling (unless (value_of run == w) Width None))
+    numbered_due due rest (λ run. unless (is_number run) Spelling (unless (value_of run == w) Width None))
     (λ k. fixed (codes "'h") (Form.hole (λ run. unless (is_constant w run) Spelling None) (λ run. make (digits_value 16 run)))) w _ small refl
-    (number_passes w (λ k. k == w) Width (λ k. None) small (eq-eqb w w refl)) marked in
+    (number_passes w (λ k. k == w) Width (λ k. None) small (eq-eqb w w refl)) marked
+
+pub constant_front : (d h x : List ℕ) → d ++ h ++ x ≡ d ++ (h ++ (x ++ []))
+constant_front d h x = simp (append_assoc, append-nil)
+
+constant_read : (memories : List Memory) (lines : List Line) (n w bits : ℕ) (rest : List ℕ) → IsWord w bits → ends_hole rest ≡ true
+    → Reads (right_form memories lines n w) (constant_text w bits ++ rest) (Constant (record { width = w; bits = bits })) rest
+constant_read memories lines n w bits rest is ends =
+    let due : Form Equation = Form.whole (Constant (record { width = w; bits = bits })) in
+    let small : w < 2 ^ 64 = omega (arith, is.small) in
+    let hex = hex_digits ((w + 3) / 4) bits in
+    let number = constant_due w bits rest is ends in
     let tail = codes "'h" ++ (hex ++ []) in
     let begun : begun_form memories lines n w (next ((decimal w ++ tail) ++ rest)) ≡ constant_form w =
     constant_turn memories lines n w ((decimal w ++ tail) ++ rest) (ap (λ (t : List ℕ). digit (first t)) (append_assoc (decimal w) tail rest) ∙ first_digit w (tail ++ rest) small) in

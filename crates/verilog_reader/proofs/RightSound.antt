@@ -11,9 +11,10 @@ use Rattle.netlist.specs.declared.line.Equation.TheVariants.{Constant, And, Or, 
 use Rattle.netlist.specs.declared.line.Line.{Line}
 use Rattle.netlist.specs.declared.line.PortLine.{PortLine}
 use Rattle.netlist.specs.declared.line.Memory.{Memory}
-use Rattle.netlist.specs.Netlists.{width_at, IsOperand, AreOperands, IsComparison}
+use Rattle.av_base.specs.declared.value.Val.{Val}
+use Rattle.netlist.specs.Netlists.{width_at, IsOperand, AreOperands, IsComparison, IsValue}
 use Rattle.verilog_reader.proofs.Nets.{slice_get-some}
-use Rattle.verilog_writer.specs.Text.{hex_digits, net_name, memory_name, infix_text, right_text}
+use Rattle.verilog_writer.specs.Text.{hex_digits, net_name, memory_name, infix_text, right_text, constant_text}
 use Rattle.verilog_reader.specs.declared.rule.Rule.{Rule}
 use Rattle.verilog_reader.specs.declared.rule.Rule.TheVariants.{Width, Spelling, NotThere, Bounds}
 use Rattle.verilog_reader.specs.Forms.{next, Form, fixed, IsHole, Due, Reads}
@@ -26,6 +27,7 @@ Inverted a rest (Form.whole b) front = (b ≡ a) × (front ≡ [])
 Inverted a rest (Form.byte b form) front = (later : List ℕ) × (front ≡ b ∷ later) × Due (Form.whole a) rest form later
 Inverted a rest (Form.hole test form) front = (run later : List ℕ) × (front ≡ run ++ later) × (test run ≡ None) × Due (Form.whole a) rest (form run) later × IsHole run (later ++ rest)
 Inverted a rest (Form.turn form) front = Due (Form.whole a) rest (form (next (front ++ rest))) front
+Inverted a rest (Form.ahead form) front = Due (Form.whole a) rest (form (front ++ rest)) front
 Inverted a rest (Form.refuse rule) front = ⊥
 
 pub inverted : {A : Type 0} {due : Form A} {rest : List ℕ} {form : Form A} {front : List ℕ} (a : A) → due ≡ Form.whole a → Due due rest form front → Inverted a rest form front
@@ -33,6 +35,7 @@ inverted {A} {due} {rest} a e Due.nothing = subst (λ (f : Form A). Inverted a r
 inverted {A} {due} {rest} a e (Due.byte {form} {front} b d) = (front, refl, subst (λ (f : Form A). Due f rest form front) e d)
 inverted {A} {due} {rest} a e (Due.hole {front} test form run is none d) = (run, front, refl, none, subst (λ (f : Form A). Due f rest (form run) front) e d, is)
 inverted {A} {due} {rest} a e (Due.turn {front} form d) = subst (λ (f : Form A). Due f rest (form (next (front ++ rest))) front) e d
+inverted {A} {due} {rest} a e (Due.ahead {front} form d) = subst (λ (f : Form A). Due f rest (form (front ++ rest)) front) e d
 
 abbrev pub Walked : {A : Type 0} → A → List ℕ → Form A → List ℕ → Type 0
 Walked e rest form front = Due (Form.whole e) rest form front
@@ -56,7 +59,7 @@ guarded_walked : (e : Equation) (rest : List ℕ) (t : Bool) (rule : Rule) (form
 guarded_walked e rest true rule form front d = (refl, d)
 guarded_walked e rest false rule form front d = absurd (inverted e refl d)
 
-cond_walked : (e : Equation) (rest : List ℕ) (t : Bool) (f g : Form Equation) (front : List ℕ) → Walked e rest (cond t f g) front → Walked e rest f front ⊎ Walked e rest g front
+pub cond_walked : {A : Type 0} (e : A) (rest : List ℕ) (t : Bool) (f g : Form A) (front : List ℕ) → Walked e rest (cond t f g) front → Walked e rest f front ⊎ Walked e rest g front
 cond_walked e rest true f g front d = inl d
 cond_walked e rest false f g front d = inr d
 
@@ -67,7 +70,7 @@ fixed_walked e rest (b ∷ bs) form front d =
     let more = fixed_walked e rest bs form one.0 one.2 in
     (more.0, one.1 ∙ ap (λ (t : List ℕ). b ∷ t) more.1, more.2)
 
-pub record OperandRead (lines : List Line) (n : ℕ) (fits : ℕ → Bool) (form : ℕ → Form Equation) (e : Equation) (rest front : List ℕ) : Type 0 where
+pub record OperandRead {A : Type 0} (lines : List Line) (n : ℕ) (fits : ℕ → Bool) (form : ℕ → Form A) (e : A) (rest front : List ℕ) : Type 0 where
   pub net : ℕ
   pub later : List ℕ
   pub spelled : front ≡ net_name net ++ later
@@ -78,7 +81,7 @@ pub record OperandRead (lines : List Line) (n : ℕ) (fits : ℕ → Bool) (form
 width_there : (lines : List Line) (a : ℕ) → a < length lines → width_at lines a ≡ Some (width_of lines a)
 width_there lines a h = let found = slice_get-some lines a h in rw found.1 refl
 
-operand_walked : (lines : List Line) (n : ℕ) (fits : ℕ → Bool) (form : ℕ → Form Equation) (e : Equation) (rest front : List ℕ) → n ≤ length lines → Walked e rest (operand lines n fits form) front → OperandRead lines n fits form e rest front
+pub operand_walked : {A : Type 0} (lines : List Line) (n : ℕ) (fits : ℕ → Bool) (form : ℕ → Form A) (e : A) (rest front : List ℕ) → n ≤ length lines → Walked e rest (operand lines n fits form) front → OperandRead lines n fits form e rest front
 operand_walked lines n fits form e rest front room d =
     let (run, later, parts, none, walked, ends) = inverted e refl d in
     let spelled = unless_held (is_net run) Spelling _ none in
@@ -332,8 +335,14 @@ word_walked ports memories lines n w e rest front room d =
 constant_whole : (d h x : List ℕ) → d ++ (h ++ (x ++ [])) ≡ d ++ h ++ x
 constant_whole d h x = simp (append_assoc, append-nil)
 
-constant_walked : (ports : List PortLine) (memories : List Memory) (lines : List Line) (n w : ℕ) (e : Equation) (rest front : List ℕ) → 1 ≤ w → w ≤ 128 → Walked e rest (constant_form w) front → Side ports memories lines n w e front
-constant_walked ports memories lines n w e rest front some small d =
+pub record ConstantRead (w : ℕ) (e : Equation) (front : List ℕ) : Type 0 where
+  pub value : Val
+  pub is : e ≡ Constant value
+  pub spelled : front ≡ constant_text value.width value.bits
+  pub good : IsValue value w
+
+pub constant_read_as : (w : ℕ) (e : Equation) (rest front : List ℕ) → 1 ≤ w → w ≤ 128 → Walked e rest (constant_form w) front → ConstantRead w e front
+constant_read_as w e rest front some small d =
     let (width_run, later, parts, none, walked, ends) = inverted e refl d in
     let width = number_held width_run (λ k. k == w) Width (λ k. None) none in
     let is_w : value_of width_run ≡ w = eqb-true (value_of width_run) w width.1 in
@@ -347,10 +356,17 @@ constant_walked ports memories lines n w e rest front some small d =
     let text : front ≡ decimal w ++ (codes "'h" ++ (hex ++ [])) =
     parts ∙ ap (λ (t : List ℕ). t ++ later) (width.0 ∙ ap (λ (k : ℕ). decimal k) is_w) ∙ ap (λ (t : List ℕ). decimal w ++ t) (mark.1 ∙ ap (λ (t : List ℕ). codes "'h" ++ t)
     (run_parts ∙ ap (λ (t : List ℕ). t ++ after) (same_equal run hex both.0) ∙ ap (λ (t : List ℕ). hex ++ t) last.1)) in
-    subst (λ (x : Equation). Side ports memories lines n w x front) last.0 (record {
+    record {
+      value = record { width = w; bits = bits };
+      is = sym last.0;
       spelled = text ∙ constant_whole (decimal w) (codes "'h") hex;
-      sound = record { sound = record { word = record { some_bit = some; small = small; fits = ltb-true bits (2 ^ w) both.1 }; width = refl }; no_input = refl; no_register = refl };
-    })
+      good = record { word = record { some_bit = some; small = small; fits = ltb-true bits (2 ^ w) both.1 }; width = refl };
+    }
+
+constant_walked : (ports : List PortLine) (memories : List Memory) (lines : List Line) (n w : ℕ) (e : Equation) (rest front : List ℕ) → 1 ≤ w → w ≤ 128 → Walked e rest (constant_form w) front → Side ports memories lines n w e front
+constant_walked ports memories lines n w e rest front some small d =
+    let c = constant_read_as w e rest front some small d in
+    subst (λ (x : Equation). Side ports memories lines n w x front) (sym c.is) (record { spelled = c.spelled; sound = record { sound = c.good; no_input = refl; no_register = refl } })
 
 pub begun_walked : (ports : List PortLine) (memories : List Memory) (lines : List Line) (n w : ℕ) (e : Equation) (rest front : List ℕ) (o : Option ℕ) → n ≤ length lines → 1 ≤ w → w ≤ 128
     → Walked e rest (begun_form memories lines n w o) front → Side ports memories lines n w e front

@@ -103,7 +103,7 @@ kind_of one n w (Read m a) h s next =
     let inside = slice_get_within one.memories m s.memory s.is in
     Kind.of_net refl (record { left = omega (arith, inside, h.few_memories); right = one_small one.lines n a s.memory.address_bits h.few s.address })
 
-still_as : (one : Netlist) (k : ℕ) (line : Line) → IsModule one → slice_get one.lines k ≡ Some line → (b : Bool) → line.waits ≡ b → line.waits ≡ false
+pub still_as : (one : Netlist) (k : ℕ) (line : Line) → IsModule one → slice_get one.lines k ≡ Some line → (b : Bool) → line.waits ≡ b → line.waits ≡ false
 still_as one k line h at true is = absurd (h.clocked k (record { line = line; is = at; waits = is }))
 still_as one k line h at false is = is
 
@@ -114,7 +114,7 @@ sound_lines one h k line at =
     let next : IfSome (next_in line.equation) (λ m. width_at one.lines m ≡ Some line.width) = rw still at s.next in
     record { some_bit = s.some_bit; small = s.small; still = still; kind = kind_of one k line.width line.equation h.well_made s.equation next }
 
-write_as : (one : Netlist) (k : ℕ) (memory : Memory) → IsModule one → slice_get one.memories k ≡ Some memory → (write : Option MemWrite) → memory.write ≡ write → (x : MemWrite) × (memory.write ≡ Some x)
+pub write_as : (one : Netlist) (k : ℕ) (memory : Memory) → IsModule one → slice_get one.memories k ≡ Some memory → (write : Option MemWrite) → memory.write ≡ write → (x : MemWrite) × (memory.write ≡ Some x)
 write_as one k memory h at None is = absurd (h.written k (record { memory = memory; is = at; waits = is }))
 write_as one k memory h at (Some x) is = (x, is)
 
@@ -142,7 +142,7 @@ good_ports one h k port at =
     let width = all-slice_get (λ (p : PortLine). (1 ≤ p.width) × (p.width ≤ 128)) one.ports k port header.widths at in
     record { name = name.bytes; some_bit = width.0; small = width.1 }
 
-same_port : (p q : PortLine) → Some p ≡ Some q → p ≡ q
+pub same_port : (p q : PortLine) → Some p ≡ Some q → p ≡ q
 same_port p q e = cc
 
 driver_as : (one : Netlist) (k : ℕ) (port : PortLine) → IsModule one → slice_get one.ports k ≡ Some port → (driver : Option ℕ) → driver_of one k ≡ driver → (b : Bool) → port.output ≡ b → Driven port (driver_of one k)
@@ -192,7 +192,7 @@ behind_writes one = assigns_text one.ports one.drivers ++ codes "endmodule\n"
 abbrev behind_clocked : Netlist → List ℕ
 behind_clocked one = writes_text 0 one.memories ++ behind_writes one
 
-abbrev behind_nets : Netlist → List ℕ
+abbrev pub behind_nets : Netlist → List ℕ
 behind_nets one = clocked_text 0 one.lines ++ behind_clocked one
 
 abbrev behind_memories : Netlist → List ℕ
@@ -207,10 +207,10 @@ text_shape one =
     module_parts (codes "module ") one.name (codes " (\n  input wire clk,\n  input wire reset") (ports_text one.ports) (codes "\n);\n") (memories_text 0 one.memories) (nets_text one.ports 0 one.lines)
     (clocked_text 0 one.lines) (writes_text 0 one.memories) (assigns_text one.ports one.drivers) (codes "endmodule\n")
 
-nets_stop : (one : Netlist) → begins_net (behind_nets one) ≡ false
+pub nets_stop : (one : Netlist) → begins_net (behind_nets one) ≡ false
 nets_stop one = all_clocked_stop 0 one.lines (behind_clocked one) (all_written_stop 0 one.memories (behind_writes one) (all_assigns_stop one.ports one.drivers (codes "endmodule\n") refl))
 
-name_bytes : (name : List ℕ) → list_all is_name_byte name ≡ true → list_all name_byte name ≡ true
+pub name_bytes : (name : List ℕ) → list_all is_name_byte name ≡ true → list_all name_byte name ≡ true
 name_bytes [] h = refl
 name_bytes (b ∷ bs) h =
     let parts = and_parts (is_name_byte b) (list_all is_name_byte bs) h in

@@ -29,6 +29,7 @@ walk (Form.byte b form) (c ∷ text) = cond (c == b) (pushed 1 (walk form text))
 walk (Form.hole test form) text =
     let k = prefix_len is_hole_byte text in behind_hole (test (take k text)) k (walk (form (take k text)) (drop k text))
 walk (Form.turn form) text = walk (form (next text)) text
+walk (Form.ahead form) text = walk (form text) text
 walk (Form.refuse rule) text = Outcome.bad 0 rule
 
 pushed_zero : {A : Type 0} (o : Outcome A) → pushed 0 o ≡ o
@@ -66,6 +67,7 @@ due_walks {A} {due} {rest} (Due.hole {front} test form run is none d) =
     ∙ ap (pushed (length run)) (due_walks d)
     ∙ pushed_twice (length run) (length front) (length (run ++ front)) (walk due rest) (sym (length-append run front))
 due_walks (Due.turn form d) = due_walks d
+due_walks (Due.ahead form d) = due_walks d
 
 differs_walks : {A : Type 0} (text : List ℕ) (b : ℕ) (form : Form A) → next text ≢ Some b → walk (Form.byte b form) text ≡ Outcome.bad 0 OtherByte
 differs_walks [] b form h = refl
@@ -159,6 +161,12 @@ turn_judged form text (Judged.reads a rest r) =
 turn_judged form text (Judged.breaks at rule f) =
     Judged.breaks at rule (record { front = f.front; rest = f.rest; parts = f.parts; place = f.place; due = f.due; good = Due.turn form (subst (λ (t : List ℕ). Due f.due f.rest (form (next t)) f.front) f.parts f.good); misfit = f.misfit })
 
+ahead_judged : {A : Type 0} (form : List ℕ → Form A) (text : List ℕ) → Judged (form text) text → Judged (Form.ahead form) text
+ahead_judged form text (Judged.reads a rest r) =
+    Judged.reads a rest (record { front = r.front; parts = r.parts; good = Due.ahead form (subst (λ (t : List ℕ). Due (Form.whole a) rest (form t) r.front) r.parts r.good) })
+ahead_judged form text (Judged.breaks at rule f) =
+    Judged.breaks at rule (record { front = f.front; rest = f.rest; parts = f.parts; place = f.place; due = f.due; good = Due.ahead form (subst (λ (t : List ℕ). Due f.due f.rest (form t) f.front) f.parts f.good); misfit = f.misfit })
+
 pub record Split (text : List ℕ) : Type 0 where
   pub run : List ℕ
   pub behind : List ℕ
@@ -189,6 +197,7 @@ judge (Form.hole test form) text =
     let s = split text in
     subst (Judged (Form.hole test form)) (sym s.parts) (hole_as test form s.run s.behind s.is (test s.run) refl (judge (form s.run) s.behind))
 judge (Form.turn form) text = turn_judged form text (judge (form (next text)) text)
+judge (Form.ahead form) text = ahead_judged form text (judge (form text) text)
 judge (Form.refuse rule) text = misfit_judged (Form.refuse rule) text rule (Misfits.refuse rule)
 
 -- what a walk finds stands in the text

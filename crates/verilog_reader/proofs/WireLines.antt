@@ -1,5 +1,5 @@
 -- The form of a wire's line reads exactly the lines of sound wires.
-use Rattle.std.proofs.Common.{◌≡◌, ℕ, ◌+◌, ◌-◌, ◌==◌, ◌<◌, ◌≤◌, ◌^◌, ◌&&◌, Bool, true, false, List, [], ◌∷◌, ◌++◌, slice_get, Some, None, refl, sym, ap, subst, ◌∙◌, arith, codes, decimal, append_assoc}
+use Rattle.std.proofs.Common.{◌≡◌, ℕ, ◌+◌, ◌-◌, ◌==◌, ◌<◌, ◌≤◌, ◌^◌, ◌&&◌, Bool, true, false, List, [], ◌++◌, slice_get, Some, None, refl, sym, ap, subst, ◌∙◌, arith, codes, decimal, append_assoc}
 use Rattle.std.specs.Prelude.{nat_lt}
 use Rattle.std.proofs.lemmas.Bool.{eq-eqb, eqb-true, lt-ltb, ltb-true, and_parts}
 use Rattle.netlist.specs.declared.line.Equation.{Equation}
@@ -9,66 +9,13 @@ use Rattle.netlist.specs.declared.line.PortLine.{PortLine}
 use Rattle.netlist.specs.Netlists.{Netlist, IsModule, line_of, is_input, is_register}
 use Rattle.verilog_writer.specs.Text.{net_name, right_text, wire_line, net_line}
 use Rattle.verilog_reader.specs.declared.rule.Rule.TheVariants.{Width, Spelling}
-use Rattle.verilog_reader.specs.Forms.{Form, fixed, followed, next, IsHole, Due, Reads}
+use Rattle.verilog_reader.specs.Forms.{Form, fixed, next, Due, Reads}
 use Rattle.verilog_reader.specs.RightSides.{unless, value_of, is_number, right_form, Here, IsRightSide}
 use Rattle.verilog_reader.specs.WireLines.{high_test, number_test, named_form, ending_form, wire_form, Behind, IsWire}
 use Rattle.verilog_reader.proofs.Lines.{line_is, wire_parts, net_wire}
 use Rattle.verilog_reader.proofs.RightReads.{value-decimal, number_is, fixed_due, number_passes, numbered_due, right_read, stands_here}
+use Rattle.verilog_reader.proofs.Followed.{followed_due, followed_walked}
 use Rattle.verilog_reader.proofs.RightSound.{inverted, Walked, unless_held, same_equal, number_held, fixed_walked, begun_walked}
-
--- a form and the one behind it are walked together
-followed_due : {A B : Type 0} {first : Form A} {middle : List ℕ} {form : Form A} {front : List ℕ} (a : A) (later : A → Form B) (due : Form B) (back rest : List ℕ) → first ≡ Form.whole a → middle ≡ back ++ rest
-    → Due first middle form front → Due due rest (later a) back → Due due rest (followed form later) (front ++ back)
-followed_due {A} {B} {first} a later due back rest whole at Due.nothing more = subst (λ (f : Form A). Due due rest (followed f later) back) (sym whole) more
-followed_due a later due back rest whole at (Due.byte b d) more = Due.byte b (followed_due a later due back rest whole at d more)
-followed_due {A} {B} {first} {middle} a later due back rest whole at (Due.hole {front} test form run is none d) more =
-    let behind : front ++ middle ≡ (front ++ back) ++ rest = ap (λ (t : List ℕ). front ++ t) at ∙ sym (append_assoc front back rest) in
-    let all = Due.hole test (λ r. followed (form r) later) run (subst (IsHole run) behind is) none (followed_due a later due back rest whole at d more) in
-    subst (λ (t : List ℕ). Due due rest (followed (Form.hole test form) later) t) (sym (append_assoc run front back)) all
-followed_due {A} {B} {first} {middle} a later due back rest whole at (Due.turn {front} form d) more =
-    let behind : front ++ middle ≡ (front ++ back) ++ rest = ap (λ (t : List ℕ). front ++ t) at ∙ sym (append_assoc front back rest) in
-    let below = followed_due a later due back rest whole at d more in
-    Due.turn (λ b. followed (form b) later) (subst (λ (t : List ℕ). Due due rest (followed (form (next t)) later) (front ++ back)) behind below)
-
--- and apart
-pub record Apart {A B : Type 0} (b : B) (rest : List ℕ) (form : Form A) (later : A → Form B) (front : List ℕ) : Type 0 where
-  pub value : A
-  pub ahead : List ℕ
-  pub behind : List ℕ
-  pub parts : front ≡ ahead ++ behind
-  pub first : Due (Form.whole value) (behind ++ rest) form ahead
-  pub second : Walked b rest (later value) behind
-
-followed_walked : {A B : Type 0} (b : B) (rest : List ℕ) (form : Form A) (later : A → Form B) (front : List ℕ) → Walked b rest (followed form later) front → Apart b rest form later front
-followed_walked b rest (Form.whole a) later front d = record { value = a; ahead = []; behind = front; parts = refl; first = Due.nothing; second = d }
-followed_walked b rest (Form.byte c form) later front d =
-    let one = inverted b refl d in
-    let more = followed_walked b rest form later one.0 one.2 in
-    record { value = more.value; ahead = c ∷ more.ahead; behind = more.behind; parts = one.1 ∙ ap (λ (t : List ℕ). c ∷ t) more.parts; first = Due.byte c more.first; second = more.second }
-followed_walked b rest (Form.hole test form) later front d =
-    let (run, left, parts, none, walked, ends) = inverted b refl d in
-    let more = followed_walked b rest (form run) later left walked in
-    let stands : left ++ rest ≡ more.ahead ++ (more.behind ++ rest) = ap (λ (t : List ℕ). t ++ rest) more.parts ∙ append_assoc more.ahead more.behind rest in
-    record {
-      value = more.value;
-      ahead = run ++ more.ahead;
-      behind = more.behind;
-      parts = parts ∙ ap (λ (t : List ℕ). run ++ t) more.parts ∙ sym (append_assoc run more.ahead more.behind);
-      first = Due.hole test form run (subst (IsHole run) stands ends) none more.first;
-      second = more.second;
-    }
-followed_walked {A} b rest (Form.turn form) later front d =
-    let more = followed_walked b rest (form (next (front ++ rest))) later front (inverted b refl d) in
-    let stands : front ++ rest ≡ more.ahead ++ (more.behind ++ rest) = ap (λ (t : List ℕ). t ++ rest) more.parts ∙ append_assoc more.ahead more.behind rest in
-    record {
-      value = more.value;
-      ahead = more.ahead;
-      behind = more.behind;
-      parts = more.parts;
-      first = Due.turn form (subst (λ (t : List ℕ). Due (Form.whole more.value) (more.behind ++ rest) (form (next t)) more.ahead) stands more.first);
-      second = more.second;
-    }
-followed_walked b rest (Form.refuse rule) later front d = absurd (inverted b refl d)
 
 here_behind : (memories : List Memory) (lines : List Line) (n w : ℕ) → Behind memories lines n → 1 ≤ w → w ≤ 128 → Here memories lines n w
 here_behind memories lines n w at some small = record { few = at.few; room = at.room; few_memories = at.few_memories; small = at.small; some_bit = some; bits = small }
@@ -129,7 +76,7 @@ pub record WireMeaning (ports : List PortLine) (memories : List Memory) (lines :
   pub spelled : front ≡ wire_line ports n line.width line.equation
   pub wire : IsWire ports memories lines n line
 
-wire_walked : (ports : List PortLine) (memories : List Memory) (lines : List Line) (n : ℕ) (line : Line) (rest front : List ℕ) → Behind memories lines n → Walked line rest (wire_form memories lines n) front
+pub wire_walked : (ports : List PortLine) (memories : List Memory) (lines : List Line) (n : ℕ) (line : Line) (rest front : List ℕ) → Behind memories lines n → Walked line rest (wire_form memories lines n) front
     → WireMeaning ports memories lines n line front
 wire_walked ports memories lines n line rest front at d =
     let begun = fixed_walked line rest (codes "  wire [") _ front d in

@@ -16,12 +16,14 @@ next [] = None
 next (b ∷ bs) = Some b
 
 -- What has to stand in a text, up to a value that is then known: one byte, or a hole, of which a test names the rule that it breaks,
--- if any. The next byte may turn the form one way or another. A place may be refused for what stands before it.
+-- if any. The next byte may turn the form one way or another, and so may the text ahead, which tells the kind of a line.
+-- A place may be refused for what stands before it.
 pub data Form (A : Type 0) : Type 0 where
   whole : A → Form A
   byte : ℕ → Form A → Form A
   hole : (List ℕ → Option Rule) → (List ℕ → Form A) → Form A
   turn : (Option ℕ → Form A) → Form A
+  ahead : (List ℕ → Form A) → Form A
   refuse : Rule → Form A
 
 -- the bytes, and then the form
@@ -46,6 +48,7 @@ pub data Due {A : Type 0} (due : Form A) (rest : List ℕ) : Form A → List ℕ
   hole : {front : List ℕ} (test : List ℕ → Option Rule) (form : List ℕ → Form A) (run : List ℕ) → IsHole run (front ++ rest) → test run ≡ None → Due due rest (form run) front
       → Due due rest (Form.hole test form) (run ++ front)
   turn : {front : List ℕ} (form : Option ℕ → Form A) → Due due rest (form (next (front ++ rest))) front → Due due rest (Form.turn form) front
+  ahead : {front : List ℕ} (form : List ℕ → Form A) → Due due rest (form (front ++ rest)) front → Due due rest (Form.ahead form) front
 
 -- a text whose first part doesn't fit, and the rule that it breaks
 pub data Misfits {A : Type 0} (text : List ℕ) : Form A → Rule → Type 0 where
@@ -83,4 +86,5 @@ followed (Form.whole a) later = later a
 followed (Form.byte b form) later = Form.byte b (followed form later)
 followed (Form.hole test form) later = Form.hole test (λ run. followed (form run) later)
 followed (Form.turn form) later = Form.turn (λ b. followed (form b) later)
+followed (Form.ahead form) later = Form.ahead (λ text. followed (form text) later)
 followed (Form.refuse rule) later = Form.refuse rule

@@ -4,4 +4,8 @@ pub mod RightSides
 pub mod WireLines
 pub mod RegisterLines
 pub mod MemoryLines
+pub mod Headers
+pub mod InputLines
+pub mod ClockedLines
+pub mod WholeTexts
 pub mod Worked

@@ -5,7 +5,9 @@ mod laws;
 mod rule;
 
 pub use laws::{
-    forms_judge, memory_lines, no_two_modules, read_right_sides, refused_memory_lines,
-    refused_right_sides, refused_wire_lines, register_lines, right_sides, wire_lines,
+    assign_lines, clocked_lines, forms_judge, full_modules, header, input_lines, memory_lines,
+    no_two_modules, port_lines, read_right_sides, read_texts, reads_whole_texts,
+    refused_memory_lines, refused_right_sides, refused_texts, refused_wire_lines, register_lines,
+    right_sides, texts_judge, too_many_nets, wire_lines, write_lines,
 };
 pub use rule::Rule;

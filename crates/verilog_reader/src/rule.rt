@@ -3,11 +3,13 @@
 ghost use Rattle.std.specs.Prelude.{◌≡◌};
 ghost use Rattle.verilog_reader.specs.Rules.{number_of};
 
-/// What a text breaks, as far as the lines of memories, wires and registers go.
+/// What a text breaks, or that it has no room for a net.
 #[derive(Clone, Copy, Debug, PartialEq, Eq)]
 pub enum Rule {
     /// A byte of a fixed part that differs, or the end of the text in its place.
     OtherByte,
+    /// A malformed or repeated name, or another port than the next.
+    Name,
     /// A width that isn't as the line asks.
     Width,
     /// A number or a constant that isn't spelled as it has to be, or a net or memory that isn't the next.
@@ -18,20 +20,30 @@ pub enum Rule {
     Bounds,
     /// A number of words that isn't a power of 2, from 2 to 1,024.
     Depth,
+    /// A clocked line that isn't the next register's or memory's.
+    Order,
+    /// A byte after the last line feed.
+    AfterEnd,
+    /// The line of a net behind 2^20 nets.
+    TooManyNets,
 }
 
 impl Rule {
-    /// The number of the rule: 1, or 3 to 7. The others are of other parts of a text.
-    pub fn number(self) -> u8
+    /// The number of the rule; none where there is no room for a net.
+    pub fn number(self) -> Option<u8>
         ensures { result ≡ number_of self }
     {
         match self {
-            Rule::OtherByte => 1,
-            Rule::Width => 3,
-            Rule::Spelling => 4,
-            Rule::NotThere => 5,
-            Rule::Bounds => 6,
-            Rule::Depth => 7,
+            Rule::OtherByte => Some(1),
+            Rule::Name => Some(2),
+            Rule::Width => Some(3),
+            Rule::Spelling => Some(4),
+            Rule::NotThere => Some(5),
+            Rule::Bounds => Some(6),
+            Rule::Depth => Some(7),
+            Rule::Order => Some(8),
+            Rule::AfterEnd => Some(9),
+            Rule::TooManyNets => None,
         }
     }
 }

@@ -24,3 +24,15 @@ returns-clause-of_lines c = judged
 
 pub returns-clause-of_memories : goal.returns-clause-of_memories
 returns-clause-of_memories c = judged
+
+pub returns-clause-of_ports : goal.returns-clause-of_ports
+returns-clause-of_ports c = judged
+
+pub returns-clause-of_writes : goal.returns-clause-of_writes
+returns-clause-of_writes c = judged
+
+pub returns-clause-of_outputs : goal.returns-clause-of_outputs
+returns-clause-of_outputs c = judged
+
+pub returns-clause-of_texts : goal.returns-clause-of_texts
+returns-clause-of_texts c = judged
