@@ -574,7 +574,7 @@ impl Builder {
             drivers,
             memories,
         } = self;
-        Module::new(name, ports, lines, drivers, memories)
+        Module::of_parts(name, ports, lines, drivers, memories)
     }
 
     /// What a builder keeps.

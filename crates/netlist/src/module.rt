@@ -38,7 +38,8 @@ impl Model for Module {
 }
 
 impl Module {
-    pub(crate) fn new(
+    /// A module of its parts, which are to make one: nets first inputs in port order, each equation of earlier nets or registers.
+    pub fn of_parts(
         name: Text,
         ports: List<PortLine>,
         lines: Vec<Line>,
