@@ -19,4 +19,6 @@ shorter_awake window stream run b c h s =
       delivers = λ start k. s.delivers start (omega arith);
       accepts = λ start k. s.accepts start (omega arith);
       takes_in = λ start k. s.takes_in start (omega arith);
+      shows = λ direct start k. s.shows direct start (omega arith);
+      frees = λ direct start k. s.frees direct start (omega arith);
     }

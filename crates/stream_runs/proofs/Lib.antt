@@ -4,3 +4,4 @@ pub mod Computed
 pub mod StandingStill
 pub mod ErrorLemmas
 pub mod SameBeginnings
+pub mod WaitingSinks

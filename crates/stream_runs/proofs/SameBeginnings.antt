@@ -169,6 +169,14 @@ same_awake window stream one two count same h =
       takes_in = λ start le room. (
           let found = h.takes_in start le (λ c from to. subst (λ (xs : List Symbol). beats_begun stream.sink.symbols xs + stream.source.symbols ≤ stream.fifo_depth) (sym (way c (omega arith))) (room c from to)) in
           (found.0, found.1, found.2, accepted found.0 (omega arith) found.3));
+      shows = λ direct start le beats. (
+          let found = h.shows direct start le (λ c from to. subst (λ (xs : List Symbol). IsTrue (makes_beat stream.sink.symbols xs)) (sym (way c (omega arith))) (beats c from to)) in
+          (found.0, found.1, found.2, subst IsTrue (high_valid one.sink two.sink count same.sink found.0 (omega arith)) found.3));
+      frees = λ direct start le sent quiet. (
+          let found = h.frees direct start le
+          (λ c from to. subst IsTrue (sym (high_valid one.source two.source count same.source c (omega arith))) (sent c from to))
+          (λ c from to. subst IsFalse (sym (high_valid one.sink two.sink count same.sink c (omega arith))) (quiet c from to)) in
+          (found.0, found.1, found.2, subst IsTrue (same_transfer one.source two.source count same.source stream.source.pace found.0 (omega arith)) found.3));
     }
   where
     way : (c : ℕ) → c ≤ count → on_the_way stream one c ≡ on_the_way stream two c

@@ -132,6 +132,8 @@ module _ (source sink : Declared) (from to : Signals) (dropped : ℕ → ℕ) (c
         delivers = λ start h ready work. absurd (no_beat (nothing_on_the_way (side_of source) (side_of sink) (view_of from) count reads positive reach legal start (omega arith)) (work start (omega arith) (omega arith)));
         accepts = λ start h ready. (start, omega arith, omega arith, at_once start (ready start (omega arith) (omega arith)));
         takes_in = λ start h room. absurd (omega (arith, positive, room start (omega arith) (omega arith)));
+        shows = λ _ start h work. absurd (no_beat (nothing_on_the_way (side_of source) (side_of sink) (view_of from) count reads positive reach legal start (omega arith)) (work start (omega arith) (omega arith)));
+        frees = λ _ start h sent quiet. absurd (both_ways _ (quiet start (omega arith) (omega arith)) (sent start (omega arith) (omega arith)));
       })
     where
       at_once : (c : ℕ) → IsTrue (is_ready_cycle (side_of sink).pace (view_of from) c) → IsTrue (is_high (view_of from).ready c)

@@ -1,9 +1,9 @@
 -- How long a stream may stand still.
-use Rattle.std.specs.Prelude.{ℕ, ◌+◌, ◌-◌, ◌*◌, ◌<◌, ◌≤◌, Bool, ◌||◌, ◌==◌, nat_le, if◌then◌else◌, IsTrue, List, [], ◌∷◌, length, drop}
+use Rattle.std.specs.Prelude.{ℕ, ◌+◌, ◌-◌, ◌*◌, ◌<◌, ◌≤◌, ◌≡◌, Bool, ◌||◌, ◌==◌, nat_le, if◌then◌else◌, IsTrue, IsFalse, List, [], ◌∷◌, length, drop}
 use Rattle.std.specs.List.{list_any}
 use Rattle.stream_runs.specs.View.{EndView, Side, is_high, is_ready_cycle, is_transfer}
 use Rattle.stream_runs.specs.Symbols.{Symbol, delivered_symbols, kept_symbols}
-use Rattle.stream_runs.specs.Delivery.{reaches, Stream, StreamRun, larger_allowance, stream_lag}
+use Rattle.stream_runs.specs.Delivery.{reaches, Stream, StreamRun, IsServed, larger_allowance, stream_lag}
 
 -- the fact holds in each cycle of the window
 abbrev pub Throughout : ℕ → ℕ → (ℕ → Type 0) → Type 0
@@ -56,3 +56,24 @@ pub record NeverIdles (window : ℕ) (stream : Stream) (run : StreamRun) (count 
   pub takes_in : (start : ℕ) → start + window ≤ count
       → Throughout start window (λ c. beats_begun stream.sink.symbols (on_the_way stream run c) + stream.source.symbols ≤ stream.fifo_depth)
       → Sometime start window (λ c. IsTrue (is_high run.source.ready c))
+  -- whatever the sink does, where a beat is there throughout one is shown, at ready latency 0
+  pub shows : stream.sink.pace.latency ≡ 0 → (start : ℕ) → start + window ≤ count
+      → Throughout start window (λ c. IsTrue (makes_beat stream.sink.symbols (on_the_way stream run c)))
+      → Sometime start window (λ c. IsTrue (is_high run.sink.valid c))
+  -- and where the source shows beats throughout and none is shown to the sink, one is accepted
+  pub frees : stream.sink.pace.latency ≡ 0 → (start : ℕ) → start + window ≤ count
+      → Throughout start window (λ c. IsTrue (is_high run.source.valid c))
+      → Throughout start window (λ c. IsFalse (is_high run.sink.valid c))
+      → Sometime start window (λ c. IsTrue (is_transfer stream.source.pace run.source c))
+
+-- a stream that is served and never idles
+pub record IsServedAwake (stream : Stream) (run : StreamRun) (count : ℕ) : Type 0 where
+  pub served : IsServed stream run count
+  pub awake : NeverIdles (stream_window stream) stream run count
+
+-- in each stretch of so many cycles that ends by the cycle, a sink to which a beat is shown throughout shows ready
+abbrev pub AnswersWithin : ℕ → EndView → ℕ → Type 0
+AnswersWithin patience view count =
+    (start : ℕ) → start + patience ≤ count
+    → Throughout start patience (λ c. IsTrue (is_high view.valid c))
+    → Sometime start patience (λ c. IsTrue (is_high view.ready c))

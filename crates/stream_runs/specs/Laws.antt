@@ -1,12 +1,12 @@
 -- Laws of what passes an end. No contract reads a proof of theirs; the crates above cite them.
 use Rattle.std.specs.Prelude.{ℕ, zero, suc, ◌+◌, ◌-◌, ◌≤◌, ◌<◌, ◌≡◌, Bool, true, false, ◌&&◌, ◌||◌, IsTrue, if◌then◌else◌, nat_lt, List, [], ◌∷◌, ◌++◌, map, filter, fold, length, bit_or}
-use Rattle.std.proofs.Common.{refl, ap, ◌∙◌, subst, append-nil}
+use Rattle.std.proofs.Common.{refl, ap, ◌∙◌, subst, append-nil, ◌⊎◌, inl, inr, arith}
 use Rattle.std.specs.List.{range_with_len}
 use Rattle.std.specs.Int.Bits.{or_self, or_zero_l}
 use Rattle.std.proofs.lemmas.List.{length-map}
 use Rattle.std.proofs.lemmas.List.Elements.{filter-append}
 use Rattle.std.proofs.lemmas.List.FromFn.{length-map-range_with_len}
-use Rattle.std.proofs.lemmas.Bool.{and_parts, cond-true, cond-false}
+use Rattle.std.proofs.lemmas.Bool.{and_parts, cond-true, cond-false, cases_Bool, cases_lt}
 use Rattle.std.proofs.Math.Nat.{le_trans, lt_of_lt_of_le, sub-pos_iff_lt, not-suc-le-zero}
 use Rattle.histories.specs.History.{IsPrefix}
 use Rattle.histories.specs.Laws.{prefix_filter, prefix_length, before_prefix}
@@ -14,6 +14,7 @@ use Rattle.stream_runs.specs.View.{EndView, Side, Beat, is_high, is_transfer}
 use Rattle.stream_runs.specs.Source.{IsLegalAt, IsLegalSource}
 use Rattle.stream_runs.specs.Symbols.{Symbol, without_error, symbol_in, symbol_count, symbols_of, shown_count, shown_symbol, shown_symbols, symbols_in, transferred_symbols, kept_symbols, joined_error}
 use Rattle.stream_runs.specs.Delivery.{DeliversPrefix}
+use Rattle.stream_runs.specs.Awake.{Throughout, Sometime}
 
 -- ---- beginnings
 
@@ -104,3 +105,20 @@ pub legal_holds_data : (side : Side) (view : EndView) (count : ℕ) → 0 < side
     → (c : ℕ) → c < count → IsTrue (is_transfer side.pace view c) → 0 < shown_count side view c
 legal_holds_data side view count positive legal c h moves =
     shown_holds side view positive c (legal c h) (and_parts (is_high view.valid c) (nat_lt 0 side.pace.latency || is_high view.ready c) moves).0
+
+-- ---- windows
+
+-- a test holds in some cycle of a window, or in none
+pub some_or_none : (test : ℕ → Bool) (start k : ℕ) → Sometime start k (λ c. IsTrue (test c)) ⊎ Throughout start k (λ c. test c ≡ false)
+some_or_none test start zero = inr (λ c from to. absurd (omega arith))
+some_or_none test start (suc k) = step (some_or_none test start k) (cases_Bool (test (start + k)))
+  where
+    step : Sometime start k (λ c. IsTrue (test c)) ⊎ Throughout start k (λ c. test c ≡ false) → (test (start + k) ≡ true) ⊎ (test (start + k) ≡ false)
+        → Sometime start (suc k) (λ c. IsTrue (test c)) ⊎ Throughout start (suc k) (λ c. test c ≡ false)
+    step (inl (c, from, to, holds)) g = inl (c, from, omega arith, holds)
+    step (inr none) (inl holds) = inl (start + k, omega arith, omega arith, holds)
+    step (inr none) (inr fails) = inr (λ c from to. at_end c from to (cases_lt c (start + k)))
+      where
+        at_end : (c : ℕ) → start ≤ c → c < start + suc k → (c < start + k) ⊎ (start + k ≤ c) → test c ≡ false
+        at_end c from to (inl before) = none c from before
+        at_end c from to (inr here) = let same : start + k ≡ c = omega arith in subst (λ n. test n ≡ false) same fails

@@ -260,6 +260,14 @@ swallowed = record { source = showing always (Some (word 0x11) ∷ []); sink = s
 abbrev pub both_shut : StreamRun
 both_shut = record { source = showing never []; sink = showing never []; dropped = never }
 
+-- a module that shows its beat only where ready is high, before a sink that shows ready only where a beat is shown
+abbrev pub both_wait : StreamRun
+both_wait = record { source = showing always (Some (word 0x11) ∷ []); sink = showing never []; dropped = never }
+
+-- a source that shows a beat in each cycle, none of which is taken or shown to the sink
+abbrev pub kept_out : StreamRun
+kept_out = record { source = record (showing never []) { valid = always }; sink = showing never []; dropped = never }
+
 -- ---- a wire of byte packets: 11, 22 and 33, the sink's ready low in cycle 1
 
 abbrev pub byte_wire : Stream

@@ -1,5 +1,5 @@
 -- What an end of a stream shows, cycle by cycle, and when a beat of it transfers.
-use Rattle.std.specs.Prelude.{ℕ, ◌-◌, Bool, ◌&&◌, ◌||◌, ◌==◌, nat_le, nat_lt, ◌<◌, ◌≡◌, IsTrue}
+use Rattle.std.specs.Prelude.{ℕ, ◌-◌, Bool, not, ◌&&◌, ◌||◌, ◌==◌, nat_le, nat_lt, ◌<◌, ◌≡◌, IsTrue}
 
 -- the number on each port of an end in each cycle: `word` is data, `first` is startofpacket, `last` is endofpacket
 pub record EndView : Type 0 where
@@ -54,6 +54,10 @@ is_ready_cycle pace view c = nat_le pace.latency c && is_high view.ready (c - pa
 -- a beat transfers: it is shown, and at ready latency 0 ready is high
 abbrev pub is_transfer : Pace → EndView → ℕ → Bool
 is_transfer pace view c = is_high view.valid c && (nat_lt 0 pace.latency || is_high view.ready c)
+
+-- a beat is shown and doesn't transfer
+abbrev pub is_stalled : Pace → EndView → ℕ → Bool
+is_stalled pace view c = is_high view.valid c && not (is_transfer pace view c)
 
 -- ready is high in each cycle before this one
 abbrev pub IsReadyBefore : EndView → ℕ → Type 0

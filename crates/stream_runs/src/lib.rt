@@ -4,13 +4,13 @@
 pub mod beat;
 pub mod rows;
 
-ghost use Rattle.std.specs.Prelude.{ℕ, ◌≤◌, ◌<◌, ◌≡◌, Bool};
+ghost use Rattle.std.specs.Prelude.{ℕ, ◌+◌, ◌≤◌, ◌<◌, ◌≡◌, Bool, IsTrue};
 ghost use Rattle.histories.specs.History.{IsPrefix};
-ghost use Rattle.stream_runs.specs.View.{EndView, Side, AgreeBefore};
+ghost use Rattle.stream_runs.specs.View.{EndView, Side, is_transfer, AgreeBefore};
 ghost use Rattle.stream_runs.specs.Source.{IsLegalSource, IsProperAtSink};
 ghost use Rattle.stream_runs.specs.Symbols.{accepted_symbols, kept_symbols};
 ghost use Rattle.stream_runs.specs.Delivery.{DeliversPrefix, Stream, StreamRun, IsServed, RunsAgreeBefore};
-ghost use Rattle.stream_runs.specs.Awake.{NeverIdles, stream_window};
+ghost use Rattle.stream_runs.specs.Awake.{Throughout, Sometime, makes_beat, on_the_way, NeverIdles, AnswersWithin, stream_window};
 ghost use Rattle.stream_runs.specs.Ends.{Declared, Signals, side_of, view_of, stream_of, run_of, AreAlike, IsWire, byte_packets, packet_signals};
 
 /// A run of a stream is one up to each earlier cycle: what a source keeps to and what a stream is
@@ -48,6 +48,21 @@ pub fn same_beginnings()
     ensures awake { (window : ℕ) (stream : Stream) (one two : StreamRun) (count : ℕ)
         → RunsAgreeBefore one two count → NeverIdles window stream one count
         → NeverIdles window stream two count }
+{}
+
+/// A sink of ready latency 0 that waits for a beat before it shows ready is served: where it shows ready
+/// in each stretch of `patience` cycles in which a beat is shown to it throughout, it is given a beat in
+/// each window of `window + patience` cycles in which one is there throughout.
+pub fn waiting_sinks_are_served()
+    ensures { (window patience : ℕ) (stream : Stream) (run : StreamRun) (count : ℕ)
+        → NeverIdles window stream run count → IsProperAtSink stream.sink run.sink count
+        → stream.sink.pace.latency ≡ 0
+        → AnswersWithin patience run.sink count
+        → (start : ℕ) → start + (window + patience) ≤ count
+        → Throughout start (window + patience)
+        (λ c. IsTrue (makes_beat stream.sink.symbols (on_the_way stream run c)))
+        → Sometime start (window + patience)
+        (λ c. IsTrue (is_transfer stream.sink.pace run.sink c)) }
 {}
 
 /// A wire between two ends that agree serves its stream, and never idles, as long as its source is

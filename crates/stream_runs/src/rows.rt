@@ -5,7 +5,7 @@ ghost use Rattle.stream_runs.specs.Source.{IsLegalSource, IsProperAtSink};
 ghost use Rattle.stream_runs.specs.Symbols.{transferred_symbols};
 ghost use Rattle.stream_runs.specs.Delivery.{LagsWithin, ShowsDropped, IsServed, reaches};
 ghost use Rattle.stream_runs.specs.Awake.{NeverIdles, beats_begun};
-ghost use Rattle.stream_runs.specs.Rows.{IsDelivered, never, signal_of, word, on_channel, with_error, opens, closes, later, packet_side, byte_side, pair_side, three_source, four_sink, three_to_four, three_to_four_run, swapped_sink, late_mark_sink, lost_beat_sink, hasty_sink, short_source, four_to_one, four_to_one_run, single_sink, padded_sink, hollow_sink, one_word, high_to_low, high_to_low_run, channel_source, fewer_channels, channel_run, filtered_sink, cut_sink, cut_sink_so_far, late_source, late_to_direct, late_run, stalled_sink, losing_sink, doubling_sink, changing_sink, withdrawing_sink, bold_side, bold_source, channel_packets, two_beats, two_packets, plain_stream, shut_out, swallowed, both_shut, byte_wire, packet, swapped_packet, hurried_packet, overrun_packet};
+ghost use Rattle.stream_runs.specs.Rows.{IsDelivered, never, signal_of, word, on_channel, with_error, opens, closes, later, packet_side, byte_side, pair_side, three_source, four_sink, three_to_four, three_to_four_run, swapped_sink, late_mark_sink, lost_beat_sink, hasty_sink, short_source, four_to_one, four_to_one_run, single_sink, padded_sink, hollow_sink, one_word, high_to_low, high_to_low_run, channel_source, fewer_channels, channel_run, filtered_sink, cut_sink, cut_sink_so_far, late_source, late_to_direct, late_run, stalled_sink, losing_sink, doubling_sink, changing_sink, withdrawing_sink, bold_side, bold_source, channel_packets, two_beats, two_packets, plain_stream, shut_out, swallowed, both_shut, both_wait, kept_out, byte_wire, packet, swapped_packet, hurried_packet, overrun_packet};
 ghost use Rattle.stream_runs.specs.Ends.{side_of, view_of, run_of, byte_packets};
 
 /// A wire of byte packets, and wires with a fault.
@@ -111,8 +111,9 @@ pub fn illegal_sources()
         (two_beats 1 (opens (word 1)) (word 2)) 2 }
 {}
 
-/// How many beats symbols fill or begin, that a stream whose source sees no ready idles, and that one
-/// which swallows a beat does, at any lag and any window.
+/// How many beats symbols fill or begin. A stream whose source sees no ready idles, and so does one that
+/// swallows a beat, that waits for a sink that waits for it, or that takes no beat in while it shows
+/// none, at any lag and any window.
 pub fn standing_still()
     ensures one_packet { beats_begun 4 (transferred_symbols (packet_side 3) three_source 3) ≡ 2 }
     ensures two_packets { beats_begun 4 (transferred_symbols (packet_side 1) two_packets 5) ≡ 2 }
@@ -122,6 +123,10 @@ pub fn standing_still()
         → ¬ NeverIdles window (plain_stream fifo_depth) swallowed (1 + window) }
     ensures both_shut { (window fifo_depth : ℕ) → 0 < window → 0 < fifo_depth
         → ¬ NeverIdles window (plain_stream fifo_depth) both_shut window }
+    ensures both_wait { (window fifo_depth : ℕ) → 0 < window
+        → ¬ NeverIdles window (plain_stream fifo_depth) both_wait (1 + window) }
+    ensures kept_out { (window fifo_depth : ℕ) → 0 < window
+        → ¬ NeverIdles window (plain_stream fifo_depth) kept_out window }
     ensures lag { ¬ LagsWithin 0 (reaches (byte_side (later 0) 0)) (byte_side (later 0) 0)
         (byte_side (later 0) 0) swallowed.source swallowed.sink 1 }
 {}
