@@ -1,16 +1,16 @@
 -- A rank keeps a stage awake.
-use Rattle.std.proofs.Common.{◌≡◌, ◌⊎◌, ℕ, zero, suc, ◌+◌, ◌-◌, ◌*◌, ◌≤◌, ◌<◌, Bool, true, false, not, IsTrue, ◌||◌, ◌&&◌, List, [], ◌++◌, filter, length, refl, ap, sym, ◌∙◌, subst, inl, inr, arith, length-append, length-drop, nat_lt, nat_le}
+use Rattle.std.proofs.Common.{◌≡◌, ◌⊎◌, ℕ, zero, suc, ◌+◌, ◌-◌, ◌*◌, ◌≤◌, ◌<◌, Bool, true, false, not, IsTrue, IsFalse, ◌||◌, ◌&&◌, List, [], ◌++◌, filter, length, refl, ap, sym, ◌∙◌, subst, inl, inr, arith, length-append, length-drop, nat_lt, nat_le}
 use Rattle.std.specs.List.{list_any}
 use Rattle.std.proofs.lemmas.List.{append-nil}
-use Rattle.std.proofs.lemmas.Bool.{cases_Bool, cases_lt, and_parts, and_left, and_right, or_cases, leb-true, lt-leb, both_ways, cond-false}
+use Rattle.std.proofs.lemmas.Bool.{cases_Bool, and_parts, and_from, and_left, and_right, or_cases, leb-true, lt-leb, both_ways, cond-false}
 use Rattle.std.proofs.Math.Nat.{mul-le-mul_left}
-use Rattle.stream_runs.specs.Laws.{shorter_delivery, length_in, length_in_order}
+use Rattle.stream_runs.specs.Laws.{shorter_delivery, length_in, length_in_order, some_or_none}
 use Rattle.stream_runs.specs.View.{EndView, Side, is_high, is_transfer, is_ready_cycle}
 use Rattle.stream_runs.specs.Symbols.{transferred_symbols, symbols_in, shown_symbols, kept_symbols, Symbol}
 use Rattle.stream_runs.specs.Source.{IsLegalSource}
 use Rattle.stream_machines.specs.ReadyCycles.{strict_shows}
 use Rattle.stream_runs.specs.Awake.{Throughout, Sometime, makes_beat, undelivered}
-use Rattle.stream_machines.specs.Stage.{Shape, StageRun, inside, is_at_rest, gives, StageLaw}
+use Rattle.stream_machines.specs.Stage.{Shape, StageRun, inside, is_drained, is_at_rest, gives, StageLaw}
 
 -- the law up to a cycle is the law up to each earlier one
 pub shorter_law : (shape : Shape) (run : StageRun) (b c : ℕ) → b ≤ c → StageLaw shape run c → StageLaw shape run b
@@ -21,31 +21,32 @@ shorter_law shape run b c h law =
       rank = λ d k. law.rank d (omega arith);
     }
 
--- a stage that has a beat to give is not at rest
-has_work : (shape : Shape) (run : StageRun) (c : ℕ) → shape.rest < shape.down.symbols → makes_beat shape.down.symbols (inside shape run c) ≡ true → is_at_rest shape run c ≡ false
-has_work shape run c small work = and_right _ _ (by_kind (or_cases _ _ work))
+-- a stage that has a beat to give is not drained
+undrained : (shape : Shape) (run : StageRun) (c : ℕ) → shape.rest < shape.down.symbols → makes_beat shape.down.symbols (inside shape run c) ≡ true → is_drained shape run c ≡ false
+undrained shape run c small work = by_kind (or_cases _ _ work)
   where
     by_kind : (nat_le shape.down.symbols (length (inside shape run c)) ≡ true) ⊎ (list_any (λ (symbol : Symbol). symbol.last) (inside shape run c) ≡ true)
         → (nat_le (length (inside shape run c)) shape.rest && not (list_any (λ (symbol : Symbol). symbol.last) (inside shape run c))) ≡ false
     by_kind (inl many) = and_left _ _ (lt-leb (length (inside shape run c)) shape.rest (omega (arith, leb-true shape.down.symbols (length (inside shape run c)) many)))
     by_kind (inr marked) = and_right _ _ (ap not marked)
 
-module _ (shape : Shape) (run : StageRun) (count : ℕ) (law : StageLaw shape run count) (start : ℕ)
-    (restless : (c : ℕ) → start ≤ c → c < count → is_at_rest shape run c ≡ false) (ready : (c : ℕ) → start ≤ c → c < count → is_ready_cycle shape.down.pace run.down c ≡ true) where
-  -- a beat goes out, or the rank has fallen in each cycle
-  gives_or_falls : (k : ℕ) → start + k ≤ count → Sometime start k (λ c. IsTrue (is_transfer shape.down.pace run.down c)) ⊎ (run.rank (start + k) + k ≤ run.rank start)
-  gives_or_falls zero h = inr (let same : start + 0 ≡ start = omega arith in rw same (omega arith))
-  gives_or_falls (suc k) h = step (gives_or_falls k (omega arith)) (cases_Bool (is_transfer shape.down.pace run.down (start + k)))
-    where
-      step : Sometime start k (λ c. IsTrue (is_transfer shape.down.pace run.down c)) ⊎ (run.rank (start + k) + k ≤ run.rank start)
-          → (is_transfer shape.down.pace run.down (start + k) ≡ true) ⊎ (is_transfer shape.down.pace run.down (start + k) ≡ false)
-          → Sometime start (suc k) (λ c. IsTrue (is_transfer shape.down.pace run.down c)) ⊎ (run.rank (start + suc k) + suc k ≤ run.rank start)
-      step (inl (c, from, to, given)) g = inl (c, from, omega arith, given)
-      step (inr fallen) (inl given) = inl (start + k, omega arith, omega arith, given)
-      step (inr fallen) (inr quiet) =
-          let falls : run.rank (suc (start + k)) < run.rank (start + k) = (law.rank (start + k) (omega arith)).falls quiet (ready (start + k) (omega arith) (omega arith)) (restless (start + k) (omega arith) (omega arith)) in
-          let next : start + suc k ≡ suc (start + k) = omega arith in
-          inr (rw next (omega arith))
+-- where a rank falls in each cycle of a window in which a test fails, the test holds in some cycle of a longer one
+pub rank_ends : (rank : ℕ → ℕ) (test : ℕ → Bool) (start width : ℕ) → rank start < width
+    → ((c : ℕ) → start ≤ c → c < start + width → test c ≡ false → rank (suc c) < rank c)
+    → Sometime start width (λ c. IsTrue (test c))
+rank_ends rank test start width long falls = found (some_or_none test start width)
+  where
+    fallen : Throughout start width (λ c. test c ≡ false) → (k : ℕ) → k ≤ width → rank (start + k) + k ≤ rank start
+    fallen none zero h = let same : start ≡ start + 0 = omega arith in subst (λ n. rank n + 0 ≤ rank start) same (omega arith)
+    fallen none (suc k) h =
+        let earlier = fallen none k (omega arith) in
+        let now = falls (start + k) (omega arith) (omega arith) (none (start + k) (omega arith) (omega arith)) in
+        let next : suc (start + k) ≡ start + suc k = omega arith in
+        subst (λ n. rank n + suc k ≤ rank start) next (omega (arith, earlier, now))
+
+    found : Sometime start width (λ c. IsTrue (test c)) ⊎ Throughout start width (λ c. test c ≡ false) → Sometime start width (λ c. IsTrue (test c))
+    found (inl held) = held
+    found (inr none) = absurd (omega (arith, long, fallen none width (omega arith)))
 
 -- in a window of ready cycles that is longer than the largest rank, a stage that has a beat to give throughout gives one
 pub stage_delivers : (shape : Shape) (run : StageRun) (count : ℕ) → StageLaw shape run count → shape.rest < shape.down.symbols
@@ -53,11 +54,28 @@ pub stage_delivers : (shape : Shape) (run : StageRun) (count : ℕ) → StageLaw
     → Throughout start width (λ c. IsTrue (is_ready_cycle shape.down.pace run.down c))
     → Throughout start width (λ c. IsTrue (makes_beat shape.down.symbols (undelivered shape.passes shape.up shape.down run.up run.down c)))
     → Sometime start width (λ c. IsTrue (is_transfer shape.down.pace run.down c))
-stage_delivers shape run count law small start width h long ready work = found (gives_or_falls shape run (start + width) (shorter_law shape run (start + width) count h law) start (λ c from to. has_work shape run c small (work c from to)) ready width (omega arith))
-  where
-    found : Sometime start width (λ c. IsTrue (is_transfer shape.down.pace run.down c)) ⊎ (run.rank (start + width) + width ≤ run.rank start) → Sometime start width (λ c. IsTrue (is_transfer shape.down.pace run.down c))
-    found (inl given) = given
-    found (inr fallen) = absurd (omega (arith, (law.rank start (omega arith)).bounded))
+stage_delivers shape run count law small start width h long ready work =
+    rank_ends run.rank (is_transfer shape.down.pace run.down) start width (omega (arith, long, (law.rank start (omega arith)).bounded))
+    (λ c from to quiet. (law.rank c (omega arith)).falls quiet (ready c from to) (and_right _ _ (undrained shape run c small (work c from to))))
+
+-- and in one of any cycles, at ready latency 0, it shows one
+pub stage_shows : (shape : Shape) (run : StageRun) (count : ℕ) → StageLaw shape run count → shape.rest < shape.down.symbols → shape.down.pace.latency ≡ 0
+    → (start width : ℕ) → start + width ≤ count → shape.largest < width
+    → Throughout start width (λ c. IsTrue (makes_beat shape.down.symbols (undelivered shape.passes shape.up shape.down run.up run.down c)))
+    → Sometime start width (λ c. IsTrue (is_high run.down.valid c))
+stage_shows shape run count law small direct start width h long work =
+    rank_ends run.rank (is_high run.down.valid) start width (omega (arith, long, (law.rank start (omega arith)).bounded))
+    (λ c from to low. (law.rank c (omega arith)).advances direct low (and_right _ _ (undrained shape run c small (work c from to))))
+
+-- one that shows none, and before which a beat waits, takes one in
+pub stage_frees : (shape : Shape) (run : StageRun) (count : ℕ) → StageLaw shape run count → shape.down.pace.latency ≡ 0
+    → (start width : ℕ) → start + width ≤ count → shape.largest < width
+    → Throughout start width (λ c. IsTrue (is_high run.up.valid c))
+    → Throughout start width (λ c. IsFalse (is_high run.down.valid c))
+    → Sometime start width (λ c. IsTrue (is_transfer shape.up.pace run.up c))
+stage_frees shape run count law direct start width h long sent quiet =
+    rank_ends run.rank (is_transfer shape.up.pace run.up) start width (omega (arith, long, (law.rank start (omega arith)).bounded))
+    (λ c from to kept. (law.rank c (omega arith)).advances direct (quiet c from to) (and_left _ _ (ap not (and_from _ _ (sent c from to) (ap not kept)))))
 
 -- what a stage that shows no ready can still do: its rank, and what it holds
 abbrev pub work_left : Shape → StageRun → ℕ → ℕ
@@ -109,21 +127,6 @@ module _ (shape : Shape) (run : StageRun) (count : ℕ) (law : StageLaw shape ru
       let falls = less_left (start + k) (omega arith) (shut (start + k) (omega arith) (omega arith)) (still (start + k) (omega arith) (omega arith)) (ready (start + k) (omega arith) (omega arith)) in
       subst (λ n. work_left shape run n + suc k ≤ work_left shape run start) next (omega (arith, falls, earlier))
 
--- a signal is high in some cycle of a window, or in none
-some_or_none : (signal : ℕ → ℕ) (start k : ℕ) → Sometime start k (λ c. IsTrue (is_high signal c)) ⊎ Throughout start k (λ c. is_high signal c ≡ false)
-some_or_none signal start zero = inr (λ c from to. absurd (omega arith))
-some_or_none signal start (suc k) = step (some_or_none signal start k) (cases_Bool (is_high signal (start + k)))
-  where
-    step : Sometime start k (λ c. IsTrue (is_high signal c)) ⊎ Throughout start k (λ c. is_high signal c ≡ false) → (is_high signal (start + k) ≡ true) ⊎ (is_high signal (start + k) ≡ false)
-        → Sometime start (suc k) (λ c. IsTrue (is_high signal c)) ⊎ Throughout start (suc k) (λ c. is_high signal c ≡ false)
-    step (inl (c, from, to, high)) g = inl (c, from, omega arith, high)
-    step (inr none) (inl high) = inl (start + k, omega arith, omega arith, high)
-    step (inr none) (inr low) = inr (λ c from to. at_end c from to (cases_lt c (start + k)))
-      where
-        at_end : (c : ℕ) → start ≤ c → c < start + suc k → (c < start + k) ⊎ (start + k ≤ c) → is_high signal c ≡ false
-        at_end c from to (inl before) = none c from before
-        at_end c from to (inr here) = let same : start + k ≡ c = omega arith in subst (λ n. is_high signal n ≡ false) same low
-
 -- once no ready was shown for the latency, a legal source sends nothing
 sends_nothing : (side : Side) (view : EndView) (count start : ℕ) → IsLegalSource side view count → side.pace.allowance ≡ side.pace.latency
     → (c : ℕ) → start + side.pace.latency ≤ c → c < count → ((b : ℕ) → start ≤ b → b ≤ c → is_high view.ready b ≡ false) → is_transfer side.pace view c ≡ false
@@ -145,7 +148,7 @@ pub stage_accepts : (shape : Shape) (run : StageRun) (count : ℕ) → StageLaw 
     → (start width : ℕ) → start + width ≤ count → shape.up.pace.latency + shape.largest + (shape.step + 1) * shape.hold < width
     → Throughout start width (λ c. IsTrue (is_ready_cycle shape.down.pace run.down c))
     → Sometime start width (λ c. IsTrue (is_high run.up.ready c))
-stage_accepts shape run count law legal strict start width h long ready = found (some_or_none run.up.ready start width)
+stage_accepts shape run count law legal strict start width h long ready = found (some_or_none (is_high run.up.ready) start width)
   where
     later : ℕ
     later = start + shape.up.pace.latency

@@ -6,18 +6,18 @@ use Rattle.std.proofs.lemmas.List.{append-nil}
 use Rattle.std.proofs.lemmas.List.Concat.{flat_map-append}
 use Rattle.std.proofs.lemmas.Bool.{cases_Bool, cases_lt, or_cases, eq-eqb, and_parts, and_from, and_left, and_right, or_left, or_right, cond-true, cond-false, eqb-true, both_ways, lt-ltb, le-ltb, leb-true, ltb-true, ne_eqb}
 use Rattle.stream_runs.specs.Laws.{shown_holds, joined_error_of_beat}
-use Rattle.stream_runs.specs.View.{Pace, EndView, Side, Beat, beat_at, is_high, is_transfer, is_ready_cycle}
+use Rattle.stream_runs.specs.View.{Pace, EndView, Side, Beat, beat_at, is_high, is_transfer, is_stalled, is_ready_cycle}
 use Rattle.stream_runs.specs.Symbols.{Symbol, without_error, symbols_of, symbol_count, shown_symbols}
 use Rattle.stream_runs.specs.Source.{IsLegalSource, IsLegalAt, IsHeld, ShowsSame, was_ready, beats_since_ready, is_allowed_late}
 use Rattle.stream_runs.specs.Awake.{beats_begun}
-use Rattle.stream_machines.specs.Stage.{KeepsStageLaw, PassesReady, inside, is_at_rest, ready_cycles}
+use Rattle.stream_machines.specs.Stage.{KeepsStageLaw, PassesReady, inside, is_at_rest, is_idle, ready_cycles}
 use Rattle.stream_machines.specs.Flow.{IsFlow, PassesOn, ShowsNext, kept_in, kept_shown}
 use Rattle.stream_machines.specs.Parts.{plain_run}
 use Rattle.stream_machines.specs.Buffers.{zero_pace, ShowsHeld, taken_now, HoldsBeats, buffer_shape, IsBufferRun, IsAllowanceRun, IsRegisterRun, IsQueueRun}
 use Rattle.stream_machines.specs.ReadyCycles.{one_if, ready_cycles_le, room}
 use Rattle.stream_machines.proofs.FlowLaw.{no_rank, balance_of, inside_of}
 use Rattle.stream_machines.proofs.FlowKeeps.{flow_keeps}
-use Rattle.stream_machines.proofs.Direct.{direct_transfer, direct_ready, rests_with, kept_in_all, kept_shown_all}
+use Rattle.stream_machines.proofs.Direct.{direct_transfer, direct_ready, rests_with, idle_with, none_waits, ready_frees, kept_in_all, kept_shown_all}
 use Rattle.stream_machines.proofs.BeatCounts.{AllHold, hold-append, hold-drop, length_of_beats, beats_begun-all}
 
 -- it holds at most one more for a beat that comes in
@@ -36,11 +36,12 @@ held_grows through side up down held run c legal = by_transfer (is_transfer zero
     by_transfer true e = omega (arith, ap length e, length-drop 1 (held c ++ taken_now side up c), length-append (held c) (taken_now side up c), taken_is)
     by_transfer false e = omega (arith, ap length e, length-append (held c) (taken_now side up c), taken_is)
 
--- what a machine that holds beats needs besides: it never holds more than its places, a beat that passes through is taken in, and it shows ready where it is idle
+-- what a machine that holds beats needs besides: it never holds more than its places, a beat that passes through is taken in, it shows ready where it is idle, and no beat waits where it shows none
 pub record Behaves (through : Bool) (places : ℕ) (side : Side) (up down : EndView) (held : ℕ → List Beat) : Type 0 where
   pub few : (c : ℕ) → IsLegalSource side up c → length (held c) ≤ places
   pub takes : (c : ℕ) → IsLegalSource side up (suc c) → through ≡ true → held c ≡ [] → is_high up.valid c ≡ true → is_high down.ready c ≡ true → is_transfer side.pace up c ≡ true
   pub rests : (c : ℕ) → IsLegalSource side up (suc c) → held c ≡ [] → is_high down.ready c ≡ true → is_high up.ready c ≡ true
+  pub frees : (c : ℕ) → held c ≡ [] → is_high down.valid c ≡ false → is_stalled side.pace up c ≡ false
 
 module _ (through : Bool) (passes : ℕ → Bool) (places : ℕ) (side : Side) (up down : EndView) (held : ℕ → List Beat) (run : HoldsBeats through side up down held) (behaves : Behaves through places side up down held)
     (positive : 0 < side.symbols) (all_pass : (channel : ℕ) → channel ≤ side.max_channel → IsTrue (passes channel)) where
@@ -204,7 +205,7 @@ module _ (through : Bool) (passes : ℕ → Bool) (places : ℕ) (side : Side) (
         passes_on = λ c legal _. passes_on c legal;
         shows = λ c legal _ valid. shows c legal valid;
         paced = λ c legal _. record { allowed = λ _. refl; held = holds c legal };
-        ranked = λ c legal _ is. no_rank (buffer_shape passes places side) (plain_run up down) c refl refl (λ quiet ready. by_shown c legal is quiet (direct_ready zero_pace down c refl ready) (shown_at c));
+        ranked = λ c legal _ is. no_rank (buffer_shape passes places side) (plain_run up down) c refl refl (λ quiet ready. by_shown c legal is quiet (direct_ready zero_pace down c refl ready) (shown_at c)) (λ low. idles c is low (shown_at c));
       }
     where
       by_shown : (c : ℕ) → IsLegalSource side up (suc c) → inside (buffer_shape passes places side) (plain_run up down) c ≡ store c → is_transfer zero_pace down c ≡ false → is_high down.ready c ≡ true → Shown c
@@ -213,6 +214,12 @@ module _ (through : Bool) (passes : ℕ → Bool) (places : ℕ) (side : Side) (
       by_shown c legal is quiet ready (passing t none shown v same) = absurd (both_ways _ quiet (gives_is c ∙ and_from _ _ (ap (λ n. eqb n 1) v ∙ shown) ready))
       by_shown c legal is quiet ready (idle none low) =
           rests_with (buffer_shape passes places side) (plain_run up down) c [] (is ∙ ap (flat_map (symbols_of side)) none) (behaves.rests c legal none ready) (omega arith) refl
+
+      idles : (c : ℕ) → inside (buffer_shape passes places side) (plain_run up down) c ≡ store c → is_high down.valid c ≡ false → Shown c → is_idle (buffer_shape passes places side) (plain_run up down) c ≡ true
+      idles c is low (from_held b bs e v same) = absurd (both_ways _ low v)
+      idles c is low (passing t none shown v same) = absurd (both_ways _ low (ap (λ n. eqb n 1) v ∙ shown))
+      idles c is low (idle none _) =
+          idle_with (buffer_shape passes places side) (plain_run up down) c [] (is ∙ ap (flat_map (symbols_of side)) none) (behaves.frees c none low) (omega arith) refl
 
   -- what is inside are the beats that are held
   pub held_inside : (c : ℕ) → IsLegalSource side up c → inside (buffer_shape passes places side) (plain_run up down) c ≡ flat_map (symbols_of side) (held c)
@@ -234,6 +241,7 @@ module _ (side : Side) (up down : EndView) (held : ℕ → List Beat) (run : IsB
         few = λ c legal. omega (arith, room side up held strict run.holds.starts (held_grows true side up down held run.holds) run.asks c legal);
         takes = λ c legal t none shown ready. and_from _ _ shown (or_right _ _ (asks_idle c none));
         rests = λ c legal none ready. asks_idle c none;
+        frees = λ c none low. ready_frees side.pace up c (asks_idle c none);
       }
 
 pub ready_buffer_keeps : (passes : ℕ → Bool) (side : Side) (up down : EndView) (held : ℕ → List Beat) → IsBufferRun side up down held → side.pace.allowance ≡ side.pace.latency → 0 < side.symbols
@@ -280,6 +288,7 @@ module _ (side : Side) (up down : EndView) (held : ℕ → List Beat) (run : IsR
         few = register_few;
         takes = λ c legal t none shown ready. absurd (cc);
         rests = λ c legal none ready. run.asks c ∙ or_right _ _ ready;
+        frees = λ c none low. ready_frees side.pace up c (run.asks c ∙ or_left _ _ (lt-ltb (length (held c)) 1 (omega (arith, ap length none))));
       }
 
 pub register_keeps : (passes : ℕ → Bool) (side : Side) (up down : EndView) (held : ℕ → List Beat) → IsRegisterRun side up down held → side.pace.latency ≡ 0 → 0 < side.symbols
@@ -342,12 +351,16 @@ module _ (places : ℕ) (side : Side) (up down : EndView) (held : ℕ → List B
       by_ready earlier true asked e = let below : length (held c) + side.pace.allowance < places = ltb-true _ _ (sym (run.asks c) ∙ asked) in omega (arith, below, held_grows true side up down held run.holds c legal, one_at_most (is_transfer side.pace up c))
       by_ready earlier false low e = omega (arith, earlier, held_grows true side up down held run.holds c legal, e)
 
+  asks_none : (c : ℕ) → held c ≡ [] → is_high up.ready c ≡ true
+  asks_none c none = run.asks c ∙ lt-ltb (length (held c) + side.pace.allowance) places (omega (arith, ap length none))
+
   allowance_behaves : Behaves true places side up down held
   allowance_behaves =
       record {
         few = λ c legal. omega (arith, leaves c legal, since_within c legal);
         takes = λ c legal t none shown ready. and_from _ _ shown (or_left _ _ (lt-ltb 0 side.pace.latency delayed));
-        rests = λ c legal none ready. run.asks c ∙ lt-ltb (length (held c) + side.pace.allowance) places (omega (arith, ap length none));
+        rests = λ c legal none ready. asks_none c none;
+        frees = λ c none low. ready_frees side.pace up c (asks_none c none);
       }
 
 pub allowance_buffer_keeps : (passes : ℕ → Bool) (places : ℕ) (side : Side) (up down : EndView) (held : ℕ → List Beat) → IsAllowanceRun places side up down held → 0 < side.pace.latency → side.pace.latency < side.pace.allowance → side.pace.allowance < places
@@ -422,12 +435,19 @@ module _ (depth : ℕ) (side : Side) (up down : EndView) (held : ℕ → List Be
               let wire : depth ≡ 0 = eqb-true depth 0 parts.0 in
               omega (arith, ap length (through wire parts.1 (empty_list (held c) (omega (arith, few, wire)))))
 
+  -- it shows the beat that comes where it holds none
+  none_comes : (c : ℕ) → held c ≡ [] → is_high down.valid c ≡ false → is_high up.valid c ≡ false
+  none_comes c none low =
+      let shown : ShowsHeld true [] up down c = subst (λ (q : List Beat). ShowsHeld true q up down c) none (run.holds.shows c) in
+      ap (λ n. eqb n 1) shown.valid ∙ low
+
   queue_behaves : Behaves true depth side up down held
   queue_behaves =
       record {
         few = queue_few;
         takes = λ c legal t none shown ready. and_from _ _ shown (or_right _ _ (asks_empty c none ready));
         rests = λ c legal none ready. asks_empty c none ready;
+        frees = λ c none low. none_waits side.pace up c (none_comes c none low);
       }
 
 pub queue_keeps : (passes : ℕ → Bool) (depth : ℕ) (side : Side) (up down : EndView) (held : ℕ → List Beat) → IsQueueRun depth side up down held → side.pace.latency ≡ 0 → 0 < side.symbols

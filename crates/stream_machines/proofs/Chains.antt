@@ -1,18 +1,19 @@
 -- The law of a chain, from the laws of its parts.
-use Rattle.std.proofs.Common.{◌≡◌, ◌⊎◌, ℕ, suc, ◌+◌, ◌-◌, ◌*◌, ◌≤◌, ◌<◌, Bool, true, false, cond, IsTrue, ◌||◌, ◌&&◌, List, [], ◌∷◌, ◌++◌, map, length, drop, refl, ap, sym, ◌∙◌, subst, inl, inr, arith, append_assoc, length-append, length-drop, nat_lt, nat_le}
+use Rattle.std.proofs.Common.{◌≡◌, ◌⊎◌, ℕ, suc, ◌+◌, ◌-◌, ◌*◌, ◌≤◌, ◌<◌, Bool, true, false, cond, not, IsTrue, ◌||◌, ◌&&◌, List, [], ◌∷◌, ◌++◌, map, length, drop, refl, ap, sym, ◌∙◌, subst, inl, inr, arith, append_assoc, length-append, length-drop, nat_lt, nat_le}
 use Rattle.std.proofs.Math.Nat.{mul-le-mul_left}
 use Rattle.std.specs.List.{list_any}
 use Rattle.std.proofs.lemmas.List.{map-append, length-map, drop_at, drop-map}
 use Rattle.std.proofs.lemmas.List.FromFn.{length-map-range_with_len}
 use Rattle.std.proofs.lemmas.List.Folds.{list_any-append}
-use Rattle.std.proofs.lemmas.Bool.{cases_Bool, and_parts, and_from, and_left, and_right, leb-true, le-leb, not-true, not_from_false, ltb-false, both_ways, cond-true, cond-false}
-use Rattle.stream_runs.specs.View.{EndView, Pace, is_high, is_ready_cycle}
+use Rattle.std.proofs.lemmas.Bool.{cases_Bool, and_parts, and_from, and_left, and_right, or_left, leb-true, le-leb, not-true, not_from_false, ltb-false, both_ways, cond-true, cond-false}
+use Rattle.stream_runs.specs.View.{Pace, is_high, is_transfer, is_stalled, is_ready_cycle}
 use Rattle.histories.specs.History.{IsPrefix}
 use Rattle.stream_runs.specs.Symbols.{transferred_symbols, symbols_in, kept_symbols, Symbol, without_error, shown_count}
 use Rattle.stream_runs.specs.Delivery.{LagsWithin}
-use Rattle.stream_machines.specs.Stage.{Shape, StageRun, inside, is_at_rest, is_delayed, gives, RankMoves, StageLaw, chain_shape, chain_rank, chain_run}
+use Rattle.stream_machines.specs.Stage.{Shape, StageRun, inside, is_drained, is_at_rest, is_idle, is_delayed, gives, RankMoves, StageLaw, chain_shape, chain_rank, chain_run}
 use Rattle.histories.specs.Laws.{prefix_trans, prefix_length}
 use Rattle.stream_machines.proofs.Kept.{kept_in_middle, is_last, list_any-without_error}
+use Rattle.stream_machines.proofs.Direct.{ready_at_once, drained_with, open_frees}
 
 -- what is between the ends is what is in the second part, and then what is in the first
 split_between : {A : Type 0} (xs ys zs : List A) → IsPrefix xs ys → IsPrefix ys zs → drop (length xs) zs ≡ drop (length xs) ys ++ drop (length ys) zs
@@ -59,12 +60,11 @@ rank_total_held_none s t i o a a' b b' e p q = omega (arith, ap (λ x. s * x) e)
 or_none : {a b : Bool} → a ≡ false → b ≡ false → (a || b) ≡ false
 or_none {a} {b} p q = rw (p, q) refl
 
--- at ready latency 0 a cycle with ready is a ready cycle
-ready_at_once : (pace : Pace) (view : EndView) (c : ℕ) → nat_lt 0 pace.latency ≡ false → is_high view.ready c ≡ true → is_ready_cycle pace view c ≡ true
-ready_at_once pace view c direct ready =
-    let e : pace.latency ≡ 0 = omega (arith, ltb-false 0 pace.latency direct) in
-    let same : c - pace.latency ≡ c = omega arith in
-    and_from _ _ (le-leb pace.latency c (omega arith)) (rw same ready)
+-- where no beat waits and none transfers, none is shown
+none_shown : (v t : Bool) → t ≡ false → not (v && not t) ≡ true → v ≡ false
+none_shown false t kept free = refl
+none_shown true true kept free = absurd (cc)
+none_shown true false kept free = absurd (cc)
 
 -- a stage out of which no beat goes gives no symbol
 gives_none : (shape : Shape) (run : StageRun) (c : ℕ) → gives shape run c ≡ false → length (symbols_in shape.down run.down c) ≡ 0
@@ -153,27 +153,31 @@ module _ (first second : Shape) (one two : StageRun) (passed : (channel : ℕ) �
       → sum_of (suc c) + length (symbols_in second.up two.up c) ≤ sum_of c + (first.step + second.step + 1) * length (symbols_in second.down two.down c)
   total direct c h = rank_total first.step second.step _ _ (length (symbols_in second.up two.up c)) (length (symbols_in second.down two.down c)) (one.rank c) _ (two.rank c) _ (room_flow c h) (moves_one direct c h) (moves_two direct c h)
 
-  -- the second part is at rest and so is the first, as far as its symbols go: then the chain is
-  both_rest : (c : ℕ) → c ≤ count → is_at_rest second two c ≡ true → is_high one.up.ready c ≡ true → length (inside (first_of first second) (one_of one two) c) ≤ first.rest
-      → list_any is_last (inside (first_of first second) (one_of one two) c) ≡ false → is_at_rest (chain_shape first second) (chain_run first second one two) c ≡ true
-  both_rest c h rest ready few unmarked =
-      let parts = and_parts (is_high two.up.ready c) _ rest in
-      let inner = and_parts (nat_le (length (inside second two c)) second.rest) _ parts.1 in
-      let few_two : length (inside second two c) ≤ second.rest = leb-true _ _ inner.0 in
-      let unmarked_two : list_any is_last (inside second two c) ≡ false = not-true _ inner.1 in
+  -- a chain of two drained parts is drained
+  both_drained : (c : ℕ) → c ≤ count → is_drained second two c ≡ true → is_drained (first_of first second) (one_of one two) c ≡ true → is_drained (chain_shape first second) (chain_run first second one two) c ≡ true
+  both_drained c h late early =
+      let late_parts = and_parts (nat_le (length (inside second two c)) second.rest) _ late in
+      let early_parts = and_parts (nat_le (length (inside (first_of first second) (one_of one two) c)) first.rest) _ early in
+      let few_two : length (inside second two c) ≤ second.rest = leb-true _ _ late_parts.0 in
+      let few_one : length (inside (first_of first second) (one_of one two) c) ≤ first.rest = leb-true _ _ early_parts.0 in
       let few_both : length (inside (chain_shape first second) (chain_run first second one two) c) ≤ first.rest + second.rest = omega (arith, inside_length c h) in
-      let unmarked_both : list_any is_last (inside (chain_shape first second) (chain_run first second one two) c) ≡ false = inside_last c h ∙ or_none unmarked_two unmarked in
-      and_from _ _ ready (and_from _ _ (le-leb _ _ few_both) (not_from_false _ unmarked_both))
+      let unmarked_both : list_any is_last (inside (chain_shape first second) (chain_run first second one two) c) ≡ false = inside_last c h ∙ or_none (not-true _ late_parts.1) (not-true _ early_parts.1) in
+      and_from _ _ (le-leb _ _ few_both) (not_from_false _ unmarked_both)
 
-  falls_direct : nat_lt 0 second.up.pace.latency ≡ false → (c : ℕ) → c < count → gives second two c ≡ false → is_ready_cycle second.down.pace two.down c ≡ true
-      → is_at_rest (chain_shape first second) (chain_run first second one two) c ≡ false → sum_of (suc c) < sum_of c
-  falls_direct direct c h quiet ready restless = by_first (cases_Bool (gives (first_of first second) (one_of one two) c))
+  -- the second part is at rest and so is the first, as far as its symbols go: then the chain is
+  both_rest : (c : ℕ) → c ≤ count → is_at_rest second two c ≡ true → is_high one.up.ready c ≡ true → is_drained (first_of first second) (one_of one two) c ≡ true → is_at_rest (chain_shape first second) (chain_run first second one two) c ≡ true
+  both_rest c h rest ready early = and_from _ _ ready (both_drained c h (and_parts (is_high two.up.ready c) _ rest).1 early)
+
+  -- while nothing goes out, the sum falls where a beat goes from the first part to the second or the rank of one of them falls
+  sum_falls : nat_lt 0 second.up.pace.latency ≡ false → (c : ℕ) → c < count → gives second two c ≡ false
+      → (gives (first_of first second) (one_of one two) c ≡ false → (one.rank (suc c) < one.rank c) ⊎ (two.rank (suc c) < two.rank c)) → sum_of (suc c) < sum_of c
+  sum_falls direct c h quiet one_falls = by_first (cases_Bool (gives (first_of first second) (one_of one two) c))
     where
       none_out : length (symbols_in second.down two.down c) ≡ 0
       none_out = gives_none second two c quiet
 
-      sum_falls : sum_of (suc c) + length (symbols_in second.up two.up c) ≤ sum_of c
-      sum_falls = let t = total direct c h in let e = subst (λ n. sum_of (suc c) + length (symbols_in second.up two.up c) ≤ sum_of c + (first.step + second.step + 1) * n) none_out t in omega (arith, e)
+      less_by_moved : sum_of (suc c) + length (symbols_in second.up two.up c) ≤ sum_of c
+      less_by_moved = let t = total direct c h in let e = subst (λ n. sum_of (suc c) + length (symbols_in second.up two.up c) ≤ sum_of c + (first.step + second.step + 1) * n) none_out t in omega (arith, e)
 
       same_room : gives (first_of first second) (one_of one two) c ≡ false → (second.hold - length (inside second two (suc c))) ≡ (second.hold - length (inside second two c))
       same_room kept = omega (arith, room_flow c h, none_out, gives_none (first_of first second) (one_of one two) c kept)
@@ -184,29 +188,47 @@ module _ (first second : Shape) (one two : StageRun) (passed : (channel : ℕ) �
       two_stays : two.rank (suc c) ≤ two.rank c
       two_stays = (law_two.rank c h).stays quiet (and_right _ _ (and_left _ _ direct))
 
-      by_rest_one : gives (first_of first second) (one_of one two) c ≡ false → is_at_rest second two c ≡ true
-          → (is_at_rest (first_of first second) (one_of one two) c ≡ true) ⊎ (is_at_rest (first_of first second) (one_of one two) c ≡ false) → sum_of (suc c) < sum_of c
-      by_rest_one kept rest_two (inl rest_one) =
-          let parts = and_parts (is_high one.up.ready c) _ rest_one in
-          let inner = and_parts (nat_le (length (inside (first_of first second) (one_of one two) c)) first.rest) _ parts.1 in
-          let rest = both_rest c (omega arith) rest_two parts.0 (leb-true _ _ inner.0) (not-true _ inner.1) in
-          absurd (both_ways _ restless rest)
-      by_rest_one kept rest_two (inr restless_one) =
-          let parts = and_parts (is_high two.up.ready c) _ rest_two in
-          let fallen = (law_one.rank c h).falls kept (ready_at_once second.up.pace two.up c direct parts.0) restless_one in
-          omega (arith, fallen, two_stays, ap (λ n. (first.step + 1) * n) (same_room kept))
-
-      by_rest_two : gives (first_of first second) (one_of one two) c ≡ false → (is_at_rest second two c ≡ true) ⊎ (is_at_rest second two c ≡ false) → sum_of (suc c) < sum_of c
-      by_rest_two kept (inl rest_two) = by_rest_one kept rest_two (cases_Bool (is_at_rest (first_of first second) (one_of one two) c))
-      by_rest_two kept (inr restless_two) =
-          let fallen = (law_two.rank c h).falls quiet ready restless_two in
-          omega (arith, fallen, one_stays kept, ap (λ n. (first.step + 1) * n) (same_room kept))
+      by_rank : gives (first_of first second) (one_of one two) c ≡ false → (one.rank (suc c) < one.rank c) ⊎ (two.rank (suc c) < two.rank c) → sum_of (suc c) < sum_of c
+      by_rank kept (inl fallen) = omega (arith, fallen, two_stays, ap (λ n. (first.step + 1) * n) (same_room kept))
+      by_rank kept (inr fallen) = omega (arith, fallen, one_stays kept, ap (λ n. (first.step + 1) * n) (same_room kept))
 
       by_first : (gives (first_of first second) (one_of one two) c ≡ true) ⊎ (gives (first_of first second) (one_of one two) c ≡ false) → sum_of (suc c) < sum_of c
       by_first (inl given) =
           let some = gives_some (first_of first second) (one_of one two) c given (law_one.prefix.holds_data c h given) in
-          omega (arith, sum_falls, some)
-      by_first (inr kept) = by_rest_two kept (cases_Bool (is_at_rest second two c))
+          omega (arith, less_by_moved, some)
+      by_first (inr kept) = by_rank kept (one_falls kept)
+
+  middle_direct : nat_lt 0 second.up.pace.latency ≡ false → second.up.pace.latency ≡ 0
+  middle_direct direct = omega (arith, ltb-false 0 second.up.pace.latency direct)
+
+  falls_direct : nat_lt 0 second.up.pace.latency ≡ false → (c : ℕ) → c < count → gives second two c ≡ false → is_ready_cycle second.down.pace two.down c ≡ true
+      → is_at_rest (chain_shape first second) (chain_run first second one two) c ≡ false → sum_of (suc c) < sum_of c
+  falls_direct direct c h quiet ready restless = sum_falls direct c h quiet (λ kept. by_rest kept (cases_Bool (is_at_rest second two c)) (cases_Bool (is_at_rest (first_of first second) (one_of one two) c)))
+    where
+      by_rest : gives (first_of first second) (one_of one two) c ≡ false → (is_at_rest second two c ≡ true) ⊎ (is_at_rest second two c ≡ false)
+          → (is_at_rest (first_of first second) (one_of one two) c ≡ true) ⊎ (is_at_rest (first_of first second) (one_of one two) c ≡ false) → (one.rank (suc c) < one.rank c) ⊎ (two.rank (suc c) < two.rank c)
+      by_rest kept (inr restless_two) one_rests = inr ((law_two.rank c h).falls quiet ready restless_two)
+      by_rest kept (inl rest_two) (inr restless_one) =
+          inl ((law_one.rank c h).falls kept (ready_at_once second.up.pace two.up c (middle_direct direct) (and_parts (is_high two.up.ready c) _ rest_two).0) restless_one)
+      by_rest kept (inl rest_two) (inl rest_one) =
+          let parts = and_parts (is_high one.up.ready c) _ rest_one in
+          absurd (both_ways _ restless (both_rest c (omega arith) rest_two parts.0 parts.1))
+
+  -- while no beat is shown, the middle shows one, or else what is to give or waits is before it
+  advances_direct : nat_lt 0 second.up.pace.latency ≡ false → (c : ℕ) → c < count → second.down.pace.latency ≡ 0 → is_high two.down.valid c ≡ false
+      → is_idle (chain_shape first second) (chain_run first second one two) c ≡ false → sum_of (suc c) < sum_of c
+  advances_direct direct c h down_direct low busy = sum_falls direct c h (and_left _ _ low) (λ kept. by_idle kept (cases_Bool (is_idle second two c)) (cases_Bool (is_idle (first_of first second) (one_of one two) c)))
+    where
+      by_idle : gives (first_of first second) (one_of one two) c ≡ false → (is_idle second two c ≡ true) ⊎ (is_idle second two c ≡ false)
+          → (is_idle (first_of first second) (one_of one two) c ≡ true) ⊎ (is_idle (first_of first second) (one_of one two) c ≡ false) → (one.rank (suc c) < one.rank c) ⊎ (two.rank (suc c) < two.rank c)
+      by_idle kept (inr busy_two) one_idles = inr ((law_two.rank c h).advances down_direct low busy_two)
+      by_idle kept (inl idle_two) (inr busy_one) =
+          let free = (and_parts (not (is_stalled second.up.pace two.up c)) _ idle_two).0 in
+          inl ((law_one.rank c h).advances (middle_direct direct) (none_shown (is_high two.up.valid c) (is_transfer second.up.pace two.up c) kept free) busy_one)
+      by_idle kept (inl idle_two) (inl idle_one) =
+          let late = and_parts (not (is_stalled second.up.pace two.up c)) _ idle_two in
+          let early = and_parts (not (is_stalled first.up.pace one.up c)) _ idle_one in
+          absurd (both_ways _ busy (and_from _ _ early.0 (both_drained c (omega arith) late.1 early.1)))
 
   ranked_direct : nat_lt 0 second.up.pace.latency ≡ false → (c : ℕ) → c < count → RankMoves (chain_shape first second) (chain_run first second one two) c
   ranked_direct direct c h =
@@ -215,6 +237,7 @@ module _ (first second : Shape) (one two : StageRun) (passed : (channel : ℕ) �
         stays = λ quiet _. same_le _ _ _ _ (rank_is (suc c)) (rank_is c) (stays quiet);
         falls = λ quiet ready restless. same_lt _ _ _ _ (rank_is (suc c)) (rank_is c) (falls_direct direct c h quiet ready restless);
         rises = λ given _. same_rise _ _ _ _ _ _ _ (rank_is (suc c)) (rank_is c) (cond-false _ _ _ direct) (rises (cases_Bool (nat_le second.hold 0)));
+        advances = λ down_direct low busy. same_lt _ _ _ _ (rank_is (suc c)) (rank_is c) (advances_direct direct c h down_direct low busy);
       }
     where
       rank_is : (b : ℕ) → chain_rank first second one two b ≡ sum_of b
@@ -244,6 +267,7 @@ module _ (first second : Shape) (one two : StageRun) (passed : (channel : ℕ) �
         stays = λ quiet moving. same_le _ _ _ _ (rank_is (suc c)) (rank_is c) ((law_two.rank c h).stays quiet (not_both moving (cases_Bool (is_at_rest second two c))));
         falls = λ quiet ready restless. same_lt _ _ _ _ (rank_is (suc c)) (rank_is c) ((law_two.rank c h).falls quiet ready (second_restless restless (cases_Bool (is_at_rest second two c))));
         rises = λ given moving. same_rise _ _ _ _ _ _ _ (rank_is (suc c)) (rank_is c) (cond-true _ _ _ delayed) ((law_two.rank c h).rises given (not_both moving (cases_Bool (is_at_rest second two c))));
+        advances = λ down_direct low busy. same_lt _ _ _ _ (rank_is (suc c)) (rank_is c) ((law_two.rank c h).advances down_direct low (second_busy busy (cases_Bool (is_idle second two c))));
       }
     where
       rank_is : (b : ℕ) → chain_rank first second one two b ≡ two.rank b
@@ -252,15 +276,28 @@ module _ (first second : Shape) (one two : StageRun) (passed : (channel : ℕ) �
       empty_one : length (inside (first_of first second) (one_of one two) c) ≡ 0
       empty_one = omega (arith, length-drop (length (transferred_symbols second.up two.up c)) (kept_symbols first.passes first.up one.up c), law_one.hold c (omega arith))
 
+      drained_one : is_drained (first_of first second) (one_of one two) c ≡ true
+      drained_one = drained_with (first_of first second) (one_of one two) c [] (empty_list (inside (first_of first second) (one_of one two) c) empty_one) (omega arith) refl
+
       chain_rest : is_at_rest second two c ≡ true → is_at_rest (chain_shape first second) (chain_run first second one two) c ≡ true
       chain_rest rest =
           let parts = and_parts (is_high two.up.ready c) _ rest in
           let ready : is_high one.up.ready c ≡ true = same_ready c ∙ parts.0 in
-          both_rest c (omega arith) rest ready (omega (arith, empty_one)) (ap (list_any is_last) (empty_list (inside (first_of first second) (one_of one two) c) empty_one))
+          both_rest c (omega arith) rest ready drained_one
 
       second_restless : is_at_rest (chain_shape first second) (chain_run first second one two) c ≡ false → (is_at_rest second two c ≡ true) ⊎ (is_at_rest second two c ≡ false) → is_at_rest second two c ≡ false
       second_restless restless (inl rest) = absurd (both_ways _ restless (chain_rest rest))
       second_restless restless (inr kept) = kept
+
+      -- behind a delayed side no beat waits
+      free : is_stalled first.up.pace one.up c ≡ false
+      free = open_frees first.up.pace one.up c (or_left _ _ (subst (λ (pace : Pace). nat_lt 0 pace.latency ≡ true) (sym same_pace) delayed))
+
+      second_busy : is_idle (chain_shape first second) (chain_run first second one two) c ≡ false → (is_idle second two c ≡ true) ⊎ (is_idle second two c ≡ false) → is_idle second two c ≡ false
+      second_busy busy (inr other) = other
+      second_busy busy (inl idle) =
+          let late = and_parts (not (is_stalled second.up.pace two.up c)) _ idle in
+          absurd (both_ways _ busy (and_from _ _ (ap not free) (both_drained c (omega arith) late.1 drained_one)))
 
       not_both : (is_at_rest (chain_shape first second) (chain_run first second one two) c && is_delayed (chain_shape first second)) ≡ false
           → (is_at_rest second two c ≡ true) ⊎ (is_at_rest second two c ≡ false) → (is_at_rest second two c && is_delayed second) ≡ false

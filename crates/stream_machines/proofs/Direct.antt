@@ -1,11 +1,11 @@
 -- Ends with ready latency 0, and stages at rest.
 use Rattle.std.proofs.Common.{◌≡◌, ℕ, ◌-◌, ◌≤◌, Bool, true, false, cond, not, IsTrue, ◌&&◌, ◌||◌, List, [], length, refl, ap, sym, subst, arith, nat_lt, nat_le}
 use Rattle.std.specs.List.{list_any}
-use Rattle.std.proofs.lemmas.Bool.{and_parts, and_from, le-ltb, le-leb, cond-true}
-use Rattle.stream_runs.specs.View.{Pace, EndView, Side, is_high, is_transfer, is_ready_cycle}
+use Rattle.std.proofs.lemmas.Bool.{and_parts, and_from, and_left, or_right, le-ltb, le-leb, cond-true}
+use Rattle.stream_runs.specs.View.{Pace, EndView, Side, is_high, is_transfer, is_stalled, is_ready_cycle}
 use Rattle.stream_runs.specs.Symbols.{Symbol, shown_symbols, symbols_in}
 use Rattle.stream_runs.specs.Source.{IsLegalAt}
-use Rattle.stream_machines.specs.Stage.{Shape, StageRun, inside, is_at_rest}
+use Rattle.stream_machines.specs.Stage.{Shape, StageRun, inside, is_drained, is_at_rest, is_idle}
 use Rattle.stream_machines.specs.Flow.{kept_in, kept_shown}
 
 -- at ready latency 0 a beat passes where valid and ready are high
@@ -19,12 +19,41 @@ direct_ready pace view c direct ready =
     let same : c - pace.latency ≡ c = omega arith in
     subst (λ n. is_high view.ready n ≡ true) same (and_parts (nat_le pace.latency c) (is_high view.ready (c - pace.latency)) ready).1
 
--- a stage that shows ready and holds few symbols, none with a last mark, is at rest
+pub ready_at_once : (pace : Pace) (view : EndView) (c : ℕ) → pace.latency ≡ 0 → is_high view.ready c ≡ true → is_ready_cycle pace view c ≡ true
+ready_at_once pace view c direct ready =
+    let same : c ≡ c - pace.latency = omega arith in
+    and_from _ _ (le-leb pace.latency c (omega arith)) (subst (λ n. is_high view.ready n ≡ true) same ready)
+
+-- no beat waits where none is shown, or where one that is shown transfers
+pub none_waits : (pace : Pace) (view : EndView) (c : ℕ) → is_high view.valid c ≡ false → is_stalled pace view c ≡ false
+none_waits pace view c low = and_left _ _ low
+
+pub open_frees : (pace : Pace) (view : EndView) (c : ℕ) → (nat_lt 0 pace.latency || is_high view.ready c) ≡ true → is_stalled pace view c ≡ false
+open_frees pace view c goes = by_ports (is_high view.valid c) (nat_lt 0 pace.latency || is_high view.ready c) goes
+  where
+    by_ports : (v o : Bool) → o ≡ true → (v && not (v && o)) ≡ false
+    by_ports false o e = refl
+    by_ports true o e = ap not e
+
+pub ready_frees : (pace : Pace) (view : EndView) (c : ℕ) → is_high view.ready c ≡ true → is_stalled pace view c ≡ false
+ready_frees pace view c ready = open_frees pace view c (or_right _ _ ready)
+
+-- a stage that holds few symbols, none with a last mark, is drained
+pub drained_with : (shape : Shape) (run : StageRun) (c : ℕ) (xs : List Symbol) → inside shape run c ≡ xs → length xs ≤ shape.rest
+    → list_any (λ (symbol : Symbol). symbol.last) xs ≡ false → is_drained shape run c ≡ true
+drained_with shape run c xs is few unmarked =
+    let none : (nat_le (length xs) shape.rest && not (list_any (λ (symbol : Symbol). symbol.last) xs)) ≡ true = and_from _ _ (le-leb (length xs) shape.rest few) (ap not unmarked) in
+    subst (λ (ys : List Symbol). (nat_le (length ys) shape.rest && not (list_any (λ (symbol : Symbol). symbol.last) ys)) ≡ true) (sym is) none
+
+-- one that shows ready besides is at rest
 pub rests_with : (shape : Shape) (run : StageRun) (c : ℕ) (xs : List Symbol) → inside shape run c ≡ xs → is_high run.up.ready c ≡ true → length xs ≤ shape.rest
     → list_any (λ (symbol : Symbol). symbol.last) xs ≡ false → is_at_rest shape run c ≡ true
-rests_with shape run c xs is ready few unmarked =
-    let none : (nat_le (length xs) shape.rest && not (list_any (λ (symbol : Symbol). symbol.last) xs)) ≡ true = and_from _ _ (le-leb (length xs) shape.rest few) (ap not unmarked) in
-    and_from _ _ ready (subst (λ (ys : List Symbol). (nat_le (length ys) shape.rest && not (list_any (λ (symbol : Symbol). symbol.last) ys)) ≡ true) (sym is) none)
+rests_with shape run c xs is ready few unmarked = and_from _ _ ready (drained_with shape run c xs is few unmarked)
+
+-- one before which no beat waits, and that holds few symbols, none with a last mark, is idle
+pub idle_with : (shape : Shape) (run : StageRun) (c : ℕ) (xs : List Symbol) → inside shape run c ≡ xs → is_stalled shape.up.pace run.up c ≡ false → length xs ≤ shape.rest
+    → list_any (λ (symbol : Symbol). symbol.last) xs ≡ false → is_idle shape run c ≡ true
+idle_with shape run c xs is free few unmarked = and_from _ _ (ap not free) (drained_with shape run c xs is few unmarked)
 
 -- all that comes in passes the test
 pub kept_in_all : (passes : ℕ → Bool) (side : Side) (view : EndView) (c : ℕ) → IsLegalAt side view c → ((channel : ℕ) → channel ≤ side.max_channel → IsTrue (passes channel)) → kept_in passes side view c ≡ symbols_in side view c

@@ -1,17 +1,18 @@
 -- Runs in which a machine does too much or too little are refused.
-use Rattle.std.proofs.Common.{◌≡◌, ◌⊎◌, ℕ, zero, suc, ◌+◌, ◌-◌, ◌*◌, ◌≤◌, ◌<◌, true, false, ◌||◌, List, [], ◌∷◌, ◌++◌, map, length, refl, ap, ◌∙◌, subst, inl, inr, arith, lit<, lit≤, eqb, nat_lt, get_or, sym}
-use Rattle.std.proofs.lemmas.List.{length-map, get_or_append_left}
+use Rattle.std.proofs.Common.{◌≡◌, ◌⊎◌, ℕ, zero, suc, ◌+◌, ◌-◌, ◌*◌, ◌≤◌, ◌<◌, Bool, true, false, ◌||◌, List, [], ◌∷◌, ◌++◌, map, length, refl, ap, ◌∙◌, subst, inl, inr, arith, lit<, lit≤, eqb, nat_lt, get_or, sym}
+use Rattle.std.proofs.lemmas.List.{append-nil, length-map, get_or_append_left}
 use Rattle.std.specs.List.{range_with_len}
 use Rattle.std.proofs.lemmas.Bool.{cases_Bool, and_parts, and_from, and_left, and_right, le-leb, cond-true, cond-false}
 use Rattle.stream_runs.specs.View.{EndView, beat_at, is_high, is_transfer}
 use Rattle.histories.specs.History.{IsPrefix}
 use Rattle.stream_runs.specs.Symbols.{Symbol, without_error, symbol_in, transferred_symbols, symbols_in, shown_symbols, kept_symbols, shown_count}
-use Rattle.stream_runs.specs.Source.{IsLegalSource}
+use Rattle.stream_runs.specs.Source.{IsLegalSource, IsHeld}
 use Rattle.stream_runs.specs.Delivery.{DeliversPrefix}
-use Rattle.stream_machines.specs.Stage.{StageLaw, KeepsStageLaw, RankMoves, chain_shape, chain_run}
+use Rattle.stream_machines.specs.Stage.{StageLaw, KeepsStageLaw, RankMoves, is_drained, chain_shape, chain_run}
 use Rattle.stream_machines.specs.Parts.{widen_shape}
-use Rattle.stream_runs.specs.Rows.{byte_side, later, pair_side}
-use Rattle.stream_machines.specs.Faults.{pair_of_channels, two_channel_source, waiting_source, eager_sink, noisy_source, quiet_sink, front_delay, back_wire, front_run, back_run, every_other, blinking, noisy_side, any_stage, idle_run}
+use Rattle.stream_runs.specs.Rows.{byte_side, later, pair_side, both_wait, kept_out}
+use Rattle.stream_machines.specs.Faults.{pair_of_channels, two_channel_source, waiting_source, eager_sink, noisy_source, quiet_sink, front_delay, back_wire, front_run, back_run, every_other, blinking, noisy_side, any_stage, idle_run, any_direct, held_back_run, hidden_run}
+use Rattle.stream_machines.proofs.AwakeLaw.{rank_ends}
 use Rattle.histories.specs.Laws.{prefix_length}
 
 pub two_channels-legal : IsLegalSource (byte_side (later 0) 1) two_channel_source 2
@@ -108,3 +109,51 @@ module _ (hold rest step largest : ℕ) (rank : ℕ → ℕ)
 
   pub no_rank_blinks : ⊥
   no_rank_blinks = omega (arith, falls_on (largest + 1), (moves_at 0).bounded)
+
+-- where it shows no beat, no stage lets beats wait whatever its sink does
+kept_out-legal : (count : ℕ) → IsLegalSource (byte_side (later 0) 0) kept_out.source count
+kept_out-legal count c h =
+    record {
+      paced = record { allowed = λ _. refl; held = standing c };
+      formed = λ _. record { begins = λ p. absurd (cc); unmarked = λ _. (refl, refl); holds_data = λ l. absurd (cc); in_range = lit≤ tt; one_channel = λ p. absurd (cc); quiet = λ _. refl };
+    }
+  where
+    standing : (b : ℕ) → IsHeld (later 0) kept_out.source b
+    standing zero = tt
+    standing (suc b) = λ shown stays. record { valid = refl; beat = refl }
+
+module _ (hold rest step largest : ℕ) (rank : ℕ → ℕ) (keeps : KeepsStageLaw (any_direct hold rest step largest) (held_back_run rank)) where
+  held_back_moves : (c : ℕ) → RankMoves (any_direct hold rest step largest) (held_back_run rank) c
+  held_back_moves c = (keeps.law (suc c) (kept_out-legal (suc c)) (λ n. absurd (cc))).rank c (omega arith)
+
+  pub no_source_waits : ⊥
+  no_source_waits =
+      let (c, from, to, held) = rank_ends rank (λ _. false) 0 (suc largest) (omega (arith, (held_back_moves 0).bounded)) (λ c _ _ _. (held_back_moves c).advances refl refl (and_left _ (is_drained (any_direct hold rest step largest) (held_back_run rank) c) refl)) in
+      let p : ◌≡◌ {A = Bool} false true = held in absurd (cc)
+
+-- no stage that keeps nothing for good hides a beat, whatever its sink does
+both_wait-legal : (count : ℕ) → IsLegalSource (byte_side (later 0) 0) both_wait.source count
+both_wait-legal count zero h = record { paced = record { allowed = λ _. refl; held = tt }; formed = λ _. record { begins = λ p. absurd (cc); unmarked = λ _. (refl, refl); holds_data = λ l. absurd (cc); in_range = lit≤ tt; one_channel = λ p. absurd (cc); quiet = λ _. refl } }
+both_wait-legal count (suc zero) h = record { paced = record { allowed = λ s. absurd (cc); held = λ s i. absurd (cc) }; formed = λ s. absurd (cc) }
+both_wait-legal count (suc (suc c)) h = record { paced = record { allowed = λ s. absurd (cc); held = λ s i. absurd (cc) }; formed = λ s. absurd (cc) }
+
+one_came : (c : ℕ) → transferred_symbols (byte_side (later 0) 0) both_wait.source (suc c) ≡ transferred_symbols (byte_side (later 0) 0) both_wait.source 1
+one_came zero = refl
+one_came (suc c) = append-nil _ ∙ one_came c
+
+none_went : (c : ℕ) → transferred_symbols (byte_side (later 0) 0) both_wait.sink c ≡ []
+none_went zero = refl
+none_went (suc c) = append-nil _ ∙ none_went c
+
+module _ (hold step largest : ℕ) (rank : ℕ → ℕ) (keeps : KeepsStageLaw (any_direct hold 0 step largest) (hidden_run rank)) where
+  hidden_moves : (c : ℕ) → RankMoves (any_direct hold 0 step largest) (hidden_run rank) c
+  hidden_moves c = (keeps.law (suc c) (both_wait-legal (suc c)) (λ n. absurd (cc))).rank c (omega arith)
+
+  has_beat : (c : ℕ) → 1 ≤ c → is_drained (any_direct hold 0 step largest) (hidden_run rank) c ≡ false
+  has_beat zero from = absurd (omega arith)
+  has_beat (suc c) from = rw (one_came c, none_went (suc c)) refl
+
+  pub no_beat_hides : ⊥
+  no_beat_hides =
+      let (c, from, to, held) = rank_ends rank (λ _. false) 1 (suc largest) (omega (arith, (hidden_moves 1).bounded)) (λ c from _ _. (hidden_moves c).advances refl refl (and_right _ _ (has_beat c from))) in
+      let p : ◌≡◌ {A = Bool} false true = held in absurd (cc)

@@ -3,11 +3,11 @@ use Rattle.std.proofs.Common.{◌≡◌, ℕ, zero, suc, ◌≤◌, ◌<◌, tru
 use Rattle.std.proofs.lemmas.List.{drop_at, take_at, map-append, length-map}
 use Rattle.std.proofs.lemmas.Bool.{both_ways}
 use Rattle.stream_runs.specs.Laws.{kept_more, length_in}
-use Rattle.stream_runs.specs.View.{is_ready_cycle, IsReadyBefore}
+use Rattle.stream_runs.specs.View.{is_high, is_ready_cycle, IsReadyBefore}
 use Rattle.stream_runs.specs.Symbols.{Symbol, without_error, shown_count, transferred_symbols, symbols_in, kept_symbols, joined_error}
 use Rattle.stream_runs.specs.Source.{IsLegalSource}
 use Rattle.stream_runs.specs.Delivery.{matched_symbols}
-use Rattle.stream_machines.specs.Stage.{Shape, StageRun, StageLaw, RankMoves, inside, gives, is_at_rest}
+use Rattle.stream_machines.specs.Stage.{Shape, StageRun, StageLaw, RankMoves, inside, gives, is_at_rest, is_idle}
 use Rattle.stream_machines.specs.Flow.{IsFlow, PassesOn, kept_in}
 
 -- as the cycle begins, what came in is what went out and what is there
@@ -82,13 +82,15 @@ module _ (shape : Shape) (run : StageRun) (store : ℕ → List Symbol) (flow : 
           rank = λ c h. flow.ranked c (λ b k. legal b (omega arith)) (λ n b k. ready n b (omega arith)) (inside_of c (balance c (omega arith)));
         }
 
--- a stage whose rank is always 0: in a ready cycle in which nothing goes out it is at rest
+-- a stage whose rank is always 0: in a ready cycle in which nothing goes out it is at rest, and where it shows nothing, idle
 pub no_rank : (shape : Shape) (run : StageRun) (c : ℕ) → run.rank c ≡ 0 → run.rank (suc c) ≡ 0
-    → (IsFalse (gives shape run c) → IsTrue (is_ready_cycle shape.down.pace run.down c) → IsTrue (is_at_rest shape run c)) → RankMoves shape run c
-no_rank shape run c now next rests =
+    → (IsFalse (gives shape run c) → IsTrue (is_ready_cycle shape.down.pace run.down c) → IsTrue (is_at_rest shape run c))
+    → (IsFalse (is_high run.down.valid c) → IsTrue (is_idle shape run c)) → RankMoves shape run c
+no_rank shape run c now next rests idles =
     record {
       bounded = omega (arith, now);
       stays = λ quiet moving. omega (arith, next);
       falls = λ quiet ready restless. absurd (both_ways _ restless (rests quiet ready));
       rises = λ given moving. omega (arith, next);
+      advances = λ direct low busy. absurd (both_ways _ busy (idles low));
     }

@@ -4,6 +4,7 @@ pub mod Quiet
 pub mod Errors
 pub mod Chains
 pub mod ChainLaw
+pub mod ChainNumbers
 pub mod PassLaw
 pub mod AwakeLaw
 pub mod BeatCounts
@@ -18,6 +19,7 @@ pub mod NarrowLaw
 pub mod BuffersLaw
 pub mod WiresLaw
 pub mod WordLemmas
+pub mod QueueTakesIn
 pub mod LineLaw
 pub mod TiedLaw
 pub mod DirectLaw

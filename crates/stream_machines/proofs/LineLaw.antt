@@ -1,73 +1,28 @@
 -- A whole stream is served.
-use Rattle.std.proofs.Common.{◌≡◌, ℕ, zero, suc, ◌+◌, ◌-◌, ◌*◌, ◌≤◌, ◌<◌, Bool, true, false, cond, IsTrue, ◌||◌, List, [], ◌∷◌, ◌++◌, map, length, drop, refl, ap, sym, ◌∙◌, subst, inl, inr, arith, nat_lt, nat_le, eqb, ◌&&◌}
+use Rattle.std.proofs.Common.{◌≡◌, ℕ, zero, suc, ◌+◌, ◌-◌, ◌*◌, ◌≤◌, ◌<◌, false, IsTrue, refl, ap, ◌∙◌, inl, inr, arith, nat_lt, ◌&&◌}
 use Rattle.std.proofs.Math.Nat.{mul-le-mul_left}
-use Rattle.std.proofs.lemmas.List.{length-map, drop-map, drop-append-le}
-use Rattle.std.proofs.lemmas.Bool.{both_ways, and_from, leb-true, le-leb, lt-ltb, cond-true}
-use Rattle.stream_runs.specs.Laws.{length_in_order}
-use Rattle.stream_runs.specs.View.{is_high, is_transfer}
-use Rattle.histories.specs.History.{IsPrefix}
-use Rattle.stream_runs.specs.Symbols.{Symbol, without_error, transferred_symbols, kept_symbols}
-use Rattle.stream_runs.specs.Source.{IsLegalSource, IsLegalAt}
+use Rattle.std.proofs.lemmas.Bool.{leb-true, le-leb, lt-ltb, cond-true}
+use Rattle.stream_runs.specs.View.{is_transfer}
+use Rattle.stream_runs.specs.Source.{IsLegalSource}
 use Rattle.stream_runs.specs.Delivery.{reaches, stream_lag, larger_allowance, IsServed}
-use Rattle.stream_runs.specs.Awake.{stream_window, undelivered, beats_begun, beats_with_room, NeverIdles}
-use Rattle.stream_machines.specs.Stage.{Shape, StageRun, StageLaw, KeepsStageLaw, chain_run, inside}
+use Rattle.stream_runs.specs.Awake.{stream_window, NeverIdles}
+use Rattle.stream_machines.specs.Stage.{StageRun, StageLaw, KeepsStageLaw, chain_run}
 use Rattle.stream_machines.specs.Parts.{narrow_shape, widen_shape, plain_run}
 use Rattle.stream_machines.specs.Buffers.{buffer_shape}
 use Rattle.stream_machines.specs.Wires.{wire_shape, wire_run}
 use Rattle.stream_machines.specs.Line.{Numbers, Line, IsLine, side_one, side_two, side_three, side_four, sink_of, shape_two, shape_three, shape_four, shape_five, line_shape, stream_of_line, run_of_line}
-use Rattle.stream_machines.proofs.Kept.{kept_in_middle}
 use Rattle.stream_machines.proofs.ChainLaw.{chain_keeps}
-use Rattle.stream_machines.proofs.AwakeLaw.{stage_delivers, stage_accepts}
-use Rattle.stream_machines.proofs.BuffersLaw.{queue_keeps, queue_has_room}
+use Rattle.stream_machines.proofs.ChainNumbers.{step_at_most}
+use Rattle.stream_machines.proofs.QueueTakesIn.{queue_takes_in}
+use Rattle.stream_machines.proofs.AwakeLaw.{stage_delivers, stage_accepts, stage_shows, stage_frees}
+use Rattle.stream_machines.proofs.BuffersLaw.{queue_keeps}
 use Rattle.stream_machines.proofs.WidenLaw.{widen_keeps}
 use Rattle.stream_machines.proofs.NarrowLaw.{narrow_keeps}
 use Rattle.stream_machines.proofs.BuffersLaw.{ready_buffer_keeps}
 use Rattle.stream_machines.proofs.WiresLaw.{filter_keeps, delay_keeps, same_ready, not_reached}
 
--- behind a side of ready latency 0, a part that holds something adds one step
-pub step_at_most : (hold a b : ℕ) → cond (nat_le hold 0) (a + b) (a + b + 1) ≤ a + b + 1
-step_at_most hold a b = by_test (nat_le hold 0)
-  where
-    by_test : (t : Bool) → cond t (a + b) (a + b + 1) ≤ a + b + 1
-    by_test true = omega arith
-    by_test false = omega arith
-
 pub times_le : (a b c : ℕ) → a ≤ b → a * c ≤ b * c
 times_le a b c h = let turned : c * a ≤ c * b = mul-le-mul_left c h in omega arith
-
--- a beginning stays one where as much is left out of both
-pub prefix_drop : (k : ℕ) (xs ys : List Symbol) → IsPrefix xs ys → k ≤ length xs → IsPrefix (drop k xs) (drop k ys)
-prefix_drop k xs ys p h = record { rest = p.rest; joins = sym (drop-append-le k xs p.rest h) ∙ ap (drop k) p.joins }
-
-beats-without_error : (size room : ℕ) (xs : List Symbol) → beats_with_room size room (map without_error xs) ≡ beats_with_room size room xs
-beats-without_error size room [] = refl
-beats-without_error size room (x ∷ xs) =
-    by_test (eqb room 0 || x.first) (beats-without_error size (cond x.last 0 (size - 1)) xs) (beats-without_error size (cond x.last 0 (room - 1)) xs)
-  where
-    by_test : (b : Bool) → beats_with_room size (cond x.last 0 (size - 1)) (map without_error xs) ≡ beats_with_room size (cond x.last 0 (size - 1)) xs
-        → beats_with_room size (cond x.last 0 (room - 1)) (map without_error xs) ≡ beats_with_room size (cond x.last 0 (room - 1)) xs
-        → cond b (1 + beats_with_room size (cond x.last 0 (size - 1)) (map without_error xs)) (beats_with_room size (cond x.last 0 (room - 1)) (map without_error xs))
-        ≡ cond b (1 + beats_with_room size (cond x.last 0 (size - 1)) xs) (beats_with_room size (cond x.last 0 (room - 1)) xs)
-    by_test true p q = ap (λ k. 1 + k) p
-    by_test false p q = q
-
-more_beats : (size room : ℕ) (xs ys : List Symbol) → beats_with_room size room xs ≤ beats_with_room size room (xs ++ ys)
-more_beats size room [] ys = omega arith
-more_beats size room (x ∷ xs) ys =
-    by_test (eqb room 0 || x.first) (more_beats size (cond x.last 0 (size - 1)) xs ys) (more_beats size (cond x.last 0 (room - 1)) xs ys)
-  where
-    by_test : (b : Bool) → beats_with_room size (cond x.last 0 (size - 1)) xs ≤ beats_with_room size (cond x.last 0 (size - 1)) (xs ++ ys)
-        → beats_with_room size (cond x.last 0 (room - 1)) xs ≤ beats_with_room size (cond x.last 0 (room - 1)) (xs ++ ys)
-        → cond b (1 + beats_with_room size (cond x.last 0 (size - 1)) xs) (beats_with_room size (cond x.last 0 (room - 1)) xs)
-        ≤ cond b (1 + beats_with_room size (cond x.last 0 (size - 1)) (xs ++ ys)) (beats_with_room size (cond x.last 0 (room - 1)) (xs ++ ys))
-    by_test true p q = omega (arith, p)
-    by_test false p q = q
-
-pub beats_in_front : (size room : ℕ) (xs ys : List Symbol) → IsPrefix (map without_error xs) (map without_error ys) → beats_with_room size room xs ≤ beats_with_room size room ys
-beats_in_front size room xs ys p =
-    let more = more_beats size room (map without_error xs) p.rest in
-    let whole : beats_with_room size room (map without_error xs ++ p.rest) ≡ beats_with_room size room (map without_error ys) = ap (beats_with_room size room) p.joins in
-    omega (arith, more, whole, beats-without_error size room xs, beats-without_error size room ys)
 
 module _ (n : Numbers) (l : Line) (line : IsLine n l) where
   within : (channel : ℕ) → channel ≤ n.max_channel → IsTrue (reaches (sink_of n) channel)
@@ -269,61 +224,7 @@ module _ (n : Numbers) (l : Line) (line : IsLine n l) where
   rest_fits : (line_shape n).rest < (sink_of n).symbols
   rest_fits = omega (arith, wide_less, line.some_common)
 
-  -- ---- the queue's beats are the first of the undelivered ones
-
   module _ (count : ℕ) (legal : IsLegalSource n.source l.source count) where
-    no_need : (shape : Shape) → shape.needs_ready ≡ false → IsTrue shape.needs_ready → ⊥
-    no_need shape none need = both_ways _ none need
-
-    front_law : StageLaw (shape_four n) run_four count
-    front_law = four_keeps.law count legal (λ need. absurd (cc))
-
-    gathered_legal : (c : ℕ) → c < count → IsLegalAt (side_four n) l.gathered c
-    gathered_legal c h = four_keeps.legal c (λ b k. legal b (omega arith)) (λ need. absurd (cc))
-
-    queued_legal : (c : ℕ) → c < count → IsLegalAt (side_four n) l.queued c
-    queued_legal c h = five_keeps.legal c (λ b k. legal b (omega arith)) (λ need. absurd (cc))
-
-    five_law : StageLaw (shape_five n) run_five count
-    five_law = five_keeps.law count legal (λ need. absurd (cc))
-
-    queue_law : StageLaw (buffer_shape (reaches (sink_of n)) n.depth (side_four n)) (plain_run l.gathered l.queued) count
-    queue_law = (queue_keeps (reaches (sink_of n)) n.depth (side_four n) l.gathered l.queued l.queue line.queue refl some_sink within).law count gathered_legal (λ need. absurd (cc))
-
-    delay_law : StageLaw (wire_shape (reaches (sink_of n)) (side_four n) (sink_of n) 0 false) (wire_run (side_four n) l.queued l.sink) count
-    delay_law = (delay_keeps (reaches (sink_of n)) n.latency (side_four n) l.queued l.sink line.delay refl some_sink within).law count queued_legal (λ need. absurd (cc))
-
-    -- all that came between the parts passes
-    gathered_kept : (c : ℕ) → c ≤ count → kept_symbols (reaches (sink_of n)) (side_four n) l.gathered c ≡ transferred_symbols (side_four n) l.gathered c
-    gathered_kept c h = kept_in_middle (reaches (sink_of n)) (reaches (sink_of n)) (transferred_symbols n.source l.source c) (transferred_symbols (side_four n) l.gathered c) (λ channel passed. passed) (front_law.prefix.in_order c h)
-
-    queued_kept : (c : ℕ) → c ≤ count → kept_symbols (reaches (sink_of n)) (side_four n) l.queued c ≡ transferred_symbols (side_four n) l.queued c
-    queued_kept c h = kept_in_middle (reaches (sink_of n)) (reaches (sink_of n)) (transferred_symbols n.source l.source c) (transferred_symbols (side_four n) l.queued c) (λ channel passed. passed) (five_law.prefix.in_order c h)
-
-    same_given : (c : ℕ) → c ≤ count → length (transferred_symbols (sink_of n) l.sink c) ≡ length (transferred_symbols (side_four n) l.queued c)
-    same_given c h =
-        let all = ap length (queued_kept c h) in
-        omega (arith, length_in_order _ _ (delay_law.prefix.in_order c h), delay_law.hold c h, all)
-
-    in_queue : (c : ℕ) → c ≤ count → IsPrefix (map without_error (inside (buffer_shape (reaches (sink_of n)) n.depth (side_four n)) (plain_run l.gathered l.queued) c))
-        (map without_error (undelivered (reaches (sink_of n)) n.source (sink_of n) l.source l.sink c))
-    in_queue c h =
-        let k : ℕ = length (transferred_symbols (side_four n) l.queued c) in
-        let least : length (transferred_symbols (side_four n) l.queued c) ≤ length (transferred_symbols (side_four n) l.gathered c) = omega (arith, length_in_order _ _ (queue_law.prefix.in_order c h), ap length (gathered_kept c h)) in
-        let front = prefix_drop (length (transferred_symbols (side_four n) l.queued c)) (map without_error (transferred_symbols (side_four n) l.gathered c)) (map without_error (kept_symbols (reaches (sink_of n)) n.source l.source c))
-        (front_law.prefix.in_order c h) (omega (arith, least, length-map (transferred_symbols (side_four n) l.gathered c) without_error)) in
-        let from : drop (length (transferred_symbols (side_four n) l.queued c)) (map without_error (transferred_symbols (side_four n) l.gathered c)) ≡ map without_error (inside (buffer_shape (reaches (sink_of n)) n.depth (side_four n)) (plain_run l.gathered l.queued) c) =
-        drop-map without_error (length (transferred_symbols (side_four n) l.queued c)) (transferred_symbols (side_four n) l.gathered c) ∙ ap (λ (xs : List Symbol). map without_error (drop (length (transferred_symbols (side_four n) l.queued c)) xs)) (sym (gathered_kept c h)) in
-        let to : drop (length (transferred_symbols (side_four n) l.queued c)) (map without_error (kept_symbols (reaches (sink_of n)) n.source l.source c)) ≡ map without_error (undelivered (reaches (sink_of n)) n.source (sink_of n) l.source l.sink c) =
-        drop-map without_error (length (transferred_symbols (side_four n) l.queued c)) (kept_symbols (reaches (sink_of n)) n.source l.source c) ∙ ap (λ j. map without_error (drop j (kept_symbols (reaches (sink_of n)) n.source l.source c))) (sym (same_given c h)) in
-        subst (λ (xs : List Symbol). IsPrefix xs (map without_error (undelivered (reaches (sink_of n)) n.source (sink_of n) l.source l.sink c))) from
-        (subst (λ (ys : List Symbol). IsPrefix (drop (length (transferred_symbols (side_four n) l.queued c)) (map without_error (transferred_symbols (side_four n) l.gathered c))) ys) to front)
-
-    queue_shows : (c : ℕ) → c < count → beats_begun (n.common * n.wide_parts) (undelivered (reaches (sink_of n)) n.source (sink_of n) l.source l.sink c) + n.source.symbols ≤ n.depth → is_high l.gathered.ready c ≡ true
-    queue_shows c h room =
-        queue_has_room (reaches (sink_of n)) n.depth (side_four n) l.gathered l.queued l.queue line.queue refl some_sink within c (λ b k. gathered_legal b (omega arith))
-        (omega (arith, some_source, beats_in_front (n.common * n.wide_parts) 0 _ _ (in_queue c (omega arith))))
-
     law : StageLaw (line_shape n) line_run count
     law = line_keeps.law count legal (λ need. absurd (cc))
 
@@ -341,9 +242,9 @@ module _ (n : Numbers) (l : Line) (line : IsLine n l) where
         record {
           delivers = λ start h ready full. stage_delivers (line_shape n) line_run count law rest_fits start (stream_window (stream_of_line n)) h (omega (arith, window_fits)) ready full;
           accepts = λ start h ready. stage_accepts (line_shape n) line_run count law legal line.strict start (stream_window (stream_of_line n)) h window_fits ready;
-          takes_in = λ start h room. stage_accepts (shape_four n) run_four count front_law legal line.strict start (stream_window (stream_of_line n)) h front_fits
-              (λ c from to. and_from _ _ (le-leb 0 c (omega arith)) (now c (queue_shows c (omega arith) (room c from to))));
+          takes_in = λ start h room. queue_takes_in (shape_four n) (wire_shape (reaches (sink_of n)) (side_four n) (sink_of n) 0 false) run_four (wire_run (side_four n) l.queued l.sink) n.depth l.queue count four_keeps line.queue
+              (delay_keeps (reaches (sink_of n)) n.latency (side_four n) l.queued l.sink line.delay refl some_sink within) (record { hold = refl; rest = refl; step = refl; largest = refl; needs_ready = refl })
+              refl (λ channel passed. passed) refl refl line.strict some_source some_sink legal start (stream_window (stream_of_line n)) h front_fits room;
+          shows = λ direct start h full. stage_shows (line_shape n) line_run count law rest_fits direct start (stream_window (stream_of_line n)) h (omega (arith, window_fits)) full;
+          frees = λ direct start h sent quiet. stage_frees (line_shape n) line_run count law direct start (stream_window (stream_of_line n)) h (omega (arith, window_fits)) sent quiet;
         }
-      where
-        now : (c : ℕ) → is_high l.gathered.ready c ≡ true → is_high l.gathered.ready (c - 0) ≡ true
-        now c shown = let same : c ≡ c - 0 = omega arith in subst (λ b. is_high l.gathered.ready b ≡ true) same shown

@@ -7,12 +7,12 @@ use Rattle.stream_runs.specs.Laws.{shown_holds, joined_error_of_beat}
 use Rattle.stream_runs.specs.View.{Pace, EndView, Side, Beat, beat_at, is_high, is_transfer}
 use Rattle.stream_runs.specs.Symbols.{Symbol, without_error, symbols_of, symbol_count, shown_count, shown_symbols, symbols_in}
 use Rattle.stream_runs.specs.Source.{IsLegalSource, IsLegalAt, IsHeld, ShowsSame}
-use Rattle.stream_machines.specs.Stage.{KeepsStageLaw, PassesReady, inside, is_at_rest}
+use Rattle.stream_machines.specs.Stage.{KeepsStageLaw, PassesReady, inside, is_at_rest, is_idle}
 use Rattle.stream_machines.specs.Flow.{IsFlow, PassesOn, ShowsNext, kept_in, kept_shown}
 use Rattle.stream_machines.specs.Parts.{IsNarrowRun, IsSplit, IsFirstOf, is_none, pieces_now, narrow_shape, plain_run}
 use Rattle.stream_machines.proofs.FlowLaw.{no_rank}
 use Rattle.stream_machines.proofs.FlowKeeps.{flow_keeps}
-use Rattle.stream_machines.proofs.Direct.{direct_transfer, direct_ready, rests_with, kept_in_all, kept_shown_all}
+use Rattle.stream_machines.proofs.Direct.{direct_transfer, direct_ready, rests_with, idle_with, none_waits, kept_in_all, kept_shown_all}
 use Rattle.stream_machines.proofs.Joining.{total, IsRow, length_of_all, same_held, row_of_split, symbols_of_split}
 
 -- what is left of a beat: its last pieces, which leave out at least one
@@ -261,7 +261,8 @@ module _ (passes : ℕ → Bool) (pieces_of : Beat → List Beat) (wide narrow :
         paced = λ c legal _. record { allowed = λ _. or_left _ _ (eq-eqb narrow.pace.latency 0 narrow_direct); held = holds c legal };
         ranked = λ c legal _ is. no_rank (narrow_shape passes wide narrow) (plain_run up down) c refl refl (λ quiet ready.
             let ready_now : is_high down.ready c ≡ true = direct_ready narrow.pace down c narrow_direct ready in
-            by_left c is quiet ready_now (left c) refl);
+            by_left c is quiet ready_now (left c) refl)
+            (λ low. idles c is low (left c) refl);
       }
     where
       by_left : (c : ℕ) → inside (narrow_shape passes wide narrow) (plain_run up down) c ≡ store c → is_transfer narrow.pace down c ≡ false → is_high down.ready c ≡ true → (bs : List Beat) → left c ≡ bs
@@ -269,6 +270,13 @@ module _ (passes : ℕ → Bool) (pieces_of : Beat → List Beat) (wide narrow :
       by_left c is quiet ready (b ∷ bs) e = absurd (both_ways _ quiet (direct_transfer narrow.pace down c narrow_direct ∙ and_from _ _ (shown_while_left c b bs e) ready))
       by_left c is quiet ready [] e =
           rests_with (narrow_shape passes wide narrow) (plain_run up down) c [] (is ∙ ap (flat_map (symbols_of narrow)) e) (run.asks c ∙ (ap (λ (bs : List Beat). is_none bs && is_high down.ready c) e ∙ ready)) (omega arith) refl
+
+      idles : (c : ℕ) → inside (narrow_shape passes wide narrow) (plain_run up down) c ≡ store c → is_high down.valid c ≡ false → (bs : List Beat) → left c ≡ bs
+          → is_idle (narrow_shape passes wide narrow) (plain_run up down) c ≡ true
+      idles c is low (b ∷ bs) e = absurd (both_ways _ low (shown_while_left c b bs e))
+      idles c is low [] e =
+          let none_comes : is_high up.valid c ≡ false = sym (run.valid c ∙ ap (λ (bs : List Beat). not (is_none bs) || is_high up.valid c) e) ∙ low in
+          idle_with (narrow_shape passes wide narrow) (plain_run up down) c [] (is ∙ ap (flat_map (symbols_of narrow)) e) (none_waits wide.pace up c none_comes) (omega arith) refl
 
 -- the machine that takes beats apart, between ends of ready latency 0
 pub narrow_keeps : (passes : ℕ → Bool) (pieces_of : Beat → List Beat) (wide narrow : Side) (up down : EndView) (left : ℕ → List Beat) → IsNarrowRun pieces_of wide narrow up down left

@@ -1,6 +1,5 @@
 -- A stage that passes each beat as it is keeps the law of a stage.
-use Rattle.std.proofs.Common.{◌≡◌, ◌⊎◌, ℕ, zero, suc, ◌+◌, ◌≤◌, ◌<◌, Bool, true, false, cond, not, IsTrue, ◌||◌, ◌&&◌, List, [], ◌++◌, map, length, take, drop, refl, ap, sym, ◌∙◌, subst, inl, inr, arith, nat_lt, nat_le}
-use Rattle.std.specs.List.{list_any}
+use Rattle.std.proofs.Common.{◌≡◌, ◌⊎◌, ℕ, zero, suc, ◌+◌, ◌≤◌, ◌<◌, Bool, true, false, cond, IsTrue, ◌||◌, ◌&&◌, List, [], ◌++◌, map, length, take, drop, refl, ap, sym, ◌∙◌, subst, inl, inr, arith, nat_lt}
 use Rattle.std.proofs.lemmas.List.{take_all, drop_at, drop_all}
 use Rattle.std.proofs.lemmas.Bool.{cases_Bool, and_parts, and_from, cond-true, ltb-false, both_ways}
 use Rattle.stream_runs.specs.View.{EndView, Side, beat_at, is_high, is_transfer, is_ready_cycle}
@@ -11,6 +10,7 @@ use Rattle.stream_machines.specs.Stage.{inside, is_at_rest, is_exempt, RankMoves
 use Rattle.stream_runs.specs.Laws.{prefix_of_same, kept_more, legal_holds_data, length_in, joined_error_of_beat}
 use Rattle.stream_machines.specs.ReadyCycles.{one_if, ready_cycles_step, ready_cycles_le}
 use Rattle.stream_machines.proofs.Fills.{HoldsData}
+use Rattle.stream_machines.proofs.Direct.{rests_with, idle_with, none_waits}
 
 module _ (passes : ℕ → Bool) (side : Side) (view : EndView) (positive : 0 < side.symbols)
     (all_pass : (channel : ℕ) → channel ≤ side.max_channel → IsTrue (passes channel)) (count : ℕ) (legal : IsLegalSource side view count) where
@@ -41,9 +41,7 @@ module _ (passes : ℕ → Bool) (side : Side) (view : EndView) (positive : 0 < 
   nothing_inside c h = ap (drop (length (transferred_symbols side view c))) (all_kept c h) ∙ drop_all (length (transferred_symbols side view c)) (transferred_symbols side view c) (omega arith)
 
   rest_is : (c : ℕ) → c ≤ count → is_high view.ready c ≡ true → is_at_rest (pass_shape passes side) (pass_run side view) c ≡ true
-  rest_is c h ready =
-      let none = nothing_inside c h in
-      and_from _ _ ready (subst (λ (xs : List Symbol). (nat_le (length xs) 0 && not (list_any (λ (symbol : Symbol). symbol.last) xs)) ≡ true) (sym none) refl)
+  rest_is c h ready = rests_with (pass_shape passes side) (pass_run side view) c [] (nothing_inside c h) ready (omega arith) refl
 
   not_ready : (c : ℕ) → c ≤ count → is_at_rest (pass_shape passes side) (pass_run side view) c ≡ false → is_high view.ready c ≡ false
   not_ready c h restless = by_ready (cases_Bool (is_high view.ready c))
@@ -62,6 +60,7 @@ module _ (passes : ℕ → Bool) (side : Side) (view : EndView) (positive : 0 < 
         stays = λ quiet moving. stays (cases_Bool (is_high view.ready c)) (cases_Bool (nat_lt 0 side.pace.latency)) moving;
         falls = λ quiet ready restless. falls ready (not_ready c (omega arith) restless);
         rises = λ given moving. omega (arith, stays (cases_Bool (is_high view.ready c)) (cases_Bool (nat_lt 0 side.pace.latency)) moving);
+        advances = λ direct low busy. absurd (both_ways _ busy (idle_with (pass_shape passes side) (pass_run side view) c [] (nothing_inside c (omega arith)) (none_waits side.pace view c low) (omega arith) refl));
       }
     where
       no_rise : is_high view.ready c ≡ false → ready_cycles side.pace.latency view (suc c) ≤ ready_cycles side.pace.latency view c

@@ -1,22 +1,24 @@
 -- A whole stream to a sink without ready is served.
-use Rattle.std.proofs.Common.{◌≡◌, ◌⊎◌, ℕ, zero, suc, ◌+◌, ◌-◌, ◌*◌, ◌≤◌, ◌<◌, Bool, true, false, cond, IsTrue, refl, ap, subst, inl, inr, arith, nat_lt, ◌&&◌, ◌∙◌}
+use Rattle.std.proofs.Common.{◌≡◌, ◌⊎◌, ℕ, zero, suc, ◌+◌, ◌-◌, ◌*◌, ◌≤◌, ◌<◌, Bool, true, false, cond, IsTrue, refl, ap, inl, inr, arith, nat_lt, ◌&&◌, ◌∙◌}
 use Rattle.std.proofs.Math.Nat.{mul-le-mul_left}
-use Rattle.std.proofs.lemmas.Bool.{cases_lt, and_from, leb-true, le-leb, lt-ltb, le-ltb, ltb-true, cond-true, cond-false}
-use Rattle.stream_runs.specs.View.{is_high, IsReadyBefore, is_transfer}
+use Rattle.std.proofs.lemmas.Bool.{cases_lt, leb-true, le-leb, lt-ltb, le-ltb, ltb-true, cond-true, cond-false}
+use Rattle.stream_runs.specs.View.{IsReadyBefore, is_transfer}
 use Rattle.stream_runs.specs.Source.{IsLegalSource}
 use Rattle.stream_runs.specs.Delivery.{reaches, stream_lag, larger_allowance, IsServed}
 use Rattle.stream_runs.specs.Awake.{stream_window, NeverIdles}
 use Rattle.stream_machines.specs.Stage.{StageRun, StageLaw, KeepsStageLaw, chain_run}
 use Rattle.stream_machines.specs.Parts.{widen_shape, plain_run}
-use Rattle.stream_machines.specs.Buffers.{buffer_shape}
+use Rattle.stream_machines.specs.Buffers.{zero_pace, buffer_shape}
 use Rattle.stream_machines.specs.Wires.{wire_shape, wire_run}
 use Rattle.stream_machines.specs.Line.{TiedNumbers, TiedLine, IsTiedLine, tied_one, tied_two, tied_sink, tied_shape_two, tied_shape_three, tied_shape, stream_of_tied, run_of_tied}
 use Rattle.stream_machines.proofs.ChainLaw.{chain_keeps}
-use Rattle.stream_machines.proofs.AwakeLaw.{stage_delivers, stage_accepts}
+use Rattle.stream_machines.proofs.AwakeLaw.{stage_delivers, stage_accepts, stage_shows, stage_frees}
 use Rattle.stream_machines.proofs.BuffersLaw.{queue_keeps, queue_passes_ready}
 use Rattle.stream_machines.proofs.WidenLaw.{widen_keeps, widen_passes_ready}
 use Rattle.stream_machines.proofs.WiresLaw.{filter_keeps, tie_keeps, same_ready, not_reached}
-use Rattle.stream_machines.proofs.LineLaw.{step_at_most, times_le}
+use Rattle.stream_machines.proofs.Direct.{ready_at_once}
+use Rattle.stream_machines.proofs.ChainNumbers.{step_at_most}
+use Rattle.stream_machines.proofs.LineLaw.{times_le}
 
 module _ (n : TiedNumbers) (l : TiedLine) (line : IsTiedLine n l) where
   within : (channel : ℕ) → channel ≤ n.max_channel → IsTrue (reaches (tied_sink n) channel)
@@ -163,8 +165,7 @@ module _ (n : TiedNumbers) (l : TiedLine) (line : IsTiedLine n l) where
           delivers = λ start h ready full. stage_delivers (tied_shape n) tied_run count law rest_fits start (stream_window (stream_of_tied n)) h (omega (arith, window_fits)) ready full;
           accepts = λ start h ready. stage_accepts (tied_shape n) tied_run count law legal line.strict start (stream_window (stream_of_tied n)) h window_fits ready;
           takes_in = λ start h room. stage_accepts (tied_shape n) tied_run count law legal line.strict start (stream_window (stream_of_tied n)) h window_fits
-              (λ c from to. and_from _ _ (le-leb 0 c (omega arith)) (now c (always c (omega arith))));
+              (λ c from to. ready_at_once zero_pace l.sink c refl (always c (omega arith)));
+          shows = λ direct start h full. stage_shows (tied_shape n) tied_run count law rest_fits direct start (stream_window (stream_of_tied n)) h (omega (arith, window_fits)) full;
+          frees = λ direct start h sent quiet. stage_frees (tied_shape n) tied_run count law direct start (stream_window (stream_of_tied n)) h (omega (arith, window_fits)) sent quiet;
         }
-      where
-        now : (c : ℕ) → is_high l.sink.ready c ≡ true → is_high l.sink.ready (c - 0) ≡ true
-        now c shown = let same : c ≡ c - 0 = omega arith in subst (λ b. is_high l.sink.ready b ≡ true) same shown

@@ -1,7 +1,7 @@
 -- The machine that gathers beats keeps the law of a stage.
 use Rattle.std.proofs.Common.{◌≡◌, ◌⊎◌, ℕ, zero, suc, ◌+◌, ◌-◌, ◌*◌, ◌≤◌, ◌<◌, Bool, true, false, cond, not, IsTrue, IsFalse, ◌&&◌, ◌||◌, List, [], ◌∷◌, ◌++◌, map, length, refl, ap, sym, ◌∙◌, subst, inl, inr, arith, length-append, eqb, nat_lt}
 use Rattle.std.proofs.Math.Nat.{mul-le-mul_left}
-use Rattle.std.specs.List.{flat_map}
+use Rattle.std.specs.List.{flat_map, list_any}
 use Rattle.std.proofs.lemmas.List.{append-nil}
 use Rattle.std.proofs.lemmas.List.Concat.{flat_map-append}
 use Rattle.std.proofs.lemmas.Bool.{cases_Bool, and_parts, and_from, and_left, or_left, or_right, cond-true, cond-false, eq-eqb, eqb-true, both_ways}
@@ -14,7 +14,7 @@ use Rattle.stream_machines.specs.Flow.{IsFlow, PassesOn, ShowsNext, kept_in}
 use Rattle.stream_machines.specs.Parts.{IsWidenRun, IsJoined, completes, widen_shape, plain_run}
 use Rattle.stream_machines.proofs.FlowLaw.{no_rank}
 use Rattle.stream_machines.proofs.FlowKeeps.{flow_keeps}
-use Rattle.stream_machines.proofs.Direct.{direct_transfer, direct_ready, rests_with, kept_in_all, kept_shown_all, or_none}
+use Rattle.stream_machines.proofs.Direct.{direct_transfer, direct_ready, rests_with, idle_with, ready_frees, kept_in_all, kept_shown_all, or_none}
 use Rattle.stream_machines.proofs.Joining.{IsRow, AllGo, row-append, go-append, total_going, length_of_all, errors_of_row, no_last, row_channel, held_is, symbols_of_joined}
 
 -- a beat goes out where one comes in that completes a wide beat
@@ -23,6 +23,10 @@ ports_meet true true true = refl
 ports_meet true true false = refl
 ports_meet true false r = refl
 ports_meet false l r = refl
+
+-- it asks for beats while it shows none
+pub widen_asks : (parts : ℕ) (narrow wide : Side) (up down : EndView) (gathered : ℕ → List Beat) → IsWidenRun parts narrow wide up down gathered → AsksWhileIdle up down
+widen_asks parts narrow wide up down gathered run c idle = run.asks c ∙ or_left _ _ (ap not (sym (run.valid c) ∙ idle))
 
 -- what is known of the beats that are gathered, where a packet is open or not and the last beat was on this channel
 record Gathering (narrow : Side) (parts : ℕ) (opened : Bool) (channel : ℕ) (beats : List Beat) : Type 0 where
@@ -238,14 +242,22 @@ module _ (passes : ℕ → Bool) (parts : ℕ) (narrow wide : Side) (up down : E
         passes_on = λ c legal _. passes_on c legal;
         shows = λ c legal _ valid. shows c legal valid;
         paced = λ c legal _. record { allowed = λ _. or_left _ _ (eq-eqb wide.pace.latency 0 wide_direct); held = holds c legal };
-        ranked = λ c legal _ is. no_rank (widen_shape passes parts narrow wide) (plain_run up down) c refl refl (λ quiet ready.
-            let g = gathering c (λ b h. legal b (omega arith)) in
-            let asked : is_high up.ready c ≡ true = run.asks c ∙ or_right _ _ (direct_ready wide.pace down c wide_direct ready) in
-            let least : narrow.symbols * length (gathered c) ≤ narrow.symbols * (parts - 1) = mul-le-mul_left narrow.symbols (omega (arith, g.few)) in
-            let turned : (parts - 1) * narrow.symbols ≡ narrow.symbols * (parts - 1) = omega arith in
-            rests_with (widen_shape passes parts narrow wide) (plain_run up down) c (store c) is asked
-            (omega (arith, length_of_all narrow (gathered c), total_going narrow (gathered c) g.go, least, turned)) (no_last narrow (gathered c) g.go));
+        ranked = λ c legal _ is. no_rank (widen_shape passes parts narrow wide) (plain_run up down) c refl refl
+            (λ quiet ready. rests_with (widen_shape passes parts narrow wide) (plain_run up down) c (store c) is
+            (run.asks c ∙ or_right _ _ (direct_ready wide.pace down c wide_direct ready)) (few_kept c legal) (none_ends c legal))
+            (λ low. idle_with (widen_shape passes parts narrow wide) (plain_run up down) c (store c) is
+            (ready_frees narrow.pace up c (widen_asks parts narrow wide up down gathered run c low)) (few_kept c legal) (none_ends c legal));
       }
+    where
+      few_kept : (c : ℕ) → IsLegalSource narrow up (suc c) → length (store c) ≤ (parts - 1) * narrow.symbols
+      few_kept c legal =
+          let g = gathering c (λ b h. legal b (omega arith)) in
+          let least : narrow.symbols * length (gathered c) ≤ narrow.symbols * (parts - 1) = mul-le-mul_left narrow.symbols (omega (arith, g.few)) in
+          let turned : (parts - 1) * narrow.symbols ≡ narrow.symbols * (parts - 1) = omega arith in
+          omega (arith, length_of_all narrow (gathered c), total_going narrow (gathered c) g.go, least, turned)
+
+      none_ends : (c : ℕ) → IsLegalSource narrow up (suc c) → list_any (λ (symbol : Symbol). symbol.last) (store c) ≡ false
+      none_ends c legal = no_last narrow (gathered c) (gathering c (λ b h. legal b (omega arith))).go
 
 -- the machine that gathers beats, between ends of ready latency 0
 pub widen_keeps : (passes : ℕ → Bool) (parts : ℕ) (narrow wide : Side) (up down : EndView) (gathered : ℕ → List Beat) → IsWidenRun parts narrow wide up down gathered
@@ -260,10 +272,6 @@ widen_keeps passes parts narrow wide up down gathered run some_parts positive si
 pub widen_passes_ready : (passes : ℕ → Bool) (parts : ℕ) (narrow wide : Side) (up down : EndView) (gathered : ℕ → List Beat) → IsWidenRun parts narrow wide up down gathered
     → PassesReady (widen_shape passes parts narrow wide) (plain_run up down)
 widen_passes_ready passes parts narrow wide up down gathered run c legal ready = run.asks c ∙ or_right _ _ (ready c (omega arith))
-
--- it asks for beats while it shows none
-pub widen_asks : (parts : ℕ) (narrow wide : Side) (up down : EndView) (gathered : ℕ → List Beat) → IsWidenRun parts narrow wide up down gathered → AsksWhileIdle up down
-widen_asks parts narrow wide up down gathered run c idle = run.asks c ∙ or_left _ _ (ap not (sym (run.valid c) ∙ idle))
 
 -- what it may keep for good is less than a wide beat
 pub widen_rests : (passes : ℕ → Bool) (parts : ℕ) (narrow wide : Side) → 0 < parts → 0 < narrow.symbols → wide.symbols ≡ narrow.symbols * parts → (widen_shape passes parts narrow wide).rest < wide.symbols

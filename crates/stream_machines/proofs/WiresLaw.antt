@@ -5,7 +5,7 @@ use Rattle.std.proofs.lemmas.List.{append-nil, length-map}
 use Rattle.std.proofs.lemmas.List.FromFn.{length-map-range_with_len}
 use Rattle.std.proofs.lemmas.Bool.{cases_Bool, cases_lt, and_parts, and_from, and_left, or_left, or_right, cond-true, cond-false, eq-eqb, eqb-true, both_ways, lt-ltb, le-leb, lt-leb, le-ltb, ne_eqb, leb-true}
 use Rattle.stream_runs.specs.Laws.{shown_holds, joined_error_of_beat}
-use Rattle.stream_runs.specs.View.{Pace, EndView, Side, Beat, beat_at, is_high, is_transfer, is_ready_cycle, IsReadyBefore}
+use Rattle.stream_runs.specs.View.{Pace, EndView, Side, Beat, beat_at, is_high, is_transfer, is_stalled, is_ready_cycle, IsReadyBefore}
 use Rattle.stream_runs.specs.Symbols.{Symbol, without_error, symbol_in, symbols_of, symbol_count, shown_count, shown_symbols, value_of}
 use Rattle.stream_runs.specs.Source.{IsLegalSource, IsLegalAt, IsHeld, ShowsSame, KeepsPace, may_show, was_ready, beats_since_ready, is_allowed_late}
 use Rattle.stream_machines.specs.Stage.{Shape, StageRun, KeepsStageLaw, PassesReady, PassesAll, AsksWhileIdle, RankMoves, inside, gives, is_at_rest, is_delayed, ready_cycles}
@@ -17,7 +17,7 @@ use Rattle.stream_machines.specs.Words.{cleared_word, cleared_beat, HasClearEmpt
 use Rattle.stream_machines.proofs.WordLemmas.{cleared_kept, cleared_empty}
 use Rattle.stream_machines.proofs.FlowLaw.{no_rank}
 use Rattle.stream_machines.proofs.FlowKeeps.{flow_keeps}
-use Rattle.stream_machines.proofs.Direct.{direct_transfer, rests_with}
+use Rattle.stream_machines.proofs.Direct.{direct_transfer, rests_with, idle_with, none_waits, ready_frees}
 use Rattle.stream_machines.specs.ReadyCycles.{one_if, ready_cycles_step, ready_cycles_le, comes_in_ready}
 
 -- what a machine that holds nothing keeps to in a cycle
@@ -95,18 +95,21 @@ module _ (shape : Shape) (run : StageRun) (positive : 0 < shape.up.symbols)
 
 -- ---- the rank of a machine that holds nothing
 
--- the sink's ready cycles are those of the source, and both ready latencies are above 0, or the upstream one is 0
+-- the sink's ready cycles are those of the source, both ready latencies are above 0, or the upstream one is 0, and no beat
+-- waits while none is shown
 pub delayed_rank : (passes : ℕ → Bool) (up_side down_side : Side) (needs_ready : Bool) (up down : EndView) (c : ℕ)
     → inside (wire_shape passes up_side down_side up_side.pace.latency needs_ready) (wire_run up_side up down) c ≡ []
     → (0 < up_side.pace.latency → 0 < down_side.pace.latency)
     → (is_ready_cycle down_side.pace down c ≡ true → is_ready_cycle up_side.pace up c ≡ true)
+    → (down_side.pace.latency ≡ 0 → is_high down.valid c ≡ false → is_stalled up_side.pace up c ≡ false)
     → RankMoves (wire_shape passes up_side down_side up_side.pace.latency needs_ready) (wire_run up_side up down) c
-delayed_rank passes up_side down_side needs_ready up down c none both_delayed ready_too =
+delayed_rank passes up_side down_side needs_ready up down c none both_delayed ready_too free =
     record {
       bounded = ready_cycles_le up_side.pace.latency up c;
       stays = λ quiet moving. stays moving (cases_Bool (is_high up.ready c)) (cases_lt 0 up_side.pace.latency);
       falls = λ quiet ready restless. falls (ready_too ready) (not_ready restless (cases_Bool (is_high up.ready c)));
       rises = λ given moving. omega (arith, stays moving (cases_Bool (is_high up.ready c)) (cases_lt 0 up_side.pace.latency));
+      advances = λ direct low busy. absurd (both_ways _ busy (idle_with (wire_shape passes up_side down_side up_side.pace.latency needs_ready) (wire_run up_side up down) c [] none (free direct low) (omega arith) refl));
     }
   where
     step : ready_cycles up_side.pace.latency up (suc c) + one_if (is_ready_cycle up_side.pace up c) ≡ ready_cycles up_side.pace.latency up c + one_if (is_high up.ready c)
@@ -289,7 +292,7 @@ module _ (passes : ℕ → Bool) (cycles : ℕ) (side : Side) (up down : EndView
         error = ap (λ (b : Beat). b.error) (run.shows c valid);
       })
       (λ c legal _. delay_paced c legal)
-      (λ c legal _ none. delayed_rank passes side (delayed_side side cycles) false up down c none (λ h. omega arith) (λ r. ready_too c ∙ r))
+      (λ c legal _ none. delayed_rank passes side (delayed_side side cycles) false up down c none (λ h. omega arith) (λ r. ready_too c ∙ r) (λ direct low. none_waits side.pace up c (sym (valid_is_valid (omega (arith, direct)) c) ∙ low)))
       refl (λ none. none) (λ channel h _. h)
 
 -- ---- ready tied to 1
@@ -339,10 +342,15 @@ module _ (passes : ℕ → Bool) (side : Side) (up down : EndView) (run : IsTieR
       })
       (λ c legal ready. record { allowed = λ _. refl; held = tie_held c (ready refl) })
       (λ c legal ready none. no_rank (wire_shape passes side (direct_side side) 0 true) (plain_run up down) c refl refl
-      (λ quiet r. rests_with (wire_shape passes side (direct_side side) 0 true) (plain_run up down) c [] none (run.asks c) (omega arith) refl))
+      (λ quiet r. rests_with (wire_shape passes side (direct_side side) 0 true) (plain_run up down) c [] none (run.asks c) (omega arith) refl)
+      (λ low. idle_with (wire_shape passes side (direct_side side) 0 true) (plain_run up down) c [] none (ready_frees side.pace up c (run.asks c)) (omega arith) refl))
       refl (λ none. none) (λ channel h _. h)
 
 -- ---- the filter on channels
+
+-- at ready latency 0 it asks for beats while it shows none
+pub filter_asks : (passes : ℕ → Bool) (side : Side) (up down : EndView) → IsFilterRun passes side up down → side.pace.latency ≡ 0 → AsksWhileIdle up down
+filter_asks passes side up down run direct c idle = run.asks c ∙ or_right _ _ (and_from _ _ (eq-eqb side.pace.latency 0 direct) (ap not idle))
 
 module _ (passes : ℕ → Bool) (largest : ℕ) (side : Side) (up down : EndView) (run : IsFilterRun passes side up down) (positive : 0 < side.symbols)
     (within : (channel : ℕ) → channel ≤ side.max_channel → IsTrue (passes channel) → channel ≤ largest) where
@@ -437,7 +445,7 @@ module _ (passes : ℕ → Bool) (largest : ℕ) (side : Side) (up down : EndVie
         error = ap (λ (b : Beat). b.error) (run.shows c valid);
       })
       (λ c legal _. record { allowed = filter_allowed c (legal c (omega arith)); held = filter_held c legal })
-      (λ c legal _ none. delayed_rank passes side (filtered_side side largest) false up down c none (λ h. h) (ready_cycle_too c))
+      (λ c legal _ none. delayed_rank passes side (filtered_side side largest) false up down c none (λ h. h) (ready_cycle_too c) (λ direct low. ready_frees side.pace up c (filter_asks passes side up down run direct c low)))
       refl (λ none. none) within
 
   pub filter_passes_ready : PassesReady (wire_shape passes side (filtered_side side largest) side.pace.latency false) (wire_run side up down)
@@ -450,10 +458,6 @@ not_reached largest channel = by_order (cases_lt largest channel)
     by_order : (largest < channel) ⊎ (channel ≤ largest) → not (nat_le channel largest) ≡ nat_lt largest channel
     by_order (inl above) = ap not (lt-leb channel largest above) ∙ sym (lt-ltb largest channel above)
     by_order (inr within) = ap not (le-leb channel largest within) ∙ sym (le-ltb largest channel within)
-
--- at ready latency 0 it asks for beats while it shows none
-pub filter_asks : (passes : ℕ → Bool) (side : Side) (up down : EndView) → IsFilterRun passes side up down → side.pace.latency ≡ 0 → AsksWhileIdle up down
-filter_asks passes side up down run direct c idle = run.asks c ∙ or_right _ _ (and_from _ _ (eq-eqb side.pace.latency 0 direct) (ap not idle))
 
 -- ---- beats that are the same but for the order of their symbols or for their error
 
@@ -505,7 +509,8 @@ module _ (passes : ℕ → Bool) (side down_side : Side) (up down : EndView) (sa
           error = error c (legal c (omega arith)) (ap (λ n. eqb n 1) (sym (valid c)) ∙ v);
         })
         (λ c legal _. record { allowed = alike_allowed c (legal c (omega arith)); held = alike_held c legal })
-        (λ c legal _ none. delayed_rank passes side down_side false up down c none (λ h. subst (λ (p : Pace). 0 < p.latency) (sym same_pace) h) (λ r. sym (alike_ready c) ∙ r))
+        (λ c legal _ none. delayed_rank passes side down_side false up down c none (λ h. subst (λ (p : Pace). 0 < p.latency) (sym same_pace) h) (λ r. sym (alike_ready c) ∙ r)
+        (λ _ low. none_waits side.pace up c (ap (λ n. eqb n 1) (sym (valid c)) ∙ low)))
         packets no_errors (λ channel h _. omega (arith, channels))
 
 -- the error port that is tied to 0, behind a source without one

@@ -1,7 +1,7 @@
 -- Runs in which a machine does too much or too little.
 use Rattle.std.specs.Prelude.{ℕ, zero, suc, ◌-◌, true, false, Some, [], ◌∷◌}
 use Rattle.stream_runs.specs.View.{EndView, Side}
-use Rattle.stream_runs.specs.Rows.{always, signal_of, showing, word, on_channel, with_error, later, byte_side}
+use Rattle.stream_runs.specs.Rows.{always, signal_of, showing, word, on_channel, with_error, later, byte_side, both_wait, kept_out}
 use Rattle.stream_machines.specs.Stage.{Shape, StageRun, pass_shape, pass_run}
 use Rattle.stream_machines.specs.Wires.{wire_shape, wire_run, delayed_side}
 
@@ -71,3 +71,16 @@ any_stage hold rest step largest =
 -- a run between idle ends, with any rank
 abbrev pub idle_run : (ℕ → ℕ) → StageRun
 idle_run rank = record { up = blinking; down = waiting_sink; rank = rank }
+
+-- a stage between ends of ready latency 0, with any numbers
+abbrev pub any_direct : ℕ → ℕ → ℕ → ℕ → Shape
+any_direct hold rest step largest = record (any_stage hold rest step largest) { up = byte_side (later 0) 0 }
+
+-- a machine that shows the ready of its sink alone, as a filter that waits for it before it drops, or one that gathers
+-- beats and waits for it before it takes one in: the source's beats wait, and none is shown
+abbrev pub held_back_run : (ℕ → ℕ) → StageRun
+held_back_run rank = record { up = kept_out.source; down = kept_out.sink; rank = rank }
+
+-- a machine that shows the beat that it has taken in only where its sink is ready
+abbrev pub hidden_run : (ℕ → ℕ) → StageRun
+hidden_run rank = record { up = both_wait.source; down = both_wait.sink; rank = rank }

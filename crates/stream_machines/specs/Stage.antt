@@ -1,7 +1,7 @@
 -- The law that each adapter keeps, over what its two sides show.
 use Rattle.std.specs.Prelude.{ℕ, zero, suc, ◌+◌, ◌-◌, ◌*◌, ◌<◌, ◌≤◌, ◌≡◌, Bool, false, not, ◌&&◌, ◌||◌, ◌⊎◌, nat_lt, nat_le, IsTrue, IsFalse, List, length, if◌then◌else◌}
 use Rattle.std.specs.List.{list_any}
-use Rattle.stream_runs.specs.View.{EndView, Side, beat_at, is_high, is_ready_cycle, is_transfer, IsReadyBefore}
+use Rattle.stream_runs.specs.View.{EndView, Side, beat_at, is_high, is_ready_cycle, is_transfer, is_stalled, IsReadyBefore}
 use Rattle.stream_runs.specs.Symbols.{Symbol, symbols_in}
 use Rattle.stream_runs.specs.Source.{IsLegalSource, IsLegalAt}
 use Rattle.stream_runs.specs.Delivery.{DeliversPrefix, LagsWithin}
@@ -29,10 +29,17 @@ pub record StageRun : Type 0 where
 abbrev pub inside : Shape → StageRun → ℕ → List Symbol
 inside shape run c = undelivered shape.passes shape.up shape.down run.up run.down c
 
--- the stage asks for beats, and has none to give but what it may keep
+-- it has no symbol to give but what it may keep
+abbrev pub is_drained : Shape → StageRun → ℕ → Bool
+is_drained shape run c = nat_le (length (inside shape run c)) shape.rest && not (list_any (λ symbol. symbol.last) (inside shape run c))
+
+-- it asks for beats, and has none to give
 abbrev pub is_at_rest : Shape → StageRun → ℕ → Bool
-is_at_rest shape run c =
-    is_high run.up.ready c && (nat_le (length (inside shape run c)) shape.rest && not (list_any (λ symbol. symbol.last) (inside shape run c)))
+is_at_rest shape run c = is_high run.up.ready c && is_drained shape run c
+
+-- no beat waits to come in, and there is none to give
+abbrev pub is_idle : Shape → StageRun → ℕ → Bool
+is_idle shape run c = not (is_stalled shape.up.pace run.up c) && is_drained shape run c
 
 -- both sides have a ready latency above 0
 abbrev pub is_delayed : Shape → Bool
@@ -54,6 +61,9 @@ pub record RankMoves (shape : Shape) (run : StageRun) (c : ℕ) : Type 0 where
       → IsFalse (is_at_rest shape run c) → run.rank (suc c) < run.rank c
   pub rises : IsTrue (gives shape run c) → IsFalse (is_exempt shape run c)
       → run.rank (suc c) ≤ run.rank c + shape.step * length (symbols_in shape.down run.down c)
+  -- whatever ready does, while no beat is shown, at ready latency 0
+  pub advances : shape.down.pace.latency ≡ 0 → IsFalse (is_high run.down.valid c) → IsFalse (is_idle shape run c)
+      → run.rank (suc c) < run.rank c
 
 -- what a stage keeps in the cycles before count
 pub record StageLaw (shape : Shape) (run : StageRun) (count : ℕ) : Type 0 where
@@ -116,6 +126,14 @@ chain_shape first second =
       largest = if nat_lt 0 second.up.pace.latency then second.largest else first.largest + second.largest + (first.step + 1) * second.hold;
       needs_ready = first.needs_ready || second.needs_ready;
     }
+
+-- a shape that holds nothing, adds nothing to a rank, and needs no ready
+pub record IsStill (shape : Shape) : Type 0 where
+  pub hold : shape.hold ≡ 0
+  pub rest : shape.rest ≡ 0
+  pub step : shape.step ≡ 0
+  pub largest : shape.largest ≡ 0
+  pub needs_ready : shape.needs_ready ≡ false
 
 -- the rank of a chain as the cycle begins
 abbrev pub chain_rank : Shape → Shape → StageRun → StageRun → ℕ → ℕ

@@ -4,8 +4,8 @@ ghost use Rattle.std.specs.Prelude.{◌/◌, ◌%◌, ◌^◌, ◌++◌, List, l
 ghost use Rattle.stream_runs.specs.View.{Side, EndView, Beat, beat_at, is_high};
 ghost use Rattle.stream_runs.specs.Symbols.{Symbol, value_of, symbols_of, symbol_count};
 ghost use Rattle.stream_runs.specs.Source.{IsLegalSource};
-ghost use Rattle.stream_runs.specs.Awake.{beats_begun};
-ghost use Rattle.stream_machines.specs.Stage.{inside, KeepsStageLaw, PassesReady, PassesAll, AsksWhileIdle};
+ghost use Rattle.stream_runs.specs.Awake.{Throughout, Sometime, undelivered, beats_begun};
+ghost use Rattle.stream_machines.specs.Stage.{Shape, StageRun, inside, KeepsStageLaw, PassesReady, PassesAll, AsksWhileIdle, IsStill};
 ghost use Rattle.stream_machines.specs.Buffers.{IsBufferRun, IsAllowanceRun, IsRegisterRun, IsQueueRun, buffer_shape, direct_side};
 ghost use Rattle.stream_machines.specs.Parts.{IsWidenRun, widen_shape, plain_run, IsNarrowRun, IsSplit, IsJoined, narrow_shape};
 ghost use Rattle.stream_machines.specs.Wires.{wire_shape, wire_run, filtered_side, delayed_side, turned_side, with_error_bits, IsFilterRun, IsDelayRun, IsTieRun, IsErrorTieRun, IsClearRun, IsReorderRun};
@@ -28,6 +28,25 @@ pub fn queue_is_a_stage()
         → beats_begun side.symbols
         (inside (buffer_shape passes depth side) (plain_run up down) c) < depth
         → IsTrue (is_high up.ready c) }
+{}
+
+/// A queue behind a stage lets it take beats in, whatever its sink does, while the symbols between the
+/// ends of the stream begin so few beats that another source beat has room. What stands behind the queue
+/// holds nothing.
+pub fn queue_takes_in()
+    ensures { (front rear : Shape) (one two : StageRun) (depth : ℕ) (held : ℕ → List Beat)
+        (count : ℕ) → KeepsStageLaw front one → IsQueueRun depth front.down one.down two.up held
+        → KeepsStageLaw rear two → IsStill rear → rear.up ≡ direct_side front.down
+        → ((channel : ℕ) → IsTrue (front.passes channel) → IsTrue (rear.passes channel))
+        → front.needs_ready ≡ false → front.down.pace.latency ≡ 0
+        → front.up.pace.allowance ≡ front.up.pace.latency
+        → 0 < front.up.symbols → 0 < front.down.symbols
+        → IsLegalSource front.up one.up count
+        → (start width : ℕ) → start + width ≤ count
+        → front.up.pace.latency + front.largest + (front.step + 1) * front.hold < width
+        → Throughout start width
+        (λ c. beats_begun front.down.symbols (undelivered front.passes front.up rear.down one.up two.down c) + front.up.symbols ≤ depth)
+        → Sometime start width (λ c. IsTrue (is_high one.up.ready c)) }
 {}
 
 /// The machine that gathers beats is a stage; it asks for beats while it shows none, and keeps less

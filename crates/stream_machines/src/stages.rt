@@ -1,11 +1,11 @@
 //! The law of a stage: what keeps it, and what follows from it.
 
-ghost use Rattle.std.specs.Prelude.{ℕ, ◌+◌, ◌*◌, ◌<◌, ◌≤◌, ◌≡◌, Bool, List, IsTrue};
+ghost use Rattle.std.specs.Prelude.{ℕ, ◌+◌, ◌*◌, ◌<◌, ◌≤◌, ◌≡◌, Bool, List, IsTrue, IsFalse};
 ghost use Rattle.stream_runs.specs.View.{Side, EndView, is_high, is_transfer, is_ready_cycle};
 ghost use Rattle.stream_runs.specs.Symbols.{Symbol};
 ghost use Rattle.stream_runs.specs.Source.{IsLegalSource};
 ghost use Rattle.stream_runs.specs.Awake.{Throughout, Sometime, makes_beat, undelivered};
-ghost use Rattle.stream_machines.specs.Stage.{Shape, StageRun, StageLaw, KeepsStageLaw, PassesReady, Fits, chain_shape, chain_run, pass_shape, pass_run};
+ghost use Rattle.stream_machines.specs.Stage.{Shape, StageRun, StageLaw, KeepsStageLaw, PassesReady, IsStill, Fits, chain_shape, chain_run, pass_shape, pass_run};
 ghost use Rattle.stream_machines.specs.Flow.{IsFlow};
 
 /// A stage that passes each beat as it is keeps the law, between ends of any pace, and passes ready.
@@ -31,6 +31,28 @@ pub fn chain_is_a_stage()
         → (chain_shape first second).hold ≡ 0 → (chain_shape first second).step ≡ 0 }
 {}
 
+/// The numbers of a chain; those of its rank are of one whose middle has ready latency 0.
+pub fn chain_numbers()
+    ensures hold { (first second : Shape)
+        → (chain_shape first second).hold ≡ first.hold + second.hold }
+    ensures rest { (first second : Shape)
+        → (chain_shape first second).rest ≡ first.rest + second.rest }
+    ensures step { (first second : Shape) → second.up.pace.latency ≡ 0
+        → (chain_shape first second).step ≤ first.step + second.step + 1 }
+    ensures step_of_none { (first second : Shape) → second.up.pace.latency ≡ 0
+        → second.hold ≡ 0
+        → (chain_shape first second).step ≡ first.step + second.step }
+    ensures largest { (first second : Shape) → second.up.pace.latency ≡ 0
+        → (chain_shape first second).largest
+        ≡ first.largest + second.largest + (first.step + 1) * second.hold }
+{}
+
+/// A chain of two still shapes is still.
+pub fn chain_still()
+    ensures { (first second : Shape) → IsStill first → IsStill second
+        → IsStill (chain_shape first second) }
+{}
+
 /// An adapter that passes symbols on as a flow does keeps the law of a stage.
 pub fn flow_is_a_stage()
     ensures { (shape : Shape) (run : StageRun) (store : ℕ → List Symbol) → IsFlow shape run store
@@ -46,7 +68,8 @@ pub fn shorter_stages()
 {}
 
 /// A rank keeps a stage awake: in a long enough window of ready cycles it gives a beat, where it has one
-/// throughout, and shows ready.
+/// throughout, and shows ready. Whatever ready does at ready latency 0, it shows a beat where it has one
+/// throughout, and takes one in where one waits and it shows none.
 pub fn rank_keeps_awake()
     ensures delivers { (shape : Shape) (run : StageRun) (count : ℕ) → StageLaw shape run count
         → shape.rest < shape.down.symbols
@@ -61,4 +84,16 @@ pub fn rank_keeps_awake()
         → shape.up.pace.latency + shape.largest + (shape.step + 1) * shape.hold < width
         → Throughout start width (λ c. IsTrue (is_ready_cycle shape.down.pace run.down c))
         → Sometime start width (λ c. IsTrue (is_high run.up.ready c)) }
+    ensures shows { (shape : Shape) (run : StageRun) (count : ℕ) → StageLaw shape run count
+        → shape.rest < shape.down.symbols → shape.down.pace.latency ≡ 0
+        → (start width : ℕ) → start + width ≤ count → shape.largest < width
+        → Throughout start width
+        (λ c. IsTrue (makes_beat shape.down.symbols (undelivered shape.passes shape.up shape.down run.up run.down c)))
+        → Sometime start width (λ c. IsTrue (is_high run.down.valid c)) }
+    ensures frees { (shape : Shape) (run : StageRun) (count : ℕ) → StageLaw shape run count
+        → shape.down.pace.latency ≡ 0
+        → (start width : ℕ) → start + width ≤ count → shape.largest < width
+        → Throughout start width (λ c. IsTrue (is_high run.up.valid c))
+        → Throughout start width (λ c. IsFalse (is_high run.down.valid c))
+        → Sometime start width (λ c. IsTrue (is_transfer shape.up.pace run.up c)) }
 {}

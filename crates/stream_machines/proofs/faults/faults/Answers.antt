@@ -18,3 +18,9 @@ returns-clause-no_blinking c = FaultLemmas.no_rank_blinks
 
 pub returns-clause-no_wire_behind_delay : goal.returns-clause-no_wire_behind_delay
 returns-clause-no_wire_behind_delay c = FaultLemmas.rank_rises
+
+pub returns-clause-no_waiting_source : goal.returns-clause-no_waiting_source
+returns-clause-no_waiting_source c = FaultLemmas.no_source_waits
+
+pub returns-clause-no_hidden_beat : goal.returns-clause-no_hidden_beat
+returns-clause-no_hidden_beat c = FaultLemmas.no_beat_hides
