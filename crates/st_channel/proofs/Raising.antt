@@ -23,7 +23,7 @@ raised passes side largest run le h = record {
   law = λ count legal needs. (let law = h.law count legal needs in record {
     prefix = record { in_order = law.prefix.in_order; holds_data = law.prefix.holds_data; errors = law.prefix.errors };
     hold = law.hold;
-    rank = λ c lt. (let moves = law.rank c lt in record { bounded = moves.bounded; stays = moves.stays; falls = moves.falls; rises = moves.rises });
+    rank = λ c lt. (let moves = law.rank c lt in record { bounded = moves.bounded; stays = moves.stays; falls = moves.falls; rises = moves.rises; advances = moves.advances });
   });
   legal = λ c legal needs. legal_raised side largest run.down c le (h.legal c legal needs);
 }

@@ -12,6 +12,9 @@ returns-then-sink-source-eq0-clause-leads c passes side same strict some all = r
   up = refl;
   down = refl;
   test = refl;
+  rest = refl;
+  step = refl;
+  largest = omega arith;
 }
 
 pub returns-then-latency-gt0-clause-leads : goal.returns-then-latency-gt0-clause-leads
@@ -22,6 +25,9 @@ returns-then-latency-gt0-clause-leads c passes side same strict some all =
       up = refl;
       down = refl;
       test = refl;
+      rest = refl;
+      step = refl;
+      largest = omega arith;
     }
 
 direct : (side : Side) → side.pace.latency ≡ 0 → side.pace.allowance ≡ side.pace.latency → side ≡ direct_side side
@@ -36,4 +42,7 @@ returns-clause-leads c passes side same strict some all =
       up = refl;
       down = direct side none strict;
       test = refl;
+      rest = refl;
+      step = refl;
+      largest = omega arith;
     }

@@ -1,10 +1,10 @@
-use Rattle.std.proofs.Common.{◌≡◌, ◌+◌, ◌==◌, nat_lt, List, take, sym, subst, ap, ◌∙◌, inl, inr, lit<, arith, length, ◌*◌, ◌^◌, ◌<◌}
+use Rattle.std.proofs.Common.{◌≡◌, ◌+◌, ◌==◌, nat_lt, List, take, sym, subst, ap, ◌∙◌, inl, inr, lit<, rules, arith, length, ◌*◌, ◌^◌, ◌<◌}
 use Rattle.netlist.specs.Runs.{cycle_of}
 use Rattle.net_parts.specs.declared.places.PlaceNets.{PlaceNets}
 use Rattle.stage_core.specs.Lasting.{beat_lasts}
 use Rattle.net_parts.specs.PlaceRows.{ArePlaceNets, AreInRow, InRow, RowSteps}
 use Rattle.stage_core.specs.BeatPlaces.{place_nets, place_are}
-use Rattle.net_parts.specs.Laws.{net_lasts, extends_twice, grows_twice, grows_fewer, adds_grow}
+use Rattle.net_parts.specs.Laws.{net_lasts, extends_twice, grows_twice, grows_fewer, adds_grow, growing}
 use Rattle.net_parts.specs.RowLaws.{row_here}
 use Rattle.st_timing.specs.CountNets.{HaveFull, full_count}
 use Rattle.net_parts.specs.Counts.{high_bits}
@@ -32,7 +32,7 @@ set_places-requires c =
           subst (λ (row : List (PlaceNets 6)). AreInRow c.transfers.new.builder c.place.result row) (sym here) (subst (λ (place : PlaceNets 6). AreInRow c.transfers.new.builder place (row_of c.args.kept)) (sym c.place.ensures) row),
           (
             subst (λ (place : PlaceNets 6). ArePlaceNets c.transfers.new.builder place) (sym c.place.ensures) from,
-            (c.in_ok-comes.ensures.net, net_lasts _ _ _ _ more c.requires.ready),
+            (c.in_ok-comes.ensures.net, search (rules, net_lasts, growing)),
           ),
         ),
       ),
