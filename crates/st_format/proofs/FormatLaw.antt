@@ -13,8 +13,8 @@ use Rattle.st_format.specs.declared.reorder.Reorder.{Reorder}
 use Rattle.st_format.specs.declared.clear.Clear.{Clear}
 use Rattle.st_format.specs.declared.narrow.Narrow.{Narrow}
 use Rattle.st_format.specs.declared.widen.Widen.{Widen}
-use Rattle.st_format.specs.FormatNets.{Stages, changes, turns_first, clears, IsTurn, IsClearing, IsCut, IsJoint, IsFormatOf, IsSideOf, LeadsTo, formatted, TakesTo, turn_gives, front_gives, narrow_gives, widen_gives, nets_where, format_nets}
-use Rattle.st_format.proofs.Leading.{chain_leads, turn_leads, clear_leads, cut_leads, joint_leads}
+use Rattle.st_format.specs.FormatNets.{Stages, changes, turns_first, clears, IsTurn, IsClearing, IsCut, IsJoint, IsFormatOf, front_has, back_has, front_passes, back_passes, IsSideOf, LeadsTo, Orders, Resizes, turned, formatted, TakesTo, OrderTakes, ResizeTakes, turn_gives, front_gives, narrow_gives, widen_gives, nets_where, format_nets, order_nets, resize_nets}
+use Rattle.st_format.proofs.Leading.{Leads, chain_leads, turn_leads, clear_leads, cut_leads, joint_leads}
 use Rattle.st_format.proofs.PartsLemmas.{few_symbols}
 
 -- ---- sizes
@@ -45,9 +45,14 @@ stays : (high x : Bool) → (not high && x) ≡ false → (high || x) ≡ high
 stays true x e = refl
 stays false x e = e
 
-turned : (high x : Bool) → (not high && x) ≡ true → (high || x) ≡ not high
-turned true x e = absurd (cc)
-turned false x e = e
+turned_over : (high x : Bool) → (not high && x) ≡ true → (high || x) ≡ not high
+turned_over true x e = absurd (cc)
+turned_over false x e = e
+
+-- a stage that may be there shows the ready that it sees
+shows_always : {S : Type 0} (stage : Option S) → IfSome stage (λ s. Unit {0})
+shows_always None = tt
+shows_always (Some s) = tt
 
 not_equal : (a b : ℕ) → ((a ≡ b) → ⊥) → not (a == b) ≡ true
 not_equal a b apart = by_test (a == b) refl
@@ -77,21 +82,70 @@ module _ (source : StreamPort) (sink : StreamPort) (format : Stages) (is : IsFor
   changes_wide several = not_equal source.symbols sink.symbols (λ same.
       (let one = parts_one sink.symbols is.common is.wide_parts sink_some (subst (λ n. IsGcd n sink.symbols is.common) same is.greatest) is.wide_size in absurd (omega (arith, one, several))))
 
-  pub format_leads : (passes : ℕ → Bool) (side : Side) → IsSideOf source format side → PassesAll passes side → LeadsTo format passes side (formatted source sink side)
-  format_leads passes side at all =
-      let here : 0 < side.symbols = (let same = at.symbols in omega (arith, some, same)) in
-      let common_some = some_factor source.symbols is.common is.narrow_parts some is.narrow_size in
-      let one : Side = record side { first_high = high } in
-      let turn = turn_leads (IsNone format.second.first.stage) format.first.first.stage passes side (turns_first source sink) high source.symbols source.symbol_bits is.turn at.symbols at.bits here all
-      (λ e. stays source.first_high (sink.first_high || changes source sink) e ∙ sym at.first_high) (λ e. turned source.first_high (sink.first_high || changes source sink) e ∙ ap not (sym at.first_high)) in
-      let clear = clear_leads (IsNone format.second.first.stage) format.first.second.stage passes one (clears source sink) source.symbols source.symbol_bits is.clear at.symbols at.bits here all (λ e. high_where ((and_parts (changes source sink) _ e).0)) in
-      let cut = cut_leads (IsNone format.second.first.stage) format.second.first.stage (λ c. c) passes one is.common is.narrow_parts source.symbol_bits is.narrow (at.symbols ∙ is.narrow_size) at.bits here all at.latency (λ several. high_where (changes_narrow several)) in
-      let joint = joint_leads (IsNone format.second.first.stage) format.second.second.stage passes (of_symbols one is.common) is.common is.wide_parts source.symbol_bits sink.symbols is.widen refl is.wide_size at.bits common_some all at.latency at.allowance (λ several. high_where (changes_wide several)) at.channels in
-      let single : side.symbols ≡ side.symbols * 1 = omega arith in
-      let front = chain_leads _ _ _ _ _ (IsNone format.second.first.stage) passes side one one 1 _ _ _ _ turn clear at.latency here refl (inl single) in
-      let back = chain_leads _ _ _ _ _ (IsNone format.second.first.stage) passes one (of_symbols one is.common) (formatted source sink side) is.narrow_parts _ _ _ _ cut joint at.latency here refl (inl (at.symbols ∙ is.narrow_size)) in
-      let whole = chain_leads _ _ _ _ _ (IsNone format.second.first.stage) passes side one (formatted source sink side) 1 _ _ _ _ front back at.latency here refl (inl single) in
-      record { shape = whole.shape; has = whole.has_it; passed = whole.passed; up_is = whole.up_is; down_is = whole.down_is; test = whole.test; free = whole.free; hold = (let most = whole.hold in omega (arith, most)); rest = (let kept = whole.rest in omega (arith, kept, sink_some)) }
+  module _ (passes : ℕ → Bool) (side : Side) (at : IsSideOf source format side) (all : PassesAll passes side) where
+    here : 0 < side.symbols
+    here = let same = at.symbols in omega (arith, some, same)
+
+    single : side.symbols ≡ side.symbols * 1
+    single = omega arith
+
+    -- the turn and clearing
+    order_leads : (can : Type 0) → Leads (front_has format.first.first.stage format.first.second.stage) (front_passes format.first.first.stage format.first.second.stage) can passes side (turned source sink side) 0 0 0 0
+    order_leads can =
+        let turn = turn_leads can format.first.first.stage passes side (turns_first source sink) high source.symbols source.symbol_bits is.turn at.symbols at.bits here all at.latency
+        (λ e. stays source.first_high (sink.first_high || changes source sink) e ∙ sym at.first_high) (λ e. turned_over source.first_high (sink.first_high || changes source sink) e ∙ ap not (sym at.first_high)) in
+        let clear = clear_leads can format.first.second.stage passes (turned source sink side) (clears source sink) source.symbols source.symbol_bits is.clear at.symbols at.bits here all at.latency (λ e. high_where ((and_parts (changes source sink) _ e).0)) in
+        chain_leads _ _ _ _ _ can passes side (turned source sink side) (turned source sink side) 1 0 0 0 0 0 0 0 0 0 turn clear at.latency here refl (inl single) (λ h. h)
+
+    -- narrow beats and wide ones
+    resize_leads : Leads (back_has format.second.first.stage format.second.second.stage) (back_passes format.second.first.stage format.second.second.stage) (IsNone format.second.first.stage) passes (turned source sink side) (formatted source sink side) (side.symbols + sink.symbols) (0 + (sink.symbols - 1)) 1 (0 + 0 + (0 + 1) * sink.symbols)
+    resize_leads =
+        let common_some = some_factor source.symbols is.common is.narrow_parts some is.narrow_size in
+        let cut = cut_leads (IsNone format.second.first.stage) format.second.first.stage (λ c. c) passes (turned source sink side) is.common is.narrow_parts source.symbol_bits is.narrow (at.symbols ∙ is.narrow_size) at.bits here all at.latency (λ several. high_where (changes_narrow several)) in
+        let joint = joint_leads (IsNone format.second.first.stage) format.second.second.stage passes (of_symbols (turned source sink side) is.common) is.common is.wide_parts source.symbol_bits sink.symbols is.widen refl is.wide_size at.bits common_some all at.latency at.allowance (λ several. high_where (changes_wide several)) at.channels in
+        chain_leads _ _ _ _ _ (IsNone format.second.first.stage) passes (turned source sink side) (of_symbols (turned source sink side) is.common) (formatted source sink side) is.narrow_parts side.symbols 0 0 0 sink.symbols (sink.symbols - 1) 0 0 1 cut joint at.latency here refl (inl (at.symbols ∙ is.narrow_size)) (λ h. omega arith)
+
+    pub format_orders : Orders format.first passes side (turned source sink side)
+    format_orders =
+        let order = order_leads (Unit {0}) in
+        record {
+          shape = order.shape;
+          has = order.has_it;
+          passed = order.passed tt;
+          shows = (shows_always format.first.first.stage, shows_always format.first.second.stage);
+          up_is = order.up_is;
+          down_is = order.down_is;
+          test = order.test;
+          still = record {
+            hold = (let none = order.hold in omega (arith, none));
+            rest = (let none = order.rest in omega (arith, none));
+            step = (let none = order.step in omega (arith, none));
+            largest = (let none = order.largest in omega (arith, none));
+            needs_ready = order.free;
+          };
+        }
+
+    pub format_resizes : Resizes format.second passes (turned source sink side) (formatted source sink side)
+    format_resizes =
+        let resize = resize_leads in
+        record {
+          shape = resize.shape;
+          has = resize.has_it;
+          passed = resize.passed;
+          up_is = resize.up_is;
+          down_is = resize.down_is;
+          test = resize.test;
+          free = resize.free;
+          hold = resize.hold;
+          rest = (let kept = resize.rest in omega (arith, kept, sink_some));
+          step = resize.step;
+          largest = (let most = resize.largest in omega (arith, most));
+        }
+
+    pub format_leads : LeadsTo format passes side (formatted source sink side)
+    format_leads =
+        let whole = chain_leads _ _ _ _ _ (IsNone format.second.first.stage) passes side (turned source sink side) (formatted source sink side) 1 _ _ _ _ _ _ _ _ 1 (order_leads (IsNone format.second.first.stage)) resize_leads at.latency here refl (inl single) (λ h. omega arith) in
+        record { shape = whole.shape; has = whole.has_it; passed = whole.passed; up_is = whole.up_is; down_is = whole.down_is; test = whole.test; free = whole.free; hold = (let most = whole.hold in omega (arith, most)); rest = (let kept = whole.rest in omega (arith, kept, sink_some)) }
 
   -- ---- widths
 
@@ -141,31 +195,49 @@ module _ (source : StreamPort) (sink : StreamPort) (format : Stages) (is : IsFor
   joint_rest None widths = (refl, refl)
   joint_rest (Some s) widths = (refl, refl)
 
-  pub format_takes : (widths : Widths) → widths.word ≡ source.symbol_bits * source.symbols → widths.empty ≤ 8 → TakesTo format widths (source.symbol_bits * sink.symbols)
-  format_takes widths word few =
+  pub order_takes : (widths : Widths) → widths.word ≡ source.symbol_bits * source.symbols → widths.empty ≤ 8 → OrderTakes format.first widths
+  order_takes widths word few =
       let turn = format.first.first.stage in
-      let front = front_gives turn format.first.second.stage widths in
-      let same : front ≡ widths = front_same turn format.first.second.stage widths in
-      let turned : turn_gives turn widths ≡ widths = turn_same turn widths in
-      let whole : front.word ≡ source.symbol_bits * (is.common * is.narrow_parts) = ap (λ (w : Widths). w.word) same ∙ word ∙ ap (λ n. source.symbol_bits * n) is.narrow_size in
-      let little : front.empty ≤ 8 = subst (λ (w : Widths). w.empty ≤ 8) (sym same) few in
-      let middle = cut_gives format.second.first.stage is.common is.narrow_parts source.symbol_bits front is.narrow whole little in
-      let last = joint_gives format.second.second.stage is.common is.wide_parts source.symbol_bits (narrow_gives format.second.first.stage front) is.widen middle.0 middle.1 in
-      let cut = cut_rest format.second.first.stage front in
-      let joint = joint_rest format.second.second.stage (narrow_gives format.second.first.stage front) in
+      let same : turn_gives turn widths ≡ widths = turn_same turn widths in
       record {
-        front = (
+        takes = (
           turn_takes turn (turns_first source sink) source.symbols source.symbol_bits widths.word is.turn word,
-          clear_takes format.first.second.stage (clears source sink) source.symbols source.symbol_bits (turn_gives turn widths).word (turn_gives turn widths).empty is.clear (ap (λ (w : Widths). w.word) turned ∙ word) (subst (λ (w : Widths). w.empty ≤ 8) (sym turned) few),
+          clear_takes format.first.second.stage (clears source sink) source.symbols source.symbol_bits (turn_gives turn widths).word (turn_gives turn widths).empty is.clear (ap (λ (w : Widths). w.word) same ∙ word) (subst (λ (w : Widths). w.empty ≤ 8) (sym same) few),
         );
-        back = (
-          cut_takes format.second.first.stage is.common is.narrow_parts source.symbol_bits front.word front.empty is.narrow whole little,
-          joint_takes format.second.second.stage is.common is.wide_parts source.symbol_bits (narrow_gives format.second.first.stage front).word (narrow_gives format.second.first.stage front).empty is.widen middle.0 middle.1,
+        gives = front_same turn format.first.second.stage widths;
+      }
+
+  pub resize_takes : (widths : Widths) → widths.word ≡ source.symbol_bits * source.symbols → widths.empty ≤ 8 → ResizeTakes format.second widths (source.symbol_bits * sink.symbols)
+  resize_takes widths word few =
+      let whole : widths.word ≡ source.symbol_bits * (is.common * is.narrow_parts) = word ∙ ap (λ n. source.symbol_bits * n) is.narrow_size in
+      let middle = cut_gives format.second.first.stage is.common is.narrow_parts source.symbol_bits widths is.narrow whole few in
+      let last = joint_gives format.second.second.stage is.common is.wide_parts source.symbol_bits (narrow_gives format.second.first.stage widths) is.widen middle.0 middle.1 in
+      let cut = cut_rest format.second.first.stage widths in
+      let joint = joint_rest format.second.second.stage (narrow_gives format.second.first.stage widths) in
+      record {
+        takes = (
+          cut_takes format.second.first.stage is.common is.narrow_parts source.symbol_bits widths.word widths.empty is.narrow whole few,
+          joint_takes format.second.second.stage is.common is.wide_parts source.symbol_bits (narrow_gives format.second.first.stage widths).word (narrow_gives format.second.first.stage widths).empty is.widen middle.0 middle.1,
         );
         gives = last.0 ∙ ap (λ n. source.symbol_bits * n) (sym is.wide_size);
-        channel = joint.0 ∙ cut.0 ∙ ap (λ (w : Widths). w.channel) same;
-        error = joint.1 ∙ cut.1 ∙ ap (λ (w : Widths). w.error) same;
+        channel = joint.0 ∙ cut.0;
+        error = joint.1 ∙ cut.1;
         few = last.1;
+      }
+
+  pub format_takes : (widths : Widths) → widths.word ≡ source.symbol_bits * source.symbols → widths.empty ≤ 8 → TakesTo format widths (source.symbol_bits * sink.symbols)
+  format_takes widths word few =
+      let order = order_takes widths word few in
+      let front = front_gives format.first.first.stage format.first.second.stage widths in
+      let same : front ≡ widths = order.gives in
+      let resize = resize_takes front (ap (λ (w : Widths). w.word) same ∙ word) (subst (λ (w : Widths). w.empty ≤ 8) (sym same) few) in
+      record {
+        front = order.takes;
+        back = resize.takes;
+        gives = resize.gives;
+        channel = resize.channel ∙ ap (λ (w : Widths). w.channel) same;
+        error = resize.error ∙ ap (λ (w : Widths). w.error) same;
+        few = resize.few;
       }
 
   -- ---- nets
@@ -182,17 +254,24 @@ module _ (source : StreamPort) (sink : StreamPort) (format : Stages) (is : IsFor
   no_nets count None none = refl
   no_nets count (Some s) none = absurd (cc)
 
-  pub format_few : format_nets format ≤ 1800
-  format_few =
+  pub order_few : order_nets format.first ≤ 1050
+  order_few =
       let a = at_most (λ (s : Reorder). 2 * s.symbols) 256 (λ s. (let few = few_of s.bits s.symbols s.some_bits s.small in omega (arith, few))) format.first.first.stage in
       let b = at_most (λ (s : Clear). 6 * s.symbols + 4) 772 (λ s. (let few = few_of s.bits s.symbols s.some_bits s.small in omega (arith, few))) format.first.second.stage in
-      let c = at_most (λ (s : Narrow). 33) 33 (λ s. omega arith) format.second.first.stage in
-      let d = at_most (λ (s : Widen). 5 * s.sizes.parts + 24) 664 (λ s. (let few = few_of s.sizes.symbols s.sizes.parts s.sizes.some (few_symbols s.sizes) in omega (arith, few))) format.second.second.stage in
-      let e = at_most (λ (s : Reorder). 0) 0 (λ s. omega arith) format.first.first.stage in
-      let f = at_most (λ (s : Clear). 0) 0 (λ s. omega arith) format.first.second.stage in
-      let g = at_most (λ (s : Narrow). 10) 10 (λ s. omega arith) format.second.first.stage in
-      let h = at_most (λ (s : Widen). 17) 17 (λ s. omega arith) format.second.second.stage in
-      omega (arith, a, b, c, d, e, f, g, h)
+      let c = at_most (λ (s : Reorder). 0) 0 (λ s. omega arith) format.first.first.stage in
+      let d = at_most (λ (s : Clear). 0) 0 (λ s. omega arith) format.first.second.stage in
+      omega (arith, a, b, c, d)
+
+  pub resize_few : resize_nets format.second ≤ 750
+  resize_few =
+      let a = at_most (λ (s : Narrow). 33) 33 (λ s. omega arith) format.second.first.stage in
+      let b = at_most (λ (s : Widen). 5 * s.sizes.parts + 24) 664 (λ s. (let few = few_of s.sizes.symbols s.sizes.parts s.sizes.some (few_symbols s.sizes) in omega (arith, few))) format.second.second.stage in
+      let c = at_most (λ (s : Narrow). 10) 10 (λ s. omega arith) format.second.first.stage in
+      let d = at_most (λ (s : Widen). 17) 17 (λ s. omega arith) format.second.second.stage in
+      omega (arith, a, b, c, d)
+
+  pub format_few : format_nets format ≤ 1800
+  format_few = let order = order_few in let resize = resize_few in omega (arith, order, resize)
 
   no_turn : (stage : Option Reorder) (turns : Bool) (symbols bits : ℕ) → IsTurn turns symbols bits stage → turns ≡ false → IsNone stage
   no_turn None turns symbols bits is none = refl
@@ -217,18 +296,25 @@ module _ (source : StreamPort) (sink : StreamPort) (format : Stages) (is : IsFor
   unturned true other x e none = refl
   unturned false other x e none = rw (sym e, none) refl
 
+  pub order_none : source.symbols ≡ sink.symbols → source.first_high ≡ sink.first_high → order_nets format.first ≡ 0
+  order_none same high =
+      let turn = no_turn format.first.first.stage (turns_first source sink) source.symbols source.symbol_bits is.turn (unturned source.first_high sink.first_high (changes source sink) high (unchanged same)) in
+      let clear = no_clear format.first.second.stage (clears source sink) source.symbols source.symbol_bits is.clear (ap (λ t. t && nat_lt 0 source.empty_bits) (unchanged same)) in
+      let a = no_nets (λ (s : Reorder). 2 * s.symbols) format.first.first.stage turn in
+      let b = no_nets (λ (s : Clear). 6 * s.symbols + 4) format.first.second.stage clear in
+      let c = no_nets (λ (s : Reorder). 0) format.first.first.stage turn in
+      let d = no_nets (λ (s : Clear). 0) format.first.second.stage clear in
+      omega (arith, a, b, c, d)
+
+  pub resize_none : source.symbols ≡ sink.symbols → resize_nets format.second ≡ 0
+  resize_none same =
+      let cut = no_cut format.second.first.stage is.common is.narrow_parts source.symbol_bits is.narrow (parts_one source.symbols is.common is.narrow_parts some (subst (λ n. IsGcd source.symbols n is.common) (sym same) is.greatest) is.narrow_size) in
+      let joint = no_joint format.second.second.stage is.common is.wide_parts source.symbol_bits is.widen (parts_one sink.symbols is.common is.wide_parts sink_some (subst (λ n. IsGcd n sink.symbols is.common) same is.greatest) is.wide_size) in
+      let a = no_nets (λ (s : Narrow). 33) format.second.first.stage cut in
+      let b = no_nets (λ (s : Widen). 5 * s.sizes.parts + 24) format.second.second.stage joint in
+      let c = no_nets (λ (s : Narrow). 10) format.second.first.stage cut in
+      let d = no_nets (λ (s : Widen). 17) format.second.second.stage joint in
+      omega (arith, a, b, c, d)
+
   pub format_none : source.symbols ≡ sink.symbols → source.first_high ≡ sink.first_high → format_nets format ≡ 0
-  format_none same high =
-      let a = no_turn format.first.first.stage (turns_first source sink) source.symbols source.symbol_bits is.turn (unturned source.first_high sink.first_high (changes source sink) high (unchanged same)) in
-      let b = no_clear format.first.second.stage (clears source sink) source.symbols source.symbol_bits is.clear (ap (λ t. t && nat_lt 0 source.empty_bits) (unchanged same)) in
-      let c = no_cut format.second.first.stage is.common is.narrow_parts source.symbol_bits is.narrow (parts_one source.symbols is.common is.narrow_parts some (subst (λ n. IsGcd source.symbols n is.common) (sym same) is.greatest) is.narrow_size) in
-      let d = no_joint format.second.second.stage is.common is.wide_parts source.symbol_bits is.widen (parts_one sink.symbols is.common is.wide_parts sink_some (subst (λ n. IsGcd n sink.symbols is.common) same is.greatest) is.wide_size) in
-      let e = no_nets (λ (s : Reorder). 2 * s.symbols) format.first.first.stage a in
-      let f = no_nets (λ (s : Clear). 6 * s.symbols + 4) format.first.second.stage b in
-      let g = no_nets (λ (s : Narrow). 33) format.second.first.stage c in
-      let h = no_nets (λ (s : Widen). 5 * s.sizes.parts + 24) format.second.second.stage d in
-      let i = no_nets (λ (s : Reorder). 0) format.first.first.stage a in
-      let j = no_nets (λ (s : Clear). 0) format.first.second.stage b in
-      let k = no_nets (λ (s : Narrow). 10) format.second.first.stage c in
-      let l = no_nets (λ (s : Widen). 17) format.second.second.stage d in
-      omega (arith, e, f, g, h, i, j, k, l)
+  format_none same high = let order = order_none same high in let resize = resize_none same in omega (arith, order, resize)

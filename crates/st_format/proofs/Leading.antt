@@ -1,7 +1,8 @@
 -- Stages that lead from one side to another, one behind the other.
-use Rattle.std.proofs.Common.{◌≡◌, ℕ, ◌+◌, ◌-◌, ◌*◌, ◌<◌, ◌≤◌, Bool, true, false, not, ◌||◌, nat_lt, IsTrue, IsFalse, Option, Some, None, refl, sym, subst, ap, ◌∙◌, arith, ◌⊎◌, inl, inr}
+use Rattle.std.proofs.Common.{◌≡◌, ℕ, ◌+◌, ◌-◌, ◌*◌, ◌<◌, ◌≤◌, Bool, true, false, not, ◌||◌, nat_lt, nat_le, if◌then◌else◌, IsTrue, IsFalse, Option, Some, None, refl, sym, subst, ap, ◌∙◌, arith, ◌⊎◌, inl, inr}
 use Rattle.std.specs.Prelude.{IfSome, IsNone}
-use Rattle.std.proofs.lemmas.Bool.{ltb-true, both_ways}
+use Rattle.std.proofs.lemmas.Bool.{ltb-true, leb-false, both_ways}
+use Rattle.std.proofs.lemmas.Nat.{mul-le}
 use Rattle.stream_runs.specs.View.{Side}
 use Rattle.stream_machines.specs.Stage.{Shape, PassesAll, chain_shape, pass_shape}
 use Rattle.stream_machines.specs.Parts.{narrow_shape, widen_shape}
@@ -21,9 +22,9 @@ use Rattle.std.proofs.Math.Nat.{mul_comm}
 use Rattle.st_format.proofs.SizesLemmas.{split_symbols}
 use Rattle.st_format.specs.FormatNets.{IsTurn, IsClearing, IsCut, IsJoint}
 
--- a shape of these leads from one side to another, needs no sink that is always ready, holds so many symbols at most, and keeps
--- so many for good
-pub record Leads (has passing : Shape → Type 0) (can : Type 0) (passes : ℕ → Bool) (up down : Side) (most kept : ℕ) : Type 0 where
+-- a shape of these leads from one side to another, needs no sink that is always ready, holds so many symbols at most, keeps so
+-- many for good, and a symbol raises its rank so much at most, which is so large at most
+pub record Leads (has passing : Shape → Type 0) (can : Type 0) (passes : ℕ → Bool) (up down : Side) (most kept raise top : ℕ) : Type 0 where
   pub shape : Shape
   pub has_it : has shape
   pub passed : can → passing shape
@@ -33,6 +34,8 @@ pub record Leads (has passing : Shape → Type 0) (can : Type 0) (passes : ℕ �
   pub free : shape.needs_ready ≡ false
   pub hold : shape.hold ≤ most
   pub rest : shape.rest ≤ kept
+  pub step : shape.step ≤ raise
+  pub largest : shape.largest ≤ top
 
 never_late : (latency : ℕ) → latency ≡ 0 → IsTrue (nat_lt 0 latency) → ⊥
 never_late latency none late = let some : 0 < latency = ltb-true 0 latency late in absurd (omega (arith, some, none))
@@ -40,9 +43,27 @@ never_late latency none late = let some : 0 < latency = ltb-true 0 latency late 
 or_neither : (a b : Bool) → a ≡ false → b ≡ false → (a || b) ≡ false
 or_neither a b p q = rw (p, q) refl
 
-pub chain_leads : (A PA B PB : Shape → Type 0) (S can : Type 0) (passes : ℕ → Bool) (up middle down : Side) (parts m1 k1 m2 k2 : ℕ) → Leads A PA can passes up middle m1 k1 → Leads B PB can passes middle down m2 k2 → middle.pace.latency ≡ 0 → 0 < up.symbols → up.error_bits ≡ middle.error_bits
-    → ((up.symbols ≡ middle.symbols * parts) ⊎ (down.symbols ≡ middle.symbols * parts)) → Leads (IsChainOf A B PB S) (IsChainOf (λ first. A first × PA first) PB PB S) can passes up down (m1 + m2) (k1 + k2)
-chain_leads A PA B PB S can passes up middle down parts m1 k1 m2 k2 one two direct some errors divides =
+-- a symbol that leaves the first part raises the rank by one more where the second part holds symbols
+chain_step : (latency s1 s2 hold most more : ℕ) → latency ≡ 0 → hold ≤ most → (0 < most → 0 < more) →
+    (if nat_lt 0 latency then s2 else (if nat_le hold 0 then s1 + s2 else s1 + s2 + 1)) ≤ s1 + s2 + more
+chain_step latency s1 s2 hold most more direct few some = rw direct (by_test (nat_le hold 0) refl)
+  where
+    by_test : (t : Bool) → nat_le hold 0 ≡ t → (if t then s1 + s2 else s1 + s2 + 1) ≤ s1 + s2 + more
+    by_test true e = omega arith
+    by_test false e = let above = some (let held = leb-false hold 0 e in omega (arith, held, few)) in omega (arith, above)
+
+chain_largest : (latency l1 l2 s1 hold t1 t2 r1 most : ℕ) → latency ≡ 0 → l1 ≤ t1 → l2 ≤ t2 → s1 ≤ r1 → hold ≤ most →
+    (if nat_lt 0 latency then l2 else l1 + l2 + (s1 + 1) * hold) ≤ t1 + t2 + (r1 + 1) * most
+chain_largest latency l1 l2 s1 hold t1 t2 r1 most direct one two step few =
+    let held : (s1 + 1) * hold ≤ (r1 + 1) * most = mul-le (s1 + 1) hold (r1 + 1) most (omega (arith, step)) few in
+    rw direct (add_three l1 l2 ((s1 + 1) * hold) t1 t2 ((r1 + 1) * most) one two held)
+  where
+    add_three : (a b c x y z : ℕ) → a ≤ x → b ≤ y → c ≤ z → a + b + c ≤ x + y + z
+    add_three a b c x y z p q r = omega (arith, p, q, r)
+
+pub chain_leads : (A PA B PB : Shape → Type 0) (S can : Type 0) (passes : ℕ → Bool) (up middle down : Side) (parts m1 k1 r1 t1 m2 k2 r2 t2 more : ℕ) → Leads A PA can passes up middle m1 k1 r1 t1 → Leads B PB can passes middle down m2 k2 r2 t2 → middle.pace.latency ≡ 0 → 0 < up.symbols → up.error_bits ≡ middle.error_bits
+    → ((up.symbols ≡ middle.symbols * parts) ⊎ (down.symbols ≡ middle.symbols * parts)) → (0 < m2 → 0 < more) → Leads (IsChainOf A B PB S) (IsChainOf (λ first. A first × PA first) PB PB S) can passes up down (m1 + m2) (k1 + k2) (r1 + r2 + more) (t1 + t2 + (r1 + 1) * m2)
+chain_leads A PA B PB S can passes up middle down parts m1 k1 r1 t1 m2 k2 r2 t2 more one two direct some errors divides one_more =
     let direct' : two.shape.up.pace.latency ≡ 0 = ap (λ (s : Side). s.pace.latency) two.up_is ∙ direct in
     let fit : ShapesFit one.shape two.shape = record {
       same_side = one.down_is ∙ sym two.up_is;
@@ -80,14 +101,19 @@ chain_leads A PA B PB S can passes up middle down parts m1 k1 m2 k2 one two dire
       free = or_neither _ _ one.free two.free;
       hold = (let a = one.hold in let b = two.hold in omega arith);
       rest = (let a = one.rest in let b = two.rest in omega arith);
+      step = (let rises = chain_step two.shape.up.pace.latency one.shape.step two.shape.step two.shape.hold m2 more direct' two.hold one_more in add_two one.shape.step two.shape.step more r1 r2 _ one.step two.step rises);
+      largest = chain_largest two.shape.up.pace.latency one.shape.largest two.shape.largest one.shape.step two.shape.hold t1 t2 r1 m2 direct' one.largest two.largest one.step two.hold;
     }
+  where
+    add_two : (a b c x y s : ℕ) → a ≤ x → b ≤ y → s ≤ a + b + c → s ≤ x + y + c
+    add_two a b c x y s p q r = omega (arith, p, q, r)
 
 -- ---- each of them
 
-pub turn_leads : (can : Type 0) (stage : Option Reorder) (passes : ℕ → Bool) (side : Side) (turns high : Bool) (symbols bits : ℕ) → IsTurn turns symbols bits stage → side.symbols ≡ symbols → side.symbol_bits ≡ bits → 0 < side.symbols → PassesAll passes side
+pub turn_leads : (can : Type 0) (stage : Option Reorder) (passes : ℕ → Bool) (side : Side) (turns high : Bool) (symbols bits : ℕ) → IsTurn turns symbols bits stage → side.symbols ≡ symbols → side.symbol_bits ≡ bits → 0 < side.symbols → PassesAll passes side → side.pace.latency ≡ 0
     → (turns ≡ false → high ≡ side.first_high) → (turns ≡ true → high ≡ not side.first_high) →
-    Leads (shape_of (λ (s : Reorder) (shape : Shape). IsReorderShape s.symbols s.bits shape) stage) (shape_of (λ (s : Reorder) (shape : Shape). IsReorderShape s.symbols s.bits shape) stage) can passes side (record side { first_high = high }) 0 0
-turn_leads can None passes side turns high symbols bits is same same_bits some all stays changes = record {
+    Leads (shape_of (λ (s : Reorder) (shape : Shape). IsReorderShape s.symbols s.bits shape) stage) (shape_of (λ (s : Reorder) (shape : Shape). IsReorderShape s.symbols s.bits shape) stage) can passes side (record side { first_high = high }) 0 0 0 0
+turn_leads can None passes side turns high symbols bits is same same_bits some all direct stays changes = record {
   shape = pass_shape passes side;
   has_it = record { is = refl; some = some; passes = all };
   passed = λ c. record { is = refl; some = some; passes = all };
@@ -97,8 +123,10 @@ turn_leads can None passes side turns high symbols bits is same same_bits some a
   free = refl;
   hold = omega arith;
   rest = omega arith;
+  step = omega arith;
+  largest = omega (arith, direct);
 }
-turn_leads can (Some stage) passes side turns high symbols bits is same same_bits some all stays changes = record {
+turn_leads can (Some stage) passes side turns high symbols bits is same same_bits some all direct stays changes = record {
   shape = wire_shape passes side (turned_side side) side.pace.latency false;
   has_it = record { is = refl; symbols_are = same ∙ sym is.1; bits_are = same_bits ∙ sym is.2; some = some; passes = all };
   passed = λ c. record { is = refl; symbols_are = same ∙ sym is.1; bits_are = same_bits ∙ sym is.2; some = some; passes = all };
@@ -108,12 +136,26 @@ turn_leads can (Some stage) passes side turns high symbols bits is same same_bit
   free = refl;
   hold = omega arith;
   rest = omega arith;
+  step = omega arith;
+  largest = omega (arith, direct);
 }
 
-pub clear_leads : (can : Type 0) (stage : Option Clear) (passes : ℕ → Bool) (side : Side) (clears : Bool) (symbols bits : ℕ) → IsClearing clears symbols bits stage → side.symbols ≡ symbols → side.symbol_bits ≡ bits → 0 < side.symbols → PassesAll passes side → (clears ≡ true → side.first_high ≡ true) →
-    Leads (shape_of (λ (s : Clear) (shape : Shape). IsClearShape s.symbols s.bits shape) stage) (shape_of (λ (s : Clear) (shape : Shape). IsClearShape s.symbols s.bits shape) stage) can passes side side 0 0
-clear_leads can None passes side clears symbols bits is same same_bits some all high = record { shape = pass_shape passes side; has_it = record { is = refl; some = some; passes = all }; passed = λ c. record { is = refl; some = some; passes = all }; up_is = refl; down_is = refl; test = refl; free = refl; hold = omega arith; rest = omega arith }
-clear_leads can (Some stage) passes side clears symbols bits is same same_bits some all high = record {
+pub clear_leads : (can : Type 0) (stage : Option Clear) (passes : ℕ → Bool) (side : Side) (clears : Bool) (symbols bits : ℕ) → IsClearing clears symbols bits stage → side.symbols ≡ symbols → side.symbol_bits ≡ bits → 0 < side.symbols → PassesAll passes side → side.pace.latency ≡ 0 → (clears ≡ true → side.first_high ≡ true) →
+    Leads (shape_of (λ (s : Clear) (shape : Shape). IsClearShape s.symbols s.bits shape) stage) (shape_of (λ (s : Clear) (shape : Shape). IsClearShape s.symbols s.bits shape) stage) can passes side side 0 0 0 0
+clear_leads can None passes side clears symbols bits is same same_bits some all direct high = record {
+  shape = pass_shape passes side;
+  has_it = record { is = refl; some = some; passes = all };
+  passed = λ c. record { is = refl; some = some; passes = all };
+  up_is = refl;
+  down_is = refl;
+  test = refl;
+  free = refl;
+  hold = omega arith;
+  rest = omega arith;
+  step = omega arith;
+  largest = omega (arith, direct);
+}
+clear_leads can (Some stage) passes side clears symbols bits is same same_bits some all direct high = record {
   shape = wire_shape passes side side side.pace.latency false;
   has_it = record { is = refl; symbols_are = same ∙ sym is.1; bits_are = same_bits ∙ sym is.2; first_high = high is.0; some = some; passes = all };
   passed = λ c. record { is = refl; symbols_are = same ∙ sym is.1; bits_are = same_bits ∙ sym is.2; first_high = high is.0; some = some; passes = all };
@@ -123,10 +165,12 @@ clear_leads can (Some stage) passes side clears symbols bits is same same_bits s
   free = refl;
   hold = omega arith;
   rest = omega arith;
+  step = omega arith;
+  largest = omega (arith, direct);
 }
 
 pub cut_leads : (can : Type 0) (stage : Option Narrow) → (can → IsNone stage) → (passes : ℕ → Bool) (side : Side) (symbols parts bits : ℕ) → IsCut symbols parts bits stage → side.symbols ≡ symbols * parts → side.symbol_bits ≡ bits → 0 < side.symbols → PassesAll passes side → side.pace.latency ≡ 0 → (2 ≤ parts → side.first_high ≡ true) →
-    Leads (shape_of (λ (s : Narrow) (shape : Shape). IsNarrowShape s.sizes shape) stage) (shape_of (λ (s : Narrow) (shape : Shape). ⊥) stage) can passes side (of_symbols side symbols) side.symbols 0
+    Leads (shape_of (λ (s : Narrow) (shape : Shape). IsNarrowShape s.sizes shape) stage) (shape_of (λ (s : Narrow) (shape : Shape). ⊥) stage) can passes side (of_symbols side symbols) side.symbols 0 0 0
 cut_leads can None none passes side symbols parts bits is size same_bits some all direct high = record {
   shape = pass_shape passes side;
   has_it = record { is = refl; some = some; passes = all };
@@ -137,6 +181,8 @@ cut_leads can None none passes side symbols parts bits is size same_bits some al
   free = refl;
   hold = omega arith;
   rest = omega arith;
+  step = omega arith;
+  largest = omega (arith, direct);
 }
 cut_leads can (Some stage) none passes side symbols parts bits is size same_bits some all direct high = record {
   shape = narrow_shape passes side (of_symbols side stage.sizes.symbols);
@@ -155,6 +201,8 @@ cut_leads can (Some stage) none passes side symbols parts bits is size same_bits
   free = refl;
   hold = omega arith;
   rest = omega arith;
+  step = omega arith;
+  largest = omega arith;
 }
 
 -- what is gathered for good is less than a wide beat
@@ -166,7 +214,7 @@ kept_few symbols s p parts wide same same_parts size some several =
 
 pub joint_leads : (can : Type 0) (stage : Option Widen) (passes : ℕ → Bool) (side : Side) (symbols parts bits wide : ℕ) → IsJoint symbols parts bits stage → side.symbols ≡ symbols → wide ≡ symbols * parts → side.symbol_bits ≡ bits → 0 < side.symbols → PassesAll passes side → side.pace.latency ≡ 0 → side.pace.allowance ≡ 0 → (2 ≤ parts → side.first_high ≡ true)
     → IfSome stage (λ s. IsFalse side.packets → side.max_channel ≡ 0) →
-    Leads (shape_of (λ (s : Widen) (shape : Shape). IsWidenShape s.sizes shape) stage) (shape_of (λ (s : Widen) (shape : Shape). IsWidenShape s.sizes shape) stage) can passes side (of_symbols side wide) wide (wide - 1)
+    Leads (shape_of (λ (s : Widen) (shape : Shape). IsWidenShape s.sizes shape) stage) (shape_of (λ (s : Widen) (shape : Shape). IsWidenShape s.sizes shape) stage) can passes side (of_symbols side wide) wide (wide - 1) 0 0
 joint_leads can None passes side symbols parts bits wide is same size same_bits some all direct strict high channels = record {
   shape = pass_shape passes side;
   has_it = record { is = refl; some = some; passes = all };
@@ -177,6 +225,8 @@ joint_leads can None passes side symbols parts bits wide is same size same_bits 
   free = refl;
   hold = omega arith;
   rest = omega arith;
+  step = omega arith;
+  largest = omega (arith, direct);
 }
 joint_leads can (Some stage) passes side symbols parts bits wide is same size same_bits some all direct strict high channels = record {
   shape = widen_shape passes stage.sizes.parts side (of_symbols side (stage.sizes.symbols * stage.sizes.parts));
@@ -206,4 +256,6 @@ joint_leads can (Some stage) passes side symbols parts bits wide is same size sa
   free = refl;
   hold = (let below = kept_few symbols (side.symbols) stage.sizes.parts parts wide same is.1 size (let here = some in let equal = same in omega (arith, here, equal)) stage.sizes.several in omega arith);
   rest = (let below = kept_few symbols (side.symbols) stage.sizes.parts parts wide same is.1 size (let here = some in let equal = same in omega (arith, here, equal)) stage.sizes.several in omega arith);
+  step = omega arith;
+  largest = omega arith;
 }

@@ -3,7 +3,7 @@ use Rattle.std.specs.Prelude.{◌≡◌, ℕ, ◌+◌, ◌*◌, ◌<◌, ◌≤�
 use Rattle.std.specs.Int.{IsGcd}
 use Rattle.iface_roles.specs.declared.records.StreamPort.{StreamPort}
 use Rattle.stream_runs.specs.View.{Side}
-use Rattle.stream_machines.specs.Stage.{Shape}
+use Rattle.stream_machines.specs.Stage.{Shape, IsStill}
 use Rattle.stage_core.specs.declared.chain.Chain.{Chain}
 use Rattle.stage_core.specs.declared.maybe.Maybe.{Maybe}
 use Rattle.stage_core.specs.Beats.{Widths}
@@ -18,9 +18,16 @@ use Rattle.st_format.specs.ClearNets.{IsClearShape}
 use Rattle.st_format.specs.NarrowNets.{IsNarrowShape}
 use Rattle.st_format.specs.WidenNets.{IsWidenShape}
 
--- a turn, clearing, narrow beats and wide ones, each where it is needed
+-- a turn and clearing, each where it is needed
+abbrev pub OrderStages : Type 0
+OrderStages = Chain (Maybe Reorder) (Maybe Clear)
+
+-- narrow beats and wide ones, each where it is needed
+abbrev pub ResizeStages : Type 0
+ResizeStages = Chain (Maybe Narrow) (Maybe Widen)
+
 abbrev pub Stages : Type 0
-Stages = Chain (Chain (Maybe Reorder) (Maybe Clear)) (Chain (Maybe Narrow) (Maybe Widen))
+Stages = Chain OrderStages ResizeStages
 
 -- ---- which they are
 
@@ -89,18 +96,22 @@ back_passes narrow widen shape =
     IsChainOf (λ first. shape_of (λ s shape. IsNarrowShape s.sizes shape) narrow first × shape_of (λ s shape. ⊥) narrow first) (shape_of (λ s shape. IsWidenShape s.sizes shape) widen)
     (shape_of (λ s shape. IsWidenShape s.sizes shape) widen) (IfSome narrow (λ s. ⊥)) shape
 
+-- each of the turn and clearing shows the ready that it sees
+abbrev pub front_shows : Option Reorder → Option Clear → Type 0
+front_shows turn clear = IfSome turn (λ s. Unit {0}) × IfSome clear (λ s. Unit {0})
+
 -- the shapes with which all of them keep their law, one behind the other
 abbrev pub format_has : Stages → Shape → Type 0
 format_has format shape =
     IsChainOf (front_has format.first.first.stage format.first.second.stage) (back_has format.second.first.stage format.second.second.stage)
-    (back_passes format.second.first.stage format.second.second.stage) (IfSome format.first.first.stage (λ s. Unit {0}) × IfSome format.first.second.stage (λ s. Unit {0})) shape
+    (back_passes format.second.first.stage format.second.second.stage) (front_shows format.first.first.stage format.first.second.stage) shape
 
 -- those with which they also pass ready on, before a sink that is always ready
 abbrev pub format_passes : Stages → Shape → Type 0
 format_passes format shape =
     IsChainOf (λ first. front_has format.first.first.stage format.first.second.stage first × front_passes format.first.first.stage format.first.second.stage first)
     (back_passes format.second.first.stage format.second.second.stage) (back_passes format.second.first.stage format.second.second.stage)
-    (IfSome format.first.first.stage (λ s. Unit {0}) × IfSome format.first.second.stage (λ s. Unit {0})) shape
+    (front_shows format.first.first.stage format.first.second.stage) shape
 
 -- they keep the law from one side to another, with this test, and pass ready on where no beat comes apart; they hold a beat of
 -- either end at most, and keep less than a beat of the sink for good
@@ -115,6 +126,34 @@ pub record LeadsTo (format : Stages) (passes : ℕ → Bool) (up down : Side) : 
   pub hold : shape.hold ≤ up.symbols + down.symbols
   pub rest : shape.rest < down.symbols
 
+-- the turn and clearing keep the law from one side to another, with this test, pass ready on, show the ready that they see, and
+-- are still
+pub record Orders (order : OrderStages) (passes : ℕ → Bool) (up down : Side) : Type 0 where
+  pub shape : Shape
+  pub has : front_has order.first.stage order.second.stage shape
+  pub passed : front_passes order.first.stage order.second.stage shape
+  pub shows : front_shows order.first.stage order.second.stage
+  pub up_is : shape.up ≡ up
+  pub down_is : shape.down ≡ down
+  pub test : shape.passes ≡ passes
+  pub still : IsStill shape
+
+-- narrow beats and wide ones keep the law from one side to another, with this test, and pass ready on where no beat comes apart;
+-- they hold a beat of either end at most, and keep less than a beat downstream for good; a symbol raises their rank by 1 at
+-- most, and their rank is at most a downstream beat's symbols
+pub record Resizes (resize : ResizeStages) (passes : ℕ → Bool) (up down : Side) : Type 0 where
+  pub shape : Shape
+  pub has : back_has resize.first.stage resize.second.stage shape
+  pub passed : IsNone resize.first.stage → back_passes resize.first.stage resize.second.stage shape
+  pub up_is : shape.up ≡ up
+  pub down_is : shape.down ≡ down
+  pub test : shape.passes ≡ passes
+  pub free : shape.needs_ready ≡ false
+  pub hold : shape.hold ≤ up.symbols + down.symbols
+  pub rest : shape.rest < down.symbols
+  pub step : shape.step ≤ 1
+  pub largest : shape.largest ≤ down.symbols
+
 -- a side of ready latency 0 as the source's beats have it; without packets there is one channel where beats are joined
 pub record IsSideOf (source : StreamPort) (format : Stages) (side : Side) : Type 0 where
   pub symbols : side.symbols ≡ source.symbols
@@ -124,9 +163,13 @@ pub record IsSideOf (source : StreamPort) (format : Stages) (side : Side) : Type
   pub allowance : side.pace.allowance ≡ 0
   pub channels : IfSome format.second.second.stage (λ s. IsFalse side.packets → side.max_channel ≡ 0)
 
--- the same side with the sink's symbols, and the first symbol in the high-order bits where it was turned or stood there
+-- behind the turn and clearing: the same side with the first symbol in the high-order bits where it was turned or stood there
+abbrev pub turned : StreamPort → StreamPort → Side → Side
+turned source sink side = record side { first_high = source.first_high || (sink.first_high || changes source sink) }
+
+-- behind all of them: that side with the sink's symbols
 abbrev pub formatted : StreamPort → StreamPort → Side → Side
-formatted source sink side = record side { symbols = sink.symbols; first_high = source.first_high || (sink.first_high || changes source sink) }
+formatted source sink side = record (turned source sink side) { symbols = sink.symbols }
 
 -- ---- widths
 
@@ -152,8 +195,25 @@ back_takes narrow widen widths =
     IfSome narrow (λ s. (widths.word ≡ s.sizes.bits * (s.sizes.symbols * s.sizes.parts)) × (widths.empty ≤ 8)) ×
     IfSome widen (λ s. ((narrow_gives narrow widths).word ≡ s.sizes.bits * s.sizes.symbols) × ((narrow_gives narrow widths).empty ≤ 8))
 
+abbrev pub back_gives : Option Narrow → Option Widen → Widths → Widths
+back_gives narrow widen widths = widen_gives widen (narrow_gives narrow widths)
+
 abbrev pub format_gives : Stages → Widths → Widths
-format_gives format widths = widen_gives format.second.second.stage (narrow_gives format.second.first.stage (front_gives format.first.first.stage format.first.second.stage widths))
+format_gives format widths = back_gives format.second.first.stage format.second.second.stage (front_gives format.first.first.stage format.first.second.stage widths)
+
+-- the turn and clearing take nets of these widths, and give nets of the same
+pub record OrderTakes (order : OrderStages) (widths : Widths) : Type 0 where
+  pub takes : front_takes order.first.stage order.second.stage widths
+  pub gives : front_gives order.first.stage order.second.stage widths ≡ widths
+
+-- narrow beats and wide ones take nets of these widths, and give a word of so many bits, and the other nets as wide as they
+-- were but for empty
+pub record ResizeTakes (resize : ResizeStages) (widths : Widths) (word : ℕ) : Type 0 where
+  pub takes : back_takes resize.first.stage resize.second.stage widths
+  pub gives : (back_gives resize.first.stage resize.second.stage widths).word ≡ word
+  pub channel : (back_gives resize.first.stage resize.second.stage widths).channel ≡ widths.channel
+  pub error : (back_gives resize.first.stage resize.second.stage widths).error ≡ widths.error
+  pub few : (back_gives resize.first.stage resize.second.stage widths).empty ≤ 8
 
 -- they take nets of these widths, and give a word of so many bits, and the other nets as wide as they were but for empty
 pub record TakesTo (format : Stages) (widths : Widths) (word : ℕ) : Type 0 where
@@ -168,15 +228,29 @@ pub record TakesTo (format : Stages) (widths : Widths) (word : ℕ) : Type 0 whe
 abbrev pub nets_where : {S : Type 0} → (S → ℕ) → Option S → ℕ
 nets_where count stage = unwrap_or (option_map count stage) 0
 
+abbrev pub order_forward : OrderStages → ℕ
+order_forward order = nets_where (λ s. 2 * s.symbols) order.first.stage + nets_where (λ s. 6 * s.symbols + 4) order.second.stage
+
+abbrev pub order_backward : OrderStages → ℕ
+order_backward order = nets_where (λ s. 0) order.first.stage + nets_where (λ s. 0) order.second.stage
+
+abbrev pub order_nets : OrderStages → ℕ
+order_nets order = order_forward order + order_backward order
+
+abbrev pub resize_forward : ResizeStages → ℕ
+resize_forward resize = nets_where (λ s. 33) resize.first.stage + nets_where (λ s. 5 * s.sizes.parts + 24) resize.second.stage
+
+abbrev pub resize_backward : ResizeStages → ℕ
+resize_backward resize = nets_where (λ s. 10) resize.first.stage + nets_where (λ s. 17) resize.second.stage
+
+abbrev pub resize_nets : ResizeStages → ℕ
+resize_nets resize = resize_forward resize + resize_backward resize
+
 abbrev pub forward_nets : Stages → ℕ
-forward_nets format =
-    (nets_where (λ s. 2 * s.symbols) format.first.first.stage + nets_where (λ s. 6 * s.symbols + 4) format.first.second.stage)
-    + (nets_where (λ s. 33) format.second.first.stage + nets_where (λ s. 5 * s.sizes.parts + 24) format.second.second.stage)
+forward_nets format = order_forward format.first + resize_forward format.second
 
 abbrev pub backward_nets : Stages → ℕ
-backward_nets format =
-    (nets_where (λ s. 0) format.first.first.stage + nets_where (λ s. 0) format.first.second.stage)
-    + (nets_where (λ s. 10) format.second.first.stage + nets_where (λ s. 17) format.second.second.stage)
+backward_nets format = order_backward format.first + resize_backward format.second
 
 abbrev pub format_nets : Stages → ℕ
 format_nets format = forward_nets format + backward_nets format

@@ -7,7 +7,7 @@ ghost use Rattle.std.specs.Int.{IsGcd};
 ghost use Rattle.stream_runs.specs.View.{Side};
 ghost use Rattle.stream_machines.specs.Stage.{PassesAll};
 ghost use Rattle.stage_core.specs.Beats.{Widths};
-ghost use Rattle.st_format.specs.FormatNets.{turns_first, clears, IsTurn, IsClearing, IsCut, IsJoint, IsFormatOf, IsSideOf, LeadsTo, formatted, TakesTo, format_nets};
+ghost use Rattle.st_format.specs.FormatNets.{turns_first, clears, IsTurn, IsClearing, IsCut, IsJoint, IsFormatOf, IsSideOf, LeadsTo, Orders, Resizes, turned, formatted, TakesTo, OrderTakes, ResizeTakes, format_nets, order_nets, resize_nets};
 
 use crate::clear::Clear;
 use crate::narrow::Narrow;
@@ -17,8 +17,14 @@ use crate::widen::Widen;
 use iface_roles::{SinkPort, SourcePort};
 use stage_core::{Chain, Maybe};
 
+/// What brings symbols to one order and clears empty ones. It holds nothing.
+pub type Order = Chain<Maybe<Reorder>, Maybe<Clear>>;
+
+/// What changes how many symbols a beat has.
+pub type Resize = Chain<Maybe<Narrow>, Maybe<Widen>>;
+
 /// What brings symbols to one order and clears empty ones, and then changes how many symbols a beat has.
-pub type Format = Chain<Chain<Maybe<Reorder>, Maybe<Clear>>, Chain<Maybe<Narrow>, Maybe<Widen>>>;
+pub type Format = Chain<Order, Resize>;
 
 /// The largest number that divides both.
 fn common_divisor(one: u8, other: u8) -> u8
@@ -111,27 +117,39 @@ pub fn format_of(source: &SourcePort, sink: &SinkPort) -> Format
     ensures format { IsFormatOf source.now sink.now result }
     ensures leads { (passes : ℕ → Bool) (side : Side) → IsSideOf source.now result side → PassesAll passes side
         → LeadsTo result passes side (formatted source.now sink.now side) }
+    ensures orders { (passes : ℕ → Bool) (side : Side) → IsSideOf source.now result side → PassesAll passes side
+        → Orders result.first passes side (turned source.now sink.now side) }
+    ensures resizes { (passes : ℕ → Bool) (side : Side) → IsSideOf source.now result side → PassesAll passes side
+        → Resizes result.second passes (turned source.now sink.now side) (formatted source.now sink.now side) }
     ensures widths { (widths : Widths) → widths.word ≡ source.now.symbol_bits * source.now.symbols → widths.empty ≤ 8
         → TakesTo result widths (source.now.symbol_bits * sink.now.symbols) }
+    ensures order_widths { (widths : Widths) → widths.word ≡ source.now.symbol_bits * source.now.symbols → widths.empty ≤ 8
+        → OrderTakes result.first widths }
+    ensures resize_widths { (widths : Widths) → widths.word ≡ source.now.symbol_bits * source.now.symbols → widths.empty ≤ 8
+        → ResizeTakes result.second widths (source.now.symbol_bits * sink.now.symbols) }
     ensures nets { format_nets result ≤ 1800 }
+    ensures few_order { order_nets result.first ≤ 1050 }
+    ensures few_resize { resize_nets result.second ≤ 750 }
 
     // Ends of one form have nothing between them.
     ensures nothing { source.now.symbols ≡ sink.now.symbols → source.now.first_high ≡ sink.now.first_high → format_nets result ≡ 0 }
+    ensures no_order { source.now.symbols ≡ sink.now.symbols → source.now.first_high ≡ sink.now.first_high → order_nets result.first ≡ 0 }
+    ensures no_resize { source.now.symbols ≡ sink.now.symbols → resize_nets result.second ≡ 0 }
 {
     let bits = source.symbol_bits as u8;
     let symbols = common_divisor(source.symbols, sink.symbols);
     let narrow_parts = parts_of(source.symbols, symbols, sink.symbols);
     let wide_parts = parts_of(sink.symbols, symbols, source.symbols);
-    let front = Chain {
+    let order = Chain {
         first: turn_of(source, sink, bits),
         second: clearing_of(source, sink, bits),
     };
-    let back = Chain {
+    let resize = Chain {
         first: cut_of(symbols, narrow_parts, bits),
         second: joint_of(symbols, wide_parts, bits),
     };
     Chain {
-        first: front,
-        second: back,
+        first: order,
+        second: resize,
     }
 }

@@ -12,7 +12,7 @@ pub mod widen;
 mod words;
 
 pub use clear::Clear;
-pub use format::{Format, format_of};
+pub use format::{Format, Order, Resize, format_of};
 pub use narrow::Narrow;
 pub use reorder::Reorder;
 pub use sizes::Sizes;

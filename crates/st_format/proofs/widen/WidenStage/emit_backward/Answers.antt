@@ -1,4 +1,4 @@
-use Rattle.std.proofs.Common.{◌==◌, ◌&&◌, if◌then◌else◌, sym, ap, ◌∙◌, arith}
+use Rattle.std.proofs.Common.{◌==◌, ◌&&◌, if◌then◌else◌, ap, ◌∙◌, arith}
 use Rattle.netlist.specs.Runs.{cycle_of}
 use Rattle.stage_core.specs.Groups.{Shown, shown_in}
 use Rattle.net_parts.specs.Laws.{net_lasts, extends_twice, grows_once, grows_twice, grows_fewer, bit_fits, adds_grow}
@@ -9,10 +9,10 @@ use Rattle.stage_core.specs.Refusing.{handed_on}
 use Rattle.st_format.proofs.widen.WidenStage.emit_backward.Goals as goal
 
 pub or-requires-clause-widths : goal.or-requires-clause-widths
-or-requires-clause-widths c = c.in_ok-not_full.ensures.net.1 ∙ (c.requires.kept.full.has_width ∙ sym c.requires.ready.has_width)
+or-requires-clause-widths c = let low = c.in_ok-not_full.ensures.net.1 in let full = c.requires.kept.full.has_width in let ready = c.requires.ready.has_width in omega (arith, low, full, ready)
 
 pub and-requires-clause-widths : goal.and-requires-clause-widths
-and-requires-clause-widths c = c.requires.kept.coming.has_width ∙ sym (c.in_ok-up.ensures.net.1 ∙ (c.in_ok-not_full.ensures.net.1 ∙ c.requires.kept.full.has_width))
+and-requires-clause-widths c = let coming = c.requires.kept.coming.has_width in let up = c.in_ok-up.ensures.net.1 in let low = c.in_ok-not_full.ensures.net.1 in let full = c.requires.kept.full.has_width in let ready = c.requires.ready.has_width in omega (arith, coming, up, low, full, ready)
 
 pub mux_beat-requires-clause-bit : goal.mux_beat-requires-clause-bit
 mux_beat-requires-clause-bit c = net_lasts _ _ _ _ (extends_twice _ _ _ c.not.ensures.extends (extends_twice _ _ _ c.or.ensures.extends c.and.ensures.extends)) c.requires.kept.full
@@ -47,7 +47,7 @@ set_next_beat-requires-clause-widths c = widths_turned _ _ (widths_twice _ _ _ c
 
 pub returns-clause-net : goal.returns-clause-net
 returns-clause-net c =
-    net_lasts _ _ _ _ (extends_twice _ _ _ c.and.ensures.extends (extends_twice _ _ _ c.mux_beat.ensures.adds.grows.extends (extends_twice _ _ _ c.mux_beat-2.ensures.adds.grows.extends c.set_next_beat.ensures.grows.extends))) (record { is_net = c.in_ok-up.ensures.net.0; has_width = c.in_ok-up.ensures.net.1 ∙ (c.in_ok-not_full.ensures.net.1 ∙ c.requires.kept.full.has_width) })
+    net_lasts _ _ _ _ (extends_twice _ _ _ c.and.ensures.extends (extends_twice _ _ _ c.mux_beat.ensures.adds.grows.extends (extends_twice _ _ _ c.mux_beat-2.ensures.adds.grows.extends c.set_next_beat.ensures.grows.extends))) (record { is_net = c.in_ok-up.ensures.net.0; has_width = (let up = c.in_ok-up.ensures.net.1 in let low = c.in_ok-not_full.ensures.net.1 in let full = c.requires.kept.full.has_width in let ready = c.requires.ready.has_width in omega (arith, up, low, full, ready)) })
 
 pub returns-clause-made : goal.returns-clause-made
 returns-clause-made c = record {
@@ -67,7 +67,7 @@ returns-clause-made c = record {
       let v2 = c.and.ensures.extends.valuations (cycle_of run n) v3 in
       let v1 = c.or.ensures.extends.valuations (cycle_of run n) v2 in
       let v0 = c.not.ensures.extends.valuations (cycle_of run n) v1 in
-      let up = bit_fits _ _ (record { is_net = c.in_ok-up.ensures.net.0; has_width = c.in_ok-up.ensures.net.1 ∙ (c.in_ok-not_full.ensures.net.1 ∙ c.requires.kept.full.has_width) }) (cycle_of run n) v2 in
+      let up = bit_fits _ _ (record { is_net = c.in_ok-up.ensures.net.0; has_width = (let up = c.in_ok-up.ensures.net.1 in let low = c.in_ok-not_full.ensures.net.1 in let full = c.requires.kept.full.has_width in let ready = c.requires.ready.has_width in omega (arith, up, low, full, ready)) }) (cycle_of run n) v2 in
       let comes = high_and (run.net n c.args.kept.coming.number) (run.net n c.in_ok-up.up.number) (run.net n c.in_ok-comes.comes.number) (bit_fits _ _ c.requires.kept.coming (cycle_of run n) v0) up (c.in_ok-comes.ensures.value (cycle_of run n) v3).1 in
       c.set_next_beat.ensures.value run cycles r n lt
       ∙ c.in_ok-next.ensures.value (cycle_of run n) v5
