@@ -33,6 +33,12 @@ abbrev pub PassesInLonger : Shape → Netlist → BeatNets → NetValue → Beat
 PassesInLonger shape netlist from up to ready =
     (longer : Netlist) → Extends netlist longer → (run : Run) → IsEndlessRun longer run → ReadyPasses shape (view_of run from up) (view_of run to ready)
 
+-- what the two calls of a stage leave stands in the netlist, with something that was kept between them
+pub record Stands {Held : Type 0} (forward backward : Held → Netlist → Type 0) (netlist : Netlist) : Type 0 where
+  pub kept : Held
+  pub first : forward kept netlist
+  pub second : backward kept netlist
+
 -- in two valuations of a longer netlist with one state, the beat `to` is the same where the beat `from` is
 abbrev pub IgnoresInLonger : Netlist → BeatNets → BeatNets → Type 0
 IgnoresInLonger netlist from to =

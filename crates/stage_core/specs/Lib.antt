@@ -5,6 +5,7 @@ pub mod Lasting
 pub use Rattle.net_parts.specs.Refusing
 pub mod BeatLaws
 pub mod Law
+pub mod Queued
 pub mod PassNets
 pub mod ChainNets
 pub mod MaybeNets

@@ -20,7 +20,8 @@ use Rattle.net_parts.specs.Places.{Place, held_of, AllEmpty, has_room, place_as,
 use Rattle.net_parts.specs.PlaceRows as rows
 use Rattle.net_parts.specs.PlaceRows.{nets_of, place_in, row_in, RowSteps, shown_first, InRow, StartsAllEmpty}
 use Rattle.stage_core.specs.QueueBits.{SetsQueue}
-use Rattle.stage_core.specs.QueueNets.{QueueForward, QueueBackward}
+use Rattle.stage_core.specs.QueueNets.{QueueForward, QueueBackward, queue_forward_lasts, queue_backward_lasts}
+use Rattle.stage_core.specs.Queued.{QueuesInLonger}
 use Rattle.stage_core.specs.BeatLaws.{show_same, all_same}
 use Rattle.net_parts.specs.PlaceLaws.{room_last}
 use Rattle.stage_core.specs.RowHolds.{packed, room_now, row_holds}
@@ -102,6 +103,12 @@ kept_run from to kept depth ready up netlist run side f b endless direct =
     subst (λ (n : BeatNets). IsQueueRun depth side (view_of run n up) (view_of run to ready) (λ c. held_of (beats_in (cycle_of run c) kept.places.items))) (sym f.from_is)
     (subst (λ d. IsQueueRun d side (view_of run kept.from up) (view_of run to ready) (λ c. held_of (beats_in (cycle_of run c) kept.places.items))) f.count
     (is_queue_run kept.from to ready up netlist run endless side direct kept.places.items f.starts (λ c. f.shows (cycle_of run c) ((endless (c + 1)).valuations c (omega arith))) b))
+
+pub queues : (from to : BeatNets) (kept : FifoKept) (depth : ℕ) (ready up : NetValue) (netlist : Netlist) → QueueForward from to kept depth netlist → QueueBackward netlist kept.from ready up kept.places.items → QueuesInLonger depth netlist from up to ready
+queues from to kept depth ready up netlist f b longer e run endless side direct = (
+  (λ c. held_of (beats_in (cycle_of run c) kept.places.items)),
+  kept_run from to kept depth ready up longer run side (queue_forward_lasts from to kept depth netlist longer f e) (queue_backward_lasts netlist longer kept.from ready up kept.places.items b e) endless direct,
+)
 
 pub queue_between : (shape : Shape) (from to : BeatNets) (kept : FifoKept) (depth : ℕ) (ready up : NetValue) (netlist : Netlist) (run : Run) → IsBufferShape depth shape → QueueForward from to kept depth netlist → QueueBackward netlist kept.from ready up kept.places.items → IsEndlessRun netlist run →
     ((passes : ℕ → Bool) (depth : ℕ) (side : Side) (up down : EndView) (held : ℕ → List Beat) → IsQueueRun depth side up down held → side.pace.latency ≡ 0 → 0 < side.symbols → PassesAll passes side → KeepsStageLaw (buffer_shape passes depth side) (plain_run up down)) →

@@ -5,7 +5,7 @@ ghost use Rattle.stream_machines.specs.Stage.{Shape};
 ghost use Rattle.stage_core.specs.Beats.{widths_of, AreBeatNets};
 ghost use Rattle.net_parts.specs.Nets.{IsBit};
 ghost use Rattle.net_parts.specs.Growth.{GrowsBy, StillWait};
-ghost use Rattle.stage_core.specs.Law.{KeepsInLonger, PassesInLonger, IgnoresInLonger};
+ghost use Rattle.stage_core.specs.Law.{Stands, KeepsInLonger, PassesInLonger, IgnoresInLonger};
 
 use crate::beat::BeatNets;
 use crate::stage::Stage;
@@ -34,6 +34,9 @@ pub fn emit_stream<S: Stage>(
     ensures beat { IfOk result (λ made. AreBeatNets builder.new made.beat) }
     ensures widths { IfOk result (λ made. widths_of made.beat ≡ S.gives stage.now (widths_of from)) }
     ensures ready { IfOk result (λ made. IsBit builder.new made.ready) }
+
+    // What its two calls leave stands.
+    ensures stands { IfOk result (λ made. Stands (S.forward_in stage.now from made.beat) (λ kept. S.backward_in stage.now kept ready made.ready) builder.new) }
 
     // In each endless run of each longer netlist the stage keeps its law,
     ensures keeps { IfOk result (λ made. (shape : Shape) → S.has_shape stage.now shape

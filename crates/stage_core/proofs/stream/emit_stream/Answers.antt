@@ -3,6 +3,13 @@ use Rattle.stage_core.specs.Lasting.{beat_lasts}
 use Rattle.net_parts.specs.Laws.{net_lasts, extends_twice, grows_twice, grows_fewer, owned_same, waiting_within}
 use Rattle.stage_core.proofs.stream.emit_stream.Goals as goal
 
+pub returns-clause-stands : goal.returns-clause-stands
+returns-clause-stands g c = record {
+  kept = c.in_ok-beat.kept;
+  first = g.met.S.Stage.forward_lasts _ _ _ _ _ _ c.in_ok-beat.ensures.made c.emit_backward.ensures.grows.extends;
+  second = c.in_ok-ready.ensures.made;
+}
+
 pub returns-clause-keeps : goal.returns-clause-keeps
 returns-clause-keeps g c shape has longer e run endless =
     c.law.ensures.keeps shape c.args.from c.in_ok-beat.beat c.in_ok-beat.kept c.args.ready c.in_ok-ready.ready longer has
