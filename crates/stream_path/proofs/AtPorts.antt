@@ -146,7 +146,7 @@ module _ (end : Declared) (side : Side) (view : EndView) (count : ℕ)
       by_transfer true moves = same_shown c lt moves
       by_transfer false stays = refl
 
-  same_given : (c : ℕ) → c ≤ count → delivered_symbols side (at_ports end view) c ≡ delivered_symbols side view c
+  pub same_given : (c : ℕ) → c ≤ count → delivered_symbols side (at_ports end view) c ≡ delivered_symbols side view c
   same_given zero h = refl
   same_given (suc c) h =
       ap (λ (xs : List Symbol). xs ++ symbols_in side (at_ports end view) c) (same_given c (omega arith))

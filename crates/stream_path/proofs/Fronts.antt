@@ -1,8 +1,8 @@
 -- Stages that stand one behind the other lead from the source on.
-use Rattle.std.proofs.Common.{◌≡◌, ◌⊎◌, inl, inr, ℕ, zero, suc, ◌+◌, ◌*◌, ◌≤◌, ◌<◌, Bool, true, false, not, ◌||◌, nat_lt, IsTrue, Option, Some, None, Result, Ok, Err, refl, ap, sym, ◌∙◌, subst, arith}
-use Rattle.std.specs.Prelude.{if◌then◌else◌, IfOk, max}
-use Rattle.std.proofs.Math.Nat.{mul-le-mul_right}
-use Rattle.std.proofs.lemmas.Bool.{and_parts, ltb-true, ltb-false, le-leb, eqb-true}
+use Rattle.std.proofs.Common.{◌≡◌, ◌⊎◌, inl, inr, ℕ, zero, suc, ◌+◌, ◌*◌, ◌≤◌, ◌<◌, Bool, true, false, not, ◌||◌, nat_lt, nat_le, IsTrue, Option, Some, None, Result, Ok, Err, refl, ap, sym, ◌∙◌, subst, arith}
+use Rattle.std.specs.Prelude.{if◌then◌else◌, IfOk, IsFalse, max}
+use Rattle.std.proofs.Math.Nat.{mul-le-mul_left, mul-le-mul_right}
+use Rattle.std.proofs.lemmas.Bool.{and_parts, ltb-true, ltb-false, leb-true, leb-false, le-leb, eqb-true}
 use Rattle.iface_roles.specs.declared.records.StreamPort.{StreamPort}
 use Rattle.iface_roles.specs.Records.{ready_latency}
 use Rattle.netlist.specs.Nets.{NetValue}
@@ -10,13 +10,14 @@ use Rattle.netlist.specs.Netlists.{Netlist}
 use Rattle.netlist.specs.declared.fault.NetFault.{NetFault}
 use Rattle.stream_runs.specs.View.{Pace, Side}
 use Rattle.stream_runs.specs.Delivery.{stream_lag}
+use Rattle.stream_runs.specs.Awake.{stream_window}
 use Rattle.stream_runs.specs.Ends.{Declared, pace_of, side_of, stream_of}
 use Rattle.stream_machines.specs.Stage.{Shape, PassesAll, chain_shape, pass_shape}
 use Rattle.stream_machines.specs.Buffers.{buffer_shape}
 use Rattle.stream_machines.specs.Wires.{wire_shape, with_error_bits, turned_side, delayed_side}
 use Rattle.stage_core.specs.declared.beat.BeatNets.{BeatNets}
 use Rattle.stage_core.specs.declared.stream.StreamNets.{StreamNets}
-use Rattle.stage_core.specs.Law.{KeepsInLonger, PassesInLonger}
+use Rattle.stage_core.specs.Law.{KeepsInLonger, PassesInLonger, IgnoresInLonger}
 use Rattle.stage_core.specs.ChainNets.{ShapesFit, IsChainOf}
 use Rattle.stage_core.specs.MaybeNets.{shape_of}
 use Rattle.stage_core.specs.RegisterNets.{IsBufferShape}
@@ -32,65 +33,113 @@ use Rattle.st_timing.specs.DelayNets.{IsDelayShape}
 use Rattle.st_timing.specs.TimingNets.{IsTimingOf, timing_shape, LeadsToZero}
 use Rattle.st_timing.specs.Ends.{declared}
 use Rattle.stream_path.specs.Joining.{FitsPorts, TakesWhole, CanJoin}
-use Rattle.stream_path.specs.Between.{joined_channel, filtered, timed, with_errors, formed, ordered, at_sink, joined_test, timed_hold, queued_hold, IsFront, IsDelayEnough, CarriesStream}
+use Rattle.stream_path.specs.Between.{joined_channel, filtered, timed, with_errors, formed, ordered, at_sink, joined_test, queued_hold, Bounds, still, timed_bounds, queued_bounds, LeadsOn, LeadsFrom, IsDelayEnough, TakesInLonger, CarriesStream}
 use Rattle.stream_path.specs.Parts.{IsErrorTieOf, IsTurnBack}
 use Rattle.stream_path.proofs.AtPorts.{none_below}
 
--- ---- a part behind a front
+-- ---- a part behind another
 
--- a part of this shape leads from one side to another
-pub record IsPart (source sink : Declared) (up down : Side) (least most : ℕ) (has passing : Shape → Type 0) : Type 0 where
-  pub shape : Shape
-  pub up_is : shape.up ≡ up
-  pub down_is : shape.down ≡ down
-  pub test : shape.passes ≡ joined_test source sink
-  pub room : least ≤ shape.hold
-  pub hold : shape.hold ≤ most
-  pub free : shape.needs_ready ≡ false
-  pub keeps : has shape
-  pub passes : TakesWhole source sink → passing shape
+or_either : (a b : Bool) → IsTrue (a || b) → IsTrue a ⊎ IsTrue b
+or_either true b h = inl refl
+or_either false b h = inr h
 
-or_first : (a b : Bool) → b ≡ false → IsTrue (a || b) → IsTrue a
-or_first true b none h = refl
-or_first false b none h = absurd (cc)
+none_of_both : (a b : Bool) → a || b ≡ false → (a ≡ false) × (b ≡ false)
+none_of_both false b h = (refl, h)
+none_of_both true b h = absurd (cc)
 
 never_late : (latency : ℕ) → latency ≡ 0 → IsTrue (nat_lt 0 latency) → ⊥
 never_late latency none late = let some : 0 < latency = ltb-true 0 latency late in absurd (omega (arith, some, none))
 
-module _ (source sink : Declared) (side down : Side) (least least' most most' parts : ℕ) (has passing seconds ready_seconds : Shape → Type 0) (shows : Type 0)
-    (front : IsFront source sink side least most has passing) (part : IsPart source sink side down least' most' seconds ready_seconds)
-    (at_once : side.pace.latency ≡ 0) (some : 1 ≤ source.symbols) (divides : (source.symbols ≡ side.symbols * parts) ⊎ (down.symbols ≡ side.symbols * parts))
-    (errors : 0 < down.error_bits → 0 < source.error_bits → 0 < side.error_bits) where
+product_within : (a b c d : ℕ) → a ≤ b → c ≤ d → a * c ≤ b * d
+product_within a b c d first second =
+    let one : a * c ≤ b * c = mul-le-mul_right c first in
+    let two : b * c ≤ b * d = mul-le-mul_left b second in
+    omega (arith, one, two)
+
+-- a part that holds something adds one step
+pub step_at_most : (hold a b : ℕ) → (if nat_le hold 0 then a + b else a + b + 1) ≤ a + b + 1
+step_at_most hold a b = by_test (nat_le hold 0)
+  where
+    by_test : (t : Bool) → (if t then a + b else a + b + 1) ≤ a + b + 1
+    by_test true = omega arith
+    by_test false = omega arith
+
+step_within : (hold most a b c d : ℕ) → hold ≤ most → a ≤ c → b ≤ d → (if nat_le hold 0 then a + b else a + b + 1) ≤ (if nat_le most 0 then c + d else c + d + 1)
+step_within hold most a b c d held first second = by_tests (nat_le hold 0) (nat_le most 0) refl refl
+  where
+    by_tests : (s t : Bool) → nat_le hold 0 ≡ s → nat_le most 0 ≡ t → (if s then a + b else a + b + 1) ≤ (if t then c + d else c + d + 1)
+    by_tests true true none few = omega arith
+    by_tests true false none few = omega arith
+    by_tests false false none few = omega arith
+    by_tests false true none few = absurd (let some : 0 < hold = leb-false hold 0 none in let zero_most : most ≤ 0 = leb-true most 0 few in omega (arith, some, zero_most))
+
+-- the numbers of two parts, one behind the other
+abbrev pub joined : Bounds → Bounds → Bounds
+joined one two =
+    record {
+      least = one.least + two.least;
+      most = one.most + two.most;
+      rest = one.rest + two.rest;
+      step = if nat_le two.most 0 then one.step + two.step else one.step + two.step + 1;
+      largest = one.largest + two.largest + (one.step + 1) * two.most;
+    }
+
+-- numbers within others
+pub record AreWithin (bounds limits : Bounds) : Type 0 where
+  pub least : limits.least ≤ bounds.least
+  pub most : bounds.most ≤ limits.most
+  pub rest : bounds.rest ≤ limits.rest
+  pub step : bounds.step ≤ limits.step
+  pub largest : bounds.largest ≤ limits.largest
+
+module _ (source sink : Declared) (up side down : Side) (one two whole : Bounds) (parts : ℕ) (has passing seconds ready_seconds : Shape → Type 0) (shows : Type 0)
+    (front : LeadsOn source sink up side one has passing) (part : LeadsOn source sink side down two seconds ready_seconds)
+    (at_once : side.pace.latency ≡ 0) (some : 0 < up.symbols) (divides : (up.symbols ≡ side.symbols * parts) ⊎ (down.symbols ≡ side.symbols * parts))
+    (errors : 0 < down.error_bits → 0 < up.error_bits → 0 < side.error_bits) (within : AreWithin (joined one two) whole) where
   direct : part.shape.up.pace.latency ≡ 0
   direct = ap (λ (s : Side). s.pace.latency) part.up_is ∙ at_once
 
   fits : ShapesFit front.shape part.shape
   fits = record {
-    same_side = front.down ∙ sym part.up_is;
+    same_side = front.down_is ∙ sym part.up_is;
     passed_on = λ channel h. subst (λ (p : ℕ → Bool). IsTrue (p channel)) (front.test ∙ sym part.test) h;
-    has_symbols = subst (λ (s : Side). 0 < s.symbols) (sym front.up) some;
+    has_symbols = subst (λ (s : Side). 0 < s.symbols) (sym front.up_is) some;
     divides = (
       parts,
       elim divides [
-        | inl e ↦ inl (ap (λ (s : Side). s.symbols) front.up ∙ e ∙ ap (λ (s : Side). s.symbols * parts) (sym part.up_is))
+        | inl e ↦ inl (ap (λ (s : Side). s.symbols) front.up_is ∙ e ∙ ap (λ (s : Side). s.symbols * parts) (sym part.up_is))
         | inr e ↦ inr (ap (λ (s : Side). s.symbols) part.down_is ∙ e ∙ ap (λ (s : Side). s.symbols * parts) (sym part.up_is))
       ],
     );
     has_errors = λ a b. subst (λ (s : Side). 0 < s.error_bits) (sym part.up_is)
-        (errors (subst (λ (s : Side). 0 < s.error_bits) part.down_is a) (subst (λ (s : Side). 0 < s.error_bits) front.up b));
+        (errors (subst (λ (s : Side). 0 < s.error_bits) part.down_is a) (subst (λ (s : Side). 0 < s.error_bits) front.up_is b));
     delayed = λ late. absurd (never_late _ direct late);
   }
 
-  pub behind : (least'' most'' : ℕ) → least'' ≤ least + least' → most + most' ≤ most''
-      → IsFront source sink down least'' most'' (IsChainOf has seconds ready_seconds shows) (IsChainOf (λ first. has first × passing first) ready_seconds ready_seconds shows)
-  behind least'' most'' more less = record {
+  step_fits : (chain_shape front.shape part.shape).step ≤ whole.step
+  step_fits =
+      let added = step_within part.shape.hold two.most front.shape.step part.shape.step one.step two.step part.hold front.step part.step in
+      let few : (if nat_le part.shape.hold 0 then front.shape.step + part.shape.step else front.shape.step + part.shape.step + 1) ≤ whole.step = (let most = within.step in omega (arith, added, most)) in
+      subst (λ n. (if nat_lt 0 n then part.shape.step else (if nat_le part.shape.hold 0 then front.shape.step + part.shape.step else front.shape.step + part.shape.step + 1)) ≤ whole.step) (sym direct) few
+
+  largest_fits : (chain_shape front.shape part.shape).largest ≤ whole.largest
+  largest_fits =
+      let product = product_within (front.shape.step + 1) (one.step + 1) part.shape.hold two.most (let few = front.step in omega (arith, few)) part.hold in
+      let few : front.shape.largest + part.shape.largest + (front.shape.step + 1) * part.shape.hold ≤ whole.largest = (let most = within.largest in let first = front.largest in let second = part.largest in omega (arith, product, most, first, second)) in
+      subst (λ n. (if nat_lt 0 n then part.shape.largest else front.shape.largest + part.shape.largest + (front.shape.step + 1) * part.shape.hold) ≤ whole.largest) (sym direct) few
+
+  pub behind : LeadsOn source sink up down whole (IsChainOf has seconds ready_seconds shows) (IsChainOf (λ first. has first × passing first) ready_seconds ready_seconds shows)
+  behind = record {
     shape = chain_shape front.shape part.shape;
-    up = front.up;
-    down = part.down_is;
+    up_is = front.up_is;
+    down_is = part.down_is;
     test = front.test;
-    room = (let r = front.room in let r' = part.room in omega arith);
-    hold = (let h = front.hold in let h' = part.hold in omega arith);
-    always_ready = λ needs. front.always_ready (or_first _ _ part.free needs);
+    room = (let least = within.least in let first = front.room in let second = part.room in omega (arith, least, first, second));
+    hold = (let most = within.most in let first = front.hold in let second = part.hold in omega (arith, most, first, second));
+    rest = (let most = within.rest in let first = front.rest in let second = part.rest in omega (arith, most, first, second));
+    step = step_fits;
+    largest = largest_fits;
+    always_ready = λ needs. elim (or_either _ _ needs) [ inl first ↦ front.always_ready first | inr second ↦ part.always_ready second ];
     keeps = record {
       first = front.shape;
       second = part.shape;
@@ -101,17 +150,22 @@ module _ (source sink : Declared) (side down : Side) (least least' most most' pa
       shown = λ late. absurd (never_late _ direct late);
       always_ready = λ needs. part.passes (front.always_ready needs);
     };
-    passes = λ whole. record {
+    passes = λ takes. record {
       first = front.shape;
       second = part.shape;
       is = refl;
       fit = fits;
-      first_has = (front.keeps, front.passes whole);
-      second_has = part.passes whole;
+      first_has = (front.keeps, front.passes takes);
+      second_has = part.passes takes;
       shown = λ late. absurd (never_late _ direct late);
-      always_ready = λ needs. part.passes whole;
+      always_ready = λ needs. part.passes takes;
     };
   }
+
+  -- where it needs no ready, neither part does
+  pub behind_free : behind.shape.needs_ready ≡ false → (front.shape.needs_ready ≡ false) × (part.shape.needs_ready ≡ false)
+  unfolding behind
+  behind_free free = none_of_both front.shape.needs_ready part.shape.needs_ready free
 
 -- ---- the channels
 
@@ -132,6 +186,12 @@ timing_holds : (timing : Timing) (shape : Shape) → timing_shape timing shape �
 timing_holds (Tie stage) shape has = let none : shape.hold ≡ 0 = ap (λ (s : Shape). s.hold) has.is in omega arith
 timing_holds (Buffer stage) shape has = let all : shape.hold ≡ (shape.up.pace.latency + 1) * shape.up.symbols = ap (λ (s : Shape). s.hold) has.is in omega arith
 timing_holds (Wire stage) shape has = let none : shape.hold ≡ 0 = ap (λ (s : Shape). s.hold) has.is in omega arith
+
+-- behind ready latency 0 nothing is held
+timing_free : (source : StreamPort) (sink : StreamPort) (timing : Timing) (shape : Shape) → IsTimingOf source sink timing → timing_shape timing shape → ready_latency source ≡ 0 → shape.hold ≡ 0
+timing_free source sink (Tie stage) shape is has at_once = ap (λ (s : Shape). s.hold) has.is
+timing_free source sink (Buffer stage) shape is has at_once = absurd (let same = is.1 in let some = is.2 in omega (arith, same, some, at_once))
+timing_free source sink (Wire stage) shape is has at_once = ap (λ (s : Shape). s.hold) has.is
 
 not_true : (b : Bool) → not b ≡ true → b ≡ false
 not_true true h = absurd (cc)
@@ -184,16 +244,42 @@ module _ (from : StreamPort) (to : StreamPort) (filter : ChannelFilter) (timing 
   shown : IsTrue (nat_lt 0 leads.shape.up.pace.latency) → IsTrue (is_ready_wire filter)
   shown late = late_wire (nat_lt 0 filter.latency) (compares filter) (subst (λ n. IsTrue (nat_lt 0 n)) (ap (λ (s : Side). s.pace.latency) leads.up ∙ sym latency_is) late)
 
-  pub begun : IsFront source sink (timed source sink) 0 (timed_hold source)
+  abbrev latency : ℕ
+  latency = (pace_of source).latency
+
+  late_is : leads.shape.up.pace.latency ≡ latency
+  late_is = ap (λ (s : Side). s.pace.latency) leads.up
+
+  none_held : nat_lt 0 latency ≡ false → leads.shape.hold ≡ 0
+  none_held at_once = timing_free from to timing leads.shape is leads.has (let none : latency ≤ 0 = ltb-false 0 latency at_once in let same = pace_is from in omega (arith, none, same))
+
+  step_none : (chain_shape gate leads.shape).step ≤ 0
+  step_none = subst (λ n. (if nat_lt 0 n then leads.shape.step else (if nat_le leads.shape.hold 0 then 0 + leads.shape.step else 0 + leads.shape.step + 1)) ≤ 0) (sym late_is) (by_late (nat_lt 0 latency) refl)
+    where
+      by_late : (b : Bool) → nat_lt 0 latency ≡ b → (if b then leads.shape.step else (if nat_le leads.shape.hold 0 then 0 + leads.shape.step else 0 + leads.shape.step + 1)) ≤ 0
+      by_late true late = let none = leads.step in omega (arith, none)
+      by_late false late = subst (λ n. (if nat_le n 0 then 0 + leads.shape.step else 0 + leads.shape.step + 1) ≤ 0) (sym (none_held late)) (let none = leads.step in omega (arith, none))
+
+  largest_few : (chain_shape gate leads.shape).largest ≤ latency
+  largest_few = subst (λ n. (if nat_lt 0 n then leads.shape.largest else latency + leads.shape.largest + (0 + 1) * leads.shape.hold) ≤ latency) (sym late_is) (by_late (nat_lt 0 latency) refl)
+    where
+      by_late : (b : Bool) → nat_lt 0 latency ≡ b → (if b then leads.shape.largest else latency + leads.shape.largest + (0 + 1) * leads.shape.hold) ≤ latency
+      by_late true late = leads.largest
+      by_late false late = let few : leads.shape.largest ≤ latency = leads.largest in let at_once : latency ≤ 0 = ltb-false 0 latency late in let none = none_held late in omega (arith, few, at_once, none)
+
+  pub begun : LeadsOn source sink (side_of source) (timed source sink) (timed_bounds source)
       (IsChainOf (IsFilterShape filter) (timing_shape timing) (timing_shape timing) (IsTrue (is_ready_wire filter)))
       (IsChainOf (λ first. IsFilterShape filter first × IsFilterShape filter first) (timing_shape timing) (timing_shape timing) (IsTrue (is_ready_wire filter)))
   begun = record {
     shape = chain_shape gate leads.shape;
-    up = refl;
-    down = leads.down;
+    up_is = refl;
+    down_is = leads.down;
     test = refl;
     room = omega arith;
     hold = subst (λ (s : Side). 0 + leads.shape.hold ≤ (s.pace.latency + 1) * s.symbols) leads.up (let most = timing_holds timing leads.shape leads.has in omega arith);
+    rest = (let none = leads.rest in omega (arith, none));
+    step = step_none;
+    largest = largest_few;
     always_ready = λ needs. timing_needs from to timing leads.shape is leads.has needs;
     keeps = record { first = gate; second = leads.shape; is = refl; fit = front_fits; first_has = filter_is; second_has = leads.has; shown = shown; always_ready = λ needs. absurd (cc) };
     passes = λ whole. record { first = gate; second = leads.shape; is = refl; fit = front_fits; first_has = (filter_is, filter_is); second_has = leads.has; shown = shown; always_ready = λ needs. absurd (cc) };
@@ -210,7 +296,7 @@ same_errors zero (suc wanted) some same = absurd (let none = some (omega arith) 
 same_errors (suc bits) wanted some same = same (omega arith)
 
 pub error_part : (source sink : Declared) (stage : Option ErrorTie) → CanJoin source sink → IsErrorTieOf source.error_bits sink.error_bits stage
-    → IsPart source sink (timed source sink) (with_errors source sink) 0 0 (ErrorHas stage) (ErrorHas stage)
+    → LeadsOn source sink (timed source sink) (with_errors source sink) still (ErrorHas stage) (ErrorHas stage)
 error_part source sink None join is =
     let all = joined_all source sink (timed source sink) refl in
     record {
@@ -220,7 +306,10 @@ error_part source sink None join is =
       test = refl;
       room = omega arith;
       hold = omega arith;
-      free = refl;
+      rest = omega arith;
+      step = omega arith;
+      largest = omega arith;
+      always_ready = λ needs. absurd (cc);
       keeps = record { is = refl; some = join.source_fits.some; passes = all };
       passes = λ whole. record { is = refl; some = join.source_fits.some; passes = all };
     }
@@ -233,15 +322,22 @@ error_part source sink (Some tie) join is =
       test = refl;
       room = omega arith;
       hold = omega arith;
-      free = refl;
+      rest = omega arith;
+      step = omega arith;
+      largest = omega arith;
+      always_ready = λ needs. absurd (cc);
       keeps = record { is = refl; quiet = is.0; some = join.source_fits.some; passes = all };
       passes = λ whole. record { is = refl; quiet = is.0; some = join.source_fits.some; passes = all };
     }
 
 -- ---- the queue
 
+-- the numbers of the queue
+abbrev pub row_bounds : Declared → ℕ → Bounds
+row_bounds sink depth = record { least = depth * sink.symbols; most = depth * sink.symbols; rest = 0; step = 0; largest = 0 }
+
 pub queue_part : (source sink : Declared) (depth places : ℕ) → CanJoin source sink → places ≡ depth
-    → IsPart source sink (formed source sink) (formed source sink) (depth * sink.symbols) (depth * sink.symbols) (IsBufferShape places) (IsBufferShape places)
+    → LeadsOn source sink (formed source sink) (formed source sink) (row_bounds sink depth) (IsBufferShape places) (IsBufferShape places)
 queue_part source sink depth places join same =
     let all = joined_all source sink (formed source sink) refl in
     record {
@@ -251,7 +347,10 @@ queue_part source sink depth places join same =
       test = refl;
       room = subst (λ k. k * sink.symbols ≤ places * sink.symbols) same (omega arith);
       hold = subst (λ k. places * sink.symbols ≤ k * sink.symbols) same (omega arith);
-      free = refl;
+      rest = omega arith;
+      step = omega arith;
+      largest = omega arith;
+      always_ready = λ needs. absurd (cc);
       keeps = record { is = refl; at_once = refl; some = join.sink_fits.some; passes = all };
       passes = λ whole. record { is = refl; at_once = refl; some = join.sink_fits.some; passes = all };
     }
@@ -262,7 +361,7 @@ abbrev pub TurnHas : Option Reorder → Shape → Type 0
 TurnHas stage = shape_of (λ (s : Reorder) (shape : Shape). IsReorderShape s.symbols s.bits shape) stage
 
 pub turn_part : (source sink : Declared) (stage : Option Reorder) → CanJoin source sink → IsTurnBack source sink stage
-    → IsPart source sink (formed source sink) (ordered source sink) 0 0 (TurnHas stage) (TurnHas stage)
+    → LeadsOn source sink (formed source sink) (ordered source sink) still (TurnHas stage) (TurnHas stage)
 turn_part source sink None join is =
     let all = joined_all source sink (formed source sink) refl in
     record {
@@ -272,7 +371,10 @@ turn_part source sink None join is =
       test = refl;
       room = omega arith;
       hold = omega arith;
-      free = refl;
+      rest = omega arith;
+      step = omega arith;
+      largest = omega arith;
+      always_ready = λ needs. absurd (cc);
       keeps = record { is = refl; some = join.sink_fits.some; passes = all };
       passes = λ whole. record { is = refl; some = join.sink_fits.some; passes = all };
     }
@@ -287,7 +389,10 @@ turn_part source sink (Some turn) join is =
       test = refl;
       room = omega arith;
       hold = omega arith;
-      free = refl;
+      rest = omega arith;
+      step = omega arith;
+      largest = omega arith;
+      always_ready = λ needs. absurd (cc);
       keeps = record { is = refl; symbols_are = sym is.2; bits_are = join.symbol_bits ∙ sym is.3; some = join.sink_fits.some; passes = all };
       passes = λ whole. record { is = refl; symbols_are = sym is.2; bits_are = join.symbol_bits ∙ sym is.3; some = join.sink_fits.some; passes = all };
     }
@@ -308,7 +413,7 @@ no_latency : (end : Declared) → end.ready ≡ false → (pace_of end).latency 
 no_latency end none = ap (λ (p : Pace). p.latency) (ap (λ (b : Bool). if b then record { latency = end.latency; allowance = end.allowance } else record { latency = 0; allowance = 0 }) none)
 
 pub delay_part : (source sink : Declared) (latency cycles : ℕ) → CanJoin source sink → latency ≡ 0 → cycles ≡ (pace_of sink).latency
-    → IsPart source sink (ordered source sink) (at_sink source sink) 0 0 (IsDelayShape latency cycles) (DelayPasses latency cycles)
+    → LeadsOn source sink (ordered source sink) (at_sink source sink) still (IsDelayShape latency cycles) (DelayPasses latency cycles)
 delay_part source sink latency cycles join at_once same =
     let all = joined_all source sink (ordered source sink) refl in
     let delay : IsDelayShape latency cycles (wire_shape (joined_test source sink) (ordered source sink) (delayed_side (ordered source sink) cycles) 0 false) =
@@ -320,7 +425,10 @@ delay_part source sink latency cycles join at_once same =
       test = refl;
       room = omega arith;
       hold = omega arith;
-      free = refl;
+      rest = omega arith;
+      step = omega arith;
+      largest = omega arith;
+      always_ready = λ needs. absurd (cc);
       keeps = delay;
       passes = λ whole. (delay, same ∙ no_latency sink whole.no_ready);
     }
@@ -341,26 +449,50 @@ lag_within source sink depth join =
     let strict = join.source_fits.pace.strict in
     lag_fits source.symbols sink.symbols (pace_of source).latency (max (pace_of source).allowance (pace_of sink).allowance) depth (omega (arith, larger, strict))
 
--- what `emit_stream` gives of a stage that leads to the sink
-pub carries : (source sink : Declared) (depth : ℕ) (has passing : Shape → Type 0) (netlist : Netlist) (from : BeatNets) (ready : NetValue) (r : Result StreamNets NetFault) → CanJoin source sink
-    → IsFront source sink (at_sink source sink) (depth * sink.symbols) (queued_hold source sink depth) has passing
-    → IfOk r (λ made. (shape : Shape) → has shape → KeepsInLonger shape netlist from made.ready made.beat ready)
-    → IfOk r (λ made. (shape : Shape) → passing shape → PassesInLonger shape netlist from made.ready made.beat ready)
-    → IfOk r (λ made. CarriesStream source sink depth netlist from made ready)
-carries source sink depth has passing netlist from ready (Ok made) join front kept passed = record {
-  shape = front.shape;
-  leads = record {
-    up = front.up;
-    down = front.down;
+window_fits : (n m latency allowance depth hold step largest : ℕ) → latency ≤ allowance → hold ≤ (latency + 1) * n + (n + m) + depth * m → step ≤ 3 → largest ≤ latency + n + 2 * m + 3 * (depth * m)
+    → latency + largest + (step + 1) * hold < 8 * (n * (allowance + 3) + m * (depth + 3) + 2 * allowance + 8)
+window_fits n m latency allowance depth hold step largest fewer held steps most =
+    let product : (step + 1) * hold ≤ 4 * ((latency + 1) * n + (n + m) + depth * m) = product_within (step + 1) 4 hold ((latency + 1) * n + (n + m) + depth * m) (omega (arith, steps)) held in
+    let more : latency * n ≤ allowance * n = mul-le-mul_right n fewer in
+    omega (arith, product, more, most, fewer)
+
+-- a stage with such numbers stands still no longer than a window
+pub within_window : (source sink : Declared) (depth : ℕ) (shape : Shape) → CanJoin source sink → shape.hold ≤ queued_hold source sink depth → shape.step ≤ 3 → shape.largest ≤ (queued_bounds source sink depth).largest
+    → (pace_of source).latency + shape.largest + (shape.step + 1) * shape.hold < stream_window (stream_of source sink depth)
+within_window source sink depth shape join held steps most =
+    let larger : (pace_of source).allowance ≤ max (pace_of source).allowance (pace_of sink).allowance = larger_left (pace_of source).allowance (pace_of sink).allowance in
+    let strict = join.source_fits.pace.strict in
+    window_fits source.symbols sink.symbols (pace_of source).latency (max (pace_of source).allowance (pace_of sink).allowance) depth shape.hold shape.step shape.largest (omega (arith, larger, strict)) held steps most
+
+module _ (source sink : Declared) (depth : ℕ) (has passing : Shape → Type 0) (join : CanJoin source sink) (front : LeadsOn source sink (side_of source) (at_sink source sink) (queued_bounds source sink depth) has passing) where
+  leads_from : LeadsFrom source sink depth front.shape
+  leads_from = record {
+    up = front.up_is;
+    down = front.down_is;
     passes = front.test;
     room = front.room;
     hold = (let held = front.hold in let most = lag_within source sink depth join in omega (arith, held, most));
+    rest = (let few = front.rest in let some = join.sink_fits.some in omega (arith, few, some));
+    window = within_window source sink depth front.shape join front.hold front.step front.largest;
     always_ready = front.always_ready;
-  };
-  keeps = kept front.shape front.keeps;
-  passes = λ whole. passed front.shape (front.passes whole);
-}
-carries source sink depth has passing netlist from ready (Err e) join front kept passed = tt
+  }
+
+  -- what `emit_stream` gives of a stage that leads to the sink
+  pub carries : (netlist : Netlist) (from : BeatNets) (ready : NetValue) (r : Result StreamNets NetFault)
+      → IfOk r (λ made. (shape : Shape) → has shape → KeepsInLonger shape netlist from made.ready made.beat ready)
+      → IfOk r (λ made. (shape : Shape) → passing shape → PassesInLonger shape netlist from made.ready made.beat ready)
+      → IfOk r (λ made. IsFalse front.shape.needs_ready → TakesInLonger source sink depth netlist from made ready)
+      → IfOk r (λ made. IgnoresInLonger netlist from made.beat)
+      → IfOk r (λ made. CarriesStream source sink depth netlist from made ready)
+  carries netlist from ready (Ok made) kept passed takes ignores = record {
+    shape = front.shape;
+    leads = leads_from;
+    keeps = kept front.shape front.keeps;
+    passes = λ whole. passed front.shape (front.passes whole);
+    takes_in = takes;
+    ignores = ignores;
+  }
+  carries netlist from ready (Err e) kept passed takes ignores = tt
 
 -- ---- a delay of ready alone, between ends of one form
 
@@ -379,15 +511,23 @@ module _ (source sink : Declared) (depth latency cycles : ℕ) (join : CanJoin s
       enough.form.symbols enough.form.symbol_bits enough.form.first_high enough.form.packets enough.form.error_bits same_channel
       ∙ ap (λ (p : Pace). record (at_sink source sink) { pace = p }) (pace_by_parts (pace_of sink) ((pace_of source).latency + cycles) (omega (arith, latency_is, cycles_are)) join.sink_fits.pace.strict)
 
-  pub delay_front : IsFront source sink (at_sink source sink) (depth * sink.symbols) (queued_hold source sink depth) (IsDelayShape latency cycles) (DelayPasses latency cycles)
+  pub delay_front : LeadsOn source sink (side_of source) (at_sink source sink) (queued_bounds source sink depth) (IsDelayShape latency cycles) (DelayPasses latency cycles)
   delay_front = record {
     shape = wire_shape (joined_test source sink) (side_of source) (delayed_side (side_of source) cycles) (pace_of source).latency false;
-    up = refl;
-    down = down;
+    up_is = refl;
+    down_is = down;
     test = refl;
     room = subst (λ k. k * sink.symbols ≤ 0) (sym enough.no_queue) (omega arith);
     hold = omega arith;
+    rest = omega arith;
+    step = omega arith;
+    largest = omega arith;
     always_ready = λ needs. absurd (cc);
     keeps = record { is = refl; behind = sym latency_is; strict = join.source_fits.pace.strict; some = join.source_fits.some; passes = joined_all source sink (side_of source) same_channel };
     passes = λ whole. absurd (let has = enough.ready in let none = whole.no_ready in cc);
   }
+
+  -- a source beat has no room in a queue without places
+  pub delay_takes_in : (netlist : Netlist) (from : BeatNets) (made : StreamNets) (ready : NetValue) → TakesInLonger source sink depth netlist from made ready
+  delay_takes_in netlist from made ready longer e run endless count legal start le room =
+      absurd (let some = join.source_fits.some in let none = enough.no_queue in let held = room start (omega arith) (omega arith) in omega (arith, some, none, held))

@@ -2,7 +2,9 @@ pub mod AlwaysReady
 pub mod Fronts
 pub mod Formats
 pub mod Widths
+pub mod Opens
 pub mod AtPorts
 pub mod Served
 pub mod Runs
+pub mod Ignores
 pub mod EndNets

@@ -1,4 +1,4 @@
--- In each run of a longer netlist, the nets of a stage that leads from a source to a sink serve the stream.
+-- In each run of a longer netlist, the nets of a stage that leads from a source to a sink serve the stream, which never idles.
 use Rattle.std.proofs.Common.{◌≡◌, ℕ, suc, ◌%◌, ◌^◌, ◌<◌, ◌&&◌, ◌==◌, Bool, true, false, IsTrue, Option, Some, None, refl, ap, sym, ◌∙◌, subst, arith, nat_lt}
 use Rattle.std.specs.Prelude.{if◌then◌else◌, IsFalse, unwrap_or}
 use Rattle.std.proofs.lemmas.Bool.{ltb-true, eqb-true, eq-eqb}
@@ -9,6 +9,7 @@ use Rattle.netlist.specs.Longer.{Extends}
 use Rattle.stream_runs.specs.View.{EndView, Beat, Side, beat_at, is_high, is_transfer, AgreeBefore, IsReadyBefore}
 use Rattle.stream_runs.specs.Source.{IsLegalSource}
 use Rattle.stream_runs.specs.Delivery.{Stream, StreamRun, IsServed, RunsAgreeBefore}
+use Rattle.stream_runs.specs.Awake.{NeverIdles, IsServedAwake, stream_window}
 use Rattle.stream_runs.specs.Ends.{Declared, side_of, signal_or, view_of, stream_of, run_of}
 use Rattle.stream_machines.specs.Stage.{KeepsStageLaw, PassesAll}
 use Rattle.stream_machines.specs.Buffers.{direct_side}
@@ -25,13 +26,15 @@ use Rattle.stream_path.specs.Serving.{ServesInLonger}
 use Rattle.stream_path.specs.Between.{beat_of, IsReadyOf, CarriesStream, ShowsUnreached}
 use Rattle.stream_path.proofs.AtPorts.{kept_if, kept_bits, at_ports}
 use Rattle.stream_path.proofs.AlwaysReady.{always_ready, ready_before}
-use Rattle.stream_path.proofs.Served.{served_by}
+use Rattle.stream_path.proofs.Served.{RankLaw, served_by, awake_by}
 use Rattle.stream_path.proofs.Fronts.{side_channel}
 
 -- what the lower crates' laws say of runs and views
 pub record Laws (netlist : Netlist) : Type 0 where
   pub same_legal : (side : Side) (one two : EndView) (count : ℕ) → AgreeBefore one two count → IsLegalSource side one count → IsLegalSource side two count
   pub same_served : (stream : Stream) (one two : StreamRun) (count : ℕ) → RunsAgreeBefore one two count → IsServed stream one count → IsServed stream two count
+  pub same_awake : (window : ℕ) (stream : Stream) (one two : StreamRun) (count : ℕ) → RunsAgreeBefore one two count → NeverIdles window stream one count → NeverIdles window stream two count
+  pub ranks : RankLaw
   pub goes_on : (run : Run) (cycles : ℕ) → IsRun netlist run cycles → GoesOn netlist run cycles
   pub tied : (passes : ℕ → Bool) (side : Side) (up down : EndView) → IsTieRun up down → 0 < side.symbols → PassesAll passes side
       → KeepsStageLaw (wire_shape passes side (direct_side side) 0 true) (plain_run up down)
@@ -47,7 +50,7 @@ driven_level : (run endless : Run) (c : ℕ) → ((n : ℕ) → endless.net c n 
 driven_level run endless c same true net = same net.number
 driven_level run endless c same false net = refl
 
-beat_by_parts : (w w' ch ch' e e' f f' l l' m m' : ℕ) → w ≡ w' → ch ≡ ch' → e ≡ e' → f ≡ f' → l ≡ l' → m ≡ m'
+pub beat_by_parts : (w w' ch ch' e e' f f' l l' m m' : ℕ) → w ≡ w' → ch ≡ ch' → e ≡ e' → f ≡ f' → l ≡ l' → m ≡ m'
     → ◌≡◌ {A = Beat} (record { word = w; channel = ch; error = e; first = f; last = l; empty = m }) (record { word = w'; channel = ch'; error = e'; first = f'; last = l'; empty = m' })
 beat_by_parts w w' ch ch' e e' f f' l l' m m' p0 p1 p2 p3 p4 p5 = rw (p0, p1, p2, p3, p4, p5) refl
 
@@ -65,6 +68,8 @@ carries_longer source sink depth netlist more from made ready on h = record {
   leads = h.leads;
   keeps = λ longer e. h.keeps longer (on longer e);
   passes = λ whole longer e. h.passes whole longer (on longer e);
+  takes_in = λ free longer e. h.takes_in free longer (on longer e);
+  ignores = λ longer e. h.ignores longer (on longer e);
 }
 
 module _ (source sink : Declared) (depth : ℕ) (from : SourceNets) (port : Option NetValue) (netlist old : Netlist) (low ready fitted dropped : NetValue) (made : StreamNets)
@@ -151,6 +156,11 @@ module _ (source sink : Declared) (depth : ℕ) (from : SourceNets) (port : Opti
       served = served_by source sink depth carries.shape up down (carries.keeps netlist self endless is_run).rank carries.leads join (carries.keeps netlist self endless is_run).keeps
           (λ whole c. sink_ready whole.no_ready c) cycles legal_up (λ c. endless.net c dropped.number) dropped_at
 
+      awake : NeverIdles (stream_window (stream_of source sink depth)) (stream_of source sink depth) (record { source = up; sink = at_ports sink down; dropped = λ c. endless.net c dropped.number }) cycles
+      awake = awake_by source sink depth carries.shape up down (carries.keeps netlist self endless is_run).rank carries.leads join (carries.keeps netlist self endless is_run).keeps
+          (λ whole c. sink_ready whole.no_ready c) cycles legal_up (λ c. endless.net c dropped.number) laws.ranks
+          (λ whole. carries.passes whole netlist self endless is_run) (λ free. carries.takes_in free netlist self endless is_run)
+
       -- empty, cut to the sink's port
       fitted_level : (c : ℕ) → c < cycles → kept_bits sink.empty_bits (endless.net c made.beat.empty.number) ≡ signal_or 0 (signal_where (nat_lt 0 sink.empty_bits) run fitted) c
       fitted_level c lt = by_port (nat_lt 0 sink.empty_bits) refl
@@ -175,13 +185,18 @@ module _ (source sink : Declared) (depth : ℕ) (from : SourceNets) (port : Opti
         ready = λ c lt. sink_level c lt port is_ready;
       }
 
-      served_in_run : IsServed (stream_of source sink depth) (run_of (source_signals source from path run) (sink_signals sink port path run) (signal_on run dropped)) cycles
-      served_in_run = laws.same_served (stream_of source sink depth) _ _ cycles
-          (record {
-            source = record { valid = λ c lt. sym (same_source.valid c lt); beat = λ c lt. sym (same_source.beat c lt); ready = λ c lt. sym (same_source.ready c lt) };
-            sink = same_sink;
-            dropped = λ c lt. same c lt dropped.number;
-          }) served
+      same_run : RunsAgreeBefore (record { source = up; sink = at_ports sink down; dropped = λ c. endless.net c dropped.number }) (run_of (source_signals source from path run) (sink_signals sink port path run) (signal_on run dropped)) cycles
+      same_run = record {
+        source = record { valid = λ c lt. sym (same_source.valid c lt); beat = λ c lt. sym (same_source.beat c lt); ready = λ c lt. sym (same_source.ready c lt) };
+        sink = same_sink;
+        dropped = λ c lt. same c lt dropped.number;
+      }
+
+      served_in_run : IsServedAwake (stream_of source sink depth) (run_of (source_signals source from path run) (sink_signals sink port path run) (signal_on run dropped)) cycles
+      served_in_run = record {
+        served = laws.same_served (stream_of source sink depth) _ _ cycles same_run served;
+        awake = laws.same_awake (stream_window (stream_of source sink depth)) (stream_of source sink depth) _ _ cycles same_run awake;
+      }
 
   pub serves_in_longer : ServesInLonger source sink depth from port path netlist
   serves_in_longer longer extends run cycles is_run legal =

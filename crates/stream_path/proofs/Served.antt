@@ -1,19 +1,40 @@
--- A stage that leads from a source to a sink serves the stream.
-use Rattle.std.proofs.Common.{◌≡◌, ℕ, zero, suc, ◌+◌, ◌≤◌, ◌<◌, Bool, true, false, ◌&&◌, IsTrue, List, [], ◌++◌, map, take, drop, length, refl, ap, sym, ◌∙◌, subst, arith, nat_lt, nat_le}
-use Rattle.std.specs.Prelude.{if◌then◌else◌, ◌==◌, min}
+-- A stage that leads from a source to a sink serves the stream, which never idles.
+use Rattle.std.proofs.Common.{◌≡◌, ℕ, zero, suc, ◌+◌, ◌*◌, ◌≤◌, ◌<◌, Bool, true, false, ◌&&◌, IsTrue, List, [], ◌++◌, map, take, drop, length, refl, ap, sym, ◌∙◌, subst, arith, nat_lt, nat_le}
+use Rattle.std.specs.Prelude.{if◌then◌else◌, ◌==◌, min, IsFalse}
 use Rattle.std.proofs.lemmas.Bool.{and_parts, ltb-false, leb-true, le-leb}
 use Rattle.histories.specs.History.{IsPrefix}
-use Rattle.stream_runs.specs.View.{EndView, Side, is_high, is_transfer}
+use Rattle.stream_runs.specs.View.{EndView, Pace, Side, is_high, is_ready_cycle, is_transfer}
 use Rattle.stream_runs.specs.Source.{IsLegalAt, IsLegalSource}
 use Rattle.stream_runs.specs.Symbols.{Symbol, without_error, shown_count, shown_symbols, delivered_symbols, kept_symbols, joined_error}
-use Rattle.stream_runs.specs.Delivery.{DeliversPrefix, LagsWithin, IsServed, stream_lag, reaches}
+use Rattle.stream_runs.specs.Delivery.{DeliversPrefix, LagsWithin, StreamRun, IsServed, stream_lag, reaches}
+use Rattle.stream_runs.specs.Awake.{Throughout, Sometime, stream_window, undelivered, on_the_way, makes_beat, beats_begun, NeverIdles}
 use Rattle.stream_runs.specs.Ends.{Declared, side_of, stream_of}
 use Rattle.stream_runs.specs.Laws.{kept_more}
-use Rattle.stream_machines.specs.Stage.{Shape, StageLaw, KeepsStageLaw}
+use Rattle.stream_machines.specs.Stage.{Shape, StageRun, StageLaw, KeepsStageLaw}
+use Rattle.stage_core.specs.Law.{ReadyPasses}
 use Rattle.stream_path.specs.Joining.{TakesWhole, CanJoin}
-use Rattle.stream_path.specs.Between.{LeadsFrom, at_sink, joined_test, joined_channel}
-use Rattle.stream_path.proofs.AtPorts.{none_below, at_ports, delivers_at_ports, lags_at_ports, proper_at_ports}
+use Rattle.stream_path.specs.Between.{LeadsFrom, TakesIn, at_sink, joined_test, joined_channel}
+use Rattle.stream_path.proofs.AtPorts.{none_below, at_ports, same_given, delivers_at_ports, lags_at_ports, proper_at_ports}
 use Rattle.stream_path.proofs.Fronts.{side_channel}
+use Rattle.stream_path.proofs.Opens.{same_undelivered}
+
+-- what the law of ranks says of stages
+pub record RankLaw : Type 0 where
+  pub delivers : (shape : Shape) (run : StageRun) (count : ℕ) → StageLaw shape run count → shape.rest < shape.down.symbols → (start width : ℕ) → start + width ≤ count → shape.largest < width
+      → Throughout start width (λ c. IsTrue (is_ready_cycle shape.down.pace run.down c))
+      → Throughout start width (λ c. IsTrue (makes_beat shape.down.symbols (undelivered shape.passes shape.up shape.down run.up run.down c)))
+      → Sometime start width (λ c. IsTrue (is_transfer shape.down.pace run.down c))
+  pub accepts : (shape : Shape) (run : StageRun) (count : ℕ) → StageLaw shape run count → IsLegalSource shape.up run.up count → shape.up.pace.allowance ≡ shape.up.pace.latency → (start width : ℕ) → start + width ≤ count
+      → shape.up.pace.latency + shape.largest + (shape.step + 1) * shape.hold < width
+      → Throughout start width (λ c. IsTrue (is_ready_cycle shape.down.pace run.down c))
+      → Sometime start width (λ c. IsTrue (is_high run.up.ready c))
+  pub shows : (shape : Shape) (run : StageRun) (count : ℕ) → StageLaw shape run count → shape.rest < shape.down.symbols → shape.down.pace.latency ≡ 0 → (start width : ℕ) → start + width ≤ count → shape.largest < width
+      → Throughout start width (λ c. IsTrue (makes_beat shape.down.symbols (undelivered shape.passes shape.up shape.down run.up run.down c)))
+      → Sometime start width (λ c. IsTrue (is_high run.down.valid c))
+  pub frees : (shape : Shape) (run : StageRun) (count : ℕ) → StageLaw shape run count → shape.down.pace.latency ≡ 0 → (start width : ℕ) → start + width ≤ count → shape.largest < width
+      → Throughout start width (λ c. IsTrue (is_high run.up.valid c))
+      → Throughout start width (λ c. IsFalse (is_high run.down.valid c))
+      → Sometime start width (λ c. IsTrue (is_transfer shape.up.pace run.up c))
 
 -- a channel of the source that the sink takes is one that both ends have
 same_test : (channel s k : ℕ) → channel ≤ s → nat_le channel (min s k) ≡ nat_le channel k
@@ -109,3 +130,70 @@ module _ (source sink : Declared) (depth : ℕ) (shape : Shape) (up down : EndVi
     proper = proper_at_ports sink down (side_of sink) count (λ c lt. record { allowed = (legal_down c lt).paced.allowed; held = (legal_down c lt).paced.held });
     drops = λ c lt. shows c lt ∙ ap (λ n. is_transfer (side_of source).pace up c && nat_lt n (up.channel c)) (sym sink_channel);
   }
+
+  -- ---- the stream never idles
+
+  abbrev window : ℕ
+  window = stream_window (stream_of source sink depth)
+
+  abbrev stage_run : StageRun
+  stage_run = record { up = up; down = down; rank = rank }
+
+  down_pace : shape.down.pace ≡ middle.pace
+  down_pace = ap (λ (s : Side). s.pace) leads.down
+
+  -- what is between the views of the nets is what is on the way to the sink's ports
+  module _ (dropped : ℕ → ℕ) where
+    abbrev stream_run : StreamRun
+    stream_run = record { source = up; sink = at_ports sink down; dropped = dropped }
+
+    way_at_ports : (c : ℕ) → c ≤ count → undelivered (joined_test source sink) (side_of source) middle up down c ≡ on_the_way (stream_of source sink depth) stream_run c
+    way_at_ports c le =
+        ap (λ (xs : List Symbol). drop (length (delivered_symbols middle down c)) xs) (same_kept c le)
+        ∙ ap (λ (xs : List Symbol). drop (length xs) (sink_kept c)) (sym (same_given sink middle down count no_channels refl refl (λ k lt. (legal_down k lt).formed) (λ has. join.sink_fits.empties has) c le))
+
+    way : (c : ℕ) → c ≤ count → undelivered shape.passes shape.up shape.down up down c ≡ on_the_way (stream_of source sink depth) stream_run c
+    way c le = same_undelivered shape.passes (joined_test source sink) shape.up (side_of source) shape.down middle up down c leads.passes leads.up leads.down ∙ way_at_ports c le
+
+    pub awake_by : RankLaw → (TakesWhole source sink → ReadyPasses shape up down) → (IsFalse shape.needs_ready → TakesIn source sink depth up down) → NeverIdles window (stream_of source sink depth) stream_run count
+    awake_by laws passes takes =
+        record {
+          delivers = λ start le asked full.
+              subst (λ (pace : Pace). Sometime start window (λ c. IsTrue (is_transfer pace down c))) down_pace
+              (laws.delivers shape stage_run count law rest_fits start window le largest_fits (λ c after below. asked_of_stage c (asked c after below)) (λ c after below. full_of_stage c (omega (arith, le, below)) (full c after below)));
+          accepts = λ start le asked. laws.accepts shape stage_run count law legal_up strict start window le whole_fits (λ c after below. asked_of_stage c (asked c after below));
+          takes_in = λ start le room. by_needs start le room shape.needs_ready refl;
+          shows = λ at_once start le full.
+              laws.shows shape stage_run count law rest_fits (ap (λ (pace : Pace). pace.latency) down_pace ∙ at_once) start window le largest_fits (λ c after below. full_of_stage c (omega (arith, le, below)) (full c after below));
+          frees = λ at_once start le shown none.
+              subst (λ (s : Side). Sometime start window (λ c. IsTrue (is_transfer s.pace up c))) leads.up
+              (laws.frees shape stage_run count law (ap (λ (pace : Pace). pace.latency) down_pace ∙ at_once) start window le largest_fits shown none);
+        }
+      where
+        rest_fits : shape.rest < shape.down.symbols
+        rest_fits = subst (λ (s : Side). shape.rest < s.symbols) (sym leads.down) leads.rest
+
+        strict : shape.up.pace.allowance ≡ shape.up.pace.latency
+        strict = subst (λ (s : Side). s.pace.allowance ≡ s.pace.latency) (sym leads.up) join.source_fits.pace.strict
+
+        whole_fits : shape.up.pace.latency + shape.largest + (shape.step + 1) * shape.hold < window
+        whole_fits = subst (λ (s : Side). s.pace.latency + shape.largest + (shape.step + 1) * shape.hold < window) (sym leads.up) leads.window
+
+        largest_fits : shape.largest < window
+        largest_fits = let most = leads.window in omega (arith, most)
+
+        asked_of_stage : (c : ℕ) → IsTrue (is_ready_cycle middle.pace down c) → IsTrue (is_ready_cycle shape.down.pace down c)
+        asked_of_stage c asked = subst (λ (pace : Pace). IsTrue (is_ready_cycle pace down c)) (sym down_pace) asked
+
+        full_of_stage : (c : ℕ) → c ≤ count → IsTrue (makes_beat sink.symbols (on_the_way (stream_of source sink depth) stream_run c)) → IsTrue (makes_beat shape.down.symbols (undelivered shape.passes shape.up shape.down up down c))
+        full_of_stage c le full =
+            subst (λ (s : Side). IsTrue (makes_beat s.symbols (undelivered shape.passes shape.up shape.down up down c))) (sym leads.down)
+            (subst (λ (xs : List Symbol). IsTrue (makes_beat sink.symbols xs)) (sym (way c le)) full)
+
+        by_needs : (start : ℕ) → start + window ≤ count → Throughout start window (λ c. beats_begun sink.symbols (on_the_way (stream_of source sink depth) stream_run c) + source.symbols ≤ depth)
+            → (b : Bool) → shape.needs_ready ≡ b → Sometime start window (λ c. IsTrue (is_high up.ready c))
+        by_needs start le room true needs =
+            let whole = leads.always_ready needs in
+            (start, omega arith, omega arith, passes whole start (λ k lt. legal_up k (omega (arith, le, lt))) (λ k lt. ready whole k))
+        by_needs start le room false free =
+            takes free count legal start le (λ c after below. subst (λ (xs : List Symbol). beats_begun sink.symbols xs + source.symbols ≤ depth) (sym (way_at_ports c (omega (arith, le, below)))) (room c after below))

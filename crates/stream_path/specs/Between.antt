@@ -1,19 +1,22 @@
 -- The stages between a source and a sink.
-use Rattle.std.specs.Prelude.{◌≡◌, ℕ, ◌+◌, ◌*◌, ◌≤◌, ◌<◌, Bool, ◌||◌, ◌&&◌, ◌==◌, not, nat_lt, max, min, IsTrue, Option, Some, None, unwrap_or}
+use Rattle.std.specs.Prelude.{◌≡◌, ℕ, ◌+◌, ◌-◌, ◌*◌, ◌≤◌, ◌<◌, Bool, ◌||◌, ◌&&◌, ◌==◌, not, nat_lt, max, min, IsTrue, IsFalse, Option, Some, None, unwrap_or}
 use Rattle.netlist.specs.Nets.{NetValue}
 use Rattle.netlist.specs.Netlists.{Netlist}
-use Rattle.netlist.specs.Runs.{Always}
-use Rattle.stream_runs.specs.View.{Side}
+use Rattle.netlist.specs.Runs.{Run, IsEndlessRun, Always}
+use Rattle.netlist.specs.Longer.{Extends}
+use Rattle.stream_runs.specs.View.{EndView, Side, is_high}
+use Rattle.stream_runs.specs.Source.{IsLegalSource}
 use Rattle.stream_runs.specs.Delivery.{reaches, stream_lag}
+use Rattle.stream_runs.specs.Awake.{Throughout, Sometime, stream_window, undelivered, beats_begun}
 use Rattle.stream_runs.specs.Ends.{Declared, pace_of, side_of, stream_of}
 use Rattle.stream_machines.specs.Buffers.{direct_side}
 use Rattle.stream_machines.specs.Stage.{Shape}
 use Rattle.stream_machines.specs.Wires.{filtered_side, with_error_bits}
 use Rattle.stage_core.specs.declared.beat.BeatNets.{BeatNets}
 use Rattle.stage_core.specs.declared.stream.StreamNets.{StreamNets}
-use Rattle.stage_core.specs.Beats.{Widths, widths_of, AreBeatNets}
+use Rattle.stage_core.specs.Beats.{Widths, widths_of, view_of, AreBeatNets}
 use Rattle.net_parts.specs.Nets.{IsBit}
-use Rattle.stage_core.specs.Law.{KeepsInLonger, PassesInLonger}
+use Rattle.stage_core.specs.Law.{KeepsInLonger, PassesInLonger, IgnoresInLonger}
 use Rattle.stream_path.specs.declared.ends.SourceNets.{SourceNets}
 use Rattle.stream_path.specs.Joining.{HaveOneForm, TakesWhole}
 
@@ -100,17 +103,53 @@ formed_hold source sink = timed_hold source + (source.symbols + sink.symbols)
 abbrev pub queued_hold : Declared → Declared → ℕ → ℕ
 queued_hold source sink depth = formed_hold source sink + depth * sink.symbols
 
--- ---- stages from the source on
+-- ---- stages from one side to another
 
--- the sides and numbers of a stage that leads from the source to this side: it holds so many symbols at least and at most,
--- and where it needs an always ready sink the sink takes whole beats; to such a sink it passes ready on
-pub record IsFront (source sink : Declared) (side : Side) (least most : ℕ) (has passing : Shape → Type 0) : Type 0 where
+-- the numbers of such stages: how many symbols they hold at least and at most, how many they may keep for good, how much a
+-- symbol may raise their rank, and their largest rank
+pub record Bounds : Type 0 where
+  pub least : ℕ
+  pub most : ℕ
+  pub rest : ℕ
+  pub step : ℕ
+  pub largest : ℕ
+
+-- of stages that hold nothing and wait for nothing
+abbrev pub still : Bounds
+still = record { least = 0; most = 0; rest = 0; step = 0; largest = 0 }
+
+-- behind the stage to ready latency 0
+abbrev pub timed_bounds : Declared → Bounds
+timed_bounds source = record { least = 0; most = timed_hold source; rest = 0; step = 0; largest = (pace_of source).latency }
+
+-- behind those that change the symbols of a beat
+abbrev pub formed_bounds : Declared → Declared → Bounds
+formed_bounds source sink =
+    record { least = 0; most = formed_hold source sink; rest = sink.symbols - 1; step = 2; largest = (pace_of source).latency + source.symbols + 2 * sink.symbols }
+
+-- behind the queue
+abbrev pub queued_bounds : Declared → Declared → ℕ → Bounds
+queued_bounds source sink depth =
+    record {
+      least = depth * sink.symbols;
+      most = queued_hold source sink depth;
+      rest = sink.symbols - 1;
+      step = 3;
+      largest = (pace_of source).latency + source.symbols + 2 * sink.symbols + 3 * (depth * sink.symbols);
+    }
+
+-- the sides and numbers of a stage that leads from one side to another, of those between the source and the sink: where it
+-- needs an always ready sink the sink takes whole beats; to such a sink it passes ready on
+pub record LeadsOn (source sink : Declared) (up down : Side) (bounds : Bounds) (has passing : Shape → Type 0) : Type 0 where
   pub shape : Shape
-  pub up : shape.up ≡ side_of source
-  pub down : shape.down ≡ side
+  pub up_is : shape.up ≡ up
+  pub down_is : shape.down ≡ down
   pub test : shape.passes ≡ joined_test source sink
-  pub room : least ≤ shape.hold
-  pub hold : shape.hold ≤ most
+  pub room : bounds.least ≤ shape.hold
+  pub hold : shape.hold ≤ bounds.most
+  pub rest : shape.rest ≤ bounds.rest
+  pub step : shape.step ≤ bounds.step
+  pub largest : shape.largest ≤ bounds.largest
   pub always_ready : IsTrue shape.needs_ready → TakesWhole source sink
   pub keeps : has shape
   pub passes : TakesWhole source sink → passing shape
@@ -131,21 +170,41 @@ pub record GivesNets (side : Side) (sink : Declared) (most : ℕ) (accepts : Typ
 -- ---- all stages
 
 -- a stage of this shape leads from the source to the sink: it has room for the beats of the queue, holds no more than may be
--- on its way, and needs an always ready sink only where the sink takes whole beats
+-- on its way, keeps less than a beat for good, needs an always ready sink only where the sink takes whole beats, and by its
+-- rank stands still no longer than a window
 pub record LeadsFrom (source sink : Declared) (depth : ℕ) (shape : Shape) : Type 0 where
   pub up : shape.up ≡ side_of source
   pub down : shape.down ≡ at_sink source sink
   pub passes : shape.passes ≡ joined_test source sink
   pub room : depth * sink.symbols ≤ shape.hold
   pub hold : shape.hold ≤ stream_lag (stream_of source sink depth)
+  pub rest : shape.rest < sink.symbols
+  pub window : (pace_of source).latency + shape.largest + (shape.step + 1) * shape.hold < stream_window (stream_of source sink depth)
   pub always_ready : IsTrue shape.needs_ready → TakesWhole source sink
 
--- the nets are those of a stage that leads from the source to the sink; before a sink that takes whole beats it passes ready on
+-- between these views, whatever the sink does: in each window in which the queue has room for a beat of a legal source, the
+-- source sees ready
+abbrev pub TakesIn : Declared → Declared → ℕ → EndView → EndView → Type 0
+TakesIn source sink depth up down =
+    (count : ℕ) → IsLegalSource (side_of source) up count → (start : ℕ) → start + stream_window (stream_of source sink depth) ≤ count
+    → Throughout start (stream_window (stream_of source sink depth))
+    (λ c. beats_begun sink.symbols (undelivered (joined_test source sink) (side_of source) (at_sink source sink) up down c) + source.symbols ≤ depth)
+    → Sometime start (stream_window (stream_of source sink depth)) (λ c. IsTrue (is_high up.ready c))
+
+-- in each endless run of each longer netlist
+abbrev pub TakesInLonger : Declared → Declared → ℕ → Netlist → BeatNets → StreamNets → NetValue → Type 0
+TakesInLonger source sink depth netlist from made ready =
+    (longer : Netlist) → Extends netlist longer → (run : Run) → IsEndlessRun longer run → TakesIn source sink depth (view_of run from made.ready) (view_of run made.beat ready)
+
+-- the nets are those of a stage that leads from the source to the sink, and whose beat doesn't depend on the ready of the same
+-- cycle; before a sink that takes whole beats it passes ready on, and where it needs no such sink its queue takes beats in
 pub record CarriesStream (source sink : Declared) (depth : ℕ) (netlist : Netlist) (from : BeatNets) (made : StreamNets) (ready : NetValue) : Type 0 where
   pub shape : Shape
   pub leads : LeadsFrom source sink depth shape
   pub keeps : KeepsInLonger shape netlist from made.ready made.beat ready
   pub passes : TakesWhole source sink → PassesInLonger shape netlist from made.ready made.beat ready
+  pub takes_in : IsFalse shape.needs_ready → TakesInLonger source sink depth netlist from made ready
+  pub ignores : IgnoresInLonger netlist from made.beat
 
 -- the nets that a stage gives: its beat is as wide as the sink's, but for empty
 pub record AreStageNets (netlist : Netlist) (source sink : Declared) (made : StreamNets) : Type 0 where

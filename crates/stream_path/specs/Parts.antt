@@ -1,5 +1,5 @@
 -- Which stages stand between a source and a sink.
-use Rattle.std.specs.Prelude.{◌≡◌, ℕ, ◌*◌, ◌<◌, Option, Some, None, IsTrue, IsFalse}
+use Rattle.std.specs.Prelude.{◌≡◌, ℕ, ◌<◌, Option, Some, None, IsTrue, IsFalse}
 use Rattle.stream_runs.specs.View.{Side}
 use Rattle.stream_runs.specs.Ends.{Declared, side_of}
 use Rattle.st_channel.specs.declared.error_tie.ErrorTie.{ErrorTie}
@@ -7,7 +7,7 @@ use Rattle.st_format.specs.declared.reorder.Reorder.{Reorder}
 use Rattle.st_timing.specs.Ends.{declared}
 use Rattle.stream_machines.specs.Stage.{Shape}
 use Rattle.stage_core.specs.Beats.{Widths}
-use Rattle.stream_path.specs.Between.{most_stage_nets, timed, with_errors, puts_first_high, formed, ordered, at_sink, timed_hold, formed_hold, queued_hold, IsFront, FitSide, GivesNets}
+use Rattle.stream_path.specs.Between.{timed, with_errors, puts_first_high, formed, at_sink, Bounds, still, timed_bounds, formed_bounds, LeadsOn, FitSide, GivesNets}
 use Rattle.stream_path.specs.declared.stages.Joint.{Joint}
 
 -- the ends of a joint
@@ -30,46 +30,38 @@ IsTurnBack source sink None = puts_first_high source sink ≡ sink.first_high
 
 -- ---- how far the stages lead
 
--- the side behind them, how many symbols they hold at least and at most, and how many nets they make at most
+-- the side behind them, their numbers, and how many nets they make at most
 pub record Reach : Type 0 where
   pub side : Side
-  pub least : ℕ
-  pub most : ℕ
+  pub bounds : Bounds
   pub nets : ℕ
 
 -- to ready latency 0
 abbrev pub timed_reach : Joint → Reach
-timed_reach joint = record { side = timed (source_of joint) (sink_of joint); least = 0; most = timed_hold (source_of joint); nets = 300 }
+timed_reach joint = record { side = timed (source_of joint) (sink_of joint); bounds = timed_bounds (source_of joint); nets = 300 }
 
 -- to the sink's errors
 abbrev pub errors_reach : Joint → Reach
-errors_reach joint = record { side = with_errors (source_of joint) (sink_of joint); least = 0; most = timed_hold (source_of joint); nets = 310 }
+errors_reach joint = record (timed_reach joint) { side = with_errors (source_of joint) (sink_of joint); nets = 310 }
 
 -- to its symbols
 abbrev pub formed_reach : Joint → Reach
-formed_reach joint =
-    record { side = formed (source_of joint) (sink_of joint); least = 0; most = formed_hold (source_of joint) (sink_of joint); nets = 2110 }
+formed_reach joint = record { side = formed (source_of joint) (sink_of joint); bounds = formed_bounds (source_of joint) (sink_of joint); nets = 2110 }
 
--- behind the queue
-abbrev pub queued_reach : Joint → Reach
-queued_reach joint =
-    record {
-      side = formed (source_of joint) (sink_of joint);
-      least = joint.depth * joint.sink.symbols;
-      most = queued_hold (source_of joint) (sink_of joint) joint.depth;
-      nets = 3600;
-    }
+-- from behind the queue to the sink
+abbrev pub rear_reach : Joint → Reach
+rear_reach joint = record { side = at_sink (source_of joint) (sink_of joint); bounds = still; nets = 100 }
 
--- to the sink's order
-abbrev pub ordered_reach : Joint → Reach
-ordered_reach joint = record (queued_reach joint) { side = ordered (source_of joint) (sink_of joint); nets = 3700 }
+-- stages of such shapes, which take and give such nets and make so many, lead from a side, where beats have the channel of this
+-- end, so far
+pub record ReachesFrom (joint : Joint) (up : Side) (end : Declared) (reach : Joint → Reach) (has passing : Shape → Type 0) (takes : Widths → Type 0) (gives : Widths → Widths) (made : ℕ) : Type 0 where
+  pub leads : LeadsOn (source_of joint) (sink_of joint) up (reach joint).side (reach joint).bounds has passing
+  pub nets : (widths : Widths) → FitSide up end widths → GivesNets (reach joint).side (sink_of joint) (reach joint).nets (takes widths) (gives widths) made
 
--- to the sink
-abbrev pub whole_reach : Joint → Reach
-whole_reach joint = record (queued_reach joint) { side = at_sink (source_of joint) (sink_of joint); nets = most_stage_nets }
+-- they lead from the source
+abbrev pub Reaches : Joint → (Joint → Reach) → (Shape → Type 0) → (Shape → Type 0) → (Widths → Type 0) → (Widths → Widths) → ℕ → Type 0
+Reaches joint reach has passing takes gives made = ReachesFrom joint (side_of (source_of joint)) (source_of joint) reach has passing takes gives made
 
--- stages of such shapes, which take and give such nets and make so many, lead from the source so far
-pub record Reaches (joint : Joint) (reach : Joint → Reach) (has passing : Shape → Type 0) (takes : Widths → Type 0) (gives : Widths → Widths) (made : ℕ) : Type 0 where
-  pub leads : IsFront (source_of joint) (sink_of joint) (reach joint).side (reach joint).least (reach joint).most has passing
-  pub nets : (widths : Widths) → FitSide (side_of (source_of joint)) (source_of joint) widths
-      → GivesNets (reach joint).side (sink_of joint) (reach joint).nets (takes widths) (gives widths) made
+-- they lead from behind the queue
+abbrev pub ReachesBehind : Joint → (Joint → Reach) → (Shape → Type 0) → (Shape → Type 0) → (Widths → Type 0) → (Widths → Widths) → ℕ → Type 0
+ReachesBehind joint reach has passing takes gives made = ReachesFrom joint (formed (source_of joint) (sink_of joint)) (sink_of joint) reach has passing takes gives made

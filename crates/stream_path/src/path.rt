@@ -7,7 +7,7 @@ ghost use Rattle.net_parts.specs.Growth.{GrowsBy, StillWait, AddsNets};
 ghost use Rattle.st_timing.specs.Ends.{declared};
 ghost use Rattle.stream_path.specs.Joining.{CanJoin};
 ghost use Rattle.stream_path.specs.Ends.{IsNetIf, AreSourceNets, IsNetWhere, ArePathNets};
-ghost use Rattle.stream_path.specs.Serving.{most_nets, ServesInLonger};
+ghost use Rattle.stream_path.specs.Serving.{most_nets, ServesInLonger, IgnoresReady};
 ghost use Rattle.stream_path.specs.Between.{most_delay_nets, beat_of, IsReadyOf, IsDelayEnough, ShowsUnreached};
 
 use crate::ends::{PathNets, SourceNets};
@@ -18,6 +18,7 @@ use netlist::{Builder, Net, NetFault, goes_on};
 use stage_core::BeatNets;
 use std::alloc::Global;
 use stream_machines::machines::tie_is_a_stage;
+use stream_machines::stages::rank_keeps_awake;
 use stream_runs::same_beginnings;
 
 /// The beat of a source; `low` stands for each port that it doesn't have.
@@ -84,6 +85,7 @@ fn fit_empty(builder: &mut Builder, empty: Net, bits: u8) -> Result<Net, NetFaul
     requires few { bits ≤ 8 }
     ensures net { IfOk result (λ net. IsNetWhere (nat_lt 0 bits) bits builder.new net) }
     ensures value { IfOk result (λ net. 0 < bits → Always builder.new (λ cycle. cycle.net net.number ≡ cycle.net empty.number % 2 ^ bits)) }
+    ensures none { IfOk result (λ net. bits ≡ 0 → net ≡ empty) }
     ensures adds { AddsNets (if (bits == 0) || (empty.width == bits) then 0 else 2) builder.old builder.new }
     ensures full { result ≡ Err NetFault.TooManyNets → 2 ^ 20 < length builder.old.lines + 2 }
 {
@@ -102,6 +104,7 @@ fn fit_beat(builder: &mut Builder, beat: &BeatNets, bits: u8) -> Result<BeatNets
     ensures others { IfOk result (λ fitted. fitted ≡ record beat.now { empty = fitted.empty }) }
     ensures net { IfOk result (λ fitted. IsNetWhere (nat_lt 0 bits) bits builder.new fitted.empty) }
     ensures value { IfOk result (λ fitted. 0 < bits → Always builder.new (λ cycle. cycle.net fitted.empty.number ≡ cycle.net beat.now.empty.number % 2 ^ bits)) }
+    ensures none { IfOk result (λ fitted. bits ≡ 0 → fitted.empty ≡ beat.now.empty) }
     ensures adds { AddsNets (if (bits == 0) || (beat.now.empty.width == bits) then 0 else 2) builder.old builder.new }
     ensures full { result ≡ Err NetFault.TooManyNets → 2 ^ 20 < length builder.old.lines + 2 }
 {
@@ -130,8 +133,11 @@ pub fn emit_path(
     requires ready { IsNetIf sink.now.ready 1 builder.old ready }
     ensures nets { IfOk result (λ made. ArePathNets builder.new (declared sink.now) made) }
 
-    // In each run of each longer netlist, as long as the source is legal, the stream is served.
+    // In each run of each longer netlist, as long as the source is legal, the stream is served and never idles.
     ensures serves { IfOk result (λ made. ServesInLonger (declared source.now) (declared sink.now) depth from.now ready made builder.new) }
+
+    // What the sink is shown doesn't depend on the ready of the same cycle.
+    ensures ignores_ready { IfOk result (λ made. IgnoresReady from.now made builder.new) }
     ensures grows { GrowsBy most_nets builder.old builder.new }
 
     // Where a delay of ready is enough, nothing else is made.
@@ -145,6 +151,7 @@ pub fn emit_path(
     goes_on();
     same_beginnings();
     tie_is_a_stage();
+    rank_keeps_awake();
     let low = level(builder, false)?;
     let high = ready_or_high(builder, ready)?;
     let start = beat_of(from, low);

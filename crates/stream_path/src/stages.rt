@@ -1,5 +1,6 @@
-//! The stages between a source and a sink, one behind the other, and the law of the whole. The delay of ready stands last, since
-//! nothing may stand behind it, and the chain is nested to the left: each step returns the chain with one more stage.
+//! The stages between a source and a sink, one behind the other, and the law of the whole. The chain is nested to the left up to
+//! the queue: each step returns the chain with one more stage. What stands behind the queue holds nothing, so the queue shows
+//! ready by what is on its way; the delay of ready stands last, since nothing may stand behind it.
 
 ghost use Rattle.std.specs.Prelude.{◌≡◌, ◌+◌, ◌*◌, ◌^◌, ◌<◌, ◌≤◌, length, max, false, Option, IfOk, OnOk, IsTrue, if◌then◌else◌};
 ghost use Rattle.stream_runs.specs.View.{Side};
@@ -13,15 +14,19 @@ ghost use Rattle.st_channel.specs.Ports.{HasChannels};
 ghost use Rattle.st_timing.specs.Ends.{declared};
 ghost use Rattle.stream_path.specs.Joining.{HaveOneForm, CanJoin};
 ghost use Rattle.stream_path.specs.Between.{most_stage_nets, most_delay_nets, IsDelayEnough, joined_channel, joined_test, FitSide, AreStageNets, CarriesStream};
-ghost use Rattle.stream_path.specs.Parts.{source_of, sink_of, IsErrorTieOf, IsTurnBack, Reaches, timed_reach, errors_reach, formed_reach, queued_reach, ordered_reach, whole_reach};
+ghost use Rattle.stream_path.specs.Parts.{source_of, sink_of, IsErrorTieOf, IsTurnBack, Reaches, ReachesBehind, timed_reach, errors_reach, formed_reach, rear_reach};
 
 use iface_roles::{SinkPort, SourcePort};
 use netlist::{Builder, Net, NetFault};
 use st_channel::{ChannelFilter, ErrorTie};
-use st_format::{Format, Reorder, format_of};
+use st_format::{Order, Reorder, Resize, format_of};
 use st_timing::{ReadyDelay, Timing, timing_of};
-use stage_core::{BeatNets, Chain, Fifo, Maybe, Stage, StreamNets, emit_stream};
+use stage_core::{BeatNets, Chain, Fifo, Maybe, Stage, StreamNets, emit_stream, queue_is_between};
 use std::alloc::Global;
+use stream_machines::machines::queue_takes_in;
+
+/// What stands behind the queue.
+type Rear = Chain<Maybe<Reorder>, ReadyDelay>;
 
 /// A source, a sink, and the beats of the queue before the sink.
 #[derive(Clone, Copy)]
@@ -121,61 +126,37 @@ fn with_errors<S: Stage>(joint: &Joint, front: S) -> Chain<S, Maybe<ErrorTie>>
     }
 }
 
-/// Adds what brings beats to the sink's symbols.
-fn with_format<S: Stage>(joint: &Joint, front: S) -> Chain<S, Format>
+/// Adds what brings beats to the sink's symbols: what holds nothing first, so that it adds nothing to what stands behind it.
+fn with_format<S: Stage>(joint: &Joint, front: S) -> Chain<Chain<S, Order>, Resize>
     requires joined { CanJoin (source_of joint.now) (sink_of joint.now) }
     requires front { Reaches joint.now errors_reach (S.has_shape front) (S.passes_ready front) (S.takes front) (S.gives front) (S.forward_nets front + S.backward_nets front) }
-    ensures { let stage = ⟦<Chain<S, Format> as Stage>⟧ in
+    ensures { let stage = ⟦<Chain<Chain<S, Order>, Resize> as Stage>⟧ in
         Reaches joint.now formed_reach (stage.has_shape result) (stage.passes_ready result) (stage.takes result) (stage.gives result) (stage.forward_nets result + stage.backward_nets result) }
 {
+    let format = format_of(&joint.source, &joint.sink);
     Chain {
-        first: front,
-        second: format_of(&joint.source, &joint.sink),
+        first: Chain {
+            first: front,
+            second: format.first,
+        },
+        second: format.second,
     }
 }
 
-/// Adds the queue.
-fn with_queue<S: Stage>(joint: &Joint, front: S) -> Chain<S, Fifo>
-    requires joined { CanJoin (source_of joint.now) (sink_of joint.now) }
-    requires shallow { joint.now.depth ≤ 64 }
-    requires front { Reaches joint.now formed_reach (S.has_shape front) (S.passes_ready front) (S.takes front) (S.gives front) (S.forward_nets front + S.backward_nets front) }
-    ensures { let stage = ⟦<Chain<S, Fifo> as Stage>⟧ in
-        Reaches joint.now queued_reach (stage.has_shape result) (stage.passes_ready result) (stage.takes result) (stage.gives result) (stage.forward_nets result + stage.backward_nets result) }
-{
-    Chain {
-        first: front,
-        second: Fifo::new(joint.alloc, joint.depth),
-    }
-}
-
-/// Adds the turn to the sink's order.
-fn with_turn<S: Stage>(joint: &Joint, front: S) -> Chain<S, Maybe<Reorder>>
-    requires joined { CanJoin (source_of joint.now) (sink_of joint.now) }
-    requires front { Reaches joint.now queued_reach (S.has_shape front) (S.passes_ready front) (S.takes front) (S.gives front) (S.forward_nets front + S.backward_nets front) }
-    ensures { let stage = ⟦<Chain<S, Maybe<Reorder>> as Stage>⟧ in
-        Reaches joint.now ordered_reach (stage.has_shape result) (stage.passes_ready result) (stage.takes result) (stage.gives result) (stage.forward_nets result + stage.backward_nets result) }
-{
-    Chain {
-        first: front,
-        second: turn_back_of(&joint.source, &joint.sink),
-    }
-}
-
-/// Adds the delay of ready.
-fn with_delay<S: Stage>(joint: &Joint, front: S) -> Chain<S, ReadyDelay>
-    requires joined { CanJoin (source_of joint.now) (sink_of joint.now) }
-    requires front { Reaches joint.now ordered_reach (S.has_shape front) (S.passes_ready front) (S.takes front) (S.gives front) (S.forward_nets front + S.backward_nets front) }
-    ensures { let stage = ⟦<Chain<S, ReadyDelay> as Stage>⟧ in
-        Reaches joint.now whole_reach (stage.has_shape result) (stage.passes_ready result) (stage.takes result) (stage.gives result) (stage.forward_nets result + stage.backward_nets result) }
+/// What leads from behind the queue to the sink: the turn to its order, and the delay of ready. It holds nothing.
+fn rear_of(joint: &Joint) -> Rear
+    requires { CanJoin (source_of joint.now) (sink_of joint.now) }
+    ensures { let stage = ⟦<Rear as Stage>⟧ in
+        ReachesBehind joint.now rear_reach (stage.has_shape result) (stage.passes_ready result) (stage.takes result) (stage.gives result) (stage.forward_nets result + stage.backward_nets result) }
 {
     let delay = ReadyDelay::new(0, joint.sink.ready_latency());
     Chain {
-        first: front,
+        first: turn_back_of(&joint.source, &joint.sink),
         second: delay,
     }
 }
 
-/// Makes all stages behind what brings beats to the sink's symbols, and that too.
+/// Makes the queue and what stands behind it, and the stages before it too.
 fn emit_formed<S: Stage + Drop>(
     joint: &Joint,
     front: S,
@@ -196,9 +177,16 @@ fn emit_formed<S: Stage + Drop>(
     ensures no_more_wait { OnOk result (StillWait builder.new builder.old) }
     ensures full { result ≡ Err NetFault.TooManyNets → 2 ^ 20 < length builder.old.lines + most_stage_nets }
 {
-    let queued = with_queue(joint, front);
-    let ordered = with_turn(joint, queued);
-    let stages = with_delay(joint, ordered);
+    queue_takes_in();
+    let queued = Chain {
+        first: front,
+        second: Fifo::new(joint.alloc, joint.depth),
+    };
+    let stages = Chain {
+        first: queued,
+        second: rear_of(joint),
+    };
+    queue_is_between(&stages);
     emit_stream(&stages, builder, from, ready)
 }
 

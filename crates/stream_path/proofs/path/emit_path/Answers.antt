@@ -2,12 +2,14 @@ use Rattle.std.proofs.Common.{ap, ◌∙◌, arith, subst, sym}
 use Rattle.stage_core.specs.declared.beat.BeatNets.{BeatNets}
 use Rattle.stage_core.specs.Beats.{Widths, AreBeatNets}
 use Rattle.stream_path.specs.Ends.{ArePathNets}
-use Rattle.stream_path.specs.Serving.{ServesInLonger}
+use Rattle.stream_path.specs.Serving.{ServesInLonger, IgnoresReady}
 use Rattle.st_timing.specs.Ends.{declared}
 use Rattle.stream_path.specs.Between.{CarriesStream, ShowsUnreached}
 use Rattle.net_parts.specs.Laws.{extends_none, extends_twice, grows_fewer, grows_within, adds_grow, net_lasts}
 use Rattle.stream_path.proofs.EndNets.{beat_nets, path_nets, ready_lasts, empty_width, fits_few, fits_none, drops_few, drops_none}
 use Rattle.stream_path.proofs.Runs.{serves_in_longer, carries_longer}
+use Rattle.stream_path.proofs.Ignores.{ignores_ready}
+use Rattle.stage_core.specs.Law.{IgnoresInLonger}
 use Rattle.stage_core.specs.Refusing.{handed_on}
 use Rattle.stream_path.proofs.path.emit_path.Goals as goal
 
@@ -93,6 +95,13 @@ returns-clause-serves c =
     (record {
       same_legal = c.same_beginnings.ensures.legal;
       same_served = c.same_beginnings.ensures.served;
+      same_awake = c.same_beginnings.ensures.awake;
+      ranks = record {
+        delivers = c.rank_keeps_awake.ensures.delivers;
+        accepts = c.rank_keeps_awake.ensures.accepts;
+        shows = c.rank_keeps_awake.ensures.shows;
+        frees = c.rank_keeps_awake.ensures.frees;
+      };
       goes_on = λ run cycles r. c.goes_on.ensures c.emit_dropped.new.builder c.well_made.ensures run cycles r;
       tied = c.tie_is_a_stage.ensures.keeps;
     })
@@ -103,6 +112,17 @@ returns-clause-serves c =
     (extends_none c.emit_dropped.new.builder)
     (λ some cycle v. c.in_ok-beat.ensures.value some cycle (c.emit_dropped.ensures.adds.grows.extends.valuations cycle v))
     (subst (λ (beat : BeatNets). ShowsUnreached source sink c.emit_dropped.new.builder beat c.in_ok-made.made.ready c.in_ok-dropped.dropped) c.beat_of-start.ensures c.in_ok-dropped.ensures.shows))
+
+pub returns-clause-ignores_ready : goal.returns-clause-ignores_ready
+returns-clause-ignores_ready c =
+    let longer = grows_within 2 4 6 _ _ _ (grows_fewer _ 2 _ _ (fits_few c.args.sink.now.empty_bits c.in_ok-made.made.beat.empty.width) (adds_grow _ _ _ c.fit_beat.ensures.adds)) (grows_fewer _ 4 _ _ (drops_few c.args.sink.now.max_channel c.args.source.now.max_channel) (adds_grow _ _ _ c.emit_dropped.ensures.adds)) (omega arith) in
+    subst (λ (beat : BeatNets). IgnoresReady c.args.from.now (record { ready = c.in_ok-made.made.ready; beat = beat; dropped = c.in_ok-dropped.dropped }) c.emit_dropped.new.builder) (sym c.in_ok-beat.ensures.others)
+    (ignores_ready c.args.sink.now.empty_bits c.args.from.now c.emit_dropped.new.builder c.emit_stages.new.builder c.in_ok-low.low c.in_ok-beat.beat.empty c.in_ok-made.made.beat
+    (λ cycle v. c.in_ok-low.ensures.value cycle (c.ready_or_high.ensures.adds.grows.extends.valuations cycle (c.emit_stages.ensures.grows.extends.valuations cycle (longer.extends.valuations cycle v))))
+    (λ some cycle v. c.in_ok-beat.ensures.value some cycle (c.emit_dropped.ensures.adds.grows.extends.valuations cycle v))
+    c.in_ok-beat.ensures.none
+    c.in_ok-made.made.ready c.in_ok-dropped.dropped longer.extends
+    (subst (λ (beat : BeatNets). IgnoresInLonger c.emit_stages.new.builder beat c.in_ok-made.made.beat) (c.copied.ensures ∙ c.beat_of-start.ensures) c.in_ok-made.ensures.carries.ignores))
 
 pub returns-in_err-low-clause-grows : goal.returns-in_err-low-clause-grows
 returns-in_err-low-clause-grows c = grows_fewer _ _ _ _ (omega arith) (adds_grow _ _ _ c.level.ensures.adds)

@@ -1,5 +1,7 @@
 use Rattle.std.proofs.Common.{inl, refl, arith, rules}
+use Rattle.stream_runs.specs.Ends.{side_of}
 use Rattle.stream_path.specs.Parts.{source_of, sink_of}
+use Rattle.stream_path.specs.Between.{timed, with_errors, still, timed_bounds}
 use Rattle.stream_path.proofs.Fronts.{behind, error_part}
 use Rattle.stream_path.proofs.stages.with_errors.Goals as goal
 
@@ -9,6 +11,7 @@ returns g c =
     let source = source_of joint in
     let sink = sink_of joint in
     record {
-      leads = behind source sink _ _ _ _ _ _ 1 _ _ _ _ _ c.requires.front.leads (error_part source sink c.error_tie_of.result.stage c.requires.joined c.error_tie_of.ensures) refl c.requires.joined.source_fits.some (inl (omega arith)) (λ e s. s) _ _ (omega arith) (omega arith);
+      leads = behind source sink (side_of source) (timed source sink) (with_errors source sink) (timed_bounds source) still (timed_bounds source) 1 _ _ _ _ _ c.requires.front.leads (error_part source sink c.error_tie_of.result.stage c.requires.joined c.error_tie_of.ensures)
+          refl c.requires.joined.source_fits.some (inl (omega arith)) (λ e s. s) (record { least = omega arith; most = omega arith; rest = omega arith; step = omega arith; largest = omega arith });
       nets = λ widths fit. (let given = c.requires.front.nets widths fit in search rules);
     }
