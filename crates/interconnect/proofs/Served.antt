@@ -17,7 +17,7 @@ use Rattle.netlist.specs.Netlists.{Netlist, IsWellMade, driver_of, input_count, 
 use Rattle.netlist.specs.Runs.{Run}
 use Rattle.netlist.specs.Signals.{port_named, signal}
 use Rattle.stream_runs.specs.Source.{IsLegalSource}
-use Rattle.stream_runs.specs.Delivery.{IsServed}
+use Rattle.stream_runs.specs.Awake.{IsServedAwake}
 use Rattle.stream_runs.specs.Ends.{Declared, Signals, side_of, view_of, signal_or, stream_of, run_of}
 use Rattle.st_timing.specs.Ends.{declared}
 use Rattle.stream_path.specs.Ends.{signal_on, signal_of, signal_where, source_signals, sink_signals}
@@ -160,9 +160,9 @@ is_served system number connection netlist j run cycles is_run legal =
     let to = sink_shown system number connection netlist run j in
     let dropped = dropped_shown system number connection netlist run j in
     let served = j.joined.serves netlist (extends-refl netlist) run cycles is_run (subst (λ (s : Signals). IsLegalSource (side_of source) (view_of s) cycles) from legal) in
-    subst (λ (d : ℕ → ℕ). IsServed (stream_of source sink connection.fifo) (run_of (end_signals netlist run (name_at system connection.start)) (end_signals netlist run (name_at system connection.end)) d) cycles) (sym dropped)
-    (subst (λ (s : Signals). IsServed (stream_of source sink connection.fifo) (run_of (end_signals netlist run (name_at system connection.start)) s (signal_on run j.joined.made.dropped)) cycles) (sym to)
-    (subst (λ (s : Signals). IsServed (stream_of source sink connection.fifo) (run_of s (sink_signals sink j.joined.ready j.joined.made run) (signal_on run j.joined.made.dropped)) cycles) (sym from) served))
+    subst (λ (d : ℕ → ℕ). IsServedAwake (stream_of source sink connection.fifo) (run_of (end_signals netlist run (name_at system connection.start)) (end_signals netlist run (name_at system connection.end)) d) cycles) (sym dropped)
+    (subst (λ (s : Signals). IsServedAwake (stream_of source sink connection.fifo) (run_of (end_signals netlist run (name_at system connection.start)) s (signal_on run j.joined.made.dropped)) cycles) (sym to)
+    (subst (λ (s : Signals). IsServedAwake (stream_of source sink connection.fifo) (run_of s (sink_signals sink j.joined.ready j.joined.made run) (signal_on run j.joined.made.dropped)) cycles) (sym from) served))
 
 -- ---- a wire
 

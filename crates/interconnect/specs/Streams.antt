@@ -13,7 +13,7 @@ use Rattle.netlist.specs.Netlists.{Netlist, driver_of, input_net, line_of}
 use Rattle.netlist.specs.Runs.{Run, IsRun}
 use Rattle.netlist.specs.Signals.{signal, port_named}
 use Rattle.stream_runs.specs.Source.{IsLegalSource}
-use Rattle.stream_runs.specs.Delivery.{IsServed}
+use Rattle.stream_runs.specs.Awake.{IsServedAwake}
 use Rattle.stream_runs.specs.Ends.{Declared, Signals, side_of, view_of, signal_or, stream_of, run_of}
 use Rattle.port_tables.specs.declared.roles.PortRole.{PortRole}
 use Rattle.port_tables.specs.declared.roles.RolePort.{RolePort}
@@ -46,11 +46,11 @@ abbrev pub dropped_signal : Netlist → Run → EndName → ℕ → ℕ
 dropped_signal netlist run name = signal_or 0 (signal netlist run (port_name name (codes "dropped")))
 
 -- in every run of the module whose source is legal, the stream is served: the sink is given a prefix of the source's symbols, at most the stated
--- number behind, by the rules of ready, and `dropped` is high exactly where a beat doesn't reach it
+-- number behind, by the rules of ready, and `dropped` is high exactly where a beat doesn't reach it; and it never idles beyond its window
 abbrev pub ServesStream : Netlist → EndName → EndName → Declared → Declared → ℕ → Type 0
 ServesStream netlist from to source sink fifo =
     (run : Run) (cycles : ℕ) → IsRun netlist run cycles → IsLegalSource (side_of source) (view_of (end_signals netlist run from)) cycles
-    → IsServed (stream_of source sink fifo) (run_of (end_signals netlist run from) (end_signals netlist run to) (dropped_signal netlist run to)) cycles
+    → IsServedAwake (stream_of source sink fifo) (run_of (end_signals netlist run from) (end_signals netlist run to) (dropped_signal netlist run to)) cycles
 
 -- the output port of the first name is driven by the net of the input port of the second
 pub record IsDrivenBy (netlist : Netlist) (output input : List ℕ) : Type 0 where

@@ -10,6 +10,7 @@ use Rattle.interconnect.specs.Joins.{AddsStream}
 use Rattle.interconnect.proofs.Driving.{is_an_end}
 use Rattle.interconnect.proofs.StreamEnds.{source_known, source_among, sink_among}
 use Rattle.interconnect.proofs.Forms.{can_join}
+use Rattle.interconnect.proofs.WireNets.{wires_are_served}
 use Rattle.interconnect.proofs.Inputs.{sink_of, ready_input, ready_if, path_room, adds_wire}
 use Rattle.interconnect.proofs.streams.stream_nets.Goals as goal
 
@@ -66,7 +67,7 @@ returns-in-Some c =
     let at = c.requires.link in
     let known = source_known system c.args.number link at in
     subst (λ (low : Option NetValue). AddsStream system link low c.args.builder.now c.args.builder.now c.wire_nets.result) (sym c.in-Some.is)
-    (adds_wire c.wire_is_served.ensures.served system c.args.number link c.in-Some.low c.args.builder.now c.source_nets-from.result c.input_of-ready.result c.wire_nets.result
+    (adds_wire (wires_are_served c.wire_is_served.ensures.served c.wire_is_served.ensures.awake) system c.args.number link c.in-Some.low c.args.builder.now c.source_nets-from.result c.input_of-ready.result c.wire_nets.result
     c.ports_are_known.ensures at (c.proper_records_are_bounded.ensures.source link.source at.source_proper) (c.source_nets-from.ensures.inputs link.source known) (c.source_nets-from.ensures.nets link.source known)
     (record { net_is = c.input_of-ready.ensures.net; is = c.input_of-ready.ensures.is }) (sym c.in-Some.is ∙ c.requires.low link.connection at.place_is) c.requires.joined.lows c.wire_nets.ensures)
 
