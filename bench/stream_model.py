@@ -1,7 +1,8 @@
 #!/usr/bin/env python3
 """A model of what stands between a source and a sink, stage by stage, written from the documents and apart from the program.
 
-Reads rows as crates/stream_rows/stdin has them, and prints what crates/stream_rows must print of each:
+Reads rows as crates/stream_rows/stdin has them, and prints what crates/stream_rows must print of each, and how long their streams
+stood still:
 
     python3 bench/stream_model.py <crates/stream_rows/stdin | diff - crates/stream_rows/stdout
 
@@ -286,9 +287,58 @@ def symbols_of(beats):
     return marked
 
 
-def step(source, sink, row, levels, cycles, beats, channel):
+def beats_begun(size, symbols):
+    """How many beats of so many symbols these fill or begin."""
+    beats, room = 0, 0
+    for _, first, last in symbols:
+        if room == 0 or first:
+            beats, room = beats + 1, size
+        room = 0 if last else room - 1
+    return beats
+
+
+class Stretches:
+    """For each clause on windows the longest row of cycles in which all that it asks holds and what it promises doesn't come."""
+
+    clauses = "delivers", "accepts", "takes_in", "shows", "frees"
+
+    def __init__(self, source, sink, depth):
+        self.source, self.sink, self.depth = source, sink, depth
+        self.way = []
+        self.now = dict.fromkeys(self.clauses, 0)
+        self.longest = dict.fromkeys(self.clauses, 0)
+
+    def count(self, clause, asked, comes):
+        self.now[clause] = self.now[clause] + 1 if asked and not comes else 0
+        self.longest[clause] = max(self.longest[clause], self.now[clause])
+
+    def cycle(self, beat, up, accepted, seen, ready_cycle, delivered):
+        """A cycle: the beats that both ends show, and what of them moves. What is on its way is told as the cycle begins."""
+        there = len(self.way) >= self.sink.symbols or any(last for _, _, last in self.way)
+        room = beats_begun(self.sink.symbols, self.way) + self.source.symbols <= self.depth
+        direct = self.sink.latency() == 0
+        self.count("delivers", ready_cycle and there, delivered)
+        self.count("accepts", ready_cycle, up)
+        self.count("takes_in", room, up)
+        self.count("shows", direct and there, seen)
+        self.count("frees", direct and beat and not seen, accepted)
+        if accepted and beat[4] <= self.sink.largest:
+            self.way += symbols_of([beat])
+        if delivered:
+            self.way = self.way[len(symbols_of([seen])) :]
+
+
+def window(source, sink, depth):
+    """The cycles of a window of the stream."""
+    latency = max(source.latency(), sink.latency())
+    lag = source.symbols * (latency + 3) + sink.symbols * (depth + 3)
+    return 8 * (lag + 2 * latency + 8)
+
+
+def step(source, sink, row, levels, cycles, beats, channel, still):
     """What came to the sink, in which cycles, how many beats were dropped, and when the source was first held back."""
-    upstream, sent, came, times, dropped, held_back = [], 0, [], [], 0, None
+    upstream, downstream, waited = [], [], 0
+    sent, came, times, dropped, held_back = 0, [], [], 0, None
     for cycle in range(cycles):
         latency = source.latency()
         may_show = latency == 0 or (cycle >= latency and upstream[cycle - latency])
@@ -297,14 +347,20 @@ def step(source, sink, row, levels, cycles, beats, channel):
         seen = beat
         for stage in row:
             shown, seen = stage.forward(shown, seen)
-        ready = up = 1 if sink.ready is None else level(levels, cycle)
+        ready = up = 1 if sink.ready is None else waited if levels == "v" else level(levels, cycle)
         for stage in reversed(row):
             up = stage.backward(up)
         upstream.append(up)
+        downstream.append(ready)
+        accepted = valid and (latency > 0 or up)
+        delivered = shown and (sink.latency() > 0 or ready)
+        ready_cycle = cycle >= sink.latency() and downstream[cycle - sink.latency()]
+        still.cycle(beat, up, accepted, seen if shown else None, ready_cycle, delivered)
+        waited = int(bool(shown and not delivered))
         dropped += channel.dropped if channel else 0
-        if valid and (latency > 0 or up):
+        if accepted:
             sent += 1
-        if shown and (sink.latency() > 0 or ready):
+        if delivered:
             came.append(seen)
             times.append(cycle)
         if not up and sent > 0 and held_back is None:
@@ -314,12 +370,16 @@ def step(source, sink, row, levels, cycles, beats, channel):
     return came, times, dropped, held_back
 
 
-def answer(line):
+def answer(line, number, longest):
     first, second, depth, levels, cycles, *words = line.split()
-    source, sink = End(first), End(second)
+    source, sink, depth = End(first), End(second), int(depth)
     beats = list(beats_of(source, words))
-    row, channel = stages(source, sink, int(depth))
-    came, times, dropped, held_back = step(source, sink, row, levels, int(cycles), beats, channel)
+    row, channel = stages(source, sink, depth)
+    still = Stretches(source, sink, depth)
+    came, times, dropped, held_back = step(source, sink, row, levels, int(cycles), beats, channel, still)
+    for clause, stretch in still.longest.items():
+        if stretch > longest[clause][0]:
+            longest[clause] = stretch, window(source, sink, depth), number
     if any(word.startswith(("beats=", "packets=")) for word in words):
         sent, taken = symbols_of(beats), symbols_of(came)
         assert taken == sent[: len(taken)]
@@ -332,5 +392,8 @@ def answer(line):
     return f"{line}: {told}"
 
 
-for line in sys.stdin:
-    print(answer(line.rstrip("\n")))
+longest = dict.fromkeys(Stretches.clauses, (0, 0, 0))
+for number, line in enumerate(sys.stdin, 1):
+    print(answer(line.rstrip("\n"), number, longest))
+for clause, (stretch, bound, number) in longest.items():
+    print(f"still: {clause} {stretch} of {bound} cycles (row {number})")

@@ -22,10 +22,16 @@ fn push_row(alloc: Global, text: &mut String, row: &Row) -> Result<(), NoMemory>
 }
 
 /// What is said of rows; nothing of a line that tells what rows are for.
+#[derive(Drop)]
 struct Rows;
 
 impl Answers for Rows {
-    fn push_answer(alloc: Global, text: &mut String, line: &str) -> Result<(), NoMemory> {
+    fn push_answer(
+        &mut self,
+        alloc: Global,
+        text: &mut String,
+        line: &str,
+    ) -> Result<(), NoMemory> {
         if line.starts_with('#') {
             return Ok(());
         }
@@ -37,5 +43,5 @@ impl Answers for Rows {
 }
 
 fn main(rt: HostRuntime) -> io::Result<()> {
-    answer_lines::<Rows, _>(&rt)
+    answer_lines(&rt, &mut Rows)
 }

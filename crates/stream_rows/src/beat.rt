@@ -100,13 +100,23 @@ pub fn push_beat(text: &mut String, beat: &Beat) -> Result<(), AllocError> {
     push_mark(text, "error", beat.error)
 }
 
+/// Appends the symbols of a beat.
+pub fn push_symbols_of(
+    symbols: &mut Vec<Symbol>,
+    end: &End,
+    beat: &Beat,
+) -> Result<(), AllocError> {
+    for k in 0..beat.count(end) {
+        symbols.push(beat.symbol(end, k))?;
+    }
+    Ok(())
+}
+
 /// The symbols of beats, in order.
 pub fn symbols_of(alloc: Global, end: &End, beats: &[Beat]) -> Result<Vec<Symbol>, AllocError> {
     let mut symbols = Vec::new(alloc);
     for beat in beats {
-        for k in 0..beat.count(end) {
-            symbols.push(beat.symbol(end, k))?;
-        }
+        push_symbols_of(&mut symbols, end, beat)?;
     }
     Ok(symbols)
 }

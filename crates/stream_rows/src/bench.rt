@@ -2,6 +2,7 @@
 
 use crate::beat::Beat;
 use crate::row::Row;
+use crate::still::{Moves, Still, Way};
 use std::alloc::{AllocError, Global};
 
 /// What the ends show in a cycle.
@@ -32,6 +33,8 @@ pub struct Tally {
     pub dropped: u32,
     /// The first cycle in which the source saw ready low, after it had sent a beat.
     pub held_back: Option<u32>,
+    /// How long the stream stood still.
+    pub still: Still,
 }
 
 /// Both ends, as a cycle begins.
@@ -43,6 +46,7 @@ pub struct Ends {
     downstream: Vec<bool>,
     /// The beat that the sink has let wait.
     waiting: Option<Beat>,
+    way: Way,
     pub tally: Tally,
 }
 
@@ -61,6 +65,7 @@ impl Ends {
             upstream: Vec::new(alloc),
             downstream: Vec::new(alloc),
             waiting: None,
+            way: Way::new(alloc),
             tally: Tally {
                 beats: Vec::new(alloc),
                 first: 0,
@@ -68,13 +73,14 @@ impl Ends {
                 in_time: true,
                 dropped: 0,
                 held_back: None,
+                still: Still::new(),
             },
         }
     }
 
     /// What both ends show: the source its next beat, whenever it may.
     pub fn shows(&self, row: &Row, cycle: u32) -> Shown {
-        let latency = row.source.latency.unwrap_or(0);
+        let latency = row.source.ready_latency();
         let may_show = latency == 0 || was_ready(self.upstream.as_slice(), latency, cycle);
         Shown {
             beat: if may_show {
@@ -82,7 +88,24 @@ impl Ends {
             } else {
                 None
             },
-            ready: row.is_ready(cycle),
+            ready: row.is_ready(cycle, self.waiting.is_some()),
+        }
+    }
+
+    /// What moves in a cycle that shows this.
+    fn moves(&self, row: &Row, shown: Shown, seen: Seen, cycle: u32) -> Moves {
+        let latency = row.sink.ready_latency();
+        Moves {
+            sent: shown.beat,
+            ready: seen.ready,
+            accepted: shown.beat.is_some() && (row.source.ready_latency() > 0 || seen.ready),
+            shown: seen.beat,
+            may_come: if latency == 0 {
+                shown.ready
+            } else {
+                was_ready(self.downstream.as_slice(), latency, cycle)
+            },
+            delivered: seen.beat.is_some() && (latency > 0 || shown.ready),
         }
     }
 
@@ -97,25 +120,18 @@ impl Ends {
     }
 
     /// What the sink makes of what it sees.
-    fn take(
-        &mut self,
-        row: &Row,
-        shown: Shown,
-        beat: Option<Beat>,
-        cycle: u32,
-    ) -> Result<(), AllocError> {
-        let latency = row.sink.latency.unwrap_or(0);
-        if self.waiting.is_some() && beat != self.waiting {
+    fn take(&mut self, moves: &Moves, cycle: u32) -> Result<(), AllocError> {
+        if self.waiting.is_some() && moves.shown != self.waiting {
             self.tally.in_time = false;
         }
         self.waiting = None;
-        let Some(beat) = beat else {
+        let Some(beat) = moves.shown else {
             return Ok(());
         };
-        if latency > 0 && !was_ready(self.downstream.as_slice(), latency, cycle) {
-            self.tally.in_time = false;
-        }
-        if latency > 0 || shown.ready {
+        if moves.delivered {
+            if !moves.may_come {
+                self.tally.in_time = false;
+            }
             return self.deliver(beat, cycle);
         }
         self.waiting = Some(beat);
@@ -125,8 +141,10 @@ impl Ends {
     /// The cycle ends.
     pub fn sees(&mut self, row: &Row, seen: Seen, cycle: u32) -> Result<(), AllocError> {
         let shown = self.shows(row, cycle);
-        let latency = row.source.latency.unwrap_or(0);
-        if shown.beat.is_some() && (latency > 0 || seen.ready) {
+        let moves = self.moves(row, shown, seen, cycle);
+        self.tally.still.count(row, &self.way, &moves);
+        self.way.go_on(row, &moves)?;
+        if moves.accepted {
             self.sent = self.sent.saturating_add(1);
         }
         if !seen.ready && self.sent > 0 && self.tally.held_back.is_none() {
@@ -135,7 +153,7 @@ impl Ends {
         if seen.dropped {
             self.tally.dropped = self.tally.dropped.saturating_add(1);
         }
-        self.take(row, shown, seen.beat, cycle)?;
+        self.take(&moves, cycle)?;
         self.upstream.push(seen.ready)?;
         self.downstream.push(shown.ready)?;
         Ok(())

@@ -65,6 +65,11 @@ impl End {
         Some(end)
     }
 
+    /// The ready latency, 0 without `ready`.
+    pub fn ready_latency(&self) -> u8 {
+        self.latency.unwrap_or(0)
+    }
+
     /// The bits below symbol `k` in a word.
     pub fn bits_below(&self, k: u8) -> u32 {
         let place = if self.low_first {

@@ -1,5 +1,5 @@
 //! Builds the module of each row of the standard input, a source and a sink with what they declare and a queue, steps it with two
-//! ends that keep to what they declare, and prints what the sink was given.
+//! ends that keep to what they declare, and prints what the sink was given, and at the end how long streams stood still.
 #![tactic(auto)]
 
 mod beat;
@@ -8,6 +8,7 @@ mod end;
 mod row;
 mod scripts;
 mod steps;
+mod still;
 
 use av_base::NoMemory;
 use beat::{Beat, Symbol, push_beat, symbols_of};
@@ -17,6 +18,7 @@ use row_words::{Answers, answer_lines};
 use std::alloc::{AllocError, Global};
 use std::io;
 use steps::run_row;
+use still::Records;
 
 /// Appends when the beats came, how many didn't reach the sink, and whether the source was held back.
 fn push_pace(text: &mut String, tally: &Tally) -> Result<(), AllocError> {
@@ -90,22 +92,45 @@ fn push_run(alloc: Global, text: &mut String, row: &Row, tally: &Tally) -> Resul
 }
 
 /// What is said of rows.
-struct Rows;
+#[derive(Drop)]
+struct Rows {
+    records: Records,
+}
 
-impl Answers for Rows {
-    fn push_answer(alloc: Global, text: &mut String, line: &str) -> Result<(), NoMemory> {
-        let Some(row) = Row::read(alloc, line)? else {
-            return Ok(text.push_str(": not a row")?);
-        };
-        text.push(':')?;
-        match run_row(alloc, &row)? {
-            Some(tally) => push_run(alloc, text, &row, &tally)?,
+impl Rows {
+    /// Appends what is said of a row.
+    fn push_row(&mut self, alloc: Global, text: &mut String, row: &Row) -> Result<(), NoMemory> {
+        match run_row(alloc, row)? {
+            Some(tally) => {
+                self.records.count(&tally.still, row.window());
+                push_run(alloc, text, row, &tally)?
+            }
             None => text.push_str(" not built")?,
         }
         Ok(())
     }
 }
 
+impl Answers for Rows {
+    fn push_answer(
+        &mut self,
+        alloc: Global,
+        text: &mut String,
+        line: &str,
+    ) -> Result<(), NoMemory> {
+        self.records.begin_row();
+        let Some(row) = Row::read(alloc, line)? else {
+            return Ok(text.push_str(": not a row")?);
+        };
+        text.push(':')?;
+        self.push_row(alloc, text, &row)
+    }
+}
+
 fn main(rt: HostRuntime) -> io::Result<()> {
-    answer_lines::<Rows, _>(&rt)
+    let mut rows = Rows {
+        records: Records::new(),
+    };
+    answer_lines(&rt, &mut rows)?;
+    rows.records.print(&rt)
 }

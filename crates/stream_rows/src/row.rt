@@ -13,7 +13,8 @@ pub struct Row {
     pub sink: End,
     /// The beats of the queue.
     pub depth: u8,
-    /// The sink's ready in each cycle, 0 or 1: over and over, or up to a `+`, and then as in the last.
+    /// The sink's ready in each cycle, 0 or 1: over and over, or up to a `+`, and then as in the last. With `v` it is high in the
+    /// cycle after one in which a beat waited.
     pub levels: String,
     pub cycles: u32,
     /// What the source has to send. It shows a beat whenever it may.
@@ -155,14 +156,28 @@ impl Row {
         }))
     }
 
-    /// Whether the sink shows ready in a cycle.
-    pub fn is_ready(&self, cycle: u32) -> bool {
+    /// Whether the sink shows ready in a cycle, where a beat waited in the one before or not.
+    pub fn is_ready(&self, cycle: u32, waited: bool) -> bool {
         let levels = self.levels.as_bytes();
         let cycle = cycle as usize;
         let level = match levels {
+            [b'v'] if waited => Some(&b'1'),
             [shown @ .., b'+'] => shown.get(cycle).or(shown.last()),
             _ => cycle.checked_rem(levels.len()).and_then(|k| levels.get(k)),
         };
         self.sink.latency.is_none() || level == Some(&b'1')
+    }
+
+    /// The cycles of a window of the stream, in which it has to go on.
+    pub fn window(&self) -> u32 {
+        let source = u32::from(self.source.ready_latency());
+        let latency = source.max(u32::from(self.sink.ready_latency()));
+        let before = u32::from(self.source.symbols).saturating_mul(latency.saturating_add(3));
+        let depth = u32::from(self.depth).saturating_add(3);
+        let behind = u32::from(self.sink.symbols).saturating_mul(depth);
+        let lag = before.saturating_add(behind);
+        lag.saturating_add(latency.saturating_mul(2))
+            .saturating_add(8)
+            .saturating_mul(8)
     }
 }
