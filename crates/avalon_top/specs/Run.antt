@@ -6,7 +6,7 @@ use Rattle.system_plan.specs.declared.faults.Refusal.TheVariants as refusal
 use Rattle.system_plan.specs.Plans.{IsPlanned, IsAccepted, IsRefusedBy}
 use Rattle.map_text.specs.Text.{map_text}
 use Rattle.interconnect.specs.Interconnect.{IsInterconnect}
-use Rattle.netlist.specs.Netlists.{Netlist}
+use Rattle.netlist.specs.Netlists.{Netlist, IsModule}
 use Rattle.verilog_writer.specs.Text.{text_of}
 use Rattle.answer_lines.specs.declared.exit.Exit.{Exit}
 use Rattle.answer_lines.specs.declared.exit.Exit.TheVariants as exit
@@ -29,9 +29,15 @@ pub record IsOnlyAnswer (files : List (List ℕ)) (answer : Exit) : Type 0 where
   pub called : CallsFor files answer
   pub only : (other : Exit) → CallsFor files other → other ≡ answer
 
+-- the text is that of this module, and of no other
+pub record IsOnlyTextOf (netlist : Netlist) (text : List ℕ) : Type 0 where
+  pub is_module : IsModule netlist
+  pub is_text : text ≡ text_of netlist
+  pub only : (other : Netlist) → IsModule other → text ≡ text_of other → other ≡ netlist
+
 -- the text that a task writes of a plan
 abbrev pub IsTextOf : Task → PlanTable → List ℕ → Type 0
-IsTextOf Generate plan text = (netlist : Netlist) × IsInterconnect plan netlist × (text ≡ text_of netlist)
+IsTextOf Generate plan text = (netlist : Netlist) × IsInterconnect plan netlist × IsOnlyTextOf netlist text
 IsTextOf Check plan text = text ≡ map_text plan
 
 -- the files state a plan, and this is its text

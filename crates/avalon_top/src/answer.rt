@@ -1,10 +1,9 @@
 ghost use Rattle.std.specs.Prelude.{◌≡◌, ℕ, ◌+◌, ◌^◌, ◌<◌, ◌≤◌, ◌⊎◌, length, map, string_bytes, All, IfOk, IfErr};
 ghost use Rattle.av_files.specs.Outside.{WhereTold};
 ghost use Rattle.netlist.specs.Netlists.{Netlist};
-ghost use Rattle.verilog_writer.specs.Text.{text_of};
 ghost use Rattle.interconnect.specs.Interconnect.{IsInterconnect};
 ghost use Rattle.answer_lines.specs.Lines.{line_of};
-ghost use Rattle.avalon_top.specs.Run.{reads_by, writes_by, Reads, Writes, AreFiles, Answers, IsComplete, IsRefusal, WritesLine, IsResult, IsTextOf};
+ghost use Rattle.avalon_top.specs.Run.{reads_by, writes_by, Reads, Writes, AreFiles, Answers, IsComplete, IsRefusal, WritesLine, IsResult, IsTextOf, IsOnlyTextOf};
 ghost use Rattle.avalon_top.specs.Loading.{StopsAtFile, StopsFiles, StopsLoading, Stops, IsResultOf};
 
 use crate::words::{Task, read_words};
@@ -16,6 +15,7 @@ use link_rules::Plan;
 use map_text::map_text;
 use std::alloc::Global;
 use system_plan::plan_of;
+use verilog_reader::no_two_modules;
 use verilog_writer::write_module;
 
 /// The most bytes of a script.
@@ -61,11 +61,13 @@ fn load_files<S: Shelf>(alloc: Global, shelf: &mut S, words: usize) -> Result<Li
     Ok(files)
 }
 
-/// The Verilog text of the interconnect of a plan.
+/// The Verilog text of the interconnect of a plan, which is that of no other module.
 fn interconnect_text(alloc: Global, plan: &Plan) -> Result<Bytes, NoMemory>
-    ensures { IfOk result (λ text. (netlist : Netlist) × IsInterconnect plan.now netlist × (text ≡ text_of netlist)) }
+    ensures { IfOk result (λ text. (netlist : Netlist) × IsInterconnect plan.now netlist × IsOnlyTextOf netlist text) }
 {
+    no_two_modules();
     let built = build(alloc, plan)?;
+    built.module.well_made();
     write_module(alloc, &built.module)
 }
 
@@ -127,8 +129,8 @@ fn refuse<K: Sink>(sink: &mut K, exit: &Exit)
 ///
 /// The number of a file is the place of its word, counted from 0.
 pub fn run<S: Shelf, K: Sink>(alloc: Global, words: &[String], shelf: &mut S, sink: &mut K) -> Exit
-    // When each answer comes. At `Done` of `generate` the text of a module is written that serves each stream of the plan, and its
-    // hosts and agents, in every run.
+    // When each answer comes. At `Done` of `generate` the text of a module, and of no other, is written that serves each stream of
+    // the plan, and its hosts and agents, in every run.
     ensures answers { Answers (map string_bytes words.now)
         (record { told = S.told shelf.old; before = S.faults shelf.old; after = S.faults shelf.new; failed = S.failed shelf.new })
         (record { held = K.held sink.old; holds = K.held sink.new; before = K.faults sink.old; after = K.faults sink.new }) result }
