@@ -1,7 +1,7 @@
--- Waves have no fault, and one reading.
-use Rattle.std.proofs.Common.{◌≡◌, ℕ, zero, suc, ◌+◌, ◌<◌, ◌≤◌, cond, List, [], ◌∷◌, length, drop, map, slice_get, Option, Some, None, refl, sym, ap, subst, ◌∙◌, eq-eqb, arith}
-use Rattle.std.specs.Prelude.{is_some, option_map}
-use Rattle.std.proofs.lemmas.Option.{same_Some, slice_get-map, slice_get_within}
+-- Waves have no fault, and one reading; a file without a fault is waves.
+use Rattle.std.proofs.Common.{◌≡◌, ℕ, zero, suc, ◌+◌, ◌<◌, ◌≤◌, ◌⊎◌, inl, inr, cond, List, [], ◌∷◌, length, drop, map, slice_get, Option, Some, None, refl, sym, ap, subst, ◌∙◌, eq-eqb, below_more, arith}
+use Rattle.std.specs.Prelude.{◌==◌, is_some, option_map}
+use Rattle.std.proofs.lemmas.Option.{same_Some, slice_get-map, slice_get_past, slice_get_within}
 use Rattle.std.proofs.lemmas.Bool.Decides.{Decides-ltb}
 use Rattle.std.proofs.lemmas.List.{length-map}
 use Rattle.av_base.specs.Word.{Word}
@@ -12,7 +12,8 @@ use Rattle.waves.specs.Cuts.{lines, texts}
 use Rattle.waves.specs.Rows.{both, values, row_of, row_rule}
 use Rattle.waves.specs.Digits.{value_in}
 use Rattle.waves.proofs.CutLemmas.{not_less}
-use Rattle.waves.specs.Waves.{IsWavesOf, IsFirstBroken, IsFaultOf, IsFaultIn, IsFaultBy, cycles_of, later, rule_at, line_rule}
+use Rattle.waves.proofs.Reading.{none_then, some_there}
+use Rattle.waves.specs.Waves.{IsWavesOf, IsFirstBroken, IsFaultOf, IsFaultIn, IsFaultBy, cycles_of, later, rule_at, line_rule, there_or_none}
 
 heads : (x y : List Word) (xs ys : List (List Word)) → map Some (x ∷ xs) ≡ map Some (y ∷ ys) → x ≡ y
 heads x y xs ys e = same_Some x y (same_Some _ _ (ap (λ os. slice_get os 0) e))
@@ -105,3 +106,77 @@ one_by widths bytes (Some due) line other rule second f g =
 pub one_fault : (widths bytes : List ℕ) (line other : ℕ) (rule second : WavesRule) → IsFaultOf widths bytes (Refused line rule) → IsFaultOf widths bytes (Refused other second)
     → (line ≡ other) × (rule ≡ second)
 one_fault widths bytes line other rule second f g = one_by widths bytes (cycles_of (lines bytes)) line other rule second f g
+
+-- ---- rows or a fault
+
+-- none of the first numbers has a rule, or one is the first that has
+abbrev Search : (ℕ → Option WavesRule) → ℕ → Type 0
+Search f n = ((k : ℕ) → k < n → f k ≡ None) ⊎ ((m : ℕ) × (rule : WavesRule) × (f m ≡ Some rule) × ((k : ℕ) → k < m → f k ≡ None))
+
+one_more : (f : ℕ → Option WavesRule) (n : ℕ) (o : Option WavesRule) → f n ≡ o → ((k : ℕ) → k < n → f k ≡ None) → Search f (suc n)
+one_more f n None e none = inl (λ k less. below_more (λ j. f j ≡ None) n none e k (omega arith))
+one_more f n (Some rule) e none = inr (n, rule, e, none)
+
+searched : (f : ℕ → Option WavesRule) (n : ℕ) → Search f n
+searched f zero = inl (λ k less. absurd (omega arith))
+searched f (suc n) = elim (searched f n) [ inl none ↦ one_more f n (f n) refl none | inr found ↦ inr found ]
+
+rule_there : (widths : List ℕ) (due k : ℕ) (there : List (List ℕ)) (line : List ℕ) → slice_get there k ≡ Some line → k < due → rule_at widths due there k ≡ row_rule widths line
+rule_there widths due k there line g less = ap (λ o. line_rule widths due o k) g ∙ ap (λ b. cond b (row_rule widths line) (Some Lines)) ((Decides-ltb k due).1 less)
+
+none_missing : (widths : List ℕ) (due : ℕ) (there : List (List ℕ)) → length there < due → rule_at widths due there (length there) ≡ None → ⊥
+none_missing widths due there less none =
+    let past : slice_get there (length there) ≡ None = slice_get_past there (length there) (omega arith) in
+    let broken : rule_at widths due there (length there) ≡ Some Lines =
+    ap (λ o. line_rule widths due o (length there)) past ∙ ap (λ b. cond b (Some Lines) None) ((Decides-ltb (length there) due).1 less) in
+    cc
+
+line_here : (there : List (List ℕ)) (k : ℕ) → k < length there → (line : List ℕ) × (slice_get there k ≡ Some line)
+line_here [] k less = absurd (omega arith)
+line_here (line ∷ others) zero less = (line, refl)
+line_here (line ∷ others) (suc k) less = line_here others k (omega arith)
+
+none_left : (widths : List ℕ) (due : ℕ) (there : List (List ℕ)) → due < length there → rule_at widths due there due ≡ None → ⊥
+none_left widths due there less none =
+    let line = line_here there due less in
+    let broken : rule_at widths due there due ≡ Some Lines =
+    ap (λ o. line_rule widths due o due) line.1 ∙ ap (λ b. cond b (row_rule widths line.0) (Some Lines)) (not_less due due (omega arith)) in
+    cc
+
+abbrev row_on : List ℕ → List ℕ → List Word
+row_on widths line = there_or_none (row_of widths line)
+
+good_rows : (widths : List ℕ) (there : List (List ℕ)) → ((k : ℕ) (line : List ℕ) → slice_get there k ≡ Some line → row_rule widths line ≡ None)
+    → map (row_of widths) there ≡ map Some (map (row_on widths) there)
+good_rows widths [] good = refl
+good_rows widths (line ∷ others) good =
+    let some = some_there (row_of widths line) (none_then (length (texts line) == length widths) (is_some (row_of widths line)) (good 0 line refl)) in
+    ap (λ o. o ∷ map (row_of widths) others) some ∙ ap (λ os. Some (row_on widths line) ∷ os) (good_rows widths others (λ k other e. good (suc k) other e))
+
+faultless : (widths bytes : List ℕ) (due : ℕ) → cycles_of (lines bytes) ≡ Some due
+    → ((k : ℕ) → k < due + length (later (lines bytes)) → rule_at widths due (later (lines bytes)) k ≡ None) → (rows : List (List Word)) × IsWavesOf widths bytes rows
+faultless widths bytes due e none =
+    let there = later (lines bytes) in
+    let missing : length there < due → ⊥ = λ less. none_missing widths due there less (none (length there) (omega arith)) in
+    let left : due < length there → ⊥ = λ less. none_left widths due there less (none due (omega arith)) in
+    let count : due ≡ length there = grind (arith, missing, left) in (
+      map (row_on widths) there,
+      record {
+        cycles = e ∙ ap Some (count ∙ sym (length-map there (row_on widths)));
+        each = good_rows widths there (λ k line g.
+            let within = slice_get_within there k line g in
+            sym (rule_there widths due k there line g (omega arith)) ∙ none k (omega arith));
+      },
+    )
+
+by_cycles : (widths bytes : List ℕ) (cycles : Option ℕ) → cycles_of (lines bytes) ≡ cycles
+    → ((rows : List (List Word)) × IsWavesOf widths bytes rows) ⊎ ((line : ℕ) × (rule : WavesRule) × IsFaultOf widths bytes (Refused line rule))
+by_cycles widths bytes None e = inr (1, Lines, subst (λ o. IsFaultBy widths bytes o (Refused 1 Lines)) (sym e) (refl, refl))
+by_cycles widths bytes (Some due) e =
+    elim (searched (rule_at widths due (later (lines bytes))) (due + length (later (lines bytes)))) [
+      | inl none ↦ inl (faultless widths bytes due e none)
+      | inr found ↦ inr (found.0 + 2, found.1, subst (λ o. IsFaultBy widths bytes o (Refused (found.0 + 2) found.1)) (sym e) (found.0, refl, record { broken = found.2; before = found.3 }))
+    ]
+
+pub rows_or_fault : (widths bytes : List ℕ) → ((rows : List (List Word)) × IsWavesOf widths bytes rows) ⊎ ((line : ℕ) × (rule : WavesRule) × IsFaultOf widths bytes (Refused line rule))
+rows_or_fault widths bytes = by_cycles widths bytes (cycles_of (lines bytes)) refl

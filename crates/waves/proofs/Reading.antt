@@ -38,12 +38,12 @@ at_front (suc n) (x ∷ xs) line rest e =
     let h = at_front n xs line rest e in
     record { get = h.get; taken = ap (λ ys. x ∷ ys) h.taken; dropped = h.dropped }
 
-none_then : (c s : Bool) → cond c (cond s None (Some Spelling)) (Some Values) ≡ None → s ≡ true
+pub none_then : (c s : Bool) → cond c (cond s None (Some Spelling)) (Some Values) ≡ None → s ≡ true
 none_then true true e = refl
 none_then true false e = cc
 none_then false s e = cc
 
-some_there : (row : Option (List Word)) → is_some row ≡ true → row ≡ Some (there_or_none row)
+pub some_there : (row : Option (List Word)) → is_some row ≡ true → row ≡ Some (there_or_none row)
 some_there (Some row) e = refl
 some_there None e = absurd (false≢true e)
 

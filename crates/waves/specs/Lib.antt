@@ -3,3 +3,4 @@ pub mod Cuts
 pub mod Rows
 pub mod Header
 pub mod Waves
+pub mod Rules

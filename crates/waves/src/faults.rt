@@ -1,6 +1,7 @@
 //! Why waves were not read.
 
 ghost use Rattle.std.specs.Prelude.{◌≡◌};
+ghost use Rattle.waves.specs.Rules.{number_of};
 
 use av_base::NoMemory;
 use thiserror::Error;
@@ -14,6 +15,19 @@ pub enum WavesRule {
     Values,
     /// X3: a value that isn't spelled as its port's width asks, or doesn't fit it.
     Spelling,
+}
+
+impl WavesRule {
+    /// The number of the rule.
+    pub fn number(self) -> u8
+        ensures { result ≡ number_of self }
+    {
+        match self {
+            WavesRule::Lines => 1,
+            WavesRule::Values => 2,
+            WavesRule::Spelling => 3,
+        }
+    }
 }
 
 /// Why waves were not read: the first line with a fault, counted from 1, and its least rule, or want of memory.

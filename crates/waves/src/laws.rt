@@ -1,11 +1,16 @@
 //! What holds of every waves file, and small files that show it. The functions do nothing; their contracts are the laws.
 
-ghost use Rattle.std.specs.Prelude.{◌≡◌, ℕ, List, [], ◌∷◌, codes};
+ghost use Rattle.std.specs.Prelude.{◌≡◌, ◌⊎◌, ℕ, List, [], ◌∷◌, codes};
 ghost use Rattle.av_base.specs.Word.{Word, word};
 ghost use Rattle.waves.specs.Waves.{IsWavesOf, IsFaultOf};
 ghost use Rattle.waves.specs.declared.faults.WavesRule.{WavesRule};
 ghost use Rattle.waves.specs.declared.faults.WavesRule.TheVariants.{Lines, Values, Spelling};
 ghost use Rattle.waves.specs.declared.faults.WavesFault.TheVariants.{Refused};
+
+/// Each file has rows or a first fault.
+pub fn rows_or_fault()
+    ensures { (widths bytes : List ℕ) → ((rows : List (List Word)) × IsWavesOf widths bytes rows) ⊎ ((line : ℕ) × (rule : WavesRule) × IsFaultOf widths bytes (Refused line rule)) }
+{}
 
 /// A file is refused or has rows, and never both.
 pub fn never_both()

@@ -10,5 +10,7 @@ mod rows;
 mod whole;
 
 pub use faults::{WavesFault, WavesRule};
-pub use laws::{never_both, no_two_first_faults, no_two_readings, read_files, refused_files};
+pub use laws::{
+    never_both, no_two_first_faults, no_two_readings, read_files, refused_files, rows_or_fault,
+};
 pub use whole::Waves;

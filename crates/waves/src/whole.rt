@@ -137,6 +137,15 @@ impl<'a> Waves<'a> {
         self.starts.len() as u32
     }
 
+    /// As many values as there are input ports, to read the values of a cycle into.
+    pub fn blank_row(&self, alloc: Global) -> Result<Vec<Val>, NoMemory>
+        ensures { IfOk result (λ row. length row.items ≡ length self.now.widths) }
+    {
+        let mut row = Vec::new(alloc);
+        row.resize(self.widths.len(), Val::new(1, 0).unwrap())?;
+        Ok(row)
+    }
+
     /// The values of a cycle, one for each input port.
     pub fn row(&self, cycle: u32, into: &mut [Val])
         requires there { cycle < length self.now.rows }
