@@ -7,6 +7,8 @@ use Rattle.link_rules.specs.declared.faults.LinkRule.{LinkRule}
 use Rattle.link_rules.specs.declared.faults.LinkRule.TheVariants as link
 use Rattle.system_plan.specs.declared.faults.Refusal.{Refusal}
 use Rattle.system_plan.specs.declared.faults.Refusal.TheVariants as refusal
+use Rattle.answer_lines.specs.declared.exit.StepRule.{StepRule}
+use Rattle.answer_lines.specs.declared.exit.StepRule.TheVariants as step
 use Rattle.answer_lines.specs.declared.exit.Exit.{Exit}
 use Rattle.answer_lines.specs.declared.exit.Exit.TheVariants as exit
 
@@ -36,6 +38,16 @@ link_line connection rule other =
 abbrev pub limit_line : ℕ → ℕ → List ℕ
 limit_line which count = codes "limit: L" ++ decimal which ++ codes " count " ++ decimal count ++ codes "\n"
 
+abbrev pub verilog_line : ℕ → ℕ → List ℕ
+verilog_line byte rule = codes "verilog refused: byte " ++ decimal byte ++ codes " rule V" ++ decimal rule ++ codes "\n"
+
+abbrev pub step_rule : StepRule → List ℕ
+step_rule (step.Scenario n) = codes "N" ++ decimal n
+step_rule (step.Waves n) = codes "X" ++ decimal n
+
+abbrev pub scenario_line : ℕ → ℕ → StepRule → List ℕ
+scenario_line file line rule = codes "scenario refused: file " ++ decimal file ++ codes " line " ++ decimal line ++ codes " rule " ++ step_rule rule ++ codes "\n"
+
 -- the line of an answer, and no byte for those that write none
 abbrev pub line_of : Exit → List ℕ
 line_of exit.Done = []
@@ -45,6 +57,8 @@ line_of exit.WriteFault = []
 line_of (exit.ScriptRefused place rule) = script_line place rule
 line_of (exit.LinkRefused connection rule other) = link_line connection rule other
 line_of (exit.Limit which count) = limit_line which count
+line_of (exit.VerilogRefused byte rule) = verilog_line byte rule
+line_of (exit.ScenarioRefused file line rule) = scenario_line file line rule
 line_of exit.NoMemory = codes "no memory\n"
 
 abbrev pub status_of : Exit → ℕ
@@ -55,6 +69,8 @@ status_of exit.WriteFault = 4
 status_of (exit.ScriptRefused place rule) = 5
 status_of (exit.LinkRefused connection rule other) = 6
 status_of (exit.Limit which count) = 7
+status_of (exit.VerilogRefused byte rule) = 8
+status_of (exit.ScenarioRefused file line rule) = 9
 status_of exit.NoMemory = 10
 
 -- the answer to files that are refused

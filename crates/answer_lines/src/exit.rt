@@ -1,11 +1,20 @@
 ghost use Rattle.std.specs.Prelude.{◌≡◌, codes, decimal, ◌++◌};
-ghost use Rattle.answer_lines.specs.Lines.{status_of, line_of, script_line, link_line, limit_line};
+ghost use Rattle.answer_lines.specs.Lines.{status_of, line_of, script_line, link_line, limit_line, verilog_line, scenario_line};
 
 use crate::line::Line;
 use av_base::{NoMemory, Place};
 use link_rules::LinkRule;
 use script_words::ScriptRule;
 use system_plan::Refusal;
+
+/// The rule that a line of inputs breaks, by its number.
+#[derive(Clone, Copy, Debug, PartialEq, Eq)]
+pub enum StepRule {
+    /// Of scenarios.
+    Scenario(u8),
+    /// Of waves.
+    Waves(u8),
+}
 
 /// What a run answers.
 #[derive(Clone, Copy, Debug, PartialEq, Eq)]
@@ -36,6 +45,17 @@ pub enum Exit {
     Limit {
         which: u8,
         count: u64,
+    },
+    /// A Verilog text breaks the rule of this number at this byte, from 0.
+    VerilogRefused {
+        byte: u64,
+        rule: u8,
+    },
+    /// A scenario or waves break a rule at this line, from 1. `file` is the place of its word, from 0.
+    ScenarioRefused {
+        file: u32,
+        line: u32,
+        rule: StepRule,
     },
     /// Memory was wanted and not had.
     NoMemory,
@@ -87,6 +107,8 @@ impl Exit {
             Exit::ScriptRefused { .. } => 5,
             Exit::LinkRefused { .. } => 6,
             Exit::Limit { .. } => 7,
+            Exit::VerilogRefused { .. } => 8,
+            Exit::ScenarioRefused { .. } => 9,
             Exit::NoMemory => 10,
         }
     }
@@ -108,6 +130,8 @@ impl Exit {
                 other,
             } => link_refused(connection, rule, other),
             Exit::Limit { which, count } => limit(which, count),
+            Exit::VerilogRefused { byte, rule } => verilog_refused(byte, rule),
+            Exit::ScenarioRefused { file, line, rule } => scenario_refused(file, line, rule),
             Exit::NoMemory => Line::of(b"no memory\n"),
         }
     }
@@ -163,6 +187,31 @@ fn limit(which: u8, count: u64) -> Line
     let mut line = Line::new();
     line.put_part(b"limit: L", u64::from(which));
     line.put_part(b" count ", count);
+    line.put(b"\n");
+    line
+}
+
+fn verilog_refused(byte: u64, rule: u8) -> Line
+    ensures { result ≡ verilog_line byte rule }
+{
+    let mut line = Line::new();
+    line.put_part(b"verilog refused: byte ", byte);
+    line.put_part(b" rule V", u64::from(rule));
+    line.put(b"\n");
+    line
+}
+
+fn scenario_refused(file: u32, number: u32, rule: StepRule) -> Line
+    ensures { result ≡ scenario_line file number rule }
+{
+    let mut line = Line::new();
+    line.put_part(b"scenario refused: file ", u64::from(file));
+    line.put_part(b" line ", u64::from(number));
+    let (letter, rule) = match rule {
+        StepRule::Scenario(n) => (b" rule N", n),
+        StepRule::Waves(n) => (b" rule X", n),
+    };
+    line.put_part(letter, u64::from(rule));
     line.put(b"\n");
     line
 }

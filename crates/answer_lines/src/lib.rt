@@ -4,5 +4,5 @@
 mod exit;
 mod line;
 
-pub use exit::Exit;
+pub use exit::{Exit, StepRule};
 pub use line::Line;

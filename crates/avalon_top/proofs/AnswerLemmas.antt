@@ -26,6 +26,8 @@ no_other files r none only (exit.Limit which count) h = ap exit_of (sym (only (r
 no_other files r none only exit.Usage h = absurd h
 no_other files r none only (exit.ReadFault file) h = absurd h
 no_other files r none only exit.WriteFault h = absurd h
+no_other files r none only (exit.VerilogRefused byte rule) h = absurd h
+no_other files r none only (exit.ScenarioRefused file line rule) h = absurd h
 no_other files r none only exit.NoMemory h = absurd h
 
 -- the files are refused, or memory was wanted
@@ -61,6 +63,8 @@ only_done files none (exit.Limit which count) h = absurd (none (refusal.Limit wh
 only_done files none exit.Usage h = absurd h
 only_done files none (exit.ReadFault file) h = absurd h
 only_done files none exit.WriteFault h = absurd h
+only_done files none (exit.VerilogRefused byte rule) h = absurd h
+only_done files none (exit.ScenarioRefused file line rule) h = absurd h
 only_done files none exit.NoMemory h = absurd h
 
 pub done_files : (files : List (List ℕ)) (plan : PlanTable) → IsPlanned files plan → ((s : Refusal) → IsRefusedBy files s → ⊥) → IsOnlyAnswer files exit.Done
@@ -97,6 +101,8 @@ files_stop words reads task files exit.Done asks are s = absurd s
 files_stop words reads task files exit.Usage asks are s = ⊎_elim (λ e. (cc)) (λ is. absurd is.called) s
 files_stop words reads task files (exit.ReadFault file) asks are s = ⊎_elim (λ e. (cc)) (λ is. absurd is.called) s
 files_stop words reads task files exit.WriteFault asks are s = ⊎_elim (λ e. (cc)) (λ is. absurd is.called) s
+files_stop words reads task files (exit.VerilogRefused byte rule) asks are s = ⊎_elim (λ e. (cc)) (λ is. absurd is.called) s
+files_stop words reads task files (exit.ScenarioRefused file line rule) asks are s = ⊎_elim (λ e. (cc)) (λ is. absurd is.called) s
 
 -- what stops the loading of the files stops the run of the words that name them
 pub loading_stops : {X : Type 0} (f : X → List ℕ) (words : List X) (reads : Reads) (task : Task) (e : Exit) → AsksFor (map f words) task → length words ≤ 65
@@ -110,6 +116,8 @@ loading_stops f words reads task exit.Usage asks few s = absurd s
 loading_stops f words reads task exit.WriteFault asks few s = absurd s
 loading_stops f words reads task (exit.ScriptRefused place rule) asks few s = absurd s
 loading_stops f words reads task (exit.LinkRefused connection rule other) asks few s = absurd s
+loading_stops f words reads task (exit.VerilogRefused byte rule) asks few s = absurd s
+loading_stops f words reads task (exit.ScenarioRefused file line rule) asks few s = absurd s
 
 -- more words than files are read
 pub files_limit : {X : Type 0} (f : X → List ℕ) (words : List X) → 64 < length words - 1 → IsFilesLimit 7 (length words - 1) (length (map f words))
@@ -133,6 +141,8 @@ completes words reads writes exit.NoMemory s task files well = inl refl
 completes words reads writes exit.Usage s task files well = absurd (s task well.asks)
 completes words reads writes exit.Done s task files well = absurd s.2
 completes words reads writes exit.WriteFault s task files well = absurd s.2
+completes words reads writes (exit.VerilogRefused byte rule) s task files well = absurd s.2
+completes words reads writes (exit.ScenarioRefused file line rule) s task files well = absurd s.2
 completes words reads writes (exit.ReadFault file) s task files well = absurd (well.reads_well s.2.rose)
 completes words reads writes (exit.ScriptRefused place rule) s task files well = inr (called_for words reads writes (exit.ScriptRefused place rule) task files s.2 well)
 completes words reads writes (exit.LinkRefused connection rule other) s task files well = inr (called_for words reads writes (exit.LinkRefused connection rule other) task files s.2 well)

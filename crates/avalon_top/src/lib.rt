@@ -7,7 +7,7 @@ mod process;
 mod words;
 
 pub use answer::run;
-pub use answer_lines::{Exit, Line};
+pub use answer_lines::{Exit, Line, StepRule};
 pub use laws::files_call_for_one_answer;
 pub use link_rules::LinkRule;
 pub use process::status_of_process;

@@ -5,7 +5,7 @@ ghost use Rattle.av_files.specs.Memory.{failed_below};
 
 use av_base::{Bytes, List, NoMemory};
 use av_files::{MemShelf, MemSink, ReadStep, Shelf, Sink, WriteStep};
-use avalon_top::{Exit, Task, read_words, run};
+use avalon_top::{Exit, StepRule, Task, read_words, run};
 use std::alloc::{AllocError, Global};
 use std::process::Abort;
 use std::test::Fail;
@@ -123,6 +123,42 @@ fn answers_with_the_usage(rt: HostRuntime) -> Result<(), Fail> {
         }
     }
     judge_usage(&rt, rt.alloc(), &[], 10, b"usage: gen")
+}
+
+/// Refusals of a replay, with the status and the line of each.
+const REFUSALS: [(Exit, u8, &[u8]); 3] = [
+    (
+        Exit::VerilogRefused { byte: 30, rule: 1 },
+        8,
+        b"verilog refused: byte 30 rule V1\n",
+    ),
+    (
+        Exit::ScenarioRefused {
+            file: 2,
+            line: 3,
+            rule: StepRule::Waves(1),
+        },
+        9,
+        b"scenario refused: file 2 line 3 rule X1\n",
+    ),
+    (
+        Exit::ScenarioRefused {
+            file: 2,
+            line: 65_537,
+            rule: StepRule::Scenario(10),
+        },
+        9,
+        b"scenario refused: file 2 line 65537 rule N10\n",
+    ),
+];
+
+#[test]
+fn spells_the_refusals_of_a_replay(rt: HostRuntime) -> Result<(), Fail> {
+    for (exit, status, line) in REFUSALS {
+        assert_eq!(rt; exit.status(), status);
+        assert_eq!(rt; exit.line().as_slice(), line);
+    }
+    Ok(())
 }
 
 /// What is answered to a wire where a read fails.
