@@ -240,7 +240,7 @@ pub(crate) fn push_bytes(alloc: Global, text: &mut String, words: &str) -> Resul
 }
 
 /// The input turned, and the input, at two outputs.
-fn mirrored(alloc: Global) -> Result<Module, NoRoom>
+pub(crate) fn mirrored(alloc: Global) -> Result<Module, NoRoom>
     ensures first { IfOk result (λ m. IsOutputPort m.ports 0 4) }
     ensures last { IfOk result (λ m. IsOutputPort m.ports 2 4) }
 {

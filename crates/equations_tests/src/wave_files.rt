@@ -1,11 +1,12 @@
-//! Waves files, read for a module of three inputs.
+//! Waves files, read for a module of three inputs, and replayed on one of an input and two outputs.
 
 ghost use Rattle.std.specs.Prelude.{◌≡◌, length};
 
 use crate::room::NoRoom;
-use crate::steps::counter;
+use crate::steps::{counter, mirrored};
 use crate::values::push_value;
 use av_base::Val;
+use replays::{ReplayFault, replay_module};
 use std::alloc::{AllocError, Global};
 use waves::{Waves, WavesFault, WavesRule};
 
@@ -48,6 +49,28 @@ pub(crate) fn push_waves(alloc: Global, text: &mut String, row: &str) -> Result<
         Ok(waves) => push_rows(text, &waves)?,
         Err(WavesFault::Refused { line, rule }) => push_fault(text, line, rule)?,
         Err(WavesFault::NoMemory) => return Err(NoRoom),
+    }
+    Ok(())
+}
+
+/// The text of a replay, with a semicolon for each line feed.
+fn push_trace(text: &mut String, trace: &[u8]) -> Result<(), AllocError> {
+    text.push(' ')?;
+    for byte in trace {
+        text.push(if *byte == b'\n' { ';' } else { *byte as char })?;
+    }
+    Ok(())
+}
+
+/// What a replay of a file writes, or what refuses it.
+pub(crate) fn push_replayed(alloc: Global, text: &mut String, row: &str) -> Result<(), NoRoom> {
+    let module = mirrored(alloc)?;
+    let bytes = file_of(alloc, row)?;
+    match replay_module(alloc, module, bytes.as_slice()) {
+        Ok(trace) => push_trace(text, trace.as_slice())?,
+        Err(ReplayFault::WavesRefused { line, rule }) => push_fault(text, line, rule)?,
+        Err(ReplayFault::TooManyValues { count }) => write!(text, " {count} values")?,
+        Err(ReplayFault::NoMemory) => return Err(NoRoom),
     }
     Ok(())
 }
