@@ -1,7 +1,7 @@
 -- The forms of the clocked lines and of the lines of outputs read exactly those of registers, memories and outputs.
 use Rattle.std.proofs.Common.{◌≡◌, ℕ, ◌+◌, ◌/◌, ◌==◌, ◌<◌, ◌≤◌, ◌^◌, ◌&&◌, Bool, true, not, List, [], ◌++◌, length, Option, Some, None, inl, inr, ◌⊎◌, refl, sym, ap, subst, ◌∙◌, arith, codes, decimal, append_assoc}
 use Rattle.std.specs.Prelude.{nat_lt, if◌then◌else◌}
-use Rattle.std.proofs.lemmas.Bool.{eq-eqb, eqb-true, lt-ltb}
+use Rattle.std.proofs.lemmas.Bool.{eq-eqb, eqb-true, lt-ltb, ltb-true}
 use Rattle.std.proofs.lemmas.Option.{slice_get_within}
 use Rattle.av_base.specs.declared.value.Val.{Val}
 use Rattle.netlist.specs.Names.{IsPortName}
@@ -20,7 +20,7 @@ use Rattle.verilog_reader.specs.Headers.{is_next}
 use Rattle.verilog_reader.specs.ClockedLines.{net_form, clocked_net_test, clocked_memory_test, none_due, clocked_net_form, clocked_memory_form, always_form, other_net_form, other_memory_form, register_with, next_form, clock_form, write_form, none_clocked_form, output_test, driver_form, assign_form}
 use Rattle.verilog_reader.proofs.Nets.{width_at-line}
 use Rattle.verilog_reader.proofs.RightReads.{same-refl, value-decimal, number_passes, net_is, net_hole, side, operand_due, constant_due, constant_front, fixed_due, numbered_due}
-use Rattle.verilog_reader.proofs.RightSound.{inverted, Walked, unless_held, same_equal, number_held, operand_walked, constant_read_as, cond_walked, fixed_walked}
+use Rattle.verilog_reader.proofs.RightSound.{inverted, Walked, unless_held, same_equal, net_spelled, number_held, operand_walked, constant_read_as, cond_walked, fixed_walked}
 use Rattle.verilog_reader.proofs.PortLines.{five_together}
 use Rattle.verilog_reader.proofs.Followed.{followed_walked, then_due}
 
@@ -42,9 +42,9 @@ record NetRead {A : Type 0} (lines : List Line) (w : ℕ) (form : ℕ → Form A
   pub width : width_at lines net ≡ Some w
   pub walked : Walked e rest (form net) later
 
-net_walked : {A : Type 0} (lines : List Line) (w : ℕ) (form : ℕ → Form A) (e : A) (rest front : List ℕ) → Walked e rest (net_form lines (λ v. v == w) form) front → NetRead lines w form e rest front
-net_walked lines w form e rest front d =
-    let o = operand_walked lines (length lines) (λ v. v == w) form e rest front (omega arith) d in
+net_walked : {A : Type 0} (lines : List Line) (w : ℕ) (form : ℕ → Form A) (e : A) (rest front : List ℕ) → length lines < 2 ^ 64 → Walked e rest (net_form lines (λ v. v == w) form) front → NetRead lines w form e rest front
+net_walked lines w form e rest front few d =
+    let o = operand_walked lines (length lines) (λ v. v == w) form e rest front few (omega arith) d in
     record { net = o.net; later = o.later; spelled = o.spelled; width = o.is.width ∙ ap (λ (v : ℕ). Some v) (eqb-true (width_of lines o.net) w o.fit); walked = o.walked }
 
 -- the register that is due
@@ -61,14 +61,15 @@ clocked_net_due : {A : Type 0} (due : Form A) (rest : List ℕ) (lines : List Li
 clocked_net_due due rest lines n form front few there ends d =
     Due.hole (clocked_net_test lines (λ k. k == n)) (λ run. form) (net_name n) (net_hole n (front ++ rest) few ends) (clocked_net_passes lines n few there) d
 
-clocked_net_walked : {A : Type 0} (lines : List Line) (n : ℕ) (form : Form A) (e : A) (rest front : List ℕ) → Walked e rest (Form.hole (clocked_net_test lines (λ k. k == n)) (λ run. form)) front
+clocked_net_walked : {A : Type 0} (lines : List Line) (n : ℕ) (form : Form A) (e : A) (rest front : List ℕ) → length lines < 2 ^ 64 → Walked e rest (Form.hole (clocked_net_test lines (λ k. k == n)) (λ run. form)) front
     → (later : List ℕ) × (front ≡ net_name n ++ later) × Walked e rest form later
-clocked_net_walked lines n form e rest front d =
+clocked_net_walked lines n form e rest front few d =
     let (run, later, parts, none, walked, ends) = inverted e refl d in
     let spelled = unless_held (is_net run) Spelling _ none in
     let there = unless_held (nat_lt (net_of run) (length lines)) NotThere _ spelled.1 in
     let is_due = unless_held (net_of run == n) Order None there.1 in
-    let is_n : run ≡ net_name n = same_equal run (net_name (net_of run)) spelled.0 ∙ ap (λ (k : ℕ). net_name k) (eqb-true (net_of run) n is_due.0) in
+    let below : net_of run < length lines = ltb-true (net_of run) (length lines) there.0 in
+    let is_n : run ≡ net_name n = net_spelled run spelled.0 (omega (arith, below, few)) ∙ ap (λ (k : ℕ). net_name k) (eqb-true (net_of run) n is_due.0) in
     (later, parts ∙ ap (λ (t : List ℕ). t ++ later) is_n, walked)
 
 -- what isn't due is never read
@@ -81,8 +82,8 @@ no_other_net lines e rest front d =
 
 no_other_memory : {A X : Type 0} (memories : List Memory) (lines : List Line) (e : A) (rest front : List ℕ) → Walked e rest (other_memory_form memories lines) front → X
 no_other_memory memories lines e rest front d =
-    let enable = net_walked lines 1 (λ n. fixed (codes ") m") (Form.hole (clocked_memory_test memories none_due) (λ run. Form.refuse Order))) e rest front d in
-    let word = fixed_walked e rest (codes ") m") (Form.hole (clocked_memory_test memories none_due) (λ run. Form.refuse Order)) enable.later enable.walked in
+    let (net, left, net_parts, net_none, net_walked, net_ends) = inverted e refl d in
+    let word = fixed_walked e rest (codes ") m") (Form.hole (clocked_memory_test memories none_due) (λ run. Form.refuse Order)) left net_walked in
     let (run, later, parts, none, walked, ends) = inverted e refl word.2 in
     absurd (inverted e refl walked)
 
@@ -145,19 +146,19 @@ pub record ClockMeaning (lines : List Line) (n w : ℕ) (line : Line) (front : L
   pub is : line ≡ line_of w (Reg value next)
   pub spelled : front ≡ clock_line n value.width value.bits next
 
-clock_register : (lines : List Line) (n w : ℕ) (line : Line) (rest front register : List ℕ) → 1 ≤ w → w ≤ 128 → front ≡ codes "  always @(posedge clk) if (" ++ register
+clock_register : (lines : List Line) (n w : ℕ) (line : Line) (rest front register : List ℕ) → length lines < 2 ^ 64 → 1 ≤ w → w ≤ 128 → front ≡ codes "  always @(posedge clk) if (" ++ register
     → Walked line rest (clocked_net_form lines (λ k. k == n) (fixed (codes " <= ") (next_form lines n w))) register → ClockMeaning lines n w line front
-clock_register lines n w line rest front register some small begun d =
+clock_register lines n w line rest front register few some small begun d =
     let word = fixed_walked line rest (codes "reset) ") (Form.hole (clocked_net_test lines (λ k. k == n)) (λ run. fixed (codes " <= ") (next_form lines n w))) register d in
-    let net = clocked_net_walked lines n (fixed (codes " <= ") (next_form lines n w)) line rest word.0 word.2 in
+    let net = clocked_net_walked lines n (fixed (codes " <= ") (next_form lines n w)) line rest word.0 few word.2 in
     let arrow = fixed_walked line rest (codes " <= ") (next_form lines n w) net.0 net.2 in
     let apart = followed_walked line rest (constant_form w) (behind_value lines n w) arrow.0 arrow.2 in
     let reset = constant_read_as w apart.value (apart.behind ++ rest) apart.ahead some small apart.first in
     let last = λ (k : ℕ). (fixed (codes ";\n") (Form.whole (register_with w apart.value k))) in
     let choice = fixed_walked line rest (codes "; else ") (Form.hole (clocked_net_test lines (λ k. k == n)) (λ run. fixed (codes " <= ") (net_form lines (λ v. v == w) last))) apart.behind apart.second in
-    let again = clocked_net_walked lines n (fixed (codes " <= ") (net_form lines (λ v. v == w) last)) line rest choice.0 choice.2 in
+    let again = clocked_net_walked lines n (fixed (codes " <= ") (net_form lines (λ v. v == w) last)) line rest choice.0 few choice.2 in
     let takes = fixed_walked line rest (codes " <= ") (net_form lines (λ v. v == w) last) again.0 again.2 in
-    let next = net_walked lines w last line rest takes.0 takes.2 in
+    let next = net_walked lines w last line rest takes.0 few takes.2 in
     let ended = fixed_walked line rest (codes ";\n") (Form.whole (register_with w apart.value next.net)) next.later next.walked in
     let whole = inverted line refl ended.2 in
     let tail : apart.behind ≡ codes "; else " ++ (net_name n ++ (codes " <= " ++ (net_name next.net ++ codes ";\n"))) =
@@ -171,21 +172,21 @@ clock_register lines n w line rest front register some small begun d =
     ∙ clock_regroup n next.net value in
     record { value = value; next = next.net; good = reset.good; width = next.width; is = sym whole.0 ∙ ap (λ (e : Equation). register_with w e next.net) reset.is; spelled = text }
 
-pub clock_walked : (memories : List Memory) (lines : List Line) (n w : ℕ) (line : Line) (rest front : List ℕ) → 1 ≤ w → w ≤ 128 → Walked line rest (clock_form memories lines n w) front → ClockMeaning lines n w line front
-clock_walked memories lines n w line rest front some small d =
+pub clock_walked : (memories : List Memory) (lines : List Line) (n w : ℕ) (line : Line) (rest front : List ℕ) → length lines < 2 ^ 64 → 1 ≤ w → w ≤ 128 → Walked line rest (clock_form memories lines n w) front → ClockMeaning lines n w line front
+clock_walked memories lines n w line rest front few some small d =
     let register = clocked_net_form lines (λ k. k == n) (fixed (codes " <= ") (next_form lines n w)) in
     let begun = fixed_walked line rest (codes "  a") (always_form register (other_memory_form memories lines)) front d in
     let always = always_walked register (other_memory_form memories lines) line rest begun.0 begun.2 in
     let start : front ≡ codes "  always @(posedge clk) if (" ++ always.0 = begun.1 ∙ ap (λ (t : List ℕ). codes "  a" ++ t) always.1 in
     elim (always.2) [
-      | inl one ↦ clock_register lines n w line rest front always.0 some small start one
+      | inl one ↦ clock_register lines n w line rest front always.0 few some small start one
       | inr other ↦ no_other_memory memories lines line rest always.0 other
     ]
 
-pub clock_sound : (memories : List Memory) (lines : List Line) (n w : ℕ) (line : Line) (text rest : List ℕ) → 1 ≤ w → w ≤ 128 → Reads (clock_form memories lines n w) text line rest
+pub clock_sound : (memories : List Memory) (lines : List Line) (n w : ℕ) (line : Line) (text rest : List ℕ) → length lines < 2 ^ 64 → 1 ≤ w → w ≤ 128 → Reads (clock_form memories lines n w) text line rest
     → (value : Val) × (next : ℕ) × IsValue value w × (width_at lines next ≡ Some w) × (line ≡ line_of w (Reg value next)) × (text ≡ clock_line n value.width value.bits next ++ rest)
-clock_sound memories lines n w line text rest some small r =
-    let m = clock_walked memories lines n w line rest r.front some small r.good in
+clock_sound memories lines n w line text rest few some small r =
+    let m = clock_walked memories lines n w line rest r.front few some small r.good in
     (m.value, m.next, m.good, m.width, m.is, r.parts ∙ ap (λ (t : List ℕ). t ++ rest) m.spelled)
 
 -- the same for a memory's clocked line
@@ -224,24 +225,24 @@ pub record WriteMeaning (lines : List Line) (m : ℕ) (memory : Memory) (write :
   pub good : IsWriteOf lines memory write
   pub spelled : front ≡ write_line m write
 
-write_memory : (memories : List Memory) (lines : List Line) (m : ℕ) (memory : Memory) (write : MemWrite) (rest front enabled : List ℕ) → front ≡ codes "  always @(posedge clk) if (" ++ enabled
+write_memory : (memories : List Memory) (lines : List Line) (m : ℕ) (memory : Memory) (write : MemWrite) (rest front enabled : List ℕ) → length lines < 2 ^ 64 → length memories < 2 ^ 64 → front ≡ codes "  always @(posedge clk) if (" ++ enabled
     → Walked write rest (clocked_memory_form memories lines (λ k. k == m) (λ e. fixed (codes "[") (net_form lines (λ v. v == memory.address_bits) (λ a. fixed (codes "] <= ") (net_form lines (λ v. v == memory.width) (λ d. fixed (codes ";\n") (Form.whole (write_of e a d)))))))) enabled
     → WriteMeaning lines m memory write front
-write_memory memories lines m memory write rest front enabled begun d =
+write_memory memories lines m memory write rest front enabled few few_memories begun d =
     let last = λ (e a d : ℕ). (fixed (codes ";\n") (Form.whole (write_of e a d))) in
     let behind_address = λ (e a : ℕ). (fixed (codes "] <= ") (net_form lines (λ v. v == memory.width) (last e a))) in
     let behind_memory = λ (e : ℕ). (fixed (codes "[") (net_form lines (λ v. v == memory.address_bits) (behind_address e))) in
     let behind_enable = λ (e : ℕ). (fixed (codes ") m") (Form.hole (clocked_memory_test memories (λ k. k == m)) (λ run. behind_memory e))) in
-    let enable = net_walked lines 1 behind_enable write rest enabled d in
+    let enable = net_walked lines 1 behind_enable write rest enabled few d in
     let named = fixed_walked write rest (codes ") m") (Form.hole (clocked_memory_test memories (λ k. k == m)) (λ run. behind_memory enable.net)) enable.later enable.walked in
     let (run, left, parts, none, walked, ends) = inverted write refl named.2 in
-    let number = number_held run (λ k. nat_lt k (length memories)) NotThere (λ k. unless (k == m) Order None) none in
+    let number = number_held run (λ k. nat_lt k (length memories)) NotThere (λ k. unless (k == m) Order None) (λ t. omega (arith, ltb-true (value_of run) (length memories) t, few_memories)) none in
     let is_due = unless_held (value_of run == m) Order None number.2 in
     let is_m : run ≡ decimal m = number.0 ∙ ap (λ (k : ℕ). decimal k) (eqb-true (value_of run) m is_due.0) in
     let opened = fixed_walked write rest (codes "[") (net_form lines (λ v. v == memory.address_bits) (behind_address enable.net)) left walked in
-    let address = net_walked lines memory.address_bits (behind_address enable.net) write rest opened.0 opened.2 in
+    let address = net_walked lines memory.address_bits (behind_address enable.net) write rest opened.0 few opened.2 in
     let arrow = fixed_walked write rest (codes "] <= ") (net_form lines (λ v. v == memory.width) (last enable.net address.net)) address.later address.walked in
-    let word = net_walked lines memory.width (last enable.net address.net) write rest arrow.0 arrow.2 in
+    let word = net_walked lines memory.width (last enable.net address.net) write rest arrow.0 few arrow.2 in
     let ended = fixed_walked write rest (codes ";\n") (Form.whole (write_of enable.net address.net word.net)) word.later word.walked in
     let whole = inverted write refl ended.2 in
     let taken : arrow.0 ≡ net_name word.net ++ codes ";\n" = word.spelled ∙ ap (λ (t : List ℕ). net_name word.net ++ t) (ended.1 ∙ ap (λ (t : List ℕ). codes ";\n" ++ t) whole.1) in
@@ -254,21 +255,21 @@ write_memory memories lines m memory write rest front enabled begun d =
     ∙ write_regroup m (write_of enable.net address.net word.net) in
     subst (λ (x : MemWrite). WriteMeaning lines m memory x front) whole.0 (record { good = record { enable = enable.width; address = address.width; word = word.width }; spelled = text })
 
-pub write_walked : (memories : List Memory) (lines : List Line) (m : ℕ) (memory : Memory) (write : MemWrite) (rest front : List ℕ) → Walked write rest (write_form memories lines m memory) front → WriteMeaning lines m memory write front
-write_walked memories lines m memory write rest front d =
+pub write_walked : (memories : List Memory) (lines : List Line) (m : ℕ) (memory : Memory) (write : MemWrite) (rest front : List ℕ) → length lines < 2 ^ 64 → length memories < 2 ^ 64 → Walked write rest (write_form memories lines m memory) front → WriteMeaning lines m memory write front
+write_walked memories lines m memory write rest front few few_memories d =
     let enabled = clocked_memory_form memories lines (λ k. k == m) (λ e. fixed (codes "[") (net_form lines (λ v. v == memory.address_bits) (λ a. fixed (codes "] <= ") (net_form lines (λ v. v == memory.width) (λ d. fixed (codes ";\n") (Form.whole (write_of e a d))))))) in
     let begun = fixed_walked write rest (codes "  a") (always_form (other_net_form lines) enabled) front d in
     let always = always_walked (other_net_form lines) enabled write rest begun.0 begun.2 in
     let start : front ≡ codes "  always @(posedge clk) if (" ++ always.0 = begun.1 ∙ ap (λ (t : List ℕ). codes "  a" ++ t) always.1 in
     elim (always.2) [
       | inl other ↦ no_other_net lines write rest always.0 other
-      | inr one ↦ write_memory memories lines m memory write rest front always.0 start one
+      | inr one ↦ write_memory memories lines m memory write rest front always.0 few few_memories start one
     ]
 
-pub write_sound : (memories : List Memory) (lines : List Line) (m : ℕ) (memory : Memory) (write : MemWrite) (text rest : List ℕ) → Reads (write_form memories lines m memory) text write rest
+pub write_sound : (memories : List Memory) (lines : List Line) (m : ℕ) (memory : Memory) (write : MemWrite) (text rest : List ℕ) → length lines < 2 ^ 64 → length memories < 2 ^ 64 → Reads (write_form memories lines m memory) text write rest
     → (text ≡ write_line m write ++ rest) × IsWriteOf lines memory write
-write_sound memories lines m memory write text rest r =
-    let w = write_walked memories lines m memory write rest r.front r.good in
+write_sound memories lines m memory write text rest few few_memories r =
+    let w = write_walked memories lines m memory write rest r.front few few_memories r.good in
     (r.parts ∙ ap (λ (t : List ℕ). t ++ rest) w.spelled, w.good)
 
 -- the line of an output
@@ -315,8 +316,8 @@ none_clocked memories lines assigned form b e rest front d =
       | inr other ↦ other
     ]
 
-pub assign_walked : (memories : List Memory) (lines : List Line) (assigned : Bool) (port : PortLine) (net : ℕ) (rest front : List ℕ) → port.output ≡ true → Walked net rest (assign_form memories lines assigned port) front → AssignMeaning lines port net front
-assign_walked memories lines assigned port net rest front out d =
+pub assign_walked : (memories : List Memory) (lines : List Line) (assigned : Bool) (port : PortLine) (net : ℕ) (rest front : List ℕ) → length lines < 2 ^ 64 → port.output ≡ true → Walked net rest (assign_form memories lines assigned port) front → AssignMeaning lines port net front
+assign_walked memories lines assigned port net rest front few out d =
     let last = λ (k : ℕ). (fixed (codes ";\n") (Form.whole k)) in
     let begun = fixed_walked net rest (codes "  a") (Form.turn (none_clocked_form memories lines assigned (driver_form lines port))) front d in
     let driver = none_clocked memories lines assigned (driver_form lines port) (next (begun.0 ++ rest)) net rest begun.0 (inverted net refl begun.2) in
@@ -325,7 +326,7 @@ assign_walked memories lines assigned port net rest front out d =
     let held = unless_held (same_bytes run port.name) Name None none in
     let is_name : run ≡ port.name = same_equal run port.name held.0 in
     let equals = fixed_walked net rest (codes " = ") (net_form lines (λ v. v == port.width) last) left walked in
-    let right = net_walked lines port.width last net rest equals.0 equals.2 in
+    let right = net_walked lines port.width last net rest equals.0 few equals.2 in
     let ended = fixed_walked net rest (codes ";\n") (Form.whole right.net) right.later right.walked in
     let whole = inverted net refl ended.2 in
     let side : equals.0 ≡ net_name right.net ++ codes ";\n" = right.spelled ∙ ap (λ (t : List ℕ). net_name right.net ++ t) (ended.1 ∙ ap (λ (t : List ℕ). codes ";\n" ++ t) whole.1) in
@@ -335,8 +336,8 @@ assign_walked memories lines assigned port net rest front out d =
     begun.1 ∙ ap (λ (t : List ℕ). codes "  a" ++ t) (word.1 ∙ ap (λ (t : List ℕ). codes "ssign " ++ t) named) ∙ assign_regroup port right.net out in
     subst (λ (x : ℕ). AssignMeaning lines port x front) whole.0 (record { width = right.width; spelled = text })
 
-pub assign_sound : (memories : List Memory) (lines : List Line) (assigned : Bool) (port : PortLine) (net : ℕ) (text rest : List ℕ) → port.output ≡ true → Reads (assign_form memories lines assigned port) text net rest
+pub assign_sound : (memories : List Memory) (lines : List Line) (assigned : Bool) (port : PortLine) (net : ℕ) (text rest : List ℕ) → length lines < 2 ^ 64 → port.output ≡ true → Reads (assign_form memories lines assigned port) text net rest
     → (text ≡ assign_line port (Some net) ++ rest) × (width_at lines net ≡ Some port.width)
-assign_sound memories lines assigned port net text rest out r =
-    let m = assign_walked memories lines assigned port net rest r.front out r.good in
+assign_sound memories lines assigned port net text rest few out r =
+    let m = assign_walked memories lines assigned port net rest r.front few out r.good in
     (r.parts ∙ ap (λ (t : List ℕ). t ++ rest) m.spelled, m.width)

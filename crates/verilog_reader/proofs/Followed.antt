@@ -114,7 +114,7 @@ pub ranged_walked : {A : Type 0} (a : A) (rest : List ℕ) (make : ℕ → Form 
 ranged_walked a rest make front d =
     let opened = fixed_walked a rest (codes "[") _ front d in
     let (run, left, parts, none, walked, ends) = inverted a refl opened.2 in
-    let high = number_held run (λ k. nat_lt k 128) Width (λ k. None) none in
+    let high = number_held run (λ k. nat_lt k 128) Width (λ k. None) (λ t. omega (arith, ltb-true (value_of run) 128 t)) none in
     let w = value_of run + 1 in
     let below : value_of run < 128 = ltb-true (value_of run) 128 high.1 in
     let one : value_of run ≡ w - 1 = omega arith in

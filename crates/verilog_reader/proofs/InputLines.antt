@@ -9,7 +9,7 @@ use Rattle.netlist.specs.Netlists.{line_of}
 use Rattle.verilog_writer.specs.Text.{range_text, net_name, name_of, wire_line}
 use Rattle.verilog_reader.specs.declared.rule.Rule.TheVariants.{Name, Width, Spelling}
 use Rattle.verilog_reader.specs.Forms.{Form, next, ends_hole, fixed, Due, Reads}
-use Rattle.verilog_reader.specs.RightSides.{same_bytes, value_of, is_number}
+use Rattle.verilog_reader.specs.RightSides.{same_bytes}
 use Rattle.verilog_reader.specs.WireLines.{range_form, number_test, named_form}
 use Rattle.verilog_reader.specs.Headers.{is_next}
 use Rattle.verilog_reader.specs.InputLines.{port_test, input_wire_form, no_input_form, input_form, IsInputAt}
@@ -21,15 +21,14 @@ use Rattle.verilog_reader.proofs.WireLines.{number_test_passes}
 -- net n by its name
 
 named_due : {A : Type 0} (due : Form A) (rest : List ℕ) (n : ℕ) (form : Form A) (front : List ℕ) → n < 2 ^ 64 → ends_hole (front ++ rest) ≡ true → Due due rest form front → Due due rest (named_form n form) (net_name n ++ front)
-named_due due rest n form front few ends d = fixed_due due rest (codes "n") _ _ (numbered_due due rest (number_test n) (λ k. form) n front few ends (number_test_passes n few) d)
+named_due due rest n form front few ends d = fixed_due due rest (codes "n") _ _ (numbered_due due rest (number_test n) (λ k. form) n front few ends (number_test_passes n) d)
 
 named_walked : {A : Type 0} (a : A) (rest : List ℕ) (n : ℕ) (form : Form A) (front : List ℕ) → Walked a rest (named_form n form) front → (later : List ℕ) × (front ≡ net_name n ++ later) × Walked a rest form later
 named_walked a rest n form front d =
     let letter = fixed_walked a rest (codes "n") (Form.hole (number_test n) (λ run. form)) front d in
     let (run, later, parts, none, walked, ends) = inverted a refl letter.2 in
-    let held = unless_held (is_number run && value_of run == n) Spelling None none in
-    let both = and_parts (is_number run) (value_of run == n) held.0 in
-    let is_n : run ≡ decimal n = same_equal run (decimal (value_of run)) both.0 ∙ ap (λ (k : ℕ). decimal k) (eqb-true (value_of run) n both.1) in
+    let held = unless_held (same_bytes run (decimal n)) Spelling None none in
+    let is_n : run ≡ decimal n = same_equal run (decimal n) held.0 in
     (later, letter.1 ∙ ap (λ (t : List ℕ). codes "n" ++ t) (parts ∙ ap (λ (t : List ℕ). t ++ later) is_n), walked)
 
 -- the input's line is read

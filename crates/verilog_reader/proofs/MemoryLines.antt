@@ -9,7 +9,7 @@ use Rattle.netlist.specs.Netlists.{Netlist, IsModule, IsSoundMemory, memory_with
 use Rattle.verilog_writer.specs.Text.{memory_line}
 use Rattle.verilog_reader.specs.declared.rule.Rule.TheVariants.{Width, Spelling, Depth}
 use Rattle.verilog_reader.specs.Forms.{Form, fixed, Due, Reads}
-use Rattle.verilog_reader.specs.RightSides.{value_of, is_number}
+use Rattle.verilog_reader.specs.RightSides.{same_bytes, value_of}
 use Rattle.verilog_reader.specs.WireLines.{high_test, number_test}
 use Rattle.verilog_reader.specs.MemoryLines.{bits_among, address_bits_of, last_test, memory_form}
 use Rattle.verilog_reader.proofs.Memories.{memory_shape, few_words}
@@ -76,6 +76,9 @@ all_few = (
 bits_found : (last : ℕ) → nat_lt 0 (address_bits_of last) ≡ true → Found last (address_bits_of last)
 bits_found last some = found_among (1 ∷ 2 ∷ 3 ∷ 4 ∷ 5 ∷ 6 ∷ 7 ∷ 8 ∷ 9 ∷ 10 ∷ []) last all_few some
 
+small_depth : (last : ℕ) → nat_lt 0 (address_bits_of last) ≡ true → last < 2 ^ 64
+small_depth last some = let found = bits_found last some in omega (arith, few_words (address_bits_of last) found.few, found.is)
+
 bits_are : (b : ℕ) → 1 ≤ b → b ≤ 10 → address_bits_of (2 ^ b - 1) ≡ b
 bits_are zero some few = absurd (omega (arith, some))
 bits_are (suc zero) some few = refl
@@ -103,7 +106,7 @@ memory_due m w b rest few some small some_bit few_bits =
     let last = numbered_due due rest last_test (λ k. make_last w k) (2 ^ b - 1) (codes "];\n") deep refl (number_passes (2 ^ b - 1) (λ k. nat_lt 0 (address_bits_of k)) Depth (λ k. None) deep fits) made in
     let behind = λ (v : ℕ). (fixed (codes " [0:") (Form.hole last_test (λ run. make_last v (value_of run)))) in
     let opened = fixed_due due rest (codes " [0:") (Form.hole last_test (λ run. make_last w (value_of run))) (decimal (2 ^ b - 1) ++ codes "];\n") last in
-    let number = numbered_due due rest (number_test m) (λ k. behind w) m _ few refl (number_test_passes m few) opened in
+    let number = numbered_due due rest (number_test m) (λ k. behind w) m _ few refl (number_test_passes m) opened in
     let spelled = codes " m" ++ (decimal m ++ (codes " [0:" ++ (decimal (2 ^ b - 1) ++ codes "];\n"))) in
     let make = λ (v : ℕ). (fixed (codes " m") (Form.hole (number_test m) (λ run. behind v))) in
     let named : Due due rest (make w) spelled = fixed_due due rest (codes " m") (Form.hole (number_test m) (λ run. behind w)) _ number in
@@ -129,7 +132,7 @@ pub memory_sound : (lines : List Line) (m : ℕ) (memory : Memory) (text rest : 
 memory_sound lines m memory text rest r =
     let begun = fixed_walked memory rest (codes "  reg [") _ r.front r.good in
     let (run, left, parts, none, walked, run_ends) = inverted memory refl begun.2 in
-    let high = number_held run (λ k. nat_lt k 128) Width (λ k. None) none in
+    let high = number_held run (λ k. nat_lt k 128) Width (λ k. None) (λ t. omega (arith, ltb-true (value_of run) 128 t)) none in
     let w = value_of run + 1 in
     let some : 1 ≤ w = omega arith in
     let below : value_of run < 128 = ltb-true (value_of run) 128 high.1 in
@@ -137,12 +140,11 @@ memory_sound lines m memory text rest r =
     let behind = λ (v : ℕ). (fixed (codes " [0:") (Form.hole last_test (λ run. fixed (codes "];\n") (Form.whole (memory_with v (address_bits_of (value_of run))))))) in
     let named = fixed_walked memory rest (codes ":0] m") (Form.hole (number_test m) (λ r. behind w)) left walked in
     let (name, after, name_parts, name_none, name_walked, name_ends) = inverted memory refl named.2 in
-    let held = unless_held (is_number name && value_of name == m) Spelling None name_none in
-    let both = and_parts (is_number name) (value_of name == m) held.0 in
-    let is_m : name ≡ decimal m = same_equal name (decimal (value_of name)) both.0 ∙ ap (λ (k : ℕ). decimal k) (eqb-true (value_of name) m both.1) in
+    let held = unless_held (same_bytes name (decimal m)) Spelling None name_none in
+    let is_m : name ≡ decimal m = same_equal name (decimal m) held.0 in
     let opened = fixed_walked memory rest (codes " [0:") (Form.hole last_test (λ run. fixed (codes "];\n") (Form.whole (memory_with w (address_bits_of (value_of run)))))) after name_walked in
     let (deep, closing, deep_parts, deep_none, deep_walked, deep_ends) = inverted memory refl opened.2 in
-    let depth = number_held deep (λ k. nat_lt 0 (address_bits_of k)) Depth (λ k. None) deep_none in
+    let depth = number_held deep (λ k. nat_lt 0 (address_bits_of k)) Depth (λ k. None) (λ t. small_depth (value_of deep) t) deep_none in
     let b = address_bits_of (value_of deep) in
     let found = bits_found (value_of deep) depth.1 in
     let ended = fixed_walked memory rest (codes "];\n") (Form.whole (memory_with w b)) closing deep_walked in

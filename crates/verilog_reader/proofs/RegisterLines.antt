@@ -7,7 +7,7 @@ use Rattle.netlist.specs.Netlists.{Netlist, IsModule, is_register}
 use Rattle.verilog_writer.specs.Text.{register_line, net_line}
 use Rattle.verilog_reader.specs.declared.rule.Rule.TheVariants.{Width, Spelling}
 use Rattle.verilog_reader.specs.Forms.{Form, fixed, Due, Reads}
-use Rattle.verilog_reader.specs.RightSides.{value_of, is_number}
+use Rattle.verilog_reader.specs.RightSides.{same_bytes, value_of}
 use Rattle.verilog_reader.specs.WireLines.{high_test, number_test, named_form}
 use Rattle.verilog_reader.specs.RegisterLines.{untold, register_form}
 use Rattle.verilog_reader.proofs.Lines.{register_shape, net_register}
@@ -20,7 +20,7 @@ register_due : (n w : ℕ) (rest : List ℕ) → n < 2 ^ 64 → 1 ≤ w → w �
 register_due n w rest few some small =
     let due = Form.whole (untold n w) in
     let last : Due due rest (fixed (codes ";\n") due) (codes ";\n") = fixed_due due rest (codes ";\n") _ [] Due.nothing in
-    let number = numbered_due due rest (number_test n) (λ k. fixed (codes ";\n") due) n (codes ";\n") few refl (number_test_passes n few) last in
+    let number = numbered_due due rest (number_test n) (λ k. fixed (codes ";\n") due) n (codes ";\n") few refl (number_test_passes n) last in
     let spelled = codes " n" ++ (decimal n ++ codes ";\n") in
     let make = λ (v : ℕ). (fixed (codes " ") (named_form n (fixed (codes ";\n") (Form.whole (untold n v))))) in
     let named : Due due rest (make w) spelled = fixed_due due rest (codes " n") (Form.hole (number_test n) (λ run. fixed (codes ";\n") due)) (decimal n ++ codes ";\n") number in
@@ -45,16 +45,15 @@ pub register_sound : (n : ℕ) (line : Line) (text rest : List ℕ) → Reads (r
 register_sound n line text rest r =
     let begun = fixed_walked line rest (codes "  reg [") _ r.front r.good in
     let (run, left, parts, none, walked, run_ends) = inverted line refl begun.2 in
-    let high = number_held run (λ k. nat_lt k 128) Width (λ k. None) none in
+    let high = number_held run (λ k. nat_lt k 128) Width (λ k. None) (λ t. omega (arith, ltb-true (value_of run) 128 t)) none in
     let w = value_of run + 1 in
     let some : 1 ≤ w = omega arith in
     let below : value_of run < 128 = ltb-true (value_of run) 128 high.1 in
     let small : w ≤ 128 = omega (arith, below) in
     let named = fixed_walked line rest (codes ":0] n") (Form.hole (number_test n) (λ r. fixed (codes ";\n") (Form.whole (untold n w)))) left walked in
     let (name, behind, name_parts, name_none, name_walked, name_ends) = inverted line refl named.2 in
-    let held = unless_held (is_number name && value_of name == n) Spelling None name_none in
-    let both = and_parts (is_number name) (value_of name == n) held.0 in
-    let is_n : name ≡ decimal n = same_equal name (decimal (value_of name)) both.0 ∙ ap (λ (k : ℕ). decimal k) (eqb-true (value_of name) n both.1) in
+    let held = unless_held (same_bytes name (decimal n)) Spelling None name_none in
+    let is_n : name ≡ decimal n = same_equal name (decimal n) held.0 in
     let ended = fixed_walked line rest (codes ";\n") (Form.whole (untold n w)) behind name_walked in
     let last = inverted line refl ended.2 in
     let one : w - 1 ≡ value_of run = omega arith in

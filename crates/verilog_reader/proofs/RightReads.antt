@@ -1,15 +1,15 @@
 -- A sound right side is read.
-use Rattle.std.proofs.Common.{◌≡◌, ℕ, zero, suc, ◌+◌, ◌/◌, ◌==◌, ◌<◌, ◌≤◌, ◌^◌, ◌&&◌, ◌||◌, ◌%◌, inl, inr, Bool, true, false, List, [], ◌∷◌, ◌++◌, length, slice_get, Option, Some, None, refl, sym, ap, subst, ◌∙◌, arith, codes, decimal, append_assoc}
+use Rattle.std.proofs.Common.{◌≡◌, ◌≢◌, ℕ, zero, suc, ◌+◌, ◌/◌, ◌==◌, ◌<◌, ◌≤◌, ◌^◌, ◌&&◌, ◌||◌, ◌%◌, inl, inr, Bool, true, false, not, List, [], ◌∷◌, ◌++◌, length, get_or, slice_get, Option, Some, None, refl, sym, ap, subst, ◌∙◌, arith, codes, decimal, append_assoc}
 use Rattle.std.specs.Prelude.{nat_lt}
 use Rattle.std.specs.List.{list_all}
 use Rattle.std.specs.Char.{digit_value}
 use Rattle.std.specs.Int.{is_in_range}
 use Rattle.std.specs.Str.Parse.{digits_value}
-use Rattle.std.proofs.lemmas.Bool.{eq-eqb, lt-ltb, le-ltb, le-leb, ltb-true, and_parts, cases_lt}
+use Rattle.std.proofs.lemmas.Bool.{eq-eqb, ne_eqb, lt-ltb, le-ltb, le-leb, ltb-true, and_parts, cases_lt}
 use Rattle.std.proofs.lemmas.List.{append-nil}
 use Rattle.std.proofs.lemmas.List.Folds.{list_all-append}
 use Rattle.std.proofs.lemmas.Str.Parse.{digit_from_value}
-use Rattle.std.proofs.lemmas.Fmt.{decimal_is_IsNumeral}
+use Rattle.std.proofs.lemmas.Fmt.{decimal_is_IsNumeral, decimal_digit, decimal_nonempty, first_decimal}
 use Rattle.std.proofs.lemmas.Option.{slice_get_within}
 use Rattle.av_base.specs.Word.{IsWord}
 use Rattle.netlist.specs.declared.line.Equation.{Equation}
@@ -22,7 +22,7 @@ use Rattle.verilog_writer.specs.Text.{hex_digit, hex_digits, net_name, memory_na
 use Rattle.verilog_reader.specs.declared.rule.Rule.{Rule}
 use Rattle.verilog_reader.specs.declared.rule.Rule.TheVariants.{Width, Spelling, NotThere, Bounds}
 use Rattle.verilog_reader.specs.Forms.{is_hole_byte, next, Form, fixed, ends_hole, IsHole, Due, Reads}
-use Rattle.verilog_reader.specs.RightSides.{unless, guarded, same_bytes, value_of, is_number, net_of, is_net, or_zero, width_of, fit_any, operand_test, operand, second, choice_form, sign_form, behind_form, constant_form, is_constant, words_of, bits_of, memory_test, begun_form, right_form, Here}
+use Rattle.verilog_reader.specs.RightSides.{unless, guarded, same_bytes, value_of, well_led, is_number, net_of, is_net, or_zero, width_of, fit_any, operand_test, operand, second, choice_form, sign_form, behind_form, constant_form, is_constant, words_of, bits_of, memory_test, begun_form, right_form, Here}
 use Rattle.verilog_reader.proofs.Nets.{width_at-line}
 use Rattle.verilog_reader.proofs.Cuts.{first, digit, decimal_passes}
 use Rattle.verilog_reader.proofs.Rights.{hex_value, width_fits, first_digit}
@@ -81,11 +81,18 @@ net_hole n behind h ends = record { bytes = digits_in_hole (decimal n) (decimal_
 pub value-decimal : (n : ℕ) → n < 2 ^ 64 → value_of (decimal n) ≡ n
 value-decimal n h = (decimal_is_IsNumeral n h).1
 
+-- digits that don't begin with a zero
+plain_number : (ds : List ℕ) → list_all digit ds ≡ true → 0 < length ds → get_or ds 0 0 ≢ 48 → is_number ds ≡ true
+plain_number [] all some lead = absurd (omega arith)
+plain_number (d ∷ ds) all some lead = ap (λ (t : Bool). t && well_led (d ∷ ds)) all ∙ ap (λ (t : Bool). not t || same_bytes ds []) (ne_eqb d 48 lead)
+
 pub number_is : (n : ℕ) → n < 2 ^ 64 → is_number (decimal n) ≡ true
-number_is n h = ap (λ (m : ℕ). same_bytes (decimal n) (decimal m)) (value-decimal n h) ∙ same-refl (decimal n)
+number_is zero h = let e : decimal 0 ≡ 48 ∷ [] = decimal_digit 0 (omega arith) in ap is_number e
+number_is (suc n) h =
+    plain_number (decimal (suc n)) (decimal_passes (suc n) h) (decimal_nonempty (suc n) h) (λ z. omega (arith, first_decimal (suc n) (omega arith) h, z))
 
 pub net_is : (n : ℕ) → n < 2 ^ 64 → is_net (net_name n) ≡ true
-net_is n h = ap (λ (m : ℕ). same_bytes (net_name n) (net_name m)) (value-decimal n h) ∙ same-refl (net_name n)
+net_is n h = number_is n h
 
 width_is : (lines : List Line) (a w : ℕ) → width_at lines a ≡ Some w → width_of lines a ≡ w
 width_is lines a w e = ap or_zero e

@@ -1,10 +1,13 @@
 -- What is read is a sound right side.
-use Rattle.std.proofs.Common.{◌≡◌, ℕ, ◌+◌, ◌/◌, ◌==◌, ◌<◌, ◌≤◌, ◌^◌, cond, inl, inr, ◌⊎◌, Bool, true, false, List, [], ◌∷◌, ◌++◌, length, slice_get, Option, Some, None, refl, sym, ap, subst, ◌∙◌, arith, codes, decimal, append_assoc}
+use Rattle.std.proofs.Common.{◌≡◌, ℕ, ◌+◌, ◌/◌, ◌==◌, ◌<◌, ◌≤◌, ◌^◌, ◌||◌, cond, inl, inr, ◌⊎◌, Bool, true, false, not, List, [], ◌∷◌, ◌++◌, length, slice_get, Option, Some, None, refl, sym, ap, subst, ◌∙◌, arith, codes, decimal, append_assoc}
 use Rattle.std.specs.Prelude.{nat_lt}
+use Rattle.std.specs.List.{list_all}
 use Rattle.std.specs.Char.{is_digit}
-use Rattle.std.specs.Str.Parse.{digits_value}
-use Rattle.std.proofs.lemmas.Bool.{eqb-true, ltb-true, and_parts}
+use Rattle.std.specs.Str.Parse.{AllDigits, digits_value}
+use Rattle.std.proofs.lemmas.Bool.{eq-eqb, eqb-true, ltb-true, and_parts}
 use Rattle.std.proofs.lemmas.List.{append-nil}
+use Rattle.std.proofs.lemmas.Fmt.{decimal-digits_value}
+use Rattle.std.proofs.lemmas.Str.Parse.{numerals_by_value, tells_digits}
 use Rattle.std.proofs.lemmas.Option.{none-some}
 use Rattle.netlist.specs.declared.line.Equation.{Equation}
 use Rattle.netlist.specs.declared.line.Equation.TheVariants.{Constant, And, Or, Xor, Add, Sub, Eq, Less, Concat, Not, Any, Mux, Read}
@@ -18,7 +21,8 @@ use Rattle.verilog_writer.specs.Text.{hex_digits, net_name, memory_name, infix_t
 use Rattle.verilog_reader.specs.declared.rule.Rule.{Rule}
 use Rattle.verilog_reader.specs.declared.rule.Rule.TheVariants.{Width, Spelling, NotThere, Bounds}
 use Rattle.verilog_reader.specs.Forms.{next, Form, fixed, IsHole, Due, Reads}
-use Rattle.verilog_reader.specs.RightSides.{unless, guarded, same_bytes, value_of, is_number, net_of, is_net, width_of, fit_any, operand, second, choice_form, sign_form, slice_form, behind_form, constant_form, is_constant, words_of, bits_of, read_form, concat_form, begun_form, right_form, IsRightSide}
+use Rattle.verilog_reader.specs.RightSides.{unless, guarded, same_bytes, value_of, well_led, is_number, net_of, is_net, width_of, fit_any, operand, second, choice_form, sign_form, slice_form, behind_form, constant_form, is_constant, words_of, bits_of, read_form, concat_form, begun_form, right_form, Here, IsRightSide}
+use Rattle.verilog_reader.proofs.Cuts.{digit, all_digits}
 use Rattle.verilog_reader.proofs.Lines.{true_false}
 
 -- what a form that was walked whole says, by its kind
@@ -55,6 +59,24 @@ same_equal (c ∷ cs) (d ∷ ds) h =
     let parts = and_parts (c == d) (same_bytes cs ds) h in
     ap (λ (b : ℕ). b ∷ cs) (eqb-true c d parts.0) ∙ ap (λ (bs : List ℕ). d ∷ bs) (same_equal cs ds parts.1)
 
+alone : (d : ℕ) (ds : List ℕ) → (not (d == 48) || same_bytes ds []) ≡ true → d ≡ 48 → length (d ∷ ds) ≡ 1
+alone d ds h z =
+    let none : same_bytes ds [] ≡ true = sym (ap (λ (t : Bool). not t || same_bytes ds []) (eq-eqb d 48 z)) ∙ h in
+    ap (λ (t : List ℕ). length (d ∷ t)) (same_equal ds [] none)
+
+-- a number is spelled in one way
+pub number_spelled : (run : List ℕ) → is_number run ≡ true → value_of run < 2 ^ 64 → run ≡ decimal (value_of run)
+number_spelled [] h small = absurd (true_false (sym h))
+number_spelled (d ∷ ds) h small =
+    let parts = and_parts (list_all digit (d ∷ ds)) (well_led (d ∷ ds)) h in
+    sym (decimal-digits_value (numerals_by_value (AllDigits 10) tells_digits) (d ∷ ds) (all_digits (d ∷ ds) parts.0) (omega arith) (alone d ds parts.1) small)
+
+pub net_spelled : (run : List ℕ) → is_net run ≡ true → net_of run < 2 ^ 64 → run ≡ net_name (net_of run)
+net_spelled [] h small = absurd (true_false (sym h))
+net_spelled (c ∷ run) h small =
+    let parts = and_parts (c == 110) (is_number run) h in
+    ap (λ (b : ℕ). b ∷ run) (eqb-true c 110 parts.0) ∙ ap (λ (t : List ℕ). 110 ∷ t) (number_spelled run parts.1 small)
+
 guarded_walked : (e : Equation) (rest : List ℕ) (t : Bool) (rule : Rule) (form : Form Equation) (front : List ℕ) → Walked e rest (guarded t rule form) front → (t ≡ true) × Walked e rest form front
 guarded_walked e rest true rule form front d = (refl, d)
 guarded_walked e rest false rule form front d = absurd (inverted e refl d)
@@ -81,8 +103,8 @@ pub record OperandRead {A : Type 0} (lines : List Line) (n : ℕ) (fits : ℕ �
 width_there : (lines : List Line) (a : ℕ) → a < length lines → width_at lines a ≡ Some (width_of lines a)
 width_there lines a h = let found = slice_get-some lines a h in rw found.1 refl
 
-pub operand_walked : {A : Type 0} (lines : List Line) (n : ℕ) (fits : ℕ → Bool) (form : ℕ → Form A) (e : A) (rest front : List ℕ) → n ≤ length lines → Walked e rest (operand lines n fits form) front → OperandRead lines n fits form e rest front
-operand_walked lines n fits form e rest front room d =
+pub operand_walked : {A : Type 0} (lines : List Line) (n : ℕ) (fits : ℕ → Bool) (form : ℕ → Form A) (e : A) (rest front : List ℕ) → n < 2 ^ 64 → n ≤ length lines → Walked e rest (operand lines n fits form) front → OperandRead lines n fits form e rest front
+operand_walked lines n fits form e rest front few room d =
     let (run, later, parts, none, walked, ends) = inverted e refl d in
     let spelled = unless_held (is_net run) Spelling _ none in
     let below = unless_held (nat_lt (net_of run) n) NotThere _ spelled.1 in
@@ -91,7 +113,7 @@ operand_walked lines n fits form e rest front room d =
     record {
       net = net_of run;
       later = later;
-      spelled = parts ∙ ap (λ (t : List ℕ). t ++ later) (same_equal run (net_name (net_of run)) spelled.0);
+      spelled = parts ∙ ap (λ (t : List ℕ). t ++ later) (net_spelled run spelled.0 (omega (arith, low, few)));
       is = record { below = low; width = width_there lines (net_of run) (omega (arith, low, room)) };
       fit = fit.0;
       walked = walked;
@@ -112,36 +134,36 @@ ended : (front later : List ℕ) (a : ℕ) → front ≡ net_name a ++ later →
 ended front later a e f = e ∙ ap (λ (t : List ℕ). net_name a ++ t) f ∙ append-nil (net_name a)
 
 -- an operator and its second operand
-second_walked : (lines : List Line) (n : ℕ) (op : List ℕ) (fits : ℕ → Bool) (make : ℕ → Equation) (e : Equation) (rest front : List ℕ) → n ≤ length lines → Walked e rest (second lines n op fits make) front
+second_walked : (lines : List Line) (n : ℕ) (op : List ℕ) (fits : ℕ → Bool) (make : ℕ → Equation) (e : Equation) (rest front : List ℕ) → n < 2 ^ 64 → n ≤ length lines → Walked e rest (second lines n op fits make) front
     → (b : ℕ) × (front ≡ op ++ net_name b) × IsOperand lines n b (width_of lines b) × (fits (width_of lines b) ≡ true) × (make b ≡ e)
-second_walked lines n op fits make e rest front room d =
+second_walked lines n op fits make e rest front few room d =
     let sign = fixed_walked e rest op _ front d in
-    let o = operand_walked lines n fits (λ m. Form.whole (make m)) e rest sign.0 room sign.2 in
+    let o = operand_walked lines n fits (λ m. Form.whole (make m)) e rest sign.0 few room sign.2 in
     let last = inverted e refl o.walked in
     (o.net, sign.1 ∙ ap (λ (t : List ℕ). op ++ t) (ended sign.0 o.later o.net o.spelled last.1), o.is, o.fit, last.0)
 
-not_walked : (ports : List PortLine) (memories : List Memory) (lines : List Line) (n w : ℕ) (e : Equation) (rest front : List ℕ) → n ≤ length lines
+not_walked : (ports : List PortLine) (memories : List Memory) (lines : List Line) (n w : ℕ) (e : Equation) (rest front : List ℕ) → Here memories lines n w
     → Walked e rest (Form.byte 126 (operand lines n (λ v. v == w) (λ a. Form.whole (Not a)))) front → Side ports memories lines n w e front
-not_walked ports memories lines n w e rest front room d =
-    let s = second_walked lines n (126 ∷ []) (λ v. v == w) Not e rest front room d in
+not_walked ports memories lines n w e rest front at d =
+    let s = second_walked lines n (126 ∷ []) (λ v. v == w) Not e rest front at.few at.room d in
     subst (λ (x : Equation). Side ports memories lines n w x front) s.4 (record { spelled = s.1; sound = record { sound = wide lines n s.0 w s.2 s.3; no_input = refl; no_register = refl } })
 
-any_walked : (ports : List PortLine) (memories : List Memory) (lines : List Line) (n w : ℕ) (e : Equation) (rest front : List ℕ) → n ≤ length lines
+any_walked : (ports : List PortLine) (memories : List Memory) (lines : List Line) (n w : ℕ) (e : Equation) (rest front : List ℕ) → Here memories lines n w
     → Walked e rest (guarded (w == 1) Width (Form.byte 124 (operand lines n fit_any (λ a. Form.whole (Any a))))) front → Side ports memories lines n w e front
-any_walked ports memories lines n w e rest front room d =
+any_walked ports memories lines n w e rest front at d =
     let g = guarded_walked e rest (w == 1) Width _ front d in
-    let s = second_walked lines n (124 ∷ []) fit_any Any e rest front room g.1 in
+    let s = second_walked lines n (124 ∷ []) fit_any Any e rest front at.few at.room g.1 in
     subst (λ (x : Equation). Side ports memories lines n w x front) s.4 (record { spelled = s.1; sound = record { sound = record { width = width_of lines s.0; operand = s.2; one_bit = eqb-true w 1 g.0 }; no_input = refl; no_register = refl } })
 
 together : (a b c d e : List ℕ) → a ++ b ++ c ++ d ++ e ≡ a ++ (b ++ (c ++ (d ++ e)))
 together a b c d e = simp append_assoc
 
-concat_walked : (ports : List PortLine) (memories : List Memory) (lines : List Line) (n w : ℕ) (e : Equation) (rest front : List ℕ) → n ≤ length lines → Walked e rest (concat_form lines n w) front → Side ports memories lines n w e front
-concat_walked ports memories lines n w e rest front room d =
+concat_walked : (ports : List PortLine) (memories : List Memory) (lines : List Line) (n w : ℕ) (e : Equation) (rest front : List ℕ) → Here memories lines n w → Walked e rest (concat_form lines n w) front → Side ports memories lines n w e front
+concat_walked ports memories lines n w e rest front at d =
     let opened = inverted e refl d in
-    let a = operand_walked lines n fit_any (λ x. fixed (codes ", ") (operand lines n (λ v. width_of lines x + v == w) (λ b. Form.byte 125 (Form.whole (Concat x b))))) e rest opened.0 room opened.2 in
+    let a = operand_walked lines n fit_any (λ x. fixed (codes ", ") (operand lines n (λ v. width_of lines x + v == w) (λ b. Form.byte 125 (Form.whole (Concat x b))))) e rest opened.0 at.few at.room opened.2 in
     let comma = fixed_walked e rest (codes ", ") _ a.later a.walked in
-    let b = operand_walked lines n (λ v. width_of lines a.net + v == w) (λ m. Form.byte 125 (Form.whole (Concat a.net m))) e rest comma.0 room comma.2 in
+    let b = operand_walked lines n (λ v. width_of lines a.net + v == w) (λ m. Form.byte 125 (Form.whole (Concat a.net m))) e rest comma.0 at.few at.room comma.2 in
     let close = inverted e refl b.walked in
     let last = inverted e refl close.2 in
     let text : front ≡ 123 ∷ (net_name a.net ++ (codes ", " ++ (net_name b.net ++ (125 ∷ [])))) =
@@ -164,12 +186,12 @@ infix_whole : (a o b : List ℕ) → a ++ (32 ∷ ((o ++ (32 ∷ [])) ++ b)) ≡
 infix_whole a o b = simp append_assoc
 
 -- an operator between two nets of the net's width
-same_walked : (ports : List PortLine) (memories : List Memory) (lines : List Line) (n w a s : ℕ) (make : ℕ → Equation) (e : Equation) (rest front : List ℕ) → n ≤ length lines → IsOperand lines n a (width_of lines a)
+same_walked : (ports : List PortLine) (memories : List Memory) (lines : List Line) (n w a s : ℕ) (make : ℕ → Equation) (e : Equation) (rest front : List ℕ) → Here memories lines n w → IsOperand lines n a (width_of lines a)
     → ((b : ℕ) → AreOperands lines n a b w → IsRightSide ports memories lines n w (make b)) → ((b : ℕ) → right_text ports (make b) ≡ infix_text a (s ∷ []) b)
     → Walked e rest (guarded (width_of lines a == w) Width (second lines n (s ∷ codes " ") (λ u. u == w) make)) front → Sign ports memories lines n w a e front
-same_walked ports memories lines n w a s make e rest front room o sound text d =
+same_walked ports memories lines n w a s make e rest front at o sound text d =
     let g = guarded_walked e rest (width_of lines a == w) Width _ front d in
-    let b = second_walked lines n (s ∷ codes " ") (λ u. u == w) make e rest front room g.1 in
+    let b = second_walked lines n (s ∷ codes " ") (λ u. u == w) make e rest front at.few at.room g.1 in
     subst (λ (x : Equation). Sign ports memories lines n w a x front) b.4 (record {
       op = s ∷ codes " ";
       b = b.0;
@@ -179,12 +201,12 @@ same_walked ports memories lines n w a s make e rest front room o sound text d =
     })
 
 -- and between two nets that are compared
-compared_walked : (ports : List PortLine) (memories : List Memory) (lines : List Line) (n w a s : ℕ) (op : List ℕ) (make : ℕ → Equation) (e : Equation) (rest front : List ℕ) → n ≤ length lines → IsOperand lines n a (width_of lines a)
+compared_walked : (ports : List PortLine) (memories : List Memory) (lines : List Line) (n w a s : ℕ) (op : List ℕ) (make : ℕ → Equation) (e : Equation) (rest front : List ℕ) → Here memories lines n w → IsOperand lines n a (width_of lines a)
     → ((b : ℕ) → IsComparison lines n w a b → IsRightSide ports memories lines n w (make b)) → ((b : ℕ) → right_text ports (make b) ≡ infix_text a (s ∷ op) b)
     → Walked e rest (guarded (w == 1) Width (second lines n (s ∷ (op ++ codes " ")) (λ u. u == width_of lines a) make)) front → Sign ports memories lines n w a e front
-compared_walked ports memories lines n w a s op make e rest front room o sound text d =
+compared_walked ports memories lines n w a s op make e rest front at o sound text d =
     let g = guarded_walked e rest (w == 1) Width _ front d in
-    let b = second_walked lines n (s ∷ (op ++ codes " ")) (λ u. u == width_of lines a) make e rest front room g.1 in
+    let b = second_walked lines n (s ∷ (op ++ codes " ")) (λ u. u == width_of lines a) make e rest front at.few at.room g.1 in
     subst (λ (x : Equation). Sign ports memories lines n w a x front) b.4 (record {
       op = s ∷ (op ++ codes " ");
       b = b.0;
@@ -196,13 +218,13 @@ compared_walked ports memories lines n w a s op make e rest front room o sound t
 choice_whole : (s q a c b : List ℕ) → s ++ (32 ∷ ((q ++ (a ++ c)) ++ b)) ≡ s ++ (32 ∷ q) ++ a ++ c ++ b
 choice_whole s q a c b = simp append_assoc
 
-choice_walked : (ports : List PortLine) (memories : List Memory) (lines : List Line) (n w s : ℕ) (e : Equation) (rest front : List ℕ) → n ≤ length lines → IsOperand lines n s (width_of lines s)
+choice_walked : (ports : List PortLine) (memories : List Memory) (lines : List Line) (n w s : ℕ) (e : Equation) (rest front : List ℕ) → Here memories lines n w → IsOperand lines n s (width_of lines s)
     → Walked e rest (guarded (width_of lines s == 1) Width (choice_form lines n w s)) front → Sign ports memories lines n w s e front
-choice_walked ports memories lines n w s e rest front room o d =
+choice_walked ports memories lines n w s e rest front at o d =
     let g = guarded_walked e rest (width_of lines s == 1) Width _ front d in
     let q = fixed_walked e rest (codes "? ") _ front g.1 in
-    let a = operand_walked lines n (λ v. v == w) (λ x. fixed (codes " : ") (operand lines n (λ v. v == w) (λ b. Form.whole (Mux s x b)))) e rest q.0 room q.2 in
-    let b = second_walked lines n (codes " : ") (λ v. v == w) (Mux s a.net) e rest a.later room a.walked in
+    let a = operand_walked lines n (λ v. v == w) (λ x. fixed (codes " : ") (operand lines n (λ v. v == w) (λ b. Form.whole (Mux s x b)))) e rest q.0 at.few at.room q.2 in
+    let b = second_walked lines n (codes " : ") (λ v. v == w) (Mux s a.net) e rest a.later at.few at.room a.walked in
     let op = codes "? " ++ (net_name a.net ++ codes " : ") in
     let text : front ≡ codes "? " ++ (net_name a.net ++ (codes " : " ++ net_name b.0)) = q.1 ∙ ap (λ (t : List ℕ). codes "? " ++ t) (a.spelled ∙ ap (λ (t : List ℕ). net_name a.net ++ t) b.1) in
     let grouped : codes "? " ++ (net_name a.net ++ (codes " : " ++ net_name b.0)) ≡ op ++ net_name b.0 = ap (λ (t : List ℕ). codes "? " ++ t) (sym (append_assoc (net_name a.net) (codes " : ") (net_name b.0))) in
@@ -214,26 +236,26 @@ choice_walked ports memories lines n w s e rest front room o d =
       sound = record { sound = record { test = wide lines n s 1 o g.0; branches = record { left = wide lines n a.net w a.is a.fit; right = wide lines n b.0 w b.2 b.3 } }; no_input = refl; no_register = refl };
     })
 
-sign_walked : (ports : List PortLine) (memories : List Memory) (lines : List Line) (n w a : ℕ) (e : Equation) (rest front : List ℕ) (o : Option ℕ) → n ≤ length lines → IsOperand lines n a (width_of lines a)
+sign_walked : (ports : List PortLine) (memories : List Memory) (lines : List Line) (n w a : ℕ) (e : Equation) (rest front : List ℕ) (o : Option ℕ) → Here memories lines n w → IsOperand lines n a (width_of lines a)
     → Walked e rest (sign_form lines n w a o) front → Sign ports memories lines n w a e front
-sign_walked ports memories lines n w a e rest front None room is d = absurd (inverted e refl d)
-sign_walked ports memories lines n w a e rest front (Some s) room is d =
+sign_walked ports memories lines n w a e rest front None at is d = absurd (inverted e refl d)
+sign_walked ports memories lines n w a e rest front (Some s) at is d =
     elim (cond_walked e rest (s == 38) _ _ front d) [
-      | inl x ↦ same_walked ports memories lines n w a 38 (And a) e rest front room is (λ b h. (record { sound = h; no_input = refl; no_register = refl })) (λ b. refl) x
+      | inl x ↦ same_walked ports memories lines n w a 38 (And a) e rest front at is (λ b h. (record { sound = h; no_input = refl; no_register = refl })) (λ b. refl) x
       | inr d ↦ elim (cond_walked e rest (s == 124) _ _ front d) [
-        | inl x ↦ same_walked ports memories lines n w a 124 (Or a) e rest front room is (λ b h. (record { sound = h; no_input = refl; no_register = refl })) (λ b. refl) x
+        | inl x ↦ same_walked ports memories lines n w a 124 (Or a) e rest front at is (λ b h. (record { sound = h; no_input = refl; no_register = refl })) (λ b. refl) x
         | inr d ↦ elim (cond_walked e rest (s == 94) _ _ front d) [
-          | inl x ↦ same_walked ports memories lines n w a 94 (Xor a) e rest front room is (λ b h. (record { sound = h; no_input = refl; no_register = refl })) (λ b. refl) x
+          | inl x ↦ same_walked ports memories lines n w a 94 (Xor a) e rest front at is (λ b h. (record { sound = h; no_input = refl; no_register = refl })) (λ b. refl) x
           | inr d ↦ elim (cond_walked e rest (s == 43) _ _ front d) [
-            | inl x ↦ same_walked ports memories lines n w a 43 (Add a) e rest front room is (λ b h. (record { sound = h; no_input = refl; no_register = refl })) (λ b. refl) x
+            | inl x ↦ same_walked ports memories lines n w a 43 (Add a) e rest front at is (λ b h. (record { sound = h; no_input = refl; no_register = refl })) (λ b. refl) x
             | inr d ↦ elim (cond_walked e rest (s == 45) _ _ front d) [
-              | inl x ↦ same_walked ports memories lines n w a 45 (Sub a) e rest front room is (λ b h. (record { sound = h; no_input = refl; no_register = refl })) (λ b. refl) x
+              | inl x ↦ same_walked ports memories lines n w a 45 (Sub a) e rest front at is (λ b h. (record { sound = h; no_input = refl; no_register = refl })) (λ b. refl) x
               | inr d ↦ elim (cond_walked e rest (s == 61) _ _ front d) [
-                | inl x ↦ compared_walked ports memories lines n w a 61 (61 ∷ []) (Eq a) e rest front room is (λ b h. (record { sound = h; no_input = refl; no_register = refl })) (λ b. refl) x
+                | inl x ↦ compared_walked ports memories lines n w a 61 (61 ∷ []) (Eq a) e rest front at is (λ b h. (record { sound = h; no_input = refl; no_register = refl })) (λ b. refl) x
                 | inr d ↦ elim (cond_walked e rest (s == 60) _ _ front d) [
-                  | inl x ↦ compared_walked ports memories lines n w a 60 [] (Less a) e rest front room is (λ b h. (record { sound = h; no_input = refl; no_register = refl })) (λ b. refl) x
+                  | inl x ↦ compared_walked ports memories lines n w a 60 [] (Less a) e rest front at is (λ b h. (record { sound = h; no_input = refl; no_register = refl })) (λ b. refl) x
                   | inr d ↦ elim (cond_walked e rest (s == 63) _ _ front d) [
-                    | inl x ↦ choice_walked ports memories lines n w a e rest front room is x
+                    | inl x ↦ choice_walked ports memories lines n w a e rest front at is x
                     | inr d ↦ absurd (inverted e refl d)
                   ]
                 ]
@@ -250,31 +272,33 @@ pub record Tail (ports : List PortLine) (memories : List Memory) (lines : List L
   pub whole : net_name a ++ front ≡ right_text ports e
   pub sound : IsRightSide ports memories lines n w e
 
-pub number_held : (run : List ℕ) (t : ℕ → Bool) (rule : Rule) (later : ℕ → Option Rule) → unless (is_number run) Spelling (unless (t (value_of run)) rule (later (value_of run))) ≡ None
+pub number_held : (run : List ℕ) (t : ℕ → Bool) (rule : Rule) (later : ℕ → Option Rule) → (t (value_of run) ≡ true → value_of run < 2 ^ 64) → unless (is_number run) Spelling (unless (t (value_of run)) rule (later (value_of run))) ≡ None
     → (run ≡ decimal (value_of run)) × (t (value_of run) ≡ true) × (later (value_of run) ≡ None)
-number_held run t rule later none =
+number_held run t rule later few none =
     let spelled = unless_held (is_number run) Spelling _ none in
     let fits = unless_held (t (value_of run)) rule _ spelled.1 in
-    (same_equal run (decimal (value_of run)) spelled.0, fits.0, fits.1)
+    (number_spelled run spelled.0 (few fits.0), fits.0, fits.1)
 
 slice_whole : (a o h c l e : List ℕ) → a ++ (o ++ (h ++ (c ++ (l ++ e)))) ≡ a ++ o ++ h ++ c ++ l ++ e
 slice_whole a o h c l e = simp append_assoc
 
-slice_walked : (ports : List PortLine) (memories : List Memory) (lines : List Line) (n w a : ℕ) (e : Equation) (rest front : List ℕ) → 1 ≤ w → IsOperand lines n a (width_of lines a)
+slice_walked : (ports : List PortLine) (memories : List Memory) (lines : List Line) (n w a : ℕ) (e : Equation) (rest front : List ℕ) → Here memories lines n w → IsOperand lines n a (width_of lines a)
     → Walked e rest (slice_form lines w a) front → Tail ports memories lines n w a e front
-slice_walked ports memories lines n w a e rest front some o d =
+slice_walked ports memories lines n w a e rest front at o d =
+    let some = at.some_bit in
+    let narrow = at.small a (width_of lines a) o.width in
     let opened = inverted e refl d in
     let (high_run, high_later, high_parts, high_none, high_walked, high_ends) = inverted e refl opened.2 in
-    let high = number_held high_run (λ m. nat_lt m (width_of lines a)) Bounds (λ m. None) high_none in
+    let high = number_held high_run (λ m. nat_lt m (width_of lines a)) Bounds (λ m. None) (λ t. omega (arith, ltb-true (value_of high_run) (width_of lines a) t, narrow)) high_none in
     let colon = inverted e refl high_walked in
     let (low_run, low_later, low_parts, low_none, low_walked, low_ends) = inverted e refl colon.2 in
-    let low = number_held low_run (λ m. m + w == value_of high_run + 1) Bounds (λ m. None) low_none in
+    let inside : value_of high_run < width_of lines a = ltb-true (value_of high_run) (width_of lines a) high.1 in
+    let low = number_held low_run (λ m. m + w == value_of high_run + 1) Bounds (λ m. None) (λ t. omega (arith, eqb-true (value_of low_run + w) (value_of high_run + 1) t, inside, narrow)) low_none in
     let closed = inverted e refl low_walked in
     let last = inverted e refl closed.2 in
     let h = value_of high_run in
     let l = value_of low_run in
     let count : l + w ≡ h + 1 = eqb-true (l + w) (h + 1) low.1 in
-    let inside : h < width_of lines a = ltb-true h (width_of lines a) high.1 in
     let end : low_later ≡ 93 ∷ [] = closed.1 ∙ ap (λ (t : List ℕ). 93 ∷ t) last.1 in
     let lower : colon.0 ≡ decimal l ++ (93 ∷ []) = low_parts ∙ ap (λ (t : List ℕ). t ++ low_later) low.0 ∙ ap (λ (t : List ℕ). decimal l ++ t) end in
     let upper : opened.0 ≡ decimal h ++ (58 ∷ (decimal l ++ (93 ∷ []))) = high_parts ∙ ap (λ (t : List ℕ). t ++ high_later) high.0 ∙ ap (λ (t : List ℕ). decimal h ++ t) (colon.1 ∙ ap (λ (t : List ℕ). 58 ∷ t) lower) in
@@ -284,24 +308,24 @@ slice_walked ports memories lines n w a e rest front some o d =
       sound = record { sound = record { width = width_of lines a; operand = o; order = omega (arith, count, some); inside = inside; bits = omega (arith, count, some) }; no_input = refl; no_register = refl };
     })
 
-behind_walked : (ports : List PortLine) (memories : List Memory) (lines : List Line) (n w a : ℕ) (e : Equation) (rest front : List ℕ) (o : Option ℕ) → n ≤ length lines → 1 ≤ w → IsOperand lines n a (width_of lines a)
+behind_walked : (ports : List PortLine) (memories : List Memory) (lines : List Line) (n w a : ℕ) (e : Equation) (rest front : List ℕ) (o : Option ℕ) → Here memories lines n w → IsOperand lines n a (width_of lines a)
     → Walked e rest (behind_form lines n w a o) front → Tail ports memories lines n w a e front
-behind_walked ports memories lines n w a e rest front None room some is d = absurd (inverted e refl d)
-behind_walked ports memories lines n w a e rest front (Some b) room some is d =
+behind_walked ports memories lines n w a e rest front None at is d = absurd (inverted e refl d)
+behind_walked ports memories lines n w a e rest front (Some b) at is d =
     elim (cond_walked e rest (b == 91) _ _ front d) [
-      | inl x ↦ slice_walked ports memories lines n w a e rest front some is x
+      | inl x ↦ slice_walked ports memories lines n w a e rest front at is x
       | inr d ↦
           let blank = inverted e refl d in
           let turned = inverted e refl blank.2 in
-          let sign = sign_walked ports memories lines n w a e rest blank.0 (next (blank.0 ++ rest)) room is turned in
+          let sign = sign_walked ports memories lines n w a e rest blank.0 (next (blank.0 ++ rest)) at is turned in
           record { whole = ap (λ (t : List ℕ). net_name a ++ t) (blank.1 ∙ ap (λ (t : List ℕ). 32 ∷ t) sign.spelled) ∙ sign.whole; sound = sign.sound }
     ]
 
-net_walked : (ports : List PortLine) (memories : List Memory) (lines : List Line) (n w : ℕ) (e : Equation) (rest front : List ℕ) → n ≤ length lines → 1 ≤ w
+net_walked : (ports : List PortLine) (memories : List Memory) (lines : List Line) (n w : ℕ) (e : Equation) (rest front : List ℕ) → Here memories lines n w
     → Walked e rest (operand lines n fit_any (λ a. Form.turn (behind_form lines n w a))) front → Side ports memories lines n w e front
-net_walked ports memories lines n w e rest front room some d =
-    let a = operand_walked lines n fit_any (λ x. Form.turn (behind_form lines n w x)) e rest front room d in
-    let tail = behind_walked ports memories lines n w a.net e rest a.later (next (a.later ++ rest)) room some a.is (inverted e refl a.walked) in
+net_walked ports memories lines n w e rest front at d =
+    let a = operand_walked lines n fit_any (λ x. Form.turn (behind_form lines n w x)) e rest front at.few at.room d in
+    let tail = behind_walked ports memories lines n w a.net e rest a.later (next (a.later ++ rest)) at a.is (inverted e refl a.walked) in
     record { spelled = a.spelled ∙ tail.whole; sound = tail.sound }
 
 read_whole : (m o a e : List ℕ) → m ++ (o ++ (a ++ e)) ≡ m ++ o ++ a ++ e
@@ -310,16 +334,16 @@ read_whole m o a e = simp append_assoc
 abbrev address_form : List Memory → List Line → ℕ → ℕ → Form Equation
 address_form memories lines n m = Form.byte 91 (operand lines n (λ v. v == bits_of (slice_get memories m)) (λ a. Form.byte 93 (Form.whole (Read m a))))
 
-word_walked : (ports : List PortLine) (memories : List Memory) (lines : List Line) (n w : ℕ) (e : Equation) (rest front : List ℕ) → n ≤ length lines → Walked e rest (read_form memories lines n w) front → Side ports memories lines n w e front
-word_walked ports memories lines n w e rest front room d =
+word_walked : (ports : List PortLine) (memories : List Memory) (lines : List Line) (n w : ℕ) (e : Equation) (rest front : List ℕ) → Here memories lines n w → Walked e rest (read_form memories lines n w) front → Side ports memories lines n w e front
+word_walked ports memories lines n w e rest front at d =
     let begun = inverted e refl d in
     let (run, later, parts, none, walked, ends) = inverted e refl begun.2 in
-    let number = number_held run (λ k. nat_lt k (length memories)) NotThere (λ k. unless (words_of (slice_get memories k) == w) Width None) none in
+    let number = number_held run (λ k. nat_lt k (length memories)) NotThere (λ k. unless (words_of (slice_get memories k) == w) Width None) (λ t. omega (arith, ltb-true (value_of run) (length memories) t, at.few_memories)) none in
     let m = value_of run in
     let words = unless_held (words_of (slice_get memories m) == w) Width None number.2 in
     let there = slice_get-some memories m (ltb-true m (length memories) number.1) in
     let opened = inverted e refl walked in
-    let a = operand_walked lines n (λ v. v == bits_of (slice_get memories m)) (λ k. Form.byte 93 (Form.whole (Read m k))) e rest opened.0 room opened.2 in
+    let a = operand_walked lines n (λ v. v == bits_of (slice_get memories m)) (λ k. Form.byte 93 (Form.whole (Read m k))) e rest opened.0 at.few at.room opened.2 in
     let closed = inverted e refl a.walked in
     let last = inverted e refl closed.2 in
     let text : front ≡ 109 ∷ (decimal m ++ (91 ∷ (net_name a.net ++ (93 ∷ [])))) =
@@ -344,7 +368,7 @@ pub record ConstantRead (w : ℕ) (e : Equation) (front : List ℕ) : Type 0 whe
 pub constant_read_as : (w : ℕ) (e : Equation) (rest front : List ℕ) → 1 ≤ w → w ≤ 128 → Walked e rest (constant_form w) front → ConstantRead w e front
 constant_read_as w e rest front some small d =
     let (width_run, later, parts, none, walked, ends) = inverted e refl d in
-    let width = number_held width_run (λ k. k == w) Width (λ k. None) none in
+    let width = number_held width_run (λ k. k == w) Width (λ k. None) (λ t. omega (arith, eqb-true (value_of width_run) w t, small)) none in
     let is_w : value_of width_run ≡ w = eqb-true (value_of width_run) w width.1 in
     let mark = fixed_walked e rest (codes "'h") (Form.hole (λ run. unless (is_constant w run) Spelling None) (λ run. Form.whole (Constant (record { width = w; bits = digits_value 16 run })))) later walked in
     let (run, after, run_parts, run_none, run_walked, run_ends) = inverted e refl mark.2 in
@@ -368,22 +392,22 @@ constant_walked ports memories lines n w e rest front some small d =
     let c = constant_read_as w e rest front some small d in
     subst (λ (x : Equation). Side ports memories lines n w x front) (sym c.is) (record { spelled = c.spelled; sound = record { sound = c.good; no_input = refl; no_register = refl } })
 
-pub begun_walked : (ports : List PortLine) (memories : List Memory) (lines : List Line) (n w : ℕ) (e : Equation) (rest front : List ℕ) (o : Option ℕ) → n ≤ length lines → 1 ≤ w → w ≤ 128
+pub begun_walked : (ports : List PortLine) (memories : List Memory) (lines : List Line) (n w : ℕ) (e : Equation) (rest front : List ℕ) (o : Option ℕ) → Here memories lines n w
     → Walked e rest (begun_form memories lines n w o) front → Side ports memories lines n w e front
-begun_walked ports memories lines n w e rest front None room some small d = absurd (inverted e refl d)
-begun_walked ports memories lines n w e rest front (Some b) room some small d =
+begun_walked ports memories lines n w e rest front None at d = absurd (inverted e refl d)
+begun_walked ports memories lines n w e rest front (Some b) at d =
     elim (cond_walked e rest (is_digit b 10) _ _ front d) [
-      | inl x ↦ constant_walked ports memories lines n w e rest front some small x
+      | inl x ↦ constant_walked ports memories lines n w e rest front at.some_bit at.bits x
       | inr d ↦ elim (cond_walked e rest (b == 126) _ _ front d) [
-        | inl x ↦ not_walked ports memories lines n w e rest front room x
+        | inl x ↦ not_walked ports memories lines n w e rest front at x
         | inr d ↦ elim (cond_walked e rest (b == 124) _ _ front d) [
-          | inl x ↦ any_walked ports memories lines n w e rest front room x
+          | inl x ↦ any_walked ports memories lines n w e rest front at x
           | inr d ↦ elim (cond_walked e rest (b == 123) _ _ front d) [
-            | inl x ↦ concat_walked ports memories lines n w e rest front room x
+            | inl x ↦ concat_walked ports memories lines n w e rest front at x
             | inr d ↦ elim (cond_walked e rest (b == 110) _ _ front d) [
-              | inl x ↦ net_walked ports memories lines n w e rest front room some x
+              | inl x ↦ net_walked ports memories lines n w e rest front at x
               | inr d ↦ elim (cond_walked e rest (b == 109) _ _ front d) [
-                | inl x ↦ word_walked ports memories lines n w e rest front room x
+                | inl x ↦ word_walked ports memories lines n w e rest front at x
                 | inr d ↦ absurd (inverted e refl d)
               ]
             ]
@@ -392,8 +416,8 @@ begun_walked ports memories lines n w e rest front (Some b) room some small d =
       ]
     ]
 
-pub right_sound : (ports : List PortLine) (memories : List Memory) (lines : List Line) (n w : ℕ) (e : Equation) (text rest : List ℕ) → n ≤ length lines → 1 ≤ w → w ≤ 128
+pub right_sound : (ports : List PortLine) (memories : List Memory) (lines : List Line) (n w : ℕ) (e : Equation) (text rest : List ℕ) → Here memories lines n w
     → Reads (right_form memories lines n w) text e rest → (text ≡ right_text ports e ++ rest) × IsRightSide ports memories lines n w e
-right_sound ports memories lines n w e text rest room some small r =
-    let m = begun_walked ports memories lines n w e rest r.front (next (r.front ++ rest)) room some small (inverted e refl r.good) in
+right_sound ports memories lines n w e text rest at r =
+    let m = begun_walked ports memories lines n w e rest r.front (next (r.front ++ rest)) at (inverted e refl r.good) in
     (r.parts ∙ ap (λ (t : List ℕ). t ++ rest) m.spelled, m.sound)

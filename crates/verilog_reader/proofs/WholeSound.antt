@@ -1,5 +1,5 @@
 -- A text that is read whole is that of a module.
-use Rattle.std.proofs.Common.{◌≡◌, ℕ, zero, suc, ◌+◌, ◌-◌, ◌≤◌, ◌^◌, Bool, true, false, List, [], ◌∷◌, ◌++◌, length, slice_get, Option, Some, None, inl, inr, ◌⊎◌, refl, sym, ap, subst, ◌∙◌, arith, codes, length-append}
+use Rattle.std.proofs.Common.{◌≡◌, ◌<◌, ℕ, zero, suc, ◌+◌, ◌-◌, ◌≤◌, ◌^◌, Bool, true, false, List, [], ◌∷◌, ◌++◌, length, slice_get, Option, Some, None, inl, inr, ◌⊎◌, refl, sym, ap, subst, ◌∙◌, arith, codes, length-append}
 use Rattle.std.specs.Prelude.{IfSome, IsSome, slice_index_or}
 use Rattle.std.proofs.lemmas.List.{append-nil}
 use Rattle.netlist.specs.declared.line.Equation.{Equation}
@@ -322,19 +322,19 @@ record Behind (header : Netlist) (memories : List Memory) (lines : List Line) (o
   pub stored : AllOf (Stored lines) kept
   pub drive : AllDrive lines header.ports drivers
 
-behind_walked : (header : Netlist) (memories : List Memory) (lines : List Line) (one : Netlist) (rest front : List ℕ) → AllBare 0 lines → AllOf Blank memories → Walked one rest (behind_nets_form header memories lines) front
+behind_walked : (header : Netlist) (memories : List Memory) (lines : List Line) (one : Netlist) (rest front : List ℕ) → length lines < 2 ^ 64 → length memories < 2 ^ 64 → AllBare 0 lines → AllOf Blank memories → Walked one rest (behind_nets_form header memories lines) front
     → Behind header memories lines one rest front
-behind_walked header memories lines one rest front are blanks d =
+behind_walked header memories lines one rest front few few_memories are blanks d =
     let last = λ (clocked : List Line) (kept : List Memory) (drivers : List (Option ℕ)). (last_form memories lines (has_output header.ports) (netlist_of header clocked kept drivers)) in
     let assigns = λ (clocked : List Line) (kept : List Memory). (followed (all_driven_form memories lines false header.ports) (λ drivers. last clocked kept drivers)) in
     let writes = λ (clocked : List Line). (followed (all_written_form memories lines 0 memories) (λ kept. assigns clocked kept)) in
     let a = followed_walked one rest (all_clocked_form memories lines 0 lines) writes front d in
     let all : 0 + length lines ≤ length lines = omega arith in
-    let clocked = all_clocked_walked memories lines 0 lines a.value (a.behind ++ rest) a.ahead are all a.first in
+    let clocked = all_clocked_walked memories lines 0 lines a.value (a.behind ++ rest) a.ahead few are all a.first in
     let b = followed_walked one rest (all_written_form memories lines 0 memories) (λ kept. assigns a.value kept) a.behind a.second in
-    let stored = all_written_walked memories lines 0 memories b.value (b.behind ++ rest) b.ahead blanks b.first in
+    let stored = all_written_walked memories lines 0 memories b.value (b.behind ++ rest) b.ahead few few_memories blanks b.first in
     let c = followed_walked one rest (all_driven_form memories lines false header.ports) (λ drivers. last a.value b.value drivers) b.behind b.second in
-    let driven = all_driven_walked memories lines false header.ports c.value (c.behind ++ rest) c.ahead c.first in
+    let driven = all_driven_walked memories lines false header.ports c.value (c.behind ++ rest) c.ahead few c.first in
     let end_ = last_walked memories lines (has_output header.ports) (netlist_of header a.value b.value c.value) one rest c.behind c.second in
     record {
       clocked = a.value;
@@ -477,7 +477,8 @@ module_walked one rest front d =
     let n = a.nets in
     let ports = a.header.ports in
     let inputs = input_lines 0 ports in
-    let f = behind_walked a.header a.memories (inputs ++ n.todo) one rest n.behind (bares ports a.memories n.todo n.nets) a.are n.walked in
+    let few : length (inputs ++ n.todo) < 2 ^ 64 = omega (arith, n.few, length-append inputs n.todo) in
+    let f = behind_walked a.header a.memories (inputs ++ n.todo) one rest n.behind few (omega (arith, a.few_memories)) (bares ports a.memories n.todo n.nets) a.are n.walked in
     let whole = whole_of a.header a.memories n.todo one rest n.behind a.is a.are a.few_memories n.nets n.few f in
     let text = a.spelled ∙ ap (λ (t : List ℕ). header_text a.header ++ (memories_text 0 a.memories ++ t)) n.spelled in
     record { is = whole.is; spelled = text ∙ whole.spelled; ended = whole.ended }

@@ -198,13 +198,13 @@ record ClockedRead (lines : List Line) (n : ℕ) (line out : Line) (front : List
   pub spelled : front ≡ clocked_line n out.equation
   pub clocked : Clocked lines n out
 
-clocked_walked : (memories : List Memory) (lines : List Line) (n : ℕ) (line out : Line) (rest front : List ℕ) → BareLine n line → n < length lines → Walked out rest (clocked_form memories lines n line) front → ClockedRead lines n line out front
-clocked_walked memories lines n line out rest front (BareLine.still plain) there d =
+clocked_walked : (memories : List Memory) (lines : List Line) (n : ℕ) (line out : Line) (rest front : List ℕ) → length lines < 2 ^ 64 → BareLine n line → n < length lines → Walked out rest (clocked_form memories lines n line) front → ClockedRead lines n line out front
+clocked_walked memories lines n line out rest front few (BareLine.still plain) there d =
     let last = inverted out refl (subst (λ (t : Bool). Walked out rest (cond t (clock_form memories lines n line.width) (Form.whole line)) front) plain d) in
     subst (λ (x : Line). ClockedRead lines n line x front) last.0
     (record { is = still_bare n line plain; spelled = last.1 ∙ sym (no_clocked_line n line.equation plain); clocked = Clocked.still plain })
-clocked_walked memories lines n line out rest front (BareLine.register w some small is) there d =
-    let m = clock_walked memories lines n w out rest front some small (subst (λ (l : Line). Walked out rest (clocked_form memories lines n l) front) is d) in
+clocked_walked memories lines n line out rest front few (BareLine.register w some small is) there d =
+    let m = clock_walked memories lines n w out rest front few some small (subst (λ (l : Line). Walked out rest (clocked_form memories lines n l) front) is d) in
     record {
       is = ap (bare_line n) m.is ∙ sym is;
       spelled = m.spelled ∙ ap (λ (l : Line). clocked_line n l.equation) (sym m.is);
@@ -216,15 +216,15 @@ pub record AllClockedRead (lines : List Line) (n : ℕ) (todo out : List Line) (
   pub spelled : front ≡ clocked_text n out
   pub clocked : AllClocked lines n out
 
-pub all_clocked_walked : (memories : List Memory) (lines : List Line) (n : ℕ) (todo out : List Line) (rest front : List ℕ) → AllBare n todo → n + length todo ≤ length lines → Walked out rest (all_clocked_form memories lines n todo) front
+pub all_clocked_walked : (memories : List Memory) (lines : List Line) (n : ℕ) (todo out : List Line) (rest front : List ℕ) → length lines < 2 ^ 64 → AllBare n todo → n + length todo ≤ length lines → Walked out rest (all_clocked_form memories lines n todo) front
     → AllClockedRead lines n todo out front
-all_clocked_walked memories lines n [] out rest front are fits d =
+all_clocked_walked memories lines n [] out rest front few are fits d =
     let last = inverted out refl d in
     subst (λ (x : List Line). AllClockedRead lines n [] x front) last.0 (record { is = refl; spelled = last.1; clocked = tt })
-all_clocked_walked memories lines n (line ∷ others) out rest front are fits d =
+all_clocked_walked memories lines n (line ∷ others) out rest front few are fits d =
     let l = listed_walked (clocked_form memories lines n line) (all_clocked_form memories lines (n + 1) others) out rest front d in
-    let here = clocked_walked memories lines n line l.x (l.behind ++ rest) l.ahead are.0 (omega (arith, fits)) l.first in
-    let more = all_clocked_walked memories lines (n + 1) others l.xs rest l.behind are.1 (omega (arith, fits)) l.second in
+    let here = clocked_walked memories lines n line l.x (l.behind ++ rest) l.ahead few are.0 (omega (arith, fits)) l.first in
+    let more = all_clocked_walked memories lines (n + 1) others l.xs rest l.behind few are.1 (omega (arith, fits)) l.second in
     subst (λ (x : List Line). AllClockedRead lines n (line ∷ others) x front) l.is (record {
       is = ap (λ (x : Line). x ∷ bare (n + 1) l.xs) here.is ∙ ap (λ (xs : List Line). line ∷ xs) more.is;
       spelled = l.parts ∙ ap (λ (t : List ℕ). t ++ l.behind) here.spelled ∙ ap (λ (t : List ℕ). clocked_line n l.x.equation ++ t) more.spelled;
@@ -241,17 +241,17 @@ pub record AllWrittenRead (lines : List Line) (m : ℕ) (todo out : List Memory)
   pub spelled : front ≡ writes_text m out
   pub stored : AllOf (Stored lines) out
 
-pub all_written_walked : (memories : List Memory) (lines : List Line) (m : ℕ) (todo out : List Memory) (rest front : List ℕ) → AllOf Blank todo → Walked out rest (all_written_form memories lines m todo) front → AllWrittenRead lines m todo out front
-all_written_walked memories lines m [] out rest front are d =
+pub all_written_walked : (memories : List Memory) (lines : List Line) (m : ℕ) (todo out : List Memory) (rest front : List ℕ) → length lines < 2 ^ 64 → length memories < 2 ^ 64 → AllOf Blank todo → Walked out rest (all_written_form memories lines m todo) front → AllWrittenRead lines m todo out front
+all_written_walked memories lines m [] out rest front few few_memories are d =
     let last = inverted out refl d in
     subst (λ (x : List Memory). AllWrittenRead lines m [] x front) last.0 (record { is = refl; spelled = last.1; stored = tt })
-all_written_walked memories lines m (x ∷ xs) out rest front are d =
+all_written_walked memories lines m (x ∷ xs) out rest front few few_memories are d =
     let form = write_form memories lines m x in
     let l = listed_walked (told form (written x)) (all_written_form memories lines (m + 1) xs) out rest front d in
     let one = told_walked form (written x) l.x (l.behind ++ rest) l.ahead l.first in
     let write = one.value in
-    let w = write_walked memories lines m x write (l.behind ++ rest) l.ahead one.walked in
-    let more = all_written_walked memories lines (m + 1) xs l.xs rest l.behind are.1 l.second in
+    let w = write_walked memories lines m x write (l.behind ++ rest) l.ahead few few_memories one.walked in
+    let more = all_written_walked memories lines (m + 1) xs l.xs rest l.behind few few_memories are.1 l.second in
     let same : blank_of l.x ≡ x = ap blank_of (sym one.is) ∙ blank_is x are.0.unwritten in
     let line : l.ahead ≡ written_line m l.x.write = w.spelled ∙ ap (λ (y : Memory). written_line m y.write) one.is in
     let kept : Stored lines l.x = subst (Stored lines) one.is (record { write = write; is = refl; good = record { enable = w.good.enable; address = w.good.address; word = w.good.word } }) in
@@ -270,20 +270,20 @@ pub record AllDrivenRead (lines : List Line) (ports : List PortLine) (out : List
 no_assign : (port : PortLine) (driver : Option ℕ) → driver ≡ None → assign_line port driver ≡ []
 no_assign port driver is = ap (assign_line port) is
 
-driven_walked : (memories : List Memory) (lines : List Line) (assigned : Bool) (port : PortLine) (ports : List PortLine) (out : List (Option ℕ)) (rest front : List ℕ) (b : Bool) → port.output ≡ b
+driven_walked : (memories : List Memory) (lines : List Line) (assigned : Bool) (port : PortLine) (ports : List PortLine) (out : List (Option ℕ)) (rest front : List ℕ) (b : Bool) → length lines < 2 ^ 64 → port.output ≡ b
     → ((c : Bool) (others : List (Option ℕ)) (back : List ℕ) → Walked others rest (all_driven_form memories lines c ports) back → AllDrivenRead lines ports others back)
     → Walked out rest (one_driven_form memories lines assigned port (all_driven_form memories lines true ports) (all_driven_form memories lines assigned ports) b) front → AllDrivenRead lines (port ∷ ports) out front
-driven_walked memories lines assigned port ports out rest front true output later d =
+driven_walked memories lines assigned port ports out rest front true few output later d =
     let form = assign_form memories lines assigned port in
     let l = listed_walked (told form driven) (all_driven_form memories lines true ports) out rest front d in
     let one = told_walked form driven l.x (l.behind ++ rest) l.ahead l.first in
-    let m = assign_walked memories lines assigned port one.value (l.behind ++ rest) l.ahead output one.walked in
+    let m = assign_walked memories lines assigned port one.value (l.behind ++ rest) l.ahead few output one.walked in
     let more = later true l.xs l.behind l.second in
     subst (λ (x : List (Option ℕ)). AllDrivenRead lines (port ∷ ports) x front) l.is (record {
       spelled = l.parts ∙ ap (λ (t : List ℕ). t ++ l.behind) (m.spelled ∙ ap (assign_line port) one.is) ∙ ap (λ (t : List ℕ). assign_line port l.x ++ t) more.spelled;
       drive = (Drives.by_net one.value output (sym one.is) m.width, more.drive);
     })
-driven_walked memories lines assigned port ports out rest front false output later d =
+driven_walked memories lines assigned port ports out rest front false few output later d =
     let l = listed_walked (Form.whole None) (all_driven_form memories lines assigned ports) out rest front d in
     let here = inverted (l.x) refl l.first in
     let more = later assigned l.xs l.behind l.second in
@@ -292,12 +292,12 @@ driven_walked memories lines assigned port ports out rest front false output lat
       drive = (Drives.by_none output (sym here.0), more.drive);
     })
 
-pub all_driven_walked : (memories : List Memory) (lines : List Line) (assigned : Bool) (ports : List PortLine) (out : List (Option ℕ)) (rest front : List ℕ) → Walked out rest (all_driven_form memories lines assigned ports) front → AllDrivenRead lines ports out front
-all_driven_walked memories lines assigned [] out rest front d =
+pub all_driven_walked : (memories : List Memory) (lines : List Line) (assigned : Bool) (ports : List PortLine) (out : List (Option ℕ)) (rest front : List ℕ) → length lines < 2 ^ 64 → Walked out rest (all_driven_form memories lines assigned ports) front → AllDrivenRead lines ports out front
+all_driven_walked memories lines assigned [] out rest front few d =
     let last = inverted out refl d in
     subst (λ (x : List (Option ℕ)). AllDrivenRead lines [] x front) last.0 (record { spelled = last.1; drive = tt })
-all_driven_walked memories lines assigned (port ∷ ports) out rest front d =
-    driven_walked memories lines assigned port ports out rest front port.output refl (λ c others back w. all_driven_walked memories lines c ports others rest back w) d
+all_driven_walked memories lines assigned (port ∷ ports) out rest front few d =
+    driven_walked memories lines assigned port ports out rest front port.output few refl (λ c others back w. all_driven_walked memories lines c ports others rest back few w) d
 
 -- the last line
 

@@ -1,7 +1,7 @@
 -- The form of a wire's line reads exactly the lines of sound wires.
-use Rattle.std.proofs.Common.{◌≡◌, ℕ, ◌+◌, ◌-◌, ◌==◌, ◌<◌, ◌≤◌, ◌^◌, ◌&&◌, Bool, true, false, List, [], ◌++◌, slice_get, Some, None, refl, sym, ap, subst, ◌∙◌, arith, codes, decimal, append_assoc}
+use Rattle.std.proofs.Common.{◌≡◌, ℕ, ◌+◌, ◌-◌, ◌<◌, ◌≤◌, ◌^◌, Bool, true, false, List, [], ◌++◌, slice_get, Some, None, refl, sym, ap, subst, ◌∙◌, arith, codes, decimal, append_assoc}
 use Rattle.std.specs.Prelude.{nat_lt}
-use Rattle.std.proofs.lemmas.Bool.{eq-eqb, eqb-true, lt-ltb, ltb-true, and_parts}
+use Rattle.std.proofs.lemmas.Bool.{lt-ltb, ltb-true}
 use Rattle.netlist.specs.declared.line.Equation.{Equation}
 use Rattle.netlist.specs.declared.line.Line.{Line}
 use Rattle.netlist.specs.declared.line.Memory.{Memory}
@@ -10,10 +10,10 @@ use Rattle.netlist.specs.Netlists.{Netlist, IsModule, line_of, is_input, is_regi
 use Rattle.verilog_writer.specs.Text.{net_name, right_text, wire_line, net_line}
 use Rattle.verilog_reader.specs.declared.rule.Rule.TheVariants.{Width, Spelling}
 use Rattle.verilog_reader.specs.Forms.{Form, fixed, next, Due, Reads}
-use Rattle.verilog_reader.specs.RightSides.{unless, value_of, is_number, right_form, Here, IsRightSide}
+use Rattle.verilog_reader.specs.RightSides.{unless, same_bytes, value_of, right_form, Here, IsRightSide}
 use Rattle.verilog_reader.specs.WireLines.{high_test, number_test, named_form, ending_form, wire_form, Behind, IsWire}
 use Rattle.verilog_reader.proofs.Lines.{line_is, wire_parts, net_wire}
-use Rattle.verilog_reader.proofs.RightReads.{value-decimal, number_is, fixed_due, number_passes, numbered_due, right_read, stands_here}
+use Rattle.verilog_reader.proofs.RightReads.{same-refl, fixed_due, number_passes, numbered_due, right_read, stands_here}
 use Rattle.verilog_reader.proofs.Followed.{followed_due, followed_walked}
 use Rattle.verilog_reader.proofs.RightSound.{inverted, Walked, unless_held, same_equal, number_held, fixed_walked, begun_walked}
 
@@ -25,10 +25,8 @@ here_behind memories lines n w at some small = record { few = at.few; room = at.
 front_parts : (a b c d e f g h i r : List ℕ) → a ++ (b ++ (c ++ (d ++ (e ++ (f ++ (g ++ (h ++ (i ++ r)))))))) ≡ (a ++ (b ++ (c ++ (d ++ (e ++ (f ++ (g ++ (h ++ i)))))))) ++ r
 front_parts a b c d e f g h i r = simp append_assoc
 
-pub number_test_passes : (n : ℕ) → n < 2 ^ 64 → number_test n (decimal n) ≡ None
-number_test_passes n few =
-    let is : (is_number (decimal n) && value_of (decimal n) == n) ≡ true = rw (number_is n few, eq-eqb (value_of (decimal n)) n (value-decimal n few)) refl in
-    ap (λ (t : Bool). unless t Spelling None) is
+pub number_test_passes : (n : ℕ) → number_test n (decimal n) ≡ None
+number_test_passes n = ap (λ (t : Bool). unless t Spelling None) (same-refl (decimal n))
 
 wire_due : (memories : List Memory) (lines : List Line) (n w : ℕ) (e : Equation) (rest front : List ℕ) → n < 2 ^ 64 → 1 ≤ w → w ≤ 128
     → Due (Form.whole e) (codes ";\n" ++ rest) (right_form memories lines n w) front
@@ -38,7 +36,7 @@ wire_due memories lines n w e rest front few some small right =
     let last : Due due rest (fixed (codes ";\n") (Form.whole (line_of w e))) (codes ";\n") = fixed_due due rest (codes ";\n") _ [] Due.nothing in
     let side = followed_due e (λ x. fixed (codes ";\n") (Form.whole (line_of w x))) due (codes ";\n") rest refl refl right last in
     let equals = fixed_due due rest (codes " = ") (ending_form memories lines n w) _ side in
-    let number = numbered_due due rest (number_test n) (λ k. fixed (codes " = ") (ending_form memories lines n w)) n _ few refl (number_test_passes n few) equals in
+    let number = numbered_due due rest (number_test n) (λ k. fixed (codes " = ") (ending_form memories lines n w)) n _ few refl (number_test_passes n) equals in
     let named = fixed_due due rest (codes " n") (Form.hole (number_test n) (λ run. fixed (codes " = ") (ending_form memories lines n w))) _ number in
     let back : (w - 1) + 1 ≡ w = omega (arith, some) in
     let low : w - 1 < 128 = omega (arith, some, small) in
@@ -81,20 +79,19 @@ pub wire_walked : (ports : List PortLine) (memories : List Memory) (lines : List
 wire_walked ports memories lines n line rest front at d =
     let begun = fixed_walked line rest (codes "  wire [") _ front d in
     let (run, left, parts, none, walked, run_ends) = inverted line refl begun.2 in
-    let high = number_held run (λ k. nat_lt k 128) Width (λ k. None) none in
+    let high = number_held run (λ k. nat_lt k 128) Width (λ k. None) (λ t. omega (arith, ltb-true (value_of run) 128 t)) none in
     let w = value_of run + 1 in
     let some : 1 ≤ w = omega arith in
     let below : value_of run < 128 = ltb-true (value_of run) 128 high.1 in
     let small : w ≤ 128 = omega (arith, below) in
     let named = fixed_walked line rest (codes ":0] n") (Form.hole (number_test n) (λ r. fixed (codes " = ") (ending_form memories lines n w))) left walked in
     let (name, behind, name_parts, name_none, name_walked, name_ends) = inverted line refl named.2 in
-    let held = unless_held (is_number name && value_of name == n) Spelling None name_none in
-    let both = and_parts (is_number name) (value_of name == n) held.0 in
-    let is_n : name ≡ decimal n = same_equal name (decimal (value_of name)) both.0 ∙ ap (λ (k : ℕ). decimal k) (eqb-true (value_of name) n both.1) in
+    let held = unless_held (same_bytes name (decimal n)) Spelling None name_none in
+    let is_n : name ≡ decimal n = same_equal name (decimal n) held.0 in
     let equals = fixed_walked line rest (codes " = ") (ending_form memories lines n w) behind name_walked in
     let apart = followed_walked line rest (right_form memories lines n w) (λ e. fixed (codes ";\n") (Form.whole (line_of w e))) equals.0 equals.2 in
     let e = apart.value in
-    let side = begun_walked ports memories lines n w e (apart.behind ++ rest) apart.ahead (next (apart.ahead ++ (apart.behind ++ rest))) at.room some small (inverted e refl apart.first) in
+    let side = begun_walked ports memories lines n w e (apart.behind ++ rest) apart.ahead (next (apart.ahead ++ (apart.behind ++ rest))) (here_behind memories lines n w at some small) (inverted e refl apart.first) in
     let ended = fixed_walked line rest (codes ";\n") (Form.whole (line_of w e)) apart.behind apart.second in
     let last = inverted line refl ended.2 in
     let one : w - 1 ≡ value_of run = omega arith in

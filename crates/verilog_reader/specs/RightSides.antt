@@ -1,5 +1,6 @@
 -- The form of a net's right side, where each input port has its net.
-use Rattle.std.specs.Prelude.{ℕ, ◌+◌, ◌/◌, ◌^◌, Bool, true, false, ◌&&◌, ◌==◌, ◌≡◌, ◌<◌, ◌≤◌, nat_lt, List, [], ◌∷◌, drop, length, slice_get, Option, Some, None, codes, decimal, if◌then◌else◌}
+use Rattle.std.specs.Prelude.{ℕ, ◌+◌, ◌/◌, ◌^◌, Bool, true, false, ◌&&◌, ◌||◌, not, ◌==◌, ◌≡◌, ◌<◌, ◌≤◌, nat_lt, List, [], ◌∷◌, drop, length, slice_get, Option, Some, None, codes, if◌then◌else◌}
+use Rattle.std.specs.List.{list_all}
 use Rattle.std.specs.Char.{is_digit}
 use Rattle.std.specs.Str.Parse.{digits_value}
 use Rattle.netlist.specs.declared.line.Equation.{Equation}
@@ -8,7 +9,7 @@ use Rattle.netlist.specs.declared.line.Line.{Line}
 use Rattle.netlist.specs.declared.line.Memory.{Memory}
 use Rattle.netlist.specs.declared.line.PortLine.{PortLine}
 use Rattle.netlist.specs.Netlists.{width_at, IsSound, is_input, is_register}
-use Rattle.verilog_writer.specs.Text.{hex_digits, net_name}
+use Rattle.verilog_writer.specs.Text.{hex_digits}
 use Rattle.verilog_reader.specs.declared.rule.Rule.{Rule}
 use Rattle.verilog_reader.specs.declared.rule.Rule.TheVariants.{OtherByte, Width, Spelling, NotThere, Bounds}
 use Rattle.verilog_reader.specs.Forms.{Form, fixed}
@@ -37,16 +38,22 @@ same_bytes (c ∷ cs) (d ∷ ds) = c == d && same_bytes cs ds
 abbrev pub value_of : List ℕ → ℕ
 value_of run = digits_value 10 run
 
--- a number as it has to be spelled
+-- something, where a zero at the front stands alone
+abbrev pub well_led : List ℕ → Bool
+well_led [] = false
+well_led (d ∷ ds) = not (d == 48) || same_bytes ds []
+
+-- a number as it has to be spelled: digits, and no leading zero
 abbrev pub is_number : List ℕ → Bool
-is_number run = same_bytes run (decimal (value_of run))
+is_number run = list_all (λ b. is_digit b 10) run && well_led run
 
 -- the number behind a net's letter
 abbrev pub net_of : List ℕ → ℕ
 net_of run = value_of (drop 1 run)
 
 abbrev pub is_net : List ℕ → Bool
-is_net run = same_bytes run (net_name (net_of run))
+is_net [] = false
+is_net (c ∷ run) = is_char (codes "n") c && is_number run
 
 abbrev pub or_zero : Option ℕ → ℕ
 or_zero None = 0

@@ -1,5 +1,5 @@
 -- The form of a wire's line, where each input port has its net.
-use Rattle.std.specs.Prelude.{◌≡◌, ℕ, ◌+◌, ◌<◌, ◌≤◌, ◌^◌, ◌&&◌, ◌==◌, false, nat_lt, List, length, Option, Some, None, codes}
+use Rattle.std.specs.Prelude.{◌≡◌, ℕ, ◌+◌, ◌<◌, ◌≤◌, ◌^◌, false, nat_lt, List, length, Option, Some, None, codes, decimal}
 use Rattle.netlist.specs.declared.line.Line.{Line}
 use Rattle.netlist.specs.declared.line.Memory.{Memory}
 use Rattle.netlist.specs.declared.line.PortLine.{PortLine}
@@ -7,7 +7,7 @@ use Rattle.netlist.specs.Netlists.{line_of, width_at}
 use Rattle.verilog_reader.specs.declared.rule.Rule.{Rule}
 use Rattle.verilog_reader.specs.declared.rule.Rule.TheVariants.{Width, Spelling}
 use Rattle.verilog_reader.specs.Forms.{Form, fixed, followed}
-use Rattle.verilog_reader.specs.RightSides.{unless, value_of, is_number, right_form, IsRightSide}
+use Rattle.verilog_reader.specs.RightSides.{unless, same_bytes, value_of, is_number, right_form, IsRightSide}
 
 -- a width less one
 abbrev pub high_test : List ℕ → Option Rule
@@ -19,7 +19,7 @@ range_form form = fixed (codes "[") (Form.hole high_test (λ run. fixed (codes "
 
 -- this number and no other
 abbrev pub number_test : ℕ → List ℕ → Option Rule
-number_test n run = unless (is_number run && value_of run == n) Spelling None
+number_test n run = unless (same_bytes run (decimal n)) Spelling None
 
 -- net n by its name, and what stands behind it
 abbrev pub named_form : {A : Type 0} → ℕ → Form A → Form A

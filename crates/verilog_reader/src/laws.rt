@@ -104,7 +104,7 @@ pub fn memory_lines()
 pub fn clocked_lines()
     ensures read { (memories : List Memory) (lines : List Line) (n w : ℕ) (reset : Val) (next : ℕ) (rest : List ℕ) → length lines < 2 ^ 64 → n < length lines → IsValue reset w → width_at lines next ≡ Some w
         → Reads (clock_form memories lines n w) (clock_line n reset.width reset.bits next ++ rest) (line_of w (Equation.Reg reset next)) rest }
-    ensures sound { (memories : List Memory) (lines : List Line) (n w : ℕ) (line : Line) (text rest : List ℕ) → 1 ≤ w → w ≤ 128 → Reads (clock_form memories lines n w) text line rest
+    ensures sound { (memories : List Memory) (lines : List Line) (n w : ℕ) (line : Line) (text rest : List ℕ) → length lines < 2 ^ 64 → 1 ≤ w → w ≤ 128 → Reads (clock_form memories lines n w) text line rest
         → (reset : Val) × (next : ℕ) × IsValue reset w × (width_at lines next ≡ Some w) × (line ≡ line_of w (Equation.Reg reset next)) × (text ≡ clock_line n reset.width reset.bits next ++ rest) }
 {}
 
@@ -112,7 +112,7 @@ pub fn clocked_lines()
 pub fn write_lines()
     ensures read { (memories : List Memory) (lines : List Line) (m : ℕ) (memory : Memory) (write : MemWrite) (rest : List ℕ) → length lines < 2 ^ 64 → length memories < 2 ^ 64 → m < length memories → IsWriteOf lines memory write
         → Reads (write_form memories lines m memory) (write_line m write ++ rest) write rest }
-    ensures sound { (memories : List Memory) (lines : List Line) (m : ℕ) (memory : Memory) (write : MemWrite) (text rest : List ℕ) → Reads (write_form memories lines m memory) text write rest
+    ensures sound { (memories : List Memory) (lines : List Line) (m : ℕ) (memory : Memory) (write : MemWrite) (text rest : List ℕ) → length lines < 2 ^ 64 → length memories < 2 ^ 64 → Reads (write_form memories lines m memory) text write rest
         → (text ≡ write_line m write ++ rest) × IsWriteOf lines memory write }
 {}
 
@@ -120,7 +120,7 @@ pub fn write_lines()
 pub fn assign_lines()
     ensures read { (memories : List Memory) (lines : List Line) (assigned : Bool) (port : PortLine) (net : ℕ) (rest : List ℕ) → length lines < 2 ^ 64 → IsPortName port.name → port.output ≡ true → width_at lines net ≡ Some port.width
         → Reads (assign_form memories lines assigned port) (assign_line port (Some net) ++ rest) net rest }
-    ensures sound { (memories : List Memory) (lines : List Line) (assigned : Bool) (port : PortLine) (net : ℕ) (text rest : List ℕ) → port.output ≡ true → Reads (assign_form memories lines assigned port) text net rest
+    ensures sound { (memories : List Memory) (lines : List Line) (assigned : Bool) (port : PortLine) (net : ℕ) (text rest : List ℕ) → length lines < 2 ^ 64 → port.output ≡ true → Reads (assign_form memories lines assigned port) text net rest
         → (text ≡ assign_line port (Some net) ++ rest) × (width_at lines net ≡ Some port.width) }
 {}
 
@@ -167,6 +167,7 @@ pub fn refused_right_sides()
     ensures width_of_test { IsRefused 8 (codes "n0 ? n0 : n1;\n") 3 Width }
     ensures any_on_wide_net { IsRefused 8 (codes "|n0;\n") 0 Width }
     ensures width_of_memory { IsRefused 1 (codes "m0[n3];\n") 1 Width }
+    ensures number_of_65_digits { IsRefused 8 (codes "~n10000000000000000000000000000000000000000000000000000000000000000;\n") 1 NotThere }
     ensures width_of_address { IsRefused 8 (codes "m0[n2];\n") 3 Width }
     ensures width_of_constant { IsRefused 8 (codes "4'h0;\n") 0 Width }
     ensures leading_zero { IsRefused 8 (codes "n00 & n1;\n") 0 Spelling }

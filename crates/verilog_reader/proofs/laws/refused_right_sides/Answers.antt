@@ -47,6 +47,10 @@ pub returns-clause-width_of_memory : goal.returns-clause-width_of_memory
 unfolding digits
 returns-clause-width_of_memory c = walk_refuses _ _ _ _ refl
 
+pub returns-clause-number_of_65_digits : goal.returns-clause-number_of_65_digits
+unfolding digits
+returns-clause-number_of_65_digits c = walk_refuses _ _ _ _ refl
+
 pub returns-clause-width_of_address : goal.returns-clause-width_of_address
 unfolding digits
 returns-clause-width_of_address c = walk_refuses _ _ _ _ refl
