@@ -6,6 +6,14 @@ pub mod Memories
 pub mod Headers
 pub mod Texts
 pub mod Walks
+pub mod Steps
+pub mod DeclaredSteps
+pub mod ClockedSteps
+pub mod HeaderSteps
+pub mod Numbers
+pub mod RightSteps
+pub mod Hexes
+pub mod NetSteps
 pub mod RightReads
 pub mod RightSound
 pub mod Followed
@@ -19,7 +27,10 @@ pub mod ModuleLines
 pub mod ModuleReads
 pub mod WholeReads
 pub mod WholeWalked
+pub mod SectionSteps
 pub mod WholeSound
+pub mod BehindSteps
+pub mod Whole
 pub mod Crowded
 pub mod NeverCrowded
 pub mod TooMany

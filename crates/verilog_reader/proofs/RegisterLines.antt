@@ -1,7 +1,7 @@
 -- The form of a register's line reads exactly the lines of registers.
-use Rattle.std.proofs.Common.{◌≡◌, ℕ, ◌+◌, ◌-◌, ◌==◌, ◌<◌, ◌≤◌, ◌^◌, ◌&&◌, true, List, [], ◌++◌, slice_get, Some, None, refl, sym, ap, subst, ◌∙◌, arith, codes, decimal, append_assoc}
+use Rattle.std.proofs.Common.{◌≡◌, ℕ, ◌+◌, ◌-◌, ◌<◌, ◌≤◌, ◌^◌, true, List, [], ◌++◌, slice_get, Some, None, refl, sym, ap, subst, ◌∙◌, arith, codes, decimal, append_assoc}
 use Rattle.std.specs.Prelude.{nat_lt}
-use Rattle.std.proofs.lemmas.Bool.{eqb-true, lt-ltb, ltb-true, and_parts}
+use Rattle.std.proofs.lemmas.Bool.{lt-ltb, ltb-true}
 use Rattle.netlist.specs.declared.line.Line.{Line}
 use Rattle.netlist.specs.Netlists.{Netlist, IsModule, is_register}
 use Rattle.verilog_writer.specs.Text.{register_line, net_line}

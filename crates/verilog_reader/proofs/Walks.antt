@@ -1,42 +1,19 @@
 -- Each text has what a form asks or has one first fault.
-use Rattle.std.proofs.Common.{◌≡◌, ◌≢◌, ℕ, suc, ◌+◌, ◌==◌, Bool, true, false, cond, List, [], ◌∷◌, ◌++◌, length, take, drop, take_at, drop_at, Option, Some, None, refl, sym, ap, subst, ◌∙◌, inl, inr, arith, append_assoc, length-append}
-use Rattle.std.specs.List.{prefix_len}
+use Rattle.std.proofs.Common.{◌≡◌, ◌≢◌, ℕ, suc, ◌+◌, Bool, true, false, cond, List, [], ◌∷◌, ◌++◌, length, take, drop, take_at, drop_at, Option, Some, None, refl, sym, ap, subst, ◌∙◌, inl, inr, arith, append_assoc, length-append}
 use Rattle.std.proofs.lemmas.Bool.{eq-eqb}
 use Rattle.std.proofs.lemmas.Bool.Decides.{eqb_tells}
 use Rattle.std.proofs.lemmas.Option.{none-some}
 use Rattle.verilog_reader.specs.declared.rule.Rule.{Rule}
 use Rattle.verilog_reader.specs.declared.rule.Rule.TheVariants.{OtherByte}
 use Rattle.verilog_reader.specs.Forms.{is_hole_byte, next, Form, ends_hole, IsHole, Due, Misfits, Reads, HasFault}
+use Rattle.verilog_reader.specs.Walks.{Outcome, pushed, behind_test, walk}
 use Rattle.verilog_reader.proofs.Cuts.{stops, prefix_run}
 
-pub data Outcome (A : Type 0) : Type 0 where
-  good : A → List ℕ → Outcome A
-  bad : ℕ → Rule → Outcome A
-
-abbrev pub pushed : {A : Type 0} → ℕ → Outcome A → Outcome A
-pushed k (Outcome.good a rest) = Outcome.good a rest
-pushed k (Outcome.bad at rule) = Outcome.bad (k + at) rule
-
-abbrev pub behind_hole : {A : Type 0} → Option Rule → ℕ → Outcome A → Outcome A
-behind_hole None k later = pushed k later
-behind_hole (Some rule) k later = Outcome.bad 0 rule
-
--- what a walk through a text finds
-abbrev pub walk : {A : Type 0} → Form A → List ℕ → Outcome A
-walk (Form.whole a) text = Outcome.good a text
-walk (Form.byte b form) [] = Outcome.bad 0 OtherByte
-walk (Form.byte b form) (c ∷ text) = cond (c == b) (pushed 1 (walk form text)) (Outcome.bad 0 OtherByte)
-walk (Form.hole test form) text =
-    let k = prefix_len is_hole_byte text in behind_hole (test (take k text)) k (walk (form (take k text)) (drop k text))
-walk (Form.turn form) text = walk (form (next text)) text
-walk (Form.ahead form) text = walk (form text) text
-walk (Form.refuse rule) text = Outcome.bad 0 rule
-
-pushed_zero : {A : Type 0} (o : Outcome A) → pushed 0 o ≡ o
+pub pushed_zero : {A : Type 0} (o : Outcome A) → pushed 0 o ≡ o
 pushed_zero (Outcome.good a rest) = refl
 pushed_zero (Outcome.bad at rule) = let e : 0 + at ≡ at = omega arith in ap (λ (k : ℕ). Outcome.bad k rule) e
 
-pushed_twice : {A : Type 0} (j k l : ℕ) (o : Outcome A) → j + k ≡ l → pushed j (pushed k o) ≡ pushed l o
+pub pushed_twice : {A : Type 0} (j k l : ℕ) (o : Outcome A) → j + k ≡ l → pushed j (pushed k o) ≡ pushed l o
 pushed_twice j k l (Outcome.good a rest) e = refl
 pushed_twice j k l (Outcome.bad at rule) e = let f : j + (k + at) ≡ l + at = omega (arith, e) in ap (λ (m : ℕ). Outcome.bad m rule) f
 
@@ -46,10 +23,10 @@ ends_stops (b ∷ bs) h = h
 
 -- a hole is walked
 hole_walks : {A : Type 0} (test : List ℕ → Option Rule) (form : List ℕ → Form A) (run behind : List ℕ) → IsHole run behind
-    → walk (Form.hole test form) (run ++ behind) ≡ behind_hole (test run) (length run) (walk (form run) behind)
+    → walk (Form.hole test form) (run ++ behind) ≡ behind_test (test run) (length run) (walk (form run) behind)
 hole_walks {A} test form run behind is =
     let k = prefix_run is_hole_byte run behind is.bytes (ends_stops behind is.ends) in
-    let there = λ (t d : List ℕ) (n : ℕ). behind_hole {A = A} (test t) n (walk (form t) d) in
+    let there = λ (t d : List ℕ) (n : ℕ). behind_test {A = A} (test t) n (walk (form t) d) in
     ap (λ (n : ℕ). there (take n (run ++ behind)) (drop n (run ++ behind)) n) k
     ∙ ap (λ (t : List ℕ). there t (drop (length run) (run ++ behind)) (length run)) (take_at run behind (length run) refl)
     ∙ ap (λ (d : List ℕ). there run d (length run)) (drop_at run behind (length run) refl)
@@ -63,7 +40,7 @@ due_walks {A} {due} {rest} (Due.byte {form} {front} b d) =
 due_walks {A} {due} {rest} (Due.hole {front} test form run is none d) =
     ap (walk (Form.hole test form)) (append_assoc run front rest)
     ∙ hole_walks test form run (front ++ rest) is
-    ∙ ap (λ (o : Option Rule). behind_hole o (length run) (walk (form run) (front ++ rest))) none
+    ∙ ap (λ (o : Option Rule). behind_test o (length run) (walk (form run) (front ++ rest))) none
     ∙ ap (pushed (length run)) (due_walks d)
     ∙ pushed_twice (length run) (length front) (length (run ++ front)) (walk due rest) (sym (length-append run front))
 due_walks (Due.turn form d) = due_walks d
@@ -80,7 +57,7 @@ differs_walks (c ∷ text) b form h =
 misfit_walks : {A : Type 0} {text : List ℕ} {form : Form A} {rule : Rule} → Misfits text form rule → walk form text ≡ Outcome.bad 0 rule
 misfit_walks {A} {text} (Misfits.byte b form h) = differs_walks text b form h
 misfit_walks (Misfits.hole test form run behind rule parts is breaks) =
-    ap (walk (Form.hole test form)) parts ∙ hole_walks test form run behind is ∙ ap (λ (o : Option Rule). behind_hole o (length run) (walk (form run) behind)) breaks
+    ap (walk (Form.hole test form)) parts ∙ hole_walks test form run behind is ∙ ap (λ (o : Option Rule). behind_test o (length run) (walk (form run) behind)) breaks
 misfit_walks (Misfits.refuse rule) = refl
 
 pub reads_walks : {A : Type 0} (form : Form A) (text : List ℕ) (a : A) (rest : List ℕ) → Reads form text a rest → walk form text ≡ Outcome.good a rest
@@ -97,7 +74,7 @@ pub record SameReading {A : Type 0} (a b : A) (r s : List ℕ) : Type 0 where
   pub value : a ≡ b
   pub rest : r ≡ s
 
-same_good : {A : Type 0} (a b : A) (r s : List ℕ) → Outcome.good a r ≡ Outcome.good b s → SameReading a b r s
+pub same_good : {A : Type 0} (a b : A) (r s : List ℕ) → Outcome.good a r ≡ Outcome.good b s → SameReading a b r s
 same_good a b r s e = record { value = cc; rest = cc }
 
 pub one_value : {A : Type 0} (form : Form A) (text : List ℕ) (a b : A) (r s : List ℕ) → Reads form text a r → Reads form text b s → SameReading a b r s
@@ -107,13 +84,13 @@ pub record SameFault (at at' : ℕ) (rule rule' : Rule) : Type 0 where
   pub same_place : at ≡ at'
   pub same_rule : rule ≡ rule'
 
-same_bad : (A : Type 0) (at at' : ℕ) (rule rule' : Rule) → (let x : Outcome A = Outcome.bad at rule in x) ≡ Outcome.bad at' rule' → SameFault at at' rule rule'
+pub same_bad : (A : Type 0) (at at' : ℕ) (rule rule' : Rule) → (let x : Outcome A = Outcome.bad at rule in x) ≡ Outcome.bad at' rule' → SameFault at at' rule rule'
 same_bad A at at' rule rule' e = record { same_place = cc; same_rule = cc }
 
 pub one_fault : {A : Type 0} (form : Form A) (text : List ℕ) (at at' : ℕ) (rule rule' : Rule) → HasFault form text at rule → HasFault form text at' rule' → SameFault at at' rule rule'
 one_fault {A} form text at at' rule rule' x y = same_bad A at at' rule rule' (sym (fault_walks form text at rule x) ∙ fault_walks form text at' rule' y)
 
-apart : {A : Type 0} (a : A) (rest : List ℕ) (at : ℕ) (rule : Rule) → Outcome.good a rest ≡ Outcome.bad at rule → ⊥
+pub apart : {A : Type 0} (a : A) (rest : List ℕ) (at : ℕ) (rule : Rule) → Outcome.good a rest ≡ Outcome.bad at rule → ⊥
 apart a rest at rule e = cc
 
 pub never_both : {A : Type 0} (form : Form A) (text : List ℕ) (a : A) (rest : List ℕ) (at : ℕ) (rule : Rule) → Reads form text a rest → HasFault form text at rule → ⊥

@@ -86,7 +86,7 @@ below_as : (b : Bool) → (true && not b) ≡ false → b ≡ true
 below_as true e = refl
 below_as false e = absurd (true_false e)
 
-room_walked : {A : Type 0} (n : ℕ) (form : Form A) (e : A) (rest front : List ℕ) → Walked e rest (room_form n form) front → (is_net_line (front ++ rest) ≡ true → n < 2 ^ 20) × Walked e rest form front
+pub room_walked : {A : Type 0} (n : ℕ) (form : Form A) (e : A) (rest front : List ℕ) → Walked e rest (room_form n form) front → (is_net_line (front ++ rest) ≡ true → n < 2 ^ 20) × Walked e rest form front
 room_walked n form e rest front d =
     let test = is_net_line (front ++ rest) && not (nat_lt n (2 ^ 20)) in
     let w = room_walked_as e rest form front test test refl (inverted e refl d) in

@@ -1,5 +1,7 @@
 pub mod Rules
 pub mod Forms
+pub mod Walks
+pub mod Holes
 pub mod RightSides
 pub mod WireLines
 pub mod RegisterLines
@@ -8,4 +10,9 @@ pub mod Headers
 pub mod InputLines
 pub mod ClockedLines
 pub mod WholeTexts
+pub mod DeclaredLines
+pub mod Sections
+pub mod ClockedParts
+pub mod PortNames
+pub mod Faults
 pub mod Worked
