@@ -1,5 +1,5 @@
 -- One pass over the nets gives the valuation.
-use Rattle.std.proofs.Common.{◌≡◌, ℕ, ◌+◌, ◌^◌, ◌<◌, Bool, true, false, List, length, slice_get, set, Option, Some, ◌⊎◌, inl, inr, refl, sym, subst, ap, ◌∙◌, arith}
+use Rattle.std.proofs.Common.{◌≡◌, ℕ, ◌+◌, ◌^◌, ◌<◌, Bool, true, false, List, length, slice_get, set, Option, Some, inl, inr, refl, sym, subst, ap, ◌∙◌, arith}
 use Rattle.std.specs.Prelude.{IfSome}
 use Rattle.std.proofs.lemmas.Bool.{cases_lt, false≢true}
 use Rattle.std.proofs.Math.ListN.{length-set}
@@ -12,7 +12,7 @@ use Rattle.netlist.specs.Netlists.{Netlist, IsModule, IsInputPort, IsSound, IsVa
 use Rattle.netlist.specs.Runs.{value_of, IsValuation, WordsFit}
 use Rattle.cycle_sim.specs.Sims.{AreNets, AreWords, bits_at, cycle_with, given_to, place_of}
 use Rattle.cycle_sim.specs.Given.{IsGiven}
-use Rattle.cycle_sim.proofs.Values.{slice_get-some, slice_get-set, bits_at-is, bits_at-set_same, bits_at-set_other}
+use Rattle.cycle_sim.proofs.Values.{split_more, slice_get-some, slice_get-set, bits_at-is, bits_at-set_same, bits_at-set_other}
 use Rattle.cycle_sim.proofs.Inputs.{input_line, input_stands}
 use Rattle.cycle_sim.proofs.Places.{place_within}
 
@@ -61,9 +61,6 @@ set_net lines nets k value h is = record {
     | inr o ↦ subst (λ (x : Word). IsValue x line.width) o.1 (is line (subst (λ m. slice_get lines m ≡ Some line) o.0 at))
   ];
 }
-
-split_more : (n k : ℕ) → n < k + 1 → (n < k) ⊎ (n ≡ k)
-split_more n k h = elim (cases_lt n k) [ inl lt ↦ inl lt | inr le ↦ inr (omega arith) ]
 
 module_line_sound : (b : Netlist) → IsModule b → (n : ℕ) (line : Line) → slice_get b.lines n ≡ Some line → IsSound b.ports b.memories b.lines n line.width line.equation
 module_line_sound b h n line at = (h.well_made.lines n line at).equation

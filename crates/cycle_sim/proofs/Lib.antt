@@ -7,3 +7,4 @@ pub mod Words
 pub mod Access
 pub mod Next
 pub mod Runs
+pub mod Orders

@@ -1,15 +1,15 @@
 -- What each kind of equation asks for and gives.
-use Rattle.std.proofs.Common.{◌≡◌, ℕ, ◌<◌, ◌≤◌, Bool, true, false, List, length, slice_get, get_or, Option, Some, None, refl, sym, subst, ap, ◌∙◌, arith}
-use Rattle.std.specs.Prelude.{IfSome, option_map, unwrap_or, if◌then◌else◌}
+use Rattle.std.proofs.Common.{◌≡◌, ℕ, ◌<◌, ◌≤◌, Bool, true, false, List, length, slice_get, get_or, Option, Some, refl, sym, subst, ap, ◌∙◌, arith}
+use Rattle.std.specs.Prelude.{IfSome, option_map, if◌then◌else◌}
 use Rattle.std.proofs.lemmas.Bool.{false≢true}
 use Rattle.std.proofs.lemmas.Option.{get_or_from_slice_get, slice_get_within, slice_get_read, same_Some}
 use Rattle.av_base.specs.Word.{Word, word}
 use Rattle.netlist.specs.declared.line.Line.{Line}
 use Rattle.netlist.specs.declared.line.Equation.{Equation}
-use Rattle.netlist.specs.Netlists.{Netlist, IsModule, IsSound, IsValue, HasWidth, width_at, is_input, is_register, line_of, next_in}
+use Rattle.netlist.specs.Netlists.{Netlist, IsModule, IsSound, IsValue, HasWidth, width_at, is_input, is_register, line_of}
 use Rattle.netlist.specs.Runs.{value_of}
 use Rattle.cycle_sim.specs.Sims.{AreNets, bits_at, cycle_with}
-use Rattle.cycle_sim.specs.Given.{IsGiven, source_of}
+use Rattle.cycle_sim.specs.Given.{IsGiven}
 use Rattle.netlist.specs.declared.line.Equation.TheVariants.{Input, Reg}
 use Rattle.cycle_sim.specs.Sims.{AreInputs}
 use Rattle.cycle_sim.proofs.Values.{slice_get-some, width_at-line, bits_at-is}
@@ -143,23 +143,6 @@ value_width lines nets n x h lt is =
 pub value_bits : (lines : List Line) (nets : List Word) (n : ℕ) (x : Word) → AreNets lines nets → n < length lines → x ≡ get_or nets n x → x.bits ≡ bits_at nets n
 value_bits lines nets n x h lt is = sym (bits_at-is nets n x (slice_get_read nets (length lines) n x (sym h.count) lt is))
 
--- a register's next net, and the net that a net takes its value from
-pub next_is : (b : Netlist) (n : ℕ) (reset : Word) (next : ℕ) → IsModule b → (h : Here b n (Reg reset next)) → width_at b.lines next ≡ Some h.width
-next_is b n reset next is_module h = (is_module.well_made.lines n (line_of h.width (Reg reset next)) h.at).next
-
-pub source_next : (b : Netlist) (nets : List Word) (n : ℕ) (reset : Word) (next : ℕ) → IsModule b → AreNets b.lines nets → (h : Here b n (Reg reset next)) → (value : Word) → value ≡ get_or nets next value →
-    (line : Line) → slice_get b.lines n ≡ Some line → slice_get nets (source_of n line) ≡ Some value
-source_next b nets n reset next is_module hn h value is line at =
-    let its : line_of h.width (Reg reset next) ≡ line = same_Some _ _ (sym h.at ∙ at) in
-    subst (λ (l : Line). slice_get nets (source_of n l) ≡ Some value) its (slice_get_read nets (length nets) next value refl (within b.lines nets next h.width hn (next_is b n reset next is_module h)) is)
-
-no_next : (e : Equation) → ((x : Word) (m : ℕ) → e ≡ Reg x m → ⊥) → next_in e ≡ None
-no_next (Reg reset next) h = absurd (h reset next refl)
-no_next _ h = refl
-
-pub source_itself : (b : Netlist) (nets : List Word) (n : ℕ) (e : Equation) → AreNets b.lines nets → (h : Here b n e) → ((x : Word) (m : ℕ) → e ≡ Reg x m → ⊥) → (value : Word) → value ≡ get_or nets n value →
-    (line : Line) → slice_get b.lines n ≡ Some line → slice_get nets (source_of n line) ≡ Some value
-source_itself b nets n e hn h other value is line at =
-    let its : line_of h.width e ≡ line = same_Some _ _ (sym h.at ∙ at) in
-    let stands : slice_get nets n ≡ Some value = slice_get_read nets (length b.lines) n value (sym hn.count) (slice_get_within b.lines n (line_of h.width e) h.at) is in
-    subst (λ (l : Line). slice_get nets (source_of n l) ≡ Some value) its (subst (λ (o : Option ℕ). slice_get nets (unwrap_or o n) ≡ Some value) (sym (no_next e other)) stands)
+-- the equation of net n is the one that was read there
+pub equation_is : (b : Netlist) (n : ℕ) (e : Equation) → IsModule b → n < length b.lines → ((w : ℕ) → HasWidth b n w → slice_get b.lines n ≡ Some (line_of w e)) → (line : Line) → slice_get b.lines n ≡ Some line → line.equation ≡ e
+equation_is b n e h lt is line at = ap (λ (l : Line). l.equation) (same_Some _ _ (sym at ∙ (here b n e h lt is).at))

@@ -34,7 +34,7 @@ next_register : (e : Equation) (m : ℕ) → next_in e ≡ Some m → is_registe
 next_register (Reg reset next) m h = refl
 next_register _ m h = cc
 
-register_of_next : (line : Line) (m : ℕ) → next_of line ≡ Some m → is_register line.equation ≡ true
+pub register_of_next : (line : Line) (m : ℕ) → next_of line ≡ Some m → is_register line.equation ≡ true
 register_of_next line m h = by_waits line.waits h where
   by_waits : (t : Bool) → (if t then None else next_in line.equation) ≡ Some m → is_register line.equation ≡ true
   by_waits true e = cc

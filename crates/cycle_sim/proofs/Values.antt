@@ -1,12 +1,16 @@
 -- Values at places of lists.
-use Rattle.std.proofs.Common.{◌≡◌, ◌≢◌, ℕ, zero, suc, ◌<◌, List, [], ◌∷◌, ◌++◌, length, slice_get, set, map, take, drop, Some, ◌⊎◌, inl, inr, refl, subst, ap, ◌∙◌, arith}
+use Rattle.std.proofs.Common.{◌≡◌, ◌≢◌, ℕ, zero, suc, ◌+◌, ◌<◌, List, [], ◌∷◌, ◌++◌, length, slice_get, set, map, take, drop, Some, ◌⊎◌, inl, inr, refl, subst, ap, ◌∙◌, arith}
 use Rattle.std.proofs.Math.Seq.{take-append_seam}
+use Rattle.std.proofs.lemmas.Bool.{cases_lt}
 use Rattle.std.proofs.lemmas.List.{get_or-set_same, get_or-set_other}
 use Rattle.std.proofs.lemmas.Option.{get_or_from_slice_get, same_Some}
 use Rattle.av_base.specs.Word.{Word, word}
 use Rattle.netlist.specs.declared.line.Line.{Line}
 use Rattle.netlist.specs.Netlists.{width_at}
 use Rattle.cycle_sim.specs.Sims.{bits_at}
+
+pub split_more : (n k : ℕ) → n < k + 1 → (n < k) ⊎ (n ≡ k)
+split_more n k h = elim (cases_lt n k) [ inl lt ↦ inl lt | inr le ↦ inr (omega arith) ]
 
 pub slice_get-some : {X : Type 0} (xs : List X) (n : ℕ) → n < length xs → (x : X) × (slice_get xs n ≡ Some x)
 slice_get-some [] n h = absurd (omega arith)

@@ -1,5 +1,5 @@
 -- The words of memories, cleared and written.
-use Rattle.std.proofs.Common.{◌≡◌, ◌≢◌, ℕ, ◌+◌, ◌^◌, ◌<◌, ◌≤◌, Bool, true, false, List, [], ◌∷◌, ◌++◌, length, slice_get, get_or, set, Some, ◌⊎◌, inl, inr, refl, sym, subst, ap, ◌∙◌, arith}
+use Rattle.std.proofs.Common.{◌≡◌, ◌≢◌, ℕ, ◌+◌, ◌^◌, ◌<◌, ◌≤◌, Bool, true, false, List, [], ◌∷◌, ◌++◌, length, slice_get, get_or, set, Some, inl, inr, refl, sym, subst, ap, ◌∙◌, arith}
 use Rattle.std.specs.Prelude.{IfSome, ◌==◌}
 use Rattle.std.proofs.Math.ListN.{length-set}
 use Rattle.std.proofs.lemmas.List.{get_or_past, length-append}
@@ -13,7 +13,7 @@ use Rattle.netlist.specs.declared.line.MemLine.{MemLine}
 use Rattle.netlist.specs.Netlists.{Netlist, IsValue, memory_of}
 use Rattle.netlist.specs.Runs.{word_after}
 use Rattle.cycle_sim.specs.Sims.{AreWords, ArePlaces, bits_at, cycle_with, place_of, size_of}
-use Rattle.cycle_sim.proofs.Values.{slice_get-front, slice_get-last, slice_get-set, bits_at-set_same, bits_at-set_other}
+use Rattle.cycle_sim.proofs.Values.{split_more, slice_get-front, slice_get-last, slice_get-set, bits_at-set_same, bits_at-set_other}
 use Rattle.cycle_sim.proofs.Places.{place_more, place_after, place_apart, place_within}
 
 -- the memories below k have the words that follow, and the others those of before
@@ -30,9 +30,6 @@ written_none b nets words h = record {
   done = λ m memory lt at address in_m. absurd (omega arith);
   rest = λ m memory le at address in_m. refl;
 }
-
-split_more : (n k : ℕ) → n < k + 1 → (n < k) ⊎ (n ≡ k)
-split_more n k h = elim (cases_lt n k) [ inl lt ↦ inl lt | inr le ↦ inr (omega arith) ]
 
 abbrev pub its_write : MemLine → MemWrite
 its_write line = record { enable = line.enable; address = line.address; word = line.word }

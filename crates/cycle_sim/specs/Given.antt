@@ -1,8 +1,8 @@
 -- What an equation gives its net.
-use Rattle.std.specs.Prelude.{◌≡◌, ℕ, true, false, List, slice_get, Some, IfSome, unwrap_or}
+use Rattle.std.specs.Prelude.{◌≡◌, ℕ, true, false, List, slice_get, Some, IfSome}
 use Rattle.av_base.specs.Word.{Word}
 use Rattle.netlist.specs.declared.line.Line.{Line}
-use Rattle.netlist.specs.Netlists.{Netlist, is_input, is_register, next_of}
+use Rattle.netlist.specs.Netlists.{Netlist, is_input, is_register}
 use Rattle.netlist.specs.Runs.{value_of}
 use Rattle.cycle_sim.specs.Sims.{cycle_with}
 
@@ -13,7 +13,3 @@ pub record IsGiven (netlist : Netlist) (inputs words nets : List Word) (n : ℕ)
   pub input : is_input line.equation ≡ true → slice_get inputs n ≡ Some value
   pub register : is_register line.equation ≡ true → slice_get nets n ≡ Some value
   pub computed : is_input line.equation ≡ false → IfSome (value_of netlist.lines (cycle_with netlist nets words) line.width line.equation) (λ x. value.bits ≡ x)
-
--- the net that net n takes its value from at the clock's edge: a register's next net, and else itself
-abbrev pub source_of : ℕ → Line → ℕ
-source_of n line = unwrap_or (next_of line) n

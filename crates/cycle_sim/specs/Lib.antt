@@ -1,3 +1,4 @@
 pub mod Sims
 pub mod Standing
 pub mod Given
+pub mod Orders

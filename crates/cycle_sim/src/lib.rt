@@ -4,6 +4,7 @@
 mod cells;
 mod laws;
 mod nets;
+mod order;
 mod sim;
 
 pub use laws::{follow, one_run};

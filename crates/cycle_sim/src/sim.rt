@@ -5,33 +5,39 @@ ghost use Rattle.netlist.specs.Signals.{port_net};
 ghost use Rattle.cycle_sim.specs.Sims.{AreInputs, IsSim, given_to, present};
 ghost use Rattle.cycle_sim.specs.Standing.{IsFirst, IsClearedRun, StandsFor, with_cycle};
 
-use crate::cells::Cells;
+use crate::cells::{Cells, zero};
 use crate::nets::{are_inputs, evaluate, first_nets, take_next};
+use crate::order::{Register, evaluated_nets, registers_of};
 use av_base::{NoMemory, Val};
 use netlist::{Module, agree};
 use std::alloc::Global;
 use std::marker::Model;
-use std::mem;
 
 /// A module and its present cycle.
 #[derive(Drop)]
 pub struct Sim {
     module: Module,
     nets: Vec<Val>,
+    evaluated: Vec<u32>,
+    registers: Vec<Register>,
+    /// room for what each register takes at the clock's edge
     next: Vec<Val>,
     cells: Cells,
     stepped: bool,
 }
 
 impl Model for Sim {
-    ghost use Rattle.cycle_sim.specs.Sims.{SimValue, IsSim, AreNets, ArePlaces};
+    ghost use Rattle.std.specs.Prelude.{◌≡◌, length};
+    ghost use Rattle.cycle_sim.specs.Sims.{SimValue, IsSim, ArePlaces};
+    ghost use Rattle.cycle_sim.specs.Orders.{AreEvaluated, AreRegisters, HoldConstants};
 
     ghost Value = { SimValue };
 
     ghost view = { λ s. record { netlist = s.module; nets = s.nets.items; words = s.cells.words.items; stepped = s.stepped } };
 
     ghost invariant = { λ s. IsSim (record { netlist = s.module; nets = s.nets.items; words = s.cells.words.items; stepped = s.stepped })
-        × AreNets s.module.lines s.next.items × ArePlaces s.module.memories s.cells.places.items };
+        × ArePlaces s.module.memories s.cells.places.items × AreEvaluated s.module.lines s.evaluated.items × HoldConstants s.module.lines s.nets.items
+        × AreRegisters s.module.lines s.registers.items × (length s.next.items ≡ length s.registers.items) };
 }
 
 impl Sim {
@@ -43,12 +49,17 @@ impl Sim {
         ensures stands { IfOk result (λ sim. (run : Run) → StandsFor sim run 0) }
     {
         let nets = first_nets(alloc, &module)?;
-        let next = first_nets(alloc, &module)?;
+        let evaluated = evaluated_nets(alloc, &module)?;
+        let registers = registers_of(alloc, &module)?;
+        let mut next = Vec::new(alloc);
+        next.resize(registers.len(), zero(1))?;
         let cells = Cells::new(alloc, &module)?;
         module.well_made();
         Ok(Sim {
             module,
             nets,
+            evaluated,
+            registers,
             next,
             cells,
             stepped: false,
@@ -88,7 +99,13 @@ impl Sim {
         ensures run { (run : Run) (cycles : ℕ) → StandsFor self.old run cycles → IsClearedRun self.new.netlist (with_cycle run cycles (present self.new)) (cycles + 1) }
     {
         agree();
-        evaluate(&self.module, inputs, &self.cells, self.nets.as_mut_slice());
+        evaluate(
+            &self.module,
+            inputs,
+            &self.cells,
+            self.evaluated.as_slice(),
+            self.nets.as_mut_slice(),
+        );
         self.stepped = true;
     }
 
@@ -101,8 +118,12 @@ impl Sim {
         ensures stands { (run : Run) (cycles : ℕ) → StandsFor self.old run cycles → StandsFor self.new (with_cycle run cycles (present self.old)) (cycles + 1) }
     {
         self.cells.write(&self.module, self.nets.as_slice());
-        take_next(&self.module, self.nets.as_slice(), self.next.as_mut_slice());
-        mem::swap(&mut self.nets, &mut self.next);
+        take_next(
+            &self.module,
+            self.registers.as_slice(),
+            self.next.as_mut_slice(),
+            self.nets.as_mut_slice(),
+        );
         self.stepped = false;
     }
 

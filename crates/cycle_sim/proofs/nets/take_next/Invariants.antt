@@ -1,5 +1,5 @@
-use Rattle.cycle_sim.proofs.Next.{AreTaken}
+use Rattle.cycle_sim.proofs.Orders.{AreTaken}
 use Rattle.cycle_sim.proofs.nets.take_next.Given as goal
 
-abbrev pub invariant-loop-net : goal.invariant-loop-net
-invariant-loop-net l = AreTaken l.module.lines l.nets l.next l.net
+abbrev pub invariant-loop-place : goal.invariant-loop-place
+invariant-loop-place l = AreTaken l.module l.registers l.initial.nets l.nets l.place
