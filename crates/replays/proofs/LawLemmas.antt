@@ -39,6 +39,8 @@ never netlist bytes (replay.TooManyValues count) law can many =
     let passed = many.passed in
     let is = many.count_is in
     absurd (omega arith)
+never netlist bytes (replay.TextRefused byte rule) law can is = is
+never netlist bytes replay.TooManyNets law can is = is
 never netlist bytes replay.NoMemory law can is = is
 
 pub one_fault : (netlist : Netlist) (bytes : List ℕ) (one other : ReplayFault) → IsJudged (input_widths netlist.ports) bytes → IsReplayFault netlist bytes one → IsReplayFault netlist bytes other
@@ -50,8 +52,9 @@ one_fault netlist bytes (replay.WavesRefused line rule) (replay.TooManyValues co
 one_fault netlist bytes (replay.TooManyValues count) (replay.WavesRefused line rule) law many g = absurd (law.never_both many.rows line rule many.are_waves g)
 one_fault netlist bytes (replay.TooManyValues count) (replay.TooManyValues number) law many more =
     ap replay.TooManyValues (many.count_is ∙ ap (value_count netlist) (law.one_reading many.rows more.rows many.are_waves more.are_waves) ∙ sym more.count_is)
-one_fault netlist bytes replay.NoMemory (replay.WavesRefused line rule) law f g = absurd f
-one_fault netlist bytes replay.NoMemory (replay.TooManyValues count) law f g = absurd f
-one_fault netlist bytes replay.NoMemory replay.NoMemory law f g = absurd f
-one_fault netlist bytes (replay.WavesRefused line rule) replay.NoMemory law f g = absurd g
-one_fault netlist bytes (replay.TooManyValues count) replay.NoMemory law f g = absurd g
+one_fault netlist bytes (replay.TextRefused byte rule) other law f g = absurd f
+one_fault netlist bytes replay.TooManyNets other law f g = absurd f
+one_fault netlist bytes replay.NoMemory other law f g = absurd f
+one_fault netlist bytes one (replay.TextRefused byte rule) law f g = absurd g
+one_fault netlist bytes one replay.TooManyNets law f g = absurd g
+one_fault netlist bytes one replay.NoMemory law f g = absurd g

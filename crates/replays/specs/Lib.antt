@@ -1,3 +1,4 @@
 pub mod Traces
 pub mod Replays
+pub mod Texts
 pub mod Worked

@@ -49,11 +49,11 @@ pub record AreTooMany (netlist : Netlist) (bytes : List ℕ) (count : ℕ) : Typ
   pub count_is : count ≡ value_count netlist rows
   pub passed : 2 ^ 32 < count
 
--- why these waves are not replayed on a module; want of memory is no reason
+-- why these waves are not replayed on a module; want of memory is no reason, and a module has no text to refuse
 abbrev pub IsReplayFault : Netlist → List ℕ → ReplayFault → Type 0
 IsReplayFault netlist bytes (replay.WavesRefused line rule) = IsFaultOf (input_widths netlist.ports) bytes (waves.Refused line rule)
 IsReplayFault netlist bytes (replay.TooManyValues count) = AreTooMany netlist bytes count
-IsReplayFault netlist bytes replay.NoMemory = ⊥
+IsReplayFault netlist bytes _ = ⊥
 
 -- what becomes of a fault of the waves
 abbrev pub fault_of : WavesFault → ReplayFault

@@ -5,9 +5,11 @@ ghost use Rattle.netlist.specs.Netlists.{Netlist, IsModule};
 ghost use Rattle.replays.specs.declared.faults.ReplayFault.{ReplayFault as Fault};
 ghost use Rattle.replays.specs.Traces.{value_text, trace_text};
 ghost use Rattle.replays.specs.Replays.{CanReplay, IsReplayOf, IsReplayFault};
+ghost use Rattle.replays.specs.Texts.{CanReplayText, IsReplayOfText, IsReplayTextFault};
 ghost use Rattle.replays.specs.Worked.{inverter, rising};
 
 use cycle_sim::one_run;
+use verilog_reader::{no_two_modules, texts_judge};
 use waves::{never_both, no_two_first_faults, no_two_readings, rows_or_fault};
 
 /// A replay has one text at most.
@@ -28,6 +30,19 @@ pub fn replayed_or_refused()
     never_both();
     no_two_readings();
     no_two_first_faults();
+}
+
+/// Waves are replayed on the module of a text or refused, never both, and for one reason; and a replay has one text at most.
+pub fn texts_are_replayed_or_refused()
+    ensures either { (text waves : List ℕ) → CanReplayText text waves ⊎ ((fault : Fault) × IsReplayTextFault text waves fault) }
+    ensures never_both { (text waves : List ℕ) (fault : Fault) → CanReplayText text waves → ¬ IsReplayTextFault text waves fault }
+    ensures one_fault { (text waves : List ℕ) (one other : Fault) → IsReplayTextFault text waves one → IsReplayTextFault text waves other → one ≡ other }
+    ensures one_trace { (text waves one other : List ℕ) → IsReplayOfText text waves one → IsReplayOfText text waves other → one ≡ other }
+{
+    no_two_modules();
+    texts_judge();
+    replayed_or_refused();
+    no_two_replays();
 }
 
 /// The text of a small run, and values that need digits in front.

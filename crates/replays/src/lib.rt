@@ -7,5 +7,7 @@ mod traces;
 mod whole;
 
 pub use faults::ReplayFault;
-pub use laws::{no_two_replays, replayed_or_refused, traces_are_spelled};
-pub use whole::replay_module;
+pub use laws::{
+    no_two_replays, replayed_or_refused, texts_are_replayed_or_refused, traces_are_spelled,
+};
+pub use whole::{replay, replay_module};
