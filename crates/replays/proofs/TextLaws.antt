@@ -1,5 +1,5 @@
 -- Texts and waves are replayed or refused, never both, and for one reason.
-use Rattle.std.proofs.Common.{◌≡◌, ℕ, ◌⊎◌, inl, inr, ⊎_elim, List, Some, refl, sym, ap, subst, ◌∙◌}
+use Rattle.std.proofs.Common.{◌≡◌, ℕ, ◌⊎◌, inl, inr, ⊎_elim, List, refl, sym, ap, subst, ◌∙◌}
 use Rattle.std.proofs.lemmas.Option.{same_Some}
 use Rattle.netlist.specs.Netlists.{Netlist, IsModule}
 use Rattle.verilog_writer.specs.Text.{text_of}
@@ -38,16 +38,16 @@ faultless text P at broken law is fault =
     law.never_both is.netlist at broken is.is_module (subst (λ (t : List ℕ). HasFault module_form t at broken) is.is_text fault)
 
 by_rule : (text waves : List ℕ) (at : ℕ) (broken : Rule) → HasFault module_form text at broken → (fault : ReplayFault) × IsReplayTextFault text waves fault
-by_rule text waves at rule.OtherByte h = (replay.TextRefused at 1, rule.OtherByte, refl, h)
-by_rule text waves at rule.Name h = (replay.TextRefused at 2, rule.Name, refl, h)
-by_rule text waves at rule.Width h = (replay.TextRefused at 3, rule.Width, refl, h)
-by_rule text waves at rule.Spelling h = (replay.TextRefused at 4, rule.Spelling, refl, h)
-by_rule text waves at rule.NotThere h = (replay.TextRefused at 5, rule.NotThere, refl, h)
-by_rule text waves at rule.Bounds h = (replay.TextRefused at 6, rule.Bounds, refl, h)
-by_rule text waves at rule.Depth h = (replay.TextRefused at 7, rule.Depth, refl, h)
-by_rule text waves at rule.Order h = (replay.TextRefused at 8, rule.Order, refl, h)
-by_rule text waves at rule.AfterEnd h = (replay.TextRefused at 9, rule.AfterEnd, refl, h)
-by_rule text waves at rule.TooManyNets h = (replay.TooManyNets, at, h)
+by_rule text waves at rule.OtherByte h = (replay.TextRefused at 1, (rule.OtherByte, refl, h))
+by_rule text waves at rule.Name h = (replay.TextRefused at 2, (rule.Name, refl, h))
+by_rule text waves at rule.Width h = (replay.TextRefused at 3, (rule.Width, refl, h))
+by_rule text waves at rule.Spelling h = (replay.TextRefused at 4, (rule.Spelling, refl, h))
+by_rule text waves at rule.NotThere h = (replay.TextRefused at 5, (rule.NotThere, refl, h))
+by_rule text waves at rule.Bounds h = (replay.TextRefused at 6, (rule.Bounds, refl, h))
+by_rule text waves at rule.Depth h = (replay.TextRefused at 7, (rule.Depth, refl, h))
+by_rule text waves at rule.Order h = (replay.TextRefused at 8, (rule.Order, refl, h))
+by_rule text waves at rule.AfterEnd h = (replay.TextRefused at 9, (rule.AfterEnd, refl, h))
+by_rule text waves at rule.TooManyNets h = (replay.TooManyNets, (at, h))
 
 -- a fault of the waves on the text's module
 pub with_module : (text waves : List ℕ) (netlist : Netlist) (fault : ReplayFault) → IsModule netlist → text ≡ text_of netlist → IsReplayFault netlist waves fault → IsReplayTextFault text waves fault
