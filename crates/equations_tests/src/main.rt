@@ -14,7 +14,7 @@ use room::NoRoom;
 use std::alloc::Global;
 use std::io;
 use steps::{push_bytes, push_counted, push_joined, push_operators, push_outputs, push_run};
-use wave_files::{push_replayed, push_waves};
+use wave_files::{push_read_back, push_replayed, push_waves};
 
 /// Appends what is said of a row.
 fn push_answer(alloc: Global, text: &mut String, row: &str) -> Result<(), NoRoom> {
@@ -28,6 +28,7 @@ fn push_answer(alloc: Global, text: &mut String, row: &str) -> Result<(), NoRoom
         "run" => push_run(alloc, text, words),
         "waves" => push_waves(alloc, text, words),
         "replayed" => push_replayed(alloc, text, words),
+        "read_back" => push_read_back(alloc, text, words),
         _ => push_module(alloc, text, name, words),
     }
 }

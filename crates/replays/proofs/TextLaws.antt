@@ -60,9 +60,9 @@ with_module text waves netlist replay.NoMemory sound is h = absurd h
 pub either : (text waves : List ℕ) → IsJudgedText text → AreJudgedWaves waves → CanReplayText text waves ⊎ ((fault : ReplayFault) × IsReplayTextFault text waves fault)
 either text waves law on = ⊎_elim
     (λ m. ⊎_elim
-        (λ can. inl record { netlist = m.0; is_module = m.1; is_text = m.2; holds = can })
-        (λ f. inr (f.0, with_module text waves m.0 f.0 m.1 m.2 f.1))
-        (on.either m.0))
+    (λ can. inl record { netlist = m.0; is_module = m.1; is_text = m.2; holds = can })
+    (λ f. inr (f.0, with_module text waves m.0 f.0 m.1 m.2 f.1))
+    (on.either m.0))
     (λ f. inr (by_rule text waves f.0 f.1 f.2))
     law.either
 
