@@ -1,5 +1,5 @@
 -- What a run answers, and when.
-use Rattle.std.specs.Prelude.{◌≡◌, ℕ, ◌+◌, ◌<◌, ◌≤◌, ◌⊎◌, List, length, take, slice_get, All, Option, Some}
+use Rattle.std.specs.Prelude.{◌≡◌, ℕ, ◌+◌, ◌<◌, ◌≤◌, ◌⊎◌, List, length, take, slice_get, slice_index_or, ◌==◌, if◌then◌else◌, [], Option, Some}
 use Rattle.av_files.specs.Outside.{Rose, with_more, WhereTold}
 use Rattle.link_rules.specs.Plans.{PlanTable}
 use Rattle.system_plan.specs.declared.faults.Refusal.TheVariants as refusal
@@ -8,26 +8,67 @@ use Rattle.map_text.specs.Text.{map_text}
 use Rattle.interconnect.specs.Interconnect.{IsInterconnect}
 use Rattle.netlist.specs.Netlists.{Netlist, IsModule}
 use Rattle.verilog_writer.specs.Text.{text_of}
+use Rattle.waves.specs.Rules.{number_of}
+use Rattle.replays.specs.declared.faults.ReplayFault.{ReplayFault}
+use Rattle.replays.specs.declared.faults.ReplayFault.TheVariants as fault
+use Rattle.replays.specs.Texts.{CanReplayText, IsReplayOfText, IsReplayTextFault}
+use Rattle.answer_lines.specs.declared.exit.StepRule.TheVariants.{Waves}
 use Rattle.answer_lines.specs.declared.exit.Exit.{Exit}
 use Rattle.answer_lines.specs.declared.exit.Exit.TheVariants as exit
 use Rattle.avalon_top.specs.declared.words.Task.{Task}
-use Rattle.avalon_top.specs.declared.words.Task.TheVariants.{Generate, Check}
+use Rattle.avalon_top.specs.declared.words.Task.TheVariants.{Generate, Check, Replay}
 use Rattle.avalon_top.specs.Words.{AsksFor, AsksForNothing}
 
 -- ---- what files call for
 
--- the answer that files call for, where nothing fails, whatever the task
-abbrev pub CallsFor : List (List ℕ) → Exit → Type 0
-CallsFor files exit.Done = IsAccepted files
-CallsFor files (exit.ScriptRefused place rule) = IsRefusedBy files (refusal.Script place rule)
-CallsFor files (exit.LinkRefused connection rule other) = IsRefusedBy files (refusal.Link connection rule other)
-CallsFor files (exit.Limit which count) = IsRefusedBy files (refusal.Limit which count)
-CallsFor files _ = ⊥
+-- the answer that the files of a system call for, where nothing fails, whether its text or its maps are asked for
+abbrev pub SystemCallsFor : List (List ℕ) → Exit → Type 0
+SystemCallsFor files exit.Done = IsAccepted files
+SystemCallsFor files (exit.ScriptRefused place rule) = IsRefusedBy files (refusal.Script place rule)
+SystemCallsFor files (exit.LinkRefused connection rule other) = IsRefusedBy files (refusal.Link connection rule other)
+SystemCallsFor files (exit.Limit which count) = IsRefusedBy files (refusal.Limit which count)
+SystemCallsFor files _ = ⊥
 
--- they call for this answer and for no other
-pub record IsOnlyAnswer (files : List (List ℕ)) (answer : Exit) : Type 0 where
-  pub called : CallsFor files answer
-  pub only : (other : Exit) → CallsFor files other → other ≡ answer
+-- the files of a replay
+abbrev pub text_in : List (List ℕ) → List ℕ
+text_in files = slice_index_or files 0 []
+
+abbrev pub waves_in : List (List ℕ) → List ℕ
+waves_in files = slice_index_or files 1 []
+
+-- the answer to a replay that is refused: L4 is passed by one net more than 2^20, and L6 by so many values of nets
+abbrev pub answer_of : ReplayFault → Exit
+answer_of (fault.TextRefused byte rule) = exit.VerilogRefused byte rule
+answer_of fault.TooManyNets = exit.Limit 4 1048577
+answer_of (fault.WavesRefused line rule) = exit.ScenarioRefused 2 line (Waves (number_of rule))
+answer_of (fault.TooManyValues count) = exit.Limit 6 count
+answer_of fault.NoMemory = exit.NoMemory
+
+-- the answer to what refuses the waves, or their text
+pub record IsReplayRefusal (text waves : List ℕ) (answer : Exit) : Type 0 where
+  pub fault : ReplayFault
+  pub refused : IsReplayTextFault text waves fault
+  pub answer_is : answer ≡ answer_of fault
+
+-- the answer that a text and waves call for, where nothing fails
+abbrev pub ReplayCallsFor : List ℕ → List ℕ → Exit → Type 0
+ReplayCallsFor text waves exit.Done = CanReplayText text waves
+ReplayCallsFor text waves answer = IsReplayRefusal text waves answer
+
+-- the answer that the files of a task call for, where nothing fails
+abbrev pub CallsFor : Task → List (List ℕ) → Exit → Type 0
+CallsFor Generate files = SystemCallsFor files
+CallsFor Check files = SystemCallsFor files
+CallsFor Replay files = ReplayCallsFor (text_in files) (waves_in files)
+
+-- this answer is called for, and no other
+pub record IsOnly (IsCalled : Exit → Type 0) (answer : Exit) : Type 0 where
+  pub called : IsCalled answer
+  pub only : (other : Exit) → IsCalled other → other ≡ answer
+
+-- the files of a task call for this answer, and for no other
+abbrev pub IsOnlyAnswer : Task → List (List ℕ) → Exit → Type 0
+IsOnlyAnswer task files answer = IsOnly (CallsFor task files) answer
 
 -- the text is that of this module, and of no other
 pub record IsOnlyTextOf (netlist : Netlist) (text : List ℕ) : Type 0 where
@@ -35,17 +76,30 @@ pub record IsOnlyTextOf (netlist : Netlist) (text : List ℕ) : Type 0 where
   pub is_text : text ≡ text_of netlist
   pub only : (other : Netlist) → IsModule other → text ≡ text_of other → other ≡ netlist
 
--- the text that a task writes of a plan
-abbrev pub IsTextOf : Task → PlanTable → List ℕ → Type 0
-IsTextOf Generate plan text = (netlist : Netlist) × IsInterconnect plan netlist × IsOnlyTextOf netlist text
-IsTextOf Check plan text = text ≡ map_text plan
+-- the text of the interconnect of a plan
+abbrev pub IsInterconnectText : PlanTable → List ℕ → Type 0
+IsInterconnectText plan text = (netlist : Netlist) × IsInterconnect plan netlist × IsOnlyTextOf netlist text
 
--- the files state a plan, and this is its text
-pub record IsResult (task : Task) (files : List (List ℕ)) (text : List ℕ) : Type 0 where
+-- the text of its maps
+abbrev pub IsMapText : PlanTable → List ℕ → Type 0
+IsMapText plan text = text ≡ map_text plan
+
+-- the files state a plan of which this holds
+pub record StatePlan (files : List (List ℕ)) (P : PlanTable → Type 0) : Type 0 where
   pub plan : PlanTable
   pub planned : IsPlanned files plan
-  pub is_text : IsTextOf task plan text
-  pub only : IsOnlyAnswer files exit.Done
+  pub holds : P plan
+
+-- the text that a task writes of files
+abbrev pub IsTextOf : Task → List (List ℕ) → List ℕ → Type 0
+IsTextOf Generate files text = StatePlan files (λ plan. IsInterconnectText plan text)
+IsTextOf Check files text = StatePlan files (λ plan. IsMapText plan text)
+IsTextOf Replay files text = IsReplayOfText (text_in files) (waves_in files) text
+
+-- it is what the files call for
+pub record IsResult (task : Task) (files : List (List ℕ)) (text : List ℕ) : Type 0 where
+  pub is_text : IsTextOf task files text
+  pub only : IsOnlyAnswer task files exit.Done
 
 -- ---- what is seen of the outside
 
@@ -70,16 +124,26 @@ reads_by told faults failed old new = record { told = told old; before = faults 
 abbrev pub writes_by : {A : Type 0} → (A → Option (List ℕ)) → (A → ℕ) → A → A → Writes
 writes_by held faults old new = record { held = held old; holds = held new; before = faults old; after = faults new }
 
+-- the most bytes that are read of this file of a task: 2^28 of a Verilog text, and 2^20 of any other
+abbrev pub most_bytes : Task → ℕ → ℕ
+most_bytes Generate file = 1048576
+most_bytes Check file = 1048576
+most_bytes Replay file = if file == 1 then 268435456 else 1048576
+
+-- no file of a task is longer than is read
+abbrev pub AreShort : Task → List (List ℕ) → Type 0
+AreShort task files = (k : ℕ) (bytes : List ℕ) → slice_get files k ≡ Some bytes → length bytes ≤ most_bytes task (k + 1)
+
 -- files that were loaded, numbered from 1: each is what the shelf tells of it, where it tells it, and no longer than is read
-pub record AreLoaded (told : ℕ → Option (List ℕ)) (files : List (List ℕ)) : Type 0 where
+pub record AreLoaded (task : Task) (told : ℕ → Option (List ℕ)) (files : List (List ℕ)) : Type 0 where
   pub each : (k : ℕ) (bytes : List ℕ) → slice_get files k ≡ Some bytes → WhereTold (told (k + 1)) (λ is. bytes ≡ is)
-  pub short : All (λ bytes. length bytes ≤ 1048576) files
+  pub short : AreShort task files
 
 -- all files of the words were loaded, each named by a word but the first
-pub record AreFiles (told : ℕ → Option (List ℕ)) (words : ℕ) (files : List (List ℕ)) : Type 0 where
+pub record AreFiles (task : Task) (told : ℕ → Option (List ℕ)) (words : ℕ) (files : List (List ℕ)) : Type 0 where
   pub few : words ≤ 65
   pub count : length files + 1 ≡ words
-  pub loaded : AreLoaded told files
+  pub loaded : AreLoaded task told files
 
 -- ---- when each answer comes
 
@@ -90,35 +154,35 @@ pub record IsFilesLimit (which count words : ℕ) : Type 0 where
   pub passed : 64 < count
 
 -- a file that is longer than is read, where it is told; those before it were loaded
-pub record IsBytesLimit (which count words : ℕ) (told : ℕ → Option (List ℕ)) : Type 0 where
+pub record IsBytesLimit (task : Task) (which count words : ℕ) (told : ℕ → Option (List ℕ)) : Type 0 where
   pub limit : which ≡ 5
-  pub count_is : count ≡ 1048577
   pub few : words ≤ 65
   pub earlier : List (List ℕ)
-  pub loaded : AreLoaded told earlier
+  pub loaded : AreLoaded task told earlier
   pub inside : length earlier + 1 < words
-  pub long : WhereTold (told (length earlier + 1)) (λ bytes. 1048576 < length bytes)
+  pub count_is : count ≡ most_bytes task (length earlier + 1) + 1
+  pub long : WhereTold (told (length earlier + 1)) (λ bytes. most_bytes task (length earlier + 1) < length bytes)
 
 -- a read that failed, of a file of the words; those before it were loaded
-pub record IsReadFault (file words : ℕ) (reads : Reads) : Type 0 where
+pub record IsReadFault (task : Task) (file words : ℕ) (reads : Reads) : Type 0 where
   pub few : words ≤ 65
   pub earlier : List (List ℕ)
-  pub loaded : AreLoaded reads.told earlier
+  pub loaded : AreLoaded task reads.told earlier
   pub number : file ≡ length earlier + 1
   pub inside : file < words
   pub rose : Rose reads.before reads.after
   pub is_failed : reads.failed ≡ file
 
 -- all files were loaded, and this is the one answer that they call for
-pub record IsCalledFor (words : ℕ) (told : ℕ → Option (List ℕ)) (answer : Exit) : Type 0 where
+pub record IsCalledFor (task : Task) (words : ℕ) (told : ℕ → Option (List ℕ)) (answer : Exit) : Type 0 where
   pub files : List (List ℕ)
-  pub are_files : AreFiles told words files
-  pub only : IsOnlyAnswer files answer
+  pub are_files : AreFiles task told words files
+  pub only : IsOnlyAnswer task files answer
 
--- all files were loaded, and the text of their plan was written whole
+-- all files were loaded, and the text of their result was written whole
 pub record IsWritten (task : Task) (words : ℕ) (told : ℕ → Option (List ℕ)) (writes : Writes) : Type 0 where
   pub files : List (List ℕ)
-  pub are_files : AreFiles told words files
+  pub are_files : AreFiles task told words files
   pub text : List ℕ
   pub result : IsResult task files text
   pub whole : writes.holds ≡ with_more writes.held text
@@ -126,7 +190,7 @@ pub record IsWritten (task : Task) (words : ℕ) (told : ℕ → Option (List �
 -- it was written in part, and the sink counts a fault
 pub record IsWriteFault (task : Task) (words : ℕ) (told : ℕ → Option (List ℕ)) (writes : Writes) : Type 0 where
   pub files : List (List ℕ)
-  pub are_files : AreFiles told words files
+  pub are_files : AreFiles task told words files
   pub text : List ℕ
   pub result : IsResult task files text
   pub count : ℕ
@@ -135,20 +199,21 @@ pub record IsWriteFault (task : Task) (words : ℕ) (told : ℕ → Option (List
   pub rose : Rose writes.before writes.after
 
 -- what stops a task before its result is written
-abbrev pub StopsTask : ℕ → Reads → Exit → Type 0
-StopsTask words reads (exit.ReadFault file) = IsReadFault file words reads
-StopsTask words reads (exit.ScriptRefused place rule) = IsCalledFor words reads.told (exit.ScriptRefused place rule)
-StopsTask words reads (exit.LinkRefused connection rule other) = IsCalledFor words reads.told (exit.LinkRefused connection rule other)
-StopsTask words reads (exit.Limit which count) =
-    IsFilesLimit which count words ⊎ (IsBytesLimit which count words reads.told ⊎ IsCalledFor words reads.told (exit.Limit which count))
-StopsTask words reads exit.NoMemory = words ≤ 65
-StopsTask words reads _ = ⊥
+abbrev pub StopsTask : Task → ℕ → Reads → Exit → Type 0
+StopsTask task words reads (exit.ReadFault file) = IsReadFault task file words reads
+StopsTask task words reads (exit.Limit which count) =
+    IsFilesLimit which count words ⊎ (IsBytesLimit task which count words reads.told ⊎ IsCalledFor task words reads.told (exit.Limit which count))
+StopsTask task words reads exit.NoMemory = words ≤ 65
+StopsTask task words reads exit.Done = ⊥
+StopsTask task words reads exit.Usage = ⊥
+StopsTask task words reads exit.WriteFault = ⊥
+StopsTask task words reads refused = IsCalledFor task words reads.told refused
 
 -- when each answer to a task comes, and what stands after it
 abbrev pub AnswersTask : Task → ℕ → Reads → Writes → Exit → Type 0
 AnswersTask task words reads writes exit.Done = IsWritten task words reads.told writes
 AnswersTask task words reads writes exit.WriteFault = IsWriteFault task words reads.told writes
-AnswersTask task words reads writes e = StopsTask words reads e
+AnswersTask task words reads writes e = StopsTask task words reads e
 
 -- the same, for any words
 abbrev pub Answers : List (List ℕ) → Reads → Writes → Exit → Type 0
@@ -173,11 +238,11 @@ pub record NothingFails (task : Task) (files words : List (List ℕ)) (reads : R
   pub few : length words ≤ 65
   pub count : length files + 1 ≡ length words
   pub told : (k : ℕ) (bytes : List ℕ) → slice_get files k ≡ Some bytes → reads.told (k + 1) ≡ Some bytes
-  pub short : All (λ bytes. length bytes ≤ 1048576) files
+  pub short : AreShort task files
   pub reads_well : ¬ Rose reads.before reads.after
   pub writes_well : ¬ Rose writes.before writes.after
 
 -- where nothing fails, the answer is the one that the files call for, or want of memory
 abbrev pub IsComplete : List (List ℕ) → Reads → Writes → Exit → Type 0
 IsComplete words reads writes answer =
-    (task : Task) (files : List (List ℕ)) → NothingFails task files words reads writes → (answer ≡ exit.NoMemory) ⊎ IsOnlyAnswer files answer
+    (task : Task) (files : List (List ℕ)) → NothingFails task files words reads writes → (answer ≡ exit.NoMemory) ⊎ IsOnlyAnswer task files answer

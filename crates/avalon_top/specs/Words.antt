@@ -1,7 +1,7 @@
 -- What the words of a command line ask for.
 use Rattle.std.specs.Prelude.{◌≡◌, ◌≢◌, ℕ, ◌<◌, ◌≤◌, List, length, slice_get, Some, codes, All}
 use Rattle.avalon_top.specs.declared.words.Task.{Task}
-use Rattle.avalon_top.specs.declared.words.Task.TheVariants.{Generate, Check}
+use Rattle.avalon_top.specs.declared.words.Task.TheVariants.{Generate, Check, Replay}
 
 -- a word that isn't empty and doesn't begin with `-`
 pub record IsPlainWord (word : List ℕ) : Type 0 where
@@ -12,12 +12,19 @@ pub record IsPlainWord (word : List ℕ) : Type 0 where
 abbrev pub word_of : Task → List ℕ
 word_of Generate = codes "generate"
 word_of Check = codes "check"
+word_of Replay = codes "replay"
 
--- the words ask for this task: its word, a system file and any number of component files
+-- so many words are a task's: its word, a system file and any number of component files, or a Verilog text and waves
+abbrev pub AreEnough : Task → ℕ → Type 0
+AreEnough Generate words = 2 ≤ words
+AreEnough Check words = 2 ≤ words
+AreEnough Replay words = words ≡ 3
+
+-- the words ask for this task
 pub record AsksFor (words : List (List ℕ)) (task : Task) : Type 0 where
   pub plain : All IsPlainWord words
   pub command : slice_get words 0 ≡ Some (word_of task)
-  pub files : 2 ≤ length words
+  pub files : AreEnough task (length words)
 
 -- they ask for nothing
 abbrev pub AsksForNothing : List (List ℕ) → Type 0

@@ -1,61 +1,84 @@
-ghost use Rattle.std.specs.Prelude.{◌≡◌, ℕ, ◌+◌, ◌^◌, ◌<◌, ◌≤◌, ◌⊎◌, length, map, string_bytes, All, IfOk, IfErr};
+ghost use Rattle.std.specs.Prelude.{◌≡◌, ℕ, ◌+◌, ◌^◌, ◌<◌, ◌≤◌, length, map, string_bytes, All, IfOk, IfErr};
 ghost use Rattle.av_files.specs.Outside.{WhereTold};
-ghost use Rattle.netlist.specs.Netlists.{Netlist};
-ghost use Rattle.interconnect.specs.Interconnect.{IsInterconnect};
 ghost use Rattle.answer_lines.specs.Lines.{line_of};
-ghost use Rattle.avalon_top.specs.Run.{reads_by, writes_by, Reads, Writes, AreFiles, Answers, IsComplete, IsRefusal, WritesLine, IsResult, IsTextOf, IsOnlyTextOf};
+ghost use Rattle.avalon_top.specs.Words.{AreEnough};
+ghost use Rattle.avalon_top.specs.Run.{reads_by, writes_by, Reads, Writes, most_bytes, AreFiles, Answers, IsComplete, IsRefusal, WritesLine, IsResult, IsInterconnectText, answer_of};
 ghost use Rattle.avalon_top.specs.Loading.{StopsAtFile, StopsFiles, StopsLoading, Stops, IsResultOf};
 
 use crate::words::{Task, read_words};
-use answer_lines::Exit;
+use answer_lines::{Exit, StepRule};
 use av_base::{Bytes, List, NoMemory};
 use av_files::{LoadFault, Shelf, Sink, load_all, put_all};
 use interconnect::build;
 use link_rules::Plan;
 use map_text::map_text;
+use replays::{ReplayFault, replay, texts_are_replayed_or_refused};
 use std::alloc::Global;
 use system_plan::plan_of;
 use verilog_reader::no_two_modules;
 use verilog_writer::write_module;
 
-/// The most bytes of a script.
+/// The most bytes of a Verilog text.
+const TEXT_LIMIT: u64 = 268_435_456;
+
+/// The most bytes of a script, and of waves.
 const FILE_LIMIT: u64 = 1_048_576;
 
 /// The most files of a run.
 const MOST_FILES: usize = 64;
 
-fn load<S: Shelf>(alloc: Global, shelf: &mut S, file: u32) -> Result<Bytes, Exit>
-    ensures stops { IfErr result (StopsAtFile file (reads_by S.told S.faults S.failed shelf.old shelf.new)) }
+/// The most nets of a text that is replayed.
+const MOST_NETS: u64 = 1_048_576;
+
+/// The most bytes that are read of this file of a task.
+fn most_bytes(task: Task, file: u32) -> u64
+    ensures limit { result ≡ most_bytes task file }
+    ensures small { result ≤ 268435456 }
+{
+    match task {
+        Task::Replay if file == 1 => TEXT_LIMIT,
+        _ => FILE_LIMIT,
+    }
+}
+
+fn load<S: Shelf>(alloc: Global, shelf: &mut S, task: Task, file: u32) -> Result<Bytes, Exit>
+    ensures stops { IfErr result (StopsAtFile task file (reads_by S.told S.faults S.failed shelf.old shelf.new)) }
     ensures loaded { IfOk result (λ bytes. WhereTold (S.told shelf.old file) (λ told. bytes ≡ told)) }
-    ensures short { IfOk result (λ bytes. length bytes ≤ 1048576) }
+    ensures short { IfOk result (λ bytes. length bytes ≤ most_bytes task file) }
     ensures grows { S.faults shelf.old ≤ S.faults shelf.new }
     ensures below { S.faults shelf.new < 2 ^ 64 }
     ensures told { (k : ℕ) → S.told shelf.new k ≡ S.told shelf.old k }
 {
-    match load_all(alloc, shelf, file, FILE_LIMIT) {
+    let limit = most_bytes(task, file);
+    match load_all(alloc, shelf, file, limit) {
         Ok(bytes) => Ok(bytes),
         Err(LoadFault::ReadFault) => Err(Exit::ReadFault { file }),
         Err(LoadFault::TooLong) => Err(Exit::Limit {
             which: 5,
-            count: FILE_LIMIT + 1,
+            count: limit + 1,
         }),
         Err(LoadFault::NoMemory) => Err(Exit::NoMemory),
     }
 }
 
-/// Loads the files of so many words, in their order.
-fn load_files<S: Shelf>(alloc: Global, shelf: &mut S, words: usize) -> Result<List<Bytes>, Exit>
+/// Loads the files of so many words of a task, in their order.
+fn load_files<S: Shelf>(
+    alloc: Global,
+    shelf: &mut S,
+    task: Task,
+    words: usize,
+) -> Result<List<Bytes>, Exit>
     requires some { 1 ≤ words }
     requires few { words ≤ 65 }
-    ensures stops { IfErr result (StopsLoading words (reads_by S.told S.faults S.failed shelf.old shelf.new)) }
-    ensures loaded { IfOk result (AreFiles (S.told shelf.old) words) }
+    ensures stops { IfErr result (StopsLoading task words (reads_by S.told S.faults S.failed shelf.old shelf.new)) }
+    ensures loaded { IfOk result (AreFiles task (S.told shelf.old) words) }
     ensures grows { S.faults shelf.old ≤ S.faults shelf.new }
     ensures below { S.faults shelf.old < 2 ^ 64 → S.faults shelf.new < 2 ^ 64 }
     ensures told { (k : ℕ) → S.told shelf.new k ≡ S.told shelf.old k }
 {
     let mut files = List::new(alloc);
     for file in 1..words {
-        let bytes = load(alloc, shelf, file as u32)?;
+        let bytes = load(alloc, shelf, task, file as u32)?;
         files.push(bytes)?;
     }
     Ok(files)
@@ -63,7 +86,7 @@ fn load_files<S: Shelf>(alloc: Global, shelf: &mut S, words: usize) -> Result<Li
 
 /// The Verilog text of the interconnect of a plan, which is that of no other module.
 fn interconnect_text(alloc: Global, plan: &Plan) -> Result<Bytes, NoMemory>
-    ensures { IfOk result (λ text. (netlist : Netlist) × IsInterconnect plan.now netlist × IsOnlyTextOf netlist text) }
+    ensures { IfOk result (IsInterconnectText plan.now) }
 {
     no_two_modules();
     let built = build(alloc, plan)?;
@@ -71,26 +94,76 @@ fn interconnect_text(alloc: Global, plan: &Plan) -> Result<Bytes, NoMemory>
     write_module(alloc, &built.module)
 }
 
-/// What a task writes of a plan.
-fn text_of_plan(alloc: Global, task: Task, plan: &Plan) -> Result<Bytes, NoMemory>
-    ensures { IfOk result (IsTextOf task plan.now) }
+/// The text of the interconnect of the system that files state, or the answer that they call for.
+fn generate(alloc: Global, files: &[Bytes]) -> Result<Bytes, Exit>
+    requires some { 1 ≤ length files.now }
+    requires few { length files.now ≤ 64 }
+    requires short { All (λ bytes. length bytes < 2 ^ 31) files.now }
+    ensures stops { IfErr result (StopsFiles Task.Generate files.now) }
+    ensures result { IfOk result (IsResult Task.Generate files.now) }
 {
-    match task {
-        Task::Check => map_text(alloc, plan),
-        Task::Generate => interconnect_text(alloc, plan),
+    let plan = plan_of(alloc, files)?;
+    Ok(interconnect_text(alloc, &plan)?)
+}
+
+/// The text of its maps, or the answer that the files call for.
+fn check(alloc: Global, files: &[Bytes]) -> Result<Bytes, Exit>
+    requires some { 1 ≤ length files.now }
+    requires few { length files.now ≤ 64 }
+    requires short { All (λ bytes. length bytes < 2 ^ 31) files.now }
+    ensures stops { IfErr result (StopsFiles Task.Check files.now) }
+    ensures result { IfOk result (IsResult Task.Check files.now) }
+{
+    let plan = plan_of(alloc, files)?;
+    Ok(map_text(alloc, &plan)?)
+}
+
+/// The answer to a replay that is refused.
+fn answer_of(fault: ReplayFault) -> Exit
+    ensures { result ≡ answer_of fault }
+{
+    match fault {
+        ReplayFault::TextRefused { byte, rule } => Exit::VerilogRefused { byte, rule },
+        ReplayFault::TooManyNets => Exit::Limit {
+            which: 4,
+            count: MOST_NETS + 1,
+        },
+        ReplayFault::WavesRefused { line, rule } => Exit::ScenarioRefused {
+            file: 2,
+            line,
+            rule: StepRule::Waves(rule.number()),
+        },
+        ReplayFault::TooManyValues { count } => Exit::Limit { which: 6, count },
+        ReplayFault::NoMemory => Exit::NoMemory,
+    }
+}
+
+/// What stands at the outputs of the module of a text in each cycle of waves, or the answer that the two files call for.
+fn replay_files(alloc: Global, files: &[Bytes]) -> Result<Bytes, Exit>
+    requires { length files.now ≡ 2 }
+    ensures stops { IfErr result (StopsFiles Task.Replay files.now) }
+    ensures result { IfOk result (IsResult Task.Replay files.now) }
+{
+    texts_are_replayed_or_refused();
+    match replay(alloc, files[0].as_slice(), files[1].as_slice()) {
+        Ok(text) => Ok(text),
+        Err(fault) => Err(answer_of(fault)),
     }
 }
 
 /// What a task writes of files, or the answer that they call for.
 fn text_of_files(alloc: Global, task: Task, files: &[Bytes]) -> Result<Bytes, Exit>
-    requires some { 1 ≤ length files.now }
+    requires enough { AreEnough task (length files.now + 1) }
     requires few { length files.now ≤ 64 }
-    requires short { All (λ bytes. length bytes ≤ 1048576) files.now }
-    ensures stops { IfErr result (StopsFiles files.now) }
+    requires short { All (λ bytes. length bytes < 2 ^ 31) files.now }
+    ensures stops { IfErr result (StopsFiles task files.now) }
     ensures result { IfOk result (IsResult task files.now) }
 {
-    let plan = plan_of(alloc, files)?;
-    Ok(text_of_plan(alloc, task, &plan)?)
+    match task {
+        Task::Generate => generate(alloc, files),
+        Task::Check => check(alloc, files),
+        Task::Replay => replay_files(alloc, files),
+    }
 }
 
 /// All that comes before a result is written: the result, or the refusal.
@@ -111,7 +184,7 @@ fn decide<S: Shelf>(alloc: Global, words: &[String], shelf: &mut S) -> Result<By
             count: files as u64,
         });
     }
-    let files = load_files(alloc, shelf, words.len())?;
+    let files = load_files(alloc, shelf, task, words.len())?;
     text_of_files(alloc, task, files.as_slice())
 }
 
@@ -130,7 +203,8 @@ fn refuse<K: Sink>(sink: &mut K, exit: &Exit)
 /// The number of a file is the place of its word, counted from 0.
 pub fn run<S: Shelf, K: Sink>(alloc: Global, words: &[String], shelf: &mut S, sink: &mut K) -> Exit
     // When each answer comes. At `Done` of `generate` the text of a module, and of no other, is written that serves each stream of
-    // the plan, and its hosts and agents, in every run.
+    // the plan, and its hosts and agents, in every run. At `Done` of `replay` what is written stands at the outputs of the module of
+    // the text, in each cycle of the waves.
     ensures answers { Answers (map string_bytes words.now)
         (record { told = S.told shelf.old; before = S.faults shelf.old; after = S.faults shelf.new; failed = S.failed shelf.new })
         (record { held = K.held sink.old; holds = K.held sink.new; before = K.faults sink.old; after = K.faults sink.new }) result }

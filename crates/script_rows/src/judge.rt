@@ -67,8 +67,11 @@ fn judge_any_byte(alloc: Global, row: &Row) -> Result<Verdict, NoMemory> {
 fn status_said(rule: &str) -> u8 {
     match rule {
         "ok" | "text" => 0,
+        "usage" => 2,
         "link" => 6,
         "limit:" => 7,
+        "verilog" => 8,
+        "scenario" => 9,
         _ => 5,
     }
 }
@@ -94,6 +97,7 @@ fn is_said(
     let (rule, _) = title.split_once(' ').unwrap_or((title, ""));
     let is_line = match status_said(rule) {
         0 => true,
+        2 => line.starts_with("usage: "),
         5 => line == refusal_at(alloc, rule, mark)?.as_str(),
         _ => line == title,
     };

@@ -1,7 +1,7 @@
 use av_base::{Bytes, List, NoMemory};
 use std::alloc::{AllocError, Global};
 
-/// A row: what it says of the answer, the command, its files, the system file first, and the parts that they name.
+/// A row: what it says of the answer, the command, its files in the order of the words, and the parts that they name.
 #[derive(Clone, Copy)]
 pub struct Row<'a> {
     pub title: &'a str,
@@ -10,13 +10,20 @@ pub struct Row<'a> {
     files: &'a str,
 }
 
+/// The command of a row, and its files.
+fn command_of(text: &str) -> (&'static str, &str) {
+    for (line, command) in [(":generate\n", "generate"), (":replay\n", "replay")] {
+        if let Some(files) = text.strip_prefix(line) {
+            return (command, files);
+        }
+    }
+    ("check", text)
+}
+
 impl<'a> Row<'a> {
     pub fn of(parts: &'a str, text: &'a str) -> Row<'a> {
         let (title, rest) = text.split_once('\n').unwrap_or((text, ""));
-        let (command, files) = match rest.strip_prefix(":generate\n") {
-            Some(files) => ("generate", files),
-            None => ("check", rest),
-        };
+        let (command, files) = command_of(rest);
         Row {
             title,
             command,

@@ -69,7 +69,7 @@ fn sink_of(alloc: Global, room: usize, failing: u64) -> Result<MemSink, NoMemory
 }
 
 /// Words, and what they ask for.
-const TRIED: [(&[&str], Option<Task>); 13] = [
+const TRIED: [(&[&str], Option<Task>); 16] = [
     (&[], None),
     (&["generate"], None),
     (&["generate", "a"], Some(Task::Generate)),
@@ -81,7 +81,10 @@ const TRIED: [(&[&str], Option<Task>); 13] = [
     (&["check", ""], None),
     (&["Generate", "a"], None),
     (&["simulate", "a", "b"], None),
-    (&["replay", "a", "b"], None),
+    (&["replay", "a", "b"], Some(Task::Replay)),
+    (&["replay", "a"], None),
+    (&["replay", "a", "b", "c"], None),
+    (&["replay", "a", "-b"], None),
     (&["workload", "01"], None),
 ];
 
@@ -170,13 +173,14 @@ fn answer_to_wire(alloc: Global, failing: u64, sink: &mut MemSink) -> Result<Exi
 fn judge_fault(
     rt: &impl Abort,
     alloc: Global,
-    call: u64,
+    words: &[&str],
+    shelf: &mut MemShelf,
     file: u32,
     line: &[u8],
 ) -> Result<(), Fail> {
     let mut sink = sink_of(alloc, 2000, NEVER)?;
-    let exit = answer_to_wire(alloc, call, &mut sink)?;
-    assert_eq!(rt; exit, Exit::ReadFault { file }, "call {call}");
+    let exit = answer(alloc, words, shelf, &mut sink)?;
+    assert_eq!(rt; exit, Exit::ReadFault { file }, "{words:?}");
     assert_eq!(rt; exit.status(), 3);
     assert_eq!(rt; sink.bytes(), line);
     Ok(())
@@ -193,7 +197,48 @@ fn names_the_file_of_each_call_that_fails(rt: HostRuntime) -> Result<(), Fail> {
         (4, 3, b"read fault: file 3\n"),
         (5, 3, b"read fault: file 3\n"),
     ] {
-        judge_fault(&rt, rt.alloc(), call, file, line)?;
+        let mut shelf = wire_shelf(rt.alloc(), call)?;
+        judge_fault(&rt, rt.alloc(), &WIRE, &mut shelf, file, line)?;
+    }
+    Ok(())
+}
+
+const REPLAY: [&str; 3] = ["replay", "one.v", "waves.txt"];
+
+/// A shelf of a text and its waves, of which a call fails.
+fn replay_shelf(alloc: Global, failing: u64) -> Result<MemShelf, NoMemory> {
+    let mut files = List::new(alloc);
+    push_file(alloc, &mut files, b"")?;
+    push_file(alloc, &mut files, scripts::wire_text())?;
+    push_file(alloc, &mut files, b"cycles 1\n1 a5 1 0 1\n")?;
+    Ok(MemShelf::new(files, only(alloc, failing)?))
+}
+
+#[test]
+fn names_the_file_of_a_replay_that_fails(rt: HostRuntime) -> Result<(), Fail> {
+    for (call, file, line) in [
+        (0, 1, b"read fault: file 1\n"),
+        (1, 1, b"read fault: file 1\n"),
+        (2, 2, b"read fault: file 2\n"),
+        (3, 2, b"read fault: file 2\n"),
+    ] {
+        let mut shelf = replay_shelf(rt.alloc(), call)?;
+        judge_fault(&rt, rt.alloc(), &REPLAY, &mut shelf, file, line)?;
+    }
+    Ok(())
+}
+
+/// The replay of the text of a wire on one cycle of inputs.
+const REPLAYED: &[u8] =
+    b"0 gen$out$ready=1 chk$st$valid=1 chk$st$data=a5 chk$st$startofpacket=1 chk$st$endofpacket=0 chk$st$dropped=0\nend 1\n";
+
+#[test]
+fn replays_the_text_of_a_wire(rt: HostRuntime) -> Result<(), Fail> {
+    for (room, exit) in [(2000, Exit::Done), (50, Exit::WriteFault)] {
+        let mut shelf = replay_shelf(rt.alloc(), NEVER)?;
+        let mut sink = sink_of(rt.alloc(), room, NEVER)?;
+        assert_eq!(rt; answer(rt.alloc(), &REPLAY, &mut shelf, &mut sink)?, exit);
+        assert_eq!(rt; sink.bytes(), &REPLAYED[..room.min(REPLAYED.len())]);
     }
     Ok(())
 }

@@ -1,9 +1,12 @@
-use Rattle.std.proofs.Common.{◌≤◌, length, inl, sym, subst, arith, refl}
+use Rattle.std.proofs.Common.{◌≤◌, length, inl, sym, subst, ◌∙◌, arith, refl}
 use Rattle.std.specs.Prelude.{map, string_bytes}
 use Rattle.std.proofs.lemmas.List.{length-map}
 use Rattle.std.proofs.lemmas.Result.{err_from_is_err_and, IfOk-weaker, IfErr-weaker, IfOk-from_err}
 use Rattle.avalon_top.specs.Run.{AreFiles, IsResult}
 use Rattle.avalon_top.specs.Loading.{StopsFiles}
+use Rattle.avalon_top.specs.Words.{AreEnough}
+use Rattle.avalon_top.proofs.WordsLemmas.{some_words}
+use Rattle.avalon_top.proofs.FileLemmas.{fewer_bytes}
 use Rattle.avalon_top.proofs.AnswerLemmas.{files_stop, loading_stops, files_limit}
 use Rattle.avalon_top.proofs.answer.decide.Goals as goal
 
@@ -38,7 +41,7 @@ returns-then-files-gt-MOST_FILES-clause-told g c = λ k. refl
 
 pub load_files-requires-clause-some : goal.load_files-requires-clause-some
 load_files-requires-clause-some g c =
-    omega (arith, c.in-Some.ensures.files, length-map c.args.words.now string_bytes)
+    omega (arith, some_words c.in-Some.task _ c.in-Some.ensures.files, length-map c.args.words.now string_bytes)
 
 pub load_files-requires-clause-few : goal.load_files-requires-clause-few
 load_files-requires-clause-few g c = omega (arith, c.if-files-gt-MOST_FILES.false)
@@ -62,30 +65,30 @@ returns-in_err-files-clause-below g c = c.load_files.ensures.below
 pub returns-in_err-files-clause-told : goal.returns-in_err-files-clause-told
 returns-in_err-files-clause-told g c = c.load_files.ensures.told
 
-pub text_of_files-requires-clause-some : goal.text_of_files-requires-clause-some
-text_of_files-requires-clause-some g c =
-    rw c.as_slice.ensures (omega (arith, c.in_ok-files.ensures.loaded.count, c.in-Some.ensures.files, length-map c.args.words.now string_bytes))
+pub text_of_files-requires-clause-enough : goal.text_of_files-requires-clause-enough
+text_of_files-requires-clause-enough g c =
+    rw c.as_slice.ensures (subst (AreEnough c.in-Some.task) (length-map c.args.words.now string_bytes ∙ sym c.in_ok-files.ensures.loaded.count) c.in-Some.ensures.files)
 
 pub text_of_files-requires-clause-few : goal.text_of_files-requires-clause-few
 text_of_files-requires-clause-few g c =
     rw c.as_slice.ensures (omega (arith, c.in_ok-files.ensures.loaded.count, c.in_ok-files.ensures.loaded.few))
 
 pub text_of_files-requires-clause-short : goal.text_of_files-requires-clause-short
-text_of_files-requires-clause-short g c = rw c.as_slice.ensures c.in_ok-files.ensures.loaded.loaded.short
+text_of_files-requires-clause-short g c = rw c.as_slice.ensures (fewer_bytes c.in-Some.task _ c.in_ok-files.ensures.loaded.loaded.short)
 
 pub returns-clause-stops : goal.returns-clause-stops
 returns-clause-stops g c =
     let words = map string_bytes c.args.words.now in
     let files = c.in_ok-files.files in
-    let are = subst (λ n. AreFiles (g.S.Shelf.told c.args.shelf.now) n files) (sym (length-map c.args.words.now string_bytes)) c.in_ok-files.ensures.loaded in
-    IfErr-weaker c.text_of_files.result (StopsFiles files) _
+    let are = subst (λ n. AreFiles c.in-Some.task (g.S.Shelf.told c.args.shelf.now) n files) (sym (length-map c.args.words.now string_bytes)) c.in_ok-files.ensures.loaded in
+    IfErr-weaker c.text_of_files.result (StopsFiles c.in-Some.task files) _
     (λ exit s. files_stop words _ c.in-Some.task files exit c.in-Some.ensures are s)
     (rw c.as_slice.ensures at c.text_of_files.ensures.stops)
 
 pub returns-clause-text : goal.returns-clause-text
 returns-clause-text g c =
     let files = c.in_ok-files.files in
-    let are = subst (λ n. AreFiles (g.S.Shelf.told c.args.shelf.now) n files) (sym (length-map c.args.words.now string_bytes)) c.in_ok-files.ensures.loaded in
+    let are = subst (λ n. AreFiles c.in-Some.task (g.S.Shelf.told c.args.shelf.now) n files) (sym (length-map c.args.words.now string_bytes)) c.in_ok-files.ensures.loaded in
     IfOk-weaker c.text_of_files.result (IsResult c.in-Some.task files) _
     (λ text is. record { task = c.in-Some.task; asks = c.in-Some.ensures; files = files; are_files = are; result = is })
     (rw c.as_slice.ensures at c.text_of_files.ensures.result)

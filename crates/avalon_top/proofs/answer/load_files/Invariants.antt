@@ -4,7 +4,7 @@ use Rattle.avalon_top.proofs.answer.load_files.Given as goal
 
 abbrev pub invariant-loop-file : goal.invariant-loop-file
 invariant-loop-file g l = record {
-  loaded : AreLoaded (g.S.Shelf.told l.fn.shelf) l.files;
+  loaded : AreLoaded l.fn.task (g.S.Shelf.told l.fn.shelf) l.files;
   count : length l.files + 1 ≡ l.file;
   grows : g.S.Shelf.faults l.fn.shelf ≤ g.S.Shelf.faults l.shelf;
   below : g.S.Shelf.faults l.fn.shelf < 2 ^ 64 → g.S.Shelf.faults l.shelf < 2 ^ 64;

@@ -1,7 +1,16 @@
+use Rattle.avalon_top.specs.Run.{text_in, waves_in}
 use Rattle.avalon_top.proofs.AnswerLemmas.{one_answer}
 use Rattle.avalon_top.proofs.laws.files_call_for_one_answer.Goals as goal
 
 pub returns : goal.returns
 returns c =
-    let law = c.accepted_or_refused.ensures in
-    λ files some. one_answer files (law.never_both files) (law.one_refusal files) (law.either files some)
+    let system = c.accepted_or_refused.ensures in
+    let replay = c.texts_are_replayed_or_refused.ensures in
+    λ task files enough. one_answer task files
+    (record { either = system.either files; never_both = system.never_both files; one_refusal = system.one_refusal files })
+    (record {
+      either = replay.either (text_in files) (waves_in files);
+      never_both = replay.never_both (text_in files) (waves_in files);
+      one_fault = replay.one_fault (text_in files) (waves_in files);
+    })
+    enough

@@ -1,6 +1,6 @@
 use Rattle.std.proofs.lemmas.Result.{err_from_is_err_and}
 use Rattle.avalon_top.proofs.AnswerLemmas.{refused_files, done_files}
-use Rattle.avalon_top.proofs.answer.text_of_files.Goals as goal
+use Rattle.avalon_top.proofs.answer.check.Goals as goal
 
 pub returns-in_err-plan-clause-stops : goal.returns-in_err-plan-clause-stops
 returns-in_err-plan-clause-stops c =
@@ -12,4 +12,7 @@ returns-in_err-plan-clause-stops c =
 pub returns-clause-result : goal.returns-clause-result
 returns-clause-result c =
     let e = c.in_ok-plan.ensures in
-    record { plan = c.in_ok-plan.plan; planned = e.accepted; is_text = c.in_ok-text_of_plan.ensures; only = done_files c.args.files.now c.in_ok-plan.plan e.accepted e.only_refusal }
+    record {
+      is_text = record { plan = c.in_ok-plan.plan; planned = e.accepted; holds = c.in_ok-map_text.ensures };
+      only = done_files c.args.files.now c.in_ok-plan.plan e.accepted e.only_refusal;
+    }
