@@ -40,8 +40,8 @@ pub enum Exit {
         rule: LinkRule,
         other: Option<u32>,
     },
-    /// There is more of something than is handled: 1 for hosts, 2 for agents, 3 for streams, 5 for the bytes of a file, 7 for
-    /// the number of files.
+    /// There is more of something than is handled: 1 for hosts, 2 for agents, 3 for streams, 4 for the nets of a text, 5 for the
+    /// bytes of a file, 6 for the values of nets in a replay, 7 for the number of files.
     Limit {
         which: u8,
         count: u64,
