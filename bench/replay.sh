@@ -1,16 +1,15 @@
 #!/usr/bin/env bash
-# Times reading a text and replaying waves on it beside Icarus Verilog, each started anew: the text of sixteen streams with queues of 64,
-# once with one cycle of waves (reading and compiling it), and once with many. Prints seconds, and whether both tell the same outputs.
-# Not part of the gate. replay.sh [CYCLES]
+# Times replays beside Icarus Verilog, each started anew: the text of sixteen streams with queues of 64, on one cycle of waves, which is mostly
+# reading and compiling it, and on 4,000; and the camera's text of examples/stream on 65,536. A file of waves has at most 1,048,576 bytes.
+# Prints seconds, and fails where the outputs differ. Not part of the gate.
 set -eu
 top=$(cd -- "$(dirname -- "$0")/.." && pwd)
-cycles=${1:-65536}
 folder=$(mktemp -d)
 trap 'rm -rf "$folder"' EXIT
 for tool in iverilog vvp python3; do
   command -v "$tool" >/dev/null || { echo "$tool isn't installed"; exit 1; }
 done
-avalon() { "$top/avalon" "$@"; }
+export PYTHONDONTWRITEBYTECODE=1
 
 # The seconds of a command, whose output goes to a file.
 seconds() {
@@ -21,13 +20,21 @@ seconds() {
   echo "$(date +%s.%N) $from" | awk '{ printf "%.2f", $1 - $2 }'
 }
 
-python3 "$top/bench/largest.py" 0 0 16 0 "$folder"
-(cd "$folder" && avalon generate $(cat files)) >"$folder/text.v"
-"$top/bench/replay_waves.py" "$folder/text.v" 1 "$folder/one"
-"$top/bench/replay_waves.py" "$folder/text.v" "$cycles" "$folder/many"
+# A text, and how many cycles of random waves it is replayed on.
+compare() {
+  local text=$1 cycles=$2 name=$1.$2 compiled replayed run
+  "$top/bench/replay_waves.py" "$text" "$cycles" "$name"
+  compiled=$(seconds "$name.said" iverilog -g2005 -o "$name.vvp" "$text" "$name.v")
+  replayed=$(seconds "$name.ours" "$top/avalon" replay "$text" "$name.waves")
+  run=$(seconds "$name.theirs" vvp -n "$name.vvp")
+  cmp "$name.ours" "$name.theirs"
+  echo "$text, $(grep -cE '^  (wire|reg) \[[0-9]+:0\] n' "$text") nets, $cycles cycles: replay $replayed s, iverilog $compiled s and vvp $run s; the same outputs"
+}
+
 cd "$folder"
-echo "text: $(wc -c <text.v) bytes, $(grep -cE '^  (wire|reg) \[[0-9]+:0\] n' text.v) nets"
-echo "one cycle: replay $(seconds one.ours avalon replay text.v one.waves) s, iverilog $(seconds said iverilog -g2005 -o one.vvp text.v one.v) s"
-iverilog -g2005 -o many.vvp text.v many.v
-echo "$cycles cycles: replay $(seconds many.ours avalon replay text.v many.waves) s, vvp $(seconds many.theirs vvp -n many.vvp) s"
-cmp many.ours many.theirs && echo "the same outputs"
+python3 "$top/bench/largest.py" 0 0 16 0 "$folder"
+"$top/avalon" generate $(cat files) >streams.v
+"$top/avalon" generate "$top"/examples/stream/{stream,camera,scaler}.tcl >camera.v
+compare streams.v 1
+compare streams.v 4000
+compare camera.v 65536
