@@ -5,7 +5,6 @@ ghost use Rattle.netlist.specs.Runs.{Run};
 ghost use Rattle.cycle_sim.specs.Sims.{present};
 ghost use Rattle.cycle_sim.specs.Standing.{StandsFor};
 ghost use Rattle.waves.specs.Rows.{input_widths};
-ghost use Rattle.verilog_writer.specs.Text.{hex_digit, hex_digits};
 ghost use Rattle.replays.specs.Traces.{value_text, ports_text, cycle_line, end_line, trace_text};
 ghost use Rattle.replays.specs.Replays.{IsRunOn};
 
@@ -13,31 +12,8 @@ use av_base::{NoMemory, Val};
 use cycle_sim::Sim;
 use std::alloc::Global;
 use std::fmt::Write;
+use verilog_writer::put_hex;
 use waves::Waves;
-
-/// A number below 16 as a hexadecimal digit in lower case.
-fn hex_digit(n: u8) -> char
-    requires { n < 16 }
-    ensures { result ≡ hex_digit n }
-{
-    if n < 10 {
-        (b'0' + n) as char
-    } else {
-        (b'a' + (n - 10)) as char
-    }
-}
-
-/// Appends the lowest `count` hexadecimal digits of a number.
-fn put_hex(text: &mut String, count: u8, number: u128) -> Result<(), NoMemory>
-    ensures { OnOk result (string_bytes text.new ≡ string_bytes text.old ++ hex_digits count number) }
-{
-    if count == 0 {
-        return Ok(());
-    }
-    put_hex(text, count - 1, number / 16)?;
-    text.push(hex_digit((number % 16) as u8))?;
-    Ok(())
-}
 
 /// Appends the value at an output.
 fn put_value(text: &mut String, name: &str, value: Val) -> Result<(), NoMemory>

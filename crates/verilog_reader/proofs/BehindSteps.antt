@@ -1,6 +1,6 @@
 -- What the sections behind the nets find, line after line.
 use Rattle.std.proofs.Common.{◌≡◌, ℕ, zero, suc, ◌+◌, ◌<◌, ◌||◌, Bool, true, false, List, [], ◌∷◌, ◌++◌, length, take, drop, get_or, set, slice_get, Option, Some, None, refl, sym, ap, subst, ◌∙◌, arith}
-use Rattle.std.proofs.lemmas.List.{append-nil, drop-set, drop-drop}
+use Rattle.std.proofs.lemmas.List.{drop-set, drop-drop}
 use Rattle.std.proofs.lemmas.Option.{slice_get-get_or}
 use Rattle.std.specs.Prelude.{if◌then◌else◌}
 use Rattle.std.proofs.Math.Seq.{take-suc-set, drop-cons}
@@ -11,42 +11,14 @@ use Rattle.netlist.specs.declared.line.MemWrite.{MemWrite}
 use Rattle.netlist.specs.declared.line.PortLine.{PortLine}
 use Rattle.netlist.specs.Netlists.{width_at}
 use Rattle.verilog_reader.specs.declared.spot.Spot.{Spot}
-use Rattle.verilog_reader.specs.Forms.{Form, followed}
+use Rattle.verilog_reader.specs.Forms.{Form}
 use Rattle.verilog_reader.specs.Walks.{found, IsWithin}
 use Rattle.verilog_reader.specs.ClockedLines.{write_form, assign_form}
 use Rattle.verilog_reader.specs.WholeTexts.{listed, told, clocked_form, all_clocked_form, written, all_written_form, driven, all_driven_form}
 use Rattle.verilog_reader.specs.ClockedParts.{SameWidths}
 use Rattle.verilog_reader.specs.Sections.{Leads, driven_form}
-use Rattle.verilog_reader.proofs.PortLines.{pushed_same}
 use Rattle.verilog_reader.proofs.Steps.{here, followed_found}
-
--- one line, and the others behind it
-
-pub listed_found : {X : Type 0} (one : Form X) (others : Form (List X)) (text : List ℕ) (spot : Spot) (x : X) (behind : Spot) → IsWithin text spot → IsWithin text behind → found one text spot ≡ found (Form.whole x) text behind
-    → found (listed one others) text spot ≡ found (followed others (λ xs. Form.whole (x ∷ xs))) text behind
-listed_found one others text spot x behind from_ to_ e = followed_found one (λ y. followed others (λ xs. Form.whole (y ∷ xs))) text spot x behind from_ to_ e
-
-pub listed_whole : {X : Type 0} (one : Form X) (others : Form (List X)) (text : List ℕ) (spot : Spot) (x : X) (behind : Spot) (xs : List X) (end : Spot) → IsWithin text spot → IsWithin text behind → IsWithin text end
-    → found one text spot ≡ found (Form.whole x) text behind → found others text behind ≡ found (Form.whole xs) text end → found (listed one others) text spot ≡ found (Form.whole (x ∷ xs)) text end
-listed_whole one others text spot x behind xs end from_ by to_ e f =
-    listed_found one others text spot x behind from_ by e ∙ followed_found others (λ ys. Form.whole (x ∷ ys)) text behind xs end by to_ f
-
--- the sections, from the start on
-
-pub leads_first : {X : Type 0} (all : Form (List X)) (text : List ℕ) (start : Spot) → Leads all text start [] all start
-leads_first all text start xs end within e = e
-
-pub leads_same : {X : Type 0} (all : Form (List X)) (text : List ℕ) (start : Spot) (done : List X) (form other : Form (List X)) (spot : Spot) → Leads all text start done form spot → found form text spot ≡ found other text spot → Leads all text start done other spot
-leads_same all text start done form other spot leads same xs end within e = leads xs end within (same ∙ e)
-
-pub leads_on : {X : Type 0} (all : Form (List X)) (text : List ℕ) (start : Spot) (done : List X) (one : Form X) (others : Form (List X)) (spot : Spot) (x : X) (behind : Spot) → IsWithin text spot → IsWithin text behind
-    → Leads all text start done (listed one others) spot → found one text spot ≡ found (Form.whole x) text behind → Leads all text start (done ++ x ∷ []) others behind
-leads_on all text start done one others spot x behind from_ by leads here xs end to_ e =
-    leads (x ∷ xs) end to_ (listed_whole one others text spot x behind xs end from_ by to_ here e) ∙ ap (λ ys. found (Form.whole ys) text end) (sym (pushed_same done x xs))
-
-pub leads_to : {X : Type 0} (all : Form (List X)) (text : List ℕ) (start : Spot) (done : List X) (form : Form (List X)) (spot end : Spot) → Leads all text start done form spot → IsWithin text end → found form text spot ≡ found (Form.whole []) text end
-    → found all text start ≡ found (Form.whole done) text end
-leads_to all text start done form spot end leads within e = leads [] end within e ∙ ap (λ ys. found (Form.whole ys) text end) (append-nil done)
+use Rattle.verilog_reader.proofs.SectionSteps.{leads_on}
 
 -- a net in place of another of its width
 width_set : (xs : List Line) (n a : ℕ) (x line : Line) → slice_get xs n ≡ Some line → x.width ≡ line.width → width_at xs a ≡ width_at (set xs n x) a

@@ -28,8 +28,8 @@ fn hex_digit(n: u8) -> char
     }
 }
 
-/// Appends the lowest `count` hexadecimal digits of a number.
-fn put_hex(text: &mut String, count: u8, number: u128) -> Result<(), NoMemory>
+/// Appends the lowest `count` hexadecimal digits of a number, in lower case.
+pub fn put_hex(text: &mut String, count: u8, number: u128) -> Result<(), NoMemory>
     ensures { OnOk result (string_bytes text.new ≡ string_bytes text.old ++ hex_digits count number) }
 {
     if count == 0 {

@@ -5,7 +5,8 @@ use Rattle.verilog_reader.specs.Forms.{Form}
 use Rattle.verilog_reader.specs.Walks.{found}
 use Rattle.verilog_reader.specs.WholeTexts.{all_clocked_form}
 use Rattle.verilog_reader.specs.ClockedParts.{SameWidths}
-use Rattle.verilog_reader.proofs.BehindSteps.{leads_to, widths_on, todo_on, here_item, clocked_on}
+use Rattle.verilog_reader.proofs.SectionSteps.{leads_to}
+use Rattle.verilog_reader.proofs.BehindSteps.{widths_on, todo_on, here_item, clocked_on}
 use Rattle.verilog_reader.proofs.behind_nets.read_clocked.Goals as goal
 
 pub nets-preserved : goal.nets-preserved

@@ -5,7 +5,8 @@ use Rattle.verilog_reader.specs.Forms.{Form}
 use Rattle.verilog_reader.specs.Walks.{found}
 use Rattle.verilog_reader.specs.WholeTexts.{all_driven_form}
 use Rattle.verilog_reader.specs.Sections.{Leads}
-use Rattle.verilog_reader.proofs.BehindSteps.{leads_to, here_item, driven_on}
+use Rattle.verilog_reader.proofs.SectionSteps.{leads_to}
+use Rattle.verilog_reader.proofs.BehindSteps.{here_item, driven_on}
 use Rattle.verilog_reader.proofs.behind_nets.read_driven.Goals as goal
 
 pub ports-preserved : goal.ports-preserved

@@ -5,7 +5,8 @@ use Rattle.netlist.specs.declared.line.Memory.{Memory}
 use Rattle.verilog_reader.specs.Forms.{Form}
 use Rattle.verilog_reader.specs.Walks.{found}
 use Rattle.verilog_reader.specs.WholeTexts.{written, all_written_form}
-use Rattle.verilog_reader.proofs.BehindSteps.{leads_to, todo_on, here_item, written_on}
+use Rattle.verilog_reader.proofs.SectionSteps.{leads_to}
+use Rattle.verilog_reader.proofs.BehindSteps.{todo_on, here_item, written_on}
 use Rattle.verilog_reader.proofs.behind_nets.read_written.Goals as goal
 
 pub memories-preserved : goal.memories-preserved
