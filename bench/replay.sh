@@ -1,6 +1,7 @@
 #!/usr/bin/env bash
 # Times replays beside Icarus Verilog, each started anew: the text of sixteen streams with queues of 64, on one cycle of waves, which is mostly
-# reading and compiling it, and on 4,000; and the camera's text of examples/stream on 65,536. A file of waves has at most 1,048,576 bytes.
+# reading and compiling it, and on 4,000; and the camera's text of examples/stream on 65,536, with its queue of four pixels and with one of 64.
+# A file of waves has at most 1,048,576 bytes.
 # Prints seconds, and fails where the outputs differ. Not part of the gate.
 set -eu
 top=$(cd -- "$(dirname -- "$0")/.." && pwd)
@@ -35,6 +36,9 @@ cd "$folder"
 python3 "$top/bench/largest.py" 0 0 16 0 "$folder"
 "$top/avalon" generate $(cat files) >streams.v
 "$top/avalon" generate "$top"/examples/stream/{stream,camera,scaler}.tcl >camera.v
+sed 's/fifoDepth 4/fifoDepth 64/' "$top/examples/stream/stream.tcl" >queue.tcl
+"$top/avalon" generate queue.tcl "$top"/examples/stream/{camera,scaler}.tcl >queue.v
 compare streams.v 1
 compare streams.v 4000
 compare camera.v 65536
+compare queue.v 65536
