@@ -11,7 +11,7 @@ use Rattle.waves.specs.declared.faults.WavesFault.TheVariants.{Refused}
 use Rattle.waves.specs.Cuts.{lines, texts}
 use Rattle.waves.specs.Rows.{both, values, row_of, row_rule}
 use Rattle.waves.specs.Digits.{value_in}
-use Rattle.waves.proofs.CutLemmas.{not_less}
+use Rattle.waves.specs.CutLaws.{not_less}
 use Rattle.waves.proofs.Reading.{none_then, some_there}
 use Rattle.waves.specs.Waves.{IsWavesOf, IsFirstBroken, IsFaultOf, IsFaultIn, IsFaultBy, cycles_of, later, rule_at, line_rule, there_or_none}
 

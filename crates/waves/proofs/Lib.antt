@@ -1,5 +1,3 @@
-pub mod Powers
-pub mod CutLemmas
 pub mod RowLemmas
 pub mod Reading
 pub mod LawLemmas

@@ -11,7 +11,7 @@ use Rattle.waves.specs.declared.faults.WavesRule.{WavesRule}
 use Rattle.waves.specs.declared.faults.WavesRule.TheVariants.{Lines, Values, Spelling}
 use Rattle.waves.specs.declared.faults.WavesFault.{WavesFault}
 use Rattle.waves.specs.declared.faults.WavesFault.TheVariants.{Refused}
-use Rattle.waves.proofs.CutLemmas.{not_less}
+use Rattle.waves.specs.CutLaws.{not_less}
 use Rattle.waves.specs.Cuts.{lines, texts}
 use Rattle.waves.specs.Rows.{row_of, row_rule}
 use Rattle.waves.specs.Waves.{IsStart, IsFirstBroken, row_at, IsWavesOf, IsFaultIn, cycles_of, later, rule_at, line_rule, first_row, there_or_none}

@@ -9,7 +9,7 @@ use Rattle.av_base.specs.Word.{Word, word}
 use Rattle.waves.specs.Cuts.{blank, pieces, texts_from}
 use Rattle.waves.specs.Digits.{value_in, is_spelled, number_behind}
 use Rattle.waves.specs.Rows.{both, values, row_of}
-use Rattle.waves.proofs.CutLemmas.{behind, some_piece, not_above}
+use Rattle.waves.specs.CutLaws.{behind, some_piece, not_above}
 
 -- no text where one is due
 pub no_text : (widths line : List ℕ) (i at : ℕ) → i < length widths → length line < at → is_some (values (drop i widths) (texts_from at line)) ≡ false

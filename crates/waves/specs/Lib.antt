@@ -4,3 +4,5 @@ pub mod Rows
 pub mod Header
 pub mod Waves
 pub mod Rules
+pub mod CutLaws
+pub mod DigitLaws

@@ -1,6 +1,6 @@
 use Rattle.std.proofs.Common.{◌≡◌, ◌<◌, length, take, arith}
 use Rattle.std.proofs.lemmas.List.{length-take-le}
-use Rattle.waves.proofs.CutLemmas.{whole_line, cut_line}
+use Rattle.waves.specs.CutLaws.{whole_line, cut_line}
 use Rattle.waves.proofs.cuts.first_line.Goals as goal
 
 pub returns-then-len-bytes-clause-line : goal.returns-then-len-bytes-clause-line

@@ -1,5 +1,5 @@
 use Rattle.std.proofs.Common.{arith}
-use Rattle.waves.proofs.CutLemmas.{return_dropped, kept_whole}
+use Rattle.waves.specs.CutLaws.{return_dropped, kept_whole}
 use Rattle.waves.proofs.cuts.line_len.Goals as goal
 use Rattle.waves.proofs.cuts.line_len.Goals.{else-line-gt0-via-then-line-gt0+else-line-eq13, else-line-gt0-via-else-line-gt0}
 

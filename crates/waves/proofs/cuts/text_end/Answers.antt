@@ -3,7 +3,7 @@ use Rattle.std.specs.Prelude.{◌==◌}
 use Rattle.std.specs.List.{prefix_len}
 use Rattle.std.proofs.lemmas.List.{take_all, length-drop}
 use Rattle.waves.specs.Cuts.{blank}
-use Rattle.waves.proofs.CutLemmas.{text_cut}
+use Rattle.waves.specs.CutLaws.{text_cut}
 use Rattle.waves.proofs.cuts.text_end.Goals as goal
 
 pub returns-clause-text : goal.returns-clause-text

@@ -1,5 +1,5 @@
 use Rattle.std.proofs.Common.{◌<◌, ◌∙◌, arith}
-use Rattle.waves.proofs.Powers.{within, next_digit}
+use Rattle.waves.specs.DigitLaws.{within, next_digit}
 use Rattle.waves.proofs.digits.number.Goals as goal
 
 pub overflow_mul-number : goal.overflow_mul-number

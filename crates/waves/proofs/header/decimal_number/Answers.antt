@@ -1,5 +1,5 @@
 use Rattle.std.proofs.Common.{◌<◌, ◌∙◌, arith}
-use Rattle.waves.proofs.Powers.{within_twenty, decimal_is_digit, next_decimal}
+use Rattle.waves.specs.DigitLaws.{within_twenty, decimal_is_digit, next_decimal}
 use Rattle.waves.proofs.header.decimal_number.Goals as goal
 
 pub digit_value-requires : goal.digit_value-requires

@@ -1,4 +1,4 @@
--- A piece at the front.
+-- Laws of the pieces at the front of bytes. No contract reads a proof of theirs; the crates above cite them.
 use Rattle.std.proofs.Common.{◌≡◌, ℕ, zero, suc, ◌+◌, ◌-◌, ◌<◌, ◌≤◌, Bool, true, false, not, cond, List, [], ◌∷◌, length, take, drop, get_or, refl, sym, ap, subst, ◌∙◌, nat_lt, arith}
 use Rattle.std.specs.Prelude.{◌==◌}
 use Rattle.std.proofs.lemmas.Bool.{eqb-true, false_from_ne_true}

@@ -1,4 +1,4 @@
--- How large a number of so many hexadecimal digits is.
+-- Laws of numbers that digits write. No contract reads a proof of theirs; the crates above cite them.
 use Rattle.std.proofs.Common.{◌≡◌, ℕ, ◌+◌, ◌*◌, ◌^◌, ◌<◌, ◌≤◌, List, ◌∷◌, length, drop, get_or, true, refl, sym, ap, subst, ◌∙◌, arith}
 use Rattle.std.specs.List.{list_all}
 use Rattle.std.proofs.lemmas.Bool.{and_parts}
