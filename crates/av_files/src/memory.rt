@@ -36,7 +36,7 @@ fn count_call(failing: &[u64], calls: &mut u64) -> bool
 }
 
 /// Copies what there is of a file from a place, and what fits.
-fn give(files: &[Bytes], file: u32, at: u64, into: &mut [u8]) -> ReadStep
+pub(super) fn give(files: &[Bytes], file: u32, at: u64, into: &mut [u8]) -> ReadStep
     requires { 0 < length into.old }
     ensures count { IfBytes result (λ n. (1 ≤ n) × (n ≤ length into.old)) }
     ensures bytes { IfBytes result (λ n. GivesBytes (file_at files.now file) at n into.new) }
