@@ -1,0 +1,4 @@
+pub mod Changes
+pub mod Statements
+pub mod Scenarios
+pub mod Worked

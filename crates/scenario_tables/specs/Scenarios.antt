@@ -1,0 +1,41 @@
+-- Scenarios that fit a plan.
+use Rattle.std.specs.Prelude.{◌≡◌, ◌≤◌, ℕ, List, length, slice_get, Some}
+use Rattle.iface_roles.specs.declared.records.HostPort.{HostPort}
+use Rattle.iface_roles.specs.declared.records.AgentPort.{AgentPort}
+use Rattle.iface_roles.specs.declared.records.Finished.TheVariants.{Host, Agent}
+use Rattle.system_tables.specs.declared.tables.EndId.{EndId}
+use Rattle.system_tables.specs.Tables.{SystemTable}
+use Rattle.address_map.specs.Footprints.{known_at}
+use Rattle.address_map.specs.Maps.{hosts_of, agents_of}
+use Rattle.link_rules.specs.declared.plan_links.StreamLink.{StreamLink}
+use Rattle.link_rules.specs.PlanLinks.{stream_links}
+use Rattle.scenario_tables.specs.declared.statements.HostStatement.{HostStatement}
+use Rattle.scenario_tables.specs.declared.statements.AgentStatement.{AgentStatement}
+use Rattle.scenario_tables.specs.declared.statements.SourceStatement.{SourceStatement}
+use Rattle.scenario_tables.specs.declared.statements.Pattern.{Pattern}
+use Rattle.scenario_tables.specs.declared.scenario.Scenario.{Scenario}
+use Rattle.scenario_tables.specs.Statements.{IsHostScript, IsAgentScript, IsSourceScript, IsSinkScript}
+
+-- the host, or the agent, of this number and its record
+pub record IsHostAt (system : SystemTable) (number : ℕ) (port : HostPort) : Type 0 where
+  pub end : EndId
+  pub end_is : slice_get (hosts_of system) number ≡ Some end
+  pub is : known_at system end ≡ Host port
+
+pub record IsAgentAt (system : SystemTable) (number : ℕ) (port : AgentPort) : Type 0 where
+  pub end : EndId
+  pub end_is : slice_get (agents_of system) number ≡ Some end
+  pub is : known_at system end ≡ Agent port
+
+-- there are scripts for all interfaces of the system, and each fits the record of its own
+pub record IsScenario (system : SystemTable) (scenario : Scenario) : Type 0 where
+  pub some : 1 ≤ scenario.cycles
+  pub few : scenario.cycles ≤ 65536
+  pub hosts : length scenario.hosts ≡ length (hosts_of system)
+  pub agents : length scenario.agents ≡ length (agents_of system)
+  pub sources : length scenario.sources ≡ length (stream_links system)
+  pub sinks : length scenario.sinks ≡ length (stream_links system)
+  pub at_hosts : (h : ℕ) (port : HostPort) (script : List HostStatement) → IsHostAt system h port → slice_get scenario.hosts h ≡ Some script → IsHostScript port script
+  pub at_agents : (a : ℕ) (port : AgentPort) (script : List AgentStatement) → IsAgentAt system a port → slice_get scenario.agents a ≡ Some script → IsAgentScript port script
+  pub at_sources : (s : ℕ) (link : StreamLink) (script : List SourceStatement) → slice_get (stream_links system) s ≡ Some link → slice_get scenario.sources s ≡ Some script → IsSourceScript link.source script
+  pub at_sinks : (s : ℕ) (link : StreamLink) (script : List Pattern) → slice_get (stream_links system) s ≡ Some link → slice_get scenario.sinks s ≡ Some script → IsSinkScript link.sink script
