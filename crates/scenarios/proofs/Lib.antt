@@ -1,0 +1,13 @@
+pub mod EndLemmas
+pub mod NameLemmas
+pub mod PortLemmas
+pub mod RuleLemmas
+pub mod InterfaceLemmas
+pub mod PacketLemmas
+pub mod FitLemmas
+pub mod ScriptLemmas
+pub mod KeepLemmas
+pub mod LineLemmas
+pub mod Reading
+pub mod LawLemmas
+pub mod FirstLemmas

@@ -1,0 +1,9 @@
+pub mod Rules
+pub mod Interfaces
+pub mod SoFar
+pub mod Hosts
+pub mod Agents
+pub mod Streams
+pub mod Lines
+pub mod Files
+pub mod Worked
