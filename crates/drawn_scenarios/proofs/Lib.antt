@@ -1,0 +1,9 @@
+mod DrawLemmas
+mod HostLemmas
+mod AgentLemmas
+mod StreamLemmas
+mod LinkLemmas
+mod HostFits
+mod AgentFits
+mod StreamFits
+mod FitLemmas
