@@ -1,0 +1,6 @@
+mod Spelled
+mod Accepting
+mod Computed
+mod Residues
+mod Accepted
+mod Writing

@@ -1,0 +1,12 @@
+use Rattle.std.proofs.Common.{◌++◌, ◌∙◌, ap, List, ℕ}
+use Rattle.std.specs.Prelude.{codes}
+use Rattle.workload_systems.specs.Texts.{line_text}
+use Rattle.workload_systems.specs.Components.{port, answer_ports}
+use Rattle.workload_systems.proofs.Writing.{line_then, one_line}
+use Rattle.workload_systems.proofs.components.put_answer_ports.Goals as goal
+
+pub returns : goal.returns
+unfolding answer_ports
+returns c =
+    let P : List ℕ → List ℕ = λ width. c.put_port.new.text ++ line_text (port c.args.interface.now (codes "readdata") c.args.direction.now width) in
+    line_then _ _ _ _ _ c.in_ok-put_port.ensures (line_then _ _ _ _ _ (c.in_ok-put_port-2.ensures ∙ ap P c.bits.ensures) (one_line _ _ _ c.in_ok-put_port-3.ensures))
