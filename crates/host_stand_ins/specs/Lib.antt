@@ -1,0 +1,4 @@
+pub mod Steps
+pub mod StandIns
+pub mod Kept
+pub mod Worked
