@@ -1,0 +1,17 @@
+//! Agents of a simulation: what stands in for an agent, acts as memory and stalls by a pattern.
+#![tactic(auto)]
+
+mod burst;
+mod delayed;
+mod laws;
+mod memory;
+mod places;
+mod script;
+mod stand_in;
+mod waiting;
+
+pub use laws::{
+    borne_reads_are_answered, fixed_words, late_words, stand_in_agents_are_legal,
+    stand_ins_stand_for_runs, words_come_in_order,
+};
+pub use stand_in::AgentStandIn;
