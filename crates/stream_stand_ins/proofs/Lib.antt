@@ -1,0 +1,4 @@
+pub mod StepLemmas
+pub mod KeepingLemmas
+pub mod LegalLemmas
+pub mod AnswerLemmas

@@ -1,0 +1,82 @@
+//! What stands in for a source.
+
+ghost use Rattle.std.specs.Prelude.{◌≡◌, ◌≤◌, ◌∷◌, take, option_map};
+ghost use Rattle.iface_roles.specs.Records.{ready_latency};
+ghost use Rattle.stream_runs.specs.View.{EndView};
+ghost use Rattle.scenario_tables.specs.Statements.{IsSourceScript};
+ghost use Rattle.stream_stand_ins.specs.Steps.{levels_of};
+ghost use Rattle.stream_stand_ins.specs.Sources.{keeping_at, is_taken, keeping_behind, beat_kept};
+
+use crate::steps::StepsLeft;
+use iface_roles::StreamPort;
+use scenario_tables::{SourceBeat, SourceStatement};
+use std::marker::Model;
+
+fn put_latest(lately: &mut [bool; 8], ready: bool)
+    ensures { lately.new ≡ ready ∷ take 7 lately.old }
+{
+    lately.rotate_right(1);
+    lately[0] = ready;
+}
+
+/// Stands in for a source: it sends the beats of its script, each as soon as it may, and rests in the gaps.
+#[derive(Drop)]
+pub struct SourceStandIn<'a> {
+    latency: u8,
+    left: StepsLeft<'a>,
+    /// Whether `ready` was high in the eight cycles before, the latest first.
+    lately: [bool; 8],
+}
+
+impl<'a> Model for SourceStandIn<'a> {
+    ghost use Rattle.std.specs.Prelude.{◌≤◌};
+    ghost use Rattle.stream_stand_ins.specs.Sources.{Keeping};
+
+    ghost Value = { Keeping };
+
+    ghost view = { λ s. record { latency = s.latency; left = s.left; lately = s.lately } };
+
+    ghost invariant = { λ s. s.latency ≤ 8 };
+}
+
+impl<'a> SourceStandIn<'a> {
+    /// Stands at the first statement, before the first cycle. The ready latency is 8 at most.
+    pub fn new(port: &StreamPort, script: &'a [SourceStatement]) -> SourceStandIn<'a>
+        requires soon { ready_latency port.now ≤ 8 }
+        requires fits { IsSourceScript port.now script.now }
+        ensures { (view : EndView) → result ≡ keeping_at port.now script.now view 0 }
+    {
+        SourceStandIn {
+            latency: port.ready_latency(),
+            left: StepsLeft::new(script),
+            lately: [false; 8],
+        }
+    }
+
+    /// Whether a beat that stands in a cycle is taken, where `ready` is so in it.
+    fn is_taken(&self, ready: bool) -> bool
+        ensures { result ≡ is_taken self.now ready }
+    {
+        match usize::from(self.latency) {
+            0 => ready,
+            ago => self.lately[ago - 1],
+        }
+    }
+
+    /// The beat that it shows in this cycle. Where there is none, `valid` is low and all else is 0.
+    pub fn shown(&self) -> Option<SourceBeat>
+        ensures { option_map levels_of result ≡ beat_kept self.now }
+    {
+        self.left
+            .next_beat(self.latency == 0 || self.is_taken(false))
+    }
+
+    /// Ends the cycle, in which `ready` was so: always high at a source without `ready`.
+    pub fn end_cycle(&mut self, ready: bool)
+        ensures { self.new ≡ keeping_behind self.old ready }
+    {
+        let taken = self.is_taken(ready);
+        self.left.end_cycle(taken);
+        put_latest(&mut self.lately, ready);
+    }
+}
