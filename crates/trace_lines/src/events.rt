@@ -1,0 +1,56 @@
+//! What happens at an interface in a cycle.
+
+ghost use Rattle.std.specs.Prelude.{◌≤◌, length};
+
+use av_base::Val;
+
+/// The name of an interface: that of its instance, a dot, and its own. Each has 64 bytes at most.
+#[derive(Clone, Copy)]
+pub struct EndName<'a> {
+    pub instance: &'a str,
+    pub interface: &'a str,
+    ghost short_instance: { length instance.now ≤ 64 },
+    ghost short_interface: { length interface.now ≤ 64 },
+}
+
+/// A host is given a word.
+#[derive(Clone, Copy)]
+pub struct WordGiven<'a> {
+    pub cycle: u32,
+    pub host: EndName<'a>,
+    /// As wide as the host's words.
+    pub word: Val,
+}
+
+/// An agent takes a beat of a write, or a read.
+#[derive(Clone, Copy)]
+pub struct CommandTaken<'a> {
+    pub cycle: u32,
+    pub agent: EndName<'a>,
+    /// The number of the host that `grant` tells.
+    pub host: u8,
+    /// The first byte of the agent's word, below its span; of a read that of the first word.
+    pub offset: u32,
+    /// A bit for each byte of the agent's words: all ones where it has no byte enables.
+    pub enables: Val,
+}
+
+/// A beat of a stream, as it stands on the ports of an end. An absent port bears 0.
+#[derive(Clone, Copy)]
+pub struct ShownBeat {
+    /// As wide as the end's data.
+    pub word: Val,
+    pub channel: u16,
+    pub error: u32,
+    pub first: bool,
+    pub last: bool,
+    pub empty: u8,
+}
+
+/// A beat passes an end of a stream.
+#[derive(Clone, Copy)]
+pub struct BeatMoved<'a> {
+    pub cycle: u32,
+    pub end: EndName<'a>,
+    pub beat: ShownBeat,
+}
