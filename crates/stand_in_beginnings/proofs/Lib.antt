@@ -1,0 +1,3 @@
+mod Agents
+mod Hosts
+mod Streams

@@ -1,0 +1,39 @@
+-- Sources and sinks that show the same in their first cycles.
+use Rattle.std.proofs.Common.{◌≡◌, ℕ, zero, suc, ◌-◌, ◌<◌, ◌≤◌, ◌==◌, ◌||◌, ◌&&◌, Bool, nat_le, List, Option, is_some, unwrap_or, refl, sym, ap, ap₂, ◌∙◌, arith}
+use Rattle.histories.specs.History.{one_if}
+use Rattle.iface_roles.specs.declared.records.StreamPort.{StreamPort}
+use Rattle.stream_runs.specs.View.{EndView, Beat, Pace, AgreeBefore, beat_at, is_ready_cycle}
+use Rattle.scenario_tables.specs.declared.statements.SourceStatement.{SourceStatement}
+use Rattle.scenario_tables.specs.declared.statements.Pattern.{Pattern}
+use Rattle.stream_stand_ins.specs.Step.{Step}
+use Rattle.stream_stand_ins.specs.Steps.{steps_of, left_behind, left_before, next_beat}
+use Rattle.stream_stand_ins.specs.Sources.{port_pace, no_beat, beat_shown, Shows, IsSourceStandIn}
+use Rattle.stream_stand_ins.specs.Sinks.{IsSinkStandIn}
+
+-- ready has agreed up to a cycle, so the cycle is a ready one in both
+same_ready : (pace : Pace) (one two : EndView) (c : ℕ) → ((k : ℕ) → k ≤ c → one.ready k ≡ two.ready k) → is_ready_cycle pace one c ≡ is_ready_cycle pace two c
+same_ready pace one two c same = ap (λ (level : ℕ). nat_le pace.latency c && (level == 1)) (same (c - pace.latency) (omega arith))
+
+same_left : (pace : Pace) (steps : List Step) (one two : EndView) (c : ℕ) → ((k : ℕ) → k < c → one.ready k ≡ two.ready k) → left_before pace steps one c ≡ left_before pace steps two c
+same_left pace steps one two zero same = refl
+same_left pace steps one two (suc c) same =
+    ap₂ left_behind (same_ready pace one two c (λ k low. same k (omega arith))) (same_left pace steps one two c (λ k low. same k (omega arith)))
+
+same_beat : (port : StreamPort) (script : List SourceStatement) (one two : EndView) (c : ℕ) → ((k : ℕ) → k ≤ c → one.ready k ≡ two.ready k) → beat_shown port script one c ≡ beat_shown port script two c
+same_beat port script one two c same =
+    ap₂ (λ (ready : Bool) (steps : List Step). next_beat (((port_pace port).latency == 0) || ready) steps)
+    (same_ready (port_pace port) one two c same) (same_left (port_pace port) (steps_of script) one two c (λ k low. same k (omega arith)))
+
+shows_same : (one two : EndView) (c : ℕ) (beat other : Option Beat) → one.valid c ≡ two.valid c → beat_at one c ≡ beat_at two c → beat ≡ other → Shows one c beat → Shows two c other
+shows_same one two c beat other valid signals is shows = record {
+  valid = sym valid ∙ shows.valid ∙ ap (λ (b : Option Beat). one_if (is_some b)) is;
+  signals = sym signals ∙ shows.signals ∙ ap (λ (b : Option Beat). unwrap_or b no_beat) is;
+}
+
+pub same_source : (port : StreamPort) (script : List SourceStatement) (one two : EndView) (end : ℕ) → AgreeBefore one two end → IsSourceStandIn port script one end → IsSourceStandIn port script two end
+same_source port script one two end agree stands =
+    λ c low. shows_same one two c (beat_shown port script one c) (beat_shown port script two c) (agree.valid c low) (agree.beat c low)
+    (same_beat port script one two c (λ k below. agree.ready k (omega arith))) (stands c low)
+
+pub same_sink : (script : List Pattern) (one two : EndView) (end : ℕ) → AgreeBefore one two end → IsSinkStandIn script one end → IsSinkStandIn script two end
+same_sink script one two end agree stands = λ c low. sym (agree.ready c low) ∙ stands c low
