@@ -1,0 +1,3 @@
+mod GoingOn
+pub mod Growing
+mod LegalLemmas

@@ -1,0 +1,37 @@
+//! What holds of every simulation. The functions do nothing; their contracts are the laws.
+
+ghost use Rattle.std.specs.Prelude.{ℕ, suc};
+ghost use Rattle.link_rules.specs.Plans.{PlanTable, IsPlan};
+ghost use Rattle.netlist.specs.Netlists.{Netlist};
+ghost use Rattle.netlist.specs.Runs.{Run, Cycle};
+ghost use Rattle.cycle_sim.specs.Standing.{IsClearedRun, with_cycle};
+ghost use Rattle.scenario_tables.specs.declared.scenario.Scenario.{Scenario};
+ghost use Rattle.scenario_tables.specs.Scenarios.{IsScenario};
+ghost use Rattle.simulated_runs.specs.Simulated.{IsSimulated, AreLegal, AreShown};
+
+use agent_stand_ins::stand_in_agents_are_legal;
+use host_stand_ins::stand_in_hosts_are_legal;
+use link_rules::{ends_are_known, links_keep_rules, streams_are_numbered};
+use stand_in_beginnings::stand_ins_by_beginnings;
+use stream_stand_ins::stand_in_sources_are_legal;
+
+/// Whatever a module does, hosts, agents and sources that follow a scenario of the plan keep to what they declare.
+pub fn simulated_runs_are_legal()
+    ensures { (plan : PlanTable) (scenario : Scenario) (netlist : Netlist) (run : Run) (end : ℕ) → IsPlan plan → IsScenario plan.system scenario
+        → IsSimulated plan scenario netlist run end → AreLegal plan netlist run end }
+{
+    ends_are_known();
+    links_keep_rules();
+    streams_are_numbered();
+    stand_in_hosts_are_legal();
+    stand_in_agents_are_legal();
+    stand_in_sources_are_legal();
+}
+
+/// A simulation goes on by a cycle in which each interface does what its script says.
+pub fn simulations_go_on()
+    ensures { (plan : PlanTable) (scenario : Scenario) (netlist : Netlist) (run : Run) (c : ℕ) (cycle : Cycle) → IsSimulated plan scenario netlist run c
+        → IsClearedRun netlist (with_cycle run c cycle) (suc c) → AreShown plan scenario netlist (with_cycle run c cycle) c → IsSimulated plan scenario netlist (with_cycle run c cycle) (suc c) }
+{
+    stand_ins_by_beginnings();
+}
