@@ -1,0 +1,4 @@
+mod Driving
+mod PlaceLemmas
+mod Shown
+mod Standing
