@@ -1,0 +1,4 @@
+mod Commanded
+mod Fitting
+mod Holding
+mod Shown

@@ -1,0 +1,43 @@
+-- The signals of a sink.
+use Rattle.std.specs.Prelude.{ℕ, Bool}
+use Rattle.iface_roles.specs.declared.records.StreamPort.{StreamPort}
+use Rattle.system_tables.specs.declared.tables.EndId.{EndId}
+use Rattle.system_tables.specs.Tables.{SystemTable}
+use Rattle.netlist.specs.Netlists.{Netlist}
+use Rattle.netlist.specs.Runs.{Run}
+use Rattle.histories.specs.History.{one_if}
+use Rattle.stream_runs.specs.View.{Beat}
+use Rattle.port_tables.specs.declared.roles.PortRole.TheVariants as role
+use Rattle.port_tables.specs.Ports.{bits_if}
+use Rattle.port_tables.specs.PortMaps.{port_at}
+use Rattle.port_rows.specs.Rows.{level_of}
+use Rattle.host_ends.specs.Inputs.{FitsPort}
+use Rattle.stream_ends.specs.declared.places.SinkPorts.{SinkPorts}
+
+-- the outputs that the sink at an end is given
+abbrev pub sink_outputs : SystemTable → EndId → SinkPorts
+sink_outputs system end = record {
+  valid = port_at system end role.Valid;
+  word = port_at system end role.Data;
+  channel = port_at system end role.Channel;
+  error = port_at system end role.Error;
+  first = port_at system end role.StartOfPacket;
+  last = port_at system end role.EndOfPacket;
+  empty = port_at system end role.Empty;
+  dropped = port_at system end role.Dropped;
+}
+
+-- the beat on its outputs in a cycle
+abbrev pub beat_of : Netlist → Run → ℕ → SinkPorts → Beat
+beat_of netlist run c ports = record {
+  word = level_of netlist run c 0 ports.word;
+  channel = level_of netlist run c 0 ports.channel;
+  error = level_of netlist run c 0 ports.error;
+  first = level_of netlist run c 0 ports.first;
+  last = level_of netlist run c 0 ports.last;
+  empty = level_of netlist run c 0 ports.empty;
+}
+
+-- a sink without ready is always ready
+abbrev pub FitsReady : StreamPort → Bool → Type 0
+FitsReady port ready = FitsPort (bits_if port.ready 1) 1 (one_if ready)
