@@ -16,13 +16,16 @@ ghost use Rattle.port_rows.specs.Rows.{place_among, level_in, level_of, IsGivenR
 
 use netlist::signals;
 
-/// What is set in a row stands there, where no place is set twice; the widths stay, and so does what isn't set.
+/// What is set in a row stands there, where no place is set twice; the widths stay, and so does what isn't set. Levels may be set in two steps.
 pub fn levels_stand()
     ensures stands { (row : List Bits) (levels : List Level) → AllFit row levels → AreApart levels → AllStand (set_levels row levels) levels }
     ensures front { (row : List Bits) (one other : List Level) → AllStand row (one ++ other) → AllStand row one }
     ensures back { (row : List Bits) (one other : List Level) → AllStand row (one ++ other) → AllStand row other }
     ensures widths { (row : List Bits) (levels : List Level) → AllFit row levels → widths_of (set_levels row levels) ≡ widths_of row }
     ensures others { (row : List Bits) (levels : List Level) (place : ℕ) → IsLeftOut place levels → bits_at (set_levels row levels) place ≡ bits_at row place }
+    ensures in_two { (row : List Bits) (one other : List Level) → set_levels row (one ++ other) ≡ set_levels (set_levels row one) other }
+    ensures first_fits { (row : List Bits) (one other : List Level) → AllFit row (one ++ other) → AllFit row one }
+    ensures second_fits { (row : List Bits) (one other : List Level) → AllFit row (one ++ other) → AllFit (set_levels row one) other }
 {}
 
 /// What a run shows at an input is what stands there in the row of the cycle.
