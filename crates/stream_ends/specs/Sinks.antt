@@ -1,8 +1,10 @@
 -- The signals of a sink.
-use Rattle.std.specs.Prelude.{ℕ, Bool}
+use Rattle.std.specs.Prelude.{◌≡◌, ℕ, Bool, Some, slice_get}
 use Rattle.iface_roles.specs.declared.records.StreamPort.{StreamPort}
+use Rattle.system_tables.specs.declared.tables.Connection.{Connection}
 use Rattle.system_tables.specs.declared.tables.EndId.{EndId}
 use Rattle.system_tables.specs.Tables.{SystemTable}
+use Rattle.link_rules.specs.Links.{streams_of}
 use Rattle.netlist.specs.Netlists.{Netlist}
 use Rattle.netlist.specs.Runs.{Run}
 use Rattle.histories.specs.History.{one_if}
@@ -13,6 +15,14 @@ use Rattle.port_tables.specs.PortMaps.{port_at}
 use Rattle.port_rows.specs.Rows.{level_of}
 use Rattle.host_ends.specs.Inputs.{FitsPort}
 use Rattle.stream_ends.specs.declared.places.SinkPorts.{SinkPorts}
+
+-- the end is the sink of the stream of this number
+pub record IsSinkEnd (system : SystemTable) (number : ℕ) (end : EndId) : Type 0 where
+  pub place : ℕ
+  pub connection : Connection
+  pub place_is : slice_get (streams_of system) number ≡ Some place
+  pub connection_is : slice_get system.connections place ≡ Some connection
+  pub end_is : connection.end ≡ end
 
 -- the outputs that the sink at an end is given
 abbrev pub sink_outputs : SystemTable → EndId → SinkPorts

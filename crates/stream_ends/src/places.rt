@@ -1,20 +1,20 @@
 //! Where the signals of sources and sinks stand. A source has one output, `ready`, and a sink one input, so these need no record.
 
-ghost use Rattle.std.specs.Prelude.{◌≡◌, option_map};
+ghost use Rattle.std.specs.Prelude.{◌≡◌, Some, option_map};
+ghost use Rattle.port_tables.specs.declared.roles.PortRole.TheVariants.{Dropped};
 ghost use Rattle.port_tables.specs.Ends.{IsAnEnd};
 ghost use Rattle.port_tables.specs.Ports.{ports_of};
-ghost use Rattle.port_tables.specs.PortMaps.{AreTold, entries_of};
+ghost use Rattle.port_tables.specs.PortMaps.{AreTold, port_at};
 ghost use Rattle.port_rows.specs.Levels.{AllFit, set_levels, levels_for};
 ghost use Rattle.stream_stand_ins.specs.Steps.{levels_of};
 ghost use Rattle.stream_ends.specs.Sources.{source_places, source_levels, beat_driven};
-ghost use Rattle.stream_ends.specs.Sinks.{sink_outputs};
+ghost use Rattle.stream_ends.specs.Sinks.{IsSinkEnd, sink_outputs};
 
 use iface_roles::Role;
 use interconnect::PortMap;
 use link_rules::Plan;
 use netlist::PortLine;
-use port_rows::{Driven, InputRow, input_place};
-use port_tables::PortRole;
+use port_rows::{Driven, InputRow, input_place, port_number};
 use scenario_tables::SourceBeat;
 use system_tables::EndId;
 
@@ -123,22 +123,33 @@ impl SourcePlaces {
     }
 }
 
+/// The output `dropped` of the stream of this number, at its sink.
+fn dropped_of(plan: &Plan, ports: &PortMap, end: EndId, stream: u32) -> u32
+    requires told { AreTold plan.now.system ports.now }
+    requires stream { IsSinkEnd plan.now.system stream end }
+    ensures { port_at plan.now.system end Dropped ≡ Some result }
+{
+    ports.dropped(stream)
+}
+
 impl SinkPorts {
-    /// The outputs that the sink at an end of the plan is given.
-    pub fn of(plan: &Plan, ports: &PortMap, end: EndId) -> SinkPorts
-        requires map { ports.now.entries ≡ entries_of plan.now.system }
+    /// The outputs that the sink of the stream of this number in the plan, which is at this end, is given.
+    pub fn of(plan: &Plan, ports: &PortMap, end: EndId, stream: u32) -> SinkPorts
+        requires told { AreTold plan.now.system ports.now }
         requires end { IsAnEnd plan.now.system end }
+        requires stream { IsSinkEnd plan.now.system stream end }
         ensures { result ≡ sink_outputs plan.now.system end }
     {
+        let dropped = dropped_of(plan, ports, end, stream);
         SinkPorts {
-            valid: ports.port_at(plan, end, PortRole::Valid),
-            word: ports.port_at(plan, end, PortRole::Data),
-            channel: ports.port_at(plan, end, PortRole::Channel),
-            error: ports.port_at(plan, end, PortRole::Error),
-            first: ports.port_at(plan, end, PortRole::StartOfPacket),
-            last: ports.port_at(plan, end, PortRole::EndOfPacket),
-            empty: ports.port_at(plan, end, PortRole::Empty),
-            dropped: ports.port_at(plan, end, PortRole::Dropped),
+            valid: port_number(plan, ports, end, Role::Valid),
+            word: port_number(plan, ports, end, Role::Data),
+            channel: port_number(plan, ports, end, Role::Channel),
+            error: port_number(plan, ports, end, Role::Error),
+            first: port_number(plan, ports, end, Role::StartOfPacket),
+            last: port_number(plan, ports, end, Role::EndOfPacket),
+            empty: port_number(plan, ports, end, Role::Empty),
+            dropped: Some(dropped),
         }
     }
 }
