@@ -3,4 +3,4 @@
 
 mod laws;
 
-pub use laws::inputs_given_once_are_apart;
+pub use laws::{inputs_given_once_are_apart, inputs_of_ends_are_apart};
