@@ -1,5 +1,6 @@
 -- Agents that show the same in their first cycles.
-use Rattle.std.proofs.Common.{◌≡◌, ℕ, zero, suc, ◌+◌, ◌-◌, ◌<◌, ◌≤◌, ◌&&◌, ◌||◌, not, nat_eq, nat_le, Bool, List, ◌++◌, flat_map, if◌then◌else◌, refl, sym, ap, ap₂, ◌∙◌, arith}
+use Rattle.std.proofs.Common.{◌≡◌, ℕ, zero, suc, ◌+◌, ◌-◌, ◌<◌, ◌≤◌, ◌&&◌, ◌||◌, not, nat_eq, nat_le, Bool, List, ◌++◌, flat_map, inl, inr, true, false, if◌then◌else◌, refl, sym, ap, ap₂, ◌∙◌, arith}
+use Rattle.std.proofs.lemmas.Bool.{cases_Bool, leb-true}
 use Rattle.histories.specs.History.{is_raised, one_if, only_if, before}
 use Rattle.iface_roles.specs.declared.records.AgentPort.{AgentPort}
 use Rattle.mm_runs.specs.Views.{Levels, Shape, AgentSide, AgentView, levels_at}
@@ -12,6 +13,7 @@ use Rattle.agent_stand_ins.specs.Contents.{filled, contents_before}
 use Rattle.agent_stand_ins.specs.declared.waiting.Waiting.{Waiting}
 use Rattle.agent_stand_ins.specs.Answers.{takes_read, latency_of, waiting_before, waiting_after, is_due, word_due, word_asked, word_asked_in, word_behind}
 use Rattle.agent_stand_ins.specs.StandIns.{IsAgentStandIn}
+use Rattle.agent_stand_ins.specs.Whole.{AgentStandInValue, StandsFor}
 
 module _ (side : AgentSide) (one two : AgentView) (end : ℕ) (agree : AgentsAgree one two end) where
   -- what is shown, and whether it is a write
@@ -27,7 +29,7 @@ module _ (side : AgentSide) (one two : AgentView) (end : ℕ) (agree : AgentsAgr
       ap₂ (λ (levels : Levels) (stood : ℕ). if shows_by levels && not (nat_eq stood (waits_for levels)) then stood + 1 else 0)
       (agree.signals c (omega arith)) (same_stood c (omega arith))
 
-  same_accepts : (c : ℕ) → c < end → agent_accepts side one c ≡ agent_accepts side two c
+  pub same_accepts : (c : ℕ) → c < end → agent_accepts side one c ≡ agent_accepts side two c
   same_accepts c low =
       ap₂ (λ (levels : Levels) (wait : ℕ). if side.has_waitrequest then shows_by levels && not (is_raised wait) else shows_by levels && nat_eq (stood_before side one c) (waits_for levels))
       (agree.signals c low) (agree.waitrequest c low)
@@ -43,7 +45,7 @@ module _ (side : AgentSide) (one two : AgentView) (end : ℕ) (agree : AgentsAgr
       ap₂ (λ (levels : Levels) (accepts : Bool). burst_after side.shape levels accepts (burst_in one c)) (agree.signals c (omega arith)) (same_accepts c (omega arith))
       ∙ ap (burst_after side.shape (levels_at two.signals c) (agent_accepts side two c)) (same_burst c (omega arith))
 
-  same_transfer : (c : ℕ) → c < end → transfer_at side.shape one.signals (agent_accepts side one) c ≡ transfer_at side.shape two.signals (agent_accepts side two) c
+  pub same_transfer : (c : ℕ) → c < end → transfer_at side.shape one.signals (agent_accepts side one) c ≡ transfer_at side.shape two.signals (agent_accepts side two) c
   same_transfer c low = ap₂ (transfer_of side.shape) (agree.signals c low) (same_burst c (omega arith))
 
   abbrev accepted_before : AgentView → ℕ → List Transfer
@@ -78,6 +80,29 @@ module _ (side : AgentSide) (one two : AgentView) (end : ℕ) (agree : AgentsAgr
 
   same_behind : (script : List AgentStatement) (c : ℕ) → c < end → word_behind side script one c ≡ word_behind side script two c
   same_behind script c low = ap (λ (word : ℕ). if nat_le side.read_latency c then word else 0) (same_asked script (c - side.read_latency) (omega arith))
+
+  -- and so it is of the cycles that come before the read latency is over
+  same_behind_later : (script : List AgentStatement) (k : ℕ) → k < side.read_latency → word_behind side script one (end + k) ≡ word_behind side script two (end + k)
+  same_behind_later script k soon =
+      elim (cases_Bool (nat_le side.read_latency (end + k))) [
+        | inl e ↦ (let late = leb-true side.read_latency (end + k) e in rw (e) (same_asked script (end + k - side.read_latency) (omega arith)))
+        | inr e ↦ rw (e) refl
+      ]
+
+pub same_state : (script : List AgentStatement) (agent : AgentStandInValue) (one two : AgentView) → AgentsAgree one two agent.cycle → StandsFor script agent one → StandsFor script agent two
+same_state script agent one two agree stands =
+    let side = agent_side agent.port in
+    let end = agent.cycle in
+    record {
+      stalls = stands.stalls;
+      latency = stands.latency;
+      stood = stands.stood ∙ same_stood side one two end agree end (omega arith);
+      burst = stands.burst ∙ same_burst side one two end agree end (omega arith);
+      contents = stands.contents ∙ same_contents side one two end agree script end (omega arith);
+      waiting = λ late. stands.waiting late ∙ same_waiting side one two end agree script end (omega arith);
+      delay = stands.delay;
+      delayed = λ fixed k low. stands.delayed fixed k low ∙ same_behind_later side one two end agree script k low;
+    }
 
 pub same_agent : (port : AgentPort) (script : List AgentStatement) (one two : AgentView) (end : ℕ) → AgentsAgree one two end → IsAgentStandIn port script one end → IsAgentStandIn port script two end
 same_agent port script one two end agree stands =

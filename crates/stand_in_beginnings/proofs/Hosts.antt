@@ -17,3 +17,6 @@ pub same_host : (port : HostPort) (script : List HostStatement) (one two : HostV
 same_host port script one two end agree stands =
     λ c low. sym (agree.signals c low) ∙ stands c low
     ∙ ap (shown port) (same_left (all_steps port script) one.waitrequest two.waitrequest c (λ k below. agree.waitrequest k (omega arith)))
+
+pub same_steps : (steps : List Step) (one two : HostView) (end : ℕ) → HostsAgree one two end → left_before steps one.waitrequest end ≡ left_before steps two.waitrequest end
+same_steps steps one two end agree = same_left steps one.waitrequest two.waitrequest end (λ k low. agree.waitrequest k low)

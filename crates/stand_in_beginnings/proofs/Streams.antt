@@ -1,5 +1,5 @@
 -- Sources and sinks that show the same in their first cycles.
-use Rattle.std.proofs.Common.{◌≡◌, ℕ, zero, suc, ◌-◌, ◌<◌, ◌≤◌, ◌==◌, ◌||◌, ◌&&◌, Bool, nat_le, List, Option, is_some, unwrap_or, refl, sym, ap, ap₂, ◌∙◌, arith}
+use Rattle.std.proofs.Common.{◌≡◌, ℕ, zero, suc, ◌-◌, ◌<◌, ◌≤◌, ◌==◌, ◌||◌, ◌&&◌, Bool, nat_le, List, ◌∷◌, take, Option, is_some, unwrap_or, refl, sym, ap, ap₂, ◌∙◌, arith}
 use Rattle.histories.specs.History.{one_if}
 use Rattle.iface_roles.specs.declared.records.StreamPort.{StreamPort}
 use Rattle.stream_runs.specs.View.{EndView, Beat, Pace, AgreeBefore, beat_at, is_ready_cycle}
@@ -7,7 +7,7 @@ use Rattle.scenario_tables.specs.declared.statements.SourceStatement.{SourceStat
 use Rattle.scenario_tables.specs.declared.statements.Pattern.{Pattern}
 use Rattle.stream_stand_ins.specs.Step.{Step}
 use Rattle.stream_stand_ins.specs.Steps.{steps_of, left_behind, left_before, next_beat}
-use Rattle.stream_stand_ins.specs.Sources.{port_pace, no_beat, beat_shown, Shows, IsSourceStandIn}
+use Rattle.stream_stand_ins.specs.Sources.{port_pace, no_beat, beat_shown, Shows, IsSourceStandIn, lately_ready, Keeping, keeping_at}
 use Rattle.stream_stand_ins.specs.Sinks.{IsSinkStandIn}
 
 -- ready has agreed up to a cycle, so the cycle is a ready one in both
@@ -37,3 +37,13 @@ same_source port script one two end agree stands =
 
 pub same_sink : (script : List Pattern) (one two : EndView) (end : ℕ) → AgreeBefore one two end → IsSinkStandIn script one end → IsSinkStandIn script two end
 same_sink script one two end agree stands = λ c low. sym (agree.ready c low) ∙ stands c low
+
+same_lately : (one two : EndView) (c : ℕ) → ((k : ℕ) → k < c → one.ready k ≡ two.ready k) → lately_ready one c ≡ lately_ready two c
+same_lately one two zero same = refl
+same_lately one two (suc c) same =
+    ap₂ (λ (level : ℕ) (earlier : List Bool). (level == 1) ∷ take 7 earlier) (same c (omega arith)) (same_lately one two c (λ k low. same k (omega arith)))
+
+pub same_keeping : (port : StreamPort) (script : List SourceStatement) (one two : EndView) (end : ℕ) → AgreeBefore one two end → keeping_at port script one end ≡ keeping_at port script two end
+same_keeping port script one two end agree =
+    ap₂ (λ (left : List Step) (lately : List Bool). let kept : Keeping = record { latency = (port_pace port).latency; left = left; lately = lately } in kept)
+    (same_left (port_pace port) (steps_of script) one two end (λ k low. agree.ready k low)) (same_lately one two end (λ k low. agree.ready k low))

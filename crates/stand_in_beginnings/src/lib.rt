@@ -3,4 +3,4 @@
 
 mod laws;
 
-pub use laws::stand_ins_by_beginnings;
+pub use laws::{stand_ins_by_beginnings, states_by_beginnings, taken_by_beginnings};
