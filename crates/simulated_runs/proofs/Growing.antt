@@ -24,6 +24,7 @@ use Rattle.memory_plans.specs.Systems.{memory_system}
 use Rattle.mm_path.specs.Shown.{silent_host, silent_agent}
 use Rattle.port_tables.specs.Ports.{EndName, port_name, name_at}
 use Rattle.interconnect.specs.Memory.{level, host_view, agent_view, host_in, agent_in}
+use Rattle.interconnect.specs.Streams.{dropped_signal}
 use Rattle.simulated_runs.specs.Ends.{stream_view}
 
 same_levels : (a b c d e f a' b' c' d' e' f' : ℕ) → a ≡ a' → b ≡ b' → c ≡ c' → d ≡ d' → e ≡ e' → f ≡ f' →
@@ -111,6 +112,9 @@ module _ (plan : PlanTable) (netlist : Netlist) (run : Run) (c : ℕ) (cycle : C
             (same_signal (port_name name (codes "endofpacket")) 0 k low) (same_signal (port_name name (codes "empty")) 0 k low);
         ready = λ k low. same_signal (port_name name (codes "ready")) 1 k low;
       }
+
+  pub dropped_agrees : (name : EndName) (k : ℕ) → k < c → dropped_signal netlist run name k ≡ dropped_signal netlist later name k
+  dropped_agrees name k low = same_signal (port_name name (codes "dropped")) 0 k low
 
 -- what holds before a cycle and in it holds before the next one
 pub grown : (P : ℕ → Type 0) (c : ℕ) → ((k : ℕ) → k < c → P k) → P c → (k : ℕ) → k < suc c → P k

@@ -3,4 +3,4 @@
 
 mod laws;
 
-pub use laws::{simulated_runs_are_legal, simulations_go_on};
+pub use laws::{earlier_cycles_stay, simulated_runs_are_legal, simulations_go_on};
