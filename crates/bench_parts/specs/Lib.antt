@@ -1,0 +1,4 @@
+pub mod Outputs
+pub mod Writing
+pub mod Counting
+pub mod Present

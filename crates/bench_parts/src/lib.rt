@@ -1,0 +1,10 @@
+//! What the parts of a test bench share: what a component of a simulation does in each cycle, and all components of a kind together.
+#![tactic(auto)]
+
+mod all;
+mod component;
+mod outputs;
+
+pub use all::{count_all, end_cycle_of_all, show_all, tell_all};
+pub use component::Component;
+pub use outputs::level_at;
