@@ -1,0 +1,5 @@
+mod Widths
+mod HostNames
+mod HostEnds
+mod Gathering
+mod Taking

@@ -1,0 +1,220 @@
+//! What stands for a host in a test bench.
+
+ghost use Rattle.std.specs.Prelude.{◌≡◌, ◌*◌, ◌≤◌, ℕ, List as Sequence, Some, true, length, slice_get, IfOk};
+ghost use Rattle.av_base.specs.Word.{word};
+ghost use Rattle.histories.specs.History.{is_raised};
+ghost use Rattle.iface_roles.specs.declared.records.HostPort.{HostPort as Port};
+ghost use Rattle.iface_roles.specs.declared.records.Finished.TheVariants.{Host};
+ghost use Rattle.iface_roles.specs.Proper.{IsBoundedHost};
+ghost use Rattle.address_map.specs.Footprints.{known_at};
+ghost use Rattle.address_map.specs.Maps.{hosts_of};
+ghost use Rattle.link_rules.specs.Plans.{instance_name_at, interface_name_at};
+ghost use Rattle.map_text.specs.Text.{end_name};
+ghost use Rattle.port_tables.specs.Ports.{ports_of};
+ghost use Rattle.port_tables.specs.PortMaps.{AreTold};
+ghost use Rattle.scenario_tables.specs.declared.statements.HostStatement.{HostStatement as Statement};
+ghost use Rattle.scenario_tables.specs.Scenarios.{IsHostAt};
+ghost use Rattle.scenario_tables.specs.Statements.{IsHostScript};
+ghost use Rattle.trace_lines.specs.Names.{name_of};
+ghost use Rattle.bench_parts.specs.Outputs.{level_now};
+ghost use Rattle.bench_hosts.specs.Hosts.{AreFirstHosts, Fits, IsFirstHost, behind, counts, is_given, sets, tells};
+
+use av_base::{NoMemory, Val};
+use av_files::{Sink, put_all};
+use bench_parts::{Component, level_at};
+use cycle_sim::Sim;
+use host_ends::{HostPlaces, HostPorts};
+use host_stand_ins::HostStandIn;
+use iface_roles::{Finished, HostPort, proper_records_are_bounded};
+use interconnect::PortMap;
+use link_rules::{Plan, ends_are_known};
+use netlist::PortLine;
+use port_rows::InputRow;
+use scenario_tables::{HostStatement, Scripts};
+use std::alloc::Global;
+use std::marker::Model;
+use system_tables::EndId;
+use trace_lines::{Counts, EndName, WordGiven, get_line};
+
+/// A host of a test bench: its name, where its signals stand, which outputs answer it, and what stands in for it.
+#[derive(Drop)]
+pub struct BenchHost<'a> {
+    name: EndName<'a>,
+    places: HostPlaces,
+    ports: HostPorts,
+    /// What the stand-in was made for.
+    port: HostPort,
+    stand_in: HostStandIn<'a>,
+}
+
+impl<'a> Model for BenchHost<'a> {
+    ghost use Rattle.std.specs.Prelude.{◌≡◌};
+    ghost use Rattle.iface_roles.specs.Proper.{IsBoundedHost};
+    ghost use Rattle.trace_lines.specs.Names.{name_of};
+    ghost use Rattle.bench_hosts.specs.Hosts.{BenchHostValue};
+
+    ghost Value = { BenchHostValue };
+
+    ghost view = { λ s. record { name = name_of s.name; places = s.places; ports = s.ports; stand_in = s.stand_in } };
+
+    ghost invariant = { λ s. (s.port ≡ s.stand_in.port) × IsBoundedHost s.port };
+}
+
+/// The ports of a host of the plan.
+fn host_port(plan: &Plan, end: EndId) -> HostPort
+    requires { (number : ℕ) × (slice_get (hosts_of plan.now.system) number ≡ Some end) }
+    ensures known { known_at plan.now.system end ≡ Host result }
+    ensures bounded { IsBoundedHost result }
+{
+    plan.well_made();
+    ends_are_known();
+    proper_records_are_bounded();
+    match plan.interface(end) {
+        Finished::Host(port) => port,
+        _ => unreachable!(),
+    }
+}
+
+/// The names at the end of a host have 64 bytes at most. The function does nothing; its contract is the law.
+fn names_are_short(plan: &Plan, end: EndId)
+    requires { (number : ℕ) × (slice_get (hosts_of plan.now.system) number ≡ Some end) }
+    ensures instance { length (instance_name_at plan.now.system end) ≤ 64 }
+    ensures interface { length (interface_name_at plan.now.system end) ≤ 64 }
+{
+    plan.well_made();
+    ends_are_known();
+}
+
+/// The name of a host of the plan.
+fn host_name(plan: &Plan, end: EndId) -> EndName
+    requires { (number : ℕ) × (slice_get (hosts_of plan.now.system) number ≡ Some end) }
+    ensures { name_of result ≡ end_name plan.now.system end }
+{
+    ends_are_known();
+    plan.well_made();
+    names_are_short(plan, end);
+    EndName {
+        instance: plan.instance_name(end),
+        interface: plan.interface_name(end),
+    }
+}
+
+/// The host at an end of the plan, before the first statement of its script.
+fn first_host<'a>(
+    plan: &'a Plan,
+    ports: &PortMap,
+    header: &[PortLine],
+    end: EndId,
+    script: &'a [HostStatement],
+) -> BenchHost<'a>
+    requires told { AreTold plan.now.system ports.now }
+    requires header { header.now ≡ ports_of plan.now.system }
+    requires end { (number : ℕ) × (slice_get (hosts_of plan.now.system) number ≡ Some end) }
+    requires script { (port : Port) → known_at plan.now.system end ≡ Host port → IsHostScript port script.now }
+    ensures { (number : ℕ) → slice_get (hosts_of plan.now.system) number ≡ Some end → IsFirstHost plan.now.system number script.now result }
+{
+    let port = host_port(plan, end);
+    BenchHost {
+        name: host_name(plan, end),
+        places: HostPlaces::of(plan, ports, header, end),
+        ports: HostPorts::of(plan, ports, end),
+        port,
+        stand_in: HostStandIn::new(port, script),
+    }
+}
+
+/// The hosts of a plan, each before the first statement of its script. `header` is that of the plan's module.
+pub fn hosts_of_plan<'a>(
+    alloc: Global,
+    plan: &'a Plan,
+    ports: &PortMap,
+    header: &[PortLine],
+    scripts: &'a Scripts<HostStatement>,
+) -> Result<Vec<BenchHost<'a>>, NoMemory>
+    requires told { AreTold plan.now.system ports.now }
+    requires header { header.now ≡ ports_of plan.now.system }
+    requires count { length scripts.now ≡ length (hosts_of plan.now.system) }
+    requires scripts { (h : ℕ) (port : Port) (script : Sequence Statement) → IsHostAt plan.now.system h port → slice_get scripts.now h ≡ Some script → IsHostScript port script }
+    ensures { IfOk result (λ hosts. AreFirstHosts plan.now.system scripts.now hosts.items) }
+{
+    let mut hosts = Vec::new(alloc);
+    'hosts: for (number, end) in plan.hosts().iter().enumerate() {
+        hosts.push(first_host(plan, ports, header, *end, scripts.script(number)))?;
+    }
+    Ok(hosts)
+}
+
+impl BenchHost<'_> {
+    fn waits(&self, sim: &Sim) -> bool
+        requires stepped { sim.now.stepped ≡ true }
+        requires fits { Fits self.now sim.now }
+        ensures { result ≡ is_raised (level_now sim.now 0 self.now.ports.wait) }
+    {
+        level_at(sim, self.ports.wait, 0) > 0
+    }
+
+    /// Whether it is given a word in the present cycle.
+    fn is_given(&self, sim: &Sim) -> bool
+        requires stepped { sim.now.stepped ≡ true }
+        requires fits { Fits self.now sim.now }
+        ensures { result ≡ is_given self.now sim.now }
+    {
+        if self.port.readdatavalid {
+            level_at(sim, self.ports.valid, 0) > 0
+        } else {
+            self.stand_in.shown().read && !self.waits(sim)
+        }
+    }
+
+    /// The word that answers it in the present cycle.
+    fn word(&self, sim: &Sim) -> Val
+        requires stepped { sim.now.stepped ≡ true }
+        requires fits { Fits self.now sim.now }
+        ensures { result ≡ word (8 * self.now.stand_in.port.word_bytes) (level_now sim.now 0 self.now.ports.word) }
+    {
+        let bits = level_at(sim, self.ports.word, 0);
+        Val::new(8 * self.port.word_bytes, bits).unwrap()
+    }
+}
+
+impl Component for BenchHost<'_> {
+    ghost sets = { sets };
+
+    ghost fits = { Fits };
+
+    ghost tells = { tells };
+
+    ghost counts = { counts };
+
+    ghost follows = { λ host sim after. after ≡ behind host sim };
+
+    fn show(&self, row: &mut InputRow) {
+        self.places.show(row, self.stand_in.shown());
+    }
+
+    fn tell<K: Sink>(&self, cycle: u32, sim: &Sim, sink: &mut K) -> bool {
+        if !self.is_given(sim) {
+            return true;
+        }
+        let line = get_line(&WordGiven {
+            cycle,
+            host: self.name,
+            word: self.word(sim),
+        });
+        put_all(sink, line.as_slice())
+    }
+
+    fn count(&self, sim: &Sim) -> Counts {
+        Counts {
+            taken: 0,
+            answered: u64::from(self.is_given(sim)),
+            delivered: 0,
+            dropped: 0,
+        }
+    }
+
+    fn end_cycle(&mut self, sim: &Sim) {
+        let waits = self.waits(sim);
+        self.stand_in.go_on(waits);
+    }
+}
