@@ -1,0 +1,6 @@
+mod Reading
+mod Outputs
+mod Telling
+mod Showing
+mod Making
+mod Many
