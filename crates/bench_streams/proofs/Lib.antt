@@ -1,0 +1,4 @@
+mod Links
+mod Part
+mod Lines
+mod Keeping
