@@ -1,0 +1,13 @@
+mod Ends
+mod Given
+mod Setting
+mod Beside
+mod Beginning
+mod Present
+mod Showing
+mod Stepping
+mod Told
+mod TellLemmas
+mod Written
+mod Simulating
+mod Slices

@@ -1,0 +1,11 @@
+//! Simulations of scenarios on the module of a plan: the trace of one, and its counts.
+#![tactic(auto)]
+
+mod bench;
+mod cycles;
+mod rows;
+mod simulate;
+mod sound;
+mod telling;
+
+pub use simulate::{count_module, simulate_module};
