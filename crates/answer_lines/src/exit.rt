@@ -41,7 +41,8 @@ pub enum Exit {
         other: Option<u32>,
     },
     /// There is more of something than is handled: 1 for hosts, 2 for agents, 3 for streams, 4 for the nets of a text, 5 for the
-    /// bytes of a file, 6 for the values of nets in a replay, 7 for the number of files.
+    /// bytes of a file, 6 for the values of nets in all cycles together, 7 for the number of files. In a replay those values are
+    /// cycles times the nets of the text, in a simulation cycles times the weight of the plan.
     Limit {
         which: u8,
         count: u64,

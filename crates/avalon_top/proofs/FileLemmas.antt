@@ -4,7 +4,8 @@ use Rattle.std.specs.Prelude.{All}
 use Rattle.std.proofs.lemmas.Option.{slice_get-get_or}
 use Rattle.av_files.specs.Outside.{WhereTold}
 use Rattle.avalon_top.specs.declared.words.Task.{Task}
-use Rattle.avalon_top.specs.declared.words.Task.TheVariants.{Generate, Check, Replay}
+use Rattle.avalon_top.specs.declared.words.Task.TheVariants.{Generate, Check, Simulate, Replay, Workload}
+use Rattle.avalon_top.specs.Simulate.{system_files, scenario_in}
 use Rattle.avalon_top.specs.Run.{most_bytes, text_in, waves_in, AreShort, AreLoaded, AreFiles}
 
 newly : {X : Type 0} (xs : List X) (y z : X) (n : ℕ) → slice_get (xs ++ y ∷ []) n ≡ Some z → (slice_get xs n ≡ Some z) ⊎ ((n ≡ length xs) × (y ≡ z))
@@ -70,7 +71,9 @@ few_of_either false = omega arith
 few_bytes : (task : Task) (file : ℕ) → most_bytes task file ≤ 268435456
 few_bytes Generate file = omega arith
 few_bytes Check file = omega arith
+few_bytes Simulate file = omega arith
 few_bytes Replay file = few_of_either (file == 1)
+few_bytes (Workload number) file = omega arith
 
 -- files that are no longer than is read have fewer bytes than 2^31
 pub fewer_bytes : (task : Task) (files : List (List ℕ)) → AreShort task files → All (λ bytes. length bytes < 2 ^ 31) files
@@ -87,3 +90,29 @@ pub second_of_two : (files : List (List ℕ)) (other : List ℕ) → length file
 second_of_two [] other two = absurd (omega arith)
 second_of_two (text ∷ []) other two = absurd (omega arith)
 second_of_two (text ∷ waves ∷ rest) other two = refl
+
+-- the files of a simulation are two or more
+pub scenario_is : (files : List (List ℕ)) (other : List ℕ) → 2 ≤ length files → get_or files 1 other ≡ scenario_in files
+scenario_is [] other two = absurd (omega arith)
+scenario_is (system ∷ []) other two = absurd (omega arith)
+scenario_is (system ∷ scenario ∷ components) other two = refl
+
+-- what holds of all of them holds of the others than the scenario, and of the scenario
+of_system : (P : List ℕ → Type 0) (system scenario : List ℕ) (components : List (List ℕ)) → All P (system ∷ scenario ∷ components) → All P (system ∷ components)
+of_system P system scenario components h zero d p = h 0 d (omega arith)
+of_system P system scenario components h (suc k) d p = h (suc (suc k)) d (omega arith)
+
+pub of_system_files : (P : List ℕ → Type 0) (files : List (List ℕ)) → 2 ≤ length files → All P files → All P (system_files files)
+of_system_files P [] two h = absurd (omega arith)
+of_system_files P (system ∷ []) two h = absurd (omega arith)
+of_system_files P (system ∷ scenario ∷ components) two h = of_system P system scenario components h
+
+pub of_scenario : (P : List ℕ → Type 0) (files : List (List ℕ)) → 2 ≤ length files → All P files → P (scenario_in files)
+of_scenario P [] two h = absurd (omega arith)
+of_scenario P (system ∷ []) two h = absurd (omega arith)
+of_scenario P (system ∷ scenario ∷ components) two h = h 1 [] (omega arith)
+
+pub system_file_count : (files : List (List ℕ)) → 2 ≤ length files → length (system_files files) + 1 ≡ length files
+system_file_count [] two = absurd (omega arith)
+system_file_count (system ∷ []) two = absurd (omega arith)
+system_file_count (system ∷ scenario ∷ components) two = omega arith

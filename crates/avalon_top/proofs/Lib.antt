@@ -1,3 +1,4 @@
 pub mod WordsLemmas
 pub mod FileLemmas
 pub mod AnswerLemmas
+pub mod OutcomeLemmas

@@ -4,8 +4,8 @@ use Rattle.av_files.specs.Outside.{Rose, WhereTold}
 use Rattle.answer_lines.specs.declared.exit.Exit.{Exit}
 use Rattle.answer_lines.specs.declared.exit.Exit.TheVariants as exit
 use Rattle.avalon_top.specs.declared.words.Task.{Task}
-use Rattle.avalon_top.specs.Words.{AsksFor, AsksForNothing}
-use Rattle.avalon_top.specs.Run.{Reads, most_bytes, AreFiles, IsReadFault, IsBytesLimit, CallsFor, IsOnly, IsResult, StopsTask}
+use Rattle.avalon_top.specs.Words.{AsksFor, AsksForNothing, file_words}
+use Rattle.avalon_top.specs.Run.{Reads, most_bytes, IsReadFault, IsBytesLimit, CallsFor, IsOnly, StopsTask}
 
 -- one file was not loaded
 abbrev pub StopsAtFile : Task → ℕ → Reads → Exit → Type 0
@@ -34,12 +34,4 @@ StopsFiles task files e = IsStop (CallsFor task files) e
 -- what stops a run of these words
 abbrev pub Stops : List (List ℕ) → Reads → Exit → Type 0
 Stops words reads exit.Usage = AsksForNothing words
-Stops words reads e = (task : Task) × AsksFor words task × StopsTask task (length words) reads e
-
--- the result of a run of these words
-pub record IsResultOf (words : List (List ℕ)) (reads : Reads) (text : List ℕ) : Type 0 where
-  pub task : Task
-  pub asks : AsksFor words task
-  pub files : List (List ℕ)
-  pub are_files : AreFiles task reads.told (length words) files
-  pub result : IsResult task files text
+Stops words reads e = (task : Task) × AsksFor words task × StopsTask task (file_words task (length words)) reads e

@@ -12,12 +12,16 @@ use Rattle.waves.specs.Rules.{number_of}
 use Rattle.replays.specs.declared.faults.ReplayFault.{ReplayFault}
 use Rattle.replays.specs.declared.faults.ReplayFault.TheVariants as fault
 use Rattle.replays.specs.Texts.{CanReplayText, IsReplayOfText, IsReplayTextFault}
+use Rattle.scenario_runs.specs.Prepared.{IsTraceOf}
+use Rattle.scenario_runs.specs.Workloads.{IsWorkloadText}
 use Rattle.answer_lines.specs.declared.exit.StepRule.TheVariants.{Waves}
 use Rattle.answer_lines.specs.declared.exit.Exit.{Exit}
 use Rattle.answer_lines.specs.declared.exit.Exit.TheVariants as exit
 use Rattle.avalon_top.specs.declared.words.Task.{Task}
-use Rattle.avalon_top.specs.declared.words.Task.TheVariants.{Generate, Check, Replay}
-use Rattle.avalon_top.specs.Words.{AsksFor, AsksForNothing}
+use Rattle.avalon_top.specs.declared.words.Task.TheVariants.{Generate, Check, Simulate, Replay, Workload}
+use Rattle.avalon_top.specs.Words.{AsksFor, AsksForNothing, file_words}
+use Rattle.avalon_top.specs.Simulate.{system_files, scenario_in, SimulateCallsFor}
+use Rattle.avalon_top.specs.Workload.{WorkloadCallsFor}
 
 -- ---- what files call for
 
@@ -59,6 +63,8 @@ ReplayCallsFor text waves answer = IsReplayRefusal text waves answer
 abbrev pub CallsFor : Task → List (List ℕ) → Exit → Type 0
 CallsFor Generate files = SystemCallsFor files
 CallsFor Check files = SystemCallsFor files
+CallsFor Simulate files = SimulateCallsFor (system_files files) (scenario_in files)
+CallsFor (Workload number) files = WorkloadCallsFor
 CallsFor Replay files = ReplayCallsFor (text_in files) (waves_in files)
 
 -- this answer is called for, and no other
@@ -94,6 +100,8 @@ pub record StatePlan (files : List (List ℕ)) (P : PlanTable → Type 0) : Type
 abbrev pub IsTextOf : Task → List (List ℕ) → List ℕ → Type 0
 IsTextOf Generate files text = StatePlan files (λ plan. IsInterconnectText plan text)
 IsTextOf Check files text = StatePlan files (λ plan. IsMapText plan text)
+IsTextOf Simulate files text = IsTraceOf (system_files files) (scenario_in files) text
+IsTextOf (Workload number) files text = IsWorkloadText number text
 IsTextOf Replay files text = IsReplayOfText (text_in files) (waves_in files) text
 
 -- it is what the files call for
@@ -128,6 +136,8 @@ writes_by held faults old new = record { held = held old; holds = held new; befo
 abbrev pub most_bytes : Task → ℕ → ℕ
 most_bytes Generate file = 1048576
 most_bytes Check file = 1048576
+most_bytes Simulate file = 1048576
+most_bytes (Workload number) file = 1048576
 most_bytes Replay file = if file == 1 then 268435456 else 1048576
 
 -- no file of a task is longer than is read
@@ -218,7 +228,7 @@ AnswersTask task words reads writes e = StopsTask task words reads e
 -- the same, for any words
 abbrev pub Answers : List (List ℕ) → Reads → Writes → Exit → Type 0
 Answers words reads writes exit.Usage = AsksForNothing words
-Answers words reads writes e = (task : Task) × AsksFor words task × AnswersTask task (length words) reads writes e
+Answers words reads writes e = (task : Task) × AsksFor words task × AnswersTask task (file_words task (length words)) reads writes e
 
 -- an answer that writes its line: each but `Done` and `WriteFault`
 abbrev pub IsRefusal : Exit → Type 0
@@ -236,7 +246,7 @@ WritesLine line writes =
 pub record NothingFails (task : Task) (files words : List (List ℕ)) (reads : Reads) (writes : Writes) : Type 0 where
   pub asks : AsksFor words task
   pub few : length words ≤ 65
-  pub count : length files + 1 ≡ length words
+  pub count : length files + 1 ≡ file_words task (length words)
   pub told : (k : ℕ) (bytes : List ℕ) → slice_get files k ≡ Some bytes → reads.told (k + 1) ≡ Some bytes
   pub short : AreShort task files
   pub reads_well : ¬ Rose reads.before reads.after

@@ -1,7 +1,7 @@
 -- What the words of a command line ask for.
-use Rattle.std.specs.Prelude.{◌≡◌, ◌≢◌, ℕ, ◌<◌, ◌≤◌, List, length, slice_get, Some, codes, All}
+use Rattle.std.specs.Prelude.{◌≡◌, ◌≢◌, ℕ, ◌+◌, ◌^◌, ◌<◌, ◌≤◌, List, length, slice_get, Some, codes, decimal, All}
 use Rattle.avalon_top.specs.declared.words.Task.{Task}
-use Rattle.avalon_top.specs.declared.words.Task.TheVariants.{Generate, Check, Replay}
+use Rattle.avalon_top.specs.declared.words.Task.TheVariants.{Generate, Check, Simulate, Replay, Workload}
 
 -- a word that isn't empty and doesn't begin with `-`
 pub record IsPlainWord (word : List ℕ) : Type 0 where
@@ -12,19 +12,46 @@ pub record IsPlainWord (word : List ℕ) : Type 0 where
 abbrev pub word_of : Task → List ℕ
 word_of Generate = codes "generate"
 word_of Check = codes "check"
+word_of Simulate = codes "simulate"
 word_of Replay = codes "replay"
+word_of (Workload number) = codes "workload"
 
--- so many words are a task's: its word, a system file and any number of component files, or a Verilog text and waves
+-- so many words are a task's: its word, a system file and any number of component files, for a simulation with a scenario between them; or a Verilog text and waves; or a number
 abbrev pub AreEnough : Task → ℕ → Type 0
 AreEnough Generate words = 2 ≤ words
 AreEnough Check words = 2 ≤ words
+AreEnough Simulate words = 3 ≤ words
 AreEnough Replay words = words ≡ 3
+AreEnough (Workload number) words = words ≡ 2
+
+-- of so many words of a task, how many are its word and the names of files: the number of a workload names none
+abbrev pub file_words : Task → ℕ → ℕ
+file_words Generate words = words
+file_words Check words = words
+file_words Simulate words = words
+file_words Replay words = words
+file_words (Workload number) words = 1
+
+-- so many files are a task's
+pub record AreItsFiles (task : Task) (files : ℕ) : Type 0 where
+  pub words : ℕ
+  pub enough : AreEnough task words
+  pub count : files + 1 ≡ file_words task words
+
+-- word 1 is the number of a workload, in decimal, without leading zeros
+abbrev pub StatesNumber : Task → List (List ℕ) → Type 0
+StatesNumber Generate words = Unit {0}
+StatesNumber Check words = Unit {0}
+StatesNumber Simulate words = Unit {0}
+StatesNumber Replay words = Unit {0}
+StatesNumber (Workload number) words = (number < 2 ^ 32) × (slice_get words 1 ≡ Some (decimal number))
 
 -- the words ask for this task
 pub record AsksFor (words : List (List ℕ)) (task : Task) : Type 0 where
   pub plain : All IsPlainWord words
   pub command : slice_get words 0 ≡ Some (word_of task)
   pub files : AreEnough task (length words)
+  pub number : StatesNumber task words
 
 -- they ask for nothing
 abbrev pub AsksForNothing : List (List ℕ) → Type 0

@@ -1,18 +1,22 @@
-ghost use Rattle.std.specs.Prelude.{◌≡◌, ℕ, ◌+◌, ◌^◌, ◌<◌, ◌≤◌, length, map, string_bytes, All, IfOk, IfErr};
+ghost use Rattle.std.specs.Prelude.{◌≡◌, ℕ, ◌^◌, ◌<◌, ◌≤◌, [], ◌∷◌, ◌++◌, length, map, string_bytes, All, OnOk, IfOk, IfErr};
 ghost use Rattle.av_files.specs.Outside.{WhereTold};
 ghost use Rattle.answer_lines.specs.Lines.{line_of};
-ghost use Rattle.avalon_top.specs.Words.{AreEnough};
+ghost use Rattle.avalon_top.specs.Words.{AreItsFiles};
 ghost use Rattle.avalon_top.specs.Run.{reads_by, writes_by, Reads, Writes, most_bytes, AreFiles, Answers, IsComplete, IsRefusal, WritesLine, IsResult, IsInterconnectText, answer_of};
-ghost use Rattle.avalon_top.specs.Loading.{StopsAtFile, StopsFiles, StopsLoading, Stops, IsResultOf};
+ghost use Rattle.avalon_top.specs.Loading.{StopsAtFile, StopsFiles, StopsLoading, Stops};
+ghost use Rattle.avalon_top.specs.Outcome.{IsOutcome, IsOutcomeOf};
 
-use crate::words::{Task, read_words};
+use crate::outcome::{Outcome, refuse, write_outcome};
+use crate::simulate::simulation;
+use crate::words::{Task, file_words, read_words};
 use answer_lines::{Exit, StepRule};
-use av_base::{Bytes, List, NoMemory};
-use av_files::{LoadFault, Shelf, Sink, load_all, put_all};
+use av_base::{Bytes, NoMemory};
+use av_files::{LoadFault, Shelf, Sink, load_all};
 use interconnect::build;
 use link_rules::Plan;
 use map_text::map_text;
 use replays::{ReplayFault, replay, texts_are_replayed_or_refused};
+use scenario_runs::workload_text;
 use std::alloc::Global;
 use system_plan::plan_of;
 use verilog_reader::no_two_modules;
@@ -61,25 +65,32 @@ fn load<S: Shelf>(alloc: Global, shelf: &mut S, task: Task, file: u32) -> Result
     }
 }
 
+fn push_file(files: &mut Vec<Bytes>, bytes: Bytes) -> Result<(), NoMemory>
+    ensures { OnOk result (files.new.items ≡ files.old.items ++ bytes ∷ []) }
+{
+    files.push(bytes)?;
+    Ok(())
+}
+
 /// Loads the files of so many words of a task, in their order.
 fn load_files<S: Shelf>(
     alloc: Global,
     shelf: &mut S,
     task: Task,
     words: usize,
-) -> Result<List<Bytes>, Exit>
+) -> Result<Vec<Bytes>, Exit>
     requires some { 1 ≤ words }
     requires few { words ≤ 65 }
     ensures stops { IfErr result (StopsLoading task words (reads_by S.told S.faults S.failed shelf.old shelf.new)) }
-    ensures loaded { IfOk result (AreFiles task (S.told shelf.old) words) }
+    ensures loaded { IfOk result (λ files. AreFiles task (S.told shelf.old) words files.items) }
     ensures grows { S.faults shelf.old ≤ S.faults shelf.new }
     ensures below { S.faults shelf.old < 2 ^ 64 → S.faults shelf.new < 2 ^ 64 }
     ensures told { (k : ℕ) → S.told shelf.new k ≡ S.told shelf.old k }
 {
-    let mut files = List::new(alloc);
+    let mut files = Vec::new(alloc);
     for file in 1..words {
         let bytes = load(alloc, shelf, task, file as u32)?;
-        files.push(bytes)?;
+        push_file(&mut files, bytes)?;
     }
     Ok(files)
 }
@@ -151,25 +162,36 @@ fn replay_files(alloc: Global, files: &[Bytes]) -> Result<Bytes, Exit>
     }
 }
 
-/// What a task writes of files, or the answer that they call for.
-fn text_of_files(alloc: Global, task: Task, files: &[Bytes]) -> Result<Bytes, Exit>
-    requires enough { AreEnough task (length files.now + 1) }
-    requires few { length files.now ≤ 64 }
-    requires short { All (λ bytes. length bytes < 2 ^ 31) files.now }
-    ensures stops { IfErr result (StopsFiles task files.now) }
-    ensures result { IfOk result (IsResult task files.now) }
+/// The line of a workload.
+fn workload(alloc: Global, number: u32) -> Result<Bytes, Exit>
+    ensures stops { IfErr result (StopsFiles (Task.Workload number) []) }
+    ensures result { IfOk result (IsResult (Task.Workload number) []) }
 {
-    match task {
-        Task::Generate => generate(alloc, files),
-        Task::Check => check(alloc, files),
-        Task::Replay => replay_files(alloc, files),
-    }
+    Ok(workload_text(alloc, number)?)
 }
 
-/// All that comes before a result is written: the result, or the refusal.
-fn decide<S: Shelf>(alloc: Global, words: &[String], shelf: &mut S) -> Result<Bytes, Exit>
+/// What a task is to write of files, or the answer that they call for.
+fn outcome_of(alloc: Global, task: Task, files: Vec<Bytes>) -> Result<Outcome, Exit>
+    requires enough { AreItsFiles task (length files.items) }
+    requires few { length files.items ≤ 64 }
+    requires short { All (λ bytes. length bytes < 2 ^ 31) files.items }
+    ensures stops { IfErr result (StopsFiles task files.items) }
+    ensures outcome { IfOk result (IsOutcome task files.items) }
+{
+    let text = match task {
+        Task::Simulate => return Ok(Outcome::Trace(simulation(alloc, files)?)),
+        Task::Generate => generate(alloc, files.as_slice())?,
+        Task::Check => check(alloc, files.as_slice())?,
+        Task::Replay => replay_files(alloc, files.as_slice())?,
+        Task::Workload { number } => workload(alloc, number)?,
+    };
+    Ok(Outcome::Text(text))
+}
+
+/// All that comes before a result is written: what is to be written, or the refusal.
+fn decide<S: Shelf>(alloc: Global, words: &[String], shelf: &mut S) -> Result<Outcome, Exit>
     ensures stops { IfErr result (Stops (map string_bytes words.now) (reads_by S.told S.faults S.failed shelf.old shelf.new)) }
-    ensures text { IfOk result (IsResultOf (map string_bytes words.now) (reads_by S.told S.faults S.failed shelf.old shelf.new)) }
+    ensures outcome { IfOk result (IsOutcomeOf (map string_bytes words.now) (reads_by S.told S.faults S.failed shelf.old shelf.new)) }
     ensures grows { S.faults shelf.old ≤ S.faults shelf.new }
     ensures below { S.faults shelf.old < 2 ^ 64 → S.faults shelf.new < 2 ^ 64 }
     ensures told { (k : ℕ) → S.told shelf.new k ≡ S.told shelf.old k }
@@ -177,25 +199,16 @@ fn decide<S: Shelf>(alloc: Global, words: &[String], shelf: &mut S) -> Result<By
     let Some(task) = read_words(words) else {
         return Err(Exit::Usage);
     };
-    let files = words.len() - 1;
+    let named = file_words(task, words.len());
+    let files = named - 1;
     if files > MOST_FILES {
         return Err(Exit::Limit {
             which: 7,
             count: files as u64,
         });
     }
-    let files = load_files(alloc, shelf, task, words.len())?;
-    text_of_files(alloc, task, files.as_slice())
-}
-
-/// Writes the line of a refusal.
-fn refuse<K: Sink>(sink: &mut K, exit: &Exit)
-    ensures line { WritesLine (line_of exit.now) (writes_by K.held K.faults sink.old sink.new) }
-    ensures grows { K.faults sink.old ≤ K.faults sink.new }
-    ensures below { K.faults sink.old < 2 ^ 64 → K.faults sink.new < 2 ^ 64 }
-{
-    let line = exit.line();
-    let _ = put_all(sink, line.as_slice());
+    let files = load_files(alloc, shelf, task, named)?;
+    outcome_of(alloc, task, files)
 }
 
 /// Runs the words after the program's name over the files of a shelf, and writes to a sink the result, or the line of a refusal.
@@ -204,7 +217,8 @@ fn refuse<K: Sink>(sink: &mut K, exit: &Exit)
 pub fn run<S: Shelf, K: Sink>(alloc: Global, words: &[String], shelf: &mut S, sink: &mut K) -> Exit
     // When each answer comes. At `Done` of `generate` the text of a module, and of no other, is written that serves each stream of
     // the plan, and its hosts and agents, in every run. At `Done` of `replay` what is written stands at the outputs of the module of
-    // the text, in each cycle of the waves.
+    // the text, in each cycle of the waves. At `Done` of `simulate` it is the trace of a run of such a module with what the scenario
+    // states; at `Done` of `workload` it tells what is counted in such a run of the workload system of the number.
     ensures answers { Answers (map string_bytes words.now)
         (record { told = S.told shelf.old; before = S.faults shelf.old; after = S.faults shelf.new; failed = S.failed shelf.new })
         (record { held = K.held sink.old; holds = K.held sink.new; before = K.faults sink.old; after = K.faults sink.new }) result }
@@ -226,13 +240,7 @@ pub fn run<S: Shelf, K: Sink>(alloc: Global, words: &[String], shelf: &mut S, si
     ensures writes_below { K.faults sink.old < 2 ^ 64 → K.faults sink.new < 2 ^ 64 }
 {
     match decide(alloc, words, shelf) {
-        Ok(text) => {
-            if put_all(sink, text.as_slice()) {
-                Exit::Done
-            } else {
-                Exit::WriteFault
-            }
-        }
+        Ok(outcome) => write_outcome(alloc, outcome, sink),
         Err(exit) => {
             refuse(sink, &exit);
             exit

@@ -3,7 +3,9 @@
 
 mod answer;
 mod laws;
+mod outcome;
 mod process;
+mod simulate;
 mod words;
 
 pub use answer::run;

@@ -1,16 +1,22 @@
-ghost use Rattle.std.specs.Prelude.{◌≡◌, ◌≢◌, ◌↔◌, map, string_bytes, MatchOption, IsTrue, All};
-ghost use Rattle.avalon_top.specs.Words.{IsPlainWord, AsksFor, AsksForNothing, AreEnough, word_of};
+ghost use Rattle.std.specs.Prelude.{◌≡◌, ◌≢◌, ◌↔◌, ℕ, ◌^◌, ◌<◌, ◌≤◌, codes, decimal, slice_get, Some, map, string_bytes, MatchOption, IsTrue, All};
+ghost use Rattle.avalon_top.specs.Words.{IsPlainWord, AsksFor, AsksForNothing, AreEnough, file_words, word_of};
+
+use answer_lines::Line;
 
 /// What the words ask for. A file is named by the place of its word, from 0: word 1 is the system file, each further word a
-/// component file; of a replay word 1 is the Verilog text, and word 2 the waves.
+/// component file, where word 2 of a simulation is its scenario; of a replay word 1 is the Verilog text, and word 2 the waves.
 #[derive(Clone, Copy, Debug, PartialEq, Eq)]
 pub enum Task {
     /// Write the Verilog text of the system's interconnect.
     Generate,
     /// Write the maps of the system.
     Check,
+    /// Write what is done at the interfaces of the system where a scenario is run on its interconnect.
+    Simulate,
     /// Write what stands at the outputs of a module in each cycle of waves.
     Replay,
+    /// Write what is counted of the workload of this number.
+    Workload { number: u32 },
 }
 
 /// Reads the words after the program's name.
@@ -20,6 +26,9 @@ pub fn read_words(words: &[String]) -> Option<Task>
     let [first, ..] = words else {
         return None;
     };
+    if first.as_str() == "workload" {
+        return read_workload(words);
+    }
     let Some(task) = task_of(first.as_str()) else {
         return None;
     };
@@ -30,14 +39,51 @@ pub fn read_words(words: &[String]) -> Option<Task>
     }
 }
 
-/// The task of a command's word.
+/// Reads the words of a workload.
+fn read_workload(words: &[String]) -> Option<Task>
+    requires { slice_get (map string_bytes words.now) 0 ≡ Some (codes "workload") }
+    ensures { MatchOption result (AsksForNothing (map string_bytes words.now)) (AsksFor (map string_bytes words.now)) }
+{
+    let [_, number] = words else {
+        return None;
+    };
+    let Some(number) = number_of(number.as_str()) else {
+        return None;
+    };
+    if are_plain(words) {
+        Some(Task::Workload { number })
+    } else {
+        None
+    }
+}
+
+/// The number that a word spells in decimal, without a sign or leading zeros.
+fn number_of(word: &str) -> Option<u32>
+    ensures { MatchOption result ((n : ℕ) → n < 2 ^ 32 → word.now ≢ decimal n) (λ n. word.now ≡ decimal n) }
+{
+    let Ok(number) = word.parse::<u32>() else {
+        return None;
+    };
+    let mut spelled = Line::new();
+    spelled.put_number(u64::from(number));
+    if spelled.as_slice() == word.as_bytes() {
+        Some(number)
+    } else {
+        None
+    }
+}
+
+/// The task of a command's word, other than that of a workload.
 fn task_of(word: &str) -> Option<Task>
+    requires { word.now ≢ codes "workload" }
     ensures { MatchOption result ((task : Task) → word_of task ≢ word.now) (λ task. word_of task ≡ word.now) }
 {
     if word == "generate" {
         Some(Task::Generate)
     } else if word == "check" {
         Some(Task::Check)
+    } else if word == "simulate" {
+        Some(Task::Simulate)
     } else if word == "replay" {
         Some(Task::Replay)
     } else {
@@ -51,7 +97,22 @@ fn are_enough(task: Task, words: usize) -> bool
 {
     match task {
         Task::Generate | Task::Check => words >= 2,
+        Task::Simulate => words >= 3,
         Task::Replay => words == 3,
+        Task::Workload { .. } => words == 2,
+    }
+}
+
+/// How many of so many words of a task are its word and the names of files.
+pub(crate) fn file_words(task: Task, words: usize) -> usize
+    requires { AreEnough task words }
+    ensures same { result ≡ file_words task words }
+    ensures some { 1 ≤ result }
+    ensures few { result ≤ words }
+{
+    match task {
+        Task::Workload { .. } => 1,
+        _ => words,
     }
 }
 

@@ -69,7 +69,7 @@ fn sink_of(alloc: Global, room: usize, failing: u64) -> Result<MemSink, NoMemory
 }
 
 /// Words, and what they ask for.
-const TRIED: [(&[&str], Option<Task>); 16] = [
+const TRIED: [(&[&str], Option<Task>); 26] = [
     (&[], None),
     (&["generate"], None),
     (&["generate", "a"], Some(Task::Generate)),
@@ -80,12 +80,27 @@ const TRIED: [(&[&str], Option<Task>); 16] = [
     (&["generate", "a", "-"], None),
     (&["check", ""], None),
     (&["Generate", "a"], None),
-    (&["simulate", "a", "b"], None),
+    (&["simulate", "a", "b"], Some(Task::Simulate)),
+    (&["simulate", "a", "b", "c"], Some(Task::Simulate)),
+    (&["simulate", "a"], None),
     (&["replay", "a", "b"], Some(Task::Replay)),
     (&["replay", "a"], None),
     (&["replay", "a", "b", "c"], None),
     (&["replay", "a", "-b"], None),
+    (&["workload", "0"], Some(Task::Workload { number: 0 })),
+    (
+        &["workload", "4294967295"],
+        Some(Task::Workload {
+            number: 4_294_967_295,
+        }),
+    ),
+    (&["workload", "4294967296"], None),
     (&["workload", "01"], None),
+    (&["workload", "+1"], None),
+    (&["workload", "1a"], None),
+    (&["workload"], None),
+    (&["workload", "1", "2"], None),
+    (&["campaign", "5", "a", "b"], None),
 ];
 
 #[test]
@@ -239,6 +254,54 @@ fn replays_the_text_of_a_wire(rt: HostRuntime) -> Result<(), Fail> {
         let mut sink = sink_of(rt.alloc(), room, NEVER)?;
         assert_eq!(rt; answer(rt.alloc(), &REPLAY, &mut shelf, &mut sink)?, exit);
         assert_eq!(rt; sink.bytes(), &REPLAYED[..room.min(REPLAYED.len())]);
+    }
+    Ok(())
+}
+
+const SIMULATE: [&str; 5] = [
+    "simulate",
+    "one.tcl",
+    "three.scenario",
+    "gen.tcl",
+    "chk.tcl",
+];
+
+/// A shelf of a wire, and of three beats for it, before a sink that stalls once.
+fn simulation_shelf(alloc: Global) -> Result<MemShelf, NoMemory> {
+    let mut files = List::new(alloc);
+    push_file(alloc, &mut files, b"")?;
+    push_file(alloc, &mut files, scripts::wire())?;
+    push_file(alloc, &mut files, scripts::three_beats())?;
+    push_file(alloc, &mut files, scripts::source())?;
+    push_file(alloc, &mut files, scripts::sink())?;
+    Ok(MemShelf::new(files, List::new(alloc)))
+}
+
+/// What goes by in that run.
+const TRACE: &[u8] =
+    b"0 sent gen.out 11 0 0 s 0\n0 got chk.st 11 0 0 s 0\n2 sent gen.out 22 0 0 - 0\n2 got chk.st 22 0 0 - 0\n3 sent gen.out 33 0 0 e 0\n3 got chk.st 33 0 0 e 0\nend 6\n";
+
+#[test]
+fn writes_a_trace_line_by_line(rt: HostRuntime) -> Result<(), Fail> {
+    // Each call of the sink writes a line.
+    for (failing, held, exit) in [
+        (0, 0, Exit::WriteFault),
+        (1, 26, Exit::WriteFault),
+        (2, 50, Exit::WriteFault),
+        (3, 76, Exit::WriteFault),
+        (4, 100, Exit::WriteFault),
+        (5, 126, Exit::WriteFault),
+        (6, 150, Exit::WriteFault),
+        (7, 156, Exit::Done),
+    ] {
+        let mut shelf = simulation_shelf(rt.alloc())?;
+        let mut sink = sink_of(rt.alloc(), 2000, failing)?;
+        assert_eq!(rt; answer(rt.alloc(), &SIMULATE, &mut shelf, &mut sink)?, exit);
+        assert_eq!(rt;
+            sink.bytes(),
+            &TRACE[..TRACE.len().min(held)],
+            "call {failing}"
+        );
     }
     Ok(())
 }

@@ -28,6 +28,10 @@ add_interface_port st i_eop endofpacket Input 1
 "
 }
 
+pub fn three_beats() -> &'static [u8] {
+    b"cycles 6\nbeat gen.out 11 0 0 s 0\nbeat gen.out 22 0 0 - 0\nbeat gen.out 33 0 0 e 0\nstall chk.st 010\n"
+}
+
 pub fn wire_text() -> &'static [u8] {
     b"module one_interconnect (
   input wire clk,

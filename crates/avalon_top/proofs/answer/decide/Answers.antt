@@ -1,14 +1,17 @@
-use Rattle.std.proofs.Common.{◌≤◌, length, inl, sym, subst, ◌∙◌, arith, refl}
+use Rattle.std.proofs.Common.{◌≤◌, ◌-◌, length, inl, sym, subst, ◌∙◌, arith, refl, ap}
 use Rattle.std.specs.Prelude.{map, string_bytes}
 use Rattle.std.proofs.lemmas.List.{length-map}
 use Rattle.std.proofs.lemmas.Result.{err_from_is_err_and, IfOk-weaker, IfErr-weaker, IfOk-from_err}
-use Rattle.avalon_top.specs.Run.{AreFiles, IsResult}
+use Rattle.avalon_top.specs.Run.{AreFiles, IsFilesLimit}
 use Rattle.avalon_top.specs.Loading.{StopsFiles}
-use Rattle.avalon_top.specs.Words.{AreEnough}
-use Rattle.avalon_top.proofs.WordsLemmas.{some_words}
+use Rattle.avalon_top.specs.Outcome.{IsOutcome}
+use Rattle.avalon_top.specs.Words.{AreEnough, file_words}
 use Rattle.avalon_top.proofs.FileLemmas.{fewer_bytes}
 use Rattle.avalon_top.proofs.AnswerLemmas.{files_stop, loading_stops, files_limit}
 use Rattle.avalon_top.proofs.answer.decide.Goals as goal
+
+pub file_words-named-requires : goal.file_words-named-requires
+file_words-named-requires g c = subst (AreEnough c.in-Some.task) (length-map c.args.words.now string_bytes) c.in-Some.ensures.files
 
 pub returns-in_default-clause-stops : goal.returns-in_default-clause-stops
 returns-in_default-clause-stops g c = c.in_default.ensures
@@ -25,7 +28,8 @@ returns-in_default-clause-told g c = λ k. refl
 pub returns-then-files-gt-MOST_FILES-clause-stops :
     goal.returns-then-files-gt-MOST_FILES-clause-stops
 returns-then-files-gt-MOST_FILES-clause-stops g c =
-    (c.in-Some.task, c.in-Some.ensures, inl (files_limit string_bytes c.args.words.now c.if-files-gt-MOST_FILES.true))
+    let named = c.file_words-named.ensures.same ∙ ap (file_words c.in-Some.task) (sym (length-map c.args.words.now string_bytes)) in
+    (c.in-Some.task, c.in-Some.ensures, inl (subst (IsFilesLimit 7 (c.file_words-named.result - 1)) named (files_limit c.file_words-named.result c.if-files-gt-MOST_FILES.true)))
 
 pub returns-then-files-gt-MOST_FILES-clause-grows :
     goal.returns-then-files-gt-MOST_FILES-clause-grows
@@ -40,21 +44,21 @@ pub returns-then-files-gt-MOST_FILES-clause-told :
 returns-then-files-gt-MOST_FILES-clause-told g c = λ k. refl
 
 pub load_files-requires-clause-some : goal.load_files-requires-clause-some
-load_files-requires-clause-some g c =
-    omega (arith, some_words c.in-Some.task _ c.in-Some.ensures.files, length-map c.args.words.now string_bytes)
+load_files-requires-clause-some g c = c.file_words-named.ensures.some
 
 pub load_files-requires-clause-few : goal.load_files-requires-clause-few
 load_files-requires-clause-few g c = omega (arith, c.if-files-gt-MOST_FILES.false)
 
 pub returns-in_err-files-clause-stops : goal.returns-in_err-files-clause-stops
 returns-in_err-files-clause-stops g c =
-    let few : length c.args.words.now ≤ 65 = omega (arith, c.if-files-gt-MOST_FILES.false) in
-    let stops = loading_stops string_bytes c.args.words.now _ c.in-Some.task c.in_err-files.field-0.0 c.in-Some.ensures few c.in_err-files.ensures.stops in
+    let few : c.file_words-named.result ≤ 65 = omega (arith, c.if-files-gt-MOST_FILES.false) in
+    let stops = loading_stops string_bytes c.args.words.now _ c.in-Some.task c.file_words-named.result c.in_err-files.field-0.0 c.in-Some.ensures c.file_words-named.ensures.same few
+    c.in_err-files.ensures.stops in
     let handed = err_from_is_err_and c.from_residual.result c.from_residual.ensures.1 in
     rw (handed.1, handed.2) stops
 
-pub returns-in_err-files-clause-text : goal.returns-in_err-files-clause-text
-returns-in_err-files-clause-text g c = IfOk-from_err _ _ c.from_residual.ensures.0
+pub returns-in_err-files-clause-outcome : goal.returns-in_err-files-clause-outcome
+returns-in_err-files-clause-outcome g c = IfOk-from_err _ _ c.from_residual.ensures.0
 
 pub returns-in_err-files-clause-grows : goal.returns-in_err-files-clause-grows
 returns-in_err-files-clause-grows g c = c.load_files.ensures.grows
@@ -65,33 +69,37 @@ returns-in_err-files-clause-below g c = c.load_files.ensures.below
 pub returns-in_err-files-clause-told : goal.returns-in_err-files-clause-told
 returns-in_err-files-clause-told g c = c.load_files.ensures.told
 
-pub text_of_files-requires-clause-enough : goal.text_of_files-requires-clause-enough
-text_of_files-requires-clause-enough g c =
-    rw c.as_slice.ensures (subst (AreEnough c.in-Some.task) (length-map c.args.words.now string_bytes ∙ sym c.in_ok-files.ensures.loaded.count) c.in-Some.ensures.files)
+pub outcome_of-requires-clause-enough : goal.outcome_of-requires-clause-enough
+outcome_of-requires-clause-enough g c = record {
+  words = length c.args.words.now;
+  enough = subst (AreEnough c.in-Some.task) (length-map c.args.words.now string_bytes) c.in-Some.ensures.files;
+  count = c.in_ok-files.ensures.loaded.count ∙ c.file_words-named.ensures.same;
+}
 
-pub text_of_files-requires-clause-few : goal.text_of_files-requires-clause-few
-text_of_files-requires-clause-few g c =
-    rw c.as_slice.ensures (omega (arith, c.in_ok-files.ensures.loaded.count, c.in_ok-files.ensures.loaded.few))
+pub outcome_of-requires-clause-few : goal.outcome_of-requires-clause-few
+outcome_of-requires-clause-few g c = omega (arith, c.in_ok-files.ensures.loaded.count, c.in_ok-files.ensures.loaded.few)
 
-pub text_of_files-requires-clause-short : goal.text_of_files-requires-clause-short
-text_of_files-requires-clause-short g c = rw c.as_slice.ensures (fewer_bytes c.in-Some.task _ c.in_ok-files.ensures.loaded.loaded.short)
+pub outcome_of-requires-clause-short : goal.outcome_of-requires-clause-short
+outcome_of-requires-clause-short g c = fewer_bytes c.in-Some.task _ c.in_ok-files.ensures.loaded.loaded.short
 
 pub returns-clause-stops : goal.returns-clause-stops
 returns-clause-stops g c =
     let words = map string_bytes c.args.words.now in
-    let files = c.in_ok-files.files in
-    let are = subst (λ n. AreFiles c.in-Some.task (g.S.Shelf.told c.args.shelf.now) n files) (sym (length-map c.args.words.now string_bytes)) c.in_ok-files.ensures.loaded in
-    IfErr-weaker c.text_of_files.result (StopsFiles c.in-Some.task files) _
+    let files = c.in_ok-files.files.items in
+    let named = c.file_words-named.ensures.same ∙ ap (file_words c.in-Some.task) (sym (length-map c.args.words.now string_bytes)) in
+    let are = subst (λ n. AreFiles c.in-Some.task (g.S.Shelf.told c.args.shelf.now) n files) named c.in_ok-files.ensures.loaded in
+    IfErr-weaker c.outcome_of.result (StopsFiles c.in-Some.task files) _
     (λ exit s. files_stop words _ c.in-Some.task files exit c.in-Some.ensures are s)
-    (rw c.as_slice.ensures at c.text_of_files.ensures.stops)
+    c.outcome_of.ensures.stops
 
-pub returns-clause-text : goal.returns-clause-text
-returns-clause-text g c =
-    let files = c.in_ok-files.files in
-    let are = subst (λ n. AreFiles c.in-Some.task (g.S.Shelf.told c.args.shelf.now) n files) (sym (length-map c.args.words.now string_bytes)) c.in_ok-files.ensures.loaded in
-    IfOk-weaker c.text_of_files.result (IsResult c.in-Some.task files) _
-    (λ text is. record { task = c.in-Some.task; asks = c.in-Some.ensures; files = files; are_files = are; result = is })
-    (rw c.as_slice.ensures at c.text_of_files.ensures.result)
+pub returns-clause-outcome : goal.returns-clause-outcome
+returns-clause-outcome g c =
+    let files = c.in_ok-files.files.items in
+    let named = c.file_words-named.ensures.same ∙ ap (file_words c.in-Some.task) (sym (length-map c.args.words.now string_bytes)) in
+    let are = subst (λ n. AreFiles c.in-Some.task (g.S.Shelf.told c.args.shelf.now) n files) named c.in_ok-files.ensures.loaded in
+    IfOk-weaker c.outcome_of.result (IsOutcome c.in-Some.task files) _
+    (λ outcome is. record { task = c.in-Some.task; asks = c.in-Some.ensures; files = files; are_files = are; is = is })
+    c.outcome_of.ensures.outcome
 
 pub returns-clause-grows : goal.returns-clause-grows
 returns-clause-grows g c = c.load_files.ensures.grows

@@ -1,9 +1,15 @@
-use Rattle.std.proofs.Common.{inr}
-use Rattle.avalon_top.proofs.AnswerLemmas.{completes, completes_done}
+use Rattle.avalon_top.proofs.AnswerLemmas.{completes}
+use Rattle.avalon_top.proofs.OutcomeLemmas.{ended, ended_line, ended_well}
 use Rattle.avalon_top.proofs.answer.run.Goals as goal
 
-pub returns-then-put_all-clause-complete : goal.returns-then-put_all-clause-complete
-returns-then-put_all-clause-complete g c = λ task files well. inr (completes_done _ _ _ _ c.in-Ok.ensures.text task files well)
+pub returns-in-Ok-clause-answers : goal.returns-in-Ok-clause-answers
+returns-in-Ok-clause-answers g c = ended _ _ _ c.in-Ok.outcome c.write_outcome.result c.in-Ok.ensures.outcome c.write_outcome.ensures.ends
 
-pub returns-clause-complete : goal.returns-clause-complete
-returns-clause-complete g c = completes _ _ _ c.in-Err.exit c.in-Err.ensures.stops
+pub returns-in-Ok-clause-line : goal.returns-in-Ok-clause-line
+returns-in-Ok-clause-line g c = ended_line _ c.in-Ok.outcome c.write_outcome.result c.write_outcome.ensures.ends
+
+pub returns-in-Ok-clause-complete : goal.returns-in-Ok-clause-complete
+returns-in-Ok-clause-complete g c = ended_well _ _ _ c.in-Ok.outcome c.write_outcome.result c.in-Ok.ensures.outcome c.write_outcome.ensures.ends
+
+pub returns-in-Err-clause-complete : goal.returns-in-Err-clause-complete
+returns-in-Err-clause-complete g c = completes _ _ _ c.in-Err.exit c.in-Err.ensures.stops

@@ -1,17 +1,28 @@
-use Rattle.std.specs.Prelude.{string_bytes}
-use Rattle.avalon_top.proofs.WordsLemmas.{asked, asked_plain, asked_enough}
+use Rattle.std.proofs.Common.{◌≢◌, ap, sym, ◌∙◌, Some}
+use Rattle.std.specs.Prelude.{string_bytes, codes}
+use Rattle.std.proofs.lemmas.Slice.Eq.{bytes_eq-Decides}
+use Rattle.avalon_top.proofs.WordsLemmas.{first_is, asked, asked_plain, asked_enough}
 use Rattle.avalon_top.proofs.words.read_words.Goals as goal
 use Rattle.avalon_top.proofs.words.read_words.Goals.{else-are_enough-via-then-are_enough+else-are_plain, else-are_enough-via-else-are_enough}
 
+pub read_workload-requires : goal.read_workload-requires
+read_workload-requires c =
+    let same = (bytes_eq-Decides c.as_str.result.now (codes "workload")).0 (sym c.if-eq.ensures) in
+    first_is string_bytes c.args.words.now c.first-item.result c.in-len1-up.len_at_least c.first-item.is ∙ ap Some (sym c.as_str.ensures.value ∙ same)
+
 pub returns-then-are_plain : goal.returns-then-are_plain
 returns-then-are_plain c =
-    asked string_bytes c.args.words.now c.first-item.result c.in-Some.task c.in-len1-up.len_at_least c.first-item.is (rw c.as_str.ensures.value at c.in-Some.ensures)
+    let other : string_bytes c.first-item.result ≢ codes "workload" = λ e.
+    let same = (bytes_eq-Decides c.as_str.result.now (codes "workload")).1 (c.as_str.ensures.value ∙ e) in let no = c.if-eq.ensures in cc in
+    asked string_bytes c.args.words.now c.first-item.result c.in-Some.task c.in-len1-up.len_at_least c.first-item.is (rw c.as_str-2.ensures.value at c.in-Some.ensures) other
     (c.are_enough.ensures.0 c.if-are_enough.true) (c.are_plain.ensures.0 c.if-are_plain.true)
 
 pub returns-else-are_enough : goal.returns-else-are_enough
 returns-else-are_enough c =
     λ task h.
-    let enough = asked_enough string_bytes c.args.words.now c.first-item.result c.in-Some.task task c.in-len1-up.len_at_least c.first-item.is (rw c.as_str.ensures.value at c.in-Some.ensures) h in
+    let other : string_bytes c.first-item.result ≢ codes "workload" = λ e.
+    let same = (bytes_eq-Decides c.as_str.result.now (codes "workload")).1 (c.as_str.ensures.value ∙ e) in let no = c.if-eq.ensures in cc in
+    let enough = asked_enough string_bytes c.args.words.now c.first-item.result c.in-Some.task task c.in-len1-up.len_at_least c.first-item.is (rw c.as_str-2.ensures.value at c.in-Some.ensures) other h in
     let plain = asked_plain string_bytes c.args.words.now task h in
     elim c.else-are_enough.branch [
       | else-are_enough-via-then-are_enough+else-are_plain w ↦ let no = w.if-are_plain.ensures.1 plain in cc

@@ -1,0 +1,32 @@
+use Rattle.std.proofs.Common.{sym, subst}
+use Rattle.std.proofs.lemmas.Result.{err_from_is_err_and}
+use Rattle.avalon_top.specs.declared.words.Task.{Task}
+use Rattle.avalon_top.specs.declared.words.Task.TheVariants.{Generate, Check, Replay, Workload}
+use Rattle.avalon_top.specs.Loading.{StopsFiles}
+use Rattle.avalon_top.proofs.OutcomeLemmas.{same_result}
+use Rattle.avalon_top.proofs.answer.outcome_of.Goals as goal
+use Rattle.avalon_top.proofs.answer.outcome_of.Goals.{in-Generate+in_ok-text-in-Generate, in-Check+in_ok-text-in-Check, in-Replay+in_ok-text-in-Replay, in-Workload+in_ok-text-in-Workload}
+
+pub returns-in_err-simulation-in-Simulate-clause-stops :
+    goal.returns-in_err-simulation-in-Simulate-clause-stops
+returns-in_err-simulation-in-Simulate-clause-stops c =
+    let handed = err_from_is_err_and c.from_residual.result c.from_residual.ensures.1 in
+    rw (handed.1, handed.2)
+    (subst (λ (t : Task). StopsFiles t c.args.files.items c.in_err-simulation-in-Simulate.field-0.0) (sym c.in-Simulate.is) c.in_err-simulation-in-Simulate.ensures.stops)
+
+pub returns-clause-outcome : goal.returns-clause-outcome
+returns-clause-outcome c =
+    let task = c.args.task in
+    let files = c.args.files.items in
+    let text = c.match-task.text in
+    elim c.match-task.branch [
+      | in-Generate+in_ok-text-in-Generate w ↦
+          same_result task Generate files text w.in_ok-text-in-Generate.text w.in-Generate.is w.text-is (rw w.as_slice.ensures.value at w.in_ok-text-in-Generate.ensures.result)
+      | in-Check+in_ok-text-in-Check w ↦
+          same_result task Check files text w.in_ok-text-in-Check.text w.in-Check.is w.text-is (rw w.as_slice-in-Check.ensures.value at w.in_ok-text-in-Check.ensures.result)
+      | in-Replay+in_ok-text-in-Replay w ↦
+          same_result task Replay files text w.in_ok-text-in-Replay.text w.in-Replay.is w.text-is (rw w.as_slice-in-Replay.ensures.value at w.in_ok-text-in-Replay.ensures.result)
+      | in-Workload+in_ok-text-in-Workload w ↦
+          same_result task (Workload w.in-Workload.number) files text w.in_ok-text-in-Workload.text w.in-Workload.is w.text-is
+          (record { is_text = w.in_ok-text-in-Workload.ensures.result.is_text; only = w.in_ok-text-in-Workload.ensures.result.only })
+    ]
