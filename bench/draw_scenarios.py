@@ -69,4 +69,5 @@ def main():
         print("\n".join(drawn(n, lane, cycles)))
 
 
-main()
+if __name__ == "__main__":
+    main()

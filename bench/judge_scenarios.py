@@ -8,6 +8,8 @@ import re
 import sys
 from random import Random
 
+from script_systems import System
+
 WORDS = {"cycles": 2, "read": 5, "idle": 3, "fill": 4, "stall": 3, "latency": 3, "beat": 7, "gap": 3}
 KINDS = {"write": ["host"], "read": ["host"], "idle": ["host"], "fill": ["agent"], "stall": ["agent", "sink"], "latency": ["agent"],
          "beat": ["source"], "gap": ["source"]}
@@ -28,70 +30,6 @@ def demand(holds, rule):
         raise Fault(rule)
 
 
-# ---- systems
-
-class End:
-    """An interface, with the widths of its ports by their roles, and its properties."""
-
-    def __init__(self, kind):
-        self.kind, self.ports, self.properties = kind, {}, {}
-
-    def width(self, role):
-        return self.ports.get(role, 0)
-
-    def word(self):
-        return max(self.width("readdata"), self.width("writedata"))
-
-    def reached(self):
-        """How many bytes a host's addresses reach, or an agent has."""
-        units = self.properties.get("addressUnits", "SYMBOLS" if self.kind == "host" else "WORDS")
-        return (1 << self.width("address")) * (self.word() // 8 if units == "WORDS" else 1)
-
-    def longest(self):
-        return 1 << self.width("burstcount") - 1 if self.width("burstcount") else 1
-
-    def symbols(self):
-        return self.width("data") // int(self.properties.get("dataBitsPerSymbol", 8))
-
-
-def component_of(lines):
-    name, ends = None, {}
-    for line in lines:
-        words = line.split()
-        if words[0] == "set_module_property":
-            name = words[2]
-        elif words[0] == "add_interface":
-            ends[words[1]] = End(words[3])
-        elif words[0] == "add_interface_port":
-            ends[words[1]].ports[words[3]] = int(words[5])
-        elif words[0] == "set_interface_property":
-            ends[words[1]].properties[words[2]] = words[3]
-    return name, ends
-
-
-class System:
-    """The ends of each kind that are joined to others, by their names, in the order of the first connections."""
-
-    def __init__(self, script, components):
-        components, instances = dict(map(component_of, components)), {}
-        self.ends = {"host": {}, "agent": {}, "source": {}, "sink": {}}
-        for line in script:
-            words = line.split()
-            if words[0] == "add_instance":
-                instances[words[1]] = components[words[2]]
-            elif words[0] == "add_connection":
-                for name in words[1:3]:
-                    instance, interface = name.split(".")
-                    end = instances[instance][interface]
-                    self.ends[end.kind].setdefault(name, end)
-
-    def find(self, name, kinds):
-        for kind in kinds:
-            if name in self.ends[kind]:
-                return self.ends[kind][name]
-        raise Fault(4)
-
-
 # ---- scenarios
 
 def lines_of(text):
@@ -106,6 +44,12 @@ class Reader:
         self.system, self.cycles = system, None
         self.said = {name: [] for ends in system.ends.values() for name in ends}
         self.opened = {}
+
+    def find(self, name, kinds):
+        for kind in kinds:
+            if name in self.system.ends[kind]:
+                return self.system.ends[kind][name]
+        raise Fault(4)
 
     def command(self, end, words):
         """Whether address and byte enables fit a host."""
@@ -140,7 +84,7 @@ class Reader:
         name, flags = words[1], words[5]
         word, channel, error, empty = (int(words[k], 16) for k in (2, 3, 4, 6))
         demand(word < 1 << end.width("data") and channel < 1 << end.width("channel") and error < 1 << end.width("error"), 6)
-        demand(channel <= int(end.properties.get("maxChannel", 0)), 6)
+        demand(channel <= end.number("maxChannel", 0), 6)
         demand(empty < 1 << end.width("empty") and empty < end.symbols(), 6)
 
         def keeps():
@@ -163,7 +107,7 @@ class Reader:
             demand(self.cycles is None, 7)
             self.cycles = int(words[1])
             return
-        end = self.system.find(words[1], KINDS[keyword])
+        end = self.find(words[1], KINDS[keyword])
         demand(keyword != "stall" or end.width("waitrequest" if end.kind == "agent" else "ready"), 4)
         demand(keyword != "latency" or end.width("readdatavalid"), 4)
         forms = SPELLED.get(keyword, [HEXADECIMAL] * (len(words) - 2))
@@ -205,7 +149,7 @@ def judge(system, text):
 def systems_of(heads):
     parts, systems = {}, {}
     for part in heads.split("\n:part ")[1:]:
-        name, *lines = part.splitlines()
+        name, _, lines = part.partition("\n")
         parts[name] = lines
     for line in heads.splitlines():
         if line.startswith(":system "):
@@ -307,7 +251,7 @@ class Drawer:
             return ["gap", name, drawn_count(random, LONGEST)]
         flags, channel = self.flags(name, end), opened
         if not opened or self.errs():
-            channel = drawn_hexadecimal(random, int(end.properties.get("maxChannel", 0)))
+            channel = drawn_hexadecimal(random, end.number("maxChannel", 0))
         self.opened[name] = channel if flags in ("s", "-") and end.width("startofpacket") else None
         may_be_empty = end.width("empty") and ("e" in flags or self.errs())
         return ["beat", name, drawn_hexadecimal(random, (1 << end.width("data")) - 1), channel,
@@ -363,4 +307,5 @@ def main():
         tell(systems_of(heads), rows)
 
 
-main()
+if __name__ == "__main__":
+    main()

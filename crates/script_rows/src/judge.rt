@@ -14,6 +14,15 @@ pub struct Verdict {
 /// The room for an answer.
 const ROOM: usize = 100_000;
 
+/// The writes that fail: the second one, where a row asks what part is written.
+fn failing_of(alloc: Global, title: &str) -> Result<List<u64>, NoMemory> {
+    let mut failing = List::new(alloc);
+    if title.starts_with("part ") {
+        failing.push(1)?;
+    }
+    Ok(failing)
+}
+
 /// What is answered to these words over these files.
 fn answer(alloc: Global, words: &[String], files: List<Bytes>, sink: &mut MemSink) -> Exit {
     let mut shelf = MemShelf::new(files, List::new(alloc));
@@ -68,6 +77,7 @@ fn status_said(rule: &str) -> u8 {
     match rule {
         "ok" | "text" => 0,
         "usage" => 2,
+        "part" => 4,
         "link" => 6,
         "limit:" => 7,
         "verilog" => 8,
@@ -96,7 +106,7 @@ fn is_said(
 ) -> Result<bool, AllocError> {
     let (rule, _) = title.split_once(' ').unwrap_or((title, ""));
     let is_line = match status_said(rule) {
-        0 => true,
+        0 | 4 => true,
         2 => line.starts_with("usage: "),
         5 => line == refusal_at(alloc, rule, mark)?.as_str(),
         _ => line == title,
@@ -109,9 +119,9 @@ fn last_line(text: &str) -> &str {
     text.rsplit_once('\n').map_or(text, |parts| parts.1)
 }
 
-/// What is told of an answer. Where the row asks for the text, all of it is given, from a line of its own on.
+/// What is told of an answer. Where the row asks for the text, or a part of it, all of it is given, from a line of its own on.
 fn told(alloc: Global, title: &str, text: &str, line: &str) -> Result<String, AllocError> {
-    if title.starts_with("text ") {
+    if title.starts_with("text ") || title.starts_with("part ") {
         format!(in alloc; "\n{text}")
     } else {
         String::from_str(alloc, line)
@@ -139,7 +149,7 @@ pub fn judge(alloc: Global, row: &Row) -> Result<Verdict, NoMemory> {
     if row.title.starts_with("any byte ") {
         return judge_any_byte(alloc, row);
     }
-    let mut sink = MemSink::new(alloc, ROOM, List::new(alloc))?;
+    let mut sink = MemSink::new(alloc, ROOM, failing_of(alloc, row.title)?)?;
     let (exit, mark) = answer_row(alloc, row, None, &mut sink)?;
     verdict_on(alloc, row.title, mark, exit, sink.bytes())
 }

@@ -1,5 +1,5 @@
-//! Reads rows of scripts, and of texts and waves, from the standard input, runs `check`, `generate` or `replay` over each row's files,
-//! and prints each answer beside what the row says of it.
+//! Reads rows of scripts, scenarios, texts and waves from the standard input, runs `check`, `generate`, `simulate` or `replay` over
+//! each row's files, and prints each answer beside what the row says of it.
 #![tactic(auto)]
 
 mod judge;

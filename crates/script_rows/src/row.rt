@@ -12,7 +12,12 @@ pub struct Row<'a> {
 
 /// The command of a row, and its files.
 fn command_of(text: &str) -> (&'static str, &str) {
-    for (line, command) in [(":generate\n", "generate"), (":replay\n", "replay")] {
+    for (line, command) in [
+        (":generate\n", "generate"),
+        (":simulate\n", "simulate"),
+        (":replay\n", "replay"),
+        (":workload\n", "workload"),
+    ] {
         if let Some(files) = text.strip_prefix(line) {
             return (command, files);
         }
@@ -219,12 +224,16 @@ pub fn files_of(
     Ok((files, mark))
 }
 
-/// The command, and a word for each file.
+/// The command, and a word for each file. A workload has the number that is its text in place of a file.
 pub fn words_of(alloc: Global, row: &Row) -> Result<Vec<String>, AllocError> {
     let mut words = Vec::new(alloc);
     words.push(String::from_str(alloc, row.command)?)?;
-    for _ in row.files.split(":file") {
-        words.push(String::from_str(alloc, "file")?)?;
+    for text in row.files.split(":file") {
+        let word = match row.command {
+            "workload" => text.trim_end(),
+            _ => "file",
+        };
+        words.push(String::from_str(alloc, word)?)?;
     }
     Ok(words)
 }
