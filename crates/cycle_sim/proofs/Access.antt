@@ -46,15 +46,15 @@ sum_small b h m memory at address lt p q ep eq =
     omega (arith, few, small, ep, eq)
 
 -- the value that a read gives
-pub given_read : (b : Netlist) (inputs words nets : List Word) (n m a : ℕ) → AreNets b.lines nets → AreWords b.memories words → (h : Here b n (Read m a)) → (value : Word) (j : ℕ) → j ≡ place_of b.memories m + bits_at nets a →
-    value ≡ get_or words j value → (line : Line) → slice_get b.lines n ≡ Some line → IsGiven b inputs words nets n line value
-given_read b inputs words nets n m a hn hw h value j at_j is =
+pub given_read : (b : Netlist) (words nets : List Word) (n m a : ℕ) → AreNets b.lines nets → AreWords b.memories words → (h : Here b n (Read m a)) → (value : Word) (j : ℕ) → j ≡ place_of b.memories m + bits_at nets a →
+    value ≡ get_or words j value → (line : Line) → slice_get b.lines n ≡ Some line → IsGiven b words nets n line value
+given_read b words nets n m a hn hw h value j at_j is =
     let s = h.sound in
     let fits = operand_fits b.lines nets a s.memory.address_bits hn s.address.width in
     let lt = in_words b.memories words m s.memory (bits_at nets a) hw s.is fits j at_j in
     let stands : slice_get words (place_of b.memories m + bits_at nets a) ≡ Some value = subst (λ k. slice_get words k ≡ Some value) at_j (slice_get_read words (length words) j value refl lt is) in
     let its = hw.fit m s.memory s.is (bits_at nets a) value fits stands in
-    given b inputs words nets n (Read m a) h value value refl refl refl (its.width ∙ s.width) (ap Some (bits_at-is words (place_of b.memories m + bits_at nets a) value stands))
+    given b words nets n (Read m a) h value value refl refl (its.width ∙ s.width) (ap Some (bits_at-is words (place_of b.memories m + bits_at nets a) value stands))
 
 pub size_small : (bits : ℕ) → bits ≤ 10 → 2 ^ bits ≤ 1024
 size_small bits h = pow-le-pow_right {n = 2} (omega arith) h

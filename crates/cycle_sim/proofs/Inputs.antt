@@ -1,7 +1,7 @@
 -- The nets of the input ports.
-use Rattle.std.proofs.Common.{◌≡◌, ℕ, zero, suc, ◌+◌, List, [], ◌∷◌, ◌++◌, slice_get, take, drop, map, Bool, true, false, not, cond, Option, Some, refl, sym, subst, ap, ◌∙◌, arith}
+use Rattle.std.proofs.Common.{◌≡◌, ℕ, zero, suc, ◌+◌, ◌<◌, List, length, [], ◌∷◌, ◌++◌, slice_get, take, drop, map, Bool, true, false, not, cond, Option, Some, refl, sym, subst, ap, ◌∙◌, arith}
 use Rattle.std.specs.Prelude.{filter, if◌then◌else◌}
-use Rattle.std.proofs.lemmas.List.{take-append-drop, map-append}
+use Rattle.std.proofs.lemmas.List.{take-append-drop, map-append, length-map}
 use Rattle.std.proofs.lemmas.List.Elements.{filter-append}
 use Rattle.std.proofs.lemmas.List.Sums.{sum_by-cons}
 use Rattle.std.proofs.lemmas.Option.{same_Some}
@@ -11,7 +11,7 @@ use Rattle.netlist.specs.declared.line.PortLine.{PortLine}
 use Rattle.netlist.specs.declared.line.Equation.TheVariants.{Input}
 use Rattle.netlist.specs.Netlists.{Netlist, IsModule, IsInputPort, input_count, input_net, input_lines, is_input, line_of}
 use Rattle.cycle_sim.specs.Sims.{AreInputs, input_widths, widths_of}
-use Rattle.cycle_sim.proofs.Values.{same_widths}
+use Rattle.cycle_sim.proofs.Values.{same_widths, slice_get-some}
 
 input_count-cons : (p : PortLine) (ports : List PortLine) → input_count (p ∷ ports) ≡ cond (not p.output) 1 0 + input_count ports
 input_count-cons p ports = sum_by-cons (λ (port : PortLine). cond (not port.output) 1 0) p ports
@@ -103,6 +103,15 @@ pub input_value : (b : Netlist) → IsModule b → (inputs : List Word) → AreI
     (value : Word) × (slice_get inputs n ≡ Some value) × (value.width ≡ line.width)
 input_value b h inputs given n line at is =
     same_widths (λ (line : Line). line.width) inputs (input_lines 0 b.ports) (given ∙ widths_of_lines b.ports 0) n line (h.well_made.inputs.no_others n line at is)
+
+-- and an input's line stands for each of them
+pub line_of_value : (b : Netlist) → IsModule b → (inputs : List Word) → AreInputs b inputs → (n : ℕ) → n < length inputs → (line : Line) × (slice_get b.lines n ≡ Some line) × (is_input line.equation ≡ true)
+line_of_value b h inputs given n lt =
+    let all : map (λ (value : Word). value.width) inputs ≡ map (λ (line : Line). line.width) (input_lines 0 b.ports) = given ∙ widths_of_lines b.ports 0 in
+    let count : length inputs ≡ length (input_lines 0 b.ports) = sym (length-map inputs (λ (value : Word). value.width)) ∙ ap length all ∙ length-map (input_lines 0 b.ports) (λ (line : Line). line.width) in
+    let some = slice_get-some (input_lines 0 b.ports) n (omega arith) in
+    let its = line_of_input b.ports 0 n some.0 some.1 in
+    (some.0, h.well_made.inputs.first n some.0 some.1, subst (λ (line : Line). is_input line.equation ≡ true) (sym its.is) refl)
 
 -- the value whose turn it is at input port k, when those of the earlier ports were taken
 turn_of_port : (ports : List PortLine) (k : ℕ) (p : PortLine) → slice_get ports k ≡ Some p → p.output ≡ false → input_widths (drop k ports) ≡ p.width ∷ input_widths (drop (k + 1) ports)

@@ -7,4 +7,8 @@ pub mod Words
 pub mod Access
 pub mod Next
 pub mod Runs
+pub mod Blocks
+pub mod Reading
+pub mod Settling
+pub mod Steps
 pub mod Orders

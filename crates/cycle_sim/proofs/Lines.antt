@@ -6,14 +6,12 @@ use Rattle.std.proofs.lemmas.Option.{get_or_from_slice_get, slice_get_within, sl
 use Rattle.av_base.specs.Word.{Word, word}
 use Rattle.netlist.specs.declared.line.Line.{Line}
 use Rattle.netlist.specs.declared.line.Equation.{Equation}
-use Rattle.netlist.specs.Netlists.{Netlist, IsModule, IsSound, IsValue, HasWidth, width_at, is_input, is_register, line_of}
+use Rattle.netlist.specs.Netlists.{Netlist, IsModule, IsSound, IsValue, HasWidth, width_at, is_input, line_of}
 use Rattle.netlist.specs.Runs.{value_of}
 use Rattle.cycle_sim.specs.Sims.{AreNets, bits_at, cycle_with}
 use Rattle.cycle_sim.specs.Given.{IsGiven}
-use Rattle.netlist.specs.declared.line.Equation.TheVariants.{Input, Reg}
-use Rattle.cycle_sim.specs.Sims.{AreInputs}
+use Rattle.cycle_sim.specs.Readers.{is_state}
 use Rattle.cycle_sim.proofs.Values.{slice_get-some, width_at-line, bits_at-is}
-use Rattle.cycle_sim.proofs.Inputs.{input_value}
 
 -- the line of net n, which has this equation
 pub record Here (b : Netlist) (n : ℕ) (e : Equation) : Type 0 where
@@ -60,14 +58,13 @@ pub same_width : (lines : List Line) (nets : List Word) (a c w : ℕ) → AreNet
 same_width lines nets a c w h ea ec x y ix iy = operand_width lines nets a w h ea x ix ∙ sym (operand_width lines nets c w h ec y iy)
 
 -- the value that an equation gives, where it is neither an input's nor a register's
-pub given : (b : Netlist) (inputs words nets : List Word) (n : ℕ) (e : Equation) (h : Here b n e) (value is : Word) → is_input e ≡ false → is_register e ≡ false → value ≡ is → is.width ≡ h.width →
-    value_of b.lines (cycle_with b nets words) h.width e ≡ Some is.bits → (line : Line) → slice_get b.lines n ≡ Some line → IsGiven b inputs words nets n line value
-given b inputs words nets n e h value is i r same w v line at =
+pub given : (b : Netlist) (words nets : List Word) (n : ℕ) (e : Equation) (h : Here b n e) (value is : Word) → is_state e ≡ false → value ≡ is → is.width ≡ h.width →
+    value_of b.lines (cycle_with b nets words) h.width e ≡ Some is.bits → (line : Line) → slice_get b.lines n ≡ Some line → IsGiven b words nets n line value
+given b words nets n e h value is s same w v line at =
     let its : line_of h.width e ≡ line = same_Some _ _ (sym h.at ∙ at) in
-    subst (λ (l : Line). IsGiven b inputs words nets n l value) its (record {
+    subst (λ (l : Line). IsGiven b words nets n l value) its (record {
       width = ap (λ (x : Word). x.width) same ∙ w;
-      input = λ t. absurd (false≢true (sym i ∙ t));
-      register = λ t. absurd (false≢true (sym r ∙ t));
+      state = λ t. absurd (false≢true (sym s ∙ t));
       computed = λ _. subst (λ (o : Option ℕ). IfSome o (λ x. value.bits ≡ x)) (sym v) (ap (λ (x : Word). x.bits) same);
     })
 
@@ -89,35 +86,16 @@ pub chosen_bits : (t : Bool) (w x y : ℕ) → Some (if t then y else x) ≡ Som
 chosen_bits true w x y = refl
 chosen_bits false w x y = refl
 
--- an input's value, and a register's
-pub input_within : (b : Netlist) (inputs : List Word) (n port : ℕ) → IsModule b → AreInputs b inputs → (h : Here b n (Input port)) → n < length inputs
-input_within b inputs n port is_module given h =
-    let value = input_value b is_module inputs given n (line_of h.width (Input port)) h.at refl in
-    slice_get_within inputs n value.0 value.1
-
-pub given_input : (b : Netlist) (inputs words nets : List Word) (n port : ℕ) → IsModule b → AreInputs b inputs → (h : Here b n (Input port)) → (value : Word) → value ≡ get_or inputs n value →
-    (line : Line) → slice_get b.lines n ≡ Some line → IsGiven b inputs words nets n line value
-given_input b inputs words nets n port is_module taken h value is line at =
-    let its : line_of h.width (Input port) ≡ line = same_Some _ _ (sym h.at ∙ at) in
-    let there = input_value b is_module inputs taken n (line_of h.width (Input port)) h.at refl in
-    let same : value ≡ there.0 = is ∙ get_or_from_slice_get inputs n there.0 value there.1 in
-    subst (λ (l : Line). IsGiven b inputs words nets n l value) its (record {
-      width = ap (λ (x : Word). x.width) same ∙ there.2;
-      input = λ t. there.1 ∙ ap Some (sym same);
-      register = λ t. absurd (false≢true t);
-      computed = λ i. absurd (false≢true (sym i));
-    })
-
-pub given_register : (b : Netlist) (inputs words nets : List Word) (n : ℕ) (reset : Word) (next : ℕ) → AreNets b.lines nets → (h : Here b n (Reg reset next)) → (value : Word) → value ≡ get_or nets n value →
-    (line : Line) → slice_get b.lines n ≡ Some line → IsGiven b inputs words nets n line value
-given_register b inputs words nets n reset next hn h value is line at =
-    let its : line_of h.width (Reg reset next) ≡ line = same_Some _ _ (sym h.at ∙ at) in
-    let stands : slice_get nets n ≡ Some value = slice_get_read nets (length b.lines) n value (sym hn.count) (slice_get_within b.lines n (line_of h.width (Reg reset next)) h.at) is in
-    subst (λ (l : Line). IsGiven b inputs words nets n l value) its (record {
-      width = (hn.fit n (line_of h.width (Reg reset next)) value h.at stands).width;
-      input = λ t. absurd (false≢true t);
-      register = λ t. stands;
-      computed = λ i. tt;
+-- the value of an input or a register, which stays
+pub given_state : (b : Netlist) (words nets : List Word) (n : ℕ) (e : Equation) → AreNets b.lines nets → (h : Here b n e) → (value : Word) → value ≡ get_or nets n value →
+    (is_input e ≡ false → IfSome (value_of b.lines (cycle_with b nets words) h.width e) (λ x. value.bits ≡ x)) → (line : Line) → slice_get b.lines n ≡ Some line → IsGiven b words nets n line value
+given_state b words nets n e hn h value is computed line at =
+    let its : line_of h.width e ≡ line = same_Some _ _ (sym h.at ∙ at) in
+    let stands : slice_get nets n ≡ Some value = slice_get_read nets (length b.lines) n value (sym hn.count) (slice_get_within b.lines n (line_of h.width e) h.at) is in
+    subst (λ (l : Line). IsGiven b words nets n l value) its (record {
+      width = (hn.fit n (line_of h.width e) value h.at stands).width;
+      state = λ t. stands;
+      computed = computed;
     })
 
 pub record SomeWidth (w : ℕ) : Type 0 where

@@ -70,5 +70,5 @@ same_widths width (v ∷ values) (i ∷ items) e (suc n) item at =
     same_widths width values items rest n item at
 
 -- a buffer written over whole
-pub refilled : (n : ℕ) (xs ys : List Word) → length xs ≡ n → take n (xs ++ drop (length xs) ys) ≡ xs
+pub refilled : {X : Type 0} (n : ℕ) (xs ys : List X) → length xs ≡ n → take n (xs ++ drop (length xs) ys) ≡ xs
 refilled n xs ys e = subst (λ k. take k (xs ++ drop (length xs) ys) ≡ xs) e (take-append_seam xs (drop (length xs) ys))

@@ -1,10 +1,11 @@
-//! A plain simulator of a module: one cycle at a time, each net evaluated once, in the order of the list.
+//! A plain simulator of a module: one cycle at a time. Nets are evaluated in the order of the list, block by block, where one that they read has changed.
 #![tactic(auto)]
 
 mod cells;
 mod laws;
 mod nets;
 mod order;
+mod readers;
 mod sim;
 
 pub use laws::{follow, one_run};

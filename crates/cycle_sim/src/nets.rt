@@ -1,16 +1,18 @@
 //! The values of the nets.
 
-ghost use Rattle.std.specs.Prelude.{◌≡◌, ℕ, ◌<◌, ◌↔◌, length, slice_get, Some, IfOk, IfSome, IsTrue, true, false};
+ghost use Rattle.std.specs.Prelude.{◌≡◌, ℕ, ◌+◌, ◌*◌, ◌<◌, ◌↔◌, List, length, slice_get, slice_index_or, Some, IfOk, IfSome, IsTrue, true, false};
+ghost use Rattle.av_base.specs.Word.{Word};
 ghost use Rattle.netlist.specs.declared.line.Line.{Line};
-ghost use Rattle.netlist.specs.Netlists.{IsModule, IsInputPort, input_net, is_register, next_of};
+ghost use Rattle.netlist.specs.Netlists.{IsModule, IsInputPort, input_net, is_input, is_register, next_of};
 ghost use Rattle.netlist.specs.Runs.{IsValuation, reset_of};
 ghost use Rattle.cycle_sim.specs.Sims.{AreInputs, AreNets, AreWords, ArePlaces, bits_at, cycle_with, given_to, input_widths, widths_of};
 ghost use Rattle.cycle_sim.specs.Given.{IsGiven};
-ghost use Rattle.cycle_sim.specs.Orders.{AreEvaluated, AreRegisters, HoldConstants, constant_of};
-ghost use Rattle.cycle_sim.specs.declared.order.Register.{Register};
+ghost use Rattle.cycle_sim.specs.Orders.{AreRegisters};
+ghost use Rattle.cycle_sim.specs.Readers.{AreReaders, AreSettled, StateStays, StayStale, block_count};
 
 use crate::cells::{Cells, zero};
-use crate::order::Register;
+use crate::order::{Change, Register, gather};
+use crate::readers::{BLOCK, Readers, block_count, put};
 use av_base::{NoMemory, Val};
 use netlist::{Equation, Module, PortLine};
 use std::alloc::Global;
@@ -31,11 +33,10 @@ pub(crate) fn are_inputs(ports: &[PortLine], inputs: &[Val]) -> bool
     taken == inputs.len()
 }
 
-/// What each net has at first: a constant its value, a register its reset value, the others 0.
+/// What each net has before the first cycle: a register its reset value, the others 0.
 pub(crate) fn first_nets(alloc: Global, module: &Module) -> Result<Vec<Val>, NoMemory>
     ensures nets { IfOk result (λ nets. AreNets «module».now.lines nets.items) }
     ensures starts { IfOk result (λ nets. (n : ℕ) (line : Line) → slice_get «module».now.lines n ≡ Some line → IfSome (reset_of line.equation) (λ x. bits_at nets.items n ≡ x)) }
-    ensures constants { IfOk result (λ nets. HoldConstants «module».now.lines nets.items) }
 {
     module.well_made();
     let mut nets = Vec::new(alloc);
@@ -52,27 +53,24 @@ fn first_value(module: &Module, net: u32) -> Val
     requires net_is { net < length «module».now.lines }
     ensures width { (line : Line) → slice_get «module».now.lines net ≡ Some line → result.width ≡ line.width }
     ensures reset { (line : Line) → slice_get «module».now.lines net ≡ Some line → IfSome (reset_of line.equation) (λ x. result.bits ≡ x) }
-    ensures constant { (line : Line) → slice_get «module».now.lines net ≡ Some line → IfSome (constant_of line.equation) (λ x. result.bits ≡ x) }
 {
     match module.equation(net) {
-        Equation::Constant { value } => value,
         Equation::Reg { reset, .. } => reset,
         _ => zero(module.width(net)),
     }
 }
 
-/// The value that its equation gives a net, from those before it; that of a register stays.
-fn value_in(module: &Module, inputs: &[Val], cells: &Cells, nets: &[Val], net: u32) -> Val
+/// The value that its equation gives a net, from those before it; that of an input or a register stays.
+fn value_in(module: &Module, cells: &Cells, nets: &[Val], net: u32) -> Val
     requires module { IsModule «module».now }
-    requires inputs { AreInputs «module».now inputs.now }
     requires places { ArePlaces «module».now.memories cells.now.places.items }
     requires words { AreWords «module».now.memories cells.now.words.items }
     requires nets { AreNets «module».now.lines nets.now }
     requires net_is { net < length «module».now.lines }
-    ensures { (line : Line) → slice_get «module».now.lines net ≡ Some line → IsGiven «module».now inputs.now cells.now.words.items nets.now net line result }
+    ensures { (line : Line) → slice_get «module».now.lines net ≡ Some line → IsGiven «module».now cells.now.words.items nets.now net line result }
 {
     match module.equation(net) {
-        Equation::Input { .. } => inputs[net as usize],
+        Equation::Input { .. } => nets[net as usize],
         Equation::Constant { value } => value,
         Equation::And { a, b } => nets[a as usize].and(nets[b as usize]),
         Equation::Or { a, b } => nets[a as usize].or(nets[b as usize]),
@@ -94,61 +92,113 @@ fn value_in(module: &Module, inputs: &[Val], cells: &Cells, nets: &[Val], net: u
     }
 }
 
-/// Evaluates a cycle: each net that is to be from those before it.
-pub(crate) fn evaluate(
+/// Gives the input nets the values of a cycle.
+fn take_inputs(
     module: &Module,
+    readers: &Readers,
     inputs: &[Val],
-    cells: &Cells,
-    evaluated: &[u32],
     nets: &mut [Val],
+    stale: &mut [bool],
 )
     requires module { IsModule «module».now }
+    requires readers { AreReaders «module».now readers.now.of_nets readers.now.of_memories }
+    requires inputs { AreInputs «module».now inputs.now }
+    requires nets { AreNets «module».now.lines nets.old }
+    requires stale { length stale.old ≡ block_count «module».now }
+    ensures nets { AreNets «module».now.lines nets.new }
+    ensures stay { StayStale stale.old stale.new }
+    ensures settled { (words : List Word) → AreSettled «module».now nets.old words stale.old 0 → AreSettled «module».now nets.new words stale.new 0 }
+    ensures inputs { (k w : ℕ) → IsInputPort «module».now.ports k w → bits_at nets.new (input_net «module».now.ports k) ≡ given_to «module».now inputs.now k }
+    ensures registers { (n : ℕ) (line : Line) → slice_get «module».now.lines n ≡ Some line → is_register line.equation ≡ true → bits_at nets.new n ≡ bits_at nets.old n }
+{
+    for (net, value) in inputs.iter().enumerate() {
+        prove!(value.width() == module.width(net as u32));
+        put(module, readers, net as u32, *value, nets, stale);
+    }
+}
+
+/// Evaluates the nets of a block in their order. Those below it are settled.
+fn evaluate_block(
+    module: &Module,
+    readers: &Readers,
+    cells: &Cells,
+    block: u32,
+    nets: &mut [Val],
+    stale: &mut [bool],
+)
+    requires module { IsModule «module».now }
+    requires readers { AreReaders «module».now readers.now.of_nets readers.now.of_memories }
+    requires places { ArePlaces «module».now.memories cells.now.places.items }
+    requires words { AreWords «module».now.memories cells.now.words.items }
+    requires block_is { block < block_count «module».now }
+    requires nets { AreNets «module».now.lines nets.old }
+    requires settled { AreSettled «module».now nets.old cells.now.words.items stale.old (block * 8) }
+    ensures nets { AreNets «module».now.lines nets.new }
+    ensures settled { AreSettled «module».now nets.new cells.now.words.items stale.new (block * 8 + 8) }
+    ensures state { StateStays «module».now.lines nets.old nets.new }
+{
+    let first = block * BLOCK;
+    for net in first..(first + BLOCK).min(module.net_count()) {
+        let value = value_in(module, cells, nets, net);
+        prove!(value.width() == module.width(net));
+        put(module, readers, net, value, nets, stale);
+    }
+    stale[block as usize] = false;
+}
+
+/// Evaluates a cycle: what isn't settled behind its inputs, block by block.
+pub(crate) fn evaluate(
+    module: &Module,
+    readers: &Readers,
+    inputs: &[Val],
+    cells: &Cells,
+    nets: &mut [Val],
+    stale: &mut [bool],
+)
+    requires module { IsModule «module».now }
+    requires readers { AreReaders «module».now readers.now.of_nets readers.now.of_memories }
     requires inputs { AreInputs «module».now inputs.now }
     requires places { ArePlaces «module».now.memories cells.now.places.items }
     requires words { AreWords «module».now.memories cells.now.words.items }
-    requires evaluated { AreEvaluated «module».now.lines evaluated.now }
     requires nets { AreNets «module».now.lines nets.old }
-    requires constants { HoldConstants «module».now.lines nets.old }
+    requires settled { AreSettled «module».now nets.old cells.now.words.items stale.old 0 }
     ensures nets { AreNets «module».now.lines nets.new }
-    ensures constants { HoldConstants «module».now.lines nets.new }
+    ensures settled { AreSettled «module».now nets.new cells.now.words.items stale.new 0 }
     ensures valuation { IsValuation «module».now (cycle_with «module».now nets.new cells.now.words.items) }
     ensures inputs { (k w : ℕ) → IsInputPort «module».now.ports k w → bits_at nets.new (input_net «module».now.ports k) ≡ given_to «module».now inputs.now k }
     ensures registers { (n : ℕ) (line : Line) → slice_get «module».now.lines n ≡ Some line → is_register line.equation ≡ true → bits_at nets.new n ≡ bits_at nets.old n }
 {
-    for net in evaluated {
-        let value = value_in(module, inputs, cells, nets, *net);
-        prove!(value.width() == module.width(*net));
-        nets[*net as usize] = value;
-    }
-}
-
-/// What each register takes at the clock's edge, in the order of the registers.
-fn next_values(module: &Module, registers: &[Register], nets: &[Val], next: &mut [Val])
-    requires module { IsModule «module».now }
-    requires registers { AreRegisters «module».now.lines registers.now }
-    requires nets { AreNets «module».now.lines nets.now }
-    requires next { length next.old ≡ length registers.now }
-    ensures { (j : ℕ) (register : Register) → slice_get registers.now j ≡ Some register → slice_get next.new j ≡ slice_get nets.now register.next }
-{
-    for (place, register) in registers.iter().enumerate() {
-        next[place] = nets[register.next as usize];
+    take_inputs(module, readers, inputs, nets, stale);
+    for block in 0..block_count(module) {
+        if stale[block as usize] {
+            evaluate_block(module, readers, cells, block, nets, stale);
+        }
     }
 }
 
 /// The clock's edge: each register takes what its next net has, and the other nets keep theirs.
-pub(crate) fn take_next(module: &Module, registers: &[Register], next: &mut [Val], nets: &mut [Val])
+pub(crate) fn take_next(
+    module: &Module,
+    readers: &Readers,
+    registers: &[Register],
+    changes: &mut [Change],
+    nets: &mut [Val],
+    stale: &mut [bool],
+)
     requires module { IsModule «module».now }
+    requires readers { AreReaders «module».now readers.now.of_nets readers.now.of_memories }
     requires registers { AreRegisters «module».now.lines registers.now }
-    requires next { length next.old ≡ length registers.now }
+    requires changes { length changes.old ≡ length registers.now }
     requires nets { AreNets «module».now.lines nets.old }
-    requires constants { HoldConstants «module».now.lines nets.old }
+    requires stale { length stale.old ≡ block_count «module».now }
     ensures nets { AreNets «module».now.lines nets.new }
-    ensures constants { HoldConstants «module».now.lines nets.new }
     ensures taken { (n : ℕ) (line : Line) → slice_get «module».now.lines n ≡ Some line → IfSome (next_of line) (λ m. bits_at nets.new n ≡ bits_at nets.old m) }
     ensures others { (n : ℕ) (line : Line) → slice_get «module».now.lines n ≡ Some line → is_register line.equation ≡ false → bits_at nets.new n ≡ bits_at nets.old n }
+    ensures settled { (words : List Word) → AreSettled «module».now nets.old words stale.old 0 → AreSettled «module».now nets.new words stale.new 0 }
 {
-    next_values(module, registers, nets, next);
-    for (place, register) in registers.iter().enumerate() {
-        nets[register.net as usize] = next[place];
+    let count = gather(module, registers, nets, changes);
+    for place in 0..count {
+        let change = changes[place];
+        put(module, readers, change.net, change.value, nets, stale);
     }
 }

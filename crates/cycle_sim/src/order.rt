@@ -1,11 +1,12 @@
-//! Which nets a step evaluates, and which take a value at the clock's edge.
+//! Which nets take a value at the clock's edge, and what they take.
 
-ghost use Rattle.std.specs.Prelude.{◌≡◌, ◌<◌, length, slice_get, Some, IfOk, IfSome, IfNone, false};
+ghost use Rattle.std.specs.Prelude.{◌≡◌, ◌<◌, ◌≤◌, ◌⊎◌, ℕ, length, slice_get, Some, IfOk, IfSome, IfNone, false};
 ghost use Rattle.netlist.specs.declared.line.Line.{Line};
 ghost use Rattle.netlist.specs.Netlists.{IsModule, is_register, next_of};
-ghost use Rattle.cycle_sim.specs.Orders.{AreEvaluated, AreRegisters, is_evaluated};
+ghost use Rattle.cycle_sim.specs.Sims.{AreNets, bits_at};
+ghost use Rattle.cycle_sim.specs.Orders.{AreRegisters, IsChangeOf, IsChanged};
 
-use av_base::NoMemory;
+use av_base::{NoMemory, Val};
 use netlist::{Equation, Module};
 use std::alloc::Global;
 
@@ -16,30 +17,11 @@ pub(crate) struct Register {
     pub(crate) next: u32,
 }
 
-/// Whether a net's value is new in each cycle: a constant keeps its own, and a register has it from the edge.
-fn is_evaluated(module: &Module, net: u32) -> bool
-    requires module { IsModule «module».now }
-    requires net_is { net < length «module».now.lines }
-    ensures { (line : Line) → slice_get «module».now.lines net ≡ Some line → is_evaluated line.equation ≡ result }
-{
-    !matches!(
-        module.equation(net),
-        Equation::Constant { .. } | Equation::Reg { .. }
-    )
-}
-
-/// The nets that a step evaluates, in the order of the list.
-pub(crate) fn evaluated_nets(alloc: Global, module: &Module) -> Result<Vec<u32>, NoMemory>
-    ensures { IfOk result (λ evaluated. AreEvaluated «module».now.lines evaluated.items) }
-{
-    module.well_made();
-    let mut evaluated = Vec::new(alloc);
-    for net in 0..module.net_count() {
-        if is_evaluated(module, net) {
-            evaluated.push(net)?;
-        }
-    }
-    Ok(evaluated)
+/// What a register's net takes at the clock's edge.
+#[derive(Clone, Copy)]
+pub(crate) struct Change {
+    pub(crate) net: u32,
+    pub(crate) value: Val,
 }
 
 /// The register of this net, if it is one's.
@@ -67,4 +49,33 @@ pub(crate) fn registers_of(alloc: Global, module: &Module) -> Result<Vec<Registe
         }
     }
     Ok(registers)
+}
+
+/// Gathers what the registers take whose next net has another value than they: how many they are. They stand at the head of the list.
+pub(crate) fn gather(
+    module: &Module,
+    registers: &[Register],
+    nets: &[Val],
+    changes: &mut [Change],
+) -> usize
+    requires module { IsModule «module».now }
+    requires registers { AreRegisters «module».now.lines registers.now }
+    requires nets { AreNets «module».now.lines nets.now }
+    requires changes { length changes.old ≡ length registers.now }
+    ensures count { result ≤ length changes.new }
+    ensures each { (j : ℕ) (change : Change) → j < result → slice_get changes.new j ≡ Some change → IsChangeOf registers.now nets.now change }
+    ensures others { (j : ℕ) (register : Register) → slice_get registers.now j ≡ Some register → IsChanged changes.new result register.net ⊎ (bits_at nets.now register.net ≡ bits_at nets.now register.next) }
+{
+    let mut count = 0;
+    for register in registers {
+        let value = nets[register.next as usize];
+        if value.bits() != nets[register.net as usize].bits() {
+            changes[count] = Change {
+                net: register.net,
+                value,
+            };
+            count += 1;
+        }
+    }
+    count
 }

@@ -7,7 +7,8 @@ ghost use Rattle.cycle_sim.specs.Standing.{IsFirst, IsClearedRun, StandsFor, wit
 
 use crate::cells::{Cells, zero};
 use crate::nets::{are_inputs, evaluate, first_nets, take_next};
-use crate::order::{Register, evaluated_nets, registers_of};
+use crate::order::{Change, Register, registers_of};
+use crate::readers::{Readers, block_count, mark_written};
 use av_base::{NoMemory, Val};
 use netlist::{Module, agree};
 use std::alloc::Global;
@@ -18,10 +19,12 @@ use std::marker::Model;
 pub struct Sim {
     module: Module,
     nets: Vec<Val>,
-    evaluated: Vec<u32>,
+    readers: Readers,
+    /// for each block of nets, whether it has to be evaluated again
+    stale: Vec<bool>,
     registers: Vec<Register>,
-    /// room for what each register takes at the clock's edge
-    next: Vec<Val>,
+    /// room for what the registers take at the clock's edge
+    changes: Vec<Change>,
     cells: Cells,
     stepped: bool,
 }
@@ -29,15 +32,16 @@ pub struct Sim {
 impl Model for Sim {
     ghost use Rattle.std.specs.Prelude.{◌≡◌, length};
     ghost use Rattle.cycle_sim.specs.Sims.{SimValue, IsSim, ArePlaces};
-    ghost use Rattle.cycle_sim.specs.Orders.{AreEvaluated, AreRegisters, HoldConstants};
+    ghost use Rattle.cycle_sim.specs.Orders.{AreRegisters};
+    ghost use Rattle.cycle_sim.specs.Readers.{AreReaders, AreSettled};
 
     ghost Value = { SimValue };
 
     ghost view = { λ s. record { netlist = s.module; nets = s.nets.items; words = s.cells.words.items; stepped = s.stepped } };
 
     ghost invariant = { λ s. IsSim (record { netlist = s.module; nets = s.nets.items; words = s.cells.words.items; stepped = s.stepped })
-        × ArePlaces s.module.memories s.cells.places.items × AreEvaluated s.module.lines s.evaluated.items × HoldConstants s.module.lines s.nets.items
-        × AreRegisters s.module.lines s.registers.items × (length s.next.items ≡ length s.registers.items) };
+        × ArePlaces s.module.memories s.cells.places.items × AreReaders s.module s.readers.of_nets s.readers.of_memories
+        × AreSettled s.module s.nets.items s.cells.words.items s.stale.items 0 × AreRegisters s.module.lines s.registers.items × (length s.changes.items ≡ length s.registers.items) };
 }
 
 impl Sim {
@@ -49,18 +53,25 @@ impl Sim {
         ensures stands { IfOk result (λ sim. (run : Run) → StandsFor sim run 0) }
     {
         let nets = first_nets(alloc, &module)?;
-        let evaluated = evaluated_nets(alloc, &module)?;
+        let readers = Readers::new(alloc, &module)?;
+        let mut stale = Vec::new(alloc);
+        stale.resize(block_count(&module) as usize, true)?;
         let registers = registers_of(alloc, &module)?;
-        let mut next = Vec::new(alloc);
-        next.resize(registers.len(), zero(1))?;
+        let mut changes = Vec::new(alloc);
+        let nothing = Change {
+            net: 0,
+            value: zero(1),
+        };
+        changes.resize(registers.len(), nothing)?;
         let cells = Cells::new(alloc, &module)?;
         module.well_made();
         Ok(Sim {
             module,
             nets,
-            evaluated,
+            readers,
+            stale,
             registers,
-            next,
+            changes,
             cells,
             stepped: false,
         })
@@ -101,10 +112,11 @@ impl Sim {
         agree();
         evaluate(
             &self.module,
+            &self.readers,
             inputs,
             &self.cells,
-            self.evaluated.as_slice(),
             self.nets.as_mut_slice(),
+            self.stale.as_mut_slice(),
         );
         self.stepped = true;
     }
@@ -118,11 +130,19 @@ impl Sim {
         ensures stands { (run : Run) (cycles : ℕ) → StandsFor self.old run cycles → StandsFor self.new (with_cycle run cycles (present self.old)) (cycles + 1) }
     {
         self.cells.write(&self.module, self.nets.as_slice());
+        mark_written(
+            &self.module,
+            &self.readers,
+            self.nets.as_slice(),
+            self.stale.as_mut_slice(),
+        );
         take_next(
             &self.module,
+            &self.readers,
             self.registers.as_slice(),
-            self.next.as_mut_slice(),
+            self.changes.as_mut_slice(),
             self.nets.as_mut_slice(),
+            self.stale.as_mut_slice(),
         );
         self.stepped = false;
     }

@@ -1,57 +1,34 @@
-use Rattle.std.proofs.Common.{◌≡◌, ◌∙◌, length, slice_index_or, arith}
+use Rattle.std.proofs.Common.{◌≡◌, ◌*◌, ◌<◌, false, length, slice_get, Some, refl, ap, ◌∙◌, arith}
 use Rattle.std.proofs.lemmas.Option.{slice_get-get_or}
-use Rattle.cycle_sim.proofs.Values.{width_at-line}
-use Rattle.cycle_sim.proofs.Evaluation.{valuation, inputs_taken}
-use Rattle.cycle_sim.proofs.Orders.{given_to_first, given_to_next, given_to_all, evaluated_within}
+use Rattle.cycle_sim.proofs.Blocks.{block_ends}
+use Rattle.cycle_sim.proofs.Evaluation.{valuation}
+use Rattle.cycle_sim.proofs.Settling.{settled_pass}
+use Rattle.cycle_sim.proofs.Steps.{evaluated_block}
 use Rattle.cycle_sim.proofs.nets.evaluate.Goals as goal
+use Rattle.cycle_sim.proofs.nets.evaluate.Goals.{then-stale-block, else-stale-block}
 
-pub loop-net-init : goal.loop-net-init
-loop-net-init c =
-    given_to_first c.args.module.now c.args.inputs.now c.args.cells.now.words.items c.args.nets.now c.args.evaluated.now c.requires.nets c.requires.constants c.requires.evaluated
+pub loop-block-init : goal.loop-block-init
+loop-block-init c = record {
+  are_nets = c.take_inputs.ensures.nets;
+  settled = c.take_inputs.ensures.settled c.args.cells.now.words.items c.requires.settled;
+  inputs_are = c.take_inputs.ensures.inputs;
+  registers = λ n line at r. refl;
+}
 
-pub value_in-value-requires-clause-net_is : goal.value_in-value-requires-clause-net_is
-value_in-value-requires-clause-net_is c =
-    let at = slice_get-get_or c.args.evaluated.now c.loop-net.net-index 0 (omega arith) in
-    evaluated_within c.args.module.now.lines c.args.evaluated.now c.loop-net.net-index (slice_index_or c.args.evaluated.now c.loop-net.net-index 0) c.requires.evaluated at
-
-pub width-requires-in-loop-net : goal.width-requires-in-loop-net
-width-requires-in-loop-net c =
-    let at = slice_get-get_or c.args.evaluated.now c.loop-net.net-index 0 (omega arith) in
-    evaluated_within c.args.module.now.lines c.args.evaluated.now c.loop-net.net-index (slice_index_or c.args.evaluated.now c.loop-net.net-index 0) c.requires.evaluated at
-
-pub bounds-nets-net : goal.bounds-nets-net
-bounds-nets-net c =
-    let at = slice_get-get_or c.args.evaluated.now c.loop-net.net-index 0 (omega arith) in
-    let lt = evaluated_within c.args.module.now.lines c.args.evaluated.now c.loop-net.net-index (slice_index_or c.args.evaluated.now c.loop-net.net-index 0) c.requires.evaluated at in
-    omega (arith, lt, c.loop-net.invariant.given.are_nets.count)
-
-pub prove-unreachable-requires : goal.prove-unreachable-requires
-prove-unreachable-requires c =
-    let at = width_at-line c.args.module.now.lines (slice_index_or c.args.evaluated.now c.loop-net.net-index 0) c.width-in-loop-net.result c.width-in-loop-net.ensures in
-    c.if-prove.true (c.width.ensures.value ∙ (c.value_in-value.ensures at.0 at.1).width ∙ at.2)
-
-pub loop-net-preserved : goal.loop-net-preserved
-loop-net-preserved c =
-    let at = slice_get-get_or c.args.evaluated.now c.loop-net.net-index 0 (omega arith) in
-    given_to_next c.args.module.now c.args.inputs.now c.args.cells.now.words.items c.args.nets.now c.loop-net.nets c.args.evaluated.now c.loop-net.net-index (slice_index_or c.args.evaluated.now c.loop-net.net-index 0) c.requires.module c.requires.evaluated at c.loop-net.invariant c.value_in-value.result c.width.ensures.word c.value_in-value.ensures
-
-pub returns-clause-nets : goal.returns-clause-nets
-returns-clause-nets c = c.loop-net.invariant.given.are_nets
-
-pub returns-clause-constants : goal.returns-clause-constants
-returns-clause-constants c = c.loop-net.invariant.constants
+pub loop-block-preserved : goal.loop-block-preserved
+loop-block-preserved c = elim c.if-stale-block.branch [
+  | then-stale-block w ↦ rw (w.nets-is, w.stale-is) (evaluated_block c.args.module.now c.requires.module c.args.inputs.now c.args.cells.now.words.items c.take_inputs.new.nets c.loop-block.nets w.evaluate_block.new.nets
+      c.loop-block.stale w.evaluate_block.new.stale c.loop-block.block c.loop-block.invariant w.evaluate_block.ensures.nets w.evaluate_block.ensures.state w.evaluate_block.ensures.settled)
+  | else-stale-block w ↦
+      (let lt : c.loop-block.block < length c.loop-block.stale = omega (arith, c.loop-block-test.true, c.block_count-block-end.ensures, c.loop-block.invariant.settled.count) in
+      let fresh : slice_get c.loop-block.stale c.loop-block.block ≡ Some false = slice_get-get_or c.loop-block.stale c.loop-block.block false lt ∙ ap Some w.if-stale-block.false in
+      rw (w.nets-is, w.stale-is) (evaluated_block c.args.module.now c.requires.module c.args.inputs.now c.args.cells.now.words.items c.take_inputs.new.nets c.loop-block.nets c.loop-block.nets
+      c.loop-block.stale c.loop-block.stale c.loop-block.block c.loop-block.invariant c.loop-block.invariant.are_nets (λ n line at s. refl)
+      (settled_pass c.args.module.now c.loop-block.nets c.args.cells.now.words.items c.loop-block.stale c.loop-block.block fresh c.loop-block.invariant.settled)))
+]
 
 pub returns-clause-valuation : goal.returns-clause-valuation
 returns-clause-valuation c =
-    let all : c.loop-net.net-index ≡ length c.args.evaluated.now = omega arith in
-    valuation c.args.module.now c.args.inputs.now c.args.cells.now.words.items c.args.nets.now c.loop-net.nets c.requires.module c.requires.words
-    (given_to_all c.args.module.now c.args.inputs.now c.args.cells.now.words.items c.args.nets.now c.loop-net.nets c.args.evaluated.now c.loop-net.net-index all c.loop-net.invariant)
-
-pub returns-clause-inputs : goal.returns-clause-inputs
-returns-clause-inputs c =
-    let all : c.loop-net.net-index ≡ length c.args.evaluated.now = omega arith in
-    inputs_taken c.args.module.now c.args.inputs.now c.args.cells.now.words.items c.args.nets.now c.loop-net.nets c.requires.module
-    (given_to_all c.args.module.now c.args.inputs.now c.args.cells.now.words.items c.args.nets.now c.loop-net.nets c.args.evaluated.now c.loop-net.net-index all c.loop-net.invariant)
-
-pub returns-clause-registers : goal.returns-clause-registers
-returns-clause-registers c = c.loop-net.invariant.given.registers
+    let ends = block_ends (length c.args.module.now.lines) in
+    valuation c.args.module.now c.args.cells.now.words.items c.loop-block.nets c.loop-block.stale (c.loop-block.block * 8) c.requires.module c.requires.words c.loop-block.invariant.are_nets
+    (omega (arith, ends, c.loop-block-test.false, c.block_count-block-end.ensures)) c.loop-block.invariant.settled

@@ -7,14 +7,9 @@ pub loop-net-preserved : goal.loop-net-preserved
 loop-net-preserved c =
     rw c.in_ok-push.ensures.items
     (first_more c.args.module.now.lines c.loop-net.nets.items c.loop-net.net c.first_value-value.result c.loop-net.invariant
-    (λ line at. record { word = c.width.ensures.word; width = c.first_value-value.ensures.width line at }) c.first_value-value.ensures.reset c.first_value-value.ensures.constant)
+    (λ line at. record { word = c.width.ensures.word; width = c.first_value-value.ensures.width line at }) c.first_value-value.ensures.reset)
 
 pub returns-clause-starts : goal.returns-clause-starts
 returns-clause-starts c n line at =
     let lt = slice_get_within c.args.module.now.lines n line at in
     c.loop-net.invariant.starts n line (omega arith) at
-
-pub returns-clause-constants : goal.returns-clause-constants
-returns-clause-constants c n line at =
-    let lt = slice_get_within c.args.module.now.lines n line at in
-    c.loop-net.invariant.constants n line (omega arith) at

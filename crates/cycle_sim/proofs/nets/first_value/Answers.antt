@@ -1,7 +1,7 @@
 use Rattle.std.proofs.Common.{sym, ap, ◌∙◌}
 use Rattle.std.proofs.lemmas.Option.{same_Some}
 use Rattle.netlist.specs.declared.line.Line.{Line}
-use Rattle.netlist.specs.declared.line.Equation.TheVariants.{Constant, Reg}
+use Rattle.netlist.specs.declared.line.Equation.TheVariants.{Reg}
 use Rattle.cycle_sim.proofs.Lines.{here, some_width}
 use Rattle.cycle_sim.proofs.nets.first_value.Goals as goal
 
@@ -13,9 +13,4 @@ zero-requires c =
 pub returns-in-Reg-clause-width : goal.returns-in-Reg-clause-width
 returns-in-Reg-clause-width c line at =
     let h = here c.args.module.now c.args.net (Reg c.in-Reg.reset c.in-Reg.next) c.requires.module c.requires.net_is c.in-Reg.ensures in
-    h.sound.width ∙ ap (λ (l : Line). l.width) (same_Some _ _ (sym h.at ∙ at))
-
-pub returns-in-Constant-clause-width : goal.returns-in-Constant-clause-width
-returns-in-Constant-clause-width c line at =
-    let h = here c.args.module.now c.args.net (Constant c.in-Constant.value) c.requires.module c.requires.net_is c.in-Constant.ensures in
     h.sound.width ∙ ap (λ (l : Line). l.width) (same_Some _ _ (sym h.at ∙ at))
