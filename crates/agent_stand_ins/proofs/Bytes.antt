@@ -1,16 +1,17 @@
 -- The bytes of a memory behind writes of a word.
-use Rattle.std.proofs.Common.{◌≡◌, ◌+◌, ◌-◌, ◌*◌, ◌/◌, ◌%◌, ◌^◌, ◌<◌, ◌≤◌, ◌≢◌, ℕ, zero, suc, Bool, true, false, cond, nat_eq, List, [], ◌∷◌, length, map, filter, slice_index, slice_set, Option, Some, if◌then◌else◌, refl, sym, ap, ◌∙◌, subst, arith, get_or-set_other, get_or-set_same, add-one, replicate, unwrap_or, eq-eqb, mul_comm, add-zero, zero-add, pow-suc, Result, Ok, Err}
+use Rattle.std.proofs.Common.{◌≡◌, ◌+◌, ◌-◌, ◌*◌, ◌/◌, ◌%◌, ◌^◌, ◌<◌, ◌≤◌, ◌≢◌, ℕ, zero, suc, Bool, true, false, nat_eq, List, [], ◌∷◌, length, map, filter, slice_index, slice_set, if◌then◌else◌}
+use Rattle.std.proofs.Common.{refl, sym, ap, ◌∙◌, subst, arith, get_or-set_other, get_or-set_same, add-one, replicate, eq-eqb, mul_comm, add-zero, zero-add, Result, Ok, Err}
 use Rattle.std.proofs.Math.Path.{fun_ext}
 use Rattle.std.proofs.lemmas.Nat.{div-mul-add, mod-mul-add}
-use Rattle.std.proofs.Math.Nat.{div-add-mod, two-pow-succ, pow-succ', pow-le-pow_right}
+use Rattle.std.proofs.Math.Nat.{div-add-mod, pow-succ', pow-le-pow_right}
 use Rattle.std.proofs.lemmas.Bool.Decides.{nat_tests}
-use Rattle.std.specs.Map.{lookup}
 use Rattle.std.specs.Result.{IsOk, OnOk}
 use Rattle.histories.specs.History.{numbers}
 use Rattle.mm_runs.specs.Operations.{is_enabled, byte_at, written, memory_after}
-use Rattle.agent_stand_ins.specs.ByteLaws.{byte_shift, number_below}
 use Rattle.agent_stand_ins.specs.Contents.{number_of}
+use Rattle.agent_stand_ins.specs.declared.memory.StoredWord.{StoredWord}
 use Rattle.agent_stand_ins.specs.Memory.{MemoryValue, bytes_of_word, contents_of, with_bytes, lane_write, lane_writes}
+use Rattle.agent_stand_ins.proofs.Words.{IsStored}
 
 own_at : (memory : MemoryValue) (number place : ℕ) (same : Bool) → (same ≡ true → number ≡ place / memory.word_bytes) →
     (if same then slice_index (bytes_of_word memory.words number) (place % memory.word_bytes) else contents_of memory place) ≡ contents_of memory place
@@ -20,19 +21,16 @@ own_at memory number place false is = refl
 pub with_own : (memory : MemoryValue) (number : ℕ) → with_bytes memory number (bytes_of_word memory.words number) ≡ contents_of memory
 with_own memory number = fun_ext (λ place. own_at memory number place (nat_eq number (place / memory.word_bytes)) (λ same. grind (arith, nat_tests)))
 
-bytes_where : (same : Bool) (bytes : List ℕ) (stored : Option (List ℕ)) (lane : ℕ) →
-    slice_index (unwrap_or (cond same (Some bytes) stored) (replicate 16 0)) lane ≡ (if same then slice_index bytes lane else slice_index (unwrap_or stored (replicate 16 0)) lane)
-bytes_where true bytes stored lane = refl
-bytes_where false bytes stored lane = refl
+bytes_where : (same : Bool) (bytes other : List ℕ) (lane : ℕ) → slice_index (if same then bytes else other) lane ≡ (if same then slice_index bytes lane else slice_index other lane)
+bytes_where true bytes other lane = refl
+bytes_where false bytes other lane = refl
 
--- what is stored where one word is changed
-pub stored : (memory after : MemoryValue) (number : ℕ) (bytes : List ℕ) → after.word_bytes ≡ memory.word_bytes →
-    ((q : ℕ) → lookup (nat_eq q) after.words ≡ cond (nat_eq number q) (Some bytes) (lookup (nat_eq q) memory.words)) →
-    contents_of after ≡ with_bytes memory number bytes
-stored memory after number bytes same changed = fun_ext (λ place.
+-- the contents where one word is stored
+pub stored : (memory after : MemoryValue) (word : StoredWord) → after.word_bytes ≡ memory.word_bytes → IsStored memory.words after.words word → contents_of after ≡ with_bytes memory word.number word.bytes
+stored memory after word same is = fun_ext (λ place.
     ap (λ n. slice_index (bytes_of_word after.words (place / n)) (place % n)) same
-    ∙ ap (λ found. slice_index (unwrap_or found (replicate 16 0)) (place % memory.word_bytes)) (changed (place / memory.word_bytes))
-    ∙ bytes_where (nat_eq number (place / memory.word_bytes)) bytes (lookup (nat_eq (place / memory.word_bytes)) memory.words) (place % memory.word_bytes))
+    ∙ ap (λ bytes. slice_index bytes (place % memory.word_bytes)) (is (place / memory.word_bytes))
+    ∙ bytes_where (nat_eq word.number (place / memory.word_bytes)) word.bytes (bytes_of_word memory.words (place / memory.word_bytes)) (place % memory.word_bytes))
 
 either_way : (here within : Bool) (byte new old elsewhere : ℕ) → (here ≡ true → (within ≡ true) × (new ≡ byte)) → (here ≡ false → within ≡ true → new ≡ old) →
     (if here then byte else (if within then old else elsewhere)) ≡ (if within then new else elsewhere)
@@ -72,17 +70,14 @@ mul_comm_first : (a b c : ℕ) → a * b + c ≡ b * a + c
 mul_comm_first a b c = ap (λ n. n + c) (mul_comm a b)
 
 -- a byte that is put at a place
-pub put_is : (memory after : MemoryValue) (place byte n : ℕ) (own : List ℕ) → n ≡ memory.word_bytes → own ≡ bytes_of_word memory.words (place / n) → length own ≡ 16 → 1 ≤ n → n ≤ 16 →
-    after.word_bytes ≡ memory.word_bytes →
-    ((q : ℕ) → lookup (nat_eq q) after.words ≡ cond (nat_eq (place / n) q) (Some (slice_set own (place % n) byte)) (lookup (nat_eq q) memory.words)) →
-    contents_of after ≡ written (contents_of memory) place byte
-put_is memory after place byte n own bytes own_is long some few same changed =
+pub put_is : (memory : MemoryValue) (place byte n : ℕ) (own : List ℕ) → n ≡ memory.word_bytes → own ≡ bytes_of_word memory.words (place / n) → length own ≡ 16 → 1 ≤ n → n ≤ 16 →
+    with_bytes memory (place / n) (slice_set own (place % n) byte) ≡ written (contents_of memory) place byte
+put_is memory place byte n own bytes own_is long some few =
     let number = place / n in
     let lane = place % n in
     let inside : lane < memory.word_bytes = subst (λ w. lane < w) bytes (omega arith) in
     let whole : number * memory.word_bytes + lane ≡ place = ap (λ w. number * w + lane) (sym bytes) ∙ mul_comm_first number n lane ∙ div-add-mod place n in
-    stored memory after number (slice_set own lane byte) same changed
-    ∙ sym (written_is memory number own lane byte inside (omega arith))
+    sym (written_is memory number own lane byte inside (omega arith))
     ∙ ap (λ f. written f (number * memory.word_bytes + lane) byte) (ap (with_bytes memory number) own_is ∙ with_own memory number)
     ∙ ap (λ p. written (contents_of memory) p byte) whole
 

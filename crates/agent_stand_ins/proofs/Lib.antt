@@ -1,4 +1,5 @@
 pub mod Legality
+pub mod Words
 pub mod Bytes
 pub mod PlaceLemmas
 pub mod WaitingLemmas

@@ -1,18 +1,19 @@
 -- The memory of an agent as contracts see it.
-use Rattle.std.specs.Prelude.{◌≤◌, ℕ, ◌+◌, ◌*◌, ◌/◌, ◌%◌, nat_eq, List, map, filter, replicate, slice_index, unwrap_or, if◌then◌else◌}
-use Rattle.std.specs.Map.{lookup}
+use Rattle.std.specs.Prelude.{◌<◌, ◌≤◌, ℕ, ◌+◌, ◌*◌, ◌/◌, ◌%◌, nat_eq, List, [], ◌∷◌, map, filter, replicate, slice_index, AllPairs, if◌then◌else◌}
 use Rattle.mm_runs.specs.Operations.{Operation, is_enabled, byte_at}
 use Rattle.mm_runs.specs.Operations.Operation.{Write}
+use Rattle.agent_stand_ins.specs.declared.memory.StoredWord.{StoredWord}
 
--- the words that were written, each with its number and its bytes, how many bytes a word has, and for how many further words there is room
+-- the words that were written, how many bytes a word has, and for how many further words there is room
 pub record MemoryValue : Type 0 where
-  pub words : List (ℕ × List ℕ)
+  pub words : List StoredWord
   pub word_bytes : ℕ
   pub room : ℕ
 
 -- the bytes of a word: 0 where it was never written
-abbrev pub bytes_of_word : List (ℕ × List ℕ) → ℕ → List ℕ
-bytes_of_word words number = unwrap_or (lookup (nat_eq number) words) (replicate 16 0)
+abbrev pub bytes_of_word : List StoredWord → ℕ → List ℕ
+bytes_of_word [] number = replicate 16 0
+bytes_of_word (word ∷ later) number = if nat_eq word.number number then word.bytes else bytes_of_word later number
 
 -- the byte at each place
 abbrev pub contents_of : MemoryValue → ℕ → ℕ
@@ -33,3 +34,11 @@ lane_writes word_bytes number word enables lanes = map (lane_write word_bytes nu
 
 abbrev pub IsByteCount : ℕ → Type 0
 IsByteCount bytes = (1 ≤ bytes) × (bytes ≤ 16)
+
+-- each word has a lower number than those behind it
+abbrev pub AreRising : List StoredWord → Type 0
+AreRising words = AllPairs (λ word later. word.number < later.number) words
+
+pub record IsInOrder (words : List StoredWord) (word_bytes : ℕ) : Type 0 where
+  pub bytes : IsByteCount word_bytes
+  pub rising : AreRising words

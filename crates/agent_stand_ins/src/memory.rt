@@ -1,6 +1,8 @@
 //! What an agent holds.
 
-ghost use Rattle.std.specs.Prelude.{◌≡◌, ◌+◌, ◌*◌, ◌<◌, ◌≤◌, ℕ, length, OnOk, OnErr};
+ghost use Rattle.std.specs.Prelude.{◌≡◌, ◌+◌, ◌*◌, ◌<◌, ◌≤◌, ℕ, length, IsOk, IfOk, IfErr, OnOk, OnErr};
+ghost use Rattle.std.specs.List.{HoldsAt};
+ghost use Rattle.std.specs.List.Sorted.{IsSearchInRange, IsPartitionPoint};
 ghost use Rattle.histories.specs.History.{numbers};
 ghost use Rattle.mm_runs.specs.Operations.{is_enabled, byte_at, written, memory_after};
 ghost use Rattle.agent_stand_ins.specs.Contents.{number_of};
@@ -8,26 +10,33 @@ ghost use Rattle.agent_stand_ins.specs.Memory.{MemoryValue, IsByteCount, bytes_o
 
 use av_base::NoMemory;
 use std::alloc::Global;
-use std::collections::HashMap;
 use std::marker::Model;
+
+/// A word that was written.
+#[derive(Clone, Copy)]
+pub struct StoredWord {
+    pub number: u32,
+    pub bytes: [u8; 16],
+}
 
 /// The bytes of an agent, by words. All are 0 at first.
 #[derive(Drop)]
 pub(crate) struct Memory {
-    /// The words that were written, by their number.
-    words: HashMap<u32, [u8; 16]>,
+    /// The words that were written, in rising order of their numbers.
+    words: Vec<StoredWord>,
     word_bytes: u8,
 }
 
 impl Model for Memory {
-    ghost use Rattle.std.specs.HashMap.{spare};
-    ghost use Rattle.agent_stand_ins.specs.Memory.{MemoryValue, IsByteCount};
+    ghost use Rattle.std.specs.Prelude.{◌-◌};
+    ghost use Rattle.std.specs.Vec.{vec_capacity, vec_len};
+    ghost use Rattle.agent_stand_ins.specs.Memory.{MemoryValue, IsInOrder};
 
     ghost Value = { MemoryValue };
 
-    ghost view = { λ m. record { words = m.words.entries; word_bytes = m.word_bytes; room = spare m.words } };
+    ghost view = { λ m. record { words = m.words.items; word_bytes = m.word_bytes; room = vec_capacity m.words - vec_len m.words } };
 
-    ghost invariant = { λ m. IsByteCount m.word_bytes };
+    ghost invariant = { λ m. IsInOrder m.words.items m.word_bytes };
 }
 
 /// Whether a lane is enabled.
@@ -69,7 +78,7 @@ impl Memory {
         ensures word_bytes { result.word_bytes ≡ word_bytes }
     {
         Memory {
-            words: HashMap::new(alloc),
+            words: Vec::new(alloc),
             word_bytes,
         }
     }
@@ -84,12 +93,39 @@ impl Memory {
         Ok(())
     }
 
+    /// Where the word with a number stands, or where it would.
+    fn find(&self, number: u32) -> Result<usize, usize>
+        ensures within { IsSearchInRange result (length self.now.words) }
+        ensures found { IfOk result (HoldsAt (λ word. word.number ≡ number) self.now.words) }
+        ensures missing { IfErr result (IsPartitionPoint (λ word. word.number < number) (λ word. number < word.number) self.now.words) }
+    {
+        self.words.binary_search_by_key(&number, |word| word.number)
+    }
+
     /// The bytes of a word.
     fn bytes(&self, number: u32) -> [u8; 16]
-        ensures bytes { result ≡ bytes_of_word self.now.words number }
-        ensures len { length result ≡ 16 }
+        ensures { result ≡ bytes_of_word self.now.words number }
     {
-        self.words.get(&number).copied().unwrap_or([0; 16])
+        match self.find(number) {
+            Ok(place) => self.words[place].bytes,
+            Err(_) => [0; 16],
+        }
+    }
+
+    /// Stores the bytes of a word. A new one moves those behind it.
+    fn store(&mut self, number: u32, bytes: [u8; 16]) -> Result<(), NoMemory>
+        ensures ok { OnOk result (contents_of self.new ≡ with_bytes self.old number bytes) }
+        ensures err { OnErr result (contents_of self.new ≡ contents_of self.old) }
+        ensures succeeds { 0 < self.old.room → IsOk result }
+        ensures word_bytes { self.new.word_bytes ≡ self.old.word_bytes }
+        ensures room { self.old.room ≤ self.new.room + 1 }
+    {
+        let word = StoredWord { number, bytes };
+        match self.find(number) {
+            Ok(place) => self.words[place] = word,
+            Err(place) => self.words.insert(place, word)?,
+        }
+        Ok(())
     }
 
     /// Writes the byte at a place.
@@ -102,8 +138,7 @@ impl Memory {
         let number = place / word_bytes;
         let mut bytes = self.bytes(number);
         bytes[(place % word_bytes) as usize] = byte;
-        self.words.insert(number, bytes)?;
-        Ok(())
+        self.store(number, bytes)
     }
 
     /// Writes the enabled lanes of the word with a number. There is room for it.
@@ -114,7 +149,7 @@ impl Memory {
         ensures room { self.old.room ≤ self.new.room + 1 }
     {
         let bytes = written_lanes(self.bytes(number), self.word_bytes, word, enables);
-        let _ = self.words.insert(number, bytes);
+        let _ = self.store(number, bytes);
     }
 
     /// The word with a number.

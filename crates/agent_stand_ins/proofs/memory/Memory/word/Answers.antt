@@ -27,5 +27,5 @@ returns c =
     c.lanes.invariant.highest
     ∙ ap (λ from. number_of (slice_index c.bytes-bytes.result) from c.lanes.k) none
     ∙ ap (λ count. number_of (slice_index c.bytes-bytes.result) 0 count) all
-    ∙ ap (λ bytes. number_of (slice_index bytes) 0 c.args.self.now.word_bytes) c.bytes-bytes.ensures.bytes
+    ∙ ap (λ bytes. number_of (slice_index bytes) 0 c.args.self.now.word_bytes) c.bytes-bytes.ensures
     ∙ word_is c.args.self.now c.args.number
