@@ -212,10 +212,10 @@ pub one_more_told_at : {C : Type 0} (tells : C → List (List ℕ)) (components 
 one_more_told_at {C} tells components i x start before after at inside so_far more =
     one_more_told tells components i x start before after inside so_far (more ∙ ap (λ (y : C). with_more before (text_of (tells y))) at)
 
-pub part_told_at : {C : Type 0} (tells : C → List (List ℕ)) (components : List C) (i : ℕ) (x : C) (start before after : Option (List ℕ)) → x ≡ get_or components i x → i < length components
-    → before ≡ with_more start (text tells (take i components)) → HoldsPart before after (text_of (tells x)) → HoldsPart start after (text tells components)
-part_told_at {C} tells components i x start before after at inside so_far part =
-    part_told tells components i x start before after inside so_far (subst (λ (y : C). HoldsPart before after (text_of (tells y))) at part)
+pub part_told_at : {C : Type 0} (tells : C → List (List ℕ)) (components : List C) (i : ℕ) (x : C) (start before after : Option (List ℕ)) (own : List ℕ) → x ≡ get_or components i x → i < length components
+    → before ≡ with_more start (text tells (take i components)) → HoldsPart before after own → own ≡ text_of (tells x) → HoldsPart start after (text tells components)
+part_told_at {C} tells components i x start before after own at inside so_far part is =
+    part_told tells components i x start before after inside so_far (subst (HoldsPart before after) (is ∙ ap (λ (y : C). text_of (tells y)) at) part)
 
 pub one_more_counted_at : {C : Type 0} (counts : C → Counts) (components : List C) (i : ℕ) (x : C) (start sum more after : Counts) → x ≡ get_or components i x → i < length components
     → sum ≡ with_counts start (counted_together counts (take i components)) → more ≡ counts x → after ≡ with_counts sum more

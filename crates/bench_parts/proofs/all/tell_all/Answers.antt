@@ -1,4 +1,4 @@
-use Rattle.std.proofs.Common.{◌≡◌, List, take, arith, ap, ◌∙◌}
+use Rattle.std.proofs.Common.{◌≡◌, List, take, arith, rules, ap, ◌∙◌}
 use Rattle.std.specs.Prelude.{flat_map}
 use Rattle.std.proofs.lemmas.List.{take_all}
 use Rattle.av_files.specs.Outside.{with_more}
@@ -11,11 +11,13 @@ components-init g c = record { told = with_nothing (g.K.Sink.held c.args.sink.no
 
 pub returns-then-not-tell-clause-part : goal.returns-then-not-tell-clause-part
 returns-then-not-tell-clause-part g c =
-    part_told_at (λ (it : g.row.C.Denot). g.C.Component.tells it c.args.sim.now c.args.cycle) c.args.components.now c.components.component-index c.component-item.result
-    (g.K.Sink.held c.args.sink.now) (g.K.Sink.held c.components.sink) (g.K.Sink.held c.tell.new.sink) c.component-item.is c.components-test.true c.components.invariant.told c.if-not-tell.ensures.part
+    let part = part_told_at (λ (it : g.row.C.Denot). g.C.Component.tells it c.args.sim.now c.args.cycle) c.args.components.now c.components.component-index c.component-item.result
+    (g.K.Sink.held c.args.sink.now) (g.K.Sink.held c.components.sink) (g.K.Sink.held c.tell.new.sink) _ c.component-item.is c.components-test.true c.components.invariant.told
+    c.if-not-tell.ensures.part (search rules) in
+    search (rules, part)
 
 pub returns-then-not-tell-clause-rose : goal.returns-then-not-tell-clause-rose
-returns-then-not-tell-clause-rose g c = rose_since _ _ _ c.components.invariant.grows c.if-not-tell.ensures.rose
+returns-then-not-tell-clause-rose g c = let rose = rose_since _ _ _ c.components.invariant.grows c.if-not-tell.ensures.rose in search (rules, rose)
 
 pub returns-then-not-tell-clause-grows : goal.returns-then-not-tell-clause-grows
 returns-then-not-tell-clause-grows g c = omega (arith, c.components.invariant.grows, c.tell.ensures.grows)
@@ -26,7 +28,8 @@ returns-then-not-tell-clause-below g c = λ h. c.tell.ensures.below (c.component
 pub components-preserved : goal.components-preserved
 components-preserved g c = record {
   told = one_more_told_at (λ (it : g.row.C.Denot). g.C.Component.tells it c.args.sim.now c.args.cycle) c.args.components.now c.components.component-index c.component-item.result
-      (g.K.Sink.held c.args.sink.now) (g.K.Sink.held c.components.sink) (g.K.Sink.held c.tell.new.sink) c.component-item.is c.components-test.true c.components.invariant.told c.if-not-tell.ensures.all;
+      (g.K.Sink.held c.args.sink.now) (g.K.Sink.held c.components.sink) (g.K.Sink.held c.tell.new.sink) c.component-item.is c.components-test.true c.components.invariant.told
+      (c.if-not-tell.ensures.all ∙ search rules);
   grows = omega (arith, c.components.invariant.grows, c.tell.ensures.grows);
   below = λ h. c.tell.ensures.below (c.components.invariant.below h);
 }
