@@ -11,3 +11,8 @@ mod TellLemmas
 mod Written
 mod Simulating
 mod Slices
+mod ToldAlike
+mod Alike
+mod Answering
+mod Inputs
+mod OneRun

@@ -79,7 +79,7 @@ holds_nothing held first = record { all = with_nothing held; part = tt; rose = t
 
 -- ---- what earlier cycles told and counted
 
-same_before : {A : Type 0} (f g : ℕ → List A) (c : ℕ) → ((k : ℕ) → k < c → f k ≡ g k) → before f c ≡ before g c
+pub same_before : {A : Type 0} (f g : ℕ → List A) (c : ℕ) → ((k : ℕ) → k < c → f k ≡ g k) → before f c ≡ before g c
 same_before f g zero same = refl
 same_before f g (suc c) same = ap₂ (λ l m. l ++ m) (same_before f g c (λ k low. same k (omega (arith, low)))) (same c (omega arith))
 
@@ -100,7 +100,7 @@ NoCounts = (run : RunEnds) → counts_before run 0 ≡ record { taken = 0; answe
 abbrev CountsNext : Type 0
 CountsNext = (run : RunEnds) (c : ℕ) → counts_before run (suc c) ≡ with_counts (counts_before run c) (counts_in run c)
 
-same_counts : NoCounts → CountsNext → (one other : RunEnds) (c : ℕ) → ((k : ℕ) → k < c → counts_in one k ≡ counts_in other k) → counts_before one c ≡ counts_before other c
+pub same_counts : NoCounts → CountsNext → (one other : RunEnds) (c : ℕ) → ((k : ℕ) → k < c → counts_in one k ≡ counts_in other k) → counts_before one c ≡ counts_before other c
 same_counts none next one other zero same = none one ∙ sym (none other)
 same_counts none next one other (suc c) same =
     next one c ∙ ap₂ with_counts (same_counts none next one other c (λ k low. same k (omega (arith, low)))) (same c (omega arith)) ∙ sym (next other c)

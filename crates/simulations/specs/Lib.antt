@@ -5,3 +5,4 @@ pub mod Sound
 pub mod Cycles
 pub mod Value
 pub mod Runs
+pub mod Agreeing
