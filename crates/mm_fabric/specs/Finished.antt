@@ -49,7 +49,7 @@ AreFinished netlist parts number begun hosts = ⊥
 
 -- the most nets that a host takes behind its agents
 abbrev pub finished_nets : ℕ
-finished_nets = backward_nets 32 + 109
+finished_nets = backward_nets 32 + 171
 
 -- the first hosts are finished, and the others may be
 pub record AreFinishedSoFar (old now : Netlist) (parts : List AgentPart) (begun : List BegunHost) (hosts : List HostPart) (count : ℕ) : Type 0 where

@@ -72,12 +72,12 @@ pub(crate) fn finish_host_part(
     ensures port { IfOk result (λ part. part.port ≡ port.now) }
     ensures nets { IfOk result (λ part. part.held.nets ≡ trunk.now.host.nets) }
     ensures ways { IfOk result (λ part. AreWaysOf routes.now commands.now backs.now part.ways) }
-    ensures grows { GrowsBy (backward_nets (length backs.now) + 109) builder.old builder.new }
+    ensures grows { GrowsBy (backward_nets (length backs.now) + 171) builder.old builder.new }
     ensures waits { (n : ℕ) → ¬ owns trunk.now n → IsWaiting builder.old n → IsWaiting builder.new n }
     ensures no_more_wait { OnOk result (WaitsWithout (owns trunk.now) builder.old builder.new) }
 
     // Memory may run out at any net.
-    ensures full { result ≡ Err NetFault.TooManyNets → 2 ^ 20 < length builder.old.lines + (backward_nets (length backs.now) + 109) }
+    ensures full { result ≡ Err NetFault.TooManyNets → 2 ^ 20 < length builder.old.lines + (backward_nets (length backs.now) + 171) }
 {
     let told = finish_trunk(builder, port, trunk, backs)?;
     let ways = ways_of(alloc, routes, commands, backs)?;

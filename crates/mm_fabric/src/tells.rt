@@ -78,12 +78,12 @@ pub(crate) fn finish_begun(
     ensures nets { IfOk result (λ part. part.held.nets ≡ begun.now.trunk.host.nets) }
     ensures commands { IfOk result (λ part. commands_below part.ways ≡ begun.now.commands.items) }
     ensures backs { IfOk result (λ part. AllZip (IsBackFor number parts.now) begun.now.routes (backs_below part.ways)) }
-    ensures grows { GrowsBy (backward_nets (length begun.now.routes) + 109) builder.old builder.new }
+    ensures grows { GrowsBy (backward_nets (length begun.now.routes) + 171) builder.old builder.new }
     ensures waits { (n : ℕ) → ¬ owns begun.now.trunk n → IsWaiting builder.old n → IsWaiting builder.new n }
     ensures no_more_wait { OnOk result (WaitsWithout (owns begun.now.trunk) builder.old builder.new) }
 
     // Memory may run out at any net.
-    ensures full { result ≡ Err NetFault.TooManyNets → 2 ^ 20 < length builder.old.lines + (backward_nets (length begun.now.routes) + 109) }
+    ensures full { result ≡ Err NetFault.TooManyNets → 2 ^ 20 < length builder.old.lines + (backward_nets (length begun.now.routes) + 171) }
 {
     let routes = begun.routes.as_slice();
     let backs = backs_for(alloc, parts, routes, number)?;

@@ -124,10 +124,10 @@ pub(crate) fn finish_trunk(
         → RouteForward entries host command commands trunk.now.route builder.old
         → is_lone entries command.address.width ≡ true → RunsAsWire builder.new trunk.now.route command commands backs.now told.wait told.answer) }
     ensures registers { (n : ℕ) → owns trunk.now n → IsRegister builder.new n }
-    ensures grows { GrowsBy (backward_nets (length backs.now) + 109) builder.old builder.new }
+    ensures grows { GrowsBy (backward_nets (length backs.now) + 171) builder.old builder.new }
     ensures waits { (n : ℕ) → ¬ owns trunk.now n → IsWaiting builder.old n → IsWaiting builder.new n }
     ensures no_more_wait { OnOk result (WaitsWithout (owns trunk.now) builder.old builder.new) }
-    ensures full { result ≡ Err NetFault.TooManyNets → 2 ^ 20 < length builder.old.lines + (backward_nets (length backs.now) + 109) }
+    ensures full { result ≡ Err NetFault.TooManyNets → 2 ^ 20 < length builder.old.lines + (backward_nets (length backs.now) + 171) }
 {
     builder.well_made();
     let (wait, answer) = finish_route(

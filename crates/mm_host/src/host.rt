@@ -136,12 +136,12 @@ pub fn finish_host(
     ensures nets { IfOk result (λ made. AreAnswersTo builder.new port.now made) }
     ensures on { IfOk result (λ made. HostGoesOn builder.new held.now port.now wait answer.now made) }
     ensures machine { IfOk result (λ made. RunsAsHostWhile builder.new port.now held.now wait answer.now made) }
-    ensures grows { GrowsBy 109 builder.old builder.new }
+    ensures grows { GrowsBy 171 builder.old builder.new }
     ensures waits { (n : ℕ) → ¬ owns held.now n → IsWaiting builder.old n → IsWaiting builder.new n }
     ensures no_more_wait { OnOk result (WaitsWithout (owns held.now) builder.old builder.new) }
 
     // Memory may run out at any net.
-    ensures full { result ≡ Err NetFault.TooManyNets → 2 ^ 20 < length builder.old.lines + 109 }
+    ensures full { result ≡ Err NetFault.TooManyNets → 2 ^ 20 < length builder.old.lines + 171 }
 {
     let joined = JoinedBeats {
         more: held.command.more,

@@ -178,10 +178,10 @@ pub(crate) fn finish_queue(
     requires waits { (n : ℕ) → owns_queue held.now n → IsWaiting builder.old n }
     ensures told { IfOk result (λ told. IsBit builder.new told) }
     ensures on { IfOk result (λ told. QueuesOn builder.new read count shown held.now wait valid told) }
-    ensures grows { GrowsBy 101 builder.old builder.new }
+    ensures grows { GrowsBy 163 builder.old builder.new }
     ensures waits { (n : ℕ) → ¬ owns_queue held.now n → IsWaiting builder.old n → IsWaiting builder.new n }
     ensures no_more_wait { OnOk result (WaitsWithout (owns_queue held.now) builder.old builder.new) }
-    ensures full { result ≡ Err NetFault.TooManyNets → 2 ^ 20 < length builder.old.lines + 101 }
+    ensures full { result ≡ Err NetFault.TooManyNets → 2 ^ 20 < length builder.old.lines + 163 }
 {
     let shut = both(builder, held.ends.full, read)?;
     let told = either(builder, shut, wait)?;

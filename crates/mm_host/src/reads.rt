@@ -301,10 +301,10 @@ pub(crate) fn finish_reads(
     requires waits { (n : ℕ) → owns_reads shown.now.held n → IsWaiting builder.old n }
     ensures told { IfOk result (λ told. IsBit builder.new told) }
     ensures on { IfOk result (λ told. ReadsGoOn builder.new read count shown.now.shown wait valid told shown.now.held) }
-    ensures grows { GrowsBy 101 builder.old builder.new }
+    ensures grows { GrowsBy 163 builder.old builder.new }
     ensures waits { (n : ℕ) → ¬ owns_reads shown.now.held n → IsWaiting builder.old n → IsWaiting builder.new n }
     ensures no_more_wait { OnOk result (WaitsWithout (owns_reads shown.now.held) builder.old builder.new) }
-    ensures full { result ≡ Err NetFault.TooManyNets → 2 ^ 20 < length builder.old.lines + 101 }
+    ensures full { result ≡ Err NetFault.TooManyNets → 2 ^ 20 < length builder.old.lines + 163 }
 {
     match shown.held {
         HeldReads::Never | HeldReads::Unbounded => Ok(wait),

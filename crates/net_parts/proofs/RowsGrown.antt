@@ -10,28 +10,26 @@ use Rattle.net_parts.specs.RowLaws.{AreSet, AreMade}
 
 -- ---- setting
 
-set_within : {N : ℕ} (old now new : Netlist) (row others : List (PlaceNets N)) (place first filled : PlaceNets N) (comes shift : NetValue) (from end : PlaceNets N) (k : ℕ) → AreSet old now row (place ∷ others) first filled comes shift from end → GrowsBy k now new → k ≤ 2 * N + 3 → GrowsBy ((2 * N + 3) * length row) old new
-set_within {N} old now new row others place first filled comes shift from end k h grows few = record {
-  extends = extends_twice old now new h.extends grows.extends;
-  most = (let before = h.most in let more = grows.most in omega arith);
-  drivers = grows.drivers ∙ h.drivers;
-  memories = grows.memories ∙ h.memories;
-}
-
 -- before a place is set, with the nets that are made for it
-pub set_grows : {N : ℕ} (old now new : Netlist) (row rest others : List (PlaceNets N)) (place first filled : PlaceNets N) (comes shift : NetValue) (from end : PlaceNets N) (k : ℕ) → rest ≡ place ∷ others → AreSet old now row rest first filled comes shift from end → GrowsBy k now new → k ≤ 2 * N + 3 → GrowsBy ((2 * N + 3) * length row) old new
-set_grows old now new row rest others place first filled comes shift from end k e h grows few =
-    set_within old now new row others place first filled comes shift from end k (subst (λ (rest : List (PlaceNets _)). AreSet old now row rest first filled comes shift from end) e h) grows few
+pub set_grows : {N : ℕ} (old now new : Netlist) (row rest others : List (PlaceNets N)) (place from : PlaceNets N) (here into comes shift : NetValue) (k : ℕ) → rest ≡ place ∷ others → AreSet old now row rest here into comes shift from → GrowsBy k now new → k ≤ 2 * N + 7 → GrowsBy ((2 * N + 7) * length row) old new
+set_grows {N} old now new row rest others place from here into comes shift k e h grows few =
+    let whole = subst (λ (rest : List (PlaceNets _)). AreSet old now row rest here into comes shift from) e h in
+    record {
+      extends = extends_twice old now new h.extends grows.extends;
+      most = (let before = whole.most in let more = grows.most in omega arith);
+      drivers = grows.drivers ∙ h.drivers;
+      memories = grows.memories ∙ h.memories;
+    }
 
 -- and where it finds no room for them
-pub set_full : {N : ℕ} (old now : Netlist) (row rest others : List (PlaceNets N)) (place first filled : PlaceNets N) (comes shift : NetValue) (from end : PlaceNets N) (k : ℕ) → rest ≡ place ∷ others → AreSet old now row rest first filled comes shift from end → k ≤ 2 * N + 3 → 2 ^ 20 < length now.lines + k → 2 ^ 20 < length old.lines + (2 * N + 3) * length row
-set_full {N} old now row rest others place first filled comes shift from end k e h few full =
-    let most = (subst (λ (rest : List (PlaceNets _)). AreSet old now row rest first filled comes shift from end) e h).most in
+pub set_full : {N : ℕ} (old now : Netlist) (row rest others : List (PlaceNets N)) (place from : PlaceNets N) (here into comes shift : NetValue) (k : ℕ) → rest ≡ place ∷ others → AreSet old now row rest here into comes shift from → k ≤ 2 * N + 7 → 2 ^ 20 < length now.lines + k → 2 ^ 20 < length old.lines + (2 * N + 7) * length row
+set_full {N} old now row rest others place from here into comes shift k e h few full =
+    let most = (subst (λ (rest : List (PlaceNets _)). AreSet old now row rest here into comes shift from) e h).most in
     omega (arith, most, few, full)
 
 -- once some places are set
-pub set_all : {N : ℕ} (old now : Netlist) (row rest : List (PlaceNets N)) (first filled : PlaceNets N) (comes shift : NetValue) (from end : PlaceNets N) → AreSet old now row rest first filled comes shift from end → GrowsBy ((2 * N + 3) * length row) old now
-set_all old now row rest first filled comes shift from end h = record { extends = h.extends; most = (let most = h.most in omega arith); drivers = h.drivers; memories = h.memories }
+pub set_all : {N : ℕ} (old now : Netlist) (row rest : List (PlaceNets N)) (from : PlaceNets N) (here into comes shift : NetValue) → AreSet old now row rest here into comes shift from → GrowsBy ((2 * N + 7) * length row) old now
+set_all {N} old now row rest from here into comes shift h = record { extends = h.extends; most = (let most = h.most in omega arith); drivers = h.drivers; memories = h.memories }
 
 -- ---- making
 

@@ -41,6 +41,12 @@ StartAllLow netlist group = (run : Run) (cycles : ℕ) → IsRun netlist run cyc
 abbrev pub TakeAllNext : Netlist → List NetValue → List NetValue → Type 0
 TakeAllNext netlist group next = (run : Run) (cycles : ℕ) → IsRun netlist run cycles → (c : ℕ) → c + 1 < cycles → values_of (cycle_of run (c + 1)) group ≡ values_of (cycle_of run c) next
 
+-- in each run they take the values of the other nets where the bit is high, and else keep theirs
+abbrev pub LoadsAll : Netlist → NetValue → List NetValue → List NetValue → Type 0
+LoadsAll netlist loads group next =
+    (run : Run) (cycles : ℕ) → IsRun netlist run cycles → (c : ℕ) → c + 1 < cycles
+    → values_of (cycle_of run (c + 1)) group ≡ (if run.net c loads.number == 1 then values_of (cycle_of run c) next else values_of (cycle_of run c) group)
+
 -- in each cycle the group has the values of one group where the bit is high, and else those of the other
 abbrev pub ChooseAll : Netlist → NetValue → List NetValue → List NetValue → List NetValue → Type 0
 ChooseAll netlist bit one other group = Always netlist (λ cycle. values_of cycle group ≡ (if cycle.net bit.number == 0 then values_of cycle other else values_of cycle one))

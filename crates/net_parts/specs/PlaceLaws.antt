@@ -1,7 +1,7 @@
 -- What a row of places does in a cycle: it is a list, to whose end an item comes and whose oldest goes. No contract reads a proof of these.
 use Rattle.std.proofs.Common.{◌≡◌, ℕ, zero, suc, ◌+◌, ◌≤◌, Bool, true, false, not, ◌&&◌, ◌||◌, nat_lt, if◌then◌else◌, List, [], ◌∷◌, ◌++◌, length, drop, append-nil, length-append, length-drop, refl, sym, ap, ◌∙◌, subst, arith}
 use Rattle.std.proofs.lemmas.Bool.{lt-ltb, le-ltb, ltb-true, ltb-false}
-use Rattle.net_parts.specs.Places.{Place, first_or, held_of, filled, fill_row, shift_row, place_as, row_as, AllEmpty, IsPacked, has_room, last_full, coming, held_then, PlacesMove}
+use Rattle.net_parts.specs.Places.{Place, first_or, held_of, filled, fill_row, no_place, shift_row, comes_into, loaded_place, place_as, row_as, AllEmpty, IsPacked, has_room, last_full, coming, held_then, PlacesMove}
 
 pub held_empty : {X : Type 0} → (row : List (Place X)) → AllEmpty row → held_of row ≡ []
 held_empty [] h = refl
@@ -77,6 +77,32 @@ pub shift_packed : {X : Type 0} → (shift : Bool) (end : Place X) (row : List (
 shift_packed true end [] e h = tt
 shift_packed true end (place ∷ row) e h = tail_packed end row e h.1
 shift_packed false end row e h = subst IsPacked (sym (not_shifted end row)) h
+
+-- ---- a place that loads
+
+-- what a place loads is what a row that is filled and shifts brings there
+pub loads_place : {X : Type 0} (shift here comes : Bool) (item : X) (place : Place X) (row : List (Place X)) →
+    loaded_place shift here (comes_into row (comes && place.full)) item place row ≡ (if shift then first_or (fill_row (comes && place.full) comes item row) (no_place item) else filled here item place)
+loads_place shift here comes item place [] = by_bits shift place.full refl
+  where
+    by_bits : (s t : Bool) → place.full ≡ t → loaded_place s here false item place [] ≡ (if s then no_place item else filled here item place)
+    by_bits true true e = rw e refl
+    by_bits true false e = rw e refl
+    by_bits false true e = rw e refl
+    by_bits false false e = rw e refl
+loads_place shift here comes item place (behind ∷ row) = by_bits shift place.full behind.full refl refl
+  where
+    by_bits : (s t b : Bool) → place.full ≡ t → behind.full ≡ b → loaded_place s here (comes && place.full) item place (behind ∷ row) ≡ (if s then filled (comes && place.full) item behind else filled here item place)
+    by_bits true true true e f = rw (e, f) refl
+    by_bits true true false e f = rw (e, f) refl
+    by_bits true false true e f = rw (e, f) refl
+    by_bits true false false e f = rw (e, f) refl
+    by_bits false true b e f = rw e refl
+    by_bits false false b e f = rw e refl
+
+pub fills_into : {X : Type 0} (here comes : Bool) (item : X) (row : List (Place X)) → fill_row (comes_into row here) comes item row ≡ fill_row here comes item row
+fills_into here comes item [] = refl
+fills_into here comes item (place ∷ row) = refl
 
 -- ---- room
 

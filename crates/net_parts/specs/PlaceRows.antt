@@ -9,7 +9,7 @@ use Rattle.netlist.specs.Runs.{Cycle, Run, cycle_of, IsRun}
 use Rattle.net_parts.specs.declared.places.PlaceNets.{PlaceNets}
 use Rattle.net_parts.specs.Nets.{IsBit}
 use Rattle.net_parts.specs.Groups.{AreNets, group_widths, values_of, AreNumberedFrom, InGroup, nets_last}
-use Rattle.net_parts.specs.Places.{Place, first_or, fill_row, shift_row, refilled, AllEmpty, PlacesMove}
+use Rattle.net_parts.specs.Places.{Place, fill_row, shift_row, no_place, loaded_place, AllEmpty, PlacesMove}
 
 -- the nets of a place as a group
 abbrev pub nets_of : {N : ℕ} → PlaceNets N → List NetValue
@@ -68,20 +68,21 @@ abbrev pub InRow : {N : ℕ} → List (PlaceNets N) → ℕ → Type 0
 InRow [] n = ⊥
 InRow (place ∷ row) n = InGroup (nets_of place) n ⊎ InRow row n
 
--- what stands behind a place, once an item has come: the first of the rest, or what ends the row. `before` is the bit that all before it are full
-abbrev pub filled_behind : {N : ℕ} → Cycle → NetValue → NetValue → PlaceNets N → List (PlaceNets N) → PlaceNets N → Place (List ℕ)
-filled_behind cycle before comes from rest end =
-    first_or (fill_row ((cycle.net comes.number == 1) && (cycle.net before.number == 1)) (cycle.net comes.number == 1) (values_of cycle from.item) (row_in cycle rest)) (place_in cycle end)
-
 -- in each run each place begins empty
 abbrev pub StartsAllEmpty : {N : ℕ} → Netlist → List (PlaceNets N) → Type 0
 StartsAllEmpty netlist row = (run : Run) (cycles : ℕ) → IsRun netlist run cycles → 0 < cycles → AllEmpty (row_in (cycle_of run 0) row)
 
--- in each run a row of places, the first of which is filled so, shifts as the bits say
-abbrev pub RowMoves : {N : ℕ} → Netlist → List (PlaceNets N) → PlaceNets N → NetValue → NetValue → PlaceNets N → PlaceNets N → Type 0
-RowMoves netlist row first comes shift from end =
+-- in each run a place loads as these bits say, or keeps its item
+abbrev pub PlaceMoves : {N : ℕ} → Netlist → PlaceNets N → List (PlaceNets N) → NetValue → NetValue → NetValue → PlaceNets N → Type 0
+PlaceMoves netlist place rest here behind shift from =
     (run : Run) (cycles : ℕ) → IsRun netlist run cycles → (c : ℕ) → c + 1 < cycles
-    → row_in (cycle_of run (c + 1)) row ≡ shift_row (run.net c shift.number == 1) (place_in (cycle_of run c) end) (refilled (place_in (cycle_of run c) first) (run.net c comes.number == 1) (values_of (cycle_of run c) from.item) (row_in (cycle_of run c) row))
+    → place_in (cycle_of run (c + 1)) place ≡ loaded_place (run.net c shift.number == 1) (run.net c here.number == 1) (run.net c behind.number == 1) (values_of (cycle_of run c) from.item) (place_in (cycle_of run c) place) (row_in (cycle_of run c) rest)
+
+-- in each run a row of places is filled and shifts as these bits say
+abbrev pub RowMoves : {N : ℕ} → Netlist → List (PlaceNets N) → NetValue → NetValue → NetValue → PlaceNets N → Type 0
+RowMoves netlist row here comes shift from =
+    (run : Run) (cycles : ℕ) → IsRun netlist run cycles → (c : ℕ) → c + 1 < cycles
+    → row_in (cycle_of run (c + 1)) row ≡ shift_row (run.net c shift.number == 1) (no_place (values_of (cycle_of run c) from.item)) (fill_row (run.net c here.number == 1) (run.net c comes.number == 1) (values_of (cycle_of run c) from.item) (row_in (cycle_of run c) row))
 
 -- the first place is full
 abbrev pub is_first_full : {N : ℕ} → Cycle → List (PlaceNets N) → Bool

@@ -25,15 +25,29 @@ abbrev pub fill_row : {X : Type 0} → Bool → Bool → X → List (Place X) �
 fill_row here comes item [] = []
 fill_row here comes item (place ∷ row) = filled here item place ∷ fill_row (comes && place.full) comes item row
 
+-- an empty place, with this on its nets
+abbrev pub no_place : {X : Type 0} → X → Place X
+no_place item = record { full = false; item = item }
+
 -- on a shift each place takes what stands behind it, and the last one what ends the row
 abbrev pub shift_row : {X : Type 0} → Bool → Place X → List (Place X) → List (Place X)
 shift_row shift end [] = []
 shift_row shift end (place ∷ row) = (if shift then first_or row end else place) ∷ shift_row shift end row
 
--- the row with its first place filled so
-abbrev pub refilled : {X : Type 0} → Place X → Bool → X → List (Place X) → List (Place X)
-refilled first comes item [] = []
-refilled first comes item (place ∷ row) = first ∷ fill_row (comes && place.full) comes item row
+-- an item comes into the first of these places, where this says so; without places into none
+abbrev pub comes_into : {X : Type 0} → List (Place X) → Bool → Bool
+comes_into [] here = false
+comes_into (place ∷ row) here = here
+
+-- what a place takes: on a shift the item behind it, where one is there, and else the one that comes, if it comes here
+abbrev pub taken_place : {X : Type 0} → Bool → Bool → X → List (Place X) → Place X
+taken_place shift here item [] = record { full = here; item = item }
+taken_place shift here item (behind ∷ row) = if shift && behind.full then behind else record { full = here; item = item }
+
+-- a place in the next cycle: it loads where it is empty or the row shifts. `here` says whether an item comes into it, and `behind`
+-- whether one comes into the next place
+abbrev pub loaded_place : {X : Type 0} → Bool → Bool → Bool → X → Place X → List (Place X) → Place X
+loaded_place shift here behind item place row = if not place.full || shift then taken_place shift (if shift then behind else here) item row else place
 
 -- each place is empty
 abbrev pub AllEmpty : {X : Type 0} → List (Place X) → Type 0

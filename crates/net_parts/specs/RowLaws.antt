@@ -6,12 +6,12 @@ use Rattle.netlist.specs.Runs.{Cycle, Run, cycle_of, IsRun, Always}
 use Rattle.netlist.specs.Longer.{Extends}
 use Rattle.net_parts.specs.declared.places.PlaceNets.{PlaceNets}
 use Rattle.net_parts.specs.Nets.{IsBit}
-use Rattle.net_parts.specs.Groups.{values_of, AreNumberedFrom, InGroup, StartAllLow, TakeAllNext, ChooseAll, nets_last, in_row}
+use Rattle.net_parts.specs.Groups.{values_of, AreNumberedFrom, InGroup, StartAllLow, nets_last, in_row}
 use Rattle.net_parts.specs.Growth.{GrowsBy, AddsNets, StillWait, WaitsBeside, WaitsWithout}
-use Rattle.net_parts.specs.Laws.{net_lasts, bit_fits, extends_none, extends_twice, grows_none, grows_fewer, grows_within}
-use Rattle.net_parts.specs.Bits.{of_chosen, chosen_high}
-use Rattle.net_parts.specs.Places.{Place, first_or, filled, fill_row, shift_row, refilled, AllEmpty}
-use Rattle.net_parts.specs.PlaceRows.{nets_of, ArePlaceNets, HaveSameWidths, place_of, place_in, row_in, IsPlace, IsRow, row_end, AreInRow, InRow, StartsAllEmpty, RowMoves, RowSteps, gives_item, last_full, row_lasts}
+use Rattle.net_parts.specs.Laws.{net_lasts, extends_none, extends_twice, grows_none, grows_fewer, grows_within}
+use Rattle.net_parts.specs.Places.{Place, first_or, filled, fill_row, no_place, shift_row, comes_into, loaded_place, AllEmpty}
+use Rattle.net_parts.specs.PlaceLaws.{loads_place, fills_into}
+use Rattle.net_parts.specs.PlaceRows.{nets_of, ArePlaceNets, place_of, place_in, row_in, IsPlace, IsRow, row_end, AreInRow, InRow, StartsAllEmpty, PlaceMoves, RowMoves, RowSteps, gives_item, last_full, row_lasts}
 
 -- ---- one place
 
@@ -122,72 +122,53 @@ made_more {N} old now new like place row count h grows wait newly is lines start
   ];
 }
 
--- ---- one place of a row that moves
+-- ---- a row that moves
 
-refilled_first : {X : Type 0} (behind end : Place X) (here comes : Bool) (item : X) (row : List (Place X)) → behind ≡ first_or (fill_row here comes item row) end → refilled behind comes item row ≡ fill_row here comes item row
-refilled_first behind end here comes item [] e = refl
-refilled_first behind end here comes item (place ∷ row) e = ap (λ (x : Place _). x ∷ fill_row (comes && place.full) comes item row) e
-
-pub row_moves : {N : ℕ} (netlist : Netlist) (place behind next first from end : PlaceNets N) (comes shift : NetValue) (row : List (PlaceNets N)) →
-    ((run : Run) (cycles : ℕ) → IsRun netlist run cycles → (c : ℕ) → c + 1 < cycles → place_in (cycle_of run c) behind ≡ first_or (fill_row ((run.net c comes.number == 1) && (run.net c place.full.number == 1)) (run.net c comes.number == 1) (values_of (cycle_of run c) from.item) (row_in (cycle_of run c) row)) (place_in (cycle_of run c) end)) →
-    ((run : Run) (cycles : ℕ) → IsRun netlist run cycles → (c : ℕ) → c + 1 < cycles → values_of (cycle_of run c) (nets_of next) ≡ (if run.net c shift.number == 1 then values_of (cycle_of run c) (nets_of behind) else values_of (cycle_of run c) (nets_of first))) →
-    RowMoves netlist row behind comes shift from end → TakeAllNext netlist (nets_of place) (nets_of next) → RowMoves netlist (place ∷ row) first comes shift from end
-row_moves netlist place behind next first from end comes shift row is_behind chooses rest takes run cycles r c lt =
-    let here = (run.net c comes.number == 1) && (run.net c place.full.number == 1) in
+pub row_moves : {N : ℕ} (netlist : Netlist) (place from : PlaceNets N) (rest : List (PlaceNets N)) (here behind comes shift : NetValue) →
+    ((run : Run) (cycles : ℕ) → IsRun netlist run cycles → (c : ℕ) → c + 1 < cycles → (run.net c behind.number == 1) ≡ comes_into (row_in (cycle_of run c) rest) ((run.net c comes.number == 1) && (run.net c place.full.number == 1))) →
+    PlaceMoves netlist place rest here behind shift from → RowMoves netlist rest behind comes shift from → RowMoves netlist (place ∷ rest) here comes shift from
+row_moves netlist place from rest here behind comes shift is_behind first others run cycles r c lt =
+    let sh = run.net c shift.number == 1 in
+    let h = run.net c here.number == 1 in
     let come = run.net c comes.number == 1 in
     let item = values_of (cycle_of run c) from.item in
-    let places = row_in (cycle_of run c) row in
-    let last = place_in (cycle_of run c) end in
-    let sh = run.net c shift.number == 1 in
-    let same = is_behind run cycles r c lt in
-    let one : place_in (cycle_of run (c + 1)) place ≡ (if sh then first_or (fill_row here come item places) last else place_in (cycle_of run c) first) =
-    ap place_of (takes run cycles r c lt ∙ chooses run cycles r c lt) ∙ of_chosen place_of sh (values_of (cycle_of run c) (nets_of behind)) (values_of (cycle_of run c) (nets_of first))
-    ∙ ap (λ (x : Place (List ℕ)). if sh then x else place_in (cycle_of run c) first) same in
-    let others : row_in (cycle_of run (c + 1)) row ≡ shift_row sh last (fill_row here come item places) =
-    rest run cycles r c lt ∙ ap (shift_row sh last) (refilled_first (place_in (cycle_of run c) behind) last here come item places same) in
-    ap (λ (x : Place (List ℕ)). x ∷ row_in (cycle_of run (c + 1)) row) one ∙ ap (λ (xs : List (Place (List ℕ))). (if sh then first_or (fill_row here come item places) last else place_in (cycle_of run c) first) ∷ xs) others
+    let at = place_in (cycle_of run c) place in
+    let row = row_in (cycle_of run c) rest in
+    let into = is_behind run cycles r c lt in
+    let one = first run cycles r c lt ∙ ap (λ t. loaded_place sh h t item at row) into ∙ loads_place sh h come item at row in
+    let more = others run cycles r c lt ∙ ap (λ t. shift_row sh (no_place item) (fill_row t come item row)) into ∙ ap (shift_row sh (no_place item)) (fills_into (come && at.full) come item row) in
+    ap (λ (x : Place (List ℕ)). x ∷ row_in (cycle_of run (c + 1)) rest) one
+    ∙ ap (λ (xs : List (Place (List ℕ))). (if sh then first_or (fill_row (come && at.full) come item row) (no_place item) else filled h item at) ∷ xs) more
 
 -- ---- the step of a row from its bits
 
-pub row_steps : {N : ℕ} (before after : Cycle) (from first come end : PlaceNets N) (rest : List (PlaceNets N)) (ready comes shift : NetValue) →
-    (before.net shift.number == 1) ≡ gives_item before (first ∷ rest) from ready →
-    (place_in before end).full ≡ false → place_in before come ≡ filled (before.net comes.number == 1) (values_of before from.item) (place_in before first) →
-    row_in after (first ∷ rest) ≡ shift_row (before.net shift.number == 1) (place_in before end) (refilled (place_in before come) (before.net comes.number == 1) (values_of before from.item) (row_in before (first ∷ rest))) →
-    RowSteps before after (first ∷ rest) from (before.net comes.number == 1) ready
-row_steps before after from first come end rest ready comes shift gives empty is moves =
-    let sh = before.net shift.number == 1 in
+pub row_steps : {N : ℕ} (before after : Cycle) (from : PlaceNets N) (row : List (PlaceNets N)) (ready comes shift : NetValue) → (before.net shift.number == 1) ≡ gives_item before row from ready →
+    row_in after row ≡ shift_row (before.net shift.number == 1) (no_place (values_of before from.item)) (fill_row (before.net comes.number == 1) (before.net comes.number == 1) (values_of before from.item) (row_in before row)) →
+    RowSteps before after row from (before.net comes.number == 1) ready
+row_steps before after from row ready comes shift gives moves =
     let c = before.net comes.number == 1 in
     let item = values_of before from.item in
-    let row = row_in before (first ∷ rest) in
-    record {
-      end = place_in before end;
-      empty = empty;
-      is = moves
-          ∙ ap (λ (x : Place (List ℕ)). shift_row sh (place_in before end) (refilled x c item row)) is
-          ∙ ap (λ t. shift_row t (place_in before end) (fill_row c c item row)) gives;
-    }
+    record { end = no_place item; empty = refl; is = moves ∙ ap (λ t. shift_row t (no_place item) (fill_row c c item (row_in before row))) gives }
 
 -- ---- a row whose first places are set
 
 -- the places of a row before the rest have their next nets: the row moves where the rest does
-pub record AreSet {N : ℕ} (old now : Netlist) (row rest : List (PlaceNets N)) (first filled : PlaceNets N) (comes shift : NetValue) (from end : PlaceNets N) : Type 0 where
+pub record AreSet {N : ℕ} (old now : Netlist) (row rest : List (PlaceNets N)) (here into comes shift : NetValue) (from : PlaceNets N) : Type 0 where
   pub in_row : AreInRow now from rest
-  pub filled_is : ArePlaceNets now filled
-  pub widths : HaveSameWidths filled from
-  pub moves : (later : Netlist) → Extends now later → RowMoves later rest filled comes shift from end → RowMoves later row first comes shift from end
+  pub into_is : IsBit now into
+  pub moves : (later : Netlist) → Extends now later → RowMoves later rest into comes shift from → RowMoves later row here comes shift from
   pub extends : Extends old now
-  pub most : length now.lines + (2 * N + 3) * length rest ≤ length old.lines + (2 * N + 3) * length row
+  pub most : length now.lines + (2 * N + 7) * length rest ≤ length old.lines + (2 * N + 7) * length row
   pub drivers : now.drivers ≡ old.drivers
   pub memories : now.memories ≡ old.memories
   pub within : (n : ℕ) → InRow rest n → InRow row n
   pub waits : (n : ℕ) → ¬ InRow row n → IsWaiting old n → IsWaiting now n
   pub no_more_wait : (n : ℕ) → IsWaiting now n → IsWaiting old n × (InRow row n → InRow rest n)
 
-pub set_none : {N : ℕ} (old : Netlist) (row : List (PlaceNets N)) (first : PlaceNets N) (comes shift : NetValue) (from end : PlaceNets N) → AreInRow old from row → ArePlaceNets old first → HaveSameWidths first from → AreSet old old row row first first comes shift from end
-set_none old row first comes shift from end h p w = record {
+pub set_none : {N : ℕ} (old : Netlist) (row : List (PlaceNets N)) (here comes shift : NetValue) (from : PlaceNets N) → AreInRow old from row → IsBit old here → AreSet old old row row here here comes shift from
+set_none old row here comes shift from h p = record {
   in_row = h;
-  filled_is = p;
-  widths = w;
+  into_is = p;
   moves = λ later e m. m;
   extends = extends_none old;
   most = omega arith;
@@ -198,34 +179,28 @@ set_none old row first comes shift from end h p w = record {
   no_more_wait = λ n w. (w, λ o. o);
 }
 
-pub set_more : {N : ℕ} (old now a b new : Netlist) (row others : List (PlaceNets N)) (place first filled behind next : PlaceNets N) (comes shift : NetValue) (from end : PlaceNets N) → AreSet old now row (place ∷ others) first filled comes shift from end →
-    AddsNets (N + 2) now a → AddsNets (N + 1) a b → GrowsBy 0 b new → IsBit now shift → ArePlaceNets a behind → HaveSameWidths behind from →
-    Always a (λ cycle. place_in cycle behind ≡ first_or (fill_row ((cycle.net comes.number == 1) && (cycle.net place.full.number == 1)) (cycle.net comes.number == 1) (values_of cycle from.item) (row_in cycle others)) (place_in cycle end)) →
-    ChooseAll b shift (nets_of behind) (nets_of filled) (nets_of next) → TakeAllNext new (nets_of place) (nets_of next) →
-    ((n : ℕ) → ¬ InGroup (nets_of place) n → IsWaiting b n → IsWaiting new n) → WaitsWithout (InGroup (nets_of place)) b new →
-    AreSet old new row others first behind comes shift from end
-set_more {N} old now a b new row others place first filled behind next comes shift from end h fills chooses sets bit is widths value chosen takes still set =
-    let from2 = extends_twice a b new chooses.grows.extends sets.extends in
-    let from1 = extends_twice now a new fills.grows.extends from2 in
+pub set_more : {N : ℕ} (old now a new : Netlist) (row others : List (PlaceNets N)) (place from : PlaceNets N) (here into behind comes shift : NetValue) → AreSet old now row (place ∷ others) here into comes shift from →
+    AddsNets 1 now a → GrowsBy (2 * N + 6) a new → IsBit a behind →
+    Always a (λ cycle. (cycle.net behind.number == 1) ≡ comes_into (row_in cycle others) ((cycle.net comes.number == 1) && (cycle.net place.full.number == 1))) → PlaceMoves new place others into behind shift from →
+    ((n : ℕ) → ¬ InGroup (nets_of place) n → IsWaiting a n → IsWaiting new n) → WaitsWithout (InGroup (nets_of place)) a new →
+    AreSet old new row others here behind comes shift from
+set_more {N} old now a new row others place from here into behind comes shift h adds sets bit value moves still set =
+    let more = extends_twice now a new adds.grows.extends sets.extends in
     record {
-      in_row = row_here now new from others from1 (λ n o w. still n (λ i. place_apart now from h.in_row.start place others h.in_row.is_row n i o) (chooses.grows.waits n (fills.grows.waits n w))) (record { start = _; is_row = h.in_row.is_row.1 });
-      filled_is = place_lasts a new behind from2 is;
-      widths = widths;
-      moves = λ later e m. h.moves later (extends_twice now new later from1 e)
-          (row_moves later place behind next filled from end comes shift others
-          (λ run cycles r c lt. value (cycle_of run c) (((extends_twice a new later from2 e).runs run cycles r).valuations c (omega arith)))
-          (λ run cycles r c lt.
-          (chosen (cycle_of run c) (((extends_twice b new later sets.extends e).runs run cycles r).valuations c (omega arith))
-          ∙ chosen_high (run.net c shift.number) _ _ (bit_fits now shift bit (cycle_of run c) (((extends_twice now new later from1 e).runs run cycles r).valuations c (omega arith)))))
-          m (λ run cycles r. takes run cycles (e.runs run cycles r)));
-      extends = extends_twice old now new h.extends from1;
-      most = (let before = h.most in let few = fills.most in let more = chooses.most in let none = sets.most in omega arith);
-      drivers = sets.drivers ∙ chooses.grows.drivers ∙ fills.grows.drivers ∙ h.drivers;
-      memories = sets.memories ∙ chooses.grows.memories ∙ fills.grows.memories ∙ h.memories;
+      in_row = row_here now new from others more (λ n o w. still n (λ i. place_apart now from h.in_row.start place others h.in_row.is_row n i o) (adds.grows.waits n w)) (record { start = _; is_row = h.in_row.is_row.1 });
+      into_is = net_lasts a new behind 1 sets.extends bit;
+      moves = λ later e m. h.moves later (extends_twice now new later more e)
+          (row_moves later place from others into behind comes shift
+          (λ run cycles r c lt. value (cycle_of run c) (((extends_twice a new later sets.extends e).runs run cycles r).valuations c (omega arith)))
+          (λ run cycles r. moves run cycles (e.runs run cycles r)) m);
+      extends = extends_twice old now new h.extends more;
+      most = (let before = h.most in let few = adds.most in let fewer = sets.most in omega arith);
+      drivers = sets.drivers ∙ adds.grows.drivers ∙ h.drivers;
+      memories = sets.memories ∙ adds.grows.memories ∙ h.memories;
       within = λ n o. h.within n (inr o);
-      waits = λ n out w. still n (λ i. out (h.within n (inl i))) (chooses.grows.waits n (fills.grows.waits n (h.waits n out w)));
+      waits = λ n out w. still n (λ i. out (h.within n (inl i))) (adds.grows.waits n (h.waits n out w));
       no_more_wait = λ n w.
           (let late = set n w in
-          let before = h.no_more_wait n (fills.grows.no_more_wait n (chooses.grows.no_more_wait n late.0)) in
+          let before = h.no_more_wait n (adds.grows.no_more_wait n late.0) in
           (before.0, λ o. elim (before.1 o) [ inl i ↦ absurd (late.1 i) | inr p ↦ p ]));
     }

@@ -1,6 +1,6 @@
 //! Bits of a row of places: whether there is room, whether an item comes, and whether one goes.
 
-ghost use Rattle.std.specs.Prelude.{◌≡◌, ◌+◌, ◌^◌, ◌<◌, ◌&&◌, ◌||◌, ◌==◌, length, IfOk};
+ghost use Rattle.std.specs.Prelude.{◌≡◌, ◌+◌, ◌^◌, ◌<◌, not, ◌&&◌, ◌||◌, ◌==◌, length, IfOk};
 ghost use Rattle.netlist.specs.Runs.{Always};
 ghost use Rattle.net_parts.specs.Nets.{IsBit};
 ghost use Rattle.net_parts.specs.Growth.{AddsNets};
@@ -51,4 +51,18 @@ pub fn gives_item(
 {
     let some = builder.or(first, shown)?;
     builder.and(some, ready)
+}
+
+/// Whether there is room for an item: none is held, or the one that is held goes.
+#[tactic(auto, using(crate::specs::Laws::growing))]
+pub fn has_room(builder: &mut Builder, held: Net, goes: Net) -> Result<Net, NetFault>
+    requires held { IsBit builder.old held }
+    requires goes { IsBit builder.old goes }
+    ensures net { IfOk result (λ room. IsBit builder.new room) }
+    ensures value { IfOk result (λ room. Always builder.new (λ cycle. (cycle.net room.number == 1) ≡ (not (cycle.net held.number == 1) || (cycle.net goes.number == 1)))) }
+    ensures adds { AddsNets 2 builder.old builder.new }
+    ensures full { result ≡ Err NetFault.TooManyNets → 2 ^ 20 < length builder.old.lines + 2 }
+{
+    let empty = builder.not(held)?;
+    builder.or(empty, goes)
 }

@@ -1,16 +1,15 @@
 //! Makers of all nets of a place at once: the bit that it is full, and the item in it.
 
-ghost use Rattle.std.specs.Prelude.{◌≡◌, ℕ, ◌+◌, ◌^◌, ◌<◌, ◌==◌, false, length, IfOk};
+ghost use Rattle.std.specs.Prelude.{◌≡◌, ℕ, ◌+◌, ◌^◌, ◌<◌, length, IfOk, OnOk};
 ghost use Rattle.netlist.specs.Netlists.{IsWaiting};
 ghost use Rattle.netlist.specs.Runs.{Always};
 ghost use Rattle.net_parts.specs.Nets.{IsBit};
 ghost use Rattle.net_parts.specs.Growth.{GrowsBy, AddsNets, StillWait, WaitsBeside, WaitsWithout};
-ghost use Rattle.net_parts.specs.Groups.{values_of, AreNumberedFrom, InGroup, StartAllLow, TakeAllNext, ChooseAll};
-ghost use Rattle.net_parts.specs.Places.{filled};
-ghost use Rattle.net_parts.specs.PlaceRows.{nets_of, ArePlaceNets, HaveSameWidths, place_in, WaitsForNext, IsPlace};
+ghost use Rattle.net_parts.specs.Groups.{AreNumberedFrom, InGroup, StartAllLow, TakeAllNext, LoadsAll, ChooseAll};
+ghost use Rattle.net_parts.specs.PlaceRows.{nets_of, ArePlaceNets, HaveSameWidths, WaitsForNext, IsPlace};
 
 use crate::groups::{choose_all, low_registers, set_all_next};
-use crate::makers::{choose, level, low_register};
+use crate::makers::{choose, low_register};
 use netlist::{Builder, Net, NetFault};
 
 /// The nets of a place: the bit that it is full, and the item in it.
@@ -65,11 +64,7 @@ pub fn choose_place<const N: usize>(
 }
 
 /// Gives the registers of a place their next nets.
-pub fn set_next_place<const N: usize>(
-    builder: &mut Builder,
-    place: &PlaceNets<N>,
-    next: &PlaceNets<N>,
-)
+fn set_next_place<const N: usize>(builder: &mut Builder, place: &PlaceNets<N>, next: &PlaceNets<N>)
     requires few { N < 2 ^ 32 }
     requires place { ArePlaceNets builder.old place.now }
     requires wait { WaitsForNext builder.old place.now }
@@ -85,47 +80,28 @@ pub fn set_next_place<const N: usize>(
     set_all_next(builder, &place.item, &next.item);
 }
 
-/// A place as it is once an item has come: full as it was, or else with the item that comes, if it comes here.
-pub(crate) fn fill_place<const N: usize>(
+/// Gives the registers of a place their next nets, which they take where `loads` is high; else they keep what they hold. This
+/// choice stands outermost, so that a tool finds the enable of the load.
+pub fn load_place<const N: usize>(
     builder: &mut Builder,
     place: &PlaceNets<N>,
-    here: Net,
-    from: &PlaceNets<N>,
-) -> Result<PlaceNets<N>, NetFault>
+    loads: Net,
+    next: &PlaceNets<N>,
+) -> Result<(), NetFault>
     requires few { N < 2 ^ 32 }
     requires place { ArePlaceNets builder.old place.now }
-    requires here { IsBit builder.old here }
-    requires from { ArePlaceNets builder.old from.now }
-    requires widths { HaveSameWidths place.now from.now }
-    ensures place { IfOk result (λ made. ArePlaceNets builder.new made) }
-    ensures widths { IfOk result (λ made. HaveSameWidths made from.now) }
-    ensures value { IfOk result (λ made. Always builder.new (λ cycle. place_in cycle made ≡ filled (cycle.net here.number == 1) (values_of cycle from.now.item) (place_in cycle place.now))) }
-    ensures adds { AddsNets (N + 1) builder.old builder.new }
+    requires wait { WaitsForNext builder.old place.now }
+    requires numbers { AreNumberedFrom place.now.full.number (nets_of place.now) }
+    requires loads { IsBit builder.old loads }
+    requires next { ArePlaceNets builder.old next.now }
+    requires widths { HaveSameWidths next.now place.now }
+    ensures value { OnOk result (LoadsAll builder.new loads (nets_of place.now) (nets_of next.now)) }
+    ensures grows { GrowsBy (N + 1) builder.old builder.new }
+    ensures still_wait { (n : ℕ) → ¬ InGroup (nets_of place.now) n → IsWaiting builder.old n → IsWaiting builder.new n }
+    ensures no_more_wait { OnOk result (WaitsWithout (InGroup (nets_of place.now)) builder.old builder.new) }
     ensures full { result ≡ Err NetFault.TooManyNets → 2 ^ 20 < length builder.old.lines + (N + 1) }
 {
-    let coming = PlaceNets {
-        full: here,
-        item: from.item,
-    };
-    choose_place(builder, place.full, place, &coming)
-}
-
-/// What stands behind the last place: no item.
-#[tactic(auto, using(crate::specs::Laws::growing))]
-pub(crate) fn end_place<const N: usize>(
-    builder: &mut Builder,
-    from: &PlaceNets<N>,
-) -> Result<PlaceNets<N>, NetFault>
-    requires { ArePlaceNets builder.old from.now }
-    ensures place { IfOk result (λ made. ArePlaceNets builder.new made) }
-    ensures widths { IfOk result (λ made. HaveSameWidths made from.now) }
-    ensures value { IfOk result (λ made. Always builder.new (λ cycle. (place_in cycle made).full ≡ false)) }
-    ensures adds { AddsNets 1 builder.old builder.new }
-    ensures full { result ≡ Err NetFault.TooManyNets → 2 ^ 20 < length builder.old.lines + 1 }
-{
-    let full = level(builder, false)?;
-    Ok(PlaceNets {
-        full,
-        item: from.item,
-    })
+    let taken = choose_place(builder, loads, next, place)?;
+    set_next_place(builder, place, &taken);
+    Ok(())
 }

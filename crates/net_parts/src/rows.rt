@@ -5,79 +5,137 @@ ghost use Rattle.netlist.specs.Netlists.{IsWaiting};
 ghost use Rattle.netlist.specs.Runs.{Always};
 ghost use Rattle.net_parts.specs.Nets.{IsBit};
 ghost use Rattle.net_parts.specs.Growth.{GrowsBy, AddsNets, StillWait, WaitsBeside, WaitsWithout, AreMadeBetween};
-ghost use Rattle.net_parts.specs.Groups.{values_of};
-ghost use Rattle.net_parts.specs.PlaceRows.{nets_of, ArePlaceNets, HaveSameWidths, place_in, row_in, AreInRow, InRow, StartsAllEmpty, RowMoves, StepsRow, filled_behind, shown_first, last_full};
+ghost use Rattle.net_parts.specs.Groups.{values_of, InGroup};
+ghost use Rattle.net_parts.specs.Places.{comes_into, taken_place};
+ghost use Rattle.net_parts.specs.PlaceRows.{nets_of, ArePlaceNets, HaveSameWidths, place_in, row_in, IsPlace, AreInRow, InRow, StartsAllEmpty, PlaceMoves, RowMoves, StepsRow, shown_first, last_full};
 
-use crate::bits::gives_item;
-use crate::places::{PlaceNets, choose_place, end_place, fill_place, low_place, set_next_place};
+use crate::bits::{gives_item, has_room};
+use crate::makers::{choose, level};
+use crate::places::{PlaceNets, choose_place, load_place, low_place};
 use netlist::{Builder, Net, NetFault};
 use std::alloc::Global;
 
-/// What stands behind a place: the first of the rest as it is once an item has come, or what ends the row.
+/// Whether an item comes into the first of the rest, if that is empty: one comes, and the place before it is full. Where nothing
+/// is left, the net that ends the row.
 #[tactic(auto, using(crate::specs::Laws::growing))]
-fn fill_next<const N: usize>(
+fn comes_behind<const N: usize>(
     builder: &mut Builder,
     rest: &[PlaceNets<N>],
-    before: Net,
+    full: Net,
+    comes: Net,
+    end: Net,
+) -> Result<Net, NetFault>
+    requires full { IsBit builder.old full }
+    requires comes { IsBit builder.old comes }
+    requires end { IsBit builder.old end }
+    requires low { Always builder.old (λ cycle. cycle.net end.number ≡ 0) }
+    ensures net { IfOk result (λ behind. IsBit builder.new behind) }
+    ensures value { IfOk result (λ behind. Always builder.new (λ cycle. (cycle.net behind.number == 1) ≡ comes_into (row_in cycle rest.now) ((cycle.net comes.number == 1) && (cycle.net full.number == 1)))) }
+    ensures adds { AddsNets 1 builder.old builder.new }
+    ensures full { result ≡ Err NetFault.TooManyNets → 2 ^ 20 < length builder.old.lines + 1 }
+{
+    match rest.split_first() {
+        None => Ok(end),
+        Some(_) => builder.and(comes, full),
+    }
+}
+
+/// What a place takes: on a shift the item behind it, where one is there, and else the one that comes.
+#[tactic(auto, using(crate::specs::Laws::growing))]
+fn choose_behind<const N: usize>(
+    builder: &mut Builder,
+    rest: &[PlaceNets<N>],
+    shift: Net,
     comes: Net,
     from: &PlaceNets<N>,
-    end: &PlaceNets<N>,
 ) -> Result<PlaceNets<N>, NetFault>
     requires few { N < 2 ^ 32 }
     requires rest { AreInRow builder.old from.now rest.now }
-    requires before { IsBit builder.old before }
+    requires shift { IsBit builder.old shift }
     requires comes { IsBit builder.old comes }
     requires from { ArePlaceNets builder.old from.now }
-    requires end { ArePlaceNets builder.old end.now }
-    requires widths { HaveSameWidths end.now from.now }
     ensures place { IfOk result (λ made. ArePlaceNets builder.new made) }
     ensures widths { IfOk result (λ made. HaveSameWidths made from.now) }
-    ensures value { IfOk result (λ made. Always builder.new (λ cycle. place_in cycle made ≡ filled_behind cycle before comes from.now rest.now end.now)) }
+    ensures value { IfOk result (λ made. Always builder.new (λ cycle. place_in cycle made ≡ taken_place (cycle.net shift.number == 1) (cycle.net comes.number == 1) (values_of cycle from.now.item) (row_in cycle rest.now))) }
     ensures adds { AddsNets (N + 2) builder.old builder.new }
     ensures full { result ≡ Err NetFault.TooManyNets → 2 ^ 20 < length builder.old.lines + (N + 2) }
 {
+    let coming = PlaceNets {
+        full: comes,
+        item: from.item,
+    };
     match rest.split_first() {
-        None => Ok(*end),
-        Some((place, _)) => {
-            let here = builder.and(comes, before)?;
-            fill_place(builder, place, here, from)
+        None => Ok(coming),
+        Some((behind, _)) => {
+            let there = builder.and(shift, behind.full)?;
+            choose_place(builder, there, behind, &coming)
         }
     }
 }
 
-/// Gives the places their next nets, from the oldest on. `first` is the first of them as it is once an item has come.
+/// Gives a place its next nets: it loads where it is empty or the row shifts. `here` says whether an item comes into it, if it
+/// stays where it is, and `behind` whether one comes into the next place, which the shift brings here.
+#[tactic(auto, using(crate::specs::Laws::growing))]
+fn set_place<const N: usize>(
+    builder: &mut Builder,
+    place: &PlaceNets<N>,
+    rest: &[PlaceNets<N>],
+    here: Net,
+    behind: Net,
+    shift: Net,
+    from: &PlaceNets<N>,
+) -> Result<(), NetFault>
+    requires few { N < 2 ^ 32 }
+    requires place { IsPlace builder.old from.now place.now place.now.full.number }
+    requires rest { AreInRow builder.old from.now rest.now }
+    requires here { IsBit builder.old here }
+    requires behind { IsBit builder.old behind }
+    requires shift { IsBit builder.old shift }
+    requires from { ArePlaceNets builder.old from.now }
+    ensures moves { OnOk result (PlaceMoves builder.new place.now rest.now here behind shift from.now) }
+    ensures grows { GrowsBy (2 * N + 6) builder.old builder.new }
+    ensures waits { (n : ℕ) → ¬ InGroup (nets_of place.now) n → IsWaiting builder.old n → IsWaiting builder.new n }
+    ensures no_more_wait { OnOk result (WaitsWithout (InGroup (nets_of place.now)) builder.old builder.new) }
+    ensures full { result ≡ Err NetFault.TooManyNets → 2 ^ 20 < length builder.old.lines + (2 * N + 6) }
+{
+    let comes = choose(builder, shift, behind, here)?;
+    let next = choose_behind(builder, rest, shift, comes, from)?;
+    let loads = has_room(builder, place.full, shift)?;
+    load_place(builder, place, loads, &next)
+}
+
+/// Gives the places their next nets, from the oldest on. `here` says whether an item comes into the first of them, if that is
+/// empty, and `end` is low.
 #[tactic(auto, using(crate::specs::Laws::growing))]
 fn set_row<const N: usize>(
     builder: &mut Builder,
     row: &[PlaceNets<N>],
-    first: &PlaceNets<N>,
+    here: Net,
     comes: Net,
     shift: Net,
     from: &PlaceNets<N>,
-    end: &PlaceNets<N>,
+    end: Net,
 ) -> Result<(), NetFault>
     requires few { N < 2 ^ 32 }
     requires row { AreInRow builder.old from.now row.now }
-    requires first { ArePlaceNets builder.old first.now }
-    requires first_widths { HaveSameWidths first.now from.now }
+    requires here { IsBit builder.old here }
     requires comes { IsBit builder.old comes }
     requires shift { IsBit builder.old shift }
     requires from { ArePlaceNets builder.old from.now }
-    requires end { ArePlaceNets builder.old end.now }
-    requires end_widths { HaveSameWidths end.now from.now }
-    ensures moves { OnOk result (RowMoves builder.new row.now first.now comes shift from.now end.now) }
-    ensures grows { GrowsBy ((2 * N + 3) * length row.now) builder.old builder.new }
+    requires end { IsBit builder.old end }
+    requires low { Always builder.old (λ cycle. cycle.net end.number ≡ 0) }
+    ensures moves { OnOk result (RowMoves builder.new row.now here comes shift from.now) }
+    ensures grows { GrowsBy ((2 * N + 7) * length row.now) builder.old builder.new }
     ensures waits { (n : ℕ) → ¬ InRow row.now n → IsWaiting builder.old n → IsWaiting builder.new n }
     ensures no_more_wait { OnOk result (WaitsWithout (InRow row.now) builder.old builder.new) }
-    ensures full { result ≡ Err NetFault.TooManyNets → 2 ^ 20 < length builder.old.lines + (2 * N + 3) * length row.now }
+    ensures full { result ≡ Err NetFault.TooManyNets → 2 ^ 20 < length builder.old.lines + (2 * N + 7) * length row.now }
 {
     let mut rest = row;
-    let mut filled = *first;
+    let mut into = here;
     while let Some((place, others)) = rest.split_first() {
-        let behind = fill_next(builder, others, place.full, comes, from, end)?;
-        let next = choose_place(builder, shift, &behind, &filled)?;
-        set_next_place(builder, place, &next);
-        filled = behind;
+        let behind = comes_behind(builder, others, place.full, comes, end)?;
+        set_place(builder, place, others, into, behind, shift, from)?;
+        into = behind;
         rest = others;
     }
     Ok(())
@@ -98,18 +156,17 @@ pub fn set_places<const N: usize>(
     requires comes { IsBit builder.old comes }
     requires ready { IsBit builder.old ready }
     ensures steps { OnOk result (StepsRow builder.new row.now from.now comes ready) }
-    ensures grows { GrowsBy (N + 4 + (2 * N + 3) * length row.now) builder.old builder.new }
+    ensures grows { GrowsBy (3 + (2 * N + 7) * length row.now) builder.old builder.new }
     ensures waits { (n : ℕ) → ¬ InRow row.now n → IsWaiting builder.old n → IsWaiting builder.new n }
     ensures no_more_wait { OnOk result (WaitsWithout (InRow row.now) builder.old builder.new) }
-    ensures full { result ≡ Err NetFault.TooManyNets → 2 ^ 20 < length builder.old.lines + (N + 4 + (2 * N + 3) * length row.now) }
+    ensures full { result ≡ Err NetFault.TooManyNets → 2 ^ 20 < length builder.old.lines + (3 + (2 * N + 7) * length row.now) }
 {
     match row.split_first() {
         None => Ok(()),
         Some((first, _)) => {
             let shift = gives_item(builder, first.full, from.full, ready)?;
-            let end = end_place(builder, from)?;
-            let filled = fill_place(builder, first, comes, from)?;
-            set_row(builder, row, &filled, comes, shift, from, &end)
+            let end = level(builder, false)?;
+            set_row(builder, row, comes, comes, shift, from, end)
         }
     }
 }

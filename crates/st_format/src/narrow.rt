@@ -16,7 +16,7 @@ use crate::counted::count_empty;
 use crate::sizes::Sizes;
 use net_parts::constant;
 use netlist::{Builder, Net, NetFault};
-use stage_core::makers::{mux_beat, reg_beat, set_next_beat};
+use stage_core::makers::{load_beat, mux_beat, reg_beat};
 use stage_core::{BeatNets, Stage};
 use stream_machines::machines::{narrow_is_a_stage, words_fit};
 
@@ -285,8 +285,7 @@ impl Stage for Narrow {
         let none_held = builder.not(held.valid)?;
         let up = builder.and(none_held, ready)?;
         let goes = builder.and(shown, ready)?;
-        let next = mux_beat(builder, goes, &kept.rest, held)?;
-        set_next_beat(builder, held, &next);
+        load_beat(builder, held, goes, &kept.rest)?;
         Ok(up)
     }
 

@@ -16,7 +16,7 @@ use crate::counted::widen_empty;
 use crate::sizes::Sizes;
 use net_parts::constant;
 use netlist::{Builder, Net, NetFault};
-use stage_core::makers::{mux_beat, reg_beat, set_next_beat};
+use stage_core::makers::{load_beat, mux_beat, reg_beat};
 use stage_core::{BeatNets, Stage};
 use stream_machines::machines::{widen_is_a_stage, words_fit};
 
@@ -303,8 +303,7 @@ impl Stage for Widen {
         let up = builder.or(not_full, ready)?;
         let comes = builder.and(coming, up)?;
         let gathered = mux_beat(builder, full, &kept.none, &kept.filled)?;
-        let next = mux_beat(builder, comes, &gathered, held)?;
-        set_next_beat(builder, held, &next);
+        load_beat(builder, held, comes, &gathered)?;
         Ok(up)
     }
 

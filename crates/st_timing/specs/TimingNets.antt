@@ -54,7 +54,7 @@ timing_forward_nets _ = 0
 
 abbrev pub timing_backward_nets : Timing → ℕ
 timing_backward_nets (Tie stage) = 1
-timing_backward_nets (Buffer stage) = 20 * stage.latency + 34
+timing_backward_nets (Buffer stage) = 24 * stage.latency + 31
 timing_backward_nets (Wire stage) = 0
 
 -- the numbers of a buffer's registers

@@ -80,7 +80,7 @@ impl Stage for ReadyBuffer {
 
     ghost forward_nets = { λ s. 7 * s.latency + 15 };
 
-    ghost backward_nets = { λ s. 20 * s.latency + 34 };
+    ghost backward_nets = { λ s. 24 * s.latency + 31 };
 
     ghost owns = { λ kept n. buffer_owns kept n };
 

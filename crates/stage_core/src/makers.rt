@@ -5,11 +5,11 @@ ghost use Rattle.netlist.specs.Netlists.{IsNet, IsWaiting};
 ghost use Rattle.netlist.specs.Runs.{Always};
 ghost use Rattle.net_parts.specs.Nets.{IsBit, IsNetOfWidth, StartsLow};
 ghost use Rattle.stage_core.specs.Beats.{AreBeatNets, HaveSameWidths};
-ghost use Rattle.stage_core.specs.Groups.{AreRegisters, IsOfBeat, StartsEmpty, TakeNextBeat, Chooses};
+ghost use Rattle.stage_core.specs.Groups.{AreRegisters, IsOfBeat, StartsEmpty, LoadsBeat, Chooses};
 ghost use Rattle.net_parts.specs.Growth.{GrowsBy, AddsNets, StillWait, WaitsBeside, WaitsWithout};
 
 use crate::beat::BeatNets;
-use net_parts::{choose_place, low_place, set_next_place};
+use net_parts::{choose_place, load_place, low_place};
 use netlist::{Builder, Net, NetFault};
 
 /// Registers of the widths of a beat's nets, that begin at 0.
@@ -50,16 +50,23 @@ pub fn mux_beat(
     Ok(BeatNets::of_place(made))
 }
 
-/// Gives the registers of a beat their next nets.
-pub fn set_next_beat(builder: &mut Builder, registers: &BeatNets, next: &BeatNets)
+/// Gives the registers of a beat their next nets, which they take where `loads` is high; else they keep what they hold.
+pub fn load_beat(
+    builder: &mut Builder,
+    registers: &BeatNets,
+    loads: Net,
+    next: &BeatNets,
+) -> Result<(), NetFault>
     requires registers { AreBeatNets builder.old registers.now }
     requires wait { AreRegisters builder.old registers.now registers.now.valid.number }
+    requires loads { IsBit builder.old loads }
     requires next { AreBeatNets builder.old next.now }
-    requires widths { HaveSameWidths registers.now next.now }
-    ensures value { TakeNextBeat builder.new registers.now next.now }
-    ensures grows { GrowsBy 0 builder.old builder.new }
+    requires widths { HaveSameWidths next.now registers.now }
+    ensures value { OnOk result (LoadsBeat builder.new registers.now loads next.now) }
+    ensures grows { GrowsBy 7 builder.old builder.new }
     ensures still_wait { (n : ℕ) → ¬ IsOfBeat registers.now n → IsWaiting builder.old n → IsWaiting builder.new n }
-    ensures no_more_wait { WaitsWithout (IsOfBeat registers.now) builder.old builder.new }
+    ensures no_more_wait { OnOk result (WaitsWithout (IsOfBeat registers.now) builder.old builder.new) }
+    ensures full { result ≡ Err NetFault.TooManyNets → 2 ^ 20 < length builder.old.lines + 7 }
 {
-    set_next_place(builder, &registers.place(), &next.place());
+    load_place(builder, &registers.place(), loads, &next.place())
 }

@@ -61,10 +61,10 @@ fn set_queue(
     requires ready { IsBit builder.old ready }
     ensures net { IfOk result (λ up. IsBit builder.new up) }
     ensures sets { IfOk result (λ up. SetsQueue builder.new from.now first.now rest.now ready up) }
-    ensures grows { GrowsBy (12 + 15 * length row.now) builder.old builder.new }
+    ensures grows { GrowsBy (5 + 19 * length row.now) builder.old builder.new }
     ensures waits { (n : ℕ) → ¬ InRow row.now n → IsWaiting builder.old n → IsWaiting builder.new n }
     ensures no_more_wait { OnOk result (WaitsWithout (InRow row.now) builder.old builder.new) }
-    ensures full { result ≡ Err NetFault.TooManyNets → 2 ^ 20 < length builder.old.lines + (12 + 15 * length row.now) }
+    ensures full { result ≡ Err NetFault.TooManyNets → 2 ^ 20 < length builder.old.lines + (5 + 19 * length row.now) }
 {
     let last = last_full(first, rest);
     let bits = queue_bits(builder, last, from.valid)?;
@@ -87,7 +87,7 @@ impl Stage for Fifo {
 
     ghost forward_nets = { λ s. 7 * s.depth + 7 };
 
-    ghost backward_nets = { λ s. 12 + 15 * s.depth };
+    ghost backward_nets = { λ s. 5 + 19 * s.depth };
 
     ghost owns = { λ kept n. InRow kept.places.items n };
 

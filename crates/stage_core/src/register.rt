@@ -1,16 +1,13 @@
 //! A register on the path of a stream. A beat that it takes is shown from the next cycle on; it takes one while it is empty
 //! or gives its own. Its state is one beat, which is its hold. Its law is that of `register_is_a_stage`.
 
-ghost use Rattle.std.specs.Prelude.{◌≡◌, ◌+◌, ◌^◌, ◌<◌, length, not, ◌||◌, ◌==◌, IfOk};
-ghost use Rattle.netlist.specs.Runs.{Always};
-ghost use Rattle.net_parts.specs.Nets.{IsBit};
 ghost use Rattle.stage_core.specs.Groups.{IsOfBeat};
-ghost use Rattle.net_parts.specs.Growth.{AddsNets};
 ghost use Rattle.stage_core.specs.RegisterNets.{IsBufferShape, RegisterKeeps, RegisterForward, RegisterBackward, keeps_lasts, forward_lasts, backward_lasts};
 
 use crate::beat::BeatNets;
-use crate::makers::{mux_beat, reg_beat, set_next_beat};
+use crate::makers::{load_beat, reg_beat};
 use crate::stage::Stage;
+use net_parts::has_room;
 use netlist::{Builder, Net, NetFault};
 use stream_machines::machines::register_is_a_stage;
 
@@ -23,20 +20,6 @@ pub struct PipeReg;
 pub struct RegisterKept {
     pub registers: BeatNets,
     pub from: BeatNets,
-}
-
-/// Whether there is room for a beat: none is held, or the one that is held goes.
-#[tactic(auto, using(net_parts::specs::Laws::growing))]
-fn has_room(builder: &mut Builder, held: Net, ready: Net) -> Result<Net, NetFault>
-    requires held { IsBit builder.old held }
-    requires ready { IsBit builder.old ready }
-    ensures net { IfOk result (λ room. IsBit builder.new room) }
-    ensures value { IfOk result (λ room. Always builder.new (λ cycle. (cycle.net room.number == 1) ≡ (not (cycle.net held.number == 1) || (cycle.net ready.number == 1)))) }
-    ensures adds { AddsNets 2 builder.old builder.new }
-    ensures full { result ≡ Err NetFault.TooManyNets → 2 ^ 20 < length builder.old.lines + 2 }
-{
-    let empty = builder.not(held)?;
-    builder.or(empty, ready)
 }
 
 impl Stage for PipeReg {
@@ -83,8 +66,7 @@ impl Stage for PipeReg {
     ) -> Result<Net, NetFault> {
         let registers = &kept.registers;
         let room = has_room(builder, registers.valid, ready)?;
-        let next = mux_beat(builder, room, &kept.from, registers)?;
-        set_next_beat(builder, registers, &next);
+        load_beat(builder, registers, room, &kept.from)?;
         Ok(room)
     }
 

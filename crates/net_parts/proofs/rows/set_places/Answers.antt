@@ -1,11 +1,12 @@
-use Rattle.std.proofs.Common.{◌+◌, List, false, refl, sym, subst, arith}
+use Rattle.std.proofs.Common.{◌+◌, List, refl, sym, subst, ap, ◌∙◌, arith}
 use Rattle.netlist.specs.Runs.{cycle_of}
 use Rattle.std.proofs.lemmas.List.{nil_from_length}
 use Rattle.net_parts.specs.declared.places.PlaceNets.{PlaceNets}
 use Rattle.net_parts.specs.Groups.{values_of}
 use Rattle.net_parts.specs.Growth.{WaitsWithout}
 use Rattle.net_parts.specs.Laws.{net_lasts, extends_twice, on_ok, adds_grow, grows_fewer, grows_twice}
-use Rattle.net_parts.specs.PlaceRows.{IsRow, InRow, RowMoves, StepsRow}
+use Rattle.net_parts.specs.Places.{no_place}
+use Rattle.net_parts.specs.PlaceRows.{IsRow, InRow, StepsRow, gives_item}
 use Rattle.net_parts.specs.RowLaws.{place_lasts, row_here, row_steps}
 use Rattle.net_parts.proofs.rows.set_places.Goals as goal
 
@@ -14,7 +15,7 @@ use Rattle.net_parts.proofs.rows.set_places.Goals as goal
 pub returns-in-None-clause-steps : goal.returns-in-None-clause-steps
 returns-in-None-clause-steps g c =
     subst (λ (row : List (PlaceNets g.row.N)). StepsRow c.args.builder.now row c.args.from.now c.args.comes c.args.ready) (sym (nil_from_length c.args.row.now c.in-None.ensures.cases))
-    (λ run cycles r n lt. record { end = record { full = false; item = values_of (cycle_of run n) c.args.from.now.item }; empty = refl; is = refl })
+    (λ run cycles r n lt. record { end = no_place (values_of (cycle_of run n) c.args.from.now.item); empty = refl; is = refl })
 
 pub returns-in-None-clause-no_more_wait : goal.returns-in-None-clause-no_more_wait
 returns-in-None-clause-no_more_wait g c n w = (w, λ o. subst (λ (row : List (PlaceNets g.row.N)). InRow row n) (nil_from_length c.args.row.now c.in-None.ensures.cases) o)
@@ -26,83 +27,54 @@ gives_item-requires-clause-first g c =
     let h = subst (λ (row : List (PlaceNets g.row.N)). IsRow c.args.builder.now c.args.from.now c.requires.row.start row) c.in-Some.ensures.cases.0 c.requires.row.is_row in
     h.0.nets_are.full
 
-pub end_place-requires : goal.end_place-requires
-end_place-requires g c = ((let few = c.requires.few in omega arith), place_lasts _ _ _ c.gives_item.ensures.adds.grows.extends c.requires.from)
-
-pub fill_place-requires : goal.fill_place-requires
-fill_place-requires g c =
-    let h = subst (λ (row : List (PlaceNets g.row.N)). IsRow c.args.builder.now c.args.from.now c.requires.row.start row) c.in-Some.ensures.cases.0 c.requires.row.is_row in
-    let more = extends_twice _ _ _ c.gives_item.ensures.adds.grows.extends c.end_place.ensures.adds.grows.extends in
-    ((let few = c.requires.few in omega arith), (c.requires.few, (place_lasts _ _ _ more h.0.nets_are, (net_lasts _ _ _ _ more c.requires.comes, (place_lasts _ _ _ more c.requires.from, h.0.widths)))))
-
 pub set_row-requires : goal.set_row-requires
 set_row-requires g c =
-    let later = extends_twice _ _ _ c.end_place.ensures.adds.grows.extends c.fill_place.ensures.adds.grows.extends in
-    let more = extends_twice _ _ _ c.gives_item.ensures.adds.grows.extends later in (
+    let later = c.level.ensures.adds.grows.extends in
+    let more = extends_twice _ _ _ c.gives_item.ensures.adds.grows.extends later in
+    let comes = net_lasts _ _ _ _ more c.requires.comes in (
       (let few = c.requires.few in omega arith),
       (
         c.requires.few,
         (
-          row_here _ _ _ _ more (λ n o w. c.fill_place.ensures.adds.grows.waits n (c.end_place.ensures.adds.grows.waits n (c.gives_item.ensures.adds.grows.waits n w))) c.requires.row,
-          (
-            c.in_ok-filled-in-Some.ensures.place,
-            (
-              c.in_ok-filled-in-Some.ensures.widths,
-              (
-                net_lasts _ _ _ _ more c.requires.comes,
-                (net_lasts _ _ _ _ later c.in_ok-shift-in-Some.ensures.net, (place_lasts _ _ _ more c.requires.from, (place_lasts _ _ _ c.fill_place.ensures.adds.grows.extends c.in_ok-end-in-Some.ensures.place, c.in_ok-end-in-Some.ensures.widths))),
-              ),
-            ),
-          ),
+          row_here _ _ _ _ more (λ n o w. c.level.ensures.adds.grows.waits n (c.gives_item.ensures.adds.grows.waits n w)) c.requires.row,
+          (comes, (comes, (net_lasts _ _ _ _ later c.in_ok-shift-in-Some.ensures.net, (place_lasts _ _ _ more c.requires.from, (c.in_ok-end-in-Some.ensures.net, c.in_ok-end-in-Some.ensures.value))))),
         ),
       ),
     )
 
-pub returns-in_ok-filled-in-Some-clause-waits : goal.returns-in_ok-filled-in-Some-clause-waits
-returns-in_ok-filled-in-Some-clause-waits g c n apart w = c.set_row.ensures.waits n apart (c.fill_place.ensures.adds.grows.waits n (c.end_place.ensures.adds.grows.waits n (c.gives_item.ensures.adds.grows.waits n w)))
+pub returns-in_ok-end-in-Some-clause-waits : goal.returns-in_ok-end-in-Some-clause-waits
+returns-in_ok-end-in-Some-clause-waits g c n apart w = c.set_row.ensures.waits n apart (c.level.ensures.adds.grows.waits n (c.gives_item.ensures.adds.grows.waits n w))
 
-pub returns-in_ok-filled-in-Some-clause-no_more_wait : goal.returns-in_ok-filled-in-Some-clause-no_more_wait
-returns-in_ok-filled-in-Some-clause-no_more_wait g c =
+pub returns-in_ok-end-in-Some-clause-no_more_wait : goal.returns-in_ok-end-in-Some-clause-no_more_wait
+returns-in_ok-end-in-Some-clause-no_more_wait g c =
     on_ok c.set_row.result _ (WaitsWithout (InRow c.args.row.now) c.args.builder.now c.set_row.new.builder)
     (λ out n w. (
     let set = out n w in
-    (c.gives_item.ensures.adds.grows.no_more_wait n (c.end_place.ensures.adds.grows.no_more_wait n (c.fill_place.ensures.adds.grows.no_more_wait n set.0)), set.1)))
+    (c.gives_item.ensures.adds.grows.no_more_wait n (c.level.ensures.adds.grows.no_more_wait n set.0), set.1)))
     c.set_row.ensures.no_more_wait
 
-pub returns-in_ok-filled-in-Some-clause-steps : goal.returns-in_ok-filled-in-Some-clause-steps
-returns-in_ok-filled-in-Some-clause-steps g c =
-    let from3 = c.set_row.ensures.grows.extends in
-    let from2 = extends_twice _ _ _ c.fill_place.ensures.adds.grows.extends from3 in
-    let from1 = extends_twice _ _ _ c.end_place.ensures.adds.grows.extends from2 in
+pub returns-in_ok-end-in-Some-clause-steps : goal.returns-in_ok-end-in-Some-clause-steps
+returns-in_ok-end-in-Some-clause-steps g c =
+    let from1 = extends_twice _ _ _ c.level.ensures.adds.grows.extends c.set_row.ensures.grows.extends in
     on_ok c.set_row.result _ (StepsRow c.set_row.new.builder c.args.row.now c.args.from.now c.args.comes c.args.ready)
-    (λ all. (
-    let moves = subst (λ (row : List (PlaceNets g.row.N)). RowMoves c.set_row.new.builder row c.in_ok-filled-in-Some.filled c.args.comes c.in_ok-shift-in-Some.shift c.args.from.now c.in_ok-end-in-Some.end) c.in-Some.ensures.cases.0 all in
-    subst (λ (row : List (PlaceNets g.row.N)). StepsRow c.set_row.new.builder row c.args.from.now c.args.comes c.args.ready) (sym c.in-Some.ensures.cases.0)
-    (λ run cycles r n lt.
-    row_steps (cycle_of run n) (cycle_of run (n + 1)) c.args.from.now c.in-Some.first.now c.in_ok-filled-in-Some.filled c.in_ok-end-in-Some.end _ c.args.ready c.args.comes c.in_ok-shift-in-Some.shift
-    (c.in_ok-shift-in-Some.ensures.value (cycle_of run n) ((from1.runs run cycles r).valuations n (omega arith)))
-    (c.in_ok-end-in-Some.ensures.value (cycle_of run n) ((from2.runs run cycles r).valuations n (omega arith)))
-    (c.in_ok-filled-in-Some.ensures.value (cycle_of run n) ((from3.runs run cycles r).valuations n (omega arith)))
-    (moves run cycles r n lt))))
+    (λ moves run cycles r n lt.
+    row_steps (cycle_of run n) (cycle_of run (n + 1)) c.args.from.now c.args.row.now c.args.ready c.args.comes c.in_ok-shift-in-Some.shift
+    (c.in_ok-shift-in-Some.ensures.value (cycle_of run n) ((from1.runs run cycles r).valuations n (omega arith))
+    ∙ sym (ap (λ (row : List (PlaceNets g.row.N)). gives_item (cycle_of run n) row c.args.from.now c.args.ready) c.in-Some.ensures.cases.0))
+    (moves run cycles r n lt))
     c.set_row.ensures.moves
 
 pub returns-in_err-shift-in-Some-clause-grows : goal.returns-in_err-shift-in-Some-clause-grows
 returns-in_err-shift-in-Some-clause-grows g c = grows_fewer _ _ _ _ (omega arith) (adds_grow _ _ _ c.gives_item.ensures.adds)
 
 pub returns-in_err-end-in-Some-clause-grows : goal.returns-in_err-end-in-Some-clause-grows
-returns-in_err-end-in-Some-clause-grows g c = grows_fewer _ _ _ _ (omega arith) (grows_twice _ _ _ _ _ (adds_grow _ _ _ c.gives_item.ensures.adds) (adds_grow _ _ _ c.end_place.ensures.adds))
+returns-in_err-end-in-Some-clause-grows g c = grows_fewer _ _ _ _ (omega arith) (grows_twice _ _ _ _ _ (adds_grow _ _ _ c.gives_item.ensures.adds) (adds_grow _ _ _ c.level.ensures.adds))
 
-pub returns-in_err-filled-in-Some-clause-grows : goal.returns-in_err-filled-in-Some-clause-grows
-returns-in_err-filled-in-Some-clause-grows g c = grows_fewer _ _ _ _ (omega arith) (grows_twice _ _ _ _ _ (grows_twice _ _ _ _ _ (adds_grow _ _ _ c.gives_item.ensures.adds) (adds_grow _ _ _ c.end_place.ensures.adds)) (adds_grow _ _ _ c.fill_place.ensures.adds))
-
-pub returns-in_ok-filled-in-Some-clause-grows : goal.returns-in_ok-filled-in-Some-clause-grows
-returns-in_ok-filled-in-Some-clause-grows g c = grows_fewer _ _ _ _ (omega arith) (grows_twice _ _ _ _ _ (grows_twice _ _ _ _ _ (grows_twice _ _ _ _ _ (adds_grow _ _ _ c.gives_item.ensures.adds) (adds_grow _ _ _ c.end_place.ensures.adds)) (adds_grow _ _ _ c.fill_place.ensures.adds)) c.set_row.ensures.grows)
+pub returns-in_ok-end-in-Some-clause-grows : goal.returns-in_ok-end-in-Some-clause-grows
+returns-in_ok-end-in-Some-clause-grows g c = grows_fewer _ _ _ _ (omega arith) (grows_twice _ _ _ _ _ (grows_twice _ _ _ _ _ (adds_grow _ _ _ c.gives_item.ensures.adds) (adds_grow _ _ _ c.level.ensures.adds)) c.set_row.ensures.grows)
 
 pub returns-in_err-shift-in-Some-clause-waits : goal.returns-in_err-shift-in-Some-clause-waits
 returns-in_err-shift-in-Some-clause-waits g c n apart w = c.gives_item.ensures.adds.grows.waits n w
 
 pub returns-in_err-end-in-Some-clause-waits : goal.returns-in_err-end-in-Some-clause-waits
-returns-in_err-end-in-Some-clause-waits g c n apart w = c.end_place.ensures.adds.grows.waits n (c.gives_item.ensures.adds.grows.waits n w)
-
-pub returns-in_err-filled-in-Some-clause-waits : goal.returns-in_err-filled-in-Some-clause-waits
-returns-in_err-filled-in-Some-clause-waits g c n apart w = c.fill_place.ensures.adds.grows.waits n (c.end_place.ensures.adds.grows.waits n (c.gives_item.ensures.adds.grows.waits n w))
+returns-in_err-end-in-Some-clause-waits g c n apart w = c.level.ensures.adds.grows.waits n (c.gives_item.ensures.adds.grows.waits n w)

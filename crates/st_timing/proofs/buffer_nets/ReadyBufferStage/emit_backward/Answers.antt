@@ -88,7 +88,7 @@ returns-in_err-set_places-clause-grows c =
     let here : take (c.from.result + 1) c.args.kept.places ≡ row_of c.args.kept = ap (λ n. take (n + 1) c.args.kept.places) c.from.ensures in
     let long = ap length here ∙ c.requires.kept.count in
     let same = c.requires.kept.latency_is in
-    let set = subst (λ n. GrowsBy (10 + 15 * n) c.transfers.new.builder c.set_places.new.builder) long c.set_places.ensures.grows in
+    let set = subst (λ n. GrowsBy (3 + 19 * n) c.transfers.new.builder c.set_places.new.builder) long c.set_places.ensures.grows in
     grows_fewer _ _ _ _ (omega (arith, same)) (grows_twice _ _ _ _ _ (grows_twice _ _ _ _ _ (adds_grow _ _ _ c.has_room.ensures.adds) (adds_grow _ _ _ c.transfers.ensures.adds)) set)
 
 pub returns-in_err-set_history-clause-grows : goal.returns-in_err-set_history-clause-grows
@@ -96,7 +96,7 @@ returns-in_err-set_history-clause-grows c =
     let here : take (c.from.result + 1) c.args.kept.places ≡ row_of c.args.kept = ap (λ n. take (n + 1) c.args.kept.places) c.from.ensures in
     let long = ap length here ∙ c.requires.kept.count in
     let same = c.requires.kept.latency_is in
-    let set = subst (λ n. GrowsBy (10 + 15 * n) c.transfers.new.builder c.set_places.new.builder) long c.set_places.ensures.grows in
+    let set = subst (λ n. GrowsBy (3 + 19 * n) c.transfers.new.builder c.set_places.new.builder) long c.set_places.ensures.grows in
     grows_fewer _ _ _ _ (omega (arith, same)) (grows_twice _ _ _ _ _ (grows_twice _ _ _ _ _ (grows_twice _ _ _ _ _ (adds_grow _ _ _ c.has_room.ensures.adds) (adds_grow _ _ _ c.transfers.ensures.adds)) set) c.set_history.ensures.grows)
 
 pub returns-clause-grows : goal.returns-clause-grows
@@ -104,7 +104,7 @@ returns-clause-grows c =
     let here : take (c.from.result + 1) c.args.kept.places ≡ row_of c.args.kept = ap (λ n. take (n + 1) c.args.kept.places) c.from.ensures in
     let long = ap length here ∙ c.requires.kept.count in
     let same = c.requires.kept.latency_is in
-    let set = subst (λ n. GrowsBy (10 + 15 * n) c.transfers.new.builder c.set_places.new.builder) long c.set_places.ensures.grows in
+    let set = subst (λ n. GrowsBy (3 + 19 * n) c.transfers.new.builder c.set_places.new.builder) long c.set_places.ensures.grows in
     grows_fewer _ _ _ _ (omega (arith, same)) (grows_twice _ _ _ _ _ (grows_twice _ _ _ _ _ (grows_twice _ _ _ _ _ (adds_grow _ _ _ c.has_room.ensures.adds) (adds_grow _ _ _ c.transfers.ensures.adds)) set) c.set_history.ensures.grows)
 
 pub returns-in_err-up-clause-full : goal.returns-in_err-up-clause-full
@@ -120,7 +120,7 @@ returns-in_err-set_places-clause-full c e =
     let same = c.requires.kept.latency_is in
     let most = c.has_room.ensures.adds.most in
     let more = c.transfers.ensures.adds.most in
-    let full = subst (λ n. 2 ^ 20 < length c.transfers.new.builder.lines + (10 + 15 * n)) long (c.set_places.ensures.full (handed_on _ _ _ _ c.in_err-set_places.was c.from_residual-in_err-set_places.ensures.1 e)) in
+    let full = subst (λ n. 2 ^ 20 < length c.transfers.new.builder.lines + (3 + 19 * n)) long (c.set_places.ensures.full (handed_on _ _ _ _ c.in_err-set_places.was c.from_residual-in_err-set_places.ensures.1 e)) in
     omega (arith, same, most, more, full)
 
 pub returns-in_err-set_history-clause-full : goal.returns-in_err-set_history-clause-full
@@ -128,7 +128,7 @@ returns-in_err-set_history-clause-full c e =
     let here : take (c.from.result + 1) c.args.kept.places ≡ row_of c.args.kept = ap (λ n. take (n + 1) c.args.kept.places) c.from.ensures in
     let long = ap length here ∙ c.requires.kept.count in
     let same = c.requires.kept.latency_is in
-    let set = subst (λ n. GrowsBy (10 + 15 * n) c.transfers.new.builder c.set_places.new.builder) long c.set_places.ensures.grows in
+    let set = subst (λ n. GrowsBy (3 + 19 * n) c.transfers.new.builder c.set_places.new.builder) long c.set_places.ensures.grows in
     let most = c.has_room.ensures.adds.most in
     let more = c.transfers.ensures.adds.most in
     let rest = set.most in
