@@ -30,7 +30,7 @@ invariant_of-self c =
       c.self.invariant.2,
       settled,
       c.self.invariant.4,
-      omega (arith, c.take_next.auto.changes, c.as_mut_slice-2.ensures.value, c.self.invariant.5),
+      omega (arith, c.take_next.auto.changes, c.self.invariant.5),
     )
 
 pub returns-clause-steps : goal.returns-clause-steps
