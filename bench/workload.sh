@@ -5,10 +5,10 @@
 # and its scenario, the module, its text written and read back, and the run with what stands in for the components. Then `simulate` of some of
 # these systems for 20,000 cycles, on a scenario in which each host and each source does its statements a hundred times over; its seconds
 # are those of the whole call too, scripts and trace included.
-# Beside each are the seconds of `vvp` alone, which runs the inputs of that simulation, as judge_traces.py gives them, from a file: its components
-# cost it nothing, and what `iverilog` took before isn't counted (it stands in a column of its own). Both must count the same.
-# The hosts of a workload are done after some hundred cycles. Icarus Verilog works on what changes, and the program on each net in each cycle; so
-# the first table favours it, and the second is nearer to a busy system.
+# Beside each are the seconds of `vvp`, which runs the inputs of that simulation, as judge_traces.py gives them, from a file, so that its components
+# cost it nothing; and of `iverilog`, which compiles the text for it. `times` is how many times as long `vvp` alone took as our whole call, and `of all`
+# how many times as long both took. Both must count the same.
+# The hosts of a workload are done after some hundred cycles, so the second table is nearer to a busy system.
 # Not part of the gate.
 set -eu
 top=$(cd -- "$(dirname -- "$0")/.." && pwd)
@@ -20,13 +20,15 @@ for tool in iverilog vvp python3; do
 done
 export PYTHONDONTWRITEBYTECODE=1
 
-# The seconds of a command, whose output goes to a file.
+# The seconds of a command, whose output goes to a file: the least of five calls.
 seconds() {
-  local file=$1 from
+  local file=$1 from turn
   shift
-  from=$(date +%s.%N)
-  "$@" >"$file"
-  echo "$(date +%s.%N) $from" | awk '{ printf "%.3f", $1 - $2 }'
+  for turn in 1 2 3 4 5; do
+    from=$(date +%s.%N)
+    "$@" >"$file"
+    echo "$(date +%s.%N) $from" | awk '{ printf "%.4f\n", $1 - $2 }'
+  done | sort -n | head -1
 }
 
 # What a trace counts of commands that agents took and of words that hosts were given.
@@ -43,12 +45,12 @@ row() {
   theirs=$(seconds theirs vvp -n bench.vvp)
   cmp ours theirs
   echo "$number $(grep -cE '^  (wire|reg) \[[0-9]+:0\] n' text) $cycles $ours $theirs $compiled" |
-    awk '{ printf "%6d %6d %6d %10.2f %10.2f %10.2f %12d %12d\n", $1, $2, $3, $4, $5, $6, $3 / $4, $3 / $5 }'
+    awk '{ printf "%6d %6d %6d %8.4f %8.4f %8.4f %10d %10d %6.1f %6.1f\n", $1, $2, $3, $4, $5, $6, $3 / $4, $3 / $5, $5 / $4, ($5 + $6) / $4 }'
 }
 
 table() {
   echo "$1"
-  printf '%6s %6s %6s %10s %10s %10s %12s %12s\n' number nets cycles "ours s" "vvp s" "iverilog s" "ours /s" "vvp /s"
+  printf '%6s %6s %6s %8s %8s %8s %10s %10s %6s %6s\n' number nets cycles "ours s" "vvp s" iverilog "ours /s" "vvp /s" times "of all"
 }
 
 cd "$folder"

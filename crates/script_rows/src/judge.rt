@@ -1,4 +1,5 @@
 use crate::row::{Change, Mark, Row, files_of, words_of};
+use crate::texts::is_text_of_simulation;
 use av_base::{Bytes, List, NoMemory};
 use av_files::{MemShelf, MemSink};
 use avalon_top::{Exit, run};
@@ -69,6 +70,28 @@ fn judge_any_byte(alloc: Global, row: &Row) -> Result<Verdict, NoMemory> {
     Ok(Verdict {
         written: format!(in alloc; "{count} texts")?,
         is_as_said,
+    })
+}
+
+/// Whether what a simulation runs on has the text that `generate` writes. The last file is the scenario.
+fn judge_same(alloc: Global, row: &Row) -> Result<Verdict, NoMemory> {
+    let mut sink = MemSink::new(alloc, ROOM, List::new(alloc))?;
+    let (exit, _) = answer_row(alloc, &row.generating(), None, &mut sink)?;
+    let (files, _) = files_of(alloc, row, None)?;
+    let is_same = match files.as_slice() {
+        [_, system @ .., scenario] => {
+            is_text_of_simulation(alloc, system, scenario.as_slice(), sink.bytes())?
+        }
+        _ => false,
+    };
+    let text = if is_same {
+        "the text of `generate`"
+    } else {
+        "another text"
+    };
+    Ok(Verdict {
+        written: String::from_str(alloc, text)?,
+        is_as_said: is_same && exit == Exit::Done,
     })
 }
 
@@ -148,6 +171,9 @@ fn verdict_on(
 pub fn judge(alloc: Global, row: &Row) -> Result<Verdict, NoMemory> {
     if row.title.starts_with("any byte ") {
         return judge_any_byte(alloc, row);
+    }
+    if row.title.starts_with("same text ") {
+        return judge_same(alloc, row);
     }
     let mut sink = MemSink::new(alloc, ROOM, failing_of(alloc, row.title)?)?;
     let (exit, mark) = answer_row(alloc, row, None, &mut sink)?;

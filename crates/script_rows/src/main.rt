@@ -1,9 +1,11 @@
 //! Reads rows of scripts, scenarios, texts and waves from the standard input, runs `check`, `generate`, `simulate` or `replay` over
-//! each row's files, and prints each answer beside what the row says of it.
+//! each row's files, and prints each answer beside what the row says of it. Of some rows it compares the text of what is simulated with that of
+//! `generate`.
 #![tactic(auto)]
 
 mod judge;
 mod row;
+mod texts;
 
 use judge::judge;
 use row::Row;

@@ -36,6 +36,17 @@ impl<'a> Row<'a> {
             files,
         }
     }
+
+    /// The same row under `generate`, without its last file.
+    pub fn generating(&self) -> Row<'a> {
+        let (files, _) = self.files.rsplit_once(":file").unwrap_or((self.files, ""));
+        Row {
+            title: self.title,
+            command: "generate",
+            parts: self.parts,
+            files,
+        }
+    }
 }
 
 /// Where a row's `@` stands.
