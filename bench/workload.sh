@@ -2,7 +2,7 @@
 # Cycles a second of the workload systems, beside Icarus Verilog on the same text and the same inputs: workload.sh [PROGRAM].
 #
 # First `workload N` for N from 0 to 23, of 2,000 cycles; its seconds are those of the whole call: the launcher's look at the sources, the system
-# and its scenario, the module, its text written and read back, and the run with what stands in for the components. Then `simulate` of some of
+# and its scenario, the module, its text written and read back, and the run with what stands in for the components. Then `simulate` of all
 # these systems for 20,000 cycles, on a scenario in which each host and each source does its statements a hundred times over; its seconds
 # are those of the whole call too, scripts and trace included.
 # Beside each are the seconds of `vvp`, which runs the inputs of that simulation, as judge_traces.py gives them, from a file, so that its components
@@ -13,7 +13,8 @@
 set -eu
 top=$(cd -- "$(dirname -- "$0")/.." && pwd)
 program=$(readlink -f -- "${1:-$top/avalon}")
-folder=$(mktemp -d)
+# in memory where there is a folder for it, since traces of many lines go there
+folder=$(mktemp -d -p "$([ -w /dev/shm ] && echo /dev/shm || echo "${TMPDIR:-/tmp}")")
 trap 'rm -rf "$folder"' EXIT
 for tool in iverilog vvp python3; do
   command -v "$tool" >/dev/null || { echo "$tool isn't installed"; exit 1; }
@@ -25,10 +26,10 @@ seconds() {
   local file=$1 from turn
   shift
   for turn in 1 2 3 4 5; do
-    from=$(date +%s.%N)
+    from=$EPOCHREALTIME
     "$@" >"$file"
-    echo "$(date +%s.%N) $from" | awk '{ printf "%.4f\n", $1 - $2 }'
-  done | sort -n | head -1
+    echo "$EPOCHREALTIME $from"
+  done | awk '{ printf "%.4f\n", $1 - $2 }' | sort -n | head -1
 }
 
 # What a trace counts of commands that agents took and of words that hosts were given.
@@ -64,7 +65,7 @@ for number in $(seq 0 23); do
   row "$number" 2000 "$ours"
 done
 table "simulate, a longer scenario"
-for number in 0 7 12 23; do
+for number in $(seq 0 23); do
   "$top/bench/workload_scripts.py" "$number" . 100 20000
   "$program" generate $(cat files) >text
   ours=$(seconds trace "$program" simulate w.tcl scenario.txt $(tail -n +2 files))
