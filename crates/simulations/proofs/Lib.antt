@@ -16,3 +16,4 @@ mod Alike
 mod Answering
 mod Inputs
 mod OneRun
+mod Answered

@@ -18,7 +18,7 @@ use Rattle.simulations.specs.Sound.{AllFitPorts}
 abbrev WidthsStay : Type 0
 WidthsStay = (row : List Word) (levels : List Level) → AllFit row levels → widths_of (set_levels row levels) ≡ widths_of row
 
-abbrev SetInTwo : Type 0
+abbrev pub SetInTwo : Type 0
 SetInTwo = (row : List Word) (one other : List Level) → set_levels row (one ++ other) ≡ set_levels (set_levels row one) other
 
 pub wide_behind : (stay : WidthsStay) (row new : List Word) (levels : List Level) (widths : List ℕ) → AllFit row levels → new ≡ set_levels row levels → widths_of row ≡ widths → widths_of new ≡ widths
@@ -28,10 +28,10 @@ pub set_in_three : (two : SetInTwo) (row one other last : List Word) (a b c : Li
 set_in_three two row one other last a b c p q r =
     r ∙ ap (λ (x : List Word). set_levels x c) (q ∙ ap (λ (x : List Word). set_levels x b) p ∙ sym (two row a b)) ∙ sym (two row (a ++ b) c)
 
-abbrev FirstFits : Type 0
+abbrev pub FirstFits : Type 0
 FirstFits = (row : List Word) (one other : List Level) → AllFit row (one ++ other) → AllFit row one
 
-abbrev SecondFits : Type 0
+abbrev pub SecondFits : Type 0
 SecondFits = (row : List Word) (one other : List Level) → AllFit row (one ++ other) → AllFit (set_levels row one) other
 
 pub first_part_fits : (first : FirstFits) (row : List Word) (a b c : List Level) → AllFit row (a ++ b ++ c) → AllFit row a

@@ -68,25 +68,6 @@ fn show_parts(
     show_all(streams, row);
 }
 
-/// Sets in a row what all components show, now that the commands are known.
-fn answer_parts(
-    hosts: &[BenchHost],
-    agents: &[BenchAgent],
-    streams: &[BenchStream],
-    sim: &Sim,
-    row: &mut InputRow,
-)
-    requires stepped { sim.now.stepped ≡ true }
-    requires fits { (a : ℕ) (agent : BenchAgentValue) → slice_get agents.now a ≡ Some agent → of_agents.Fits agent sim.now }
-    requires room { AllFit row.old (flat_map of_hosts.sets hosts.now ++ flat_map (λ (agent : BenchAgentValue). of_agents.sets_answered agent sim.now) agents.now ++ flat_map of_streams.sets streams.now) }
-    ensures { row.new ≡ set_levels row.old (flat_map of_hosts.sets hosts.now ++ flat_map (λ (agent : BenchAgentValue). of_agents.sets_answered agent sim.now) agents.now ++ flat_map of_streams.sets streams.now) }
-{
-    levels_stand();
-    show_all(hosts, row);
-    answer_all(agents, sim, row);
-    show_all(streams, row);
-}
-
 impl<'a> Bench<'a> {
     /// The bench of a scenario, before the first cycle. All the memory of the simulation is taken here.
     pub(crate) fn new(
@@ -148,7 +129,8 @@ impl<'a> Bench<'a> {
         self.sim.step(self.row.as_slice());
     }
 
-    /// Evaluates it again, now that the commands are known, with the words of agents that answer in the cycle that asks.
+    /// Evaluates it again, now that the commands are known, with the words of agents that answer in the cycle that asks. What hosts and
+    /// streams show stands in the row.
     fn answer(&mut self)
         requires { IsAsked (value_of self.old) }
         ensures netlist { self.new.sim.netlist ≡ self.old.sim.netlist }
@@ -162,13 +144,7 @@ impl<'a> Bench<'a> {
         rows_are_shown();
         commands_ignore_words();
         cycles_are_evaluated();
-        answer_parts(
-            self.hosts.as_slice(),
-            self.agents.as_slice(),
-            self.streams.as_slice(),
-            &self.sim,
-            &mut self.row,
-        );
+        answer_all(self.agents.as_slice(), &self.sim, &mut self.row);
         self.sim.step(self.row.as_slice());
     }
 

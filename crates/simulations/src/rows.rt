@@ -7,7 +7,7 @@ ghost use Rattle.netlist.specs.Netlists.{Netlist};
 ghost use Rattle.netlist.specs.Runs.{Run};
 ghost use Rattle.cycle_sim.specs.Sims.{SimValue, input_widths, widths_of};
 ghost use Rattle.port_tables.specs.Ports.{ports_of};
-ghost use Rattle.port_rows.specs.Levels.{AllFit, AllStand, set_levels};
+ghost use Rattle.port_rows.specs.Levels.{AllFit, AllStand, AreApart, set_levels};
 ghost use Rattle.port_rows.specs.Rows.{IsGivenRow};
 ghost use Rattle.scenario_tables.specs.declared.scenario.Scenario.{Scenario};
 ghost use Rattle.bench_parts.specs.Present.{IsPresent};
@@ -23,12 +23,14 @@ use input_places::inputs_of_ends_are_apart;
 use link_rules::streams_are_numbered;
 use port_rows::levels_stand;
 
-/// What fits the ports of the components has room in a row of the module's inputs, and stands there once it is set.
+/// What fits the ports of the components has room in a row of the module's inputs, stands there once it is set, and is set at places of its own.
 pub(crate) fn levels_have_room()
     ensures all { (plan : PlanTable) (scenario : Scenario) (netlist : Netlist) (run : Run) (c : ℕ) (bench : BenchValue) (words : BenchAgentValue → ℕ) (row : List Bits) → IsSetUp plan scenario netlist
         → ComponentsStand plan scenario netlist run c bench → AllFitPorts bench words → widths_of row ≡ input_widths (ports_of plan.system) → AllFit row (all_levels bench words) }
     ensures stand { (plan : PlanTable) (scenario : Scenario) (netlist : Netlist) (run : Run) (c : ℕ) (bench : BenchValue) (words : BenchAgentValue → ℕ) (row : List Bits) → IsSetUp plan scenario netlist
         → ComponentsStand plan scenario netlist run c bench → AllFit row (all_levels bench words) → AllStand (set_levels row (all_levels bench words)) (all_levels bench words) }
+    ensures apart { (plan : PlanTable) (scenario : Scenario) (netlist : Netlist) (run : Run) (c : ℕ) (bench : BenchValue) (words : BenchAgentValue → ℕ) → IsSetUp plan scenario netlist
+        → ComponentsStand plan scenario netlist run c bench → AreApart (all_levels bench words) }
 {
     components_are_sound();
     hosts_take_part();

@@ -19,8 +19,8 @@ returns-clause-all c = λ plan scenario netlist run k bench words row set all fi
     let memory = all_fit_both row (flat_map of_hosts.sets bench.hosts) (flat_map (sets_with words) bench.agents) hosts agents in
     all_fit_both row (flat_map of_hosts.sets bench.hosts ++ flat_map (sets_with words) bench.agents) (flat_map of_streams.sets bench.streams) memory streams
 
-pub returns-clause-stand : goal.returns-clause-stand
-returns-clause-stand c = λ plan scenario netlist run k bench words row set all fits.
+pub returns-clause-apart : goal.returns-clause-apart
+returns-clause-apart c = λ plan scenario netlist run k bench words set all.
     let are : AreOf plan.system bench = record {
       host_count = all.host_count;
       agent_count = all.agent_count;
@@ -29,4 +29,7 @@ returns-clause-stand c = λ plan scenario netlist run k bench words row set all 
       agents = λ a agent at. (c.components_are_sound.ensures.agents plan scenario netlist run k bench set all a agent at).stands.of;
       streams = λ s stream at. (let sound = c.components_are_sound.ensures.streams plan scenario netlist run k bench set all s stream at in (sound.script, sound.stands.of));
     } in
-    c.levels_stand.ensures.stands row _ fits (all_apart plan.system bench words c.inputs_of_ends_are_apart.ensures (c.streams_are_numbered.ensures.links plan.system set.is_plan.system) set.known are)
+    all_apart plan.system bench words c.inputs_of_ends_are_apart.ensures (c.streams_are_numbered.ensures.links plan.system set.is_plan.system) set.known are
+
+pub returns-clause-stand : goal.returns-clause-stand
+returns-clause-stand c = λ plan scenario netlist run k bench words row set all fits. c.levels_stand.ensures.stands row _ fits (returns-clause-apart c plan scenario netlist run k bench words set all)
