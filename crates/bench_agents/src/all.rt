@@ -7,14 +7,12 @@ ghost use Rattle.iface_roles.specs.Proper.{IsBoundedAgent};
 ghost use Rattle.system_tables.specs.Tables.{IsEnd};
 ghost use Rattle.address_map.specs.Maps.{agents_of};
 ghost use Rattle.link_rules.specs.PlanLinks.{IsAgentEnd};
-ghost use Rattle.map_text.specs.Text.{end_name};
 ghost use Rattle.port_tables.specs.Ports.{ports_of};
 ghost use Rattle.port_tables.specs.PortMaps.{AreTold};
 ghost use Rattle.port_rows.specs.Levels.{AllFit, set_levels};
 ghost use Rattle.scenario_tables.specs.declared.statements.AgentStatement.{AgentStatement as Statement};
 ghost use Rattle.scenario_tables.specs.Scenarios.{IsAgentAt};
 ghost use Rattle.scenario_tables.specs.Statements.{IsAgentScript};
-ghost use Rattle.trace_lines.specs.Names.{name_of};
 ghost use Rattle.bench_agents.specs.Agents.{BenchAgentValue, AreFirstAgents, IsFirstAgent, sets_answered, gives_at_once, Fits};
 
 use crate::agent::BenchAgent;
@@ -56,18 +54,6 @@ fn agent_port(plan: &Plan, end: EndId) -> AgentPort
     port
 }
 
-/// The name of an end.
-fn end_name<'a>(plan: &'a Plan, end: EndId) -> EndName<'a>
-    requires { (known : Known) × IsEnd plan.now.system end known }
-    ensures { name_of result ≡ end_name plan.now.system end }
-{
-    plan.well_made();
-    EndName {
-        instance: plan.instance_name(end),
-        interface: plan.interface_name(end),
-    }
-}
-
 /// The agent of this number, before the first cycle of its script.
 fn agent_of_plan<'a>(
     alloc: Global,
@@ -94,7 +80,7 @@ fn agent_of_plan<'a>(
         Err(error) => return Err(error),
     };
     Ok(BenchAgent {
-        name: end_name(plan, end),
+        name: EndName::of(plan, end),
         places: AgentPlaces::of(plan, ports, header, end),
         ports: AgentPorts::of(plan, ports, end, number as u32),
         port,

@@ -1,5 +1,4 @@
 mod Widths
-mod HostNames
 mod HostEnds
 mod Gathering
 mod Taking

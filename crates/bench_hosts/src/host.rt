@@ -8,8 +8,6 @@ ghost use Rattle.iface_roles.specs.declared.records.Finished.TheVariants.{Host};
 ghost use Rattle.iface_roles.specs.Proper.{IsBoundedHost};
 ghost use Rattle.address_map.specs.Footprints.{known_at};
 ghost use Rattle.address_map.specs.Maps.{hosts_of};
-ghost use Rattle.link_rules.specs.Plans.{instance_name_at, interface_name_at};
-ghost use Rattle.map_text.specs.Text.{end_name};
 ghost use Rattle.port_tables.specs.Ports.{ports_of};
 ghost use Rattle.port_tables.specs.PortMaps.{AreTold};
 ghost use Rattle.scenario_tables.specs.declared.statements.HostStatement.{HostStatement as Statement};
@@ -75,30 +73,6 @@ fn host_port(plan: &Plan, end: EndId) -> HostPort
     }
 }
 
-/// The names at the end of a host have 64 bytes at most. The function does nothing; its contract is the law.
-fn names_are_short(plan: &Plan, end: EndId)
-    requires { (number : ℕ) × (slice_get (hosts_of plan.now.system) number ≡ Some end) }
-    ensures instance { length (instance_name_at plan.now.system end) ≤ 64 }
-    ensures interface { length (interface_name_at plan.now.system end) ≤ 64 }
-{
-    plan.well_made();
-    ends_are_known();
-}
-
-/// The name of a host of the plan.
-fn host_name(plan: &Plan, end: EndId) -> EndName
-    requires { (number : ℕ) × (slice_get (hosts_of plan.now.system) number ≡ Some end) }
-    ensures { name_of result ≡ end_name plan.now.system end }
-{
-    ends_are_known();
-    plan.well_made();
-    names_are_short(plan, end);
-    EndName {
-        instance: plan.instance_name(end),
-        interface: plan.interface_name(end),
-    }
-}
-
 /// The host at an end of the plan, before the first statement of its script.
 fn first_host<'a>(
     plan: &'a Plan,
@@ -113,9 +87,11 @@ fn first_host<'a>(
     requires script { (port : Port) → known_at plan.now.system end ≡ Host port → IsHostScript port script.now }
     ensures { (number : ℕ) → slice_get (hosts_of plan.now.system) number ≡ Some end → IsFirstHost plan.now.system number script.now result }
 {
+    ends_are_known();
+    plan.well_made();
     let port = host_port(plan, end);
     BenchHost {
-        name: host_name(plan, end),
+        name: EndName::of(plan, end),
         places: HostPlaces::of(plan, ports, header, end),
         ports: HostPorts::of(plan, ports, end),
         port,

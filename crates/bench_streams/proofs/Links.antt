@@ -1,41 +1,25 @@
 -- What holds of the links of a plan's streams.
-use Rattle.std.proofs.Common.{◌≡◌, ◌≤◌, ◌*◌, inl, inr, ℕ, List, [], ◌∷◌, ◌++◌, length, map, IsTrue, sym, subst, ap, arith}
-use Rattle.std.proofs.lemmas.Bool.{and_parts, or_parts, leb-true, ltb-false}
+use Rattle.std.proofs.Common.{◌≡◌, ◌≤◌, ◌*◌, inl, inr, ℕ, List, [], ◌∷◌, ◌++◌, length, map, sym, subst, ap, arith}
+use Rattle.std.proofs.lemmas.Bool.{or_parts, ltb-false}
 use Rattle.std.proofs.lemmas.List.{length-map}
 use Rattle.std.specs.List.{flat_map}
-use Rattle.iface_roles.specs.declared.records.Finished.{Finished}
 use Rattle.iface_roles.specs.declared.records.Finished.TheVariants.{Source, Sink}
 use Rattle.iface_roles.specs.declared.records.StreamPort.{StreamPort}
 use Rattle.iface_roles.specs.Proper.{IsProper, IsBoundedStream}
 use Rattle.iface_roles.specs.Records.{ready_latency}
 use Rattle.system_tables.specs.declared.tables.EndId.{EndId}
-use Rattle.system_tables.specs.Names.{is_name}
-use Rattle.system_tables.specs.Tables.{SystemTable, IsEnd, IsSystem}
+use Rattle.system_tables.specs.Tables.{SystemTable}
 use Rattle.address_map.specs.Maps.{hosts_of, agents_of}
 use Rattle.link_rules.specs.declared.plan_links.StreamLink.{StreamLink}
 use Rattle.link_rules.specs.Links.{streams_of}
 use Rattle.link_rules.specs.PlanLinks.{stream_links, IsStreamLink, KeepsStreamRules}
-use Rattle.link_rules.specs.Plans.{PlanTable, IsPlan, instance_name_at, interface_name_at}
+use Rattle.link_rules.specs.Plans.{PlanTable, IsPlan}
 use Rattle.port_tables.specs.EndFacts.{planned}
 use Rattle.port_tables.specs.Ends.{IsAnEnd}
 use Rattle.port_tables.specs.Lists.{Among, among_at, among_back, among_flat, at_among}
 use Rattle.port_tables.specs.Numbering.{ends_at}
 use Rattle.port_tables.specs.Ports.{connection_ends, ends_of}
 use Rattle.bench_streams.specs.Sound.{IsSoundLink}
-
--- ---- names
-
-name_short : (text : List ℕ) → IsTrue (is_name text) → length text ≤ 64
-unfolding is_name
-name_short text h = leb-true (length text) 64 (and_parts _ _ h).1
-
-pub instance_short : (system : SystemTable) (end : EndId) (known : Finished) → IsSystem system → IsEnd system end known → length (instance_name_at system end) ≤ 64
-instance_short system end known kept is = rw is.instance_is (name_short is.instance.name (kept.instances end.instance is.instance is.instance_is).name)
-
-pub interface_short : (system : SystemTable) (end : EndId) (known : Finished) → IsSystem system → IsEnd system end known → length (interface_name_at system end) ≤ 64
-interface_short system end known kept is =
-    let names = kept.instances end.instance is.instance is.instance_is in
-    rw (is.instance_is, is.interface_is) (name_short is.interface.name (names.interfaces end.interface is.interface is.interface_is))
 
 -- ---- how many there are
 

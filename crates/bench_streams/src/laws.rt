@@ -9,7 +9,7 @@ ghost use Rattle.system_tables.specs.declared.tables.EndId.{EndId};
 ghost use Rattle.system_tables.specs.Tables.{SystemTable, IsEnd, IsSystem};
 ghost use Rattle.link_rules.specs.declared.plan_links.StreamLink.{StreamLink};
 ghost use Rattle.link_rules.specs.PlanLinks.{stream_links};
-ghost use Rattle.link_rules.specs.Plans.{PlanTable, IsPlan, instance_name_at, interface_name_at};
+ghost use Rattle.link_rules.specs.Plans.{PlanTable, IsPlan};
 ghost use Rattle.netlist.specs.Netlists.{Netlist};
 ghost use Rattle.netlist.specs.Runs.{Run};
 ghost use Rattle.cycle_sim.specs.Sims.{SimValue, input_widths, widths_of};
@@ -41,12 +41,6 @@ use stream_ends::{
     sources_are_shown,
 };
 use stream_stand_ins::sources_keep_enough;
-
-/// The names of an end have room in the name that a trace tells.
-pub(crate) fn names_are_short()
-    ensures instance { (plan : PlanTable) (end : EndId) (known : Finished) → IsPlan plan → IsEnd plan.system end known → length (instance_name_at plan.system end) ≤ 64 }
-    ensures interface { (plan : PlanTable) (end : EndId) (known : Finished) → IsPlan plan → IsEnd plan.system end known → length (interface_name_at plan.system end) ≤ 64 }
-{}
 
 /// A plan has few streams.
 pub(crate) fn links_are_few()

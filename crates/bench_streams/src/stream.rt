@@ -5,11 +5,8 @@ ghost use Rattle.std.specs.Bool.{OnTrue, OnFalse};
 ghost use Rattle.av_base.specs.Word.{word};
 ghost use Rattle.av_files.specs.Outside.{Rose, with_more};
 ghost use Rattle.histories.specs.History.{only_if};
-ghost use Rattle.iface_roles.specs.declared.records.Finished.{Finished as Known};
-ghost use Rattle.system_tables.specs.Tables.{IsEnd};
 ghost use Rattle.link_rules.specs.declared.plan_links.StreamLink.{StreamLink as Link};
 ghost use Rattle.link_rules.specs.PlanLinks.{stream_links};
-ghost use Rattle.map_text.specs.Text.{end_name};
 ghost use Rattle.port_tables.specs.Ports.{ports_of};
 ghost use Rattle.port_tables.specs.PortMaps.{AreTold};
 ghost use Rattle.scenario_tables.specs.declared.statements.SourceStatement.{SourceStatement as Statement};
@@ -18,12 +15,11 @@ ghost use Rattle.scenario_tables.specs.Statements.{IsSinkScript, IsSourceScript}
 ghost use Rattle.stream_stand_ins.specs.Steps.{levels_of};
 ghost use Rattle.stream_stand_ins.specs.Sources.{no_beat, port_pace};
 ghost use Rattle.trace_lines.specs.Lines.{sent_line, got_line, dropped_line};
-ghost use Rattle.trace_lines.specs.Names.{name_of};
 ghost use Rattle.bench_parts.specs.Writing.{text_of, HoldsPart};
 ghost use Rattle.bench_streams.specs.Sound.{IsSoundEnd, line_if};
 ghost use Rattle.bench_streams.specs.Streams.{AreFirstStreams, Fits, IsFirstStream, beat_now, behind, counts, is_answered, is_dropped, is_got, is_ready, is_sent, sets, shown_by, tells, told_beat};
 
-use crate::laws::{links_are_few, links_are_sound, names_are_short, outputs_are_within};
+use crate::laws::{links_are_few, links_are_sound, outputs_are_within};
 use answer_lines::Line;
 use av_base::{NoMemory, Val};
 use av_files::{Sink, put_all};
@@ -85,19 +81,6 @@ impl<'a> Model for BenchStream<'a> {
     ghost invariant = { λ s. IsKept s.source s.sink s.stand_in s.script.now };
 }
 
-/// The name of an end of the plan.
-fn name_of_end(plan: &Plan, end: EndId) -> EndName
-    requires { (known : Known) × IsEnd plan.now.system end known }
-    ensures { name_of result ≡ end_name plan.now.system end }
-{
-    plan.well_made();
-    names_are_short();
-    EndName {
-        instance: plan.instance_name(end),
-        interface: plan.interface_name(end),
-    }
-}
-
 /// The stream of this number and link, before its first cycle.
 fn first_stream<'a>(
     plan: &'a Plan,
@@ -118,8 +101,8 @@ fn first_stream<'a>(
     plan.well_made();
     links_are_sound();
     BenchStream {
-        source_name: name_of_end(plan, link.source_end),
-        sink_name: name_of_end(plan, link.sink_end),
+        source_name: EndName::of(plan, link.source_end),
+        sink_name: EndName::of(plan, link.sink_end),
         source: link.source,
         sink: link.sink,
         places: SourcePlaces::of(plan, ports, header, link.source_end),

@@ -1,2 +1,3 @@
+mod EndNames
 pub mod CountLemmas
 pub mod ToldLemmas

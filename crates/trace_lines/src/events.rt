@@ -2,7 +2,10 @@
 
 ghost use Rattle.std.specs.Prelude.{◌≤◌, length};
 
+use crate::laws::names_are_short;
 use av_base::Val;
+use link_rules::Plan;
+use system_tables::EndId;
 
 /// The name of an interface: that of its instance, a dot, and its own. Each has 64 bytes at most.
 #[derive(Clone, Copy)]
@@ -11,6 +14,26 @@ pub struct EndName<'a> {
     pub interface: &'a str,
     ghost short_instance: { length instance.now ≤ 64 },
     ghost short_interface: { length interface.now ≤ 64 },
+}
+
+impl<'a> EndName<'a> {
+    ghost use Rattle.std.specs.Prelude.{◌≡◌};
+    ghost use Rattle.iface_roles.specs.declared.records.Finished.{Finished as Known};
+    ghost use Rattle.system_tables.specs.Tables.{IsEnd};
+    ghost use Rattle.map_text.specs.Text.{end_name};
+    ghost use Rattle.trace_lines.specs.Names.{name_of};
+
+    /// The name of an end of a plan.
+    pub fn of(plan: &'a Plan, end: EndId) -> EndName<'a>
+        requires { (known : Known) × IsEnd plan.now.system end known }
+        ensures { name_of result ≡ end_name plan.now.system end }
+    {
+        names_are_short(plan, end);
+        EndName {
+            instance: plan.instance_name(end),
+            interface: plan.interface_name(end),
+        }
+    }
 }
 
 /// A host is given a word.

@@ -1,8 +1,11 @@
-//! What holds of the counts of every run, and small runs with their lines. The functions do nothing; their contracts are the laws.
+//! What holds of the counts of every run and of names, and small runs with their lines. The functions do nothing; their contracts are the laws.
 
-ghost use Rattle.std.specs.Prelude.{◌≡◌, ℕ, suc, ◌*◌, ◌%◌, [], ◌∷◌, IsTrue, IsFalse, codes, false};
+ghost use Rattle.std.specs.Prelude.{◌≡◌, ◌≤◌, ℕ, suc, ◌*◌, ◌%◌, [], ◌∷◌, length, IsTrue, IsFalse, codes, false};
 ghost use Rattle.av_base.specs.Word.{word};
 ghost use Rattle.histories.specs.History.{is_raised};
+ghost use Rattle.iface_roles.specs.declared.records.Finished.{Finished as Known};
+ghost use Rattle.system_tables.specs.Tables.{IsEnd};
+ghost use Rattle.link_rules.specs.Plans.{instance_name_at, interface_name_at};
 ghost use Rattle.mm_runs.specs.Commands.{agent_accepts};
 ghost use Rattle.trace_lines.specs.Spelling.{short_hex};
 ghost use Rattle.trace_lines.specs.Lines.{write_line, read_line, sent_line, got_line, dropped_line};
@@ -10,6 +13,18 @@ ghost use Rattle.trace_lines.specs.Told.{AgentEnd, RunEnds, read_address, write_
 ghost use Rattle.trace_lines.specs.Counted.{counts_before};
 ghost use Rattle.trace_lines.specs.Sums.{beats_taken_in, counts_in, with_counts};
 ghost use Rattle.trace_lines.specs.Worked.{packet_wire, one_host, whole_packet};
+
+use link_rules::Plan;
+use system_tables::EndId;
+
+/// The names at an end of a plan have 64 bytes at most.
+pub(crate) fn names_are_short(plan: &Plan, end: EndId)
+    requires { (known : Known) × IsEnd plan.now.system end known }
+    ensures instance { length (instance_name_at plan.now.system end) ≤ 64 }
+    ensures interface { length (interface_name_at plan.now.system end) ≤ 64 }
+{
+    plan.well_made();
+}
 
 /// Each cycle adds to the counts what is taken, given, delivered and dropped in it.
 pub fn counts_grow_by_cycles()

@@ -8,9 +8,9 @@ pub returns : goal.returns
 returns c = λ number at. record {
   of = record {
     at = record { end = c.args.end; end_is = at; is = c.host_port-port.ensures.known ∙ ap Host (sym c.new.ensures.port) };
-    name = c.host_name.ensures;
-    places = c.of.ensures;
-    ports = c.of-2.ensures;
+    name = c.of.ensures;
+    places = c.of-2.ensures;
+    ports = c.of-3.ensures;
   };
   left = c.new.ensures.left ∙ ap (λ (port : HostPort). all_steps port c.args.script.now) (sym c.new.ensures.port);
 }

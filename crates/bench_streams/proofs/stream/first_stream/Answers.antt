@@ -5,18 +5,18 @@ use Rattle.bench_streams.specs.Sound.{IsWithin}
 use Rattle.bench_streams.proofs.Keeping.{are_patterns, quiet, script_within}
 use Rattle.bench_streams.proofs.stream.first_stream.Goals as goal
 
-pub name_of_end-requires : goal.name_of_end-requires
-name_of_end-requires c =
+pub of-requires : goal.of-requires
+of-requires c =
     let sound = c.links_are_sound.ensures c.args.plan.now c.well_made.ensures c.args.number c.args.link.now c.requires.link in
     (Source c.args.link.now.source, sound.is.source)
 
-pub name_of_end-requires-2 : goal.name_of_end-requires-2
-name_of_end-requires-2 c =
+pub of-requires-2 : goal.of-requires-2
+of-requires-2 c =
     let sound = c.links_are_sound.ensures c.args.plan.now c.well_made.ensures c.args.number c.args.link.now c.requires.link in
     (Sink c.args.link.now.sink, sound.is.sink)
 
-pub of-requires-clause-end : goal.of-requires-clause-end
-of-requires-clause-end c = (c.links_are_sound.ensures c.args.plan.now c.well_made.ensures c.args.number c.args.link.now c.requires.link).source_end
+pub of-requires-3-clause-end : goal.of-requires-3-clause-end
+of-requires-3-clause-end c = (c.links_are_sound.ensures c.args.plan.now c.well_made.ensures c.args.number c.args.link.now c.requires.link).source_end
 
 pub input_place-requires-clause-end : goal.input_place-requires-clause-end
 input_place-requires-clause-end c = (c.links_are_sound.ensures c.args.plan.now c.well_made.ensures c.args.number c.args.link.now c.requires.link).sink_end
@@ -24,8 +24,8 @@ input_place-requires-clause-end c = (c.links_are_sound.ensures c.args.plan.now c
 pub port_number-requires-clause-end : goal.port_number-requires-clause-end
 port_number-requires-clause-end c = (c.links_are_sound.ensures c.args.plan.now c.well_made.ensures c.args.number c.args.link.now c.requires.link).source_end
 
-pub of-requires-2-clause-end : goal.of-requires-2-clause-end
-of-requires-2-clause-end c = (c.links_are_sound.ensures c.args.plan.now c.well_made.ensures c.args.number c.args.link.now c.requires.link).sink_end
+pub of-requires-4-clause-end : goal.of-requires-4-clause-end
+of-requires-4-clause-end c = (c.links_are_sound.ensures c.args.plan.now c.well_made.ensures c.args.number c.args.link.now c.requires.link).sink_end
 
 pub new-requires-clause-soon : goal.new-requires-clause-soon
 new-requires-clause-soon c = (c.links_are_sound.ensures c.args.plan.now c.well_made.ensures c.args.number c.args.link.now c.requires.link).soon
