@@ -12,6 +12,7 @@ use Rattle.stage_core.specs.Law.{KeepsShape, ReadyPasses, unranked}
 use Rattle.stage_core.specs.PassNets.{IsPassShape}
 use Rattle.stage_core.specs.ChainNets.{ShapesFit}
 use Rattle.stage_core.specs.MaybeNets.{forward_of}
+use Rattle.stage_core.specs.Memories.{SameWords}
 
 -- ---- a stage of no nets
 
@@ -66,8 +67,8 @@ chain_ready_between first second shape up middle down is fit shown law a x y =
 -- ---- a stage where one is needed
 
 -- this cycle's ready, by what is kept of the part
-pub kept_ignores : {S H : Type 0} (forward_in : S → BeatNets → BeatNets → H → Netlist → Type 0) (owns : H → ℕ → Type 0) (stage : S) (from to : BeatNets) (kept : Option H) (netlist : Netlist) (one other : Cycle) →
-    ((held : H) → forward_in stage from to held netlist → ((n : ℕ) → owns held n → one.net n ≡ other.net n) → ShowSame from one other → ShowSame to one other) →
-    forward_of forward_in (Some stage) from to kept netlist → ((n : ℕ) → IsSomeAnd kept (λ held. owns held n) → one.net n ≡ other.net n) → ShowSame from one other → ShowSame to one other
-kept_ignores forward_in owns stage from to (Some held) netlist one other law f state same = law held f state same
-kept_ignores forward_in owns stage from to None netlist one other law f state same = absurd f
+pub kept_ignores : {S H : Type 0} (forward_in : S → BeatNets → BeatNets → H → Netlist → Type 0) (owns memories : H → ℕ → Type 0) (stage : S) (from to : BeatNets) (kept : Option H) (netlist : Netlist) (one other : Cycle) →
+    ((held : H) → forward_in stage from to held netlist → ((n : ℕ) → owns held n → one.net n ≡ other.net n) → SameWords (memories held) netlist one other → ShowSame from one other → ShowSame to one other) →
+    forward_of forward_in (Some stage) from to kept netlist → ((n : ℕ) → IsSomeAnd kept (λ held. owns held n) → one.net n ≡ other.net n) → SameWords (λ m. IsSomeAnd kept (λ held. memories held m)) netlist one other → ShowSame from one other → ShowSame to one other
+kept_ignores forward_in owns memories stage from to (Some held) netlist one other law f state words same = law held f state words same
+kept_ignores forward_in owns memories stage from to None netlist one other law f state words same = absurd f

@@ -9,6 +9,7 @@ pub mod Queued
 pub mod PassNets
 pub mod ChainNets
 pub mod MaybeNets
+pub mod Memories
 pub mod RegisterNets
 pub mod QueueBits
 pub mod QueueNets

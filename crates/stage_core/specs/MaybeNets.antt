@@ -1,7 +1,7 @@
 -- A stage where one is needed, and else nothing.
 use Rattle.std.specs.Prelude.{◌≡◌, ℕ, Option, Some, None, IsSomeAnd}
 use Rattle.netlist.specs.Nets.{NetValue}
-use Rattle.netlist.specs.Netlists.{Netlist, IsWaiting}
+use Rattle.netlist.specs.Netlists.{Netlist, IsWaiting, WaitsForWrite}
 use Rattle.netlist.specs.Longer.{Extends}
 use Rattle.stream_machines.specs.Stage.{Shape}
 use Rattle.stage_core.specs.declared.beat.BeatNets.{BeatNets}
@@ -33,13 +33,14 @@ backward_of backward_in None kept ready up netlist = up ≡ ready
 
 -- ---- what stands lasts. No contract reads these proofs; the law of the stage cites them
 
-pub kept_lasts : {S H : Type 0} (is_kept : S → H → Netlist → Type 0) (owns : H → ℕ → Type 0) →
-    ((stage : S) (held : H) (old new : Netlist) → is_kept stage held old → Extends old new → ((n : ℕ) → owns held n → IsWaiting old n → IsWaiting new n) → is_kept stage held new) →
-    (stage : Option S) (kept : Option H) (old new : Netlist) → kept_of is_kept stage kept old → Extends old new → ((n : ℕ) → IsSomeAnd kept (λ held. owns held n) → IsWaiting old n → IsWaiting new n) → kept_of is_kept stage kept new
-kept_lasts is_kept owns lasts (Some stage) (Some held) old new h e w = lasts stage held old new h e w
-kept_lasts is_kept owns lasts (Some stage) None old new h e w = h
-kept_lasts is_kept owns lasts None (Some held) old new h e w = h
-kept_lasts is_kept owns lasts None None old new h e w = h
+pub kept_lasts : {S H : Type 0} (is_kept : S → H → Netlist → Type 0) (owns memories : H → ℕ → Type 0) →
+    ((stage : S) (held : H) (old new : Netlist) → is_kept stage held old → Extends old new → ((n : ℕ) → owns held n → IsWaiting old n → IsWaiting new n) → ((m : ℕ) → memories held m → WaitsForWrite old m → WaitsForWrite new m) → is_kept stage held new) →
+    (stage : Option S) (kept : Option H) (old new : Netlist) → kept_of is_kept stage kept old → Extends old new → ((n : ℕ) → IsSomeAnd kept (λ held. owns held n) → IsWaiting old n → IsWaiting new n) →
+    ((m : ℕ) → IsSomeAnd kept (λ held. memories held m) → WaitsForWrite old m → WaitsForWrite new m) → kept_of is_kept stage kept new
+kept_lasts is_kept owns memories lasts (Some stage) (Some held) old new h e w v = lasts stage held old new h e w v
+kept_lasts is_kept owns memories lasts (Some stage) None old new h e w v = h
+kept_lasts is_kept owns memories lasts None (Some held) old new h e w v = h
+kept_lasts is_kept owns memories lasts None None old new h e w v = h
 
 pub forward_lasts : {S H : Type 0} (forward_in : S → BeatNets → BeatNets → H → Netlist → Type 0) →
     ((stage : S) (from to : BeatNets) (held : H) (old new : Netlist) → forward_in stage from to held old → Extends old new → forward_in stage from to held new) →

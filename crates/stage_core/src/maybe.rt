@@ -32,7 +32,11 @@ impl<S: Stage> Stage for Maybe<S> {
 
     ghost backward_nets = { λ s. unwrap_or (option_map S.backward_nets s.stage) 0 };
 
+    ghost memories = { λ s. unwrap_or (option_map S.memories s.stage) 0 };
+
     ghost owns = { λ kept n. IsSomeAnd kept (λ held. S.owns held n) };
+
+    ghost owns_memories = { λ kept m. IsSomeAnd kept (λ held. S.owns_memories held m) };
 
     ghost is_kept = { λ s kept netlist. kept_of S.is_kept s.stage kept netlist };
 
@@ -73,7 +77,7 @@ impl<S: Stage> Stage for Maybe<S> {
         }
     }
 
-    ghost kept_lasts = { λ s kept old new h e w. kept_lasts S.is_kept S.owns (λ stage held. S.kept_lasts stage held) s.stage kept old new h e w };
+    ghost kept_lasts = { λ s kept old new h e w v. kept_lasts S.is_kept S.owns S.owns_memories (λ stage held. S.kept_lasts stage held) s.stage kept old new h e w v };
 
     ghost forward_lasts = { λ s from to kept old new h e. forward_lasts S.forward_in (λ stage before behind held. S.forward_lasts stage before behind held) s.stage from to kept old new h e };
 

@@ -89,7 +89,11 @@ impl Stage for Fifo {
 
     ghost backward_nets = { λ s. 5 + 19 * s.depth };
 
+    ghost memories = { λ s. 0 };
+
     ghost owns = { λ kept n. InRow kept.places.items n };
+
+    ghost owns_memories = { λ kept m. ⊥ };
 
     ghost is_kept = { λ s kept netlist. QueueKeeps kept s.depth netlist };
 
@@ -127,7 +131,7 @@ impl Stage for Fifo {
         queue_is_a_stage();
     }
 
-    ghost kept_lasts = { λ s kept old new h e w. queue_keeps_lasts kept s.depth old new h e w };
+    ghost kept_lasts = { λ s kept old new h e w v. queue_keeps_lasts kept s.depth old new h e w };
 
     ghost forward_lasts = { λ s from to kept old new h e. queue_forward_lasts from to kept s.depth old new h e };
 

@@ -39,7 +39,11 @@ impl Stage for PipeReg {
 
     ghost backward_nets = { λ s. 9 };
 
+    ghost memories = { λ s. 0 };
+
     ghost owns = { λ kept n. IsOfBeat kept.registers n };
+
+    ghost owns_memories = { λ kept m. ⊥ };
 
     ghost is_kept = { λ s kept netlist. RegisterKeeps kept netlist };
 
@@ -74,7 +78,7 @@ impl Stage for PipeReg {
         register_is_a_stage();
     }
 
-    ghost kept_lasts = { λ s kept old new h e w. keeps_lasts kept old new h e w };
+    ghost kept_lasts = { λ s kept old new h e w v. keeps_lasts kept old new h e w };
 
     ghost forward_lasts = { λ s from to kept old new h e. forward_lasts from to kept old new h e };
 

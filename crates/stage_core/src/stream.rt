@@ -4,7 +4,8 @@ ghost use Rattle.std.specs.Prelude.{◌≡◌, ◌+◌, ◌^◌, ◌<◌, ◌≤
 ghost use Rattle.stream_machines.specs.Stage.{Shape};
 ghost use Rattle.stage_core.specs.Beats.{widths_of, AreBeatNets};
 ghost use Rattle.net_parts.specs.Nets.{IsBit};
-ghost use Rattle.net_parts.specs.Growth.{GrowsBy, StillWait};
+ghost use Rattle.net_parts.specs.Growth.{StillWait, StillWaitForWrite};
+ghost use Rattle.stage_core.specs.Memories.{ForwardGrows};
 ghost use Rattle.stage_core.specs.Law.{Stands, KeepsInLonger, PassesInLonger, IgnoresInLonger};
 
 use crate::beat::BeatNets;
@@ -46,13 +47,15 @@ pub fn emit_stream<S: Stage>(
 
     // and its beat doesn't depend on the ready of the same cycle.
     ensures ignores_ready { IfOk result (λ made. IgnoresInLonger builder.new from made.beat) }
-    ensures grows { GrowsBy (S.forward_nets stage.now + S.backward_nets stage.now) builder.old builder.new }
+    ensures grows { ForwardGrows (S.memories stage.now) (S.forward_nets stage.now + S.backward_nets stage.now) builder.old builder.new }
     ensures waits { StillWait builder.old builder.new }
     ensures no_more_wait { OnOk result (StillWait builder.new builder.old) }
+    ensures still_wait_for_write { OnOk result (StillWaitForWrite builder.old builder.new) }
+    ensures no_more_write { OnOk result (StillWaitForWrite builder.new builder.old) }
 
-    // Memory may run out at any net.
-    ensures full { result ≡ Err NetFault.TooManyNets
-        → 2 ^ 20 < length builder.old.lines + (S.forward_nets stage.now + S.backward_nets stage.now) }
+    // With room for its memories. Memory may run out at any net.
+    ensures full { length builder.old.memories + S.memories stage.now ≤ 2 ^ 16
+        → result ≡ Err NetFault.TooManyNets → 2 ^ 20 < length builder.old.lines + (S.forward_nets stage.now + S.backward_nets stage.now) }
 {
     stage.law();
     let (beat, kept) = stage.emit_forward(builder, from)?;

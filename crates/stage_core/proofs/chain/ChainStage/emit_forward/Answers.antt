@@ -1,25 +1,30 @@
 use Rattle.std.proofs.Common.{sym, subst, ap, ◌∙◌, inl, inr, arith}
-use Rattle.net_parts.specs.Laws.{grows_twice, grows_fewer}
+use Rattle.stage_core.specs.Memories.{forward_grown, forward_fewer, forward_twice, forward_memories, memories_come}
 use Rattle.stage_core.proofs.chain.ChainStage.emit_forward.Goals as goal
 
 pub returns-clause-kept : goal.returns-clause-kept
-returns-clause-kept g c = record {
-  first = g.met.A.Stage.kept_lasts _ _ _ _ c.in_ok-middle.ensures.kept c.emit_forward-2.ensures.grows.extends (λ n o. c.emit_forward-2.ensures.waits n);
-  second = c.in_ok-to.ensures.kept;
-  apart = λ n o p. (let before = c.in_ok-middle.ensures.owned n o in let behind = c.in_ok-to.ensures.owned n p in omega arith);
-}
+returns-clause-kept g c =
+    let grown = forward_grown _ _ _ _ c.emit_forward-2.ensures.grows in
+    let earlier = memories_come _ _ _ _ _ c.emit_forward.ensures.grows c.in_ok-middle.ensures.written in
+    let later = memories_come _ _ _ _ _ c.emit_forward-2.ensures.grows c.in_ok-to.ensures.written in
+    record {
+      first = g.met.A.Stage.kept_lasts _ _ _ _ c.in_ok-middle.ensures.kept grown.extends (λ n o. c.emit_forward-2.ensures.waits n) (λ m o. later.still m);
+      second = c.in_ok-to.ensures.kept;
+      apart = λ n o p. (let before = c.in_ok-middle.ensures.owned n o in let behind = c.in_ok-to.ensures.owned n p in omega arith);
+      memories_apart = λ m o p. (let before = earlier.between m o in let behind = later.between m p in omega arith);
+    }
 
 pub returns-clause-owned : goal.returns-clause-owned
 returns-clause-owned g c n o =
     elim o [
-      | inl p ↦ (let at = c.in_ok-middle.ensures.owned n p in let more = c.emit_forward-2.ensures.grows.extends.count in (at.0, omega arith))
-      | inr p ↦ (let at = c.in_ok-to.ensures.owned n p in let more = c.emit_forward.ensures.grows.extends.count in (omega arith, at.1))
+      | inl p ↦ (let at = c.in_ok-middle.ensures.owned n p in let more = (forward_grown _ _ _ _ c.emit_forward-2.ensures.grows).extends.count in (at.0, omega arith))
+      | inr p ↦ (let at = c.in_ok-to.ensures.owned n p in let more = (forward_grown _ _ _ _ c.emit_forward.ensures.grows).extends.count in (omega arith, at.1))
     ]
 
 pub returns-clause-made : goal.returns-clause-made
 returns-clause-made g c = record {
   middle = c.in_ok-middle.middle;
-  first = g.met.A.Stage.forward_lasts _ _ _ _ _ _ c.in_ok-middle.ensures.made c.emit_forward-2.ensures.grows.extends;
+  first = g.met.A.Stage.forward_lasts _ _ _ _ _ _ c.in_ok-middle.ensures.made (forward_grown _ _ _ _ c.emit_forward-2.ensures.grows).extends;
   second = c.in_ok-to.ensures.made;
 }
 
@@ -34,10 +39,10 @@ pub emit_forward-requires-2-clause-widths : goal.emit_forward-requires-2-clause-
 emit_forward-requires-2-clause-widths g c = subst (g.B.Stage.takes c.args.self.now.second) (sym c.in_ok-middle.ensures.widths) c.requires.widths.1
 
 pub returns-in_err-middle-clause-grows : goal.returns-in_err-middle-clause-grows
-returns-in_err-middle-clause-grows g c = grows_fewer _ _ _ _ (omega arith) c.emit_forward.ensures.grows
+returns-in_err-middle-clause-grows g c = forward_fewer _ _ _ _ _ _ (omega arith) (omega arith) c.emit_forward.ensures.grows
 
 pub returns-in_err-to-clause-grows : goal.returns-in_err-to-clause-grows
-returns-in_err-to-clause-grows g c = grows_twice _ _ _ _ _ c.emit_forward.ensures.grows c.emit_forward-2.ensures.grows
+returns-in_err-to-clause-grows g c = forward_twice (g.A.Stage.memories c.args.self.now.first) (g.B.Stage.memories c.args.self.now.second) _ _ _ _ _ c.emit_forward.ensures.grows c.emit_forward-2.ensures.grows
 
 pub returns-in_err-to-clause-waits : goal.returns-in_err-to-clause-waits
 returns-in_err-to-clause-waits g c n w = c.emit_forward-2.ensures.waits n (c.emit_forward.ensures.waits n w)
@@ -46,7 +51,7 @@ pub returns-clause-widths : goal.returns-clause-widths
 returns-clause-widths g c = c.in_ok-to.ensures.widths ∙ ap (g.B.Stage.gives c.args.self.now.second) c.in_ok-middle.ensures.widths
 
 pub returns-clause-grows : goal.returns-clause-grows
-returns-clause-grows g c = grows_twice _ _ _ _ _ c.emit_forward.ensures.grows c.emit_forward-2.ensures.grows
+returns-clause-grows g c = forward_twice (g.A.Stage.memories c.args.self.now.first) (g.B.Stage.memories c.args.self.now.second) _ _ _ _ _ c.emit_forward.ensures.grows c.emit_forward-2.ensures.grows
 
 pub returns-clause-waits : goal.returns-clause-waits
 returns-clause-waits g c n w = c.emit_forward-2.ensures.waits n (c.emit_forward.ensures.waits n w)
@@ -57,3 +62,8 @@ returns-clause-newly g c n w =
       | inl before ↦ elim (c.in_ok-middle.ensures.newly n before) [ inl old ↦ inl old | inr own ↦ inr (inl own) ]
       | inr own ↦ inr (inr own)
     ]
+
+pub returns-clause-written : goal.returns-clause-written
+returns-clause-written g c =
+    forward_memories (g.A.Stage.memories c.args.self.now.first) (g.B.Stage.memories c.args.self.now.second) _ _ (g.A.Stage.owns_memories c.in_ok-middle.first) (g.B.Stage.owns_memories c.in_ok-to.second) _ _ _
+    c.emit_forward.ensures.grows c.in_ok-middle.ensures.written c.emit_forward-2.ensures.grows c.in_ok-to.ensures.written

@@ -26,6 +26,6 @@ returns-clause-shown g c kept ready up netlist p b run endless n =
     c.law.ensures.shown kept.0 b.middle up netlist p.0 b.first run endless n ∙ c.law-2.ensures.shown kept.1 ready b.middle netlist p.1 b.second run endless n
 
 pub returns-clause-ignores_ready : goal.returns-clause-ignores_ready
-returns-clause-ignores_ready g c from to kept netlist f one other v w state same =
-    c.law-2.ensures.ignores_ready f.middle to kept.1 netlist f.second one other v w (λ n o. state n (inr o))
-    (c.law.ensures.ignores_ready from f.middle kept.0 netlist f.first one other v w (λ n o. state n (inl o)) same)
+returns-clause-ignores_ready g c from to kept netlist f one other v w state words same =
+    c.law-2.ensures.ignores_ready f.middle to kept.1 netlist f.second one other v w (λ n o. state n (inr o)) (λ m memory o. words m memory (inr o))
+    (c.law.ensures.ignores_ready from f.middle kept.0 netlist f.first one other v w (λ n o. state n (inl o)) (λ m memory o. words m memory (inl o)) same)

@@ -9,6 +9,6 @@ returns-in-None-clause-keeps g c shape from to kept ready up netlist p f b run e
     (subst (λ stage. backward_of g.S.Stage.backward_in stage kept ready up netlist) c.in-None.is b) c.pass_is_a_stage.ensures.keeps
 
 pub returns-in-Some-clause-ignores_ready : goal.returns-in-Some-clause-ignores_ready
-returns-in-Some-clause-ignores_ready g c from to kept netlist f one other v w state same =
-    kept_ignores g.S.Stage.forward_in g.S.Stage.owns c.in-Some.stage from to kept netlist one other (λ held before owned shown. c.law.ensures.ignores_ready from to held netlist before one other v w owned shown)
-    (subst (λ stage. forward_of g.S.Stage.forward_in stage from to kept netlist) c.in-Some.is f) state same
+returns-in-Some-clause-ignores_ready g c from to kept netlist f one other v w state words same =
+    kept_ignores g.S.Stage.forward_in g.S.Stage.owns g.S.Stage.owns_memories c.in-Some.stage from to kept netlist one other (λ held before owned stored shown. c.law.ensures.ignores_ready from to held netlist before one other v w owned stored shown)
+    (subst (λ stage. forward_of g.S.Stage.forward_in stage from to kept netlist) c.in-Some.is f) state words same

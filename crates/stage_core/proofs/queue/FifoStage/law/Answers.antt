@@ -10,4 +10,4 @@ returns-clause-ready c shape from to kept ready up netlist p f b run endless =
     queue_ready shape from to kept c.args.self.now.depth ready up netlist run p f b endless c.queue_is_a_stage.ensures.ready
 
 pub returns-clause-ignores_ready : goal.returns-clause-ignores_ready
-returns-clause-ignores_ready c from to kept netlist f one other v w state same = row_ignores from to kept.from kept.places.items netlist one other f.from_is f.shows v w state same
+returns-clause-ignores_ready c from to kept netlist f one other v w state words same = row_ignores from to kept.from kept.places.items netlist one other f.from_is f.shows v w state same

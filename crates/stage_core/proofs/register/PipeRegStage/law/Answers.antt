@@ -9,4 +9,4 @@ pub returns-clause-ready : goal.returns-clause-ready
 returns-clause-ready c shape from to kept ready up netlist p f b run endless = register_ready shape from to kept ready up netlist run b endless
 
 pub returns-clause-ignores_ready : goal.returns-clause-ignores_ready
-returns-clause-ignores_ready c from to kept netlist f one other v w state same = register_ignores from to kept netlist one other f state
+returns-clause-ignores_ready c from to kept netlist f one other v w state words same = register_ignores from to kept netlist one other f state
