@@ -82,7 +82,11 @@ impl Stage for ReadyBuffer {
 
     ghost backward_nets = { λ s. 24 * s.latency + 31 };
 
+    ghost memories = { λ s. 0 };
+
     ghost owns = { λ kept n. buffer_owns kept n };
+
+    ghost owns_memories = { λ kept m. ⊥ };
 
     ghost is_kept = { λ s kept netlist. BufferKeeps kept s.latency netlist };
 
@@ -133,7 +137,7 @@ impl Stage for ReadyBuffer {
         buffer_is_a_stage();
     }
 
-    ghost kept_lasts = { λ s kept old new h e w. keeps_lasts kept s.latency old new h e w };
+    ghost kept_lasts = { λ s kept old new h e w v. keeps_lasts kept s.latency old new h e w };
 
     ghost forward_lasts = { λ s from to kept old new h e. forward_lasts from to kept s.latency old new h e };
 

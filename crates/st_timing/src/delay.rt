@@ -58,7 +58,11 @@ impl Stage for ReadyDelay {
 
     ghost backward_nets = { λ s. 2 };
 
+    ghost memories = { λ s. 0 };
+
     ghost owns = { λ kept n. delay_owns kept n };
+
+    ghost owns_memories = { λ kept m. ⊥ };
 
     ghost is_kept = { λ s kept netlist. DelayKeeps s.cycles kept netlist };
 
@@ -108,7 +112,7 @@ impl Stage for ReadyDelay {
         delay_is_a_stage();
     }
 
-    ghost kept_lasts = { λ s kept old new h e w. keeps_lasts s.cycles kept old new h e w };
+    ghost kept_lasts = { λ s kept old new h e w v. keeps_lasts s.cycles kept old new h e w };
 
     ghost forward_lasts = { λ s from to kept old new h e. forward_lasts s.up s.cycles from to kept old new h e };
 

@@ -37,7 +37,11 @@ impl Stage for TieReady {
 
     ghost backward_nets = { λ s. 1 };
 
+    ghost memories = { λ s. 0 };
+
     ghost owns = { λ kept n. ⊥ };
+
+    ghost owns_memories = { λ kept m. ⊥ };
 
     ghost is_kept = { λ s kept netlist. Unit {0} };
 
@@ -67,7 +71,7 @@ impl Stage for TieReady {
         tie_is_a_stage();
     }
 
-    ghost kept_lasts = { λ s kept old new h e w. tt };
+    ghost kept_lasts = { λ s kept old new h e w v. tt };
 
     ghost forward_lasts = { λ s from to kept old new h e. h };
 

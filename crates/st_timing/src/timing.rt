@@ -70,7 +70,11 @@ impl Stage for Timing {
 
     ghost backward_nets = { λ s. timing_backward_nets s };
 
+    ghost memories = { λ s. 0 };
+
     ghost owns = { λ kept n. timing_owns kept n };
+
+    ghost owns_memories = { λ kept m. ⊥ };
 
     ghost is_kept = { λ s kept netlist. TimingKeeps s kept netlist };
 
@@ -116,7 +120,7 @@ impl Stage for Timing {
         pass_is_a_stage();
     }
 
-    ghost kept_lasts = { λ s kept old new h e w. timing_keeps_lasts s kept old new h e w };
+    ghost kept_lasts = { λ s kept old new h e w v. timing_keeps_lasts s kept old new h e w };
 
     ghost forward_lasts = { λ s from to kept old new h e. timing_forward_lasts s from to kept old new h e };
 

@@ -160,7 +160,7 @@ returns-clause-grows c =
     grows_fewer _ _ _ _ (omega (arith, same)) (grows_twice _ _ _ _ _ (grows_twice _ _ _ _ _ filled (adds_grow _ _ _ c.show_first.ensures.adds)) c.make_history.ensures.grows)
 
 pub returns-in_err-fill_places-clause-full : goal.returns-in_err-fill_places-clause-full
-returns-in_err-fill_places-clause-full c e =
+returns-in_err-fill_places-clause-full c room e =
     let few = c.args.self.now.few in
     let same = c.from-count.ensures in
     let count = front_count c.fill_places.new.places _ (c.from-count.result + 1) c.fill_places.auto.places (count_fits _ _ few same) in
@@ -169,7 +169,7 @@ returns-in_err-fill_places-clause-full c e =
     omega (arith, same, full)
 
 pub returns-in_err-to-clause-full : goal.returns-in_err-to-clause-full
-returns-in_err-to-clause-full c e =
+returns-in_err-to-clause-full c room e =
     let few = c.args.self.now.few in
     let same = c.from-count.ensures in
     let count = front_count c.fill_places.new.places _ (c.from-count.result + 1) c.fill_places.auto.places (count_fits _ _ few same) in
@@ -180,7 +180,7 @@ returns-in_err-to-clause-full c e =
     omega (arith, same, most, full)
 
 pub returns-in_err-history-clause-full : goal.returns-in_err-history-clause-full
-returns-in_err-history-clause-full c e =
+returns-in_err-history-clause-full c room e =
     let few = c.args.self.now.few in
     let same = c.from-count.ensures in
     let count = front_count c.fill_places.new.places _ (c.from-count.result + 1) c.fill_places.auto.places (count_fits _ _ few same) in
@@ -192,7 +192,7 @@ returns-in_err-history-clause-full c e =
     omega (arith, same, most, more, full)
 
 pub returns-clause-full : goal.returns-clause-full
-returns-clause-full c e = cc
+returns-clause-full c room e = cc
 
 pub returns-in_err-fill_places-clause-waits : goal.returns-in_err-fill_places-clause-waits
 returns-in_err-fill_places-clause-waits c n w = c.fill_places.ensures.still_wait n w

@@ -12,4 +12,4 @@ pub returns-clause-shown : goal.returns-clause-shown
 returns-clause-shown c kept ready up netlist none b run endless n = delay_shown c.args.self.now.cycles kept ready up netlist run n none b
 
 pub returns-clause-ignores_ready : goal.returns-clause-ignores_ready
-returns-clause-ignores_ready c from to kept netlist f one other v w state same = delay_ignores c.args.self.now.up c.args.self.now.cycles from to kept netlist one other f v w state same
+returns-clause-ignores_ready c from to kept netlist f one other v w state words same = delay_ignores c.args.self.now.up c.args.self.now.cycles from to kept netlist one other f v w state same
