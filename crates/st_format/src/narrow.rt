@@ -249,7 +249,11 @@ impl Stage for Narrow {
 
     ghost backward_nets = { λ s. 10 };
 
+    ghost memories = { λ s. 0 };
+
     ghost owns = { λ kept n. IsOfBeat kept.held n };
+
+    ghost owns_memories = { λ kept m. ⊥ };
 
     ghost is_kept = { λ s kept netlist. NarrowKeeps kept netlist };
 
@@ -294,7 +298,7 @@ impl Stage for Narrow {
         words_fit();
     }
 
-    ghost kept_lasts = { λ s kept old new h e w. keeps_lasts kept old new h e w };
+    ghost kept_lasts = { λ s kept old new h e w v. keeps_lasts kept old new h e w };
 
     ghost forward_lasts = { λ s from to kept old new h e. forward_lasts s.sizes from to kept old new h e };
 

@@ -52,7 +52,11 @@ impl Stage for Reorder {
 
     ghost backward_nets = { λ s. 0 };
 
+    ghost memories = { λ s. 0 };
+
     ghost owns = { λ kept n. ⊥ };
+
+    ghost owns_memories = { λ kept m. ⊥ };
 
     ghost is_kept = { λ s kept netlist. Unit {0} };
 
@@ -87,7 +91,7 @@ impl Stage for Reorder {
         words_fit();
     }
 
-    ghost kept_lasts = { λ s kept old new h e w. tt };
+    ghost kept_lasts = { λ s kept old new h e w v. tt };
 
     ghost forward_lasts = { λ s from to kept old new h e. turns_lasts s.symbols s.bits from to old new h e };
 

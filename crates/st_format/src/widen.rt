@@ -261,7 +261,11 @@ impl Stage for Widen {
 
     ghost backward_nets = { λ s. 17 };
 
+    ghost memories = { λ s. 0 };
+
     ghost owns = { λ kept n. IsOfBeat kept.held n };
+
+    ghost owns_memories = { λ kept m. ⊥ };
 
     ghost is_kept = { λ s kept netlist. WidenKeeps kept netlist };
 
@@ -312,7 +316,7 @@ impl Stage for Widen {
         words_fit();
     }
 
-    ghost kept_lasts = { λ s kept old new h e w. keeps_lasts kept old new h e w };
+    ghost kept_lasts = { λ s kept old new h e w v. keeps_lasts kept old new h e w };
 
     ghost forward_lasts = { λ s from to kept old new h e. forward_lasts s.sizes from to kept old new h e };
 

@@ -46,13 +46,13 @@ pub returns-clause-waits : goal.returns-clause-waits
 returns-clause-waits c n w = c.clear_symbols.ensures.adds.grows.waits n (c.count_empty.ensures.adds.grows.waits n w)
 
 pub returns-in_err-counted-clause-full : goal.returns-in_err-counted-clause-full
-returns-in_err-counted-clause-full c e = let full = c.count_empty.ensures.full (handed_on _ _ _ _ c.in_err-counted.was c.from_residual.ensures.1 e) in omega (arith, full)
+returns-in_err-counted-clause-full c room e = let full = c.count_empty.ensures.full (handed_on _ _ _ _ c.in_err-counted.was c.from_residual.ensures.1 e) in omega (arith, full)
 
 pub returns-in_err-word-clause-full : goal.returns-in_err-word-clause-full
-returns-in_err-word-clause-full c e = let most0 = c.count_empty.ensures.adds.most in let full = c.clear_symbols.ensures.full (handed_on _ _ _ _ c.in_err-word.was c.from_residual-in_err-word.ensures.1 e) in omega (arith, most0, full)
+returns-in_err-word-clause-full c room e = let most0 = c.count_empty.ensures.adds.most in let full = c.clear_symbols.ensures.full (handed_on _ _ _ _ c.in_err-word.was c.from_residual-in_err-word.ensures.1 e) in omega (arith, most0, full)
 
 pub returns-clause-full : goal.returns-clause-full
-returns-clause-full c e = cc
+returns-clause-full c room e = cc
 
 pub returns-clause-newly : goal.returns-clause-newly
 returns-clause-newly c n w = inl (c.count_empty.ensures.adds.grows.no_more_wait n (c.clear_symbols.ensures.adds.grows.no_more_wait n w))

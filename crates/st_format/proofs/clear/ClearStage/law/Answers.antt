@@ -10,4 +10,4 @@ returns-clause-ready c shape from to kept ready up netlist p f b run endless =
     clear_ready shape c.args.self.now.symbols c.args.self.now.bits from to ready up netlist run p f b endless c.clear_is_a_stage.ensures.ready
 
 pub returns-clause-ignores_ready : goal.returns-clause-ignores_ready
-returns-clause-ignores_ready c from to kept netlist f one other v w state same = clears_ignores c.args.self.now.symbols c.args.self.now.bits from to netlist one other f v w same
+returns-clause-ignores_ready c from to kept netlist f one other v w state words same = clears_ignores c.args.self.now.symbols c.args.self.now.bits from to netlist one other f v w same

@@ -61,10 +61,10 @@ pub returns-clause-newly : goal.returns-clause-newly
 returns-clause-newly c n w = c.in_ok-current.ensures.newly n (c.cut_beat.ensures.adds.grows.no_more_wait n w)
 
 pub returns-in_err-current-clause-full : goal.returns-in_err-current-clause-full
-returns-in_err-current-clause-full c e = let full = c.show_current.ensures.full (handed_on _ _ _ _ c.in_err-current.was c.from_residual.ensures.1 e) in omega (arith, full)
+returns-in_err-current-clause-full c room e = let full = c.show_current.ensures.full (handed_on _ _ _ _ c.in_err-current.was c.from_residual.ensures.1 e) in omega (arith, full)
 
 pub returns-in_err-part-clause-full : goal.returns-in_err-part-clause-full
-returns-in_err-part-clause-full c e = let most0 = c.show_current.ensures.grows.most in let full = c.cut_beat.ensures.full (handed_on _ _ _ _ c.in_err-part.was c.from_residual-in_err-part.ensures.1 e) in omega (arith, most0, full)
+returns-in_err-part-clause-full c room e = let most0 = c.show_current.ensures.grows.most in let full = c.cut_beat.ensures.full (handed_on _ _ _ _ c.in_err-part.was c.from_residual-in_err-part.ensures.1 e) in omega (arith, most0, full)
 
 pub returns-clause-full : goal.returns-clause-full
-returns-clause-full c e = cc
+returns-clause-full c room e = cc

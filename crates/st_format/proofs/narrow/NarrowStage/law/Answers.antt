@@ -6,4 +6,4 @@ returns-clause-keeps c shape from to kept ready up netlist p f b run endless =
     narrow_between c.args.self.now.sizes shape from to kept ready up netlist run p f b endless c.words_fit.ensures.pieces c.narrow_is_a_stage.ensures.keeps
 
 pub returns-clause-ignores_ready : goal.returns-clause-ignores_ready
-returns-clause-ignores_ready c from to kept netlist f one other v w state same = narrow_ignores c.args.self.now.sizes from to kept netlist one other f v w state same
+returns-clause-ignores_ready c from to kept netlist f one other v w state words same = narrow_ignores c.args.self.now.sizes from to kept netlist one other f v w state same

@@ -29,7 +29,7 @@ returns-clause-beat c =
     record { valid = base.valid; word = c.in_ok-word.ensures.net.is_net; channel = base.channel; error = base.error; first = base.first; last = base.last; empty = base.empty }
 
 pub returns-in_err-word-clause-full : goal.returns-in_err-word-clause-full
-returns-in_err-word-clause-full c e = let full = c.turn_symbols.ensures.full (handed_on _ _ _ _ c.in_err-word.was c.from_residual.ensures.1 e) in omega (arith, full)
+returns-in_err-word-clause-full c room e = let full = c.turn_symbols.ensures.full (handed_on _ _ _ _ c.in_err-word.was c.from_residual.ensures.1 e) in omega (arith, full)
 
 pub returns-clause-full : goal.returns-clause-full
-returns-clause-full c e = cc
+returns-clause-full c room e = cc

@@ -107,16 +107,16 @@ pub returns-clause-newly : goal.returns-clause-newly
 returns-clause-newly c n w = elim (c.in_ok-held.ensures.newly n (c.join_beat.ensures.adds.grows.no_more_wait n (c.gather_more.ensures.adds.grows.no_more_wait n w))) [ inl before ↦ inl (c.gather_none.ensures.adds.grows.no_more_wait n before) | inr own ↦ inr own ]
 
 pub returns-in_err-none-clause-full : goal.returns-in_err-none-clause-full
-returns-in_err-none-clause-full c e = let full = c.gather_none.ensures.full (handed_on _ _ _ _ c.in_err-none.was c.from_residual.ensures.1 e) in omega (arith, full)
+returns-in_err-none-clause-full c room e = let full = c.gather_none.ensures.full (handed_on _ _ _ _ c.in_err-none.was c.from_residual.ensures.1 e) in omega (arith, full)
 
 pub returns-in_err-held-clause-full : goal.returns-in_err-held-clause-full
-returns-in_err-held-clause-full c e = let most0 = c.gather_none.ensures.adds.most in let full = c.reg_beat.ensures.full (handed_on _ _ _ _ c.in_err-held.was c.from_residual-in_err-held.ensures.1 e) in omega (arith, most0, full)
+returns-in_err-held-clause-full c room e = let most0 = c.gather_none.ensures.adds.most in let full = c.reg_beat.ensures.full (handed_on _ _ _ _ c.in_err-held.was c.from_residual-in_err-held.ensures.1 e) in omega (arith, most0, full)
 
 pub returns-in_err-to-clause-full : goal.returns-in_err-to-clause-full
-returns-in_err-to-clause-full c e = let most0 = c.gather_none.ensures.adds.most in let most1 = c.reg_beat.ensures.grows.most in let full = c.join_beat.ensures.full (handed_on _ _ _ _ c.in_err-to.was c.from_residual-in_err-to.ensures.1 e) in omega (arith, most0, most1, full)
+returns-in_err-to-clause-full c room e = let most0 = c.gather_none.ensures.adds.most in let most1 = c.reg_beat.ensures.grows.most in let full = c.join_beat.ensures.full (handed_on _ _ _ _ c.in_err-to.was c.from_residual-in_err-to.ensures.1 e) in omega (arith, most0, most1, full)
 
 pub returns-in_err-filled-clause-full : goal.returns-in_err-filled-clause-full
-returns-in_err-filled-clause-full c e = let most0 = c.gather_none.ensures.adds.most in let most1 = c.reg_beat.ensures.grows.most in let most2 = c.join_beat.ensures.adds.most in let full = c.gather_more.ensures.full (handed_on _ _ _ _ c.in_err-filled.was c.from_residual-in_err-filled.ensures.1 e) in omega (arith, most0, most1, most2, full)
+returns-in_err-filled-clause-full c room e = let most0 = c.gather_none.ensures.adds.most in let most1 = c.reg_beat.ensures.grows.most in let most2 = c.join_beat.ensures.adds.most in let full = c.gather_more.ensures.full (handed_on _ _ _ _ c.in_err-filled.was c.from_residual-in_err-filled.ensures.1 e) in omega (arith, most0, most1, most2, full)
 
 pub returns-clause-full : goal.returns-clause-full
-returns-clause-full c e = cc
+returns-clause-full c room e = cc
