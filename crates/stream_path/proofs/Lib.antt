@@ -8,3 +8,4 @@ pub mod Served
 pub mod Runs
 pub mod Ignores
 pub mod EndNets
+pub mod Growing

@@ -56,3 +56,8 @@ rear_given source sink (Some turn) widths join is fit =
       gives = record { word = fit.word ∙ ap (λ n. sink.symbols * n) join.symbol_bits; channel = fit.channel; error = fit.error; empty = fit.empty };
       few = (let few = join.sink_fits.few in let same = is.2 in omega (arith, few, same));
     }
+
+-- a stage without memories has none, whether it is needed or not
+pub no_memories : {S : Type 0} (stage : Option S) → unwrap_or (option_map (λ (s : S). 0) stage) 0 ≤ 0
+no_memories None = omega arith
+no_memories (Some s) = omega arith

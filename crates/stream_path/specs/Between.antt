@@ -28,6 +28,16 @@ most_stage_nets = 7992
 abbrev pub most_delay_nets : ℕ
 most_delay_nets = 5
 
+-- how many memories the stages before the queue make at most, how many the queue, and how many all; a delay of ready makes none
+abbrev pub most_front_memories : ℕ
+most_front_memories = 6
+
+abbrev pub most_queue_memories : ℕ
+most_queue_memories = 6
+
+abbrev pub most_stage_memories : ℕ
+most_stage_memories = most_front_memories + most_queue_memories
+
 -- the beat of a source, with this net for each port that it doesn't have
 abbrev pub beat_of : SourceNets → NetValue → BeatNets
 beat_of nets low =

@@ -8,13 +8,17 @@ use Rattle.stream_runs.specs.Source.{IsLegalSource}
 use Rattle.stream_runs.specs.Awake.{IsServedAwake}
 use Rattle.stream_runs.specs.Ends.{Declared, side_of, view_of, stream_of, run_of}
 use Rattle.stage_core.specs.Beats.{ShowSame}
+use Rattle.stream_path.specs.Between.{most_stage_memories}
 use Rattle.stream_path.specs.Ends.{signal_on, source_signals, sink_signals}
 use Rattle.stream_path.specs.declared.ends.SourceNets.{SourceNets}
 use Rattle.stream_path.specs.declared.ends.PathNets.{PathNets}
 
--- how many nets a path has at most
+-- how many nets a path has at most, and how many memories
 abbrev pub most_nets : ℕ
 most_nets = 8000
+
+abbrev pub most_memories : ℕ
+most_memories = most_stage_memories
 
 -- in each run of this netlist and of each longer one, as long as the source is legal, the stream is served and never idles
 abbrev pub ServesInLonger : Declared → Declared → ℕ → SourceNets → Option NetValue → PathNets → Netlist → Type 0

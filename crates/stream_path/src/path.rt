@@ -3,11 +3,11 @@ ghost use Rattle.netlist.specs.Netlists.{IsNet};
 ghost use Rattle.netlist.specs.Runs.{Always};
 ghost use Rattle.net_parts.specs.Nets.{IsBit};
 ghost use Rattle.stage_core.specs.Beats.{AreBeatNets};
-ghost use Rattle.net_parts.specs.Growth.{GrowsBy, StillWait, AddsNets};
+ghost use Rattle.net_parts.specs.Growth.{GrowsBy, GrowsInMemory, StillWait, StillWaitForWrite, AddsNets};
 ghost use Rattle.st_timing.specs.Ends.{declared};
 ghost use Rattle.stream_path.specs.Joining.{CanJoin};
 ghost use Rattle.stream_path.specs.Ends.{IsNetIf, AreSourceNets, IsNetWhere, ArePathNets};
-ghost use Rattle.stream_path.specs.Serving.{most_nets, ServesInLonger, IgnoresReady};
+ghost use Rattle.stream_path.specs.Serving.{most_nets, most_memories, ServesInLonger, IgnoresReady};
 ghost use Rattle.stream_path.specs.Between.{most_delay_nets, beat_of, IsReadyOf, IsDelayEnough, ShowsUnreached};
 
 use crate::ends::{PathNets, SourceNets};
@@ -138,15 +138,17 @@ pub fn emit_path(
 
     // What the sink is shown doesn't depend on the ready of the same cycle.
     ensures ignores_ready { IfOk result (λ made. IgnoresReady from.now made builder.new) }
-    ensures grows { GrowsBy most_nets builder.old builder.new }
+    ensures grows { GrowsInMemory most_nets most_memories builder.old builder.new }
 
     // Where a delay of ready is enough, nothing else is made.
     ensures few { IsDelayEnough (declared source.now) (declared sink.now) depth → GrowsBy (most_delay_nets + 2) builder.old builder.new }
     ensures waits { StillWait builder.old builder.new }
     ensures no_more_wait { OnOk result (StillWait builder.new builder.old) }
+    ensures still_wait_for_write { OnOk result (StillWaitForWrite builder.old builder.new) }
+    ensures no_more_write { OnOk result (StillWaitForWrite builder.new builder.old) }
 
-    // Memory may run out at any net.
-    ensures full { result ≡ Err NetFault.TooManyNets → 2 ^ 20 < length builder.old.lines + most_nets }
+    // With room for its memories. Memory may run out at any net.
+    ensures full { length builder.old.memories + most_memories ≤ 2 ^ 16 → result ≡ Err NetFault.TooManyNets → 2 ^ 20 < length builder.old.lines + most_nets }
 {
     goes_on();
     same_beginnings();

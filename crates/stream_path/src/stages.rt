@@ -8,12 +8,12 @@ ghost use Rattle.stream_runs.specs.Ends.{pace_of, side_of};
 ghost use Rattle.stream_machines.specs.Wires.{wire_shape};
 ghost use Rattle.stage_core.specs.Beats.{widths_of, AreBeatNets};
 ghost use Rattle.net_parts.specs.Nets.{IsBit};
-ghost use Rattle.net_parts.specs.Growth.{GrowsBy, StillWait};
+ghost use Rattle.net_parts.specs.Growth.{GrowsBy, GrowsInMemory, StillWait, StillWaitForWrite};
 ghost use Rattle.st_channel.specs.FilterNets.{IsFilterShape};
 ghost use Rattle.st_channel.specs.Ports.{HasChannels};
 ghost use Rattle.st_timing.specs.Ends.{declared};
 ghost use Rattle.stream_path.specs.Joining.{HaveOneForm, CanJoin};
-ghost use Rattle.stream_path.specs.Between.{most_stage_nets, most_delay_nets, IsDelayEnough, joined_channel, joined_test, FitSide, AreStageNets, CarriesStream};
+ghost use Rattle.stream_path.specs.Between.{most_stage_nets, most_stage_memories, most_delay_nets, IsDelayEnough, joined_channel, joined_test, FitSide, AreStageNets, CarriesStream};
 ghost use Rattle.stream_path.specs.Parts.{source_of, sink_of, IsErrorTieOf, IsTurnBack, Reaches, ReachesBehind, timed_reach, errors_reach, formed_reach, rear_reach};
 
 use iface_roles::{SinkPort, SourcePort};
@@ -105,7 +105,7 @@ fn turn_back_of(source: &SourcePort, sink: &SinkPort) -> Maybe<Reorder>
 fn timed(joint: &Joint) -> Chain<ChannelFilter, Timing>
     requires { CanJoin (source_of joint.now) (sink_of joint.now) }
     ensures { let stage = ⟦<Chain<ChannelFilter, Timing> as Stage>⟧ in
-        Reaches joint.now timed_reach (stage.has_shape result) (stage.passes_ready result) (stage.takes result) (stage.gives result) (stage.forward_nets result + stage.backward_nets result) }
+        Reaches joint.now timed_reach (stage.has_shape result) (stage.passes_ready result) (stage.takes result) (stage.gives result) (stage.forward_nets result + stage.backward_nets result) (stage.memories result) }
 {
     Chain {
         first: filter_of(&joint.source, &joint.sink),
@@ -116,9 +116,9 @@ fn timed(joint: &Joint) -> Chain<ChannelFilter, Timing>
 /// Adds the error where the source has none.
 fn with_errors<S: Stage>(joint: &Joint, front: S) -> Chain<S, Maybe<ErrorTie>>
     requires joined { CanJoin (source_of joint.now) (sink_of joint.now) }
-    requires front { Reaches joint.now timed_reach (S.has_shape front) (S.passes_ready front) (S.takes front) (S.gives front) (S.forward_nets front + S.backward_nets front) }
+    requires front { Reaches joint.now timed_reach (S.has_shape front) (S.passes_ready front) (S.takes front) (S.gives front) (S.forward_nets front + S.backward_nets front) (S.memories front) }
     ensures { let stage = ⟦<Chain<S, Maybe<ErrorTie>> as Stage>⟧ in
-        Reaches joint.now errors_reach (stage.has_shape result) (stage.passes_ready result) (stage.takes result) (stage.gives result) (stage.forward_nets result + stage.backward_nets result) }
+        Reaches joint.now errors_reach (stage.has_shape result) (stage.passes_ready result) (stage.takes result) (stage.gives result) (stage.forward_nets result + stage.backward_nets result) (stage.memories result) }
 {
     Chain {
         first: front,
@@ -129,9 +129,9 @@ fn with_errors<S: Stage>(joint: &Joint, front: S) -> Chain<S, Maybe<ErrorTie>>
 /// Adds what brings beats to the sink's symbols: what holds nothing first, so that it adds nothing to what stands behind it.
 fn with_format<S: Stage>(joint: &Joint, front: S) -> Chain<Chain<S, Order>, Resize>
     requires joined { CanJoin (source_of joint.now) (sink_of joint.now) }
-    requires front { Reaches joint.now errors_reach (S.has_shape front) (S.passes_ready front) (S.takes front) (S.gives front) (S.forward_nets front + S.backward_nets front) }
+    requires front { Reaches joint.now errors_reach (S.has_shape front) (S.passes_ready front) (S.takes front) (S.gives front) (S.forward_nets front + S.backward_nets front) (S.memories front) }
     ensures { let stage = ⟦<Chain<Chain<S, Order>, Resize> as Stage>⟧ in
-        Reaches joint.now formed_reach (stage.has_shape result) (stage.passes_ready result) (stage.takes result) (stage.gives result) (stage.forward_nets result + stage.backward_nets result) }
+        Reaches joint.now formed_reach (stage.has_shape result) (stage.passes_ready result) (stage.takes result) (stage.gives result) (stage.forward_nets result + stage.backward_nets result) (stage.memories result) }
 {
     let format = format_of(&joint.source, &joint.sink);
     Chain {
@@ -147,7 +147,7 @@ fn with_format<S: Stage>(joint: &Joint, front: S) -> Chain<Chain<S, Order>, Resi
 fn rear_of(joint: &Joint) -> Rear
     requires { CanJoin (source_of joint.now) (sink_of joint.now) }
     ensures { let stage = ⟦<Rear as Stage>⟧ in
-        ReachesBehind joint.now rear_reach (stage.has_shape result) (stage.passes_ready result) (stage.takes result) (stage.gives result) (stage.forward_nets result + stage.backward_nets result) }
+        ReachesBehind joint.now rear_reach (stage.has_shape result) (stage.passes_ready result) (stage.takes result) (stage.gives result) (stage.forward_nets result + stage.backward_nets result) (stage.memories result) }
 {
     let delay = ReadyDelay::new(0, joint.sink.ready_latency());
     Chain {
@@ -166,16 +166,18 @@ fn emit_formed<S: Stage + Drop>(
 ) -> Result<StreamNets, NetFault>
     requires joined { CanJoin (source_of joint.now) (sink_of joint.now) }
     requires shallow { joint.now.depth ≤ 64 }
-    requires front { Reaches joint.now formed_reach (S.has_shape front) (S.passes_ready front) (S.takes front) (S.gives front) (S.forward_nets front + S.backward_nets front) }
+    requires front { Reaches joint.now formed_reach (S.has_shape front) (S.passes_ready front) (S.takes front) (S.gives front) (S.forward_nets front + S.backward_nets front) (S.memories front) }
     requires widths { FitSide (side_of (source_of joint.now)) (source_of joint.now) (widths_of from) }
     requires from { AreBeatNets builder.old from }
     requires ready { IsBit builder.old ready }
     ensures nets { IfOk result (λ made. AreStageNets builder.new (source_of joint.now) (sink_of joint.now) made) }
     ensures carries { IfOk result (λ made. CarriesStream (source_of joint.now) (sink_of joint.now) joint.now.depth builder.new from made ready) }
-    ensures grows { GrowsBy most_stage_nets builder.old builder.new }
+    ensures grows { GrowsInMemory most_stage_nets most_stage_memories builder.old builder.new }
     ensures waits { StillWait builder.old builder.new }
     ensures no_more_wait { OnOk result (StillWait builder.new builder.old) }
-    ensures full { result ≡ Err NetFault.TooManyNets → 2 ^ 20 < length builder.old.lines + most_stage_nets }
+    ensures still_wait_for_write { OnOk result (StillWaitForWrite builder.old builder.new) }
+    ensures no_more_write { OnOk result (StillWaitForWrite builder.new builder.old) }
+    ensures full { length builder.old.memories + most_stage_memories ≤ 2 ^ 16 → result ≡ Err NetFault.TooManyNets → 2 ^ 20 < length builder.old.lines + most_stage_nets }
 {
     queue_takes_in();
     let queued = Chain {
@@ -200,16 +202,18 @@ fn emit_tied<S: Stage + Drop>(
 ) -> Result<StreamNets, NetFault>
     requires joined { CanJoin (source_of joint.now) (sink_of joint.now) }
     requires shallow { joint.now.depth ≤ 64 }
-    requires front { Reaches joint.now errors_reach (S.has_shape front) (S.passes_ready front) (S.takes front) (S.gives front) (S.forward_nets front + S.backward_nets front) }
+    requires front { Reaches joint.now errors_reach (S.has_shape front) (S.passes_ready front) (S.takes front) (S.gives front) (S.forward_nets front + S.backward_nets front) (S.memories front) }
     requires widths { FitSide (side_of (source_of joint.now)) (source_of joint.now) (widths_of from) }
     requires from { AreBeatNets builder.old from }
     requires ready { IsBit builder.old ready }
     ensures nets { IfOk result (λ made. AreStageNets builder.new (source_of joint.now) (sink_of joint.now) made) }
     ensures carries { IfOk result (λ made. CarriesStream (source_of joint.now) (sink_of joint.now) joint.now.depth builder.new from made ready) }
-    ensures grows { GrowsBy most_stage_nets builder.old builder.new }
+    ensures grows { GrowsInMemory most_stage_nets most_stage_memories builder.old builder.new }
     ensures waits { StillWait builder.old builder.new }
     ensures no_more_wait { OnOk result (StillWait builder.new builder.old) }
-    ensures full { result ≡ Err NetFault.TooManyNets → 2 ^ 20 < length builder.old.lines + most_stage_nets }
+    ensures still_wait_for_write { OnOk result (StillWaitForWrite builder.old builder.new) }
+    ensures no_more_write { OnOk result (StillWaitForWrite builder.new builder.old) }
+    ensures full { length builder.old.memories + most_stage_memories ≤ 2 ^ 16 → result ≡ Err NetFault.TooManyNets → 2 ^ 20 < length builder.old.lines + most_stage_nets }
 {
     let formed = with_format(joint, front);
     emit_formed(joint, formed, builder, from, ready)
@@ -229,10 +233,12 @@ fn emit_chain(
     requires ready { IsBit builder.old ready }
     ensures nets { IfOk result (λ made. AreStageNets builder.new (source_of joint.now) (sink_of joint.now) made) }
     ensures carries { IfOk result (λ made. CarriesStream (source_of joint.now) (sink_of joint.now) joint.now.depth builder.new from made ready) }
-    ensures grows { GrowsBy most_stage_nets builder.old builder.new }
+    ensures grows { GrowsInMemory most_stage_nets most_stage_memories builder.old builder.new }
     ensures waits { StillWait builder.old builder.new }
     ensures no_more_wait { OnOk result (StillWait builder.new builder.old) }
-    ensures full { result ≡ Err NetFault.TooManyNets → 2 ^ 20 < length builder.old.lines + most_stage_nets }
+    ensures still_wait_for_write { OnOk result (StillWaitForWrite builder.old builder.new) }
+    ensures no_more_write { OnOk result (StillWaitForWrite builder.new builder.old) }
+    ensures full { length builder.old.memories + most_stage_memories ≤ 2 ^ 16 → result ≡ Err NetFault.TooManyNets → 2 ^ 20 < length builder.old.lines + most_stage_nets }
 {
     let timed = timed(joint);
     let with_errors = with_errors(joint, timed);
@@ -257,11 +263,14 @@ fn emit_delay(
     ensures grows { GrowsBy most_delay_nets builder.old builder.new }
     ensures waits { StillWait builder.old builder.new }
     ensures no_more_wait { OnOk result (StillWait builder.new builder.old) }
+    ensures still_wait_for_write { OnOk result (StillWaitForWrite builder.old builder.new) }
+    ensures no_more_write { OnOk result (StillWaitForWrite builder.new builder.old) }
     ensures full { result ≡ Err NetFault.TooManyNets → 2 ^ 20 < length builder.old.lines + most_delay_nets }
     ensures same_widths { IfOk result (λ made. widths_of made.beat ≡ widths_of from) }
 {
     let latency = joint.source.ready_latency();
     let cycles = joint.sink.ready_latency() - latency;
+    builder.well_made();
     emit_stream(&ReadyDelay::new(latency, cycles), builder, from, ready)
 }
 
@@ -279,10 +288,12 @@ pub(crate) fn emit_stages(
     requires ready { IsBit builder.old ready }
     ensures nets { IfOk result (λ made. AreStageNets builder.new (source_of joint.now) (sink_of joint.now) made) }
     ensures carries { IfOk result (λ made. CarriesStream (source_of joint.now) (sink_of joint.now) joint.now.depth builder.new from made ready) }
-    ensures grows { GrowsBy most_stage_nets builder.old builder.new }
+    ensures grows { GrowsInMemory most_stage_nets most_stage_memories builder.old builder.new }
     ensures waits { StillWait builder.old builder.new }
     ensures no_more_wait { OnOk result (StillWait builder.new builder.old) }
-    ensures full { result ≡ Err NetFault.TooManyNets → 2 ^ 20 < length builder.old.lines + most_stage_nets }
+    ensures still_wait_for_write { OnOk result (StillWaitForWrite builder.old builder.new) }
+    ensures no_more_write { OnOk result (StillWaitForWrite builder.new builder.old) }
+    ensures full { length builder.old.memories + most_stage_memories ≤ 2 ^ 16 → result ≡ Err NetFault.TooManyNets → 2 ^ 20 < length builder.old.lines + most_stage_nets }
     ensures few { IsDelayEnough (source_of joint.now) (sink_of joint.now) joint.now.depth → GrowsBy most_delay_nets builder.old builder.new }
     ensures same_widths { IsDelayEnough (source_of joint.now) (sink_of joint.now) joint.now.depth → IfOk result (λ made. widths_of made.beat ≡ widths_of from) }
 {

@@ -1,4 +1,5 @@
-use Rattle.std.proofs.Common.{ap, ◌∙◌, arith, subst, sym}
+use Rattle.std.proofs.Common.{List, length, ap, ◌∙◌, arith, subst, sym}
+use Rattle.netlist.specs.declared.line.Memory.{Memory}
 use Rattle.stage_core.specs.declared.beat.BeatNets.{BeatNets}
 use Rattle.stage_core.specs.Beats.{Widths, AreBeatNets}
 use Rattle.stream_path.specs.Ends.{ArePathNets}
@@ -7,6 +8,7 @@ use Rattle.st_timing.specs.Ends.{declared}
 use Rattle.stream_path.specs.Between.{CarriesStream, ShowsUnreached}
 use Rattle.net_parts.specs.Laws.{extends_none, extends_twice, grows_fewer, grows_within, adds_grow, net_lasts}
 use Rattle.stream_path.proofs.EndNets.{beat_nets, path_nets, ready_lasts, empty_width, fits_few, fits_none, drops_few, drops_none}
+use Rattle.stream_path.proofs.Growing.{without_memories, memories_behind, memories_before, adds_wait, adds_no_wait}
 use Rattle.stream_path.proofs.Runs.{serves_in_longer, carries_longer}
 use Rattle.stream_path.proofs.Ignores.{ignores_ready}
 use Rattle.stage_core.specs.Law.{IgnoresInLonger}
@@ -14,7 +16,7 @@ use Rattle.stage_core.specs.Refusing.{handed_on}
 use Rattle.stream_path.proofs.path.emit_path.Goals as goal
 
 pub returns-in_err-high-clause-grows : goal.returns-in_err-high-clause-grows
-returns-in_err-high-clause-grows c = grows_within 1 1 8000 _ _ _ (adds_grow _ _ _ c.level.ensures.adds) (adds_grow _ _ _ c.ready_or_high.ensures.adds) (omega arith)
+returns-in_err-high-clause-grows c = without_memories 2 8000 _ _ _ (grows_within 1 1 2 _ _ _ (adds_grow _ _ _ c.level.ensures.adds) (adds_grow _ _ _ c.ready_or_high.ensures.adds) (omega arith)) (omega arith)
 
 pub returns-in_err-high-clause-few : goal.returns-in_err-high-clause-few
 returns-in_err-high-clause-few c enough = grows_within 1 1 7 _ _ _ (adds_grow _ _ _ c.level.ensures.adds) (adds_grow _ _ _ c.ready_or_high.ensures.adds) (omega arith)
@@ -27,13 +29,13 @@ emit_stages-requires-clause-from c =
     (beat_nets c.args.builder.now c.ready_or_high.new.builder (declared c.args.source.now) c.args.from.now c.in_ok-low.low longer.extends low c.requires.from)
 
 pub returns-in_err-made-clause-grows : goal.returns-in_err-made-clause-grows
-returns-in_err-made-clause-grows c = grows_within 2 7992 8000 _ _ _ (grows_within 1 1 2 _ _ _ (adds_grow _ _ _ c.level.ensures.adds) (adds_grow _ _ _ c.ready_or_high.ensures.adds) (omega arith)) c.emit_stages.ensures.grows (omega arith)
+returns-in_err-made-clause-grows c = memories_behind 2 7992 8000 _ _ _ _ (grows_within 1 1 2 _ _ _ (adds_grow _ _ _ c.level.ensures.adds) (adds_grow _ _ _ c.ready_or_high.ensures.adds) (omega arith)) c.emit_stages.ensures.grows (omega arith)
 
 pub returns-in_err-made-clause-few : goal.returns-in_err-made-clause-few
 returns-in_err-made-clause-few c enough = grows_within 2 5 7 _ _ _ (grows_within 1 1 2 _ _ _ (adds_grow _ _ _ c.level.ensures.adds) (adds_grow _ _ _ c.ready_or_high.ensures.adds) (omega arith)) (c.emit_stages.ensures.few enough) (omega arith)
 
 pub returns-in_err-beat-clause-grows : goal.returns-in_err-beat-clause-grows
-returns-in_err-beat-clause-grows c = grows_within 7994 _ 8000 _ _ _ (grows_within 2 7992 7994 _ _ _ (grows_within 1 1 2 _ _ _ (adds_grow _ _ _ c.level.ensures.adds) (adds_grow _ _ _ c.ready_or_high.ensures.adds) (omega arith)) c.emit_stages.ensures.grows (omega arith)) (adds_grow _ _ _ c.fit_beat.ensures.adds) (let few = fits_few c.args.sink.now.empty_bits c.in_ok-made.made.beat.empty.width in omega (arith, few))
+returns-in_err-beat-clause-grows c = memories_before 7994 _ 8000 _ _ _ _ (memories_behind 2 7992 7994 _ _ _ _ (grows_within 1 1 2 _ _ _ (adds_grow _ _ _ c.level.ensures.adds) (adds_grow _ _ _ c.ready_or_high.ensures.adds) (omega arith)) c.emit_stages.ensures.grows (omega arith)) (adds_grow _ _ _ c.fit_beat.ensures.adds) (let few = fits_few c.args.sink.now.empty_bits c.in_ok-made.made.beat.empty.width in omega (arith, few))
 
 pub returns-in_err-beat-clause-few : goal.returns-in_err-beat-clause-few
 returns-in_err-beat-clause-few c enough = grows_within 7 _ 7 _ _ _ (grows_within 2 5 7 _ _ _ (grows_within 1 1 2 _ _ _ (adds_grow _ _ _ c.level.ensures.adds) (adds_grow _ _ _ c.ready_or_high.ensures.adds) (omega arith)) (c.emit_stages.ensures.few enough) (omega arith)) (adds_grow _ _ _ c.fit_beat.ensures.adds) (let none = fits_none c.args.sink.now.empty_bits c.in_ok-made.made.beat.empty.width (λ some. ap (λ (w : Widths). w.empty) (c.in_ok-made.ensures.same_widths enough) ∙ ap (λ (beat : BeatNets). beat.empty.width) (c.copied.ensures ∙ c.beat_of-start.ensures) ∙ (let bits = enough.form.empty_bits in let wide = empty_width c.args.builder.now (declared c.args.source.now) c.args.from.now c.in_ok-low.low c.in_ok-low.ensures.net.has_width c.requires.from (omega (arith, some, bits)) in wide ∙ bits)) in omega (arith, none))
@@ -43,7 +45,7 @@ returns-in_err-beat-clause-waits c n w = c.fit_beat.ensures.adds.grows.waits n (
 
 pub emit_dropped-requires-clause-from : goal.emit_dropped-requires-clause-from
 emit_dropped-requires-clause-from c =
-    let longer = (grows_within 7994 _ 7996 _ _ _ (grows_within 2 7992 7994 _ _ _ (grows_within 1 1 2 _ _ _ (adds_grow _ _ _ c.level.ensures.adds) (adds_grow _ _ _ c.ready_or_high.ensures.adds) (omega arith)) c.emit_stages.ensures.grows (omega arith)) (adds_grow _ _ _ c.fit_beat.ensures.adds) (let few = fits_few c.args.sink.now.empty_bits c.in_ok-made.made.beat.empty.width in omega (arith, few))) in
+    let longer = (memories_before 7994 _ 7996 _ _ _ _ (memories_behind 2 7992 7994 _ _ _ _ (grows_within 1 1 2 _ _ _ (adds_grow _ _ _ c.level.ensures.adds) (adds_grow _ _ _ c.ready_or_high.ensures.adds) (omega arith)) c.emit_stages.ensures.grows (omega arith)) (adds_grow _ _ _ c.fit_beat.ensures.adds) (let few = fits_few c.args.sink.now.empty_bits c.in_ok-made.made.beat.empty.width in omega (arith, few))) in
     subst (λ (beat : BeatNets). AreBeatNets c.fit_beat.new.builder beat) (sym c.beat_of-start.ensures)
     (beat_nets c.args.builder.now c.fit_beat.new.builder (declared c.args.source.now) c.args.from.now c.in_ok-low.low longer.extends (net_lasts _ _ c.in_ok-low.low 1 c.fit_beat.ensures.adds.grows.extends (net_lasts _ _ c.in_ok-low.low 1 c.emit_stages.ensures.grows.extends (net_lasts _ _ c.in_ok-low.low 1 c.ready_or_high.ensures.adds.grows.extends c.in_ok-low.ensures.net))) c.requires.from)
 
@@ -57,7 +59,7 @@ pub emit_dropped-requires-clause-is_low : goal.emit_dropped-requires-clause-is_l
 emit_dropped-requires-clause-is_low c cycle v = c.in_ok-low.ensures.value cycle (c.ready_or_high.ensures.adds.grows.extends.valuations cycle (c.emit_stages.ensures.grows.extends.valuations cycle (c.fit_beat.ensures.adds.grows.extends.valuations cycle v)))
 
 pub returns-in_err-dropped-clause-grows : goal.returns-in_err-dropped-clause-grows
-returns-in_err-dropped-clause-grows c = grows_within 7996 _ 8000 _ _ _ (grows_within 7994 _ 7996 _ _ _ (grows_within 2 7992 7994 _ _ _ (grows_within 1 1 2 _ _ _ (adds_grow _ _ _ c.level.ensures.adds) (adds_grow _ _ _ c.ready_or_high.ensures.adds) (omega arith)) c.emit_stages.ensures.grows (omega arith)) (adds_grow _ _ _ c.fit_beat.ensures.adds) (let few = fits_few c.args.sink.now.empty_bits c.in_ok-made.made.beat.empty.width in omega (arith, few))) (adds_grow _ _ _ c.emit_dropped.ensures.adds) (let few = drops_few c.args.sink.now.max_channel c.args.source.now.max_channel in omega (arith, few))
+returns-in_err-dropped-clause-grows c = memories_before 7996 _ 8000 _ _ _ _ (memories_before 7994 _ 7996 _ _ _ _ (memories_behind 2 7992 7994 _ _ _ _ (grows_within 1 1 2 _ _ _ (adds_grow _ _ _ c.level.ensures.adds) (adds_grow _ _ _ c.ready_or_high.ensures.adds) (omega arith)) c.emit_stages.ensures.grows (omega arith)) (adds_grow _ _ _ c.fit_beat.ensures.adds) (let few = fits_few c.args.sink.now.empty_bits c.in_ok-made.made.beat.empty.width in omega (arith, few))) (adds_grow _ _ _ c.emit_dropped.ensures.adds) (let few = drops_few c.args.sink.now.max_channel c.args.source.now.max_channel in omega (arith, few))
 
 pub returns-in_err-dropped-clause-few : goal.returns-in_err-dropped-clause-few
 returns-in_err-dropped-clause-few c enough = grows_within 7 _ 7 _ _ _ (grows_within 7 _ 7 _ _ _ (grows_within 2 5 7 _ _ _ (grows_within 1 1 2 _ _ _ (adds_grow _ _ _ c.level.ensures.adds) (adds_grow _ _ _ c.ready_or_high.ensures.adds) (omega arith)) (c.emit_stages.ensures.few enough) (omega arith)) (adds_grow _ _ _ c.fit_beat.ensures.adds) (let none = fits_none c.args.sink.now.empty_bits c.in_ok-made.made.beat.empty.width (λ some. ap (λ (w : Widths). w.empty) (c.in_ok-made.ensures.same_widths enough) ∙ ap (λ (beat : BeatNets). beat.empty.width) (c.copied.ensures ∙ c.beat_of-start.ensures) ∙ (let bits = enough.form.empty_bits in let wide = empty_width c.args.builder.now (declared c.args.source.now) c.args.from.now c.in_ok-low.low c.in_ok-low.ensures.net.has_width c.requires.from (omega (arith, some, bits)) in wide ∙ bits)) in omega (arith, none))) (adds_grow _ _ _ c.emit_dropped.ensures.adds) (let none = drops_none c.args.sink.now.max_channel c.args.source.now.max_channel enough.form.max_channel in omega (arith, none))
@@ -66,7 +68,7 @@ pub returns-in_err-dropped-clause-waits : goal.returns-in_err-dropped-clause-wai
 returns-in_err-dropped-clause-waits c n w = c.emit_dropped.ensures.adds.grows.waits n (c.fit_beat.ensures.adds.grows.waits n (c.emit_stages.ensures.waits n (c.ready_or_high.ensures.adds.grows.waits n (c.level.ensures.adds.grows.waits n w))))
 
 pub returns-clause-grows : goal.returns-clause-grows
-returns-clause-grows c = grows_within 7996 _ 8000 _ _ _ (grows_within 7994 _ 7996 _ _ _ (grows_within 2 7992 7994 _ _ _ (grows_within 1 1 2 _ _ _ (adds_grow _ _ _ c.level.ensures.adds) (adds_grow _ _ _ c.ready_or_high.ensures.adds) (omega arith)) c.emit_stages.ensures.grows (omega arith)) (adds_grow _ _ _ c.fit_beat.ensures.adds) (let few = fits_few c.args.sink.now.empty_bits c.in_ok-made.made.beat.empty.width in omega (arith, few))) (adds_grow _ _ _ c.emit_dropped.ensures.adds) (let few = drops_few c.args.sink.now.max_channel c.args.source.now.max_channel in omega (arith, few))
+returns-clause-grows c = memories_before 7996 _ 8000 _ _ _ _ (memories_before 7994 _ 7996 _ _ _ _ (memories_behind 2 7992 7994 _ _ _ _ (grows_within 1 1 2 _ _ _ (adds_grow _ _ _ c.level.ensures.adds) (adds_grow _ _ _ c.ready_or_high.ensures.adds) (omega arith)) c.emit_stages.ensures.grows (omega arith)) (adds_grow _ _ _ c.fit_beat.ensures.adds) (let few = fits_few c.args.sink.now.empty_bits c.in_ok-made.made.beat.empty.width in omega (arith, few))) (adds_grow _ _ _ c.emit_dropped.ensures.adds) (let few = drops_few c.args.sink.now.max_channel c.args.source.now.max_channel in omega (arith, few))
 
 pub returns-clause-few : goal.returns-clause-few
 returns-clause-few c enough = grows_within 7 _ 7 _ _ _ (grows_within 7 _ 7 _ _ _ (grows_within 2 5 7 _ _ _ (grows_within 1 1 2 _ _ _ (adds_grow _ _ _ c.level.ensures.adds) (adds_grow _ _ _ c.ready_or_high.ensures.adds) (omega arith)) (c.emit_stages.ensures.few enough) (omega arith)) (adds_grow _ _ _ c.fit_beat.ensures.adds) (let none = fits_none c.args.sink.now.empty_bits c.in_ok-made.made.beat.empty.width (λ some. ap (λ (w : Widths). w.empty) (c.in_ok-made.ensures.same_widths enough) ∙ ap (λ (beat : BeatNets). beat.empty.width) (c.copied.ensures ∙ c.beat_of-start.ensures) ∙ (let bits = enough.form.empty_bits in let wide = empty_width c.args.builder.now (declared c.args.source.now) c.args.from.now c.in_ok-low.low c.in_ok-low.ensures.net.has_width c.requires.from (omega (arith, some, bits)) in wide ∙ bits)) in omega (arith, none))) (adds_grow _ _ _ c.emit_dropped.ensures.adds) (let none = drops_none c.args.sink.now.max_channel c.args.source.now.max_channel enough.form.max_channel in omega (arith, none))
@@ -76,6 +78,14 @@ returns-clause-waits c n w = c.emit_dropped.ensures.adds.grows.waits n (c.fit_be
 
 pub returns-clause-no_more_wait : goal.returns-clause-no_more_wait
 returns-clause-no_more_wait c n w = c.level.ensures.adds.grows.no_more_wait n (c.ready_or_high.ensures.adds.grows.no_more_wait n (c.in_ok-made.ensures.no_more_wait n (c.fit_beat.ensures.adds.grows.no_more_wait n (c.emit_dropped.ensures.adds.grows.no_more_wait n w))))
+
+pub returns-clause-still_wait_for_write : goal.returns-clause-still_wait_for_write
+returns-clause-still_wait_for_write c m w =
+    adds_wait _ _ _ c.emit_dropped.ensures.adds m (adds_wait _ _ _ c.fit_beat.ensures.adds m (c.in_ok-made.ensures.still_wait_for_write m (adds_wait _ _ _ c.ready_or_high.ensures.adds m (adds_wait _ _ _ c.level.ensures.adds m w))))
+
+pub returns-clause-no_more_write : goal.returns-clause-no_more_write
+returns-clause-no_more_write c m w =
+    adds_no_wait _ _ _ c.level.ensures.adds m (adds_no_wait _ _ _ c.ready_or_high.ensures.adds m (c.in_ok-made.ensures.no_more_write m (adds_no_wait _ _ _ c.fit_beat.ensures.adds m (adds_no_wait _ _ _ c.emit_dropped.ensures.adds m w))))
 
 pub returns-clause-nets : goal.returns-clause-nets
 returns-clause-nets c =
@@ -125,7 +135,7 @@ returns-clause-ignores_ready c =
     (subst (λ (beat : BeatNets). IgnoresInLonger c.emit_stages.new.builder beat c.in_ok-made.made.beat) (c.copied.ensures ∙ c.beat_of-start.ensures) c.in_ok-made.ensures.carries.ignores))
 
 pub returns-in_err-low-clause-grows : goal.returns-in_err-low-clause-grows
-returns-in_err-low-clause-grows c = grows_fewer _ _ _ _ (omega arith) (adds_grow _ _ _ c.level.ensures.adds)
+returns-in_err-low-clause-grows c = without_memories _ _ _ _ _ (adds_grow _ _ _ c.level.ensures.adds) (omega arith)
 
 pub returns-in_err-low-clause-few : goal.returns-in_err-low-clause-few
 returns-in_err-low-clause-few c enough = grows_fewer _ _ _ _ (omega arith) (adds_grow _ _ _ c.level.ensures.adds)
@@ -137,19 +147,19 @@ pub returns-in_err-made-clause-waits : goal.returns-in_err-made-clause-waits
 returns-in_err-made-clause-waits c n w = c.emit_stages.ensures.waits n (c.ready_or_high.ensures.adds.grows.waits n (c.level.ensures.adds.grows.waits n w))
 
 pub returns-in_err-low-clause-full : goal.returns-in_err-low-clause-full
-returns-in_err-low-clause-full c e = let full = c.level.ensures.full (handed_on _ _ _ _ c.in_err-low.was c.from_residual.ensures.1 e) in omega (arith, full)
+returns-in_err-low-clause-full c room e = let full = c.level.ensures.full (handed_on _ _ _ _ c.in_err-low.was c.from_residual.ensures.1 e) in omega (arith, full)
 
 pub returns-in_err-high-clause-full : goal.returns-in_err-high-clause-full
-returns-in_err-high-clause-full c e = let most = c.level.ensures.adds.most in let full = c.ready_or_high.ensures.full (handed_on _ _ _ _ c.in_err-high.was c.from_residual-in_err-high.ensures.1 e) in omega (arith, most, full)
+returns-in_err-high-clause-full c room e = let most = c.level.ensures.adds.most in let full = c.ready_or_high.ensures.full (handed_on _ _ _ _ c.in_err-high.was c.from_residual-in_err-high.ensures.1 e) in omega (arith, most, full)
 
 pub returns-in_err-made-clause-full : goal.returns-in_err-made-clause-full
-returns-in_err-made-clause-full c e = let most = c.level.ensures.adds.most in let more = c.ready_or_high.ensures.adds.most in let full = c.emit_stages.ensures.full (handed_on _ _ _ _ c.in_err-made.was c.from_residual-in_err-made.ensures.1 e) in omega (arith, most, more, full)
+returns-in_err-made-clause-full c room e = let most = c.level.ensures.adds.most in let more = c.ready_or_high.ensures.adds.most in let same = ap (λ (ms : List Memory). length ms) (c.ready_or_high.ensures.adds.grows.memories ∙ c.level.ensures.adds.grows.memories) in let full = c.emit_stages.ensures.full (omega (arith, room, same)) (handed_on _ _ _ _ c.in_err-made.was c.from_residual-in_err-made.ensures.1 e) in omega (arith, most, more, full)
 
 pub returns-in_err-beat-clause-full : goal.returns-in_err-beat-clause-full
-returns-in_err-beat-clause-full c e = let most = c.level.ensures.adds.most in let more = c.ready_or_high.ensures.adds.most in let stages = c.emit_stages.ensures.grows.most in let full = c.fit_beat.ensures.full (handed_on _ _ _ _ c.in_err-beat.was c.from_residual-in_err-beat.ensures.1 e) in omega (arith, most, more, stages, full)
+returns-in_err-beat-clause-full c room e = let most = c.level.ensures.adds.most in let more = c.ready_or_high.ensures.adds.most in let stages = c.emit_stages.ensures.grows.most in let full = c.fit_beat.ensures.full (handed_on _ _ _ _ c.in_err-beat.was c.from_residual-in_err-beat.ensures.1 e) in omega (arith, most, more, stages, full)
 
 pub returns-in_err-dropped-clause-full : goal.returns-in_err-dropped-clause-full
-returns-in_err-dropped-clause-full c e = let most = c.level.ensures.adds.most in let more = c.ready_or_high.ensures.adds.most in let stages = c.emit_stages.ensures.grows.most in let fitted = c.fit_beat.ensures.adds.most in let few = fits_few c.args.sink.now.empty_bits c.in_ok-made.made.beat.empty.width in let full = c.emit_dropped.ensures.full (handed_on _ _ _ _ c.in_err-dropped.was c.from_residual-in_err-dropped.ensures.1 e) in omega (arith, most, more, stages, fitted, few, full)
+returns-in_err-dropped-clause-full c room e = let most = c.level.ensures.adds.most in let more = c.ready_or_high.ensures.adds.most in let stages = c.emit_stages.ensures.grows.most in let fitted = c.fit_beat.ensures.adds.most in let few = fits_few c.args.sink.now.empty_bits c.in_ok-made.made.beat.empty.width in let full = c.emit_dropped.ensures.full (handed_on _ _ _ _ c.in_err-dropped.was c.from_residual-in_err-dropped.ensures.1 e) in omega (arith, most, more, stages, fitted, few, full)
 
 pub returns-clause-full : goal.returns-clause-full
-returns-clause-full c e = cc
+returns-clause-full c room e = cc

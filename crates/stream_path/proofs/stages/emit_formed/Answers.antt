@@ -1,6 +1,7 @@
 use Rattle.std.proofs.Common.{◌≡◌, arith, rules}
 use Rattle.std.proofs.lemmas.Result.{IfOk-weaker}
 use Rattle.stage_core.specs.Beats.{widths_of}
+use Rattle.stage_core.specs.Memories.{memory_grows_fewer, forward_grown}
 use Rattle.stream_path.specs.Parts.{source_of, sink_of}
 use Rattle.stream_path.proofs.Fronts.{carries}
 use Rattle.stream_path.proofs.Opens.{whole, takes_in}
@@ -40,10 +41,23 @@ pub returns-clause-grows : goal.returns-clause-grows
 returns-clause-grows g c =
     let front = c.requires.front.nets (widths_of c.args.from) c.requires.widths in
     let rear = c.rear_of.ensures.nets _ front.gives in
-    search rules
+    let few_front = front.few in
+    let few_rear = rear.few in
+    let front_memories = c.requires.front.few_memories in
+    let rear_memories = c.rear_of.ensures.few_memories in
+    let depth = c.new.ensures in
+    let shallow = c.requires.shallow in
+    memory_grows_fewer _ _ _ _ _ _ (grind (arith, few_front, few_rear, depth, shallow)) (grind (arith, front_memories, rear_memories)) (forward_grown _ _ _ _ c.emit_stream.ensures.grows)
 
 pub returns-clause-full : goal.returns-clause-full
-returns-clause-full g c =
+returns-clause-full g c room e =
     let front = c.requires.front.nets (widths_of c.args.from) c.requires.widths in
     let rear = c.rear_of.ensures.nets _ front.gives in
-    search rules
+    let few_front = front.few in
+    let few_rear = rear.few in
+    let front_memories = c.requires.front.few_memories in
+    let rear_memories = c.rear_of.ensures.few_memories in
+    let depth = c.new.ensures in
+    let shallow = c.requires.shallow in
+    let full = c.emit_stream.ensures.full (grind (arith, front_memories, rear_memories, room)) e in
+    grind (arith, few_front, few_rear, depth, shallow, full)

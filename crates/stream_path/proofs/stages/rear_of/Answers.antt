@@ -2,7 +2,7 @@ use Rattle.std.proofs.Common.{inr, refl, arith}
 use Rattle.stream_path.specs.Parts.{source_of, sink_of}
 use Rattle.stream_path.specs.Between.{formed, ordered, at_sink, still}
 use Rattle.stream_path.proofs.Fronts.{pace_is, behind, turn_part, delay_part}
-use Rattle.stream_path.proofs.Widths.{rear_given}
+use Rattle.stream_path.proofs.Widths.{rear_given, no_memories}
 use Rattle.stream_path.proofs.stages.rear_of.Goals as goal
 
 pub returns : goal.returns
@@ -17,4 +17,5 @@ returns c =
       leads = behind source sink (formed source sink) (ordered source sink) (at_sink source sink) still still still 1 _ _ _ _ _ turn delay
           refl c.requires.sink_fits.some (inr (omega arith)) (λ e s. e) (record { least = omega arith; most = omega arith; rest = omega arith; step = omega arith; largest = omega arith });
       nets = λ widths fit. rear_given source sink c.turn_back_of.result.stage widths c.requires c.turn_back_of.ensures fit;
+      few_memories = (let none = no_memories c.turn_back_of.result.stage in omega (arith, none));
     }

@@ -16,4 +16,5 @@ returns c =
     record {
       leads = begun from c.args.joint.now.sink c.filter_of.result c.timing_of.result c.requires c.timing_of.ensures.timing c.filter_of.ensures.latency gate leads;
       nets = λ widths fit. search rules;
+      few_memories = omega arith;
     }

@@ -3,6 +3,7 @@ use Rattle.stream_runs.specs.Ends.{side_of}
 use Rattle.stream_path.specs.Parts.{source_of, sink_of}
 use Rattle.stream_path.specs.Between.{timed, with_errors, still, timed_bounds}
 use Rattle.stream_path.proofs.Fronts.{behind, error_part}
+use Rattle.stream_path.proofs.Widths.{no_memories}
 use Rattle.stream_path.proofs.stages.with_errors.Goals as goal
 
 pub returns : goal.returns
@@ -14,4 +15,5 @@ returns g c =
       leads = behind source sink (side_of source) (timed source sink) (with_errors source sink) (timed_bounds source) still (timed_bounds source) 1 _ _ _ _ _ c.requires.front.leads (error_part source sink c.error_tie_of.result.stage c.requires.joined c.error_tie_of.ensures)
           refl c.requires.joined.source_fits.some (inl (omega arith)) (λ e s. s) (record { least = omega arith; most = omega arith; rest = omega arith; step = omega arith; largest = omega arith });
       nets = λ widths fit. (let given = c.requires.front.nets widths fit in search rules);
+      few_memories = (let front = c.requires.front.few_memories in let none = no_memories c.error_tie_of.result.stage in omega (arith, front, none));
     }

@@ -5,7 +5,7 @@ use Rattle.stream_path.specs.Parts.{source_of, sink_of}
 use Rattle.stream_path.specs.Between.{with_errors, formed, still, timed_bounds, formed_bounds}
 use Rattle.stream_path.proofs.Fronts.{behind, step_at_most}
 use Rattle.stream_path.proofs.Formats.{resize_bounds, order_part, resize_part}
-use Rattle.stream_path.proofs.Widths.{format_given}
+use Rattle.stream_path.proofs.Widths.{format_given, no_memories}
 use Rattle.stream_path.proofs.stages.with_format.Goals as goal
 
 pub returns : goal.returns
@@ -25,4 +25,11 @@ returns g c =
           refl some (inl (omega arith)) (λ e s. e)
           (record { least = omega arith; most = omega arith; rest = omega arith; step = (let few = step_at_most (source.symbols + sink.symbols) 0 1 in omega (arith, few)); largest = omega arith });
       nets = λ widths fit. format_given source sink c.format_of-format.result _ _ _ _ c.requires.joined (c.requires.front.nets widths fit) format.order_widths format.resize_widths format.few_order format.few_resize;
+      few_memories = (let front = c.requires.front.few_memories in
+          let formed = c.format_of-format.result in
+          let turn = no_memories formed.first.first.stage in
+          let clear = no_memories formed.first.second.stage in
+          let narrow = no_memories formed.second.first.stage in
+          let widen = no_memories formed.second.second.stage in
+          omega (arith, front, turn, clear, narrow, widen));
     }
