@@ -2,7 +2,8 @@
 use Rattle.std.proofs.Common.{◌≡◌, ℕ, List, [], slice_get, Some, refl, subst, arith}
 use Rattle.std.specs.Prelude.{codes}
 use Rattle.netlist.specs.declared.line.Memory.{Memory}
-use Rattle.netlist.specs.Netlists.{Netlist, IsHeader, IsOutputPort, IsWritten}
+use Rattle.netlist.specs.Netlists.{Netlist, IsHeader, IsOutputPort}
+use Rattle.net_parts.specs.Growth.{AddsNets, StillWaitForWrite}
 
 pub header : IsHeader (codes "t_interconnect") []
 header = record {
@@ -16,6 +17,6 @@ header = record {
 pub no_output : (k w : ℕ) → IsOutputPort [] k w → ⊥
 no_output k w i = let e = i.is in cc
 
--- the same memories have their writes
-pub still_written : (old new : Netlist) → new.memories ≡ old.memories → IsWritten old → IsWritten new
-still_written old new e h m waiting = h m (record { memory = waiting.memory; is = subst (λ (ms : List Memory). slice_get ms m ≡ Some waiting.memory) e waiting.is; waits = waiting.waits })
+-- beside nets without memories no more memories wait for their writes
+pub adds_no_wait : (k : ℕ) (old new : Netlist) → AddsNets k old new → StillWaitForWrite new old
+adds_no_wait k old new adds m waiting = record { memory = waiting.memory; is = subst (λ (ms : List Memory). slice_get ms m ≡ Some waiting.memory) adds.grows.memories waiting.is; waits = waiting.waits }

@@ -1,7 +1,6 @@
 use Rattle.std.proofs.Common.{List, subst}
 use Rattle.netlist.specs.declared.line.PortLine.{PortLine}
 use Rattle.netlist.specs.Netlists.{IsOutputPort}
-use Rattle.adapters_tests.proofs.Ports.{still_written}
 use Rattle.adapters_tests.proofs.builders.made_by.Goals as goal
 
 pub finish-requires-clause-driven : goal.finish-requires-clause-driven
@@ -11,4 +10,4 @@ pub finish-requires-clause-clocked : goal.finish-requires-clause-clocked
 finish-requires-clause-clocked g c n h = c.in_ok-builder.ensures.clocked n (c.in_ok-made.ensures.no_more_wait n h)
 
 pub finish-requires-clause-written : goal.finish-requires-clause-written
-finish-requires-clause-written g c = still_written _ _ c.in_ok-made.ensures.memories c.in_ok-builder.ensures.written
+finish-requires-clause-written g c m h = c.in_ok-builder.ensures.written m (c.in_ok-made.ensures.no_more_write m h)

@@ -1,5 +1,6 @@
 use Rattle.std.proofs.Common.{sym, ap, ◌∙◌}
 use Rattle.stage_core.specs.declared.beat.BeatNets.{BeatNets}
+use Rattle.adapters_tests.proofs.Ports.{adds_no_wait}
 use Rattle.adapters_tests.proofs.channels.emit_filter.Goals as goal
 
 pub emit_stream-requires-clause-widths : goal.emit_stream-requires-clause-widths
@@ -12,5 +13,5 @@ pub returns : goal.returns
 returns c = record {
   ports = c.emit_dropped.ensures.adds.grows.extends.keeps.ports ∙ c.emit_stream.ensures.grows.extends.keeps.ports ∙ c.constant.ensures.adds.grows.extends.keeps.ports ∙ c.level.ensures.adds.grows.extends.keeps.ports;
   no_more_wait = λ n h. c.level.ensures.adds.grows.no_more_wait n (c.constant.ensures.adds.grows.no_more_wait n (c.in_ok-made.ensures.no_more_wait n (c.emit_dropped.ensures.adds.grows.no_more_wait n h)));
-  memories = c.emit_dropped.ensures.adds.grows.memories ∙ c.emit_stream.ensures.grows.memories ∙ c.constant.ensures.adds.grows.memories ∙ c.level.ensures.adds.grows.memories;
+  no_more_write = λ m h. adds_no_wait _ _ _ c.level.ensures.adds m (adds_no_wait _ _ _ c.constant.ensures.adds m (c.in_ok-made.ensures.no_more_write m (adds_no_wait _ _ _ c.emit_dropped.ensures.adds m h)));
 }
