@@ -10,6 +10,7 @@ use Rattle.address_map.specs.Footprints.{known_at}
 use Rattle.address_map.specs.Maps.{mm_ends, hosts_of, agents_of}
 use Rattle.link_rules.specs.Plans.{PlanTable}
 use Rattle.netlist.specs.declared.line.Line.{Line}
+use Rattle.netlist.specs.declared.line.Memory.{Memory}
 use Rattle.netlist.specs.Netlists.{Netlist, driver_of, input_count}
 use Rattle.netlist.specs.Longer.{Extends}
 use Rattle.net_parts.specs.Laws.{extends_twice}
@@ -179,6 +180,7 @@ module _ (plan : PlanTable) (old middle : Netlist) (parts : FabricParts) (some :
         clocked = λ n w. begun.clocked n (adds.no_more_wait n (waiting_as middle new n same.lines w));
         written = λ m w. begun.written m (adds.no_more_wait_for_write m (unwritten_as middle new m same.memories w));
         few = (let most = adds.grows.most in let lines = ap (λ (ls : List Line). length ls) same.lines in let before = begun.few in omega (arith, most, lines, before));
+        few_memories = (let most = adds.grows.most_memories in let memories = ap (λ (ms : List Memory). length ms) same.memories in let none = ap (λ (ms : List Memory). length ms) begun.memories in omega (arith, most, memories, none));
       }
 
 -- where there is no host, there is nothing to join
@@ -193,4 +195,5 @@ nothing_joined plan netlist none begun = record {
   clocked = begun.clocked;
   written = begun.written;
   few = (let few = begun.few in omega (arith, few));
+  few_memories = (let none = ap (λ (ms : List Memory). length ms) begun.memories in omega (arith, none));
 }

@@ -18,7 +18,7 @@ use Rattle.netlist.specs.Netlists.{Netlist, IsInputPort, input_count, input_net}
 use Rattle.net_parts.specs.Nets.{IsNetOfWidth}
 use Rattle.st_timing.specs.Ends.{declared}
 use Rattle.stream_path.specs.Ends.{IsNetIf, AreSourceNets, ArePathNets}
-use Rattle.stream_path.specs.Serving.{most_nets, ServesInLonger}
+use Rattle.stream_path.specs.Serving.{most_nets, most_memories, ServesInLonger}
 use Rattle.stream_path.specs.declared.ends.SourceNets.{SourceNets}
 use Rattle.stream_path.specs.declared.ends.PathNets.{PathNets}
 use Rattle.port_tables.specs.declared.roles.PortRole.{PortRole}
@@ -234,6 +234,14 @@ path_room plan number netlist h links inside upto =
     let streams = h.planned.few_streams in
     omega (arith, few, inputs, memory, streams, inside)
 
+pub path_memory_room : (plan : PlanTable) (number : ℕ) (netlist : Netlist) → HasKnownPorts plan.system → number < length (streams_of plan.system) → IsJoinedUpTo plan number netlist
+    → length netlist.memories + most_memories ≤ 2 ^ 16
+path_memory_room plan number netlist h inside upto =
+    let few = upto.few_memories in
+    let agents = h.planned.few_agents in
+    let streams = h.planned.few_streams in
+    omega (arith, few, agents, streams, inside)
+
 -- ---- what was added
 
 -- a stream with a low net is a wire, and the net is its own
@@ -264,7 +272,8 @@ adds_wire law system number link low netlist from ready made h at bounded inputs
           (low_bit netlist low (input_count (ports_of system) + wires_before system number) known.1 line));
       serves = subst (λ (m : PathNets). ServesInLonger source sink link.fifo from ready m netlist) (sym is)
           (wire_serves law netlist source sink link.fifo from ready low wire bounded.some nets there (subst (λ (n : ℕ). slice_get netlist.lines n ≡ Some low_line) (sym number_is) line));
-      grows = grows-none most_nets netlist;
+      grows = grows-none most_nets most_memories netlist;
       no_more_wait = λ n w. w;
+      no_more_wait_for_write = λ m w. w;
       wire = is;
     }

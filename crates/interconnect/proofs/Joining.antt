@@ -14,6 +14,7 @@ use Rattle.link_rules.specs.Links.{streams_of}
 use Rattle.link_rules.specs.Plans.{PlanTable}
 use Rattle.link_rules.specs.PlanLinks.{IsStreamLink}
 use Rattle.netlist.specs.declared.line.Line.{Line}
+use Rattle.netlist.specs.declared.line.Memory.{Memory}
 use Rattle.netlist.specs.Nets.{NetValue}
 use Rattle.netlist.specs.Netlists.{Netlist, driver_of, input_count}
 use Rattle.netlist.specs.Longer.{Extends}
@@ -374,8 +375,9 @@ one_more_joined plan number link old middle half new made law s upto =
             of_sinks = λ n a source sink below is. free.of_sinks n a source sink (omega (arith, below)) is;
           });
       clocked = λ n w. upto.clocked n (s.adds.no_more_wait n (waiting_as middle new n same.lines w));
-      written = λ m w. upto.written m (unwritten_as old middle m grows.memories (unwritten_as middle new m same.memories w));
+      written = λ m w. upto.written m (s.adds.no_more_wait_for_write m (unwritten_as middle new m same.memories w));
       few = (let most = grows.most in let lines = ap (λ (ls : List Line). length ls) same.lines in let before = upto.few in omega (arith, most, lines, before));
+      few_memories = (let most = grows.most_memories in let memories = ap (λ (ms : List Memory). length ms) same.memories in let before = upto.few_memories in omega (arith, most, memories, before));
     }
 
 -- the ports of the stream whose turn it is may be driven

@@ -11,7 +11,7 @@ use Rattle.stream_runs.specs.Delivery.{Stream, StreamRun, IsServed}
 use Rattle.stream_runs.specs.Awake.{NeverIdles, IsServedAwake, stream_window}
 use Rattle.stream_runs.specs.Ends.{Declared, Signals, AreAlike, IsWire as IsWireRun, side_of, view_of, stream_of, run_of}
 use Rattle.net_parts.specs.Nets.{IsNetOfWidth, IsBit}
-use Rattle.net_parts.specs.Growth.{GrowsBy}
+use Rattle.net_parts.specs.Growth.{GrowsInMemory}
 use Rattle.stream_path.specs.Ends.{IsNetIf, IsNetWhere, AreSourceNets, ArePathNets, signal_on, signal_of, signal_where, source_signals, sink_signals}
 use Rattle.stream_path.specs.Serving.{ServesInLonger}
 use Rattle.stream_path.specs.declared.ends.SourceNets.{SourceNets}
@@ -123,5 +123,5 @@ pub low_bit : (netlist : Netlist) (low : NetValue) (n : ℕ) → low ≡ net_of 
 low_bit netlist low n e line =
     subst (IsBit netlist) (sym e) (record { is_net = ap (option_map (λ (l : Line). l.width)) line; has_width = refl })
 
-pub grows-none : (count : ℕ) (netlist : Netlist) → GrowsBy count netlist netlist
-grows-none count netlist = record { extends = extends-refl netlist; most = omega arith; drivers = refl; memories = refl }
+pub grows-none : (count memories : ℕ) (netlist : Netlist) → GrowsInMemory count memories netlist netlist
+grows-none count memories netlist = record { extends = extends-refl netlist; most = omega arith; most_memories = omega arith; drivers = refl }

@@ -12,10 +12,10 @@ use Rattle.netlist.specs.declared.line.Line.{Line}
 use Rattle.netlist.specs.Nets.{NetValue, net_of}
 use Rattle.netlist.specs.Netlists.{Netlist, IsClocked, IsWritten, driver_of, input_count, appended}
 use Rattle.stream_runs.specs.Ends.{Declared}
-use Rattle.net_parts.specs.Growth.{GrowsBy, StillWait}
+use Rattle.net_parts.specs.Growth.{GrowsInMemory, StillWait, StillWaitForWrite}
 use Rattle.st_timing.specs.Ends.{declared}
 use Rattle.stream_path.specs.Ends.{ArePathNets}
-use Rattle.stream_path.specs.Serving.{most_nets, ServesInLonger}
+use Rattle.stream_path.specs.Serving.{most_nets, most_memories, ServesInLonger}
 use Rattle.stream_path.specs.declared.ends.SourceNets.{SourceNets}
 use Rattle.stream_path.specs.declared.ends.PathNets.{PathNets}
 use Rattle.port_tables.specs.declared.roles.PortRole.{PortRole}
@@ -101,8 +101,9 @@ pub record AddsStream (system : SystemTable) (link : StreamLink) (low : Option N
   pub ready_is : ready ≡ input_at system link.sink_end role.Ready 1
   pub nets : ArePathNets new (declared link.sink) made
   pub serves : ServesInLonger (declared link.source) (declared link.sink) link.fifo from ready made new
-  pub grows : GrowsBy most_nets old new
+  pub grows : GrowsInMemory most_nets most_memories old new
   pub no_more_wait : StillWait new old
+  pub no_more_wait_for_write : StillWaitForWrite new old
   pub wire : IfSome low (λ net. made ≡ wire_nets from ready net)
 
 -- a stream whose outputs are driven by what serves it
@@ -175,3 +176,4 @@ pub record IsJoinedUpTo (plan : PlanTable) (streams : ℕ) (netlist : Netlist) :
   pub clocked : IsClocked netlist
   pub written : IsWritten netlist
   pub few : length netlist.lines ≤ input_count (ports_of plan.system) + length (streams_of plan.system) + memory_nets plan.system + streams * most_nets
+  pub few_memories : length netlist.memories ≤ length (agents_of plan.system) + streams * most_memories

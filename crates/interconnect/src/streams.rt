@@ -6,11 +6,11 @@ ghost use Rattle.link_rules.specs.Links.{streams_of};
 ghost use Rattle.link_rules.specs.PlanLinks.{IsStreamLink};
 ghost use Rattle.netlist.specs.Nets.{net_of};
 ghost use Rattle.netlist.specs.Netlists.{appended, started};
-ghost use Rattle.net_parts.specs.Growth.{GrowsBy, StillWait};
+ghost use Rattle.net_parts.specs.Growth.{GrowsInMemory, StillWait, StillWaitForWrite};
 ghost use Rattle.st_timing.specs.Ends.{declared};
 ghost use Rattle.stream_path.specs.Joining.{CanJoin};
 ghost use Rattle.stream_path.specs.Ends.{IsNetIf, AreSourceNets, ArePathNets};
-ghost use Rattle.stream_path.specs.Serving.{most_nets, ServesInLonger};
+ghost use Rattle.stream_path.specs.Serving.{most_nets, most_memories, ServesInLonger};
 ghost use Rattle.port_tables.specs.Ends.{IsAnEnd};
 ghost use Rattle.port_tables.specs.Ports.{ports_of, module_name};
 ghost use Rattle.port_tables.specs.PortMaps.{entries_of};
@@ -135,10 +135,13 @@ fn path_nets(
     requires from { AreSourceNets builder.old (declared source.now) from.now }
     requires ready { IsNetIf sink.now.ready 1 builder.old ready }
     requires room { length builder.old.lines + most_nets ≤ 2 ^ 20 }
+    requires memory_room { length builder.old.memories + most_memories ≤ 2 ^ 16 }
     ensures nets { IfOk result (λ made. ArePathNets builder.new (declared sink.now) made) }
     ensures serves { IfOk result (λ made. ServesInLonger (declared source.now) (declared sink.now) depth from.now ready made builder.new) }
-    ensures grows { GrowsBy most_nets builder.old builder.new }
+    ensures grows { GrowsInMemory most_nets most_memories builder.old builder.new }
     ensures no_more_wait { OnOk result (StillWait builder.new builder.old) }
+    ensures still_wait_for_write { OnOk result (StillWaitForWrite builder.old builder.new) }
+    ensures no_more_write { OnOk result (StillWaitForWrite builder.new builder.old) }
 {
     match emit_path(alloc, builder, source, sink, depth, from, ready) {
         Ok(made) => Ok(made),

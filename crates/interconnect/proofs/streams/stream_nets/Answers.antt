@@ -11,7 +11,7 @@ use Rattle.interconnect.proofs.Driving.{is_an_end}
 use Rattle.interconnect.proofs.StreamEnds.{source_known, source_among, sink_among}
 use Rattle.interconnect.proofs.Forms.{can_join}
 use Rattle.interconnect.proofs.WireNets.{wires_are_served}
-use Rattle.interconnect.proofs.Inputs.{sink_of, ready_input, ready_if, path_room, adds_wire}
+use Rattle.interconnect.proofs.Inputs.{sink_of, ready_input, ready_if, path_room, path_memory_room, adds_wire}
 use Rattle.interconnect.proofs.streams.stream_nets.Goals as goal
 
 pub source_nets-from-requires-clause-end : goal.source_nets-from-requires-clause-end
@@ -55,10 +55,15 @@ path_nets-requires-clause-room c =
     (record { connections = c.links_are_connections.ensures c.args.plan.now c.well_made.ensures; agents = c.links_are_few.ensures c.args.plan.now c.well_made.ensures })
     (slice_get_within (streams_of c.args.plan.now.system) c.args.number c.args.link.now.connection c.requires.link.place_is) c.requires.joined
 
+pub path_nets-requires-clause-memory_room : goal.path_nets-requires-clause-memory_room
+path_nets-requires-clause-memory_room c =
+    path_memory_room c.args.plan.now c.args.number c.args.builder.now c.ports_are_known.ensures
+    (slice_get_within (streams_of c.args.plan.now.system) c.args.number c.args.link.now.connection c.requires.link.place_is) c.requires.joined
+
 -- what holds of a result that is there
-ok_three : {T E S : Type 0} (P Q R : T → Type 0) (r : Result T E) → IfOk r P → IfOk r Q → OnOk r S → ((t : T) → P t → Q t → S → R t) → IfOk r R
-ok_three P Q R (Ok t) p q s f = f t p q s
-ok_three P Q R (Err e) p q s f = tt
+ok_four : {T E S U : Type 0} (P Q R : T → Type 0) (r : Result T E) → IfOk r P → IfOk r Q → OnOk r S → OnOk r U → ((t : T) → P t → Q t → S → U → R t) → IfOk r R
+ok_four P Q R (Ok t) p q s u f = f t p q s u
+ok_four P Q R (Err e) p q s u f = tt
 
 pub returns-in-Some : goal.returns-in-Some
 returns-in-Some c =
@@ -77,11 +82,11 @@ returns-in-None c =
     let link = c.args.link.now in
     let known = source_known system c.args.number link c.requires.link in
     let here = ready_input system link.sink_end link.sink (sink_of system c.args.number link c.ports_are_known.ensures c.requires.link) in
-    ok_three (λ made. ArePathNets c.path_nets.new.builder (declared link.sink) made)
+    ok_four (λ made. ArePathNets c.path_nets.new.builder (declared link.sink) made)
     (λ made. ServesInLonger (declared link.source) (declared link.sink) link.fifo c.source_nets-from.result c.input_of-ready.result made c.path_nets.new.builder)
     (λ made. AddsStream system link c.args.low c.args.builder.now c.path_nets.new.builder made)
-    c.path_nets.result c.path_nets.ensures.nets c.path_nets.ensures.serves c.path_nets.ensures.no_more_wait
-    (λ made nets serves waits. subst (λ (low : Option NetValue). AddsStream system link low c.args.builder.now c.path_nets.new.builder made) (sym c.in-None.is) (record {
+    c.path_nets.result c.path_nets.ensures.nets c.path_nets.ensures.serves c.path_nets.ensures.no_more_wait c.path_nets.ensures.no_more_write
+    (λ made nets serves waits writes. subst (λ (low : Option NetValue). AddsStream system link low c.args.builder.now c.path_nets.new.builder made) (sym c.in-None.is) (record {
       from = c.source_nets-from.result;
       ready = c.input_of-ready.result;
       from_are = c.source_nets-from.ensures.inputs link.source known;
@@ -90,5 +95,6 @@ returns-in-None c =
       serves = serves;
       grows = c.path_nets.ensures.grows;
       no_more_wait = waits;
+      no_more_wait_for_write = writes;
       wire = tt;
     }))
