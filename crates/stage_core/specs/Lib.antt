@@ -17,3 +17,7 @@ pub mod Between
 pub mod QueueLaw
 pub mod RowHolds
 pub mod RegisterLaw
+pub mod StoredNets
+pub mod FifoNets
+pub mod StoredLaw
+pub mod FifoLaw

@@ -1,5 +1,5 @@
 -- The memories of a stage: its first call makes them, and its second gives them their writes.
-use Rattle.std.proofs.Common.{◌≡◌, ℕ, zero, suc, ◌+◌, ◌^◌, ◌<◌, ◌≤◌, ◌⊎◌, List, length, slice_get, Some, refl, sym, subst, ap, inl, inr, arith}
+use Rattle.std.proofs.Common.{◌≡◌, ℕ, zero, suc, ◌+◌, ◌^◌, ◌<◌, ◌≤◌, ◌⊎◌, List, [], ◌∷◌, length, slice_get, Some, refl, sym, subst, inl, inr, arith}
 use Rattle.std.proofs.lemmas.Option.{slice_get_within}
 use Rattle.netlist.specs.declared.line.Memory.{Memory}
 use Rattle.netlist.specs.Netlists.{Netlist, WaitsForWrite}
@@ -18,7 +18,6 @@ ForwardGrows (suc more) nets old new = GrowsInMemory nets (suc more) old new
 -- these memories are new, and they wait for their writes beside those that waited
 pub record MemoriesCome (made : ℕ → Type 0) (old new : Netlist) : Type 0 where
   pub between : (m : ℕ) → made m → (length old.memories ≤ m) × (m < length new.memories)
-  pub longer : length old.memories ≤ length new.memories
   pub own : (m : ℕ) → made m → WaitsForWrite new m
   pub still : StillWaitForWrite old new
   pub newly : WriteWaitsBeside made old new
@@ -99,20 +98,19 @@ pub stage_grown : (k n m : ℕ) (a b c : Netlist) → ForwardGrows k n a b → B
 stage_grown zero n m a b c p q = grows_twice n m a b c p q
 stage_grown (suc k) n m a b c p q = memory_grows_fewer (n + m) (n + m) (suc k + 0) (suc k) a c (omega arith) (omega arith) (memory_grows_twice n m (suc k) 0 a b c p q)
 
-same_waits : (a b : Netlist) → b.memories ≡ a.memories → (m : ℕ) → WaitsForWrite a m → WaitsForWrite b m
-same_waits a b e m w = record { memory = w.memory; is = subst (λ (ms : List Memory). slice_get ms m ≡ Some w.memory) (sym e) w.is; waits = w.waits }
+pub waits_where_same : (a b : Netlist) → b.memories ≡ a.memories → (m : ℕ) → WaitsForWrite a m → WaitsForWrite b m
+waits_where_same a b e m w = record { memory = w.memory; is = subst (λ (ms : List Memory). slice_get ms m ≡ Some w.memory) (sym e) w.is; waits = w.waits }
 
 pub none_come : (made : ℕ → Type 0) (n : ℕ) (a b : Netlist) → GrowsBy n a b → ((m : ℕ) → ¬ made m) → MemoriesCome made a b
 none_come made n a b p none = record {
   between = λ m o. absurd (none m o);
-  longer = (let same = ap (length {A = Memory}) p.memories in omega arith);
   own = λ m o. absurd (none m o);
-  still = same_waits a b p.memories;
-  newly = λ m w. inl (same_waits b a (sym p.memories) m w);
+  still = waits_where_same a b p.memories;
+  newly = λ m w. inl (waits_where_same b a (sym p.memories) m w);
 }
 
 pub none_settle : (set : ℕ → Type 0) (n : ℕ) (a b : Netlist) → GrowsBy n a b → ((m : ℕ) → ¬ set m) → MemoriesSettle set a b
-none_settle set n a b p none = record { others = λ m o. same_waits a b p.memories m; settled = λ m w. (same_waits b a (sym p.memories) m w, none m) }
+none_settle set n a b p none = record { others = λ m o. waits_where_same a b p.memories m; settled = λ m w. (waits_where_same b a (sym p.memories) m w, none m) }
 
 pub memories_come : (k n : ℕ) (made : ℕ → Type 0) (a b : Netlist) → ForwardGrows k n a b → ForwardMemories k made a b → MemoriesCome made a b
 memories_come zero n made a b p none = none_come made n a b p none
@@ -122,13 +120,29 @@ pub memories_settle : (k n : ℕ) (set : ℕ → Type 0) (a b : Netlist) → Bac
 memories_settle zero n set a b p none = none_settle set n a b p none
 memories_settle (suc k) n set a b p settle = settle
 
-pub come_twice : (one other : ℕ → Type 0) (a b c : Netlist) → MemoriesCome one a b → MemoriesCome other b c → MemoriesCome (λ m. one m ⊎ other m) a c
-come_twice one other a b c p q =
-    let longer = p.longer in
-    let later = q.longer in
+line_at : (memories : List Memory) (n : ℕ) → n < length memories → (memory : Memory) × (slice_get memories n ≡ Some memory)
+line_at [] n below = absurd (omega (arith, below))
+line_at (memory ∷ memories) zero below = (memory, refl)
+line_at (memory ∷ memories) (suc n) below = line_at memories n (omega (arith, below))
+
+-- a longer netlist has the memories of the shorter one
+memories_longer : (a b : Netlist) → Extends a b → length a.memories ≤ length b.memories
+memories_longer a b e = by_count (length a.memories) refl
+  where
+    by_count : (n : ℕ) → length a.memories ≡ n → length a.memories ≤ length b.memories
+    by_count zero same = omega (arith, same)
+    by_count (suc n) same =
+        (let last = line_at a.memories n (omega (arith, same)) in
+        let later = e.keeps.memories n last.0 last.1 in
+        let within = slice_get_within b.memories n later.later later.is in
+        omega (arith, same, within))
+
+pub come_twice : (one other : ℕ → Type 0) (a b c : Netlist) → Extends a b → Extends b c → MemoriesCome one a b → MemoriesCome other b c → MemoriesCome (λ m. one m ⊎ other m) a c
+come_twice one other a b c e f p q =
+    let longer = memories_longer a b e in
+    let later = memories_longer b c f in
     record {
       between = λ m o. elim o [ inl i ↦ (let at = p.between m i in (at.0, omega arith)) | inr i ↦ (let at = q.between m i in (omega arith, at.1)) ];
-      longer = omega arith;
       own = λ m o. elim o [ inl i ↦ q.still m (p.own m i) | inr i ↦ q.own m i ];
       still = λ m w. q.still m (p.still m w);
       newly = λ m w. elim (q.newly m w) [ inl before ↦ elim (p.newly m before) [ inl old ↦ inl old | inr i ↦ inr (inl i) ] | inr i ↦ inr (inr i) ];
@@ -136,8 +150,8 @@ come_twice one other a b c p q =
 
 pub forward_memories : (k r : ℕ) (n m : ℕ) (one other : ℕ → Type 0) (a b c : Netlist) → ForwardGrows k n a b → ForwardMemories k one a b → ForwardGrows r m b c → ForwardMemories r other b c → ForwardMemories (k + r) (λ m. one m ⊎ other m) a c
 forward_memories zero zero n m one other a b c g p h q = λ m o. elim o [ inl i ↦ p m i | inr i ↦ q m i ]
-forward_memories zero (suc r) n m one other a b c g p h q = subst (λ k. ForwardMemories k (λ m. one m ⊎ other m) a c) (sym (plain r)) (come_twice one other a b c (none_come one n a b g p) q)
-forward_memories (suc k) r n m one other a b c g p h q = subst (λ t. ForwardMemories t (λ m. one m ⊎ other m) a c) (sym (more k r)) (come_twice one other a b c p (memories_come r m other b c h q))
+forward_memories zero (suc r) n m one other a b c g p h q = subst (λ k. ForwardMemories k (λ m. one m ⊎ other m) a c) (sym (plain r)) (come_twice one other a b c g.extends h.extends (none_come one n a b g p) q)
+forward_memories (suc k) r n m one other a b c g p h q = subst (λ t. ForwardMemories t (λ m. one m ⊎ other m) a c) (sym (more k r)) (come_twice one other a b c g.extends (forward_grown r m b c h).extends p (memories_come r m other b c h q))
 
 settle_twice : (one other : ℕ → Type 0) (a b c : Netlist) → MemoriesSettle other a b → MemoriesSettle one b c → MemoriesSettle (λ m. one m ⊎ other m) a c
 settle_twice one other a b c p q = record {

@@ -9,7 +9,7 @@ use Rattle.stream_machines.specs.Stage.{Shape, KeepsStageLaw, PassesReady, Passe
 use Rattle.stream_machines.specs.Parts.{plain_run}
 use Rattle.stream_machines.specs.Buffers.{IsQueueRun, buffer_shape}
 use Rattle.stage_core.specs.declared.beat.BeatNets.{BeatNets}
-use Rattle.stage_core.specs.declared.queue.FifoKept.{FifoKept}
+use Rattle.stage_core.specs.declared.row_queue.RowKept.{RowKept}
 use Rattle.stage_core.specs.Beats.{view_of, ShowSame, beat_in, group_of}
 use Rattle.stage_core.specs.BeatPlaces.{place_nets, first_value, beat_of, beats_in, shown_of, values_shown}
 use Rattle.stage_core.specs.Law.{KeepsShape, ReadyPasses}
@@ -23,6 +23,7 @@ use Rattle.stage_core.specs.QueueBits.{SetsQueue}
 use Rattle.stage_core.specs.QueueNets.{QueueForward, QueueBackward, queue_forward_lasts, queue_backward_lasts}
 use Rattle.stage_core.specs.Queued.{QueuesInLonger}
 use Rattle.stage_core.specs.BeatLaws.{show_same, all_same}
+use Rattle.net_parts.specs.Laws.{extends_none}
 use Rattle.net_parts.specs.PlaceLaws.{room_last}
 use Rattle.stage_core.specs.RowHolds.{packed, room_now, row_holds}
 
@@ -97,34 +98,36 @@ module _ (from to : BeatNets) (ready up : NetValue) (netlist : Netlist) (run : R
   is_queue_run (first ∷ rest) starts shows sets = row_run first rest (starts run 1 (endless 1) (omega arith)) shows sets
 
 -- the machine of the kept nets
-kept_run : (from to : BeatNets) (kept : FifoKept) (depth : ℕ) (ready up : NetValue) (netlist : Netlist) (run : Run) (side : Side) → QueueForward from to kept depth netlist → QueueBackward netlist kept.from ready up kept.places.items → IsEndlessRun netlist run →
+kept_run : (from to : BeatNets) (kept : RowKept) (depth : ℕ) (ready up : NetValue) (netlist : Netlist) (run : Run) (side : Side) → QueueForward from to kept depth netlist → QueueBackward netlist kept.from ready up kept.places.items → IsEndlessRun netlist run →
     side.pace.latency ≡ 0 → IsQueueRun depth side (view_of run from up) (view_of run to ready) (λ c. held_of (beats_in (cycle_of run c) kept.places.items))
 kept_run from to kept depth ready up netlist run side f b endless direct =
     subst (λ (n : BeatNets). IsQueueRun depth side (view_of run n up) (view_of run to ready) (λ c. held_of (beats_in (cycle_of run c) kept.places.items))) (sym f.from_is)
     (subst (λ d. IsQueueRun d side (view_of run kept.from up) (view_of run to ready) (λ c. held_of (beats_in (cycle_of run c) kept.places.items))) f.count
     (is_queue_run kept.from to ready up netlist run endless side direct kept.places.items f.starts (λ c. f.shows (cycle_of run c) ((endless (c + 1)).valuations c (omega arith))) b))
 
-pub queues : (from to : BeatNets) (kept : FifoKept) (depth : ℕ) (ready up : NetValue) (netlist : Netlist) → QueueForward from to kept depth netlist → QueueBackward netlist kept.from ready up kept.places.items → QueuesInLonger depth netlist from up to ready
+pub queues : (from to : BeatNets) (kept : RowKept) (depth : ℕ) (ready up : NetValue) (netlist : Netlist) → QueueForward from to kept depth netlist → QueueBackward netlist kept.from ready up kept.places.items → QueuesInLonger depth netlist from up to ready
 queues from to kept depth ready up netlist f b longer e run endless side direct = (
   (λ c. held_of (beats_in (cycle_of run c) kept.places.items)),
   kept_run from to kept depth ready up longer run side (queue_forward_lasts from to kept depth netlist longer f e) (queue_backward_lasts netlist longer kept.from ready up kept.places.items b e) endless direct,
 )
 
-pub queue_between : (shape : Shape) (from to : BeatNets) (kept : FifoKept) (depth : ℕ) (ready up : NetValue) (netlist : Netlist) (run : Run) → IsBufferShape depth shape → QueueForward from to kept depth netlist → QueueBackward netlist kept.from ready up kept.places.items → IsEndlessRun netlist run →
+-- nets between which a queue stands in each run keep the law of a queue
+pub queue_between : (shape : Shape) (from to : BeatNets) (depth : ℕ) (ready up : NetValue) (netlist : Netlist) (run : Run) → IsBufferShape depth shape → QueuesInLonger depth netlist from up to ready → IsEndlessRun netlist run →
     ((passes : ℕ → Bool) (depth : ℕ) (side : Side) (up down : EndView) (held : ℕ → List Beat) → IsQueueRun depth side up down held → side.pace.latency ≡ 0 → 0 < side.symbols → PassesAll passes side → KeepsStageLaw (buffer_shape passes depth side) (plain_run up down)) →
     KeepsShape shape (view_of run from up) (view_of run to ready)
-queue_between shape from to kept depth ready up netlist run p f b endless law = record {
-  rank = λ _. 0;
-  keeps = subst (λ (s : Shape). KeepsStageLaw s (plain_run (view_of run from up) (view_of run to ready))) (sym p.is)
-      (law shape.passes depth shape.up _ _ _ (kept_run from to kept depth ready up netlist run shape.up f b endless p.at_once) p.at_once p.some p.passes);
-}
+queue_between shape from to depth ready up netlist run p queues endless law =
+    let machine = queues netlist (extends_none netlist) run endless shape.up p.at_once in
+    record {
+      rank = λ _. 0;
+      keeps = subst (λ (s : Shape). KeepsStageLaw s (plain_run (view_of run from up) (view_of run to ready))) (sym p.is) (law shape.passes depth shape.up _ _ machine.0 machine.1 p.at_once p.some p.passes);
+    }
 
-pub queue_ready : (shape : Shape) (from to : BeatNets) (kept : FifoKept) (depth : ℕ) (ready up : NetValue) (netlist : Netlist) (run : Run) → IsBufferShape depth shape → QueueForward from to kept depth netlist → QueueBackward netlist kept.from ready up kept.places.items → IsEndlessRun netlist run →
+pub queue_ready : (shape : Shape) (from to : BeatNets) (depth : ℕ) (ready up : NetValue) (netlist : Netlist) (run : Run) → IsBufferShape depth shape → QueuesInLonger depth netlist from up to ready → IsEndlessRun netlist run →
     ((passes : ℕ → Bool) (depth : ℕ) (side : Side) (up down : EndView) (held : ℕ → List Beat) → IsQueueRun depth side up down held → side.pace.latency ≡ 0 → PassesReady (buffer_shape passes depth side) (plain_run up down)) →
     ReadyPasses shape (view_of run from up) (view_of run to ready)
-queue_ready shape from to kept depth ready up netlist run p f b endless law =
-    subst (λ (s : Shape). ReadyPasses s (view_of run from up) (view_of run to ready)) (sym p.is)
-    (law shape.passes depth shape.up _ _ _ (kept_run from to kept depth ready up netlist run shape.up f b endless p.at_once) p.at_once)
+queue_ready shape from to depth ready up netlist run p queues endless law =
+    let machine = queues netlist (extends_none netlist) run endless shape.up p.at_once in
+    subst (λ (s : Shape). ReadyPasses s (view_of run from up) (view_of run to ready)) (sym p.is) (law shape.passes depth shape.up _ _ machine.0 machine.1 p.at_once)
 
 values_same : (one other : Cycle) (group : List NetValue) → ((n : ℕ) → InGroup group n → one.net n ≡ other.net n) → values_of one group ≡ values_of other group
 values_same one other [] state = refl

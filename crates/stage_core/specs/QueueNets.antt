@@ -5,7 +5,7 @@ use Rattle.netlist.specs.Netlists.{Netlist, IsWaiting}
 use Rattle.netlist.specs.Runs.{Always}
 use Rattle.netlist.specs.Longer.{Extends}
 use Rattle.stage_core.specs.declared.beat.BeatNets.{BeatNets}
-use Rattle.stage_core.specs.declared.queue.FifoKept.{FifoKept}
+use Rattle.stage_core.specs.declared.row_queue.RowKept.{RowKept}
 use Rattle.stage_core.specs.Beats.{AreBeatNets, group_of}
 use Rattle.stage_core.specs.Lasting.{beat_lasts}
 use Rattle.net_parts.specs.declared.places.PlaceNets.{PlaceNets}
@@ -16,7 +16,7 @@ use Rattle.stage_core.specs.BeatPlaces.{place_nets}
 use Rattle.stage_core.specs.QueueBits.{SetsQueue}
 
 -- between the calls
-pub record QueueKeeps (kept : FifoKept) (depth : ℕ) (netlist : Netlist) : Type 0 where
+pub record QueueKeeps (kept : RowKept) (depth : ℕ) (netlist : Netlist) : Type 0 where
   pub from : AreBeatNets netlist kept.from
   pub row : AreInRow netlist (place_nets kept.from) kept.places.items
   pub count : length kept.places.items ≡ depth
@@ -27,7 +27,7 @@ FirstNumbered [] = Unit {0}
 FirstNumbered (first ∷ row) = AreNumberedFrom first.full.number (nets_of first)
 
 -- after the first call: the places begin empty, and the first one is shown where it is full, and else what comes
-pub record QueueForward (from to : BeatNets) (kept : FifoKept) (depth : ℕ) (netlist : Netlist) : Type 0 where
+pub record QueueForward (from to : BeatNets) (kept : RowKept) (depth : ℕ) (netlist : Netlist) : Type 0 where
   pub from_is : from ≡ kept.from
   pub count : length kept.places.items ≡ depth
   pub numbers : FirstNumbered kept.places.items
@@ -45,14 +45,14 @@ pub first_numbered : (netlist : Netlist) (like : PlaceNets 6) (from : ℕ) (row 
 first_numbered netlist like from [] h = tt
 first_numbered netlist like from (place ∷ row) h = numbered_here place from h.0.numbers
 
-pub queue_keeps_lasts : (kept : FifoKept) (depth : ℕ) (old new : Netlist) → QueueKeeps kept depth old → Extends old new → ((n : ℕ) → InRow kept.places.items n → IsWaiting old n → IsWaiting new n) → QueueKeeps kept depth new
+pub queue_keeps_lasts : (kept : RowKept) (depth : ℕ) (old new : Netlist) → QueueKeeps kept depth old → Extends old new → ((n : ℕ) → InRow kept.places.items n → IsWaiting old n → IsWaiting new n) → QueueKeeps kept depth new
 queue_keeps_lasts kept depth old new h e w = record {
   from = beat_lasts old new kept.from e h.from;
   row = record { start = h.row.start; is_row = row_lasts old new (place_nets kept.from) h.row.start kept.places.items e w h.row.is_row };
   count = h.count;
 }
 
-pub queue_forward_lasts : (from to : BeatNets) (kept : FifoKept) (depth : ℕ) (old new : Netlist) → QueueForward from to kept depth old → Extends old new → QueueForward from to kept depth new
+pub queue_forward_lasts : (from to : BeatNets) (kept : RowKept) (depth : ℕ) (old new : Netlist) → QueueForward from to kept depth old → Extends old new → QueueForward from to kept depth new
 queue_forward_lasts from to kept depth old new h e = record {
   from_is = h.from_is;
   count = h.count;

@@ -9,7 +9,9 @@ pub mod pass;
 pub mod queue;
 pub mod queued;
 pub mod register;
+pub mod row_queue;
 pub mod stage;
+pub mod stored_queue;
 pub mod stream;
 
 pub use beat::BeatNets;

@@ -1,31 +1,27 @@
-//! A queue of beats in a row of shifting registers. A beat that meets the queue empty goes through in the same cycle; one
-//! that can't go on takes the first empty place, and all places shift when the oldest beat goes. It shows ready exactly in
-//! the cycles that begin with an empty place. Its state is the row, and its hold so many beats as it has places. Its law is
-//! that of `queue_is_a_stage`.
+//! A queue of beats: a short one in registers, a longer one in memories. A beat that meets the queue empty goes through in the
+//! same cycle, and the queue shows ready exactly in the cycles that begin with an empty place. Its hold is so many beats as it
+//! has places. Its law is that of `queue_is_a_stage`.
 
-ghost use Rattle.std.specs.Prelude.{◌≡◌, ℕ, ◌+◌, ◌*◌, ◌^◌, ◌<◌, ◌∷◌, length, IfOk, OnOk};
-ghost use Rattle.netlist.specs.Netlists.{IsWaiting};
-ghost use Rattle.net_parts.specs.Nets.{IsBit};
-ghost use Rattle.stage_core.specs.Beats.{AreBeatNets};
-ghost use Rattle.net_parts.specs.Growth.{GrowsBy, WaitsWithout};
+ghost use Rattle.std.specs.Prelude.{◌≡◌, ◌≤◌};
 ghost use Rattle.stage_core.specs.RegisterNets.{IsBufferShape};
-ghost use Rattle.net_parts.specs.PlaceRows.{AreInRow, InRow};
-ghost use Rattle.stage_core.specs.BeatPlaces.{place_nets};
-ghost use Rattle.stage_core.specs.QueueBits.{SetsQueue};
-ghost use Rattle.stage_core.specs.QueueNets.{QueueKeeps, QueueForward, QueueBackward, queue_keeps_lasts, queue_forward_lasts, queue_backward_lasts};
+ghost use Rattle.stage_core.specs.FifoNets.{fifo_owns, fifo_owns_memories, FifoKeeps, FifoForward, FifoBackward, fifo_keeps_lasts, fifo_forward_lasts, fifo_backward_lasts};
 
 use crate::beat::BeatNets;
+use crate::row_queue::{RowKept, RowQueue};
 use crate::stage::Stage;
-use net_parts::{PlaceNets, last_full, make_places, queue_bits, set_places, show_first};
+use crate::stored_queue::{StoredKept, StoredQueue};
 use netlist::{Builder, Net, NetFault};
 use std::alloc::Global;
 use stream_machines::machines::queue_is_a_stage;
+
+/// The fewest places that stand in memories.
+const FEWEST_STORED: u8 = 4;
 
 /// A stage that holds so many beats, between ends of ready latency 0. Without places it is a wire.
 #[derive(Clone, Copy)]
 pub struct Fifo {
     pub depth: u8,
-    /// What the row of places grows by.
+    /// What a row of places grows by.
     alloc: Global,
 }
 
@@ -38,38 +34,11 @@ impl Fifo {
     }
 }
 
-/// The places, and the nets of the beat that they take.
+/// What is kept of a queue.
 #[derive(Drop)]
-pub struct FifoKept {
-    pub places: Vec<PlaceNets<6>>,
-    pub from: BeatNets,
-}
-
-/// Gives the places of a queue, which has one at least, their next nets.
-#[tactic(auto, using(net_parts::specs::Laws::growing))]
-fn set_queue(
-    builder: &mut Builder,
-    row: &[PlaceNets<6>],
-    first: &PlaceNets<6>,
-    rest: &[PlaceNets<6>],
-    from: &BeatNets,
-    ready: Net,
-) -> Result<Net, NetFault>
-    requires split { row.now ≡ first.now ∷ rest.now }
-    requires row { AreInRow builder.old (place_nets from.now) row.now }
-    requires from { AreBeatNets builder.old from.now }
-    requires ready { IsBit builder.old ready }
-    ensures net { IfOk result (λ up. IsBit builder.new up) }
-    ensures sets { IfOk result (λ up. SetsQueue builder.new from.now first.now rest.now ready up) }
-    ensures grows { GrowsBy (5 + 19 * length row.now) builder.old builder.new }
-    ensures waits { (n : ℕ) → ¬ InRow row.now n → IsWaiting builder.old n → IsWaiting builder.new n }
-    ensures no_more_wait { OnOk result (WaitsWithout (InRow row.now) builder.old builder.new) }
-    ensures full { result ≡ Err NetFault.TooManyNets → 2 ^ 20 < length builder.old.lines + (5 + 19 * length row.now) }
-{
-    let last = last_full(first, rest);
-    let bits = queue_bits(builder, last, from.valid)?;
-    set_places(builder, row, &from.place(), bits.comes, ready)?;
-    Ok(bits.room)
+pub enum FifoKept {
+    InRegisters(RowKept),
+    InMemories(StoredKept),
 }
 
 impl Stage for Fifo {
@@ -85,45 +54,51 @@ impl Stage for Fifo {
 
     ghost gives = { λ s widths. widths };
 
-    ghost forward_nets = { λ s. 7 * s.depth + 7 };
+    ghost forward_nets = { λ s. 28 };
 
-    ghost backward_nets = { λ s. 5 + 19 * s.depth };
+    ghost backward_nets = { λ s. 62 };
 
-    ghost memories = { λ s. 0 };
+    ghost memories = { λ s. 6 };
 
-    ghost owns = { λ kept n. InRow kept.places.items n };
+    ghost owns = { λ kept n. fifo_owns kept n };
 
-    ghost owns_memories = { λ kept m. ⊥ };
+    ghost owns_memories = { λ kept m. fifo_owns_memories kept m };
 
-    ghost is_kept = { λ s kept netlist. QueueKeeps kept s.depth netlist };
+    ghost is_kept = { λ s kept netlist. FifoKeeps kept s.depth netlist };
 
-    ghost forward_in = { λ s from to kept netlist. QueueForward from to kept s.depth netlist };
+    ghost forward_in = { λ s from to kept netlist. FifoForward from to kept s.depth netlist };
 
-    ghost backward_in = { λ s kept ready up netlist. QueueBackward netlist kept.from ready up kept.places.items };
+    ghost backward_in = { λ s kept ready up netlist. FifoBackward netlist kept ready up };
 
-    #[tactic(auto, using(net_parts::specs::Laws::growing))]
     fn emit_forward(
         &self,
         builder: &mut Builder,
         from: BeatNets,
     ) -> Result<(BeatNets, FifoKept), NetFault> {
-        let coming = from.place();
-        let places = make_places(self.alloc, builder, &coming, self.depth)?;
-        let to = show_first(builder, places.as_slice(), &coming)?;
-        Ok((BeatNets::of_place(to), FifoKept { places, from }))
+        if self.depth < FEWEST_STORED {
+            let row = RowQueue::new(self.alloc, self.depth);
+            let (to, kept) = row.emit_forward(builder, from)?;
+            Ok((to, FifoKept::InRegisters(kept)))
+        } else {
+            let stored = StoredQueue::new(self.depth);
+            let (to, kept) = stored.emit_forward(builder, from)?;
+            Ok((to, FifoKept::InMemories(kept)))
+        }
     }
 
-    #[tactic(auto, using(net_parts::specs::Laws::growing))]
     fn emit_backward(
         &self,
         builder: &mut Builder,
         kept: FifoKept,
         ready: Net,
     ) -> Result<Net, NetFault> {
-        let row = kept.places.as_slice();
-        match row.split_first() {
-            None => Ok(ready),
-            Some((first, rest)) => set_queue(builder, row, first, rest, &kept.from, ready),
+        match kept {
+            FifoKept::InRegisters(kept) => {
+                RowQueue::new(self.alloc, self.depth).emit_backward(builder, kept, ready)
+            }
+            FifoKept::InMemories(kept) => {
+                StoredQueue::new(self.depth).emit_backward(builder, kept, ready)
+            }
         }
     }
 
@@ -131,9 +106,9 @@ impl Stage for Fifo {
         queue_is_a_stage();
     }
 
-    ghost kept_lasts = { λ s kept old new h e w v. queue_keeps_lasts kept s.depth old new h e w };
+    ghost kept_lasts = { λ s kept old new h e w v. fifo_keeps_lasts kept s.depth old new h e w v };
 
-    ghost forward_lasts = { λ s from to kept old new h e. queue_forward_lasts from to kept s.depth old new h e };
+    ghost forward_lasts = { λ s from to kept old new h e. fifo_forward_lasts from to kept s.depth old new h e };
 
-    ghost backward_lasts = { λ s kept ready up old new h e. queue_backward_lasts old new kept.from ready up kept.places.items h e };
+    ghost backward_lasts = { λ s kept ready up old new h e. fifo_backward_lasts old new kept ready up h e };
 }

@@ -1,4 +1,4 @@
-use Rattle.stage_core.specs.QueueLaw.{queues}
+use Rattle.stage_core.specs.FifoLaw.{fifo_queues}
 use Rattle.stage_core.proofs.queued.queue_is_between.Goals as goal
 
 pub returns : goal.returns
@@ -15,7 +15,7 @@ returns g c from to ready up netlist stands =
           c.law.ensures.keeps shape from forward.first.middle kept.0.0 backward.first.middle up longer has
           (g.met.A.Stage.forward_lasts _ _ _ _ _ _ forward.first.first e)
           (g.met.A.Stage.backward_lasts _ _ _ _ _ _ backward.first.first e) run endless;
-      queue = queues forward.first.middle forward.middle kept.0.1 c.args.stages.now.first.second.depth backward.middle backward.first.middle netlist forward.first.second backward.first.second;
+      queue = fifo_queues forward.first.middle forward.middle kept.0.1 c.args.stages.now.first.second.depth backward.middle backward.first.middle netlist forward.first.second backward.first.second;
       rear = λ shape has longer e run endless.
           c.law-2.ensures.keeps shape forward.middle to kept.1 ready backward.middle longer has
           (g.met.B.Stage.forward_lasts _ _ _ _ _ _ forward.second e)

@@ -1,4 +1,4 @@
-use Rattle.std.proofs.Common.{◌+◌, ◌^◌, ◌<◌, ◌≤◌, length, sym, subst, ap, ◌∙◌}
+use Rattle.std.proofs.Common.{sym, subst, ap, ◌∙◌}
 use Rattle.std.specs.Prelude.{Some, unwrap_or, option_map}
 use Rattle.stage_core.specs.Memories.{ForwardGrows, ForwardMemories}
 use Rattle.stage_core.specs.Beats.{widths_of}

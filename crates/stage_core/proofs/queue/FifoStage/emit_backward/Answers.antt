@@ -1,30 +1,25 @@
-use Rattle.std.proofs.Common.{List, length, refl, sym, subst, ap, ◌∙◌}
-use Rattle.std.specs.Prelude.{IfOk, OnOk}
-use Rattle.std.proofs.lemmas.List.{nil_from_length}
-use Rattle.net_parts.specs.declared.places.PlaceNets.{PlaceNets}
+use Rattle.std.proofs.Common.{sym, subst, arith}
+use Rattle.std.specs.Prelude.{OnOk}
 use Rattle.net_parts.specs.Growth.{WaitsWithout}
-use Rattle.net_parts.specs.PlaceRows.{AreInRow, InRow}
-use Rattle.stage_core.specs.BeatPlaces.{place_nets}
-use Rattle.stage_core.specs.QueueNets.{QueueBackward}
+use Rattle.net_parts.specs.Laws.{grows_without_memory}
+use Rattle.stage_core.specs.declared.queue.FifoKept.{FifoKept}
+use Rattle.stage_core.specs.FifoNets.{fifo_owns, FifoKeeps}
+use Rattle.stage_core.specs.Memories.{memory_grows_fewer}
 use Rattle.stage_core.proofs.queue.FifoStage.emit_backward.Goals as goal
 
-pub set_queue-requires-clause-row : goal.set_queue-requires-clause-row
-set_queue-requires-clause-row c = subst (λ (row : List (PlaceNets 6)). AreInRow c.args.builder.now (place_nets c.args.kept.from) row) (sym c.as_slice-row.ensures.value) c.requires.kept.row
+pub returns-in-InRegisters-clause-grows : goal.returns-in-InRegisters-clause-grows
+returns-in-InRegisters-clause-grows c =
+    let few = (subst (λ (kept : FifoKept). FifoKeeps kept c.args.self.now.depth c.args.builder.now) c.in-InRegisters.is c.requires.kept).0 in
+    let same = c.new.ensures in
+    memory_grows_fewer _ _ _ _ _ _ (omega (arith, few, same)) (omega arith) (grows_without_memory _ _ _ c.emit_backward.ensures.grows)
 
-pub returns-clause-made : goal.returns-clause-made
-returns-clause-made c =
-    subst (λ (row : List (PlaceNets 6)). IfOk c.set_queue.result (λ up. QueueBackward c.set_queue.new.builder c.args.kept.from c.args.ready up row)) (sym c.in-Some.ensures.cases.0 ∙ c.as_slice-row.ensures.value) c.set_queue.ensures.sets
+pub returns-in-InRegisters-clause-full : goal.returns-in-InRegisters-clause-full
+returns-in-InRegisters-clause-full c e =
+    let few = (subst (λ (kept : FifoKept). FifoKeeps kept c.args.self.now.depth c.args.builder.now) c.in-InRegisters.is c.requires.kept).0 in
+    let same = c.new.ensures in
+    let lines = c.emit_backward.ensures.full e in
+    omega (arith, few, same, lines)
 
-pub returns-clause-waits : goal.returns-clause-waits
-returns-clause-waits c n apart w = c.set_queue.ensures.waits n (λ o. apart (subst (λ (row : List (PlaceNets 6)). InRow row n) c.as_slice-row.ensures.value o)) w
-
-pub returns-clause-no_more_wait : goal.returns-clause-no_more_wait
-returns-clause-no_more_wait c =
-    subst (λ (row : List (PlaceNets 6)). OnOk c.set_queue.result (WaitsWithout (InRow row) c.args.builder.now c.set_queue.new.builder)) c.as_slice-row.ensures.value c.set_queue.ensures.no_more_wait
-
-pub returns-in-None-clause-made : goal.returns-in-None-clause-made
-returns-in-None-clause-made c =
-    subst (λ (row : List (PlaceNets 6)). QueueBackward c.args.builder.now c.args.kept.from c.args.ready c.args.ready row) (sym (nil_from_length c.args.kept.places.items (sym (ap length c.as_slice-row.ensures.value) ∙ c.in-None.ensures.cases))) refl
-
-pub returns-in-None-clause-no_more_wait : goal.returns-in-None-clause-no_more_wait
-returns-in-None-clause-no_more_wait c n w = (w, λ o. subst (λ (row : List (PlaceNets 6)). InRow row n) (nil_from_length c.args.kept.places.items (sym (ap length c.as_slice-row.ensures.value) ∙ c.in-None.ensures.cases)) o)
+pub returns-in-InMemories-clause-no_more_wait : goal.returns-in-InMemories-clause-no_more_wait
+returns-in-InMemories-clause-no_more_wait c =
+    subst (λ (kept : FifoKept). OnOk c.emit_backward-in-InMemories.result (WaitsWithout (fifo_owns kept) c.args.builder.now c.emit_backward-in-InMemories.new.builder)) (sym c.in-InMemories.is) c.emit_backward-in-InMemories.ensures.no_more_wait

@@ -7,7 +7,7 @@ use Rattle.net_parts.specs.RowLaws.{row_here, row_waits}
 use Rattle.stage_core.specs.Lasting.{beat_lasts}
 use Rattle.stage_core.specs.BeatPlaces.{place_are, beat_are, place_widths}
 use Rattle.stage_core.specs.QueueNets.{first_numbered}
-use Rattle.stage_core.proofs.queue.FifoStage.emit_forward.Goals as goal
+use Rattle.stage_core.proofs.row_queue.RowQueueStage.emit_forward.Goals as goal
 
 pub show_first-requires : goal.show_first-requires
 show_first-requires c = (

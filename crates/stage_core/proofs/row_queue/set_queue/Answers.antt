@@ -7,7 +7,7 @@ use Rattle.net_parts.specs.PlaceRows.{IsRow, AreInRow, RowSteps, ArePlaceNets}
 use Rattle.net_parts.specs.RowLaws.{row_here, last_bit}
 use Rattle.stage_core.specs.Lasting.{beat_lasts}
 use Rattle.stage_core.specs.BeatPlaces.{place_nets, place_are}
-use Rattle.stage_core.proofs.queue.set_queue.Goals as goal
+use Rattle.stage_core.proofs.row_queue.set_queue.Goals as goal
 
 pub queue_bits-requires-clause-last : goal.queue_bits-requires-clause-last
 queue_bits-requires-clause-last c =
