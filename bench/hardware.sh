@@ -5,20 +5,7 @@
 # an agent of other words it prints the writes and reads a cycle too. Not part of the gate.
 set -eu
 top=$(cd -- "$(dirname -- "$0")/.." && pwd)
-folder=$(mktemp -d)
-trap 'rm -rf "$folder"' EXIT
-for tool in yosys iverilog; do
-  command -v "$tool" >/dev/null || { echo "$tool isn't installed"; exit 1; }
-done
-
-# A module and its files: `LOGIC FLIPFLOPS LEVELS`. A bit of memory counts as a logic cell.
-cells_of() {
-  local module=$1 files=${*:2}
-  yosys -q -p "read_verilog $files; synth_intel_alm -family cyclonev -top $module; tee -q -o $folder/cells stat" >"$folder/said" 2>&1 || { cat "$folder/said"; exit 1; }
-  yosys -q -p "read_verilog $files; synth -flatten -lut 6 -top $module; tee -q -o $folder/levels ltp -noff" >"$folder/said" 2>&1 || { cat "$folder/said"; exit 1; }
-  awk '/MISTRAL_FF/ { registers += $2 } /MISTRAL_(ALUT|NOT|MLAB)/ { logic += $2 } END { printf "%d %d ", logic, registers }' "$folder/cells"
-  grep -o 'length=[0-9]*' "$folder/levels" | tail -n 1 | cut -d= -f2
-}
+source "$top/bench/cells.sh"
 
 # Whether one count is at most one and a half times the other.
 fits() {
