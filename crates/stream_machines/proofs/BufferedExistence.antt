@@ -195,7 +195,7 @@ module _ (n : Numbers) (source : EndView) (ready : ℕ → ℕ) where
               (sym (moves_2 (λ d. valid_2 (held d) d) (λ d. beat_2 (held d) d) (λ d. ready_2 (held d) d) c))
               ∙ ap (λ b. cond (is_transfer zero_pace line.buffered c) (drop 1 ((held c).buffer ++ cond b (beat_0 c ∷ []) [])) ((held c).buffer ++ cond b (beat_0 c ∷ []) [])) (sym (taken_is c));
         };
-        asks = λ c. bit_is (ready_1 (held c)) ∙ ap (λ k. nat_lt (length (held c).buffer + k) (n.source.pace.latency + 1)) (recent n.source.pace.latency c);
+        asks = λ c legal. bit_is (ready_1 (held c)) ∙ ap (λ k. nat_lt (length (held c).buffer + k) (n.source.pace.latency + 1)) (recent n.source.pace.latency c);
       }
     where
       shows_at : (c : ℕ) (q : List Beat) → (held c).buffer ≡ q → ShowsHeld true q line.filtered line.buffered c

@@ -41,7 +41,7 @@ pub record Behaves (through : Bool) (places : ℕ) (side : Side) (up down : EndV
   pub few : (c : ℕ) → IsLegalSource side up c → length (held c) ≤ places
   pub takes : (c : ℕ) → IsLegalSource side up (suc c) → through ≡ true → held c ≡ [] → is_high up.valid c ≡ true → is_high down.ready c ≡ true → is_transfer side.pace up c ≡ true
   pub rests : (c : ℕ) → IsLegalSource side up (suc c) → held c ≡ [] → is_high down.ready c ≡ true → is_high up.ready c ≡ true
-  pub frees : (c : ℕ) → held c ≡ [] → is_high down.valid c ≡ false → is_stalled side.pace up c ≡ false
+  pub frees : (c : ℕ) → IsLegalSource side up c → held c ≡ [] → is_high down.valid c ≡ false → is_stalled side.pace up c ≡ false
 
 module _ (through : Bool) (passes : ℕ → Bool) (places : ℕ) (side : Side) (up down : EndView) (held : ℕ → List Beat) (run : HoldsBeats through side up down held) (behaves : Behaves through places side up down held)
     (positive : 0 < side.symbols) (all_pass : (channel : ℕ) → channel ≤ side.max_channel → IsTrue (passes channel)) where
@@ -205,7 +205,7 @@ module _ (through : Bool) (passes : ℕ → Bool) (places : ℕ) (side : Side) (
         passes_on = λ c legal _. passes_on c legal;
         shows = λ c legal _ valid. shows c legal valid;
         paced = λ c legal _. record { allowed = λ _. refl; held = holds c legal };
-        ranked = λ c legal _ is. no_rank (buffer_shape passes places side) (plain_run up down) c refl refl (λ quiet ready. by_shown c legal is quiet (direct_ready zero_pace down c refl ready) (shown_at c)) (λ low. idles c is low (shown_at c));
+        ranked = λ c legal _ is. no_rank (buffer_shape passes places side) (plain_run up down) c refl refl (λ quiet ready. by_shown c legal is quiet (direct_ready zero_pace down c refl ready) (shown_at c)) (λ low. idles c (λ b h. legal b (omega arith)) is low (shown_at c));
       }
     where
       by_shown : (c : ℕ) → IsLegalSource side up (suc c) → inside (buffer_shape passes places side) (plain_run up down) c ≡ store c → is_transfer zero_pace down c ≡ false → is_high down.ready c ≡ true → Shown c
@@ -215,11 +215,11 @@ module _ (through : Bool) (passes : ℕ → Bool) (places : ℕ) (side : Side) (
       by_shown c legal is quiet ready (idle none low) =
           rests_with (buffer_shape passes places side) (plain_run up down) c [] (is ∙ ap (flat_map (symbols_of side)) none) (behaves.rests c legal none ready) (omega arith) refl
 
-      idles : (c : ℕ) → inside (buffer_shape passes places side) (plain_run up down) c ≡ store c → is_high down.valid c ≡ false → Shown c → is_idle (buffer_shape passes places side) (plain_run up down) c ≡ true
-      idles c is low (from_held b bs e v same) = absurd (both_ways _ low v)
-      idles c is low (passing t none shown v same) = absurd (both_ways _ low (ap (λ n. eqb n 1) v ∙ shown))
-      idles c is low (idle none _) =
-          idle_with (buffer_shape passes places side) (plain_run up down) c [] (is ∙ ap (flat_map (symbols_of side)) none) (behaves.frees c none low) (omega arith) refl
+      idles : (c : ℕ) → IsLegalSource side up c → inside (buffer_shape passes places side) (plain_run up down) c ≡ store c → is_high down.valid c ≡ false → Shown c → is_idle (buffer_shape passes places side) (plain_run up down) c ≡ true
+      idles c legal is low (from_held b bs e v same) = absurd (both_ways _ low v)
+      idles c legal is low (passing t none shown v same) = absurd (both_ways _ low (ap (λ n. eqb n 1) v ∙ shown))
+      idles c legal is low (idle none _) =
+          idle_with (buffer_shape passes places side) (plain_run up down) c [] (is ∙ ap (flat_map (symbols_of side)) none) (behaves.frees c legal none low) (omega arith) refl
 
   -- what is inside are the beats that are held
   pub held_inside : (c : ℕ) → IsLegalSource side up c → inside (buffer_shape passes places side) (plain_run up down) c ≡ flat_map (symbols_of side) (held c)
@@ -232,16 +232,16 @@ module _ (through : Bool) (passes : ℕ → Bool) (places : ℕ) (side : Side) (
 -- ---- the buffer behind a source of some ready latency
 
 module _ (side : Side) (up down : EndView) (held : ℕ → List Beat) (run : IsBufferRun side up down held) (strict : side.pace.allowance ≡ side.pace.latency) where
-  asks_idle : (c : ℕ) → held c ≡ [] → is_high up.ready c ≡ true
-  asks_idle c none = run.asks c ∙ lt-ltb (length (held c) + ready_cycles side.pace.latency up c) (side.pace.latency + 1) (omega (arith, ap length none, ready_cycles_le side.pace.latency up c))
+  asks_idle : (c : ℕ) → IsLegalSource side up c → held c ≡ [] → is_high up.ready c ≡ true
+  asks_idle c legal none = run.asks c legal ∙ lt-ltb (length (held c) + ready_cycles side.pace.latency up c) (side.pace.latency + 1) (omega (arith, ap length none, ready_cycles_le side.pace.latency up c))
 
   buffer_behaves : Behaves true (side.pace.latency + 1) side up down held
   buffer_behaves =
       record {
         few = λ c legal. omega (arith, room side up held strict run.holds.starts (held_grows true side up down held run.holds) run.asks c legal);
-        takes = λ c legal t none shown ready. and_from _ _ shown (or_right _ _ (asks_idle c none));
-        rests = λ c legal none ready. asks_idle c none;
-        frees = λ c none low. ready_frees side.pace up c (asks_idle c none);
+        takes = λ c legal t none shown ready. and_from _ _ shown (or_right _ _ (asks_idle c (λ b h. legal b (omega arith)) none));
+        rests = λ c legal none ready. asks_idle c (λ b h. legal b (omega arith)) none;
+        frees = λ c legal none low. ready_frees side.pace up c (asks_idle c legal none);
       }
 
 pub ready_buffer_keeps : (passes : ℕ → Bool) (side : Side) (up down : EndView) (held : ℕ → List Beat) → IsBufferRun side up down held → side.pace.allowance ≡ side.pace.latency → 0 < side.symbols
@@ -288,7 +288,7 @@ module _ (side : Side) (up down : EndView) (held : ℕ → List Beat) (run : IsR
         few = register_few;
         takes = λ c legal t none shown ready. absurd (cc);
         rests = λ c legal none ready. run.asks c ∙ or_right _ _ ready;
-        frees = λ c none low. ready_frees side.pace up c (run.asks c ∙ or_left _ _ (lt-ltb (length (held c)) 1 (omega (arith, ap length none))));
+        frees = λ c legal none low. ready_frees side.pace up c (run.asks c ∙ or_left _ _ (lt-ltb (length (held c)) 1 (omega (arith, ap length none))));
       }
 
 pub register_keeps : (passes : ℕ → Bool) (side : Side) (up down : EndView) (held : ℕ → List Beat) → IsRegisterRun side up down held → side.pace.latency ≡ 0 → 0 < side.symbols
@@ -360,7 +360,7 @@ module _ (places : ℕ) (side : Side) (up down : EndView) (held : ℕ → List B
         few = λ c legal. omega (arith, leaves c legal, since_within c legal);
         takes = λ c legal t none shown ready. and_from _ _ shown (or_left _ _ (lt-ltb 0 side.pace.latency delayed));
         rests = λ c legal none ready. asks_none c none;
-        frees = λ c none low. ready_frees side.pace up c (asks_none c none);
+        frees = λ c legal none low. ready_frees side.pace up c (asks_none c none);
       }
 
 pub allowance_buffer_keeps : (passes : ℕ → Bool) (places : ℕ) (side : Side) (up down : EndView) (held : ℕ → List Beat) → IsAllowanceRun places side up down held → 0 < side.pace.latency → side.pace.latency < side.pace.allowance → side.pace.allowance < places
@@ -394,7 +394,7 @@ module _ (side : Side) (up down : EndView) (held : ℕ → List Beat) (run : Hol
 pub ready_buffer_passes_ready : (passes : ℕ → Bool) (side : Side) (up down : EndView) (held : ℕ → List Beat) → IsBufferRun side up down held → side.pace.allowance ≡ side.pace.latency
     → PassesReady (buffer_shape passes (side.pace.latency + 1) side) (plain_run up down)
 ready_buffer_passes_ready passes side up down held run strict c legal ready =
-    asks_idle side up down held run strict c (stays_empty side up down held run.holds c (λ b h. legal b (omega arith)) (λ b h. ready b (omega arith)))
+    asks_idle side up down held run strict c (λ b h. legal b (omega arith)) (stays_empty side up down held run.holds c (λ b h. legal b (omega arith)) (λ b h. ready b (omega arith)))
 
 -- ---- the queue
 
@@ -447,7 +447,7 @@ module _ (depth : ℕ) (side : Side) (up down : EndView) (held : ℕ → List Be
         few = queue_few;
         takes = λ c legal t none shown ready. and_from _ _ shown (or_right _ _ (asks_empty c none ready));
         rests = λ c legal none ready. asks_empty c none ready;
-        frees = λ c none low. none_waits side.pace up c (none_comes c none low);
+        frees = λ c legal none low. none_waits side.pace up c (none_comes c none low);
       }
 
 pub queue_keeps : (passes : ℕ → Bool) (depth : ℕ) (side : Side) (up down : EndView) (held : ℕ → List Beat) → IsQueueRun depth side up down held → side.pace.latency ≡ 0 → 0 < side.symbols

@@ -54,14 +54,14 @@ length_of_all side (beat ∷ beats) =
     omega (arith, length-append (symbols_of side beat) (flat_map (symbols_of side) beats), length-map-range_with_len (symbol_in side beat) 0 (symbol_count side beat), length_of_all side beats)
 
 -- a part of a table, counted from its own start
-range_shift : {A : Type 0} (f g : ℕ → A) (s j n : ℕ) → ((i : ℕ) → i < j + n → f (s + i) ≡ g i) → map f (range_with_len (s + j) n) ≡ map g (range_with_len j n)
+pub range_shift : {A : Type 0} (f g : ℕ → A) (s j n : ℕ) → ((i : ℕ) → i < j + n → f (s + i) ≡ g i) → map f (range_with_len (s + j) n) ≡ map g (range_with_len j n)
 range_shift f g s j zero same = refl
 range_shift {A} f g s j (suc n) same =
     let next : s + j + 1 ≡ s + (j + 1) = omega arith in
     let tail : map f (range_with_len (s + j + 1) n) ≡ map g (range_with_len (j + 1) n) = subst (λ m. map f (range_with_len m n) ≡ map g (range_with_len (j + 1) n)) (sym next) (range_shift f g s (j + 1) n (λ i h. same i (omega arith))) in
     ap (λ (x : A). x ∷ map f (range_with_len (s + j + 1) n)) (same j (omega arith)) ∙ ap (λ (xs : List A). g j ∷ xs) tail
 
-range_join : (s a b : ℕ) → range_with_len s (a + b) ≡ range_with_len s a ++ range_with_len (s + a) b
+pub range_join : (s a b : ℕ) → range_with_len s (a + b) ≡ range_with_len s a ++ range_with_len (s + a) b
 range_join s zero b =
     let none : 0 + b ≡ b = omega arith in
     let start : s ≡ s + 0 = omega arith in
@@ -71,14 +71,14 @@ range_join s (suc a) b =
     let start : s + 1 + a ≡ s + suc a = omega arith in
     ap (range_with_len s) more ∙ ap (λ (xs : List ℕ). s ∷ xs) (range_join (s + 1) a b ∙ ap (λ m. range_with_len (s + 1) a ++ range_with_len m b) start)
 
-map_twice : {A : Type 0} (f : A → Symbol) (xs : List A) → map (λ x. without_error (f x)) xs ≡ map without_error (map f xs)
+pub map_twice : {A : Type 0} (f : A → Symbol) (xs : List A) → map (λ x. without_error (f x)) xs ≡ map without_error (map f xs)
 map_twice f [] = refl
 map_twice f (x ∷ xs) = ap (λ (ys : List Symbol). without_error (f x) ∷ ys) (map_twice f xs)
 
-abbrev plain : ℕ → ℕ → Bool → Bool → Symbol
+abbrev pub plain : ℕ → ℕ → Bool → Bool → Symbol
 plain value channel first last = record { value = value; channel = channel; first = first; last = last; error = 0 }
 
-same_plain : (v v' c c' : ℕ) (f f' l l' : Bool) → v ≡ v' → c ≡ c' → f ≡ f' → l ≡ l' → plain v c f l ≡ plain v' c' f' l'
+pub same_plain : (v v' c c' : ℕ) (f f' l l' : Bool) → v ≡ v' → c ≡ c' → f ≡ f' → l ≡ l' → plain v c f l ≡ plain v' c' f' l'
 same_plain v v' c c' f f' l l' p q r s = rw (p, q, r, s) refl
 
 row_holds : (side : Side) (channel t : ℕ) (beats : List Beat) → IsRow side channel t beats → 0 < length beats → 0 < total side beats

@@ -15,6 +15,8 @@ pub mod Pieces
 pub mod Joining
 pub mod Direct
 pub mod WidenLaw
+pub mod WindowRows
+pub mod WindowLaw
 pub mod NarrowLaw
 pub mod BuffersLaw
 pub mod WiresLaw

@@ -2,6 +2,7 @@ pub mod Stage
 pub mod ReadyCycles
 pub mod Flow
 pub mod Parts
+pub mod Windows
 pub mod Buffers
 pub mod Wires
 pub mod Words

@@ -65,7 +65,7 @@ comes_in_ready side up c strict legal moves = by_latency (cases_lt 0 side.pace.l
 -- what holds one more at most where a beat comes, and shows ready where what it holds leaves a place
 module _ (side : Side) (up : EndView) (held : ℕ → List Beat) (strict : side.pace.allowance ≡ side.pace.latency) (starts : held 0 ≡ [])
     (grows : (c : ℕ) → IsLegalSource side up (suc c) → length (held (suc c)) ≤ length (held c) + one_if (is_transfer side.pace up c))
-    (asks : (c : ℕ) → is_high up.ready c ≡ nat_lt (length (held c) + ready_cycles side.pace.latency up c) (side.pace.latency + 1)) where
+    (asks : (c : ℕ) → IsLegalSource side up c → is_high up.ready c ≡ nat_lt (length (held c) + ready_cycles side.pace.latency up c) (side.pace.latency + 1)) where
   -- the beats that are held and those that may still come have their places
   pub room : (c : ℕ) → IsLegalSource side up c → length (held c) + ready_cycles side.pace.latency up c ≤ side.pace.latency + 1
   room zero legal = omega (arith, ap length starts, ready_cycles_le side.pace.latency up 0)
@@ -77,7 +77,7 @@ module _ (side : Side) (up : EndView) (held : ℕ → List Beat) (strict : side.
 
       by_ready : (a b : Bool) → length (held c) + ready_cycles side.pace.latency up c ≤ side.pace.latency + 1 → ready_cycles side.pace.latency up (suc c) + one_if b ≤ ready_cycles side.pace.latency up c + one_if a
           → is_high up.ready c ≡ a → length (held (suc c)) ≤ length (held c) + one_if b → length (held (suc c)) + ready_cycles side.pace.latency up (suc c) ≤ side.pace.latency + 1
-      by_ready true b r s e n = let below : length (held c) + ready_cycles side.pace.latency up c < side.pace.latency + 1 = ltb-true _ _ (sym (asks c) ∙ e) in omega (arith, below, s, n)
+      by_ready true b r s e n = let below : length (held c) + ready_cycles side.pace.latency up c < side.pace.latency + 1 = ltb-true _ _ (sym (asks c (λ b h. legal b (omega arith))) ∙ e) in omega (arith, below, s, n)
       by_ready false b r s e n = omega (arith, r, s, n)
 
       by_transfer : length (held c) + ready_cycles side.pace.latency up c ≤ side.pace.latency + 1
@@ -100,5 +100,5 @@ module _ (side : Side) (up : EndView) (held : ℕ → List Beat) (strict : side.
       by_ready : length (held c) + ready_cycles side.pace.latency up c ≤ side.pace.latency + 1
           → ready_cycles side.pace.latency up (suc c) + one_if (is_ready_cycle side.pace up c) ≡ ready_cycles side.pace.latency up c + one_if (is_high up.ready c)
           → (b : Bool) → is_high up.ready c ≡ b → length (held c) ≤ side.pace.latency
-      by_ready r s true e = let below : length (held c) + ready_cycles side.pace.latency up c < side.pace.latency + 1 = ltb-true _ _ (sym (asks c) ∙ e) in omega (arith, below)
+      by_ready r s true e = let below : length (held c) + ready_cycles side.pace.latency up c < side.pace.latency + 1 = ltb-true _ _ (sym (asks c (λ b h. legal b (omega arith))) ∙ e) in omega (arith, below)
       by_ready r s false e = omega (arith, r, s, ap one_if ready, ap one_if e)

@@ -1,6 +1,6 @@
 -- The words of beats that come apart, are joined, or are turned.
-use Rattle.std.specs.Prelude.{ℕ, zero, suc, ◌+◌, ◌-◌, ◌*◌, ◌/◌, ◌%◌, ◌^◌, ◌==◌, nat_le, if◌then◌else◌, List, [], ◌∷◌, ◌++◌, length, ◌≤◌, ◌<◌, ◌≡◌}
-use Rattle.stream_runs.specs.View.{Beat, Side}
+use Rattle.std.specs.Prelude.{ℕ, zero, suc, ◌+◌, ◌-◌, ◌*◌, ◌/◌, ◌%◌, ◌^◌, ◌==◌, nat_le, if◌then◌else◌, List, [], ◌∷◌, ◌++◌, length, ◌≤◌, ◌<◌, ◌≡◌, IsTrue}
+use Rattle.stream_runs.specs.View.{Beat, EndView, Side, beat_at, is_high}
 use Rattle.stream_runs.specs.Symbols.{symbol_count, value_of}
 use Rattle.stream_machines.specs.Parts.{joined_errors, first_of_row}
 
@@ -54,3 +54,7 @@ cleared_beat side beat = record beat { word = cleared_word side beat }
 -- the empty symbols of the beat are 0
 abbrev pub HasClearEmpty : Side → Beat → Type 0
 HasClearEmpty side beat = (k : ℕ) → symbol_count side beat ≤ k → k < side.symbols → value_of side beat.word k ≡ 0
+
+-- the empty symbols of each beat that is shown in the cycles before count are 0
+abbrev pub ShowsClear : Side → EndView → ℕ → Type 0
+ShowsClear side view count = (c : ℕ) → c < count → IsTrue (is_high view.valid c) → HasClearEmpty side (beat_at view c)

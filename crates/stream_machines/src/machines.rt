@@ -9,6 +9,7 @@ ghost use Rattle.stream_machines.specs.Stage.{Shape, StageRun, inside, KeepsStag
 ghost use Rattle.stream_machines.specs.Buffers.{IsBufferRun, IsAllowanceRun, IsRegisterRun, IsQueueRun, buffer_shape, direct_side};
 ghost use Rattle.stream_machines.specs.Parts.{IsWidenRun, widen_shape, plain_run, IsNarrowRun, IsSplit, IsJoined, narrow_shape};
 ghost use Rattle.stream_machines.specs.Wires.{wire_shape, wire_run, filtered_side, delayed_side, turned_side, with_error_bits, IsFilterRun, IsDelayRun, IsTieRun, IsErrorTieRun, IsClearRun, IsReorderRun};
+ghost use Rattle.stream_machines.specs.Windows.{Row, IsWindowRun, window_shape};
 ghost use Rattle.stream_machines.specs.Words.{pieces, joined_beat, turned_word, HasClearEmpty};
 
 /// A queue that shows ready where it begins a cycle with room, and through which a beat passes where
@@ -69,6 +70,22 @@ pub fn widen_is_a_stage()
     ensures rest { (passes : ℕ → Bool) (parts : ℕ) (narrow wide : Side) → 0 < parts
         → 0 < narrow.symbols → wide.symbols ≡ narrow.symbols * parts
         → (widen_shape passes parts narrow wide).rest < wide.symbols }
+{}
+
+/// The machine with a window of symbols is a stage between beats of any two sizes, and keeps less than a
+/// beat of its sink for good.
+pub fn window_is_a_stage()
+    ensures keeps { (passes : ℕ → Bool) (from into : Side) (up down : EndView) (held : ℕ → Row)
+        → IsWindowRun from into up down held
+        → 0 < from.symbols → 0 < into.symbols → from.pace.latency ≡ 0 → from.pace.allowance ≡ 0
+        → into.pace ≡ from.pace → from.packets ≡ into.packets → from.error_bits ≡ into.error_bits
+        → from.max_channel ≡ into.max_channel → (IsFalse from.packets → from.max_channel ≡ 0)
+        → PassesAll passes from
+        → KeepsStageLaw (window_shape passes from into) (plain_run up down) }
+    ensures rest { (passes : ℕ → Bool) (from into : Side) → 0 < into.symbols
+        → (window_shape passes from into).rest < into.symbols }
+    ensures hold { (passes : ℕ → Bool) (from into : Side)
+        → (window_shape passes from into).hold ≤ from.symbols + into.symbols }
 {}
 
 /// The machine that takes beats apart is a stage, and passes ready where a beat has one part.
