@@ -11,11 +11,8 @@ pub mod ChainNets
 pub mod MaybeNets
 pub mod Memories
 pub mod RegisterNets
-pub mod QueueBits
-pub mod QueueNets
 pub mod Between
 pub mod QueueLaw
-pub mod RowHolds
 pub mod RegisterLaw
 pub mod StoredNets
 pub mod FifoNets

@@ -9,10 +9,9 @@ use Rattle.netlist.specs.Runs.{Cycle, Run, cycle_of, IsEndlessRun, IsValuation}
 use Rattle.stream_runs.specs.View.{Side, Beat}
 use Rattle.stream_machines.specs.Buffers.{IsQueueRun, ShowsHeld}
 use Rattle.net_parts.specs.Groups.{values_of}
-use Rattle.memory_queues.specs.Registers.{owns_pointers}
-use Rattle.memory_queues.specs.Memories.{mem_of_number}
-use Rattle.memory_queues.specs.Queues.{owns_memories, IsInOrder, MayMove, held_in, shown_oldest}
-use Rattle.memory_queues.specs.Laws.{held_count, held_same}
+use Rattle.item_queues.specs.Queues.{owns, owns_memories, IsInOrder, MayMove, held_in}
+use Rattle.item_queues.specs.Storages.{shown_oldest}
+use Rattle.item_queues.specs.Laws.{held_count, held_same}
 use Rattle.stage_core.specs.declared.beat.BeatNets.{BeatNets}
 use Rattle.stage_core.specs.declared.stored_queue.StoredKept.{StoredKept}
 use Rattle.stage_core.specs.Beats.{view_of, ShowSame, beat_in, group_of}
@@ -24,12 +23,12 @@ use Rattle.stage_core.specs.Queued.{QueuesInLonger}
 
 -- ---- lists
 
-one_dropped : (t : Bool) (items : List (List ℕ)) → map beat_of (drop (one_if t) items) ≡ (if t then drop 1 (map beat_of items) else map beat_of items)
+pub one_dropped : (t : Bool) (items : List (List ℕ)) → map beat_of (drop (one_if t) items) ≡ (if t then drop 1 (map beat_of items) else map beat_of items)
 one_dropped true [] = refl
 one_dropped true (item ∷ items) = refl
 one_dropped false items = refl
 
-one_more : (t : Bool) (item : List ℕ) → map beat_of (only_if t item) ≡ (if t then beat_of item ∷ [] else [])
+pub one_more : (t : Bool) (item : List ℕ) → map beat_of (only_if t item) ≡ (if t then beat_of item ∷ [] else [])
 one_more true item = refl
 one_more false item = refl
 
@@ -39,9 +38,14 @@ both true false e = cc
 both false b e = cc
 
 -- where the oldest beat is shown, one is held or one comes
-shown_some : (held : List (List ℕ)) (coming shown : List ℕ) → shown ≡ shown_oldest held coming → (first_value shown == 1) ≡ true → (0 < length held) ⊎ ((held ≡ []) × ((first_value coming == 1) ≡ true))
+pub shown_some : (held : List (List ℕ)) (coming shown : List ℕ) → shown ≡ shown_oldest held coming → (first_value shown == 1) ≡ true → (0 < length held) ⊎ ((held ≡ []) × ((first_value coming == 1) ≡ true))
 shown_some [] coming shown e high = inr (refl, sym (ap (λ values. first_value values == 1) e) ∙ high)
 shown_some (item ∷ held) coming shown e high = inl (omega arith)
+
+-- the beat of the oldest item is shown, and where none is held what comes
+pub shows_items : (from to : BeatNets) (ready up : NetValue) (run : Run) (c : ℕ) (items : List (List ℕ)) → values_of (cycle_of run c) (group_of to) ≡ shown_oldest items (values_of (cycle_of run c) (group_of from)) → ShowsHeld true (map beat_of items) (view_of run from up) (view_of run to ready) c
+shows_items from to ready up run c [] same = record { valid = sym (ap first_value same); beat = sym (ap (λ values. beat_of (drop 1 values)) same) }
+shows_items from to ready up run c (item ∷ items) same = (ap (λ values. first_value values == 1) same, ap (λ values. beat_of (drop 1 values)) same)
 
 module _ (from to : BeatNets) (kept : StoredKept) (depth : ℕ) (ready up : NetValue) (netlist : Netlist) (run : Run) (f : StoredForward from to kept depth netlist) (b : StoredBackward kept ready up netlist) (endless : IsEndlessRun netlist run) where
   here : (c : ℕ) → IsValuation netlist (cycle_of run c)
@@ -53,21 +57,21 @@ module _ (from to : BeatNets) (kept : StoredKept) (depth : ℕ) (ready up : NetV
   abbrev held : ℕ → List Beat
   held c = map beat_of (items c)
 
-  count_is : (c : ℕ) → length (items c) ≡ run.net c kept.queue.pointers.count.number
+  count_is : (c : ℕ) → length (items c) ≡ run.net c kept.queue.count.number
   count_is c = held_count (cycle_of run c) kept.queue
 
   -- an item comes only where there is room
-  room : (c : ℕ) → (run.net c b.comes.number == 1) ≡ true → run.net c kept.queue.pointers.count.number < kept.queue.bound
+  room : (c : ℕ) → (run.net c b.comes.number == 1) ≡ true → run.net c kept.queue.count.number < kept.queue.bound
   room c high = ltb-true _ _ (sym (b.asks (cycle_of run c) (here c)) ∙ (both _ _ (sym (b.takes (cycle_of run c) (here c)) ∙ high)).1)
 
   empty_takes : (c : ℕ) → items c ≡ [] → (run.net c kept.from.valid.number == 1) ≡ true → (run.net c b.comes.number == 1) ≡ true
   empty_takes c none valid =
-      let count : 0 ≡ run.net c kept.queue.pointers.count.number = sym (ap length none) ∙ count_is c in
+      let count : 0 ≡ run.net c kept.queue.count.number = sym (ap length none) ∙ count_is c in
       let some = f.made.some in
       let asks : (run.net c up.number == 1) ≡ true = b.asks (cycle_of run c) (here c) ∙ lt-ltb _ _ (omega (arith, count, some)) in
       b.takes (cycle_of run c) (here c) ∙ rw (valid, asks) refl
 
-  some_there : (c : ℕ) → (run.net c b.goes.number == 1) ≡ true → (0 < run.net c kept.queue.pointers.count.number) ⊎ ((run.net c b.comes.number == 1) ≡ true)
+  some_there : (c : ℕ) → (run.net c b.goes.number == 1) ≡ true → (0 < run.net c kept.queue.count.number) ⊎ ((run.net c b.comes.number == 1) ≡ true)
   some_there c high =
       let shown : (run.net c to.valid.number == 1) ≡ true = ap (λ (n : NetValue). run.net c n.number == 1) f.valid_is ∙ (both _ _ (sym (b.gives (cycle_of run c) (here c)) ∙ high)).0 in
       elim (shown_some (items c) (values_of (cycle_of run c) (group_of kept.from)) (values_of (cycle_of run c) (group_of to)) (f.shows (cycle_of run c) (here c)) shown) [
@@ -94,11 +98,7 @@ module _ (from to : BeatNets) (kept : StoredKept) (depth : ℕ) (ready up : NetV
       (map-append beat_of (items c) (only_if (run.net c b.comes.number == 1) coming) ∙ ap (λ (beats : List Beat). held c ++ beats) (one_more (run.net c b.comes.number == 1) coming))
 
   shows_held : (c : ℕ) → ShowsHeld true (held c) (view_of run kept.from up) (view_of run to ready) c
-  shows_held c = by_items (items c) (f.shows (cycle_of run c) (here c))
-    where
-      by_items : (items : List (List ℕ)) → values_of (cycle_of run c) (group_of to) ≡ shown_oldest items (values_of (cycle_of run c) (group_of kept.from)) → ShowsHeld true (map beat_of items) (view_of run kept.from up) (view_of run to ready) c
-      by_items [] same = record { valid = sym (ap first_value same); beat = sym (ap (λ values. beat_of (drop 1 values)) same) }
-      by_items (item ∷ items) same = (ap (λ values. first_value values == 1) same, ap (λ values. beat_of (drop 1 values)) same)
+  shows_held c = shows_items kept.from to ready up run c (items c) (f.shows (cycle_of run c) (here c))
 
   -- what a queue of some depth asks for
   some_depth : (t r : Bool) → t ≡ (t || ((depth == 0) && r))
@@ -134,16 +134,9 @@ stored_queues from to kept depth ready up netlist f b longer e run endless side 
 
 -- what is shown depends on the queue and on what comes
 pub stored_ignores : (from to : BeatNets) (kept : StoredKept) (depth : ℕ) (netlist : Netlist) (one other : Cycle) → StoredForward from to kept depth netlist → IsValuation netlist one → IsValuation netlist other →
-    ((n : ℕ) → owns_pointers kept.queue.pointers n → one.net n ≡ other.net n) → SameWords (owns_memories kept.queue) netlist one other → ShowSame from one other → ShowSame to one other
+    ((n : ℕ) → owns kept.queue n → one.net n ≡ other.net n) → SameWords (owns_memories kept.queue) netlist one other → ShowSame from one other → ShowSame to one other
 stored_ignores from to kept depth netlist one other f v w state words same =
-    let queue : held_in one kept.queue ≡ held_in other kept.queue =
-    held_same kept.queue one other (record {
-      registers = state;
-      words = λ m o place low.
-          (let own = mem_of_number netlist kept.queue.pointers.first.width kept.queue.memories f.made.memories m o in
-          let mem = own.2.is_mem in
-          words m mem.memory o (subst (λ k. slice_get netlist.memories k ≡ Some mem.memory) (sym own.1) mem.is) place (subst (λ bits. place < 2 ^ bits) (sym (mem.address_bits ∙ own.2.has_address)) low));
-    }) in
+    let queue : held_in one kept.queue ≡ held_in other kept.queue = held_same netlist (place_nets kept.from).item kept.queue one other f.made (record { registers = state; words = words }) in
     let coming : values_of one (group_of kept.from) ≡ values_of other (group_of kept.from) =
     subst (λ (n : BeatNets). values_of one (group_of n) ≡ values_of other (group_of n)) f.from_is (ap values_shown (all_same from one other same)) in
     show_same to one other (ap shown_of (f.shows one v ∙ ap (λ items. shown_oldest items (values_of one (group_of kept.from))) queue ∙ ap (shown_oldest (held_in other kept.queue)) coming ∙ sym (f.shows other w)))

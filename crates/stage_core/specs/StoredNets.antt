@@ -1,4 +1,4 @@
--- A queue of beats in memories: what its two calls leave in a netlist.
+-- A queue of beats: what its two calls leave in a netlist.
 use Rattle.std.specs.Prelude.{◌≡◌, ℕ, ◌&&◌, ◌==◌, nat_lt}
 use Rattle.netlist.specs.Nets.{NetValue}
 use Rattle.netlist.specs.Netlists.{Netlist, IsWaiting, WaitsForWrite}
@@ -7,9 +7,9 @@ use Rattle.netlist.specs.Longer.{Extends}
 use Rattle.net_parts.specs.Nets.{IsBit}
 use Rattle.net_parts.specs.Laws.{net_lasts}
 use Rattle.net_parts.specs.Groups.{values_of}
-use Rattle.memory_queues.specs.Registers.{owns_pointers}
-use Rattle.memory_queues.specs.Queues.{owns_memories, IsQueueMade, StartsEmpty, StepsQueue, held_in, shown_oldest}
-use Rattle.memory_queues.specs.Laws.{queue_lasts, starts_last, steps_last}
+use Rattle.item_queues.specs.Queues.{owns, owns_memories, IsQueueMade, StartsEmpty, StepsQueue, held_in}
+use Rattle.item_queues.specs.Storages.{shown_oldest}
+use Rattle.item_queues.specs.Laws.{queue_lasts, starts_last, steps_last}
 use Rattle.stage_core.specs.declared.beat.BeatNets.{BeatNets}
 use Rattle.stage_core.specs.declared.stored_queue.StoredKept.{StoredKept}
 use Rattle.stage_core.specs.Beats.{AreBeatNets, group_of}
@@ -22,7 +22,7 @@ pub record StoredKeeps (kept : StoredKept) (depth : ℕ) (netlist : Netlist) : T
   pub made : IsQueueMade netlist (place_nets kept.from).item kept.queue
   pub bound : kept.queue.bound ≡ depth
   pub shown : IsBit netlist kept.shown
-  pub wait : (n : ℕ) → owns_pointers kept.queue.pointers n → IsWaiting netlist n
+  pub wait : (n : ℕ) → owns kept.queue n → IsWaiting netlist n
   pub wait_for_write : (m : ℕ) → owns_memories kept.queue m → WaitsForWrite netlist m
 
 -- after the first call: the queue begins empty, and the oldest beat is shown, or where none is held what comes
@@ -39,14 +39,14 @@ pub record StoredForward (from to : BeatNets) (kept : StoredKept) (depth : ℕ) 
 pub record StoredBackward (kept : StoredKept) (ready up : NetValue) (netlist : Netlist) : Type 0 where
   pub comes : NetValue
   pub goes : NetValue
-  pub asks : Always netlist (λ cycle. (cycle.net up.number == 1) ≡ nat_lt (cycle.net kept.queue.pointers.count.number) kept.queue.bound)
+  pub asks : Always netlist (λ cycle. (cycle.net up.number == 1) ≡ nat_lt (cycle.net kept.queue.count.number) kept.queue.bound)
   pub takes : Always netlist (λ cycle. (cycle.net comes.number == 1) ≡ ((cycle.net kept.from.valid.number == 1) && (cycle.net up.number == 1)))
   pub gives : Always netlist (λ cycle. (cycle.net goes.number == 1) ≡ ((cycle.net kept.shown.number == 1) && (cycle.net ready.number == 1)))
   pub steps : StepsQueue netlist kept.queue (place_nets kept.from).item comes goes
 
 -- ---- what stands lasts. No contract reads these proofs; the law of the queue cites them
 
-pub stored_keeps_lasts : (kept : StoredKept) (depth : ℕ) (old new : Netlist) → StoredKeeps kept depth old → Extends old new → ((n : ℕ) → owns_pointers kept.queue.pointers n → IsWaiting old n → IsWaiting new n) → ((m : ℕ) → owns_memories kept.queue m → WaitsForWrite old m → WaitsForWrite new m) → StoredKeeps kept depth new
+pub stored_keeps_lasts : (kept : StoredKept) (depth : ℕ) (old new : Netlist) → StoredKeeps kept depth old → Extends old new → ((n : ℕ) → owns kept.queue n → IsWaiting old n → IsWaiting new n) → ((m : ℕ) → owns_memories kept.queue m → WaitsForWrite old m → WaitsForWrite new m) → StoredKeeps kept depth new
 stored_keeps_lasts kept depth old new h e w v = record {
   from = beat_lasts old new kept.from e h.from;
   made = queue_lasts old new (place_nets kept.from).item kept.queue h.made e;

@@ -9,7 +9,6 @@ pub mod pass;
 pub mod queue;
 pub mod queued;
 pub mod register;
-pub mod row_queue;
 pub mod stage;
 pub mod stored_queue;
 pub mod stream;

@@ -2,43 +2,37 @@
 //! same cycle, and the queue shows ready exactly in the cycles that begin with an empty place. Its hold is so many beats as it
 //! has places. Its law is that of `queue_is_a_stage`.
 
-ghost use Rattle.std.specs.Prelude.{◌≡◌, ◌≤◌};
+ghost use Rattle.std.specs.Prelude.{◌≡◌};
 ghost use Rattle.stage_core.specs.RegisterNets.{IsBufferShape};
 ghost use Rattle.stage_core.specs.FifoNets.{fifo_owns, fifo_owns_memories, FifoKeeps, FifoForward, FifoBackward, fifo_keeps_lasts, fifo_forward_lasts, fifo_backward_lasts};
 
 use crate::beat::BeatNets;
-use crate::row_queue::{RowKept, RowQueue};
 use crate::stage::Stage;
 use crate::stored_queue::{StoredKept, StoredQueue};
 use netlist::{Builder, Net, NetFault};
-use std::alloc::Global;
 use stream_machines::machines::queue_is_a_stage;
-
-/// The fewest places that stand in memories.
-const FEWEST_STORED: u8 = 4;
 
 /// A stage that holds so many beats, between ends of ready latency 0. Without places it is a wire.
 #[derive(Clone, Copy)]
 pub struct Fifo {
     pub depth: u8,
-    /// What a row of places grows by.
-    alloc: Global,
 }
 
 impl Fifo {
     /// A queue of so many places.
-    pub fn new(alloc: Global, depth: u8) -> Fifo
+    pub fn new(depth: u8) -> Fifo
         ensures { result.depth ≡ depth }
     {
-        Fifo { depth, alloc }
+        Fifo { depth }
     }
 }
 
 /// What is kept of a queue.
-#[derive(Drop)]
+#[derive(Clone, Copy)]
 pub enum FifoKept {
-    InRegisters(RowKept),
-    InMemories(StoredKept),
+    /// It has no place.
+    Wire,
+    Stored(StoredKept),
 }
 
 impl Stage for Fifo {
@@ -54,9 +48,9 @@ impl Stage for Fifo {
 
     ghost gives = { λ s widths. widths };
 
-    ghost forward_nets = { λ s. 28 };
+    ghost forward_nets = { λ s. 43 };
 
-    ghost backward_nets = { λ s. 62 };
+    ghost backward_nets = { λ s. 34 };
 
     ghost memories = { λ s. 6 };
 
@@ -75,15 +69,11 @@ impl Stage for Fifo {
         builder: &mut Builder,
         from: BeatNets,
     ) -> Result<(BeatNets, FifoKept), NetFault> {
-        if self.depth < FEWEST_STORED {
-            let row = RowQueue::new(self.alloc, self.depth);
-            let (to, kept) = row.emit_forward(builder, from)?;
-            Ok((to, FifoKept::InRegisters(kept)))
-        } else {
-            let stored = StoredQueue::new(self.depth);
-            let (to, kept) = stored.emit_forward(builder, from)?;
-            Ok((to, FifoKept::InMemories(kept)))
+        if self.depth == 0 {
+            return Ok((from, FifoKept::Wire));
         }
+        let (to, kept) = StoredQueue::new(self.depth).emit_forward(builder, from)?;
+        Ok((to, FifoKept::Stored(kept)))
     }
 
     fn emit_backward(
@@ -93,10 +83,8 @@ impl Stage for Fifo {
         ready: Net,
     ) -> Result<Net, NetFault> {
         match kept {
-            FifoKept::InRegisters(kept) => {
-                RowQueue::new(self.alloc, self.depth).emit_backward(builder, kept, ready)
-            }
-            FifoKept::InMemories(kept) => {
+            FifoKept::Wire => Ok(ready),
+            FifoKept::Stored(kept) => {
                 StoredQueue::new(self.depth).emit_backward(builder, kept, ready)
             }
         }

@@ -1,22 +1,21 @@
-//! A queue of beats in memories, one for each net of a beat, with a read pointer, a write pointer and a count: the oldest beat is
-//! read and the newest one written in one cycle. Its registers are as few as its depth needs, whatever a beat's width.
+//! A queue of beats, in shifting registers or in memories: the oldest beat is shown, and the newest one taken in in one cycle. From four
+//! places on its registers are as few as its depth needs, whatever a beat's width.
 
 ghost use Rattle.std.specs.Prelude.{◌≡◌, ◌+◌, ◌^◌, ◌<◌, ◌≤◌, ◌&&◌, ◌==◌, length, IfOk};
 ghost use Rattle.netlist.specs.Runs.{Always};
 ghost use Rattle.net_parts.specs.Nets.{IsBit};
 ghost use Rattle.net_parts.specs.Growth.{AddsNets};
-ghost use Rattle.memory_queues.specs.Registers.{owns_pointers};
-ghost use Rattle.memory_queues.specs.Queues.{owns_memories};
+ghost use Rattle.item_queues.specs.Queues.{owns, owns_memories};
 ghost use Rattle.stage_core.specs.RegisterNets.{IsBufferShape};
 ghost use Rattle.stage_core.specs.StoredNets.{StoredKeeps, StoredForward, StoredBackward, stored_keeps_lasts, stored_forward_lasts, stored_backward_lasts};
 
 use crate::beat::BeatNets;
 use crate::stage::Stage;
-use memory_queues::{ItemQueue, finish_queue, has_room, make_queue, show_oldest};
+use item_queues::{ItemQueue, finish_queue, has_room, make_queue, show_oldest};
 use netlist::{Builder, Net, NetFault};
 use stream_machines::machines::queue_is_a_stage;
 
-/// A queue of so many places in memories.
+/// A queue of so many places.
 #[derive(Clone, Copy)]
 pub struct StoredQueue {
     pub depth: u8,
@@ -67,13 +66,13 @@ impl Stage for StoredQueue {
 
     ghost gives = { λ s widths. widths };
 
-    ghost forward_nets = { λ s. 17 };
+    ghost forward_nets = { λ s. 43 };
 
-    ghost backward_nets = { λ s. 16 };
+    ghost backward_nets = { λ s. 34 };
 
     ghost memories = { λ s. 6 };
 
-    ghost owns = { λ kept n. owns_pointers kept.queue.pointers n };
+    ghost owns = { λ kept n. owns kept.queue n };
 
     ghost owns_memories = { λ kept m. owns_memories kept.queue m };
 

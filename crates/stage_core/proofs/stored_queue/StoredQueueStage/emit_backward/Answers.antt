@@ -2,8 +2,8 @@ use Rattle.std.proofs.Common.{sym, subst, lit<}
 use Rattle.net_parts.specs.declared.places.PlaceNets.{PlaceNets}
 use Rattle.net_parts.specs.Laws.{extends_twice, net_lasts, adds_twice}
 use Rattle.net_parts.specs.Groups.{AreNets}
-use Rattle.memory_queues.specs.Queues.{IsQueueMade, StepsQueue}
-use Rattle.memory_queues.specs.Laws.{queue_lasts}
+use Rattle.item_queues.specs.Queues.{IsQueueMade, StepsQueue}
+use Rattle.item_queues.specs.Laws.{queue_lasts}
 use Rattle.stage_core.specs.Lasting.{beat_lasts}
 use Rattle.stage_core.specs.BeatPlaces.{place_are}
 use Rattle.stage_core.specs.Memories.{waits_where_same}

@@ -5,8 +5,9 @@ use Rattle.net_parts.specs.declared.places.PlaceNets.{PlaceNets}
 use Rattle.net_parts.specs.Laws.{extends_twice, adds_grow, grows_without_memory, memory_grows_twice}
 use Rattle.net_parts.specs.Groups.{AreNets, values_of}
 use Rattle.net_parts.specs.PlaceRows.{ArePlaceNets, HaveSameWidths, nets_of}
-use Rattle.memory_queues.specs.Laws.{queue_lasts, starts_last}
-use Rattle.memory_queues.specs.Queues.{IsQueueMade, held_in, shown_oldest}
+use Rattle.item_queues.specs.Laws.{queue_lasts, starts_last}
+use Rattle.item_queues.specs.Queues.{IsQueueMade, held_in}
+use Rattle.item_queues.specs.Storages.{shown_oldest}
 use Rattle.stage_core.specs.Lasting.{beat_lasts}
 use Rattle.stage_core.specs.BeatPlaces.{place_are, beat_are, place_widths}
 use Rattle.stage_core.specs.Memories.{waits_where_same}

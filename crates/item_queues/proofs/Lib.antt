@@ -1,0 +1,4 @@
+pub mod Counts
+pub mod Written
+pub mod Shifts
+pub mod Steps

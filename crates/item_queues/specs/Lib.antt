@@ -1,0 +1,9 @@
+pub mod Steps
+pub mod Items
+pub mod Registers
+pub mod Places
+pub mod Memories
+pub mod Stored
+pub mod Storages
+pub mod Queues
+pub mod Laws
