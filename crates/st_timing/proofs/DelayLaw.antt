@@ -20,7 +20,7 @@ use Rattle.net_parts.specs.HistoryLaw.{history_bits}
 use Rattle.st_timing.proofs.Moving.{moving_high}
 
 -- a signal of some cycles before is high
-earlier_high : (signal : ℕ → ℕ) (cycles c : ℕ) → (earlier signal cycles c == 1) ≡ (nat_le cycles c && (signal (c - cycles) == 1))
+pub earlier_high : (signal : ℕ → ℕ) (cycles c : ℕ) → (earlier signal cycles c == 1) ≡ (nat_le cycles c && (signal (c - cycles) == 1))
 earlier_high signal cycles c = by_test (nat_le cycles c)
   where
     by_test : (t : Bool) → ((if t then signal (c - cycles) else 0) == 1) ≡ (t && (signal (c - cycles) == 1))

@@ -1,7 +1,7 @@
 pub mod TieLaw
 pub mod Moving
 pub mod DelayLaw
-pub mod Counting
-pub mod BufferRows
+pub mod PromiseCounts
+pub mod QueueOf
 pub mod BufferLaw
 pub mod TimingLaw

@@ -12,13 +12,14 @@ use Rattle.stage_core.specs.declared.beat.BeatNets.{BeatNets}
 use Rattle.stage_core.specs.Beats.{view_of, ShowSame}
 use Rattle.stage_core.specs.Law.{KeepsShape, ReadyPasses}
 use Rattle.stage_core.specs.Between.{pass_between}
+use Rattle.stage_core.specs.Memories.{SameWords}
 use Rattle.st_timing.specs.declared.timing.Timing.{Timing}
 use Rattle.st_timing.specs.declared.timing.Timing.TheVariants.{Tie, Buffer, Wire}
 use Rattle.st_timing.specs.declared.timing.TimingKept.{TimingKept}
 use Rattle.st_timing.specs.declared.timing.TimingKept.TheVariants.{Tied, Buffered, Straight}
 use Rattle.st_timing.specs.declared.buffer.BufferKept.{BufferKept}
 use Rattle.st_timing.specs.BufferNets.{BufferKeeps}
-use Rattle.st_timing.specs.TimingNets.{timing_shape, timing_owns, TimingKeeps, TimingForward, TimingBackward}
+use Rattle.st_timing.specs.TimingNets.{timing_shape, timing_owns, timing_owns_memories, TimingKeeps, TimingForward, TimingBackward}
 use Rattle.st_timing.proofs.TieLaw.{tie_between, tie_ready}
 use Rattle.st_timing.proofs.BufferLaw.{buffer_between, buffer_ready, buffer_ignores}
 
@@ -43,12 +44,12 @@ timing_ready (Buffer stage) shape from to (Buffered kept) ready up netlist run p
 timing_ready (Wire stage) shape from to Straight ready up netlist run p f b endless tie buffer = λ c legal before. ap (λ (n : NetValue). run.net c n.number == 1) b ∙ before c (omega arith)
 timing_ready _ shape from to _ ready up netlist run p f b endless tie buffer = absurd f
 
-pub timing_ignores : (timing : Timing) (from to : BeatNets) (kept : TimingKept) (netlist : Netlist) (one other : Cycle) → TimingForward timing from to kept netlist → IsValuation netlist one → IsValuation netlist other → ((n : ℕ) → timing_owns kept n → one.net n ≡ other.net n) →
+pub timing_ignores : (timing : Timing) (from to : BeatNets) (kept : TimingKept) (netlist : Netlist) (one other : Cycle) → TimingForward timing from to kept netlist → IsValuation netlist one → IsValuation netlist other → ((n : ℕ) → timing_owns kept n → one.net n ≡ other.net n) → SameWords (timing_owns_memories kept) netlist one other →
     ShowSame from one other → ShowSame to one other
-timing_ignores (Tie stage) from to Tied netlist one other f v w state same = subst (λ (n : BeatNets). ShowSame n one other) (sym f) same
-timing_ignores (Buffer stage) from to (Buffered kept) netlist one other f v w state same = buffer_ignores stage.latency from to kept netlist one other f v w state same
-timing_ignores (Wire stage) from to Straight netlist one other f v w state same = subst (λ (n : BeatNets). ShowSame n one other) (sym f) same
-timing_ignores _ from to _ netlist one other f v w state same = absurd f
+timing_ignores (Tie stage) from to Tied netlist one other f v w state words same = subst (λ (n : BeatNets). ShowSame n one other) (sym f) same
+timing_ignores (Buffer stage) from to (Buffered kept) netlist one other f v w state words same = buffer_ignores stage.latency from to kept netlist one other f v w state words same
+timing_ignores (Wire stage) from to Straight netlist one other f v w state words same = subst (λ (n : BeatNets). ShowSame n one other) (sym f) same
+timing_ignores _ from to _ netlist one other f v w state words same = absurd f
 
 -- what a buffer keeps, by its own latency
 pub buffer_kept : (timing : Timing) (kept : BufferKept) (netlist : Netlist) (latency : ℕ) → latency ≡ kept.latency → TimingKeeps timing (Buffered kept) netlist → BufferKeeps kept latency netlist

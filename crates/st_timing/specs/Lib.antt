@@ -2,6 +2,6 @@ pub mod Ends
 pub mod TieNets
 pub mod TransferNets
 pub mod DelayNets
-pub mod CountNets
+pub mod PromiseNets
 pub mod BufferNets
 pub mod TimingNets

@@ -1,7 +1,7 @@
 -- The front part of what lies between a source and a sink, which leads from the source's ready latency to 0.
-use Rattle.std.specs.Prelude.{◌≡◌, ℕ, ◌+◌, ◌*◌, ◌%◌, ◌<◌, ◌≤◌, Bool, not, ◌&&◌, ◌==◌, IsTrue, IsFalse}
+use Rattle.std.specs.Prelude.{◌≡◌, ℕ, ◌%◌, ◌<◌, ◌≤◌, Bool, not, ◌&&◌, ◌==◌, IsTrue, IsFalse}
 use Rattle.netlist.specs.Nets.{NetValue}
-use Rattle.netlist.specs.Netlists.{Netlist, IsWaiting}
+use Rattle.netlist.specs.Netlists.{Netlist, IsWaiting, WaitsForWrite}
 use Rattle.netlist.specs.Longer.{Extends}
 use Rattle.iface_roles.specs.declared.records.StreamPort.{StreamPort}
 use Rattle.iface_roles.specs.Records.{ready_latency}
@@ -15,7 +15,7 @@ use Rattle.st_timing.specs.declared.timing.Timing.TheVariants.{Tie, Buffer, Wire
 use Rattle.st_timing.specs.declared.timing.TimingKept.{TimingKept}
 use Rattle.st_timing.specs.declared.timing.TimingKept.TheVariants.{Tied, Buffered, Straight}
 use Rattle.st_timing.specs.TieNets.{IsTieShape, IsTied}
-use Rattle.st_timing.specs.BufferNets.{IsReadyBufferShape, buffer_owns, BufferKeeps, BufferForward, BufferBackward, keeps_lasts, forward_lasts, backward_lasts}
+use Rattle.st_timing.specs.BufferNets.{IsReadyBufferShape, buffer_owns, buffer_owns_memories, BufferKeeps, BufferForward, BufferBackward, keeps_lasts, forward_lasts, backward_lasts}
 
 -- ---- which it is
 
@@ -49,19 +49,29 @@ pub record LeadsToZero (timing : Timing) (passes : ℕ → Bool) (side : Side) :
   pub largest : shape.largest ≤ side.pace.latency
 
 abbrev pub timing_forward_nets : Timing → ℕ
-timing_forward_nets (Buffer stage) = 7 * stage.latency + 15
+timing_forward_nets (Buffer stage) = 45
 timing_forward_nets _ = 0
 
 abbrev pub timing_backward_nets : Timing → ℕ
 timing_backward_nets (Tie stage) = 1
-timing_backward_nets (Buffer stage) = 24 * stage.latency + 31
+timing_backward_nets (Buffer stage) = 46
 timing_backward_nets (Wire stage) = 0
+
+abbrev pub timing_memories : Timing → ℕ
+timing_memories (Buffer stage) = 6
+timing_memories _ = 0
 
 -- the numbers of a buffer's registers
 abbrev pub timing_owns : TimingKept → ℕ → Type 0
 timing_owns Tied n = ⊥
 timing_owns (Buffered kept) n = buffer_owns kept n
 timing_owns Straight n = ⊥
+
+-- and of its memories
+abbrev pub timing_owns_memories : TimingKept → ℕ → Type 0
+timing_owns_memories Tied m = ⊥
+timing_owns_memories (Buffered kept) m = buffer_owns_memories kept m
+timing_owns_memories Straight m = ⊥
 
 -- between the calls: what is kept is of the part that it is, and a buffer keeps what it does
 abbrev pub TimingKeeps : Timing → TimingKept → Netlist → Type 0
@@ -85,11 +95,11 @@ TimingBackward Straight ready up netlist = up ≡ ready
 
 -- ---- what stands lasts. No contract reads these proofs; the law of the timing cites them
 
-pub timing_keeps_lasts : (timing : Timing) (kept : TimingKept) (old new : Netlist) → TimingKeeps timing kept old → Extends old new → ((n : ℕ) → timing_owns kept n → IsWaiting old n → IsWaiting new n) → TimingKeeps timing kept new
-timing_keeps_lasts (Tie stage) Tied old new h e w = h
-timing_keeps_lasts (Buffer stage) (Buffered kept) old new h e w = keeps_lasts kept stage.latency old new h e w
-timing_keeps_lasts (Wire stage) Straight old new h e w = h
-timing_keeps_lasts _ _ old new h e w = absurd h
+pub timing_keeps_lasts : (timing : Timing) (kept : TimingKept) (old new : Netlist) → TimingKeeps timing kept old → Extends old new → ((n : ℕ) → timing_owns kept n → IsWaiting old n → IsWaiting new n) → ((m : ℕ) → timing_owns_memories kept m → WaitsForWrite old m → WaitsForWrite new m) → TimingKeeps timing kept new
+timing_keeps_lasts (Tie stage) Tied old new h e w v = h
+timing_keeps_lasts (Buffer stage) (Buffered kept) old new h e w v = keeps_lasts kept stage.latency old new h e w v
+timing_keeps_lasts (Wire stage) Straight old new h e w v = h
+timing_keeps_lasts _ _ old new h e w v = absurd h
 
 pub timing_forward_lasts : (timing : Timing) (from to : BeatNets) (kept : TimingKept) (old new : Netlist) → TimingForward timing from to kept old → Extends old new → TimingForward timing from to kept new
 timing_forward_lasts (Tie stage) from to Tied old new h e = h

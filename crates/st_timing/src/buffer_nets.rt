@@ -1,69 +1,16 @@
 //! The nets of a buffer behind a ready latency.
 
-ghost use Rattle.std.specs.Prelude.{◌≡◌, ◌+◌, ◌*◌, ◌^◌, ◌<◌, ◌≤◌, ◌==◌, nat_lt, length, IfOk};
-ghost use Rattle.netlist.specs.Netlists.{IsNet};
-ghost use Rattle.netlist.specs.Runs.{Always};
-ghost use Rattle.net_parts.specs.Nets.{IsBit, IsNetOfWidth};
-ghost use Rattle.net_parts.specs.Growth.{AddsNets};
-ghost use Rattle.net_parts.specs.Counts.{high_bits};
-ghost use Rattle.st_timing.specs.CountNets.{full_count, HaveFull};
-ghost use Rattle.st_timing.specs.BufferNets.{IsReadyBufferShape, buffer_owns, BufferKeeps, BufferForward, BufferBackward, keeps_lasts, forward_lasts, backward_lasts};
+ghost use Rattle.std.specs.Prelude.{◌≡◌, ◌≤◌};
+ghost use Rattle.st_timing.specs.BufferNets.{IsReadyBufferShape, buffer_owns, buffer_owns_memories, BufferKeeps, BufferForward, BufferBackward, keeps_lasts, forward_lasts, backward_lasts};
 
 use crate::buffer::{BufferKept, ReadyBuffer};
-use crate::count::count_full;
+use crate::promises::{finish_promises, has_free, hold_promises};
 use crate::transfer::transfers;
-use net_parts::{
-    PlaceNets, constant, count_high, fill_places, make_history, set_history, set_places, show_first,
-};
+use item_queues::finish_queue;
 use netlist::{Builder, Net, NetFault};
+use stage_core::stored_queue::{StoredKept, StoredQueue};
 use stage_core::{BeatNets, Stage};
 use stream_machines::machines::buffer_is_a_stage;
-
-/// How many places are taken: by the beats that are held, and by those that may still come of the ready that was shown.
-#[tactic(auto, using(net_parts::specs::Laws::growing))]
-fn count_taken(
-    builder: &mut Builder,
-    row: &[PlaceNets<6>],
-    history: Net,
-    latency: u8,
-) -> Result<Net, NetFault>
-    requires row { HaveFull builder.old row.now }
-    requires count { length row.now ≡ latency + 1 }
-    requires few { latency ≤ 8 }
-    requires history { IsNet builder.old history }
-    requires wide { latency ≤ history.width }
-    ensures net { IfOk result (λ taken. IsNetOfWidth builder.new taken 5) }
-    ensures value { IfOk result (λ taken. Always builder.new (λ cycle. cycle.net taken.number ≡ full_count cycle row.now + high_bits latency (cycle.net history.number))) }
-    ensures adds { AddsNets (5 * latency + 4) builder.old builder.new }
-    ensures full { result ≡ Err NetFault.TooManyNets → 2 ^ 20 < length builder.old.lines + (5 * latency + 4) }
-{
-    let zeros = constant(builder, 4, 0)?;
-    let held = count_full(builder, zeros, row)?;
-    count_high(builder, zeros, held, history, latency)
-}
-
-/// Whether a place is left.
-#[tactic(auto, using(net_parts::specs::Laws::growing))]
-fn has_room(
-    builder: &mut Builder,
-    row: &[PlaceNets<6>],
-    history: Net,
-    latency: u8,
-) -> Result<Net, NetFault>
-    requires row { HaveFull builder.old row.now }
-    requires count { length row.now ≡ latency + 1 }
-    requires few { latency ≤ 8 }
-    requires history { IsNet builder.old history }
-    requires wide { latency ≤ history.width }
-    ensures net { IfOk result (λ room. IsBit builder.new room) }
-    ensures value { IfOk result (λ room. Always builder.new (λ cycle. (cycle.net room.number == 1) ≡ nat_lt (full_count cycle row.now + high_bits latency (cycle.net history.number)) (latency + 1))) }
-    ensures adds { AddsNets (5 * latency + 6) builder.old builder.new }
-    ensures full { result ≡ Err NetFault.TooManyNets → 2 ^ 20 < length builder.old.lines + (5 * latency + 6) }
-{
-    let taken = count_taken(builder, row, history, latency)?;
-    let places = constant(builder, 5, latency + 1)?;
-    builder.less(taken, places)
-}
 
 impl Stage for ReadyBuffer {
     type Held = BufferKept;
@@ -78,15 +25,15 @@ impl Stage for ReadyBuffer {
 
     ghost gives = { λ s widths. widths };
 
-    ghost forward_nets = { λ s. 7 * s.latency + 15 };
+    ghost forward_nets = { λ s. 45 };
 
-    ghost backward_nets = { λ s. 24 * s.latency + 31 };
+    ghost backward_nets = { λ s. 46 };
 
-    ghost memories = { λ s. 0 };
+    ghost memories = { λ s. 6 };
 
     ghost owns = { λ kept n. buffer_owns kept n };
 
-    ghost owns_memories = { λ kept m. ⊥ };
+    ghost owns_memories = { λ kept m. buffer_owns_memories kept m };
 
     ghost is_kept = { λ s kept netlist. BufferKeeps kept s.latency netlist };
 
@@ -94,26 +41,21 @@ impl Stage for ReadyBuffer {
 
     ghost backward_in = { λ s kept ready up netlist. BufferBackward kept ready up netlist };
 
-    #[tactic(auto, using(net_parts::specs::Laws::growing))]
     fn emit_forward(
         &self,
         builder: &mut Builder,
         from: BeatNets,
     ) -> Result<(BeatNets, BufferKept), NetFault> {
         let latency = self.latency;
-        let count = usize::from(latency) + 1;
-        let coming = from.place();
-        let mut places = [coming; 9];
-        fill_places(builder, &coming, &mut places[..count])?;
-        let to = show_first(builder, &places[..count], &coming)?;
-        let history = make_history(builder, latency.max(1))?;
+        let queue = StoredQueue::new(latency + 1);
+        let (to, stored) = queue.emit_forward(builder, from)?;
+        let promises = hold_promises(builder, latency)?;
         Ok((
-            BeatNets::of_place(to),
+            to,
             BufferKept {
                 latency,
-                places,
-                history,
-                from,
+                stored,
+                promises,
             },
         ))
     }
@@ -125,11 +67,17 @@ impl Stage for ReadyBuffer {
         kept: BufferKept,
         ready: Net,
     ) -> Result<Net, NetFault> {
-        let row = &kept.places[..usize::from(kept.latency) + 1];
-        let up = has_room(builder, row, kept.history, kept.latency)?;
-        let comes = transfers(builder, kept.latency, kept.from.valid, up)?;
-        set_places(builder, row, &kept.from.place(), comes, ready)?;
-        set_history(builder, kept.history, up)?;
+        let BufferKept {
+            latency,
+            stored,
+            promises,
+            ..
+        } = kept;
+        let StoredKept { queue, from, shown } = stored;
+        let up = has_free(builder, &promises)?;
+        let goes = transfers(builder, 0, shown, ready)?;
+        finish_promises(builder, &promises, latency, up, from.valid, goes)?;
+        finish_queue(builder, &queue, &from.place().item, from.valid, goes)?;
         Ok(up)
     }
 
@@ -137,7 +85,7 @@ impl Stage for ReadyBuffer {
         buffer_is_a_stage();
     }
 
-    ghost kept_lasts = { λ s kept old new h e w v. keeps_lasts kept s.latency old new h e w };
+    ghost kept_lasts = { λ s kept old new h e w v. keeps_lasts kept s.latency old new h e w v };
 
     ghost forward_lasts = { λ s from to kept old new h e. forward_lasts from to kept s.latency old new h e };
 

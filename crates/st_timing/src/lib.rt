@@ -3,8 +3,8 @@
 
 pub mod buffer;
 mod buffer_nets;
-mod count;
 pub mod delay;
+pub mod promises;
 pub mod tie;
 pub mod timing;
 mod transfer;

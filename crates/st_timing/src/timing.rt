@@ -5,7 +5,7 @@ ghost use Rattle.std.specs.Prelude.{◌≡◌, ◌<◌, ◌≤◌, ℕ, Bool};
 ghost use Rattle.iface_roles.specs.Records.{ready_latency};
 ghost use Rattle.stream_runs.specs.View.{Side};
 ghost use Rattle.stream_machines.specs.Stage.{PassesAll};
-ghost use Rattle.st_timing.specs.TimingNets.{IsTimingOf, timing_shape, LeadsToZero, timing_forward_nets, timing_backward_nets, timing_owns, TimingKeeps, TimingForward, TimingBackward, timing_keeps_lasts, timing_forward_lasts, timing_backward_lasts};
+ghost use Rattle.st_timing.specs.TimingNets.{IsTimingOf, timing_shape, LeadsToZero, timing_forward_nets, timing_backward_nets, timing_memories, timing_owns, timing_owns_memories, TimingKeeps, TimingForward, TimingBackward, timing_keeps_lasts, timing_forward_lasts, timing_backward_lasts};
 
 use crate::buffer::{BufferKept, ReadyBuffer};
 use crate::tie::TieReady;
@@ -70,11 +70,11 @@ impl Stage for Timing {
 
     ghost backward_nets = { λ s. timing_backward_nets s };
 
-    ghost memories = { λ s. 0 };
+    ghost memories = { λ s. timing_memories s };
 
     ghost owns = { λ kept n. timing_owns kept n };
 
-    ghost owns_memories = { λ kept m. ⊥ };
+    ghost owns_memories = { λ kept m. timing_owns_memories kept m };
 
     ghost is_kept = { λ s kept netlist. TimingKeeps s kept netlist };
 
@@ -120,7 +120,7 @@ impl Stage for Timing {
         pass_is_a_stage();
     }
 
-    ghost kept_lasts = { λ s kept old new h e w v. timing_keeps_lasts s kept old new h e w };
+    ghost kept_lasts = { λ s kept old new h e w v. timing_keeps_lasts s kept old new h e w v };
 
     ghost forward_lasts = { λ s from to kept old new h e. timing_forward_lasts s from to kept old new h e };
 

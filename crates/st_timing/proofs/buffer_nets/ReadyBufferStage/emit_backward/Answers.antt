@@ -1,155 +1,163 @@
-use Rattle.std.proofs.Common.{◌≡◌, ◌+◌, ◌==◌, nat_lt, List, take, sym, subst, ap, ◌∙◌, inl, inr, lit<, rules, arith, length, ◌*◌, ◌^◌, ◌<◌}
-use Rattle.netlist.specs.Runs.{cycle_of}
+use Rattle.std.proofs.Common.{◌==◌, sym, subst, ap, ◌∙◌, inl, inr, lit<, arith}
 use Rattle.net_parts.specs.declared.places.PlaceNets.{PlaceNets}
+use Rattle.net_parts.specs.Groups.{AreNets}
+use Rattle.net_parts.specs.Laws.{extends_twice, net_lasts, adds_twice, adds_grow, grows_twice, grows_without_memory, memory_grows_twice}
+use Rattle.item_queues.specs.Queues.{IsQueueMade, StepsQueue}
+use Rattle.item_queues.specs.Laws.{queue_lasts}
 use Rattle.stage_core.specs.Lasting.{beat_lasts}
-use Rattle.net_parts.specs.PlaceRows.{ArePlaceNets, AreInRow, InRow, RowSteps}
-use Rattle.stage_core.specs.BeatPlaces.{place_nets, place_are}
-use Rattle.net_parts.specs.Laws.{net_lasts, extends_twice, grows_twice, grows_fewer, adds_grow, growing}
-use Rattle.net_parts.specs.RowLaws.{row_here}
-use Rattle.st_timing.specs.CountNets.{HaveFull, full_count}
-use Rattle.net_parts.specs.Counts.{high_bits}
-use Rattle.st_timing.specs.BufferNets.{row_of}
-use Rattle.st_timing.proofs.Counting.{row_full}
+use Rattle.stage_core.specs.BeatPlaces.{place_are}
+use Rattle.stage_core.specs.Memories.{waits_where_same, memory_grows_fewer}
 use Rattle.stage_core.specs.Refusing.{handed_on}
-use Rattle.net_parts.specs.Growth.{GrowsBy}
+use Rattle.st_timing.specs.PromiseNets.{promises_last, going_lasts}
+use Rattle.st_timing.proofs.Moving.{moving_high}
 use Rattle.st_timing.proofs.buffer_nets.ReadyBufferStage.emit_backward.Goals as goal
 
-pub has_room-requires-clause-row : goal.has_room-requires-clause-row
-has_room-requires-clause-row c =
-    let here : take (c.from.result + 1) c.args.kept.places ≡ row_of c.args.kept = ap (λ n. take (n + 1) c.args.kept.places) c.from.ensures in
-    subst (HaveFull c.args.builder.now) (sym here) (row_full _ _ _ _ c.requires.kept.row.is_row)
+pub has_free-requires : goal.has_free-requires
+has_free-requires c = c.requires.kept.promises.free
 
-pub set_places-requires : goal.set_places-requires
-set_places-requires c =
-    let here : take (c.from.result + 1) c.args.kept.places ≡ row_of c.args.kept = ap (λ n. take (n + 1) c.args.kept.places) c.from.ensures in
-    let more = extends_twice _ _ _ c.has_room.ensures.adds.grows.extends c.transfers.ensures.adds.grows.extends in
-    let row : AreInRow c.transfers.new.builder (place_nets c.args.kept.from) (row_of c.args.kept) = row_here _ _ _ _ more (λ n o w. c.transfers.ensures.adds.grows.waits n (c.has_room.ensures.adds.grows.waits n w)) c.requires.kept.row in
-    let from : ArePlaceNets c.transfers.new.builder (place_nets c.args.kept.from) = place_are _ _ (beat_lasts _ _ _ more c.requires.kept.from) in (
+pub transfers-requires-clause-valid : goal.transfers-requires-clause-valid
+transfers-requires-clause-valid c = net_lasts _ _ _ _ c.has_free.ensures.adds.grows.extends c.requires.kept.stored.shown
+
+pub transfers-requires-clause-ready : goal.transfers-requires-clause-ready
+transfers-requires-clause-ready c = net_lasts _ _ _ _ c.has_free.ensures.adds.grows.extends c.requires.ready
+
+pub finish_promises-requires-clause-some : goal.finish_promises-requires-clause-some
+finish_promises-requires-clause-some c = c.args.kept.some
+
+pub finish_promises-requires-clause-promises : goal.finish_promises-requires-clause-promises
+finish_promises-requires-clause-promises c =
+    let made = adds_twice _ _ _ _ _ c.has_free.ensures.adds c.transfers.ensures.adds in
+    promises_last _ _ _ _ c.requires.kept.promises made.grows.extends (λ n o w. made.grows.waits n w)
+
+pub finish_promises-requires-clause-promised : goal.finish_promises-requires-clause-promised
+finish_promises-requires-clause-promised c = net_lasts _ _ _ _ c.transfers.ensures.adds.grows.extends c.in_ok-up.ensures.net
+
+pub finish_promises-requires-clause-comes : goal.finish_promises-requires-clause-comes
+finish_promises-requires-clause-comes c = net_lasts _ _ _ _ (extends_twice _ _ _ c.has_free.ensures.adds.grows.extends c.transfers.ensures.adds.grows.extends) c.requires.kept.stored.from.valid
+
+pub finish_promises-requires-clause-goes : goal.finish_promises-requires-clause-goes
+finish_promises-requires-clause-goes c = c.in_ok-goes.ensures.net
+
+pub finish_queue-requires : goal.finish_queue-requires
+finish_queue-requires c =
+    let made = adds_twice _ _ _ _ _ c.has_free.ensures.adds c.transfers.ensures.adds in
+    let all = extends_twice _ _ _ made.grows.extends c.finish_promises.ensures.grows.extends in
+    let same = c.finish_promises.ensures.grows.memories ∙ made.grows.memories in (
       lit< tt,
       (
         lit< tt,
         (
-          subst (λ (row : List (PlaceNets 6)). AreInRow c.transfers.new.builder c.place.result row) (sym here) (subst (λ (place : PlaceNets 6). AreInRow c.transfers.new.builder place (row_of c.args.kept)) (sym c.place.ensures) row),
+          lit< tt,
           (
-            subst (λ (place : PlaceNets 6). ArePlaceNets c.transfers.new.builder place) (sym c.place.ensures) from,
-            (c.in_ok-comes.ensures.net, search (rules, net_lasts, growing)),
+            subst (λ (place : PlaceNets 6). IsQueueMade c.finish_promises.new.builder place.item c.args.kept.stored.queue) (sym c.place.ensures) (queue_lasts _ _ _ _ c.requires.kept.stored.made all),
+            (
+              subst (λ (place : PlaceNets 6). AreNets c.finish_promises.new.builder place.item) (sym c.place.ensures) (place_are _ _ (beat_lasts _ _ _ all c.requires.kept.stored.from)).item,
+              (
+                net_lasts _ _ _ _ all c.requires.kept.stored.from.valid,
+                (
+                  net_lasts _ _ _ _ c.finish_promises.ensures.grows.extends c.in_ok-goes.ensures.net,
+                  (
+                    (λ n o. c.finish_promises.ensures.waits n (c.requires.kept.apart n o) (made.grows.waits n (c.requires.kept.stored.wait n o))),
+                    (λ m o. waits_where_same _ _ same m (c.requires.kept.stored.wait_for_write m o)),
+                  ),
+                ),
+              ),
+            ),
           ),
         ),
       ),
     )
 
-pub returns-clause-waits : goal.returns-clause-waits
-returns-clause-waits c n apart w =
-    let here : take (c.from.result + 1) c.args.kept.places ≡ row_of c.args.kept = ap (λ n. take (n + 1) c.args.kept.places) c.from.ensures in
-    c.set_history.ensures.waits n (λ e. apart (inr e)) (c.set_places.ensures.waits n (λ o. apart (inl (subst (λ (row : List (PlaceNets 6)). InRow row n) here o))) (c.transfers.ensures.adds.grows.waits n (c.has_room.ensures.adds.grows.waits n w)))
+pub returns-clause-net : goal.returns-clause-net
+returns-clause-net c = net_lasts _ _ _ _ (extends_twice _ _ _ c.transfers.ensures.adds.grows.extends (extends_twice _ _ _ c.finish_promises.ensures.grows.extends c.finish_queue.ensures.grows.extends)) c.in_ok-up.ensures.net
 
 pub returns-clause-made : goal.returns-clause-made
 returns-clause-made c =
-    let here : take (c.from.result + 1) c.args.kept.places ≡ row_of c.args.kept = ap (λ n. take (n + 1) c.args.kept.places) c.from.ensures in
-    let last = c.set_history.ensures.grows.extends in
-    let set = extends_twice _ _ _ c.set_places.ensures.grows.extends last in
+    let last = c.finish_queue.ensures.grows.extends in
+    let set = extends_twice _ _ _ c.finish_promises.ensures.grows.extends last in
     let all = extends_twice _ _ _ c.transfers.ensures.adds.grows.extends set in
     record {
-      asks = λ cycle v.
-          c.in_ok-up.ensures.value cycle (all.valuations cycle v)
-          ∙ ap (λ (row : List (PlaceNets 6)). nat_lt (full_count cycle row + high_bits c.args.kept.latency (cycle.net c.args.kept.history.number)) (c.args.kept.latency + 1)) here;
-      takes = c.in_ok-set_history.ensures.takes;
-      steps = λ run cycles r n lt.
-          subst (λ m. RowSteps (cycle_of run n) (cycle_of run (n + 1)) (row_of c.args.kept) (place_nets c.args.kept.from) (m == 1) c.args.ready)
-          (c.in_ok-comes.ensures.value (cycle_of run n) ((set.runs run cycles r).valuations n (omega arith)))
-          (subst (λ (row : List (PlaceNets 6)). RowSteps (cycle_of run n) (cycle_of run (n + 1)) row (place_nets c.args.kept.from) (run.net n c.in_ok-comes.comes.number == 1) c.args.ready) here
-          (subst (λ (place : PlaceNets 6). RowSteps (cycle_of run n) (cycle_of run (n + 1)) (take (c.from.result + 1) c.args.kept.places) place (run.net n c.in_ok-comes.comes.number == 1) c.args.ready) c.place.ensures
-          (c.in_ok-set_places.ensures.steps run cycles (last.runs run cycles r) n lt)));
+      goes = c.in_ok-goes.goes;
+      asks = λ cycle v. c.in_ok-up.ensures.value cycle (all.valuations cycle v);
+      gives = λ cycle v. ap (λ n. n == 1) (c.in_ok-goes.ensures.value cycle (set.valuations cycle v)) ∙ moving_high 0 (cycle.net c.args.kept.stored.shown.number) (cycle.net c.args.ready.number);
+      promises = going_lasts _ _ _ _ _ _ _ c.in_ok-finish_promises.ensures.on last;
+      steps = subst (λ (place : PlaceNets 6). StepsQueue c.finish_queue.new.builder c.args.kept.stored.queue place.item c.args.kept.stored.from.valid c.in_ok-goes.goes) c.place.ensures c.in_ok-finish_queue.ensures.steps;
     }
 
 pub returns-clause-no_more_wait : goal.returns-clause-no_more_wait
 returns-clause-no_more_wait c n w =
-    let here : take (c.from.result + 1) c.args.kept.places ≡ row_of c.args.kept = ap (λ n. take (n + 1) c.args.kept.places) c.from.ensures in
-    let late = c.in_ok-set_history.ensures.no_more_wait n w in
-    let set = c.in_ok-set_places.ensures.no_more_wait n late.0 in (
-      c.has_room.ensures.adds.grows.no_more_wait n (c.transfers.ensures.adds.grows.no_more_wait n set.0),
-      λ o. elim o [ inl p ↦ set.1 (subst (λ (row : List (PlaceNets 6)). InRow row n) (sym here) p) | inr p ↦ late.1 p ],
-    )
+    let made = adds_twice _ _ _ _ _ c.has_free.ensures.adds c.transfers.ensures.adds in
+    let queue = c.in_ok-finish_queue.ensures.no_more_wait n w in
+    let own = c.in_ok-finish_promises.ensures.no_more_wait n queue.0 in
+    (made.grows.no_more_wait n own.0, λ o. elim o [ inl q ↦ queue.1 q | inr p ↦ own.1 p ])
 
-pub transfers-requires-clause-valid : goal.transfers-requires-clause-valid
-transfers-requires-clause-valid c = net_lasts _ _ _ _ c.has_room.ensures.adds.grows.extends c.requires.kept.from.valid
+pub returns-in_err-up-clause-waits : goal.returns-in_err-up-clause-waits
+returns-in_err-up-clause-waits c n apart w = c.has_free.ensures.adds.grows.waits n w
 
-pub returns-clause-net : goal.returns-clause-net
-returns-clause-net c = net_lasts _ _ _ _ (extends_twice _ _ _ c.transfers.ensures.adds.grows.extends (extends_twice _ _ _ c.set_places.ensures.grows.extends c.set_history.ensures.grows.extends)) c.in_ok-up.ensures.net
+pub returns-in_err-goes-clause-waits : goal.returns-in_err-goes-clause-waits
+returns-in_err-goes-clause-waits c n apart w = c.transfers.ensures.adds.grows.waits n (c.has_free.ensures.adds.grows.waits n w)
+
+pub returns-in_err-finish_promises-clause-waits : goal.returns-in_err-finish_promises-clause-waits
+returns-in_err-finish_promises-clause-waits c n apart w = c.finish_promises.ensures.waits n (λ p. apart (inr p)) (c.transfers.ensures.adds.grows.waits n (c.has_free.ensures.adds.grows.waits n w))
+
+pub returns-in_err-finish_queue-clause-waits : goal.returns-in_err-finish_queue-clause-waits
+returns-in_err-finish_queue-clause-waits c n apart w =
+    c.finish_queue.ensures.waits n (λ q. apart (inl q)) (c.finish_promises.ensures.waits n (λ p. apart (inr p)) (c.transfers.ensures.adds.grows.waits n (c.has_free.ensures.adds.grows.waits n w)))
+
+pub returns-clause-waits : goal.returns-clause-waits
+returns-clause-waits c n apart w =
+    c.finish_queue.ensures.waits n (λ q. apart (inl q)) (c.finish_promises.ensures.waits n (λ p. apart (inr p)) (c.transfers.ensures.adds.grows.waits n (c.has_free.ensures.adds.grows.waits n w)))
+
+pub returns-clause-written : goal.returns-clause-written
+returns-clause-written c =
+    let made = adds_twice _ _ _ _ _ c.has_free.ensures.adds c.transfers.ensures.adds in
+    let same = c.finish_promises.ensures.grows.memories ∙ made.grows.memories in
+    record {
+      others = λ m apart w. c.finish_queue.ensures.still_wait_for_write m apart (waits_where_same _ _ same m w);
+      settled = λ m w. (let set = c.in_ok-finish_queue.ensures.no_more_write m w in (waits_where_same _ _ (sym same) m set.0, set.1));
+    }
 
 pub returns-in_err-up-clause-grows : goal.returns-in_err-up-clause-grows
-returns-in_err-up-clause-grows c = let same = c.requires.kept.latency_is in grows_fewer _ _ _ _ (omega (arith, same)) (adds_grow _ _ _ c.has_room.ensures.adds)
+returns-in_err-up-clause-grows c = memory_grows_fewer _ _ _ _ _ _ (omega arith) (omega arith) (grows_without_memory _ _ _ (adds_grow _ _ _ c.has_free.ensures.adds))
 
-pub returns-in_err-comes-clause-grows : goal.returns-in_err-comes-clause-grows
-returns-in_err-comes-clause-grows c = let same = c.requires.kept.latency_is in grows_fewer _ _ _ _ (omega (arith, same)) (grows_twice _ _ _ _ _ (adds_grow _ _ _ c.has_room.ensures.adds) (adds_grow _ _ _ c.transfers.ensures.adds))
+pub returns-in_err-goes-clause-grows : goal.returns-in_err-goes-clause-grows
+returns-in_err-goes-clause-grows c = memory_grows_fewer _ _ _ _ _ _ (omega arith) (omega arith) (grows_without_memory _ _ _ (adds_grow _ _ _ (adds_twice _ _ _ _ _ c.has_free.ensures.adds c.transfers.ensures.adds)))
 
-pub returns-in_err-set_places-clause-grows : goal.returns-in_err-set_places-clause-grows
-returns-in_err-set_places-clause-grows c =
-    let here : take (c.from.result + 1) c.args.kept.places ≡ row_of c.args.kept = ap (λ n. take (n + 1) c.args.kept.places) c.from.ensures in
-    let long = ap length here ∙ c.requires.kept.count in
-    let same = c.requires.kept.latency_is in
-    let set = subst (λ n. GrowsBy (3 + 19 * n) c.transfers.new.builder c.set_places.new.builder) long c.set_places.ensures.grows in
-    grows_fewer _ _ _ _ (omega (arith, same)) (grows_twice _ _ _ _ _ (grows_twice _ _ _ _ _ (adds_grow _ _ _ c.has_room.ensures.adds) (adds_grow _ _ _ c.transfers.ensures.adds)) set)
+pub returns-in_err-finish_promises-clause-grows : goal.returns-in_err-finish_promises-clause-grows
+returns-in_err-finish_promises-clause-grows c =
+    memory_grows_fewer _ _ _ _ _ _ (omega arith) (omega arith) (grows_without_memory _ _ _ (grows_twice _ _ _ _ _ (adds_grow _ _ _ (adds_twice _ _ _ _ _ c.has_free.ensures.adds c.transfers.ensures.adds)) c.finish_promises.ensures.grows))
 
-pub returns-in_err-set_history-clause-grows : goal.returns-in_err-set_history-clause-grows
-returns-in_err-set_history-clause-grows c =
-    let here : take (c.from.result + 1) c.args.kept.places ≡ row_of c.args.kept = ap (λ n. take (n + 1) c.args.kept.places) c.from.ensures in
-    let long = ap length here ∙ c.requires.kept.count in
-    let same = c.requires.kept.latency_is in
-    let set = subst (λ n. GrowsBy (3 + 19 * n) c.transfers.new.builder c.set_places.new.builder) long c.set_places.ensures.grows in
-    grows_fewer _ _ _ _ (omega (arith, same)) (grows_twice _ _ _ _ _ (grows_twice _ _ _ _ _ (grows_twice _ _ _ _ _ (adds_grow _ _ _ c.has_room.ensures.adds) (adds_grow _ _ _ c.transfers.ensures.adds)) set) c.set_history.ensures.grows)
+pub returns-in_err-finish_queue-clause-grows : goal.returns-in_err-finish_queue-clause-grows
+returns-in_err-finish_queue-clause-grows c =
+    memory_grows_twice _ _ _ _ _ _ _ (grows_without_memory _ _ _ (grows_twice _ _ _ _ _ (adds_grow _ _ _ (adds_twice _ _ _ _ _ c.has_free.ensures.adds c.transfers.ensures.adds)) c.finish_promises.ensures.grows)) c.finish_queue.ensures.grows
 
 pub returns-clause-grows : goal.returns-clause-grows
 returns-clause-grows c =
-    let here : take (c.from.result + 1) c.args.kept.places ≡ row_of c.args.kept = ap (λ n. take (n + 1) c.args.kept.places) c.from.ensures in
-    let long = ap length here ∙ c.requires.kept.count in
-    let same = c.requires.kept.latency_is in
-    let set = subst (λ n. GrowsBy (3 + 19 * n) c.transfers.new.builder c.set_places.new.builder) long c.set_places.ensures.grows in
-    grows_fewer _ _ _ _ (omega (arith, same)) (grows_twice _ _ _ _ _ (grows_twice _ _ _ _ _ (grows_twice _ _ _ _ _ (adds_grow _ _ _ c.has_room.ensures.adds) (adds_grow _ _ _ c.transfers.ensures.adds)) set) c.set_history.ensures.grows)
+    memory_grows_twice _ _ _ _ _ _ _ (grows_without_memory _ _ _ (grows_twice _ _ _ _ _ (adds_grow _ _ _ (adds_twice _ _ _ _ _ c.has_free.ensures.adds c.transfers.ensures.adds)) c.finish_promises.ensures.grows)) c.finish_queue.ensures.grows
 
 pub returns-in_err-up-clause-full : goal.returns-in_err-up-clause-full
-returns-in_err-up-clause-full c e = let same = c.requires.kept.latency_is in let full = c.has_room.ensures.full (handed_on _ _ _ _ c.in_err-up.was c.from_residual.ensures.1 e) in omega (arith, same, full)
+returns-in_err-up-clause-full c e = let full = c.has_free.ensures.full (handed_on _ _ _ _ c.in_err-up.was c.from_residual.ensures.1 e) in omega (arith, full)
 
-pub returns-in_err-comes-clause-full : goal.returns-in_err-comes-clause-full
-returns-in_err-comes-clause-full c e = let same = c.requires.kept.latency_is in let most = c.has_room.ensures.adds.most in let full = c.transfers.ensures.full (handed_on _ _ _ _ c.in_err-comes.was c.from_residual-in_err-comes.ensures.1 e) in omega (arith, same, most, full)
+pub returns-in_err-goes-clause-full : goal.returns-in_err-goes-clause-full
+returns-in_err-goes-clause-full c e =
+    let most = c.has_free.ensures.adds.most in
+    let full = c.transfers.ensures.full (handed_on _ _ _ _ c.in_err-goes.was c.from_residual-in_err-goes.ensures.1 e) in
+    omega (arith, most, full)
 
-pub returns-in_err-set_places-clause-full : goal.returns-in_err-set_places-clause-full
-returns-in_err-set_places-clause-full c e =
-    let here : take (c.from.result + 1) c.args.kept.places ≡ row_of c.args.kept = ap (λ n. take (n + 1) c.args.kept.places) c.from.ensures in
-    let long = ap length here ∙ c.requires.kept.count in
-    let same = c.requires.kept.latency_is in
-    let most = c.has_room.ensures.adds.most in
+pub returns-in_err-finish_promises-clause-full : goal.returns-in_err-finish_promises-clause-full
+returns-in_err-finish_promises-clause-full c e =
+    let most = c.has_free.ensures.adds.most in
     let more = c.transfers.ensures.adds.most in
-    let full = subst (λ n. 2 ^ 20 < length c.transfers.new.builder.lines + (3 + 19 * n)) long (c.set_places.ensures.full (handed_on _ _ _ _ c.in_err-set_places.was c.from_residual-in_err-set_places.ensures.1 e)) in
-    omega (arith, same, most, more, full)
+    let full = c.finish_promises.ensures.full (handed_on _ _ _ _ c.in_err-finish_promises.was c.from_residual-in_err-finish_promises.ensures.1 e) in
+    omega (arith, most, more, full)
 
-pub returns-in_err-set_history-clause-full : goal.returns-in_err-set_history-clause-full
-returns-in_err-set_history-clause-full c e =
-    let here : take (c.from.result + 1) c.args.kept.places ≡ row_of c.args.kept = ap (λ n. take (n + 1) c.args.kept.places) c.from.ensures in
-    let long = ap length here ∙ c.requires.kept.count in
-    let same = c.requires.kept.latency_is in
-    let set = subst (λ n. GrowsBy (3 + 19 * n) c.transfers.new.builder c.set_places.new.builder) long c.set_places.ensures.grows in
-    let most = c.has_room.ensures.adds.most in
+pub returns-in_err-finish_queue-clause-full : goal.returns-in_err-finish_queue-clause-full
+returns-in_err-finish_queue-clause-full c e =
+    let most = c.has_free.ensures.adds.most in
     let more = c.transfers.ensures.adds.most in
-    let rest = set.most in
-    let full = c.set_history.ensures.full (handed_on _ _ _ _ c.in_err-set_history.was c.from_residual-in_err-set_history.ensures.1 e) in
-    omega (arith, same, most, more, rest, full)
+    let rest = c.finish_promises.ensures.grows.most in
+    let full = c.finish_queue.ensures.full (handed_on _ _ _ _ c.in_err-finish_queue.was c.from_residual-in_err-finish_queue.ensures.1 e) in
+    omega (arith, most, more, rest, full)
 
 pub returns-clause-full : goal.returns-clause-full
 returns-clause-full c e = cc
-
-pub returns-in_err-up-clause-waits : goal.returns-in_err-up-clause-waits
-returns-in_err-up-clause-waits c n apart w = c.has_room.ensures.adds.grows.waits n w
-
-pub returns-in_err-comes-clause-waits : goal.returns-in_err-comes-clause-waits
-returns-in_err-comes-clause-waits c n apart w = c.transfers.ensures.adds.grows.waits n (c.has_room.ensures.adds.grows.waits n w)
-
-pub returns-in_err-set_places-clause-waits : goal.returns-in_err-set_places-clause-waits
-returns-in_err-set_places-clause-waits c n apart w =
-    let here : take (c.from.result + 1) c.args.kept.places ≡ row_of c.args.kept = ap (λ n. take (n + 1) c.args.kept.places) c.from.ensures in
-    c.set_places.ensures.waits n (λ o. apart (inl (subst (λ (row : List (PlaceNets 6)). InRow row n) here o))) (c.transfers.ensures.adds.grows.waits n (c.has_room.ensures.adds.grows.waits n w))
-
-pub returns-in_err-set_history-clause-waits : goal.returns-in_err-set_history-clause-waits
-returns-in_err-set_history-clause-waits c n apart w =
-    let here : take (c.from.result + 1) c.args.kept.places ≡ row_of c.args.kept = ap (λ n. take (n + 1) c.args.kept.places) c.from.ensures in
-    c.set_history.ensures.waits n (λ e. apart (inr e)) (c.set_places.ensures.waits n (λ o. apart (inl (subst (λ (row : List (PlaceNets 6)). InRow row n) here o))) (c.transfers.ensures.adds.grows.waits n (c.has_room.ensures.adds.grows.waits n w)))

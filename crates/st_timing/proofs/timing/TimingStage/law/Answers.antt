@@ -10,4 +10,4 @@ returns-clause-ready c shape from to kept ready up netlist p f b run endless =
     timing_ready c.args.self.now shape from to kept ready up netlist run p f b endless c.tie_is_a_stage.ensures.ready c.buffer_is_a_stage.ensures.ready
 
 pub returns-clause-ignores_ready : goal.returns-clause-ignores_ready
-returns-clause-ignores_ready c from to kept netlist f one other v w state words same = timing_ignores c.args.self.now from to kept netlist one other f v w state same
+returns-clause-ignores_ready c from to kept netlist f one other v w state words same = timing_ignores c.args.self.now from to kept netlist one other f v w state words same
