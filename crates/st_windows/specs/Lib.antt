@@ -1,0 +1,4 @@
+pub mod Cuts
+pub mod RowNets
+pub mod Rows
+pub mod WindowNets

@@ -1,0 +1,73 @@
+-- Symbols in a row on the nets of a beat, whose empty says how many they are.
+use Rattle.std.specs.Prelude.{ℕ, ◌+◌, ◌-◌, ◌%◌, ◌^◌, Bool, ◌&&◌, ◌||◌, ◌==◌, nat_lt, if◌then◌else◌, bit_or}
+use Rattle.stage_core.specs.Groups.{Shown}
+use Rattle.st_windows.specs.declared.sizes.WindowSizes.{WindowSizes}
+use Rattle.st_windows.specs.Cuts.{cut_of, front_at, rest_at, chosen_at}
+
+-- so many held and those of the beat that comes
+abbrev pub joined_count : WindowSizes → ℕ → Shown → ℕ
+joined_count sizes held from = (held + (sizes.from + (2 ^ 8 - (if from.beat.last == 1 then from.beat.empty else 0))) % 2 ^ 8) % 2 ^ 8
+
+-- what is held makes a beat by itself
+abbrev pub is_alone : WindowSizes → Shown → Bool
+is_alone sizes held = nat_lt (sizes.into - 1) held.beat.empty || (held.beat.last == 1)
+
+-- what is held and behind it what comes, valid where it makes a beat; its word has the symbols of a beat
+abbrev pub row_joined : WindowSizes → Shown → Shown → Shown
+row_joined sizes held from =
+    record {
+      valid = if (from.valid == 1) && (nat_lt (sizes.into - 1) (joined_count sizes held.beat.empty from) || (from.beat.last == 1)) then 1 else 0;
+      beat = record {
+        word = chosen_at held.beat.empty (front_at sizes.bits sizes.from sizes.into sizes.held held.beat.word from.beat.word) (sizes.into - 1);
+        channel = from.beat.channel;
+        error = bit_or held.beat.error from.beat.error;
+        first = if held.beat.empty == 0 then from.beat.first else held.beat.first;
+        last = from.beat.last;
+        empty = joined_count sizes held.beat.empty from;
+      };
+    }
+
+-- what is held, alone
+abbrev pub row_alone : WindowSizes → Shown → Shown
+row_alone sizes held = record { valid = 1; beat = record held.beat { word = cut_of sizes.bits sizes.held 0 sizes.into held.beat.word } }
+
+-- what goes out next
+abbrev pub row_next : WindowSizes → Shown → Shown → Shown
+row_next sizes held from = if is_alone sizes held then row_alone sizes held else row_joined sizes held from
+
+-- the beat with the first symbols of a row
+abbrev pub shown_front : WindowSizes → Shown → Shown
+shown_front sizes row =
+    record {
+      valid = row.valid;
+      beat = record row.beat {
+        last = if nat_lt sizes.into row.beat.empty then 0 else row.beat.last;
+        empty = (sizes.into + (2 ^ 8 - row.beat.empty)) % 2 ^ 8;
+      };
+    }
+
+-- what is left of a row behind a beat, with this word and where something is left with this error
+abbrev pub shown_left : WindowSizes → Shown → ℕ → ℕ → Shown
+shown_left sizes row word error =
+    record {
+      valid = 0;
+      beat = record {
+        word = word;
+        channel = row.beat.channel;
+        error = if nat_lt sizes.into row.beat.empty then error else 0;
+        first = 0;
+        last = if nat_lt sizes.into row.beat.empty then row.beat.last else 0;
+        empty = if nat_lt sizes.into row.beat.empty then (row.beat.empty + (2 ^ 8 - sizes.into)) % 2 ^ 8 else 0;
+      };
+    }
+
+-- what is held once a beat has gone
+abbrev pub row_left : WindowSizes → Shown → Shown → Shown
+row_left sizes held from =
+    shown_left sizes (row_next sizes held from)
+    (if is_alone sizes held then cut_of sizes.bits sizes.held sizes.into sizes.held held.beat.word else chosen_at held.beat.empty (rest_at sizes.bits sizes.from sizes.into sizes.held from.beat.word) (sizes.into - 1))
+    (if is_alone sizes held then held.beat.error else from.beat.error)
+
+-- and once one has come while none goes
+abbrev pub row_gathered : WindowSizes → Shown → Shown
+row_gathered sizes joined = record { valid = 0; beat = record joined.beat { word = cut_of sizes.bits sizes.into 0 sizes.held joined.beat.word } }

@@ -1,0 +1,215 @@
+//! Rows of symbols on the nets of a beat, whose `empty` says how many they are: what is held with what comes behind it, the beat
+//! that goes out, and what is held then.
+
+ghost use Rattle.std.specs.Prelude.{◌≡◌, ℕ, ◌+◌, ◌-◌, ◌*◌, ◌^◌, ◌<◌, ◌≤◌, ◌==◌, nat_lt, if◌then◌else◌, length, IfOk};
+ghost use Rattle.netlist.specs.Netlists.{IsNet};
+ghost use Rattle.netlist.specs.Runs.{Always};
+ghost use Rattle.net_parts.specs.Nets.{IsBit, IsNetOfWidth};
+ghost use Rattle.net_parts.specs.Growth.{AddsNets};
+ghost use Rattle.stage_core.specs.Beats.{AreBeatNets, HaveSameWidths};
+ghost use Rattle.stage_core.specs.Groups.{shown_in};
+ghost use Rattle.st_windows.specs.Cuts.{cut_of, rest_at, chosen_at};
+ghost use Rattle.st_windows.specs.Rows.{row_joined, row_alone, shown_front, shown_left, row_gathered};
+ghost use Rattle.st_windows.specs.RowNets.{HaveRowWidths, ComesTo};
+
+use crate::counts::{count_joined, makes_beat};
+use crate::sizes::WindowSizes;
+use crate::symbols::cut_symbols;
+use crate::words::{front_word, rest_word};
+use net_parts::{constant, level};
+use netlist::{Builder, Net, NetFault};
+use stage_core::BeatNets;
+
+/// What is held with what comes behind it, valid where these make a beat.
+#[tactic(auto, using(net_parts::specs::Laws::growing))]
+pub(crate) fn join_row(
+    builder: &mut Builder,
+    sizes: &WindowSizes,
+    held: &BeatNets,
+    from: &BeatNets,
+) -> Result<BeatNets, NetFault>
+    requires held { AreBeatNets builder.old held.now }
+    requires from { AreBeatNets builder.old from.now }
+    requires held_widths { HaveRowWidths sizes.now.bits sizes.now.held from.now held.now }
+    requires comes { ComesTo sizes.now from.now }
+    ensures row { IfOk result (λ made. AreBeatNets builder.new made) }
+    ensures widths { IfOk result (λ made. HaveRowWidths sizes.now.bits sizes.now.into from.now made) }
+    ensures value { IfOk result (λ made. Always builder.new (λ cycle. shown_in cycle made ≡ row_joined sizes.now (shown_in cycle held.now) (shown_in cycle from.now))) }
+    ensures adds { AddsNets (10 * sizes.now.into + 15) builder.old builder.new }
+    ensures full { result ≡ Err NetFault.TooManyNets → 2 ^ 20 < length builder.old.lines + (10 * sizes.now.into + 15) }
+{
+    let word = front_word(builder, sizes, held.word, from.word, held.empty)?;
+    let count = count_joined(builder, sizes, held.empty, from)?;
+    let whole = makes_beat(builder, sizes, count, from.last)?;
+    let valid = builder.and(from.valid, whole)?;
+    let error = builder.or(held.error, from.error)?;
+    let none = constant(builder, 8, 0)?;
+    let starts = builder.eq(held.empty, none)?;
+    let first = builder.mux(starts, from.first, held.first)?;
+    Ok(BeatNets {
+        valid,
+        word,
+        error,
+        first,
+        empty: count,
+        ..from.copied()
+    })
+}
+
+/// What is held, alone.
+#[tactic(auto, using(net_parts::specs::Laws::growing))]
+pub(crate) fn lone_row(
+    builder: &mut Builder,
+    sizes: &WindowSizes,
+    held: &BeatNets,
+) -> Result<BeatNets, NetFault>
+    requires held { AreBeatNets builder.old held.now }
+    requires word { held.now.word.width ≡ sizes.now.bits * sizes.now.held }
+    requires empty { held.now.empty.width ≡ 8 }
+    ensures row { IfOk result (λ made. AreBeatNets builder.new made) }
+    ensures widths { IfOk result (λ made. HaveRowWidths sizes.now.bits sizes.now.into held.now made) }
+    ensures value { IfOk result (λ made. Always builder.new (λ cycle. shown_in cycle made ≡ row_alone sizes.now (shown_in cycle held.now))) }
+    ensures adds { AddsNets 4 builder.old builder.new }
+    ensures full { result ≡ Err NetFault.TooManyNets → 2 ^ 20 < length builder.old.lines + 4 }
+{
+    let word = cut_symbols(builder, sizes.bits, held.word, sizes.held, 0, sizes.into)?;
+    let valid = level(builder, true)?;
+    Ok(BeatNets {
+        valid,
+        word,
+        ..held.copied()
+    })
+}
+
+/// The beat with the first symbols of a row.
+#[tactic(auto, using(net_parts::specs::Laws::growing))]
+pub(crate) fn show_row(
+    builder: &mut Builder,
+    sizes: &WindowSizes,
+    row: &BeatNets,
+    more: Net,
+) -> Result<BeatNets, NetFault>
+    requires row { AreBeatNets builder.old row.now }
+    requires empty { row.now.empty.width ≡ 8 }
+    requires more { IsBit builder.old more }
+    requires is_more { Always builder.old (λ cycle. cycle.net more.number ≡ (if nat_lt sizes.now.into (cycle.net row.now.empty.number) then 1 else 0)) }
+    ensures beat { IfOk result (λ made. AreBeatNets builder.new made) }
+    ensures widths { IfOk result (λ made. HaveSameWidths made row.now) }
+    ensures value { IfOk result (λ made. Always builder.new (λ cycle. shown_in cycle made ≡ shown_front sizes.now (shown_in cycle row.now))) }
+    ensures adds { AddsNets 4 builder.old builder.new }
+    ensures full { result ≡ Err NetFault.TooManyNets → 2 ^ 20 < length builder.old.lines + 4 }
+{
+    let low = level(builder, false)?;
+    let last = builder.mux(more, low, row.last)?;
+    let size = constant(builder, 8, sizes.into)?;
+    let empty = builder.sub(size, row.empty)?;
+    Ok(BeatNets {
+        last,
+        empty,
+        ..row.copied()
+    })
+}
+
+/// What is left of a row behind a beat, with this word and where something is left with this error.
+#[tactic(auto, using(net_parts::specs::Laws::growing))]
+fn drop_front(
+    builder: &mut Builder,
+    sizes: &WindowSizes,
+    row: &BeatNets,
+    more: Net,
+    word: Net,
+    error: Net,
+) -> Result<BeatNets, NetFault>
+    requires row { AreBeatNets builder.old row.now }
+    requires empty { row.now.empty.width ≡ 8 }
+    requires more { IsBit builder.old more }
+    requires is_more { Always builder.old (λ cycle. cycle.net more.number ≡ (if nat_lt sizes.now.into (cycle.net row.now.empty.number) then 1 else 0)) }
+    requires word { IsNetOfWidth builder.old word (sizes.now.bits * sizes.now.held) }
+    requires error { IsNetOfWidth builder.old error row.now.error.width }
+    ensures rest { IfOk result (λ made. AreBeatNets builder.new made) }
+    ensures widths { IfOk result (λ made. HaveRowWidths sizes.now.bits sizes.now.held row.now made) }
+    ensures value { IfOk result (λ made. Always builder.new (λ cycle. shown_in cycle made ≡ shown_left sizes.now (shown_in cycle row.now) (cycle.net word.number) (cycle.net error.number))) }
+    ensures adds { AddsNets 8 builder.old builder.new }
+    ensures full { result ≡ Err NetFault.TooManyNets → 2 ^ 20 < length builder.old.lines + 8 }
+{
+    let error_bits = builder.width(error);
+    let low = level(builder, false)?;
+    let quiet = constant(builder, error_bits, 0)?;
+    let none = constant(builder, 8, 0)?;
+    let size = constant(builder, 8, sizes.into)?;
+    let left = builder.sub(row.empty, size)?;
+    let empty = builder.mux(more, left, none)?;
+    let error = builder.mux(more, error, quiet)?;
+    let last = builder.mux(more, row.last, low)?;
+    Ok(BeatNets {
+        valid: low,
+        word,
+        error,
+        first: low,
+        last,
+        empty,
+        ..row.copied()
+    })
+}
+
+/// What is held once a beat has gone.
+#[tactic(auto, using(net_parts::specs::Laws::growing))]
+pub(crate) fn leave_row(
+    builder: &mut Builder,
+    sizes: &WindowSizes,
+    held: &BeatNets,
+    from: &BeatNets,
+    alone: Net,
+    row: &BeatNets,
+    more: Net,
+) -> Result<BeatNets, NetFault>
+    requires held { AreBeatNets builder.old held.now }
+    requires from { AreBeatNets builder.old from.now }
+    requires held_widths { HaveRowWidths sizes.now.bits sizes.now.held from.now held.now }
+    requires comes { ComesTo sizes.now from.now }
+    requires alone { IsBit builder.old alone }
+    requires row { AreBeatNets builder.old row.now }
+    requires widths { HaveRowWidths sizes.now.bits sizes.now.into from.now row.now }
+    requires more { IsBit builder.old more }
+    requires is_more { Always builder.old (λ cycle. cycle.net more.number ≡ (if nat_lt sizes.now.into (cycle.net row.now.empty.number) then 1 else 0)) }
+    ensures rest { IfOk result (λ made. AreBeatNets builder.new made) }
+    ensures widths { IfOk result (λ made. HaveRowWidths sizes.now.bits sizes.now.held row.now made) }
+    ensures value { IfOk result (λ made. Always builder.new (λ cycle. shown_in cycle made ≡ shown_left sizes.now (shown_in cycle row.now)
+        (if cycle.net alone.number == 1 then cut_of sizes.now.bits sizes.now.held sizes.now.into sizes.now.held (cycle.net held.now.word.number) else chosen_at (cycle.net held.now.empty.number) (rest_at sizes.now.bits sizes.now.from sizes.now.into sizes.now.held (cycle.net from.now.word.number)) (sizes.now.into - 1))
+        (if cycle.net alone.number == 1 then cycle.net held.now.error.number else cycle.net from.now.error.number))) }
+    ensures adds { AddsNets (6 * sizes.now.into + 13) builder.old builder.new }
+    ensures full { result ≡ Err NetFault.TooManyNets → 2 ^ 20 < length builder.old.lines + (6 * sizes.now.into + 13) }
+{
+    let newer = rest_word(builder, sizes, from.word, held.empty)?;
+    let older = cut_symbols(
+        builder, sizes.bits, held.word, sizes.held, sizes.into, sizes.held,
+    )?;
+    let word = builder.mux(alone, older, newer)?;
+    let error = builder.mux(alone, held.error, from.error)?;
+    drop_front(builder, sizes, row, more, word, error)
+}
+
+/// What is held once a beat has come while none goes.
+#[tactic(auto, using(net_parts::specs::Laws::growing))]
+pub(crate) fn gather_row(
+    builder: &mut Builder,
+    sizes: &WindowSizes,
+    joined: &BeatNets,
+) -> Result<BeatNets, NetFault>
+    requires joined { AreBeatNets builder.old joined.now }
+    requires word { joined.now.word.width ≡ sizes.now.bits * sizes.now.into }
+    requires empty { joined.now.empty.width ≡ 8 }
+    ensures row { IfOk result (λ made. AreBeatNets builder.new made) }
+    ensures widths { IfOk result (λ made. HaveRowWidths sizes.now.bits sizes.now.held joined.now made) }
+    ensures value { IfOk result (λ made. Always builder.new (λ cycle. shown_in cycle made ≡ row_gathered sizes.now (shown_in cycle joined.now))) }
+    ensures adds { AddsNets 4 builder.old builder.new }
+    ensures full { result ≡ Err NetFault.TooManyNets → 2 ^ 20 < length builder.old.lines + 4 }
+{
+    let word = cut_symbols(builder, sizes.bits, joined.word, sizes.into, 0, sizes.held)?;
+    let low = level(builder, false)?;
+    Ok(BeatNets {
+        valid: low,
+        word,
+        ..joined.copied()
+    })
+}
