@@ -10,7 +10,6 @@ A stage has three calls a cycle: `forward` gives what it shows downstream, `back
 `edge` takes the clock's edge. A beat is (symbols in order, first, last, empty, channel, error).
 """
 import sys
-from math import gcd
 
 
 class Wire:
@@ -178,6 +177,44 @@ class Widen:
             self.gathered = [] if self.done else self.gathered + [self.beat]
 
 
+class Window:
+    """Symbols wait here until there are enough for a beat, or a packet ends."""
+
+    def __init__(self, size):
+        self.size, self.held = size, ((), 0, 0, 0, 0)
+
+    def whole(self, row):
+        return len(row[0]) >= self.size or bool(row[2])
+
+    def joined(self, beat):
+        symbols, first, last, empty, channel, error = beat
+        held, opens, _, _, errors = self.held
+        return held + symbols[: len(symbols) - (empty if last else 0)], opens if held else first, last, channel, errors | error
+
+    def forward(self, valid, beat):
+        self.valid, self.alone = valid, self.whole(self.held)
+        self.row, self.error = (self.held, self.held[4]) if self.alone else (self.joined(beat), beat[5]) if valid else (self.held, 0)
+        self.done = int(self.alone or bool(valid and self.whole(self.row)))
+        if not self.done:
+            return 0, None
+        symbols, first, last, channel, error = self.row
+        empty = max(0, self.size - len(symbols))
+        return 1, (symbols[: self.size] + (0,) * empty, first, last if len(symbols) <= self.size else 0, empty if last else 0, channel, error)
+
+    def backward(self, ready):
+        self.ready = ready
+        self.up = int(not self.alone and bool(not self.done or ready))
+        return self.up
+
+    def edge(self):
+        symbols, _, last, channel, _ = self.row
+        if self.done and self.ready:
+            left = symbols[self.size :]
+            self.held = left, 0, last if left else 0, channel, self.error if left else 0
+        elif self.valid and self.up:
+            self.held = self.row
+
+
 class End:
     """An end as a row writes it: `3x8,ready=2,packets,empty=2`."""
 
@@ -221,13 +258,14 @@ def stages(source, sink, depth):
         row.append(ReadyBuffer(latency))
     if sink.error and not source.error:
         row.append(ErrorTie())
-    common = gcd(source.symbols, sink.symbols)
-    if source.symbols != sink.symbols and source.empty:
+    if source.symbols != sink.symbols and source.empty and sink.symbols > 1:
         row.append(Clear())
-    if source.symbols > common:
-        row.append(Narrow(source.symbols // common))
-    if sink.symbols > common:
-        row.append(Widen(sink.symbols // common))
+    if source.symbols % sink.symbols and sink.symbols % source.symbols:
+        row.append(Window(sink.symbols))
+    elif source.symbols > sink.symbols:
+        row.append(Narrow(source.symbols // sink.symbols))
+    elif sink.symbols > source.symbols:
+        row.append(Widen(sink.symbols // source.symbols))
     return row + [Fifo(depth), ReadyDelay(0, sink.latency())], channel
 
 

@@ -25,7 +25,7 @@ fn plain_source(valid: Net, word: Net) -> SourceNets
 }
 
 /// From a source of ready latency 2, through a queue of three beats: the number of `dropped`, and that of the net behind the path.
-fn emit_queued(alloc: Global, builder: &mut Builder) -> Result<[u32; 2], NetFault> {
+fn emit_queued(builder: &mut Builder) -> Result<[u32; 2], NetFault> {
     let bit = level(builder, true)?;
     let word = constant(builder, 8, 0xa5)?;
     let source = StreamPort {
@@ -34,13 +34,13 @@ fn emit_queued(alloc: Global, builder: &mut Builder) -> Result<[u32; 2], NetFaul
         ..BYTES
     };
     let from = plain_source(bit, word);
-    let path = emit_path(alloc, builder, &source, &BYTES, 3, &from, Some(bit))?;
+    let path = emit_path(builder, &source, &BYTES, 3, &from, Some(bit))?;
     let next = level(builder, false)?;
     Ok([path.dropped.number(), next.number()])
 }
 
 /// From beats of four symbols to beats of one.
-fn emit_narrowed(alloc: Global, builder: &mut Builder) -> Result<[u32; 2], NetFault> {
+fn emit_narrowed(builder: &mut Builder) -> Result<[u32; 2], NetFault> {
     let bit = level(builder, true)?;
     let word = constant(builder, 32, 0xa5)?;
     let source = StreamPort {
@@ -48,7 +48,7 @@ fn emit_narrowed(alloc: Global, builder: &mut Builder) -> Result<[u32; 2], NetFa
         ..BYTES
     };
     let from = plain_source(bit, word);
-    let path = emit_path(alloc, builder, &source, &BYTES, 0, &from, Some(bit))?;
+    let path = emit_path(builder, &source, &BYTES, 0, &from, Some(bit))?;
     let next = level(builder, false)?;
     Ok([path.dropped.number(), next.number()])
 }
@@ -57,9 +57,9 @@ fn emit_narrowed(alloc: Global, builder: &mut Builder) -> Result<[u32; 2], NetFa
 pub(crate) fn push_path(alloc: Global, text: &mut String, name: &str) -> Result<(), NetFault> {
     let mut builder = empty_builder(alloc)?;
     let numbers = if name == "queued" {
-        emit_queued(alloc, &mut builder)?
+        emit_queued(&mut builder)?
     } else {
-        emit_narrowed(alloc, &mut builder)?
+        emit_narrowed(&mut builder)?
     };
     write!(text, " {numbers:?}")?;
     Ok(())

@@ -19,7 +19,7 @@ pub(crate) fn push_named_stage(
         "two_places_behind_latency_1" => push_stage(alloc, text, &ReadyBuffer::new(1), words),
         _ => {
             let stage = Chain {
-                first: Fifo::new(alloc, 1),
+                first: Fifo::new(1),
                 second: PipeReg,
             };
             push_stage(alloc, text, &stage, words)

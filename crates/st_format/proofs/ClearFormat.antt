@@ -1,7 +1,7 @@
 -- Behind the stages of a format the empty symbols of each beat are 0.
-use Rattle.std.proofs.Common.{◌≡◌, ℕ, ◌+◌, ◌<◌, Bool, true, false, ◌||◌, ◌==◌, IsTrue, Option, Some, None, refl, sym, subst, ap, ◌∙◌, arith}
+use Rattle.std.proofs.Common.{◌≡◌, ℕ, ◌+◌, ◌<◌, ◌≤◌, inl, inr, Bool, true, false, ◌||◌, ◌==◌, IsTrue, Option, Some, None, refl, sym, subst, ap, ◌∙◌, arith}
 use Rattle.std.specs.Prelude.{IsNone}
-use Rattle.std.proofs.lemmas.Bool.{both_ways}
+use Rattle.std.proofs.lemmas.Bool.{both_ways, cases_lt}
 use Rattle.netlist.specs.Nets.{NetValue}
 use Rattle.netlist.specs.Netlists.{Netlist}
 use Rattle.netlist.specs.Runs.{Cycle, Run, cycle_of, IsEndlessRun, IsValuation}
@@ -18,18 +18,24 @@ use Rattle.stage_core.specs.Law.{KeepsShape}
 use Rattle.stage_core.specs.MaybeNets.{shape_of, forward_of, backward_of}
 use Rattle.st_format.specs.declared.reorder.Reorder.{Reorder}
 use Rattle.st_format.specs.declared.clear.Clear.{Clear}
-use Rattle.st_format.specs.declared.narrow.Narrow.{Narrow}
+use Rattle.st_format.specs.declared.resize.Resize.{Resize}
+use Rattle.st_format.specs.declared.resize.Resize.TheVariants.{Equal, Cut, Join, Slide}
+use Rattle.st_format.specs.declared.resize.ResizeKept.{ResizeKept}
+use Rattle.st_format.specs.declared.resize.ResizeKept.TheVariants.{Straight, OfCut, OfJoin, OfSlide}
 use Rattle.st_format.specs.declared.narrow.NarrowKept.{NarrowKept}
-use Rattle.st_format.specs.declared.widen.Widen.{Widen}
 use Rattle.st_format.specs.declared.widen.WidenKept.{WidenKept}
+use Rattle.st_windows.specs.declared.sizes.WindowSizes.{WindowSizes}
+use Rattle.st_windows.specs.declared.window.WindowKept.{WindowKept}
+use Rattle.st_windows.specs.WindowNets.{IsWindowShape, WindowForward, WindowBackward}
 use Rattle.st_format.specs.declared.sizes.Sizes.{Sizes}
 use Rattle.st_format.specs.ReorderNets.{IsReorderShape, TurnsBeat}
 use Rattle.st_format.specs.ClearNets.{IsClearShape, ClearsBeat}
 use Rattle.st_format.specs.NarrowNets.{IsNarrowShape, NarrowForward, NarrowBackward}
 use Rattle.st_format.specs.WidenNets.{IsWidenShape, WidenForward, WidenBackward}
+use Rattle.st_format.specs.ResizeNets.{resize_has, ResizeForward, ResizeBackward}
 use Rattle.st_format.specs.FormatNets.{Stages, front_has, format_has}
-use Rattle.st_format.specs.FormatStands.{FrontKept, BackKept, FrontForward, FrontBackward, FormatForward, FormatBackward}
-use Rattle.st_format.specs.ClearBeats.{ShowsClear}
+use Rattle.st_format.specs.FormatStands.{FrontKept, FrontForward, FrontBackward, FormatForward, FormatBackward}
+use Rattle.stream_machines.specs.Words.{ShowsClear}
 
 abbrev pub TurnedFit : Type 0
 TurnedFit = (side : Side) (word k : ℕ) → k < side.symbols → value_of (turned_side side) (turned_word side.symbol_bits side.symbols word) k ≡ value_of side word k
@@ -44,6 +50,14 @@ NarrowLaw = (sizes : Sizes) (shape : Shape) (from to : BeatNets) (kept : NarrowK
 abbrev pub WidenLaw : Type 0
 WidenLaw = (sizes : Sizes) (shape : Shape) (from to : BeatNets) (kept : WidenKept) (ready up : NetValue) (netlist : Netlist) → IsWidenShape sizes shape → WidenForward sizes from to kept netlist → WidenBackward kept ready up netlist → (run : Run) → IsEndlessRun netlist run → (count : ℕ) →
     IsLegalSource shape.up (view_of run from up) count → ShowsClear shape.up (view_of run from up) count → ShowsClear shape.down (view_of run to ready) count
+
+abbrev pub WindowLaw : Type 0
+WindowLaw = (sizes : WindowSizes) (shape : Shape) (from to : BeatNets) (kept : WindowKept) (ready up : NetValue) (netlist : Netlist) → IsWindowShape sizes shape → WindowForward sizes from to kept netlist → WindowBackward kept ready up netlist → (run : Run) → IsEndlessRun netlist run → (count : ℕ) →
+    IsLegalSource shape.up (view_of run from up) count → ShowsClear shape.up (view_of run from up) count → ShowsClear shape.down (view_of run to ready) count
+
+-- what sends no empty symbol
+abbrev pub FullLaw : Type 0
+FullLaw = (side : Side) (view : EndView) (count : ℕ) → (IsTrue side.packets → side.symbols ≤ 1) → IsLegalSource side view count → ShowsClear side view count
 
 turned_clear : TurnedFit → (side : Side) (symbols bits : ℕ) → side.symbols ≡ symbols → side.symbol_bits ≡ bits → (x : Beat) → HasClearEmpty side x → HasClearEmpty (turned_side side) (record x { word = turned_word bits symbols x.word })
 turned_clear fit side symbols bits symbols_are bits_are x clear k from below =
@@ -83,19 +97,13 @@ module _ (netlist : Netlist) (run : Run) (endless : IsEndlessRun netlist run) (c
   clear_shows law (Some stage) shape from to (Some held) p f clear =
       subst (λ (s : Shape). Shows s.down to) (sym p.is) (λ c lt v. law stage.symbols stage.bits from to netlist f shape.up p.symbols_are p.bits_are p.first_high (cycle_of run c) (valued c))
 
-  narrow_shows : NarrowLaw → (narrow : Option Narrow) (shape : Shape) (from to : BeatNets) (kept : Option NarrowKept) (ready up : NetValue) → shape_of (λ (s : Narrow) (shape : Shape). IsNarrowShape s.sizes shape) narrow shape →
-      forward_of (λ (s : Narrow) from to (kept : NarrowKept) netlist. NarrowForward s.sizes from to kept netlist) narrow from to kept netlist → backward_of (λ (s : Narrow) (kept : NarrowKept) ready up netlist. NarrowBackward kept ready up netlist) narrow kept ready up netlist →
-      Shows shape.up from → Shows shape.down to
-  narrow_shows law None shape from to kept ready up p f b clear = subst (λ (s : Shape). Shows s.down to) (sym p.is) (subst (Shows shape.up) (sym f) clear)
-  narrow_shows law (Some stage) shape from to None ready up p f b clear = absurd f
-  narrow_shows law (Some stage) shape from to (Some held) ready up p f b clear = law stage.sizes shape from to held ready up netlist p f b run endless count clear
-
-  widen_shows : WidenLaw → (widen : Option Widen) (shape : Shape) (from to : BeatNets) (kept : Option WidenKept) (ready up : NetValue) → shape_of (λ (s : Widen) (shape : Shape). IsWidenShape s.sizes shape) widen shape →
-      forward_of (λ (s : Widen) from to (kept : WidenKept) netlist. WidenForward s.sizes from to kept netlist) widen from to kept netlist → backward_of (λ (s : Widen) (kept : WidenKept) ready up netlist. WidenBackward kept ready up netlist) widen kept ready up netlist →
+  resize_shows : NarrowLaw → WidenLaw → WindowLaw → (resize : Resize) (shape : Shape) (from to : BeatNets) (kept : ResizeKept) (ready up : NetValue) → resize_has resize shape → ResizeForward resize from to kept netlist → ResizeBackward resize kept ready up netlist →
       IsLegalSource shape.up (view_of run from up) count → Shows shape.up from → Shows shape.down to
-  widen_shows law None shape from to kept ready up p f b legal clear = subst (λ (s : Shape). Shows s.down to) (sym p.is) (subst (Shows shape.up) (sym f) clear)
-  widen_shows law (Some stage) shape from to None ready up p f b legal clear = absurd f
-  widen_shows law (Some stage) shape from to (Some held) ready up p f b legal clear = law stage.sizes shape from to held ready up netlist p f b run endless count legal clear
+  resize_shows cuts joins slides Equal shape from to Straight ready up p f b legal clear = subst (λ (s : Shape). Shows s.down to) (sym p.is) (subst (Shows shape.up) (sym f) clear)
+  resize_shows cuts joins slides (Cut stage) shape from to (OfCut same kept) ready up p f b legal clear = cuts stage.sizes shape from to kept ready up netlist p f b run endless count clear
+  resize_shows cuts joins slides (Join stage) shape from to (OfJoin same kept) ready up p f b legal clear = joins stage.sizes shape from to kept ready up netlist p f b run endless count legal clear
+  resize_shows cuts joins slides (Slide stage) shape from to (OfSlide same kept) ready up p f b legal clear = slides stage.sizes shape from to kept ready up netlist p f b run endless count legal clear
+  resize_shows cuts joins slides _ shape from to _ ready up p f b legal clear = absurd f
 
 turn_free : (turn : Option Reorder) (shape : Shape) → shape_of (λ (s : Reorder) (shape : Shape). IsReorderShape s.symbols s.bits shape) turn shape → shape.needs_ready ≡ false
 turn_free None shape p = ap (λ (s : Shape). s.needs_ready) p.is
@@ -105,46 +113,43 @@ clear_free : (clear : Option Clear) (shape : Shape) → shape_of (λ (s : Clear)
 clear_free None shape p = ap (λ (s : Shape). s.needs_ready) p.is
 clear_free (Some stage) shape p = ap (λ (s : Shape). s.needs_ready) p.is
 
-narrow_free : (narrow : Option Narrow) (shape : Shape) → shape_of (λ (s : Narrow) (shape : Shape). IsNarrowShape s.sizes shape) narrow shape → shape.needs_ready ≡ false
-narrow_free None shape p = ap (λ (s : Shape). s.needs_ready) p.is
-narrow_free (Some stage) shape p = ap (λ (s : Shape). s.needs_ready) p.is
+resize_free : (resize : Resize) (shape : Shape) → resize_has resize shape → shape.needs_ready ≡ false
+resize_free Equal shape p = ap (λ (s : Shape). s.needs_ready) p.is
+resize_free (Cut stage) shape p = ap (λ (s : Shape). s.needs_ready) p.is
+resize_free (Join stage) shape p = ap (λ (s : Shape). s.needs_ready) p.is
+resize_free (Slide stage) shape p = ap (λ (s : Shape). s.needs_ready) p.is
 
 abbrev pub FrontLaw : Stages → Type 0
 FrontLaw format = (shape : Shape) (from to : BeatNets) (kept : FrontKept) (ready up : NetValue) (netlist : Netlist) → front_has format.first.first.stage format.first.second.stage shape → FrontForward format.first.first.stage format.first.second.stage from to kept netlist
     → FrontBackward format.first.first.stage format.first.second.stage kept ready up netlist → (run : Run) → IsEndlessRun netlist run → KeepsShape shape (view_of run from up) (view_of run to ready)
 
-abbrev pub CutLaw : Stages → Type 0
-CutLaw format = (shape : Shape) (from to : BeatNets) (kept : Option NarrowKept) (ready up : NetValue) (netlist : Netlist) → shape_of (λ (s : Narrow) (shape : Shape). IsNarrowShape s.sizes shape) format.second.first.stage shape
-    → forward_of (λ (s : Narrow) from to (kept : NarrowKept) netlist. NarrowForward s.sizes from to kept netlist) format.second.first.stage from to kept netlist → backward_of (λ (s : Narrow) (kept : NarrowKept) ready up netlist. NarrowBackward kept ready up netlist) format.second.first.stage kept ready up netlist
+abbrev pub ResizeLaw : Stages → Type 0
+ResizeLaw format = (shape : Shape) (from to : BeatNets) (kept : ResizeKept) (ready up : NetValue) (netlist : Netlist) → resize_has format.second shape → ResizeForward format.second from to kept netlist → ResizeBackward format.second kept ready up netlist
     → (run : Run) → IsEndlessRun netlist run → KeepsShape shape (view_of run from up) (view_of run to ready)
 
-module _ (turned : TurnedFit) (clears : ClearLaw) (cuts : NarrowLaw) (joins : WidenLaw) (format : Stages) (front_keeps : FrontLaw format) (cut_keeps : CutLaw format) where
-  pub format_clear : (shape : Shape) (from to : BeatNets) (front : FrontKept) (back : BackKept) (ready up : NetValue) (netlist : Netlist) → format_has format shape → FormatForward format from to front back netlist → FormatBackward format front back ready up netlist → (run : Run) → IsEndlessRun netlist run → (count : ℕ) →
-      IsLegalSource shape.up (view_of run from up) count → (IsNone format.first.second.stage → ShowsClear shape.up (view_of run from up) count) → ShowsClear shape.down (view_of run to ready) count
+module _ (turned : TurnedFit) (clears : ClearLaw) (cuts : NarrowLaw) (joins : WidenLaw) (slides : WindowLaw) (full : FullLaw) (format : Stages) (front_keeps : FrontLaw format) (resize_keeps : ResizeLaw format) where
+  pub format_clear : (shape : Shape) (from to : BeatNets) (front : FrontKept) (back : ResizeKept) (ready up : NetValue) (netlist : Netlist) → format_has format shape → FormatForward format from to front back netlist → FormatBackward format front back ready up netlist → (run : Run) → IsEndlessRun netlist run → (count : ℕ) →
+      IsLegalSource shape.up (view_of run from up) count → (IsNone format.first.second.stage → 1 < shape.down.symbols → ShowsClear shape.up (view_of run from up) count) → ShowsClear shape.down (view_of run to ready) count
   format_clear shape from to front back ready up netlist p f b run endless count legal clear =
       let turn = p.first_has.first in
       let clearing = p.first_has.second in
-      let narrow = p.second_has.first in
-      let widen = p.second_has.second in
       let middle = f.middle in
-      let cut = f.second.middle in
       let up_is : shape.up ≡ turn.up = ap (λ (s : Shape). s.up) p.is ∙ ap (λ (s : Shape). s.up) p.first_has.is in
-      let cleared_is : clearing.down ≡ narrow.up = sym (ap (λ (s : Shape). s.down) p.first_has.is) ∙ p.fit.same_side ∙ ap (λ (s : Shape). s.up) p.second_has.is in
-      let down_is : widen.down ≡ shape.down = sym (ap (λ (s : Shape). s.down) p.is ∙ ap (λ (s : Shape). s.down) p.second_has.is) in
+      let cleared_is : clearing.down ≡ p.second.up = sym (ap (λ (s : Shape). s.down) p.first_has.is) ∙ p.fit.same_side in
+      let down_is : p.second.down ≡ shape.down = sym (ap (λ (s : Shape). s.down) p.is) in
       let free : p.first.needs_ready ≡ false = ap (λ (s : Shape). s.needs_ready) p.first_has.is
       ∙ either_free _ _ (turn_free format.first.first.stage turn p.first_has.first_has) (clear_free format.first.second.stage clearing p.first_has.second_has) in
       let legal_first : IsLegalSource p.first.up (view_of run from up) count = subst (λ (s : Side). IsLegalSource s (view_of run from up) count) (ap (λ (s : Shape). s.up) p.is) legal in
       let legal_middle = legal_behind p.first _ _ (front_keeps p.first from middle front b.middle up netlist p.first_has f.first b.first run endless) free count legal_first in
-      let legal_narrow : IsLegalSource narrow.up (view_of run middle b.middle) count = subst (λ (s : Side). IsLegalSource s (view_of run middle b.middle) count) (p.fit.same_side ∙ ap (λ (s : Shape). s.up) p.second_has.is) legal_middle in
-      let legal_cut = legal_behind narrow _ _ (cut_keeps narrow middle cut back.0 b.second.middle b.middle netlist p.second_has.first_has f.second.first b.second.first run endless) (narrow_free format.second.first.stage narrow p.second_has.first_has) count legal_narrow in
-      let legal_widen : IsLegalSource widen.up (view_of run cut b.second.middle) count = subst (λ (s : Side). IsLegalSource s (view_of run cut b.second.middle) count) p.second_has.fit.same_side legal_cut in
-      let shows_middle : Shows netlist run endless count clearing.down middle =
+      let legal_resize : IsLegalSource p.second.up (view_of run middle b.middle) count = subst (λ (s : Side). IsLegalSource s (view_of run middle b.middle) count) p.fit.same_side legal_middle in
+      let legal_end = legal_behind p.second _ _ (resize_keeps p.second middle to back ready b.middle netlist p.second_has f.second b.second run endless) (resize_free format.second p.second p.second_has) count legal_resize in
+      let shows_middle : (1 < shape.down.symbols → Shows netlist run endless count clearing.down middle) = (λ several.
       clear_shows netlist run endless count clears format.first.second.stage clearing f.first.middle middle front.1 p.first_has.second_has f.first.second
       (λ none. subst (λ (s : Side). Shows netlist run endless count s f.first.middle) p.first_has.fit.same_side
-      (turn_shows netlist run endless count turned format.first.first.stage turn from f.first.middle front.0 p.first_has.first_has f.first.first (subst (λ (s : Side). Shows netlist run endless count s from) up_is (clear none)))) in
-      let shows_cut : Shows netlist run endless count narrow.down cut =
-      narrow_shows netlist run endless count cuts format.second.first.stage narrow middle cut back.0 b.second.middle b.middle p.second_has.first_has f.second.first b.second.first
-      (subst (λ (s : Side). Shows netlist run endless count s middle) cleared_is shows_middle) in
-      subst (λ (s : Side). Shows netlist run endless count s to) down_is
-      (widen_shows netlist run endless count joins format.second.second.stage widen cut to back.1 ready b.second.middle p.second_has.second_has f.second.second b.second.second legal_widen
-      (subst (λ (s : Side). Shows netlist run endless count s cut) p.second_has.fit.same_side shows_cut))
+      (turn_shows netlist run endless count turned format.first.first.stage turn from f.first.middle front.0 p.first_has.first_has f.first.first (subst (λ (s : Side). Shows netlist run endless count s from) up_is (clear none several))))) in
+      elim (cases_lt 1 shape.down.symbols) [
+        | inl several ↦ subst (λ (s : Side). Shows netlist run endless count s to) down_is
+            (resize_shows netlist run endless count cuts joins slides format.second p.second middle to back ready b.middle p.second_has f.second b.second legal_resize
+            (subst (λ (s : Side). Shows netlist run endless count s middle) cleared_is (shows_middle several)))
+        | inr single ↦ full shape.down (view_of run to ready) count (λ packets. single) (subst (λ (s : Side). IsLegalSource s (view_of run to ready) count) down_is legal_end)
+      ]

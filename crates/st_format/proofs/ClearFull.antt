@@ -4,7 +4,7 @@ use Rattle.std.proofs.lemmas.Bool.{both_ways}
 use Rattle.stream_runs.specs.View.{EndView, Side, beat_at}
 use Rattle.stream_runs.specs.Symbols.{value_of}
 use Rattle.stream_runs.specs.Source.{IsLegalSource, IsWellFormed, is_open, channel_before}
-use Rattle.st_format.specs.ClearBeats.{ShowsClear}
+use Rattle.stream_machines.specs.Words.{ShowsClear}
 
 pub full_clear : (side : Side) (view : EndView) (count : ℕ) → (IsTrue side.packets → side.symbols ≤ 1) → IsLegalSource side view count → ShowsClear side view count
 full_clear side view count few legal c lt v k from below = by_last (view.last c == 1) refl from

@@ -16,7 +16,7 @@ use Rattle.st_format.specs.declared.sizes.Sizes.{Sizes}
 use Rattle.st_format.specs.declared.narrow.NarrowKept.{NarrowKept}
 use Rattle.st_format.specs.Counted.{counted, counted_beat}
 use Rattle.st_format.specs.NarrowNets.{IsNarrowShape, NarrowForward, NarrowBackward, has_more, piece_of, rest_of, shown_now}
-use Rattle.st_format.specs.ClearBeats.{ShowsClear}
+use Rattle.stream_machines.specs.Words.{ShowsClear}
 use Rattle.st_format.proofs.PartsLemmas.{parts_sum, rest_empty}
 use Rattle.st_format.proofs.SymbolLemmas.{cut_symbol, shifted_symbol, shifted_none, high_value}
 use Rattle.st_format.proofs.WidenLaw.{one_if}

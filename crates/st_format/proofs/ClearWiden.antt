@@ -18,7 +18,7 @@ use Rattle.stage_core.specs.Groups.{Shown, shown_in}
 use Rattle.st_format.specs.declared.sizes.Sizes.{Sizes}
 use Rattle.st_format.specs.declared.widen.WidenKept.{WidenKept}
 use Rattle.st_format.specs.WidenNets.{IsWidenShape, WidenForward, WidenBackward, shown_joined}
-use Rattle.st_format.specs.ClearBeats.{ShowsClear}
+use Rattle.stream_machines.specs.Words.{ShowsClear}
 use Rattle.st_format.proofs.PartsLemmas.{parts_sum, few_symbols}
 use Rattle.st_format.proofs.JoinedLemmas.{joined_below}
 use Rattle.st_format.proofs.SymbolLemmas.{cut_symbol, shifted_symbol, shifted_none, high_value}

@@ -1,26 +1,26 @@
 -- Stages that lead from one side to another, one behind the other.
-use Rattle.std.proofs.Common.{◌≡◌, ℕ, ◌+◌, ◌-◌, ◌*◌, ◌<◌, ◌≤◌, Bool, true, false, not, ◌||◌, nat_lt, nat_le, if◌then◌else◌, IsTrue, IsFalse, Option, Some, None, refl, sym, subst, ap, ◌∙◌, arith, ◌⊎◌, inl, inr}
+use Rattle.std.proofs.Common.{◌≡◌, ℕ, ◌+◌, ◌-◌, ◌*◌, ◌%◌, ◌<◌, ◌≤◌, Bool, true, false, not, ◌||◌, nat_lt, nat_le, if◌then◌else◌, IsTrue, IsFalse, Option, Some, None, refl, sym, subst, ap, ◌∙◌, arith, ◌⊎◌, inl, inr}
 use Rattle.std.specs.Prelude.{IfSome, IsNone}
 use Rattle.std.proofs.lemmas.Bool.{ltb-true, leb-false, both_ways}
 use Rattle.std.proofs.lemmas.Nat.{mul-le}
 use Rattle.stream_runs.specs.View.{Side}
 use Rattle.stream_machines.specs.Stage.{Shape, PassesAll, chain_shape, pass_shape}
 use Rattle.stream_machines.specs.Parts.{narrow_shape, widen_shape}
+use Rattle.stream_machines.specs.Windows.{window_shape, window_hold}
 use Rattle.stream_machines.specs.Wires.{wire_shape, turned_side}
 use Rattle.stream_machines.specs.Line.{of_symbols}
 use Rattle.stage_core.specs.ChainNets.{IsChainOf, ShapesFit}
 use Rattle.stage_core.specs.MaybeNets.{shape_of}
 use Rattle.st_format.specs.declared.reorder.Reorder.{Reorder}
 use Rattle.st_format.specs.declared.clear.Clear.{Clear}
-use Rattle.st_format.specs.declared.narrow.Narrow.{Narrow}
-use Rattle.st_format.specs.declared.widen.Widen.{Widen}
+use Rattle.st_format.specs.declared.resize.Resize.{Resize}
+use Rattle.st_format.specs.declared.resize.Resize.TheVariants.{Equal, Cut, Join, Slide}
 use Rattle.st_format.specs.ReorderNets.{IsReorderShape}
 use Rattle.st_format.specs.ClearNets.{IsClearShape}
-use Rattle.st_format.specs.NarrowNets.{IsNarrowShape}
-use Rattle.st_format.specs.WidenNets.{IsWidenShape}
-use Rattle.std.proofs.Math.Nat.{mul_comm}
-use Rattle.st_format.proofs.SizesLemmas.{split_symbols}
-use Rattle.st_format.specs.FormatNets.{IsTurn, IsClearing, IsCut, IsJoint}
+use Rattle.st_format.specs.ResizeNets.{IsResizeOf, joins_beats, keeps_ready, resize_has, resize_passes}
+use Rattle.std.proofs.Math.Nat.{mul_comm, mod_self}
+use Rattle.st_format.proofs.SizesLemmas.{split_symbols, more_parts}
+use Rattle.st_format.specs.FormatNets.{IsTurn, IsClearing}
 
 -- a shape of these leads from one side to another, needs no sink that is always ready, holds so many symbols at most, keeps so
 -- many for good, and a symbol raises its rank so much at most, which is so large at most
@@ -169,42 +169,6 @@ clear_leads can (Some stage) passes side clears symbols bits is same same_bits s
   largest = omega (arith, direct);
 }
 
-pub cut_leads : (can : Type 0) (stage : Option Narrow) → (can → IsNone stage) → (passes : ℕ → Bool) (side : Side) (symbols parts bits : ℕ) → IsCut symbols parts bits stage → side.symbols ≡ symbols * parts → side.symbol_bits ≡ bits → 0 < side.symbols → PassesAll passes side → side.pace.latency ≡ 0 → (2 ≤ parts → side.first_high ≡ true) →
-    Leads (shape_of (λ (s : Narrow) (shape : Shape). IsNarrowShape s.sizes shape) stage) (shape_of (λ (s : Narrow) (shape : Shape). ⊥) stage) can passes side (of_symbols side symbols) side.symbols 0 0 0
-cut_leads can None none passes side symbols parts bits is size same_bits some all direct high = record {
-  shape = pass_shape passes side;
-  has_it = record { is = refl; some = some; passes = all };
-  passed = λ c. record { is = refl; some = some; passes = all };
-  up_is = refl;
-  down_is = ap (of_symbols side) (size ∙ ap (λ n. symbols * n) is ∙ omega arith);
-  test = refl;
-  free = refl;
-  hold = omega arith;
-  rest = omega arith;
-  step = omega arith;
-  largest = omega (arith, direct);
-}
-cut_leads can (Some stage) none passes side symbols parts bits is size same_bits some all direct high = record {
-  shape = narrow_shape passes side (of_symbols side stage.sizes.symbols);
-  has_it = record {
-    is = refl;
-    symbols_are = size ∙ ap (λ n. n * parts) (sym is.0) ∙ ap (λ n. stage.sizes.symbols * n) (sym is.1);
-    bits_are = same_bits ∙ sym is.2;
-    first_high = high (let several = stage.sizes.several in let parts_are = is.1 in omega (arith, several, parts_are));
-    at_once = direct;
-    passes = all;
-  };
-  passed = λ c. absurd (let some = none c in cc);
-  up_is = refl;
-  down_is = ap (of_symbols side) is.0;
-  test = refl;
-  free = refl;
-  hold = omega arith;
-  rest = omega arith;
-  step = omega arith;
-  largest = omega arith;
-}
-
 -- what is gathered for good is less than a wide beat
 kept_few : (symbols s p parts wide : ℕ) → s ≡ symbols → p ≡ parts → wide ≡ symbols * parts → 0 < symbols → 2 ≤ p → (p - 1) * s + 1 ≤ wide
 kept_few symbols s p parts wide same same_parts size some several =
@@ -212,15 +176,22 @@ kept_few symbols s p parts wide same same_parts size some several =
     let turned : (p - 1) * s ≡ symbols * (parts - 1) = ap (λ n. (n - 1) * s) same_parts ∙ ap (λ n. (parts - 1) * n) same ∙ mul_comm (parts - 1) symbols in
     omega (arith, sum, turned, size, some)
 
-pub joint_leads : (can : Type 0) (stage : Option Widen) (passes : ℕ → Bool) (side : Side) (symbols parts bits wide : ℕ) → IsJoint symbols parts bits stage → side.symbols ≡ symbols → wide ≡ symbols * parts → side.symbol_bits ≡ bits → 0 < side.symbols → PassesAll passes side → side.pace.latency ≡ 0 → side.pace.allowance ≡ 0 → (2 ≤ parts → side.first_high ≡ true)
-    → IfSome stage (λ s. IsFalse side.packets → side.max_channel ≡ 0) →
-    Leads (shape_of (λ (s : Widen) (shape : Shape). IsWidenShape s.sizes shape) stage) (shape_of (λ (s : Widen) (shape : Shape). IsWidenShape s.sizes shape) stage) can passes side (of_symbols side wide) wide (wide - 1) 0 0
-joint_leads can None passes side symbols parts bits wide is same size same_bits some all direct strict high channels = record {
+held_few : (from into : ℕ) → window_hold from into ≤ from + into
+held_few from into = by_size (nat_le from into)
+  where
+    by_size : (t : Bool) → (if t then into - 1 else from - 1) ≤ from + into
+    by_size true = omega arith
+    by_size false = omega arith
+
+-- what changes how many symbols a beat has, from a side of this many symbols
+pub resize_leads : (resize : Resize) (passes : ℕ → Bool) (side : Side) (into bits : ℕ) → IsResizeOf side.symbols into bits resize → side.symbol_bits ≡ bits → 0 < side.symbols → 0 < into → PassesAll passes side → side.pace.latency ≡ 0 → side.pace.allowance ≡ 0 → ((side.symbols ≡ into → ⊥) → side.first_high ≡ true)
+    → (IsTrue (joins_beats resize) → IsFalse side.packets → side.max_channel ≡ 0) → Leads (resize_has resize) (resize_passes resize) (IsTrue (keeps_ready resize)) passes side (of_symbols side into) (side.symbols + into) (into - 1) 0 0
+resize_leads Equal passes side into bits is same_bits some some_into all direct strict high channels = record {
   shape = pass_shape passes side;
   has_it = record { is = refl; some = some; passes = all };
   passed = λ c. record { is = refl; some = some; passes = all };
   up_is = refl;
-  down_is = ap (of_symbols side) (same ∙ sym (size ∙ ap (λ n. symbols * n) is ∙ omega arith));
+  down_is = ap (of_symbols side) is;
   test = refl;
   free = refl;
   hold = omega arith;
@@ -228,34 +199,72 @@ joint_leads can None passes side symbols parts bits wide is same size same_bits 
   step = omega arith;
   largest = omega (arith, direct);
 }
-joint_leads can (Some stage) passes side symbols parts bits wide is same size same_bits some all direct strict high channels = record {
-  shape = widen_shape passes stage.sizes.parts side (of_symbols side (stage.sizes.symbols * stage.sizes.parts));
+resize_leads (Cut stage) passes side into bits is same_bits some some_into all direct strict high channels = record {
+  shape = narrow_shape passes side (of_symbols side stage.sizes.symbols);
   has_it = record {
     is = refl;
-    symbols_are = same ∙ sym is.0;
+    symbols_are = is.0 ∙ ap (λ n. n * stage.sizes.parts) (sym is.1);
     bits_are = same_bits ∙ sym is.2;
-    first_high = high (let several = stage.sizes.several in let parts_are = is.1 in omega (arith, several, parts_are));
+    first_high = high (λ same. (let several = stage.sizes.several in let size = is.0 in more_parts into stage.sizes.parts several some_into (sym same ∙ size)));
     at_once = direct;
-    strict = strict;
-    channels = channels;
     passes = all;
   };
-  passed = λ c. record {
-    is = refl;
-    symbols_are = same ∙ sym is.0;
-    bits_are = same_bits ∙ sym is.2;
-    first_high = high (let several = stage.sizes.several in let parts_are = is.1 in omega (arith, several, parts_are));
-    at_once = direct;
-    strict = strict;
-    channels = channels;
-    passes = all;
-  };
+  passed = λ c. absurd (cc);
   up_is = refl;
-  down_is = ap (of_symbols side) (ap (λ n. n * stage.sizes.parts) is.0 ∙ ap (λ n. symbols * n) is.1 ∙ sym size);
+  down_is = ap (of_symbols side) is.1;
   test = refl;
   free = refl;
-  hold = (let below = kept_few symbols (side.symbols) stage.sizes.parts parts wide same is.1 size (let here = some in let equal = same in omega (arith, here, equal)) stage.sizes.several in omega arith);
-  rest = (let below = kept_few symbols (side.symbols) stage.sizes.parts parts wide same is.1 size (let here = some in let equal = same in omega (arith, here, equal)) stage.sizes.several in omega arith);
+  hold = omega arith;
+  rest = omega arith;
+  step = omega arith;
+  largest = omega arith;
+}
+resize_leads (Join stage) passes side into bits is same_bits some some_into all direct strict high channels =
+    let parts : ℕ = stage.sizes.parts in
+    let below = kept_few side.symbols stage.sizes.symbols parts parts into is.1 refl is.0 some stage.sizes.several in
+    let same : (parts - 1) * side.symbols ≡ (parts - 1) * stage.sizes.symbols = ap (λ n. (parts - 1) * n) (sym is.1) in
+    let has : resize_has (Join stage) (widen_shape passes stage.sizes.parts side (of_symbols side (stage.sizes.symbols * stage.sizes.parts))) = record {
+      is = refl;
+      symbols_are = sym is.1;
+      bits_are = same_bits ∙ sym is.2;
+      first_high = high (λ same. (let several = stage.sizes.several in let size = is.0 in more_parts side.symbols parts several some (same ∙ size)));
+      at_once = direct;
+      strict = strict;
+      channels = channels refl;
+      passes = all;
+    } in
+    record {
+      shape = widen_shape passes stage.sizes.parts side (of_symbols side (stage.sizes.symbols * stage.sizes.parts));
+      has_it = has;
+      passed = λ c. has;
+      up_is = refl;
+      down_is = ap (of_symbols side) (ap (λ n. n * stage.sizes.parts) is.1 ∙ sym is.0);
+      test = refl;
+      free = refl;
+      hold = omega (arith, below, same);
+      rest = omega (arith, below, same);
+      step = omega arith;
+      largest = omega arith;
+    }
+resize_leads (Slide stage) passes side into bits is same_bits some some_into all direct strict high channels = record {
+  shape = window_shape passes side (of_symbols side stage.sizes.into);
+  has_it = record {
+    is = refl;
+    symbols_are = sym is.2;
+    bits_are = same_bits ∙ sym is.4;
+    first_high = high (λ same. is.0 (subst (λ n. side.symbols % n ≡ 0) same (mod_self side.symbols)));
+    at_once = direct;
+    strict = strict;
+    channels = channels refl;
+    passes = all;
+  };
+  passed = λ c. absurd (cc);
+  up_is = refl;
+  down_is = ap (of_symbols side) is.3;
+  test = refl;
+  free = refl;
+  hold = subst (λ n. window_hold side.symbols n ≤ side.symbols + into) (sym is.3) (held_few side.symbols into);
+  rest = subst (λ n. n - 1 ≤ into - 1) (sym is.3) (omega arith);
   step = omega arith;
   largest = omega arith;
 }

@@ -9,6 +9,7 @@ pub mod WidenLemmas
 pub mod JoinedLemmas
 pub mod WidenLaw
 pub mod ClearLaw
+pub mod ResizeLaw
 pub mod Leading
 pub mod FormatLaw
 pub mod SymbolLemmas

@@ -24,3 +24,9 @@ below_all bits symbols parts part h =
     let all : bits * (symbols * suc part) ≤ bits * (symbols * parts) = mul-le-mul_left bits most in
     let sum : bits * (symbols * suc part) ≡ bits * (symbols * part) + bits * symbols = omega arith in
     omega (arith, all, sum)
+
+-- several parts of a size are more than one
+pub more_parts : (size parts : ℕ) → 2 ≤ parts → 0 < size → size ≡ size * parts → ⊥
+more_parts size zero several some e = omega (arith, several)
+more_parts size (suc zero) several some e = omega (arith, several)
+more_parts size (suc (suc more)) several some e = let spread : size * suc (suc more) ≡ size + size + size * more = omega arith in omega (arith, some, e, spread)

@@ -3,6 +3,6 @@ pub mod ReorderNets
 pub mod NarrowNets
 pub mod WidenNets
 pub mod ClearNets
+pub mod ResizeNets
 pub mod FormatNets
-pub mod ClearBeats
 pub mod FormatStands

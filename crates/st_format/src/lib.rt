@@ -7,13 +7,15 @@ pub mod format;
 pub mod laws;
 pub mod narrow;
 pub mod reorder;
+pub mod resize;
 pub mod sizes;
 pub mod widen;
 mod words;
 
 pub use clear::Clear;
-pub use format::{Format, Order, Resize, format_of};
+pub use format::{Format, Order, format_of};
 pub use narrow::Narrow;
 pub use reorder::Reorder;
+pub use resize::Resize;
 pub use sizes::Sizes;
 pub use widen::Widen;

@@ -1,48 +1,44 @@
 -- The stages that bring beats to the sink's symbols, as parts.
 use Rattle.std.proofs.Common.{◌≡◌, ℕ, zero, suc, ◌+◌, ◌-◌, ◌*◌, ◌%◌, ◌^◌, ◌≤◌, ◌<◌, Bool, Option, Some, None, refl, subst, arith}
-use Rattle.std.specs.Prelude.{IsFalse, IfSome, IsNone}
-use Rattle.std.specs.Int.{IsGcd}
-use Rattle.std.proofs.lemmas.Nat.Gcd.{dvd_of_mod-eq-zero, dvd_refl, IsGcd-swap, le_from_IsGcd}
+use Rattle.std.specs.Prelude.{IsTrue}
+use Rattle.std.proofs.Math.Nat.{mod-eq_of_lt}
 use Rattle.iface_roles.specs.declared.records.StreamPort.{StreamPort}
 use Rattle.stream_runs.specs.View.{Side}
 use Rattle.stream_runs.specs.Ends.{Declared}
 use Rattle.stream_machines.specs.Stage.{PassesAll}
-use Rattle.st_format.specs.declared.narrow.Narrow.{Narrow}
-use Rattle.st_format.specs.declared.widen.Widen.{Widen}
-use Rattle.st_format.specs.FormatNets.{Stages, IsCut, IsJoint, IsFormatOf, IsSideOf, Orders, Resizes, turned, formatted, front_has, front_passes, back_has, back_passes}
+use Rattle.st_format.specs.declared.resize.Resize.{Resize}
+use Rattle.st_format.specs.declared.resize.Resize.TheVariants.{Equal, Cut, Join, Slide}
+use Rattle.st_format.specs.ResizeNets.{IsResizeOf, joins_beats, keeps_ready, resize_has, resize_passes}
+use Rattle.st_format.specs.FormatNets.{Stages, IsFormatOf, IsSideOf, Orders, Resizes, turned, formatted, front_has, front_passes}
 use Rattle.st_timing.specs.Ends.{declared}
 use Rattle.stream_path.specs.Joining.{TakesWhole, CanJoin}
 use Rattle.stream_path.specs.Between.{joined_channel, joined_test, with_errors, formed, Bounds, still, LeadsOn}
 use Rattle.stream_path.proofs.Fronts.{joined_all}
 
--- ---- the parts of a beat
+-- ---- sizes that divide
 
-some_factor : (a g p : ℕ) → 1 ≤ a → a ≡ g * p → 1 ≤ g
-some_factor a zero p some size = absurd (let none : 0 * p ≡ 0 = omega arith in omega (arith, some, size, none))
-some_factor a (suc g) p some size = omega arith
+-- a number leaves itself of one that is larger
+not_divided : (few many : ℕ) → 0 < few → few < many → few % many ≡ 0 → ⊥
+not_divided few many some less none = let same = mod-eq_of_lt less in omega (arith, some, none, same)
 
--- a number that divides the other is their largest common divisor, so it has one part
-one_part : (a b g p : ℕ) → 1 ≤ a → IsGcd a b g → a ≡ g * p → b % a ≡ 0 → p ≤ 1
-one_part a b g zero some greatest size whole = omega arith
-one_part a b g (suc zero) some greatest size whole = omega arith
-one_part a b g (suc (suc p)) some greatest size whole =
-    let factor = some_factor a g (suc (suc p)) some size in
-    let large = le_from_IsGcd a b g a greatest (omega (arith, factor)) (dvd_refl a) (dvd_of_mod-eq-zero a whole) in
-    let spread : g * suc (suc p) ≡ g + g + g * p = omega arith in
-    absurd (omega (arith, factor, large, size, spread))
+several_more : (size parts : ℕ) → 0 < size → 2 ≤ parts → size < size * parts
+several_more size zero some several = absurd (omega (arith, several))
+several_more size (suc zero) some several = absurd (omega (arith, several))
+several_more size (suc (suc more)) some several = let spread : size * suc (suc more) ≡ size + size + size * more = omega arith in omega (arith, some, spread)
 
-no_channels : (stage : Option Widen) (symbols parts bits channel : ℕ) → IsJoint symbols parts bits stage → (2 ≤ parts → channel ≡ 0) → IfSome stage (λ s. channel ≡ 0)
-no_channels None symbols parts bits channel is none = tt
-no_channels (Some stage) symbols parts bits channel is none = none (let several = stage.sizes.several in let same = is.1 in omega (arith, several, same))
+-- beats are joined only where the sink's symbols don't divide the source's
+joins_where : (resize : Resize) (from into bits : ℕ) → 0 < from → IsResizeOf from into bits resize → IsTrue (joins_beats resize) → from % into ≡ 0 → ⊥
+joins_where Equal from into bits some is joins none = cc
+joins_where (Cut stage) from into bits some is joins none = cc
+joins_where (Join stage) from into bits some is joins none = not_divided from into some (let more = several_more from stage.sizes.parts some stage.sizes.several in let size = is.0 in omega (arith, more, size)) none
+joins_where (Slide stage) from into bits some is joins none = is.0 none
 
-some_channels : (stage : Option Widen) (packets : Type 0) (channel : ℕ) → IfSome stage (λ s. channel ≡ 0) → IfSome stage (λ s. packets → channel ≡ 0)
-some_channels None packets channel none = tt
-some_channels (Some stage) packets channel none = λ h. none
-
--- beats of one part aren't cut
-not_cut : (stage : Option Narrow) (symbols parts bits : ℕ) → IsCut symbols parts bits stage → parts ≡ 1 → IsNone stage
-not_cut None symbols parts bits cut one = refl
-not_cut (Some stage) symbols parts bits cut one = absurd (let several = stage.sizes.several in let same = cut.1 in omega (arith, several, same, one))
+-- no beat goes in pieces where the source's symbols divide the sink's
+whole_keeps : (resize : Resize) (from into bits : ℕ) → 0 < into → IsResizeOf from into bits resize → into % from ≡ 0 → IsTrue (keeps_ready resize)
+whole_keeps Equal from into bits some is none = refl
+whole_keeps (Cut stage) from into bits some is none = absurd (not_divided into from some (let more = several_more into stage.sizes.parts some stage.sizes.several in let size = is.0 in omega (arith, more, size)) none)
+whole_keeps (Join stage) from into bits some is none = refl
+whole_keeps (Slide stage) from into bits some is none = absurd (is.1 none)
 
 -- the numbers of what changes the symbols of a beat
 abbrev pub resize_bounds : Declared → Declared → Bounds
@@ -59,14 +55,13 @@ module _ (from : StreamPort) (to : StreamPort) (format : Stages) (join : CanJoin
   abbrev between : Side
   between = turned from to (with_errors source sink)
 
-  -- beats are joined to wider ones only where there is one channel
-  one_channel : 2 ≤ is.wide_parts → joined_channel source sink ≡ 0
-  one_channel several = by_port from.channel_bits refl
+  -- beats are joined only where there is one channel
+  one_channel : IsTrue (joins_beats format.second) → joined_channel source sink ≡ 0
+  one_channel joins = by_port from.channel_bits refl
     where
       by_port : (bits : ℕ) → from.channel_bits ≡ bits → joined_channel source sink ≡ 0
       by_port zero none = (let few = join.source_fits.channels in let small : from.max_channel < 2 ^ 0 = subst (λ n. from.max_channel < 2 ^ n) none few in omega (arith, small))
-      by_port (suc bits) some =
-          absurd (let one = one_part to.symbols from.symbols is.common is.wide_parts join.sink_fits.some (IsGcd-swap _ _ _ is.greatest) is.wide_size (join.channels (omega (arith, some))) in omega (arith, several, one))
+      by_port (suc bits) some = absurd (joins_where format.second from.symbols to.symbols from.symbol_bits join.source_fits.some is.resize joins (join.channels (omega (arith, some))))
 
   side_is : IsSideOf from format (with_errors source sink)
   side_is = record {
@@ -75,17 +70,14 @@ module _ (from : StreamPort) (to : StreamPort) (format : Stages) (join : CanJoin
     first_high = refl;
     latency = refl;
     allowance = refl;
-    channels = some_channels format.second.second.stage (IsFalse from.packets) (joined_channel source sink) (no_channels format.second.second.stage is.common is.wide_parts from.symbol_bits (joined_channel source sink) is.widen one_channel);
+    channels = λ joins packets. one_channel joins;
   }
 
   all_pass : PassesAll (joined_test source sink) (with_errors source sink)
   all_pass = joined_all source sink (with_errors source sink) refl
 
-  whole_beats : TakesWhole source sink → is.narrow_parts ≡ 1
-  whole_beats whole =
-      let few = one_part from.symbols to.symbols is.common is.narrow_parts join.source_fits.some is.greatest is.narrow_size whole.whole in
-      let some = some_factor from.symbols is.narrow_parts is.common join.source_fits.some (let size = is.narrow_size in omega (arith, size)) in
-      omega (arith, few, some)
+  whole_beats : TakesWhole source sink → IsTrue (keeps_ready format.second)
+  whole_beats whole = whole_keeps format.second from.symbols to.symbols from.symbol_bits join.sink_fits.some is.resize whole.whole
 
   pub order_part : ((passes : ℕ → Bool) (side : Side) → IsSideOf from format side → PassesAll passes side → Orders format.first passes side (turned from to side))
       → LeadsOn source sink (with_errors source sink) between still (front_has format.first.first.stage format.first.second.stage) (front_passes format.first.first.stage format.first.second.stage)
@@ -107,7 +99,7 @@ module _ (from : StreamPort) (to : StreamPort) (format : Stages) (join : CanJoin
       }
 
   pub resize_part : ((passes : ℕ → Bool) (side : Side) → IsSideOf from format side → PassesAll passes side → Resizes format.second passes (turned from to side) (formatted from to side))
-      → LeadsOn source sink between (formed source sink) (resize_bounds source sink) (back_has format.second.first.stage format.second.second.stage) (back_passes format.second.first.stage format.second.second.stage)
+      → LeadsOn source sink between (formed source sink) (resize_bounds source sink) (resize_has format.second) (resize_passes format.second)
   resize_part leading =
       let leads = leading (joined_test source sink) (with_errors source sink) side_is all_pass in
       record {
@@ -122,5 +114,5 @@ module _ (from : StreamPort) (to : StreamPort) (format : Stages) (join : CanJoin
         largest = leads.largest;
         always_ready = λ needs. absurd (let none = leads.free in cc);
         keeps = leads.has;
-        passes = λ whole. leads.passed (not_cut format.second.first.stage is.common is.narrow_parts from.symbol_bits is.narrow (whole_beats whole));
+        passes = λ whole. leads.passed (whole_beats whole);
       }

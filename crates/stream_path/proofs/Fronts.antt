@@ -30,7 +30,7 @@ use Rattle.st_format.specs.ReorderNets.{IsReorderShape}
 use Rattle.st_timing.specs.declared.timing.Timing.{Timing}
 use Rattle.st_timing.specs.declared.timing.Timing.TheVariants.{Tie, Buffer, Wire}
 use Rattle.st_timing.specs.DelayNets.{IsDelayShape}
-use Rattle.st_timing.specs.TimingNets.{IsTimingOf, timing_shape, LeadsToZero}
+use Rattle.st_timing.specs.TimingNets.{IsTimingOf, timing_shape, timing_memories, LeadsToZero}
 use Rattle.st_timing.specs.Ends.{declared}
 use Rattle.stream_path.specs.Joining.{FitsPorts, TakesWhole, CanJoin}
 use Rattle.stream_path.specs.Between.{joined_channel, filtered, timed, with_errors, formed, ordered, at_sink, joined_test, queued_hold, Bounds, still, timed_bounds, queued_bounds, LeadsOn, LeadsFrom, IsDelayEnough, TakesInLonger, CarriesStream}
@@ -186,6 +186,12 @@ timing_holds : (timing : Timing) (shape : Shape) → timing_shape timing shape �
 timing_holds (Tie stage) shape has = let none : shape.hold ≡ 0 = ap (λ (s : Shape). s.hold) has.is in omega arith
 timing_holds (Buffer stage) shape has = let all : shape.hold ≡ (shape.up.pace.latency + 1) * shape.up.symbols = ap (λ (s : Shape). s.hold) has.is in omega arith
 timing_holds (Wire stage) shape has = let none : shape.hold ≡ 0 = ap (λ (s : Shape). s.hold) has.is in omega arith
+
+-- the memories of a buffer's beats, and else none
+pub timing_few : (timing : Timing) → timing_memories timing ≤ 6
+timing_few (Tie stage) = omega arith
+timing_few (Buffer stage) = omega arith
+timing_few (Wire stage) = omega arith
 
 -- behind ready latency 0 nothing is held
 timing_free : (source : StreamPort) (sink : StreamPort) (timing : Timing) (shape : Shape) → IsTimingOf source sink timing → timing_shape timing shape → ready_latency source ≡ 0 → shape.hold ≡ 0

@@ -4,7 +4,8 @@ use Rattle.std.specs.Prelude.{IfSome, unwrap_or, option_map}
 use Rattle.st_format.specs.declared.reorder.Reorder.{Reorder}
 use Rattle.stream_runs.specs.Ends.{Declared}
 use Rattle.stage_core.specs.Beats.{Widths}
-use Rattle.st_format.specs.FormatNets.{Stages, OrderTakes, ResizeTakes, front_takes, front_gives, back_takes, back_gives, order_forward, order_backward, order_nets, resize_forward, resize_backward, resize_nets}
+use Rattle.st_format.specs.FormatNets.{Stages, OrderTakes, ResizeTakes, front_takes, front_gives, order_forward, order_backward, order_nets}
+use Rattle.st_format.specs.ResizeNets.{resize_takes, resize_gives, resize_forward, resize_backward, resize_nets}
 use Rattle.stream_path.specs.Joining.{CanJoin}
 use Rattle.stream_path.specs.Between.{with_errors, formed, at_sink, FitSide, GivesNets}
 use Rattle.stream_path.specs.Parts.{IsTurnBack}
@@ -13,11 +14,11 @@ use Rattle.stream_path.specs.Parts.{IsTurnBack}
 pub format_given : (source sink : Declared) (format : Stages) (widths : Widths) (accepts : Type 0) (f b : ℕ) → CanJoin source sink → GivesNets (with_errors source sink) sink 310 accepts widths (f + b)
     → ((w : Widths) → w.word ≡ source.symbol_bits * source.symbols → w.empty ≤ 8 → OrderTakes format.first w)
     → ((w : Widths) → w.word ≡ source.symbol_bits * source.symbols → w.empty ≤ 8 → ResizeTakes format.second w (source.symbol_bits * sink.symbols))
-    → order_nets format.first ≤ 1050 → resize_nets format.second ≤ 750
-    → GivesNets (formed source sink) sink 2110
+    → order_nets format.first ≤ 1050 → resize_nets format.second ≤ 2200
+    → GivesNets (formed source sink) sink 3560
     ((accepts × front_takes format.first.first.stage format.first.second.stage widths)
-    × back_takes format.second.first.stage format.second.second.stage (front_gives format.first.first.stage format.first.second.stage widths))
-    (back_gives format.second.first.stage format.second.second.stage (front_gives format.first.first.stage format.first.second.stage widths))
+    × resize_takes format.second (front_gives format.first.first.stage format.first.second.stage widths))
+    (resize_gives format.second (front_gives format.first.first.stage format.first.second.stage widths))
     (((f + order_forward format.first) + resize_forward format.second) + ((b + order_backward format.first) + resize_backward format.second))
 format_given source sink format widths accepts f b join given orders resizes few_order few_resize =
     let word : widths.word ≡ source.symbol_bits * source.symbols = given.gives.word ∙ omega arith in
@@ -25,11 +26,11 @@ format_given source sink format widths accepts f b join given orders resizes few
     let resize = resizes widths word given.gives.empty in
     let made : f + b ≤ 310 = given.few in
     let first : order_forward format.first + order_backward format.first ≤ 1050 = few_order in
-    let second : resize_forward format.second + resize_backward format.second ≤ 750 = few_resize in
+    let second : resize_forward format.second + resize_backward format.second ≤ 2200 = few_resize in
     let same = sym order.gives in
     record {
-      takes = ((given.takes, order.takes), subst (λ w. back_takes format.second.first.stage format.second.second.stage w) same resize.takes);
-      gives = subst (λ w. FitSide (formed source sink) sink (back_gives format.second.first.stage format.second.second.stage w)) same
+      takes = ((given.takes, order.takes), subst (λ w. resize_takes format.second w) same resize.takes);
+      gives = subst (λ w. FitSide (formed source sink) sink (resize_gives format.second w)) same
           (record {
             word = resize.gives ∙ omega arith;
             channel = resize.channel ∙ given.gives.channel;

@@ -47,7 +47,7 @@ errors_reach joint = record (timed_reach joint) { side = with_errors (source_of 
 
 -- to its symbols
 abbrev pub formed_reach : Joint → Reach
-formed_reach joint = record { side = formed (source_of joint) (sink_of joint); bounds = formed_bounds (source_of joint) (sink_of joint); nets = 2110; memories = most_front_memories }
+formed_reach joint = record { side = formed (source_of joint) (sink_of joint); bounds = formed_bounds (source_of joint) (sink_of joint); nets = 3560; memories = most_front_memories }
 
 -- from behind the queue to the sink
 abbrev pub rear_reach : Joint → Reach

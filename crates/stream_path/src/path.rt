@@ -16,7 +16,6 @@ use iface_roles::{SinkPort, SourcePort};
 use net_parts::{fit_bits, level};
 use netlist::{Builder, Net, NetFault, goes_on};
 use stage_core::BeatNets;
-use std::alloc::Global;
 use stream_machines::machines::tie_is_a_stage;
 use stream_machines::stages::rank_keeps_awake;
 use stream_runs::same_beginnings;
@@ -119,7 +118,6 @@ fn fit_beat(builder: &mut Builder, beat: &BeatNets, bits: u8) -> Result<BeatNets
 /// `ready` is the net of the sink's port, None where it has none. After an error the builder is to be dropped.
 #[tactic(auto, using(net_parts::specs::Laws::growing))]
 pub fn emit_path(
-    alloc: Global,
     builder: &mut Builder,
     source: &SourcePort,
     sink: &SinkPort,
@@ -158,7 +156,6 @@ pub fn emit_path(
     let high = ready_or_high(builder, ready)?;
     let start = beat_of(from, low);
     let joint = Joint {
-        alloc,
         source: *source,
         sink: *sink,
         depth,

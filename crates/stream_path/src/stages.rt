@@ -22,7 +22,6 @@ use st_channel::{ChannelFilter, ErrorTie};
 use st_format::{Order, Reorder, Resize, format_of};
 use st_timing::{ReadyDelay, Timing, timing_of};
 use stage_core::{BeatNets, Chain, Fifo, Maybe, Stage, StreamNets, emit_stream, queue_is_between};
-use std::alloc::Global;
 use stream_machines::machines::queue_takes_in;
 
 /// What stands behind the queue.
@@ -31,7 +30,6 @@ type Rear = Chain<Maybe<Reorder>, ReadyDelay>;
 /// A source, a sink, and the beats of the queue before the sink.
 #[derive(Clone, Copy)]
 pub(crate) struct Joint {
-    pub alloc: Global,
     pub source: SourcePort,
     pub sink: SinkPort,
     pub depth: u8,
@@ -182,7 +180,7 @@ fn emit_formed<S: Stage + Drop>(
     queue_takes_in();
     let queued = Chain {
         first: front,
-        second: Fifo::new(joint.alloc, joint.depth),
+        second: Fifo::new(joint.depth),
     };
     let stages = Chain {
         first: queued,

@@ -1,8 +1,8 @@
-use Rattle.st_format.proofs.FormatLaw.{format_is, format_leads, format_orders, format_resizes, format_takes, order_takes, resize_takes, format_few, order_few, resize_few, format_none, order_none, resize_none}
+use Rattle.st_format.proofs.FormatLaw.{format_leads, format_orders, format_resizes, format_takes, order_takes, resize_widths, format_few, order_few, resize_few, format_none, order_none, resize_none}
 use Rattle.st_format.proofs.format.format_of.Goals as goal
 
 pub returns-clause-format : goal.returns-clause-format
-returns-clause-format c = format_is c.args.source.now c.args.sink.now _ c.common_divisor-symbols.result c.parts_of-narrow_parts.result c.parts_of-wide_parts.result c.common_divisor-symbols.ensures.greatest c.parts_of-narrow_parts.ensures.size c.parts_of-wide_parts.ensures.size c.turn_of.ensures c.clearing_of.ensures c.cut_of.ensures c.joint_of.ensures
+returns-clause-format c = record { turn = c.turn_of.ensures; clear = c.clearing_of.ensures; resize = c.resize_of.ensures }
 
 pub returns-clause-leads : goal.returns-clause-leads
 returns-clause-leads c passes side at all = format_leads c.args.source.now c.args.sink.now _ (returns-clause-format c) c.requires.some c.requires.sink_some passes side at all
@@ -20,7 +20,7 @@ pub returns-clause-order_widths : goal.returns-clause-order_widths
 returns-clause-order_widths c = order_takes c.args.source.now c.args.sink.now _ (returns-clause-format c) c.requires.some c.requires.sink_some
 
 pub returns-clause-resize_widths : goal.returns-clause-resize_widths
-returns-clause-resize_widths c = resize_takes c.args.source.now c.args.sink.now _ (returns-clause-format c) c.requires.some c.requires.sink_some
+returns-clause-resize_widths c = resize_widths c.args.source.now c.args.sink.now _ (returns-clause-format c) c.requires.some c.requires.sink_some
 
 pub returns-clause-nets : goal.returns-clause-nets
 returns-clause-nets c = format_few c.args.source.now c.args.sink.now _ (returns-clause-format c) c.requires.some c.requires.sink_some

@@ -2,7 +2,7 @@ use Rattle.std.proofs.Common.{refl, arith, rules}
 use Rattle.stream_path.specs.Parts.{source_of, sink_of}
 use Rattle.stream_runs.specs.Ends.{side_of}
 use Rattle.stream_path.specs.Between.{filtered, joined_test}
-use Rattle.stream_path.proofs.Fronts.{side_channel, joined_all, pace_is, begun}
+use Rattle.stream_path.proofs.Fronts.{side_channel, joined_all, pace_is, timing_few, begun}
 use Rattle.stream_path.proofs.stages.timed.Goals as goal
 
 pub returns : goal.returns
@@ -16,5 +16,5 @@ returns c =
     record {
       leads = begun from c.args.joint.now.sink c.filter_of.result c.timing_of.result c.requires c.timing_of.ensures.timing c.filter_of.ensures.latency gate leads;
       nets = λ widths fit. search rules;
-      few_memories = omega arith;
+      few_memories = (let few = timing_few c.timing_of.result in omega (arith, few));
     }

@@ -29,7 +29,5 @@ returns g c =
           let formed = c.format_of-format.result in
           let turn = no_memories formed.first.first.stage in
           let clear = no_memories formed.first.second.stage in
-          let narrow = no_memories formed.second.first.stage in
-          let widen = no_memories formed.second.second.stage in
-          omega (arith, front, turn, clear, narrow, widen));
+          omega (arith, front, turn, clear));
     }

@@ -1,4 +1,0 @@
-use Rattle.st_format.proofs.format.+common_divisor.Given as goal
-
-abbrev pub decreases-common_divisor : goal.decreases-common_divisor
-decreases-common_divisor l = l.other
