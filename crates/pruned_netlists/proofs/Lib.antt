@@ -1,0 +1,9 @@
+pub mod Lines
+pub mod Places
+pub mod Sources
+pub mod Needs
+pub mod Keeping
+pub mod Renumbered
+pub mod Restricted
+pub mod Alike
+pub mod Wholes

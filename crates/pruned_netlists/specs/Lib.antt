@@ -1,0 +1,5 @@
+pub mod Needed
+pub mod Numbers
+pub mod Moved
+pub mod Pruned
+pub mod Inputs

@@ -1,0 +1,9 @@
+//! Modules without the nets and memories that no output depends on.
+#![tactic(auto)]
+
+mod copies;
+mod marking;
+mod numbers;
+mod pruning;
+
+pub use pruning::prune;
