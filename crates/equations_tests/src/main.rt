@@ -4,12 +4,14 @@
 mod headers;
 mod lines;
 mod modules;
+mod pruned;
 mod room;
 mod steps;
 mod values;
 mod wave_files;
 
 use modules::push_module;
+use pruned::push_pruned;
 use room::NoRoom;
 use std::alloc::Global;
 use std::io;
@@ -26,6 +28,7 @@ fn push_answer(alloc: Global, text: &mut String, row: &str) -> Result<(), NoRoom
         "bytes" => push_bytes(alloc, text, words),
         "outputs" => push_outputs(alloc, text, words),
         "run" => push_run(alloc, text, words),
+        "pruned" => push_pruned(alloc, text, words),
         "waves" => push_waves(alloc, text, words),
         "replayed" => push_replayed(alloc, text, words),
         "read_back" => push_read_back(alloc, text, words),

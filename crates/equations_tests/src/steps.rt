@@ -31,7 +31,11 @@ fn three_ports(
     Ok(ports)
 }
 
-fn builder_of(alloc: Global, widths: (u8, u8, u8), output: bool) -> Result<Builder, NoRoom>
+pub(crate) fn builder_of(
+    alloc: Global,
+    widths: (u8, u8, u8),
+    output: bool,
+) -> Result<Builder, NoRoom>
     requires first { (1 ≤ widths.0) × (widths.0 ≤ 128) }
     requires second { (1 ≤ widths.1) × (widths.1 ≤ 128) }
     requires third { (1 ≤ widths.2) × (widths.2 ≤ 128) }

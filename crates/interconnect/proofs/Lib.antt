@@ -19,4 +19,5 @@ pub mod Served
 pub mod HostsShown
 pub mod HostsServed
 pub mod HostsDriven
+pub mod Unneeded
 pub mod Modules

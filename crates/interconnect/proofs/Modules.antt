@@ -1,7 +1,8 @@
 -- A finished module: each output is driven, and each connection is served.
-use Rattle.std.proofs.Common.{◌≡◌, inl, inr, ℕ, ◌≤◌, true, List, [], ◌∷◌, ◌++◌, length, slice_get, Some, sym, ap, subst, ◌∙◌, arith}
+use Rattle.std.proofs.Common.{◌≡◌, inl, inr, ℕ, ◌+◌, ◌-◌, ◌<◌, ◌≤◌, true, List, [], ◌∷◌, ◌++◌, length, slice_get, Some, sym, ap, subst, ◌∙◌, arith}
 use Rattle.std.specs.Prelude.{IsSome}
 use Rattle.std.specs.List.{flat_map}
+use Rattle.std.proofs.lemmas.Bool.{cases_lt}
 use Rattle.std.proofs.lemmas.Option.{slice_get_within}
 use Rattle.iface_roles.specs.declared.records.Finished.{Finished}
 use Rattle.iface_roles.specs.declared.records.Finished.TheVariants.{Source, Sink}
@@ -15,19 +16,23 @@ use Rattle.address_map.specs.Maps.{hosts_of, agents_of}
 use Rattle.link_rules.specs.Links.{streams_of, weight_of}
 use Rattle.link_rules.specs.Plans.{PlanTable}
 use Rattle.netlist.specs.declared.line.PortLine.{PortLine}
-use Rattle.netlist.specs.Netlists.{Netlist, IsDriven, IsWellMade, driver_of}
+use Rattle.netlist.specs.Netlists.{Netlist, IsDriven, IsWellMade, driver_of, input_count}
 use Rattle.netlist.specs.Runs.{Run, IsRun, GoesOn}
 use Rattle.st_timing.specs.Ends.{declared}
 use Rattle.port_tables.specs.declared.roles.PortRole.TheVariants as role
 use Rattle.port_tables.specs.declared.roles.RolePort.{RolePort}
 use Rattle.port_tables.specs.Lists.{Among, among_at, at_among, among_append, among_flat_map}
-use Rattle.port_tables.specs.Ports.{is_output, port_of, stream_ports, may_have, connection_ends, starts}
+use Rattle.port_tables.specs.Ports.{name_at, is_output, port_of, stream_ports, may_have, connection_ends, starts}
 use Rattle.port_tables.specs.PortMaps.{HasKnownPorts, port_at}
 use Rattle.port_tables.specs.Ends.{IsStreamPlace}
 use Rattle.port_tables.specs.EndFacts.{IsPlanned, known_is, known_proper}
 use Rattle.port_tables.specs.Numbering.{stream_number, stream_at, ends_at}
 use Rattle.built_links.specs.Wires.{is_wire, is_wire_at, wires_before, is_wire_stream}
-use Rattle.interconnect.specs.Streams.{IsStream}
+use Rattle.interconnect.specs.Streams.{IsStream, IsWired}
+use Rattle.pruned_netlists.specs.Needed.{IsNeeded}
+use Rattle.pruned_netlists.specs.Pruned.{IsPruned}
+use Rattle.pruned_netlists.specs.Inputs.{inputs_needed}
+use Rattle.interconnect.proofs.Unneeded.{memory_pruned, stream_pruned, wired_pruned, counted_at}
 use Rattle.interconnect.specs.Joins.{IsJoinedUpTo}
 use Rattle.interconnect.specs.Interconnect.{IsInterconnect}
 use Rattle.interconnect.proofs.Weights.{HasFewLinks, memory_few}
@@ -181,3 +186,49 @@ interconnect_is plan netlist fabrics runs goes_on w =
       streams = λ number connection source sink is. is_served system number connection netlist (joined_in plan number connection source sink netlist w is);
       memory = served plan netlist (memory_in plan netlist w) fabrics runs goes_on;
     }
+
+-- ---- without what no output depends on
+
+wire_back : (system : SystemTable) (connection : Connection) (place : ℕ) (source : StreamPort) (sink : StreamPort) → slice_get system.connections place ≡ Some connection → known_at system connection.start ≡ Source source
+    → known_at system connection.end ≡ Sink sink → is_wire_at system place ≡ true → is_wire_stream (declared source) (declared sink) connection.fifo ≡ true
+wire_back system connection place source sink is e f test =
+    let wire : is_wire system connection ≡ true = rw is at test in
+    rw (e, f) at wire
+
+-- below the low net of a stream stand those of inputs, and of wires, each of which drives its `dropped`
+lows_needed : (plan : PlanTable) (netlist : Netlist) (number m : ℕ) → (w : IsWhole plan netlist) → IsInterconnect plan netlist → m < input_count netlist.ports + wires_before plan.system number → IsNeeded netlist m
+lows_needed plan netlist number m w i lt = elim (cases_lt m (input_count netlist.ports)) [
+  | inl inside ↦ inputs_needed netlist (input_count netlist.ports) w.well_made (omega arith) m inside
+  | inr behind ↦
+      (let its = counted_at (is_wire_at plan.system) (streams_of plan.system) number (m - input_count netlist.ports) (omega (arith, lt, behind)) in
+      let known = stream_number plan.system its.item (among_at (streams_of plan.system) its.place its.item its.at) in
+      let at = stream_at plan.system its.item known.connection w.known.planned known.is known.kind in
+      let source_is = known_is plan.system known.connection.start (Source at.joins.source) at.joins.start in
+      let sink_is = known_is plan.system known.connection.end (Sink at.joins.sink) at.joins.end in
+      let is : IsStream plan.system its.place known.connection at.joins.source at.joins.sink = record {
+        place = its.item;
+        place_is = its.at;
+        connection_is = known.is;
+        source_is = source_is;
+        sink_is = sink_is;
+      } in
+      let wired = i.wired its.place known.connection at.joins.source at.joins.sink is (wire_back plan.system known.connection its.item at.joins.source at.joins.sink known.is source_is sink_is its.test_is) in
+      let count = its.count in
+      let number_is : input_count netlist.ports + wires_before plan.system its.place ≡ m = omega (arith, count, behind) in
+      subst (IsNeeded netlist) number_is (IsNeeded.drives wired.dropped_port (input_count netlist.ports + wires_before plan.system its.place) wired.dropped))
+]
+
+-- all that is said of the whole module holds of the pruned one
+pub interconnect_pruned : (plan : PlanTable) (whole pruned : Netlist) → IsWhole plan whole → IsPruned whole pruned → IsInterconnect plan whole → IsInterconnect plan pruned
+interconnect_pruned plan whole pruned w p i = record {
+  name = p.name ∙ i.name;
+  ports = p.ports ∙ i.ports;
+  few = (let fewer = p.few in let few = i.few in omega (arith, fewer, few));
+  wired = λ number connection source sink is wire.
+      subst (λ (ps : List PortLine). IsWired pruned (name_at plan.system connection.start) (name_at plan.system connection.end) (declared source) (input_count ps + wires_before plan.system number)) (sym p.ports)
+      (wired_pruned whole pruned (name_at plan.system connection.start) (name_at plan.system connection.end) (declared source) (input_count whole.ports + wires_before plan.system number) w.well_made p
+      (λ m lt. lows_needed plan whole number m w i lt) (i.wired number connection source sink is wire));
+  streams = λ number connection source sink is. stream_pruned whole pruned (name_at plan.system connection.start) (name_at plan.system connection.end) (declared source) (declared sink) connection.fifo p
+      (i.streams number connection source sink is);
+  memory = memory_pruned plan whole pruned p i.memory;
+}

@@ -122,7 +122,6 @@ pub(crate) fn low_nets(
 
 /// What stands between a source and a sink that aren't joined by a wire.
 fn path_nets(
-    alloc: Global,
     builder: &mut Builder,
     source: &SourcePort,
     sink: &SinkPort,
@@ -143,7 +142,7 @@ fn path_nets(
     ensures still_wait_for_write { OnOk result (StillWaitForWrite builder.old builder.new) }
     ensures no_more_write { OnOk result (StillWaitForWrite builder.new builder.old) }
 {
-    match emit_path(alloc, builder, source, sink, depth, from, ready) {
+    match emit_path(builder, source, sink, depth, from, ready) {
         Ok(made) => Ok(made),
         Err(NetFault::NoMemory) => Err(NoMemory),
         Err(NetFault::TooManyNets) => unreachable!(),
@@ -152,7 +151,6 @@ fn path_nets(
 
 /// What stands between the ends of a stream; with `low` it is a wire.
 fn stream_nets(
-    alloc: Global,
     builder: &mut Builder,
     plan: &Plan,
     ports: &PortMap,
@@ -177,15 +175,7 @@ fn stream_nets(
     let ready = input_of(builder, plan, ports, link.sink_end, PortRole::Ready);
     match low {
         Some(low) => Ok(wire_nets(&from, ready, low)),
-        None => path_nets(
-            alloc,
-            builder,
-            &link.source,
-            &link.sink,
-            link.fifo,
-            &from,
-            ready,
-        ),
+        None => path_nets(builder, &link.source, &link.sink, link.fifo, &from, ready),
     }
 }
 
@@ -214,7 +204,6 @@ fn sink_outputs(made: &PathNets) -> [Output; 8]
 
 /// Joins the ends of a stream; with `low` by a wire.
 fn join_stream(
-    alloc: Global,
     builder: &mut Builder,
     plan: &Plan,
     ports: &PortMap,
@@ -231,7 +220,7 @@ fn join_stream(
     netlist::keeps();
     streams_are_numbered();
     let link = &plan.stream_links()[number];
-    let made = stream_nets(alloc, builder, plan, ports, number, link, low)?;
+    let made = stream_nets(builder, plan, ports, number, link, low)?;
     drive_at(
         builder,
         plan,
@@ -245,7 +234,6 @@ fn join_stream(
 
 /// Joins the ends of all streams, with these low nets.
 pub(crate) fn join_streams(
-    alloc: Global,
     builder: &mut Builder,
     plan: &Plan,
     ports: &PortMap,
@@ -257,7 +245,7 @@ pub(crate) fn join_streams(
     ensures { OnOk result (IsJoinedUpTo plan.now (length (streams_of plan.now.system)) builder.new) }
 {
     for number in 0..plan.streams().len() {
-        join_stream(alloc, builder, plan, ports, number, lows[number])?;
+        join_stream(builder, plan, ports, number, lows[number])?;
     }
     Ok(())
 }

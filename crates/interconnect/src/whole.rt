@@ -1,6 +1,7 @@
-ghost use Rattle.std.specs.Prelude.{IfOk};
+ghost use Rattle.std.specs.Prelude.{ℕ, ◌<◌, length, IfOk};
 ghost use Rattle.interconnect.specs.Interconnect.{IsInterconnect};
 ghost use Rattle.port_tables.specs.PortMaps.{AreTold};
+ghost use Rattle.pruned_netlists.specs.Needed.{IsNeeded};
 
 use crate::memory::join_memory;
 use crate::streams::{join_streams, low_nets};
@@ -14,6 +15,7 @@ use mm_path::links_are_connections;
 use mm_runs::{memory_is_read_back, same_beginnings};
 use netlist::{Module, goes_on};
 use port_tables::{PortMap, ports_are_known, start};
+use pruned_netlists::prune;
 use std::alloc::Global;
 
 /// The interconnect of a plan, and where its ports stand.
@@ -23,10 +25,13 @@ pub struct Built {
     pub ports: PortMap,
 }
 
-/// The module of a plan.
+/// The module of a plan, without what no output depends on.
 pub fn build(alloc: Global, plan: &Plan) -> Result<Built, NoMemory>
     ensures module { IfOk result (λ built. IsInterconnect plan.now built.module) }
     ensures ports { IfOk result (λ built. AreTold plan.now.system built.ports) }
+
+    // There is no net that no output depends on, but those of inputs.
+    ensures needed { IfOk result (λ built. (n : ℕ) → n < length built.module.lines → IsNeeded built.module n) }
 {
     // the laws of hosts and their agents, which the contract rests on
     plan.well_made();
@@ -47,8 +52,9 @@ pub fn build(alloc: Global, plan: &Plan) -> Result<Built, NoMemory>
     let mut builder = start(alloc, plan, &ports)?;
     let lows = low_nets(alloc, &mut builder, plan)?;
     join_memory(alloc, &mut builder, plan, &ports)?;
-    join_streams(alloc, &mut builder, plan, &ports, lows.as_slice())?;
+    join_streams(&mut builder, plan, &ports, lows.as_slice())?;
     builder.well_made();
-    let module = builder.finish();
+    let whole = builder.finish();
+    let module = prune(alloc, &whole)?;
     Ok(Built { module, ports })
 }

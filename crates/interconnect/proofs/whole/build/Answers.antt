@@ -1,7 +1,8 @@
-use Rattle.std.proofs.Common.{sym, subst}
-use Rattle.interconnect.specs.Interconnect.{IsInterconnect}
+use Rattle.std.proofs.Common.{subst}
+use Rattle.netlist.specs.Netlists.{Netlist}
+use Rattle.pruned_netlists.specs.Pruned.{IsPruned}
 use Rattle.interconnect.proofs.LowNets.{begins}
-use Rattle.interconnect.proofs.Modules.{IsWhole, all_driven, interconnect_is}
+use Rattle.interconnect.proofs.Modules.{IsWhole, all_driven, interconnect_is, interconnect_pruned}
 use Rattle.interconnect.proofs.whole.build.Goals as goal
 
 pub join_memory-requires-clause-begun : goal.join_memory-requires-clause-begun
@@ -9,8 +10,8 @@ join_memory-requires-clause-begun c =
     begins c.args.plan.now.system c.in_ok-builder.builder c.low_nets.new.builder c.in_ok-builder.ensures.started c.in_ok-lows.ensures.lines c.in_ok-lows.ensures.no_more_wait c.in_ok-builder.ensures.clocked c.in_ok-builder.ensures.written
     c.in_ok-builder.ensures.undriven
 
-pub finish-module-requires-clause-driven : goal.finish-module-requires-clause-driven
-finish-module-requires-clause-driven c =
+pub finish-whole-requires-clause-driven : goal.finish-whole-requires-clause-driven
+finish-whole-requires-clause-driven c =
     let plan = c.args.plan.now in
     let is_plan = c.well_made.ensures in
     let whole : IsWhole plan c.join_streams.new.builder = record {
@@ -47,7 +48,8 @@ returns-clause-module c =
       well_made = c.well_made-2.ensures;
       few_links = record { connections = c.links_are_connections.ensures plan is_plan; agents = c.links_are_few.ensures plan is_plan };
     } in
-    subst (IsInterconnect plan) (sym c.finish-module.ensures.same)
+    let pruned : IsPruned c.join_streams.new.builder c.in_ok-module.module = subst (λ (b : Netlist). IsPruned b c.in_ok-module.module) c.finish-whole.ensures.same c.in_ok-module.ensures in
+    interconnect_pruned plan c.join_streams.new.builder c.in_ok-module.module whole pruned
     (interconnect_is plan c.join_streams.new.builder (record {
       kept = c.plans_are_memory_plans.ensures.kept plan is_plan;
       safe = c.fabrics_are_served.ensures.safe plan is_plan;
@@ -62,3 +64,6 @@ returns-clause-module c =
       fair = c.same_beginnings.ensures.fair;
       reads = c.memory_is_read_back.ensures;
     }) (c.goes_on.ensures c.join_streams.new.builder c.well_made-2.ensures) whole)
+
+pub returns-clause-needed : goal.returns-clause-needed
+returns-clause-needed c = c.in_ok-module.ensures.needed

@@ -1,0 +1,182 @@
+-- What is said of a plan's module holds of the module without what no output depends on.
+use Rattle.std.proofs.Common.{◌≡◌, ℕ, zero, suc, ◌+◌, ◌-◌, ◌^◌, ◌<◌, Bool, true, false, cond, List, [], ◌∷◌, take, count_by, slice_get, Option, Some, refl, sym, ap, subst, ◌∙◌, arith}
+use Rattle.std.specs.Prelude.{codes}
+use Rattle.std.specs.Option.{option_map_or}
+use Rattle.std.proofs.Math.Path.{fun_ext}
+use Rattle.std.proofs.lemmas.List.Sums.{sum_by-cons}
+use Rattle.av_base.specs.Word.{word}
+use Rattle.system_tables.specs.declared.tables.EndId.{EndId}
+use Rattle.address_map.specs.Maps.{hosts_of, agents_of}
+use Rattle.link_rules.specs.Plans.{PlanTable}
+use Rattle.netlist.specs.declared.line.PortLine.{PortLine}
+use Rattle.netlist.specs.Netlists.{Netlist, IsWellMade, driver_of, input_net}
+use Rattle.netlist.specs.Runs.{Cycle, Run}
+use Rattle.netlist.specs.Signals.{signal, port_named}
+use Rattle.stream_runs.specs.Source.{IsLegalSource}
+use Rattle.stream_runs.specs.Awake.{IsServedAwake}
+use Rattle.stream_runs.specs.Ends.{Declared, Signals, side_of, view_of, signal_or, stream_of, run_of}
+use Rattle.mm_runs.specs.Views.{Signals as CommandSignals, HostView, AgentView, Run as MemoryRun}
+use Rattle.mm_runs.specs.Views.Responses.{AreZero}
+use Rattle.mm_runs.specs.Order.{ActsAsMemory, ReadsFromMemory}
+use Rattle.mm_runs.specs.Whole.{IsLegalRun, IsSafe}
+use Rattle.mm_runs.specs.Awake.{NeverIdles, IsFair}
+use Rattle.mm_runs.specs.Moment.{Moment}
+use Rattle.memory_plans.specs.Systems.{memory_system}
+use Rattle.mm_path.specs.Shown.{silent_host, silent_agent, moment_in, standing_still}
+use Rattle.port_tables.specs.Ports.{EndName, port_name, name_at, is_forward, role_word}
+use Rattle.pruned_netlists.specs.Needed.{IsNeeded}
+use Rattle.pruned_netlists.specs.Pruned.{IsPruned, HasWholeState, AreNeededBelow}
+use Rattle.pruned_netlists.specs.Inputs.{inputs_needed, input_net_few}
+use Rattle.interconnect.specs.Memory.{ServesMemory, CanShow, module_run}
+use Rattle.interconnect.specs.Streams.{ServesStream, IsDrivenBy, IsJoinedBy, IsWired}
+
+-- ---- what is shown hangs on the signals alone
+
+-- the signal at the port of each name
+abbrev Shows : Type 0
+Shows = List ℕ → Option (ℕ → ℕ)
+
+abbrev level_by : Shows → EndName → ℕ → List ℕ → ℕ → ℕ
+level_by shows name absent role = signal_or absent (shows (port_name name role))
+
+abbrev commands_by : Shows → ℕ → EndName → CommandSignals
+commands_by shows bytes name = record {
+  read = level_by shows name 0 (codes "read");
+  write = level_by shows name 0 (codes "write");
+  address = level_by shows name 0 (codes "address");
+  word = level_by shows name 0 (codes "writedata");
+  enables = level_by shows name (2 ^ bytes - 1) (codes "byteenable");
+  count = level_by shows name 1 (codes "burstcount");
+}
+
+abbrev host_by : Shows → ℕ → EndName → HostView
+host_by shows bytes name = record {
+  signals = commands_by shows bytes name;
+  waitrequest = level_by shows name 0 (codes "waitrequest");
+  readdata = level_by shows name 0 (codes "readdata");
+  readdatavalid = level_by shows name 0 (codes "readdatavalid");
+  response = level_by shows name 0 (codes "response");
+}
+
+abbrev agent_by : Shows → ℕ → EndName → AgentView
+agent_by shows bytes name = record {
+  signals = commands_by shows bytes name;
+  waitrequest = level_by shows name 0 (codes "waitrequest");
+  readdata = level_by shows name 0 (codes "readdata");
+  readdatavalid = level_by shows name 0 (codes "readdatavalid");
+  response = level_by shows name 0 (codes "response");
+  grant = level_by shows name 0 (codes "grant");
+}
+
+abbrev run_by : PlanTable → Shows → MemoryRun
+run_by plan shows = record {
+  at_host = λ h. option_map_or (λ (end : EndId). host_by shows ((memory_system plan).host h).word_bytes (name_at plan.system end)) (slice_get (hosts_of plan.system) h) silent_host;
+  at_agent = λ a. option_map_or (λ (end : EndId). agent_by shows ((memory_system plan).agent a).word_bytes (name_at plan.system end)) (slice_get (agents_of plan.system) a) silent_agent;
+}
+
+same_memory : (plan : PlanTable) (whole pruned : Netlist) (one other : Run) → ((name : List ℕ) → signal whole one name ≡ signal pruned other name) → module_run plan whole one ≡ module_run plan pruned other
+same_memory plan whole pruned one other h = ap (run_by plan) (fun_ext h)
+
+abbrev ends_by : Shows → EndName → Signals
+ends_by shows name = record {
+  ready = shows (port_name name (codes "ready"));
+  valid = shows (port_name name (codes "valid"));
+  word = shows (port_name name (codes "data"));
+  channel = shows (port_name name (codes "channel"));
+  error = shows (port_name name (codes "error"));
+  startofpacket = shows (port_name name (codes "startofpacket"));
+  endofpacket = shows (port_name name (codes "endofpacket"));
+  empty = shows (port_name name (codes "empty"));
+}
+
+-- ---- memory and streams
+
+can_show : (plan : PlanTable) (whole pruned : Netlist) (state : Cycle) (moment : Moment) → (s : HasWholeState whole pruned state) → CanShow plan pruned state moment → CanShow plan whole s.whole_state moment
+can_show plan whole pruned state moment s c =
+    let w = s.each c.0 c.1 c.2 in
+    (w.whole_cycle, w.valuation, w.same_state, c.3 ∙ ap (λ (m : MemoryRun). moment_in m 0) (sym (same_memory plan whole pruned (standing_still w.whole_cycle) (standing_still c.0) w.signals)))
+
+pub memory_pruned : (plan : PlanTable) (whole pruned : Netlist) → IsPruned whole pruned → ServesMemory plan whole → ServesMemory plan pruned
+memory_pruned plan whole pruned p h = record {
+  kept = h.kept;
+  safe = λ run cycles is legal. (let w = p.runs run cycles is in
+      let same = same_memory plan whole pruned w.whole_run run w.signals in
+      subst (λ (m : MemoryRun). IsSafe AreZero (memory_system plan) m cycles) same (h.safe w.whole_run cycles w.is_run (subst (λ (m : MemoryRun). IsLegalRun (memory_system plan) m cycles) (sym same) legal)));
+  awake = λ run cycles is legal. (let w = p.runs run (cycles + 2) is in
+      let same = same_memory plan whole pruned w.whole_run run w.signals in
+      subst (λ (m : MemoryRun). NeverIdles (memory_system plan) m cycles) same (h.awake w.whole_run cycles w.is_run (subst (λ (m : MemoryRun). IsLegalRun (memory_system plan) m (cycles + 2)) (sym same) legal)));
+  fair = λ run cycles is legal. (let w = p.runs run cycles is in
+      let same = same_memory plan whole pruned w.whole_run run w.signals in
+      subst (λ (m : MemoryRun). IsFair (memory_system plan) m cycles) same (h.fair w.whole_run cycles w.is_run (subst (λ (m : MemoryRun). IsLegalRun (memory_system plan) m cycles) (sym same) legal)));
+  reads_back = λ run cycles host agent contents a b is legal acts. (let w = p.runs run cycles is in
+      let same = same_memory plan whole pruned w.whole_run run w.signals in
+      subst (λ (m : MemoryRun). ReadsFromMemory (memory_system plan) m host agent contents cycles) same
+      (h.reads_back w.whole_run cycles host agent contents a b w.is_run (subst (λ (m : MemoryRun). IsLegalRun (memory_system plan) m cycles) (sym same) legal)
+      (subst (λ (m : MemoryRun). ActsAsMemory (memory_system plan) m contents agent cycles) (sym same) acts)));
+  ignores_readdata = λ state one other shows_one shows_other inputs a lt. (let s = p.states state in
+      h.ignores_readdata s.whole_state one other (can_show plan whole pruned state one s shows_one) (can_show plan whole pruned state other s shows_other) inputs a lt);
+}
+
+pub stream_pruned : (whole pruned : Netlist) (from to : EndName) (source sink : Declared) (fifo : ℕ) → IsPruned whole pruned → ServesStream whole from to source sink fifo → ServesStream pruned from to source sink fifo
+stream_pruned whole pruned from to source sink fifo p h run cycles is legal =
+    let w = p.runs run cycles is in
+    let same : signal whole w.whole_run ≡ signal pruned run = fun_ext w.signals in
+    subst (λ (shows : Shows). IsServedAwake (stream_of source sink fifo) (run_of (ends_by shows from) (ends_by shows to) (signal_or 0 (shows (port_name to (codes "dropped"))))) cycles) same
+    (h w.whole_run cycles w.is_run (subst (λ (shows : Shows). IsLegalSource (side_of source) (view_of (ends_by shows from)) cycles) (sym same) legal))
+
+-- ---- wires
+
+driven_pruned : (whole pruned : Netlist) (output input : List ℕ) → IsWellMade whole → IsPruned whole pruned → IsDrivenBy whole output input → IsDrivenBy pruned output input
+driven_pruned whole pruned output input m p d = record {
+  output_port = d.output_port;
+  input_port = d.input_port;
+  output_is = subst (λ (ps : List PortLine). port_named ps output ≡ Some d.output_port) (sym p.ports) d.output_is;
+  input_is = subst (λ (ps : List PortLine). port_named ps input ≡ Some d.input_port) (sym p.ports) d.input_is;
+  driver = subst (λ (ps : List PortLine). driver_of pruned d.output_port ≡ Some (input_net ps d.input_port)) (sym p.ports)
+      (p.drivers d.output_port (input_net whole.ports d.input_port) d.driver (inputs_needed whole (input_net whole.ports d.input_port) m (input_net_few whole.ports d.input_port)));
+}
+
+joined_pruned : (forward : Bool) (whole pruned : Netlist) (from to : EndName) (role : List ℕ) → IsWellMade whole → IsPruned whole pruned → IsJoinedBy forward whole from to role → IsJoinedBy forward pruned from to role
+joined_pruned true whole pruned from to role m p h = driven_pruned whole pruned (port_name to role) (port_name from role) m p h
+joined_pruned false whole pruned from to role m p h = driven_pruned whole pruned (port_name from role) (port_name to role) m p h
+
+pub wired_pruned : (whole pruned : Netlist) (from to : EndName) (declared : Declared) (low : ℕ) → IsWellMade whole → IsPruned whole pruned → AreNeededBelow whole low → IsWired whole from to declared low → IsWired pruned from to declared low
+wired_pruned whole pruned from to declared low m p below h = record {
+  joined = λ k port at. joined_pruned (is_forward port.role) whole pruned from to (role_word port.role) m p (h.joined k port at);
+  dropped_port = h.dropped_port;
+  dropped_is = subst (λ (ps : List PortLine). port_named ps (port_name to (codes "dropped")) ≡ Some h.dropped_port) (sym p.ports) h.dropped_is;
+  dropped = p.drivers h.dropped_port low h.dropped below;
+  is_low = p.constants low 1 (word 1 0) h.is_low (IsNeeded.drives h.dropped_port low h.dropped) below;
+}
+
+-- ---- the low nets stand behind those of inputs, each of them needed
+
+-- the place at which a test holds for the j-th time
+pub record IsCounted (test : ℕ → Bool) (xs : List ℕ) (j : ℕ) : Type 0 where
+  pub place : ℕ
+  pub item : ℕ
+  pub at : slice_get xs place ≡ Some item
+  pub test_is : test item ≡ true
+  pub count : count_by test (take place xs) ≡ j
+
+counted_here : (test : ℕ → Bool) (x : ℕ) (xs : List ℕ) (j : ℕ) (t : Bool) → test x ≡ t → (rest : ℕ) → j < cond (test x) 1 0 + rest → ((i : ℕ) → i < rest → IsCounted test xs i) → IsCounted test (x ∷ xs) j
+counted_here test x xs zero true e rest lt more = record { place = 0; item = x; at = refl; test_is = e; count = refl }
+counted_here test x xs (suc j) true e rest lt more =
+    let less : suc j < 1 + rest = rw e at lt in
+    let its = more j (omega (arith, less)) in
+    let one = sum_by-cons (λ (y : ℕ). cond (test y) 1 0) x (take its.place xs) in
+    let here : ◌≡◌ {A = ℕ} (cond (test x) 1 0) 1 = rw e refl in
+    let count = its.count in
+    record { place = suc its.place; item = its.item; at = its.at; test_is = its.test_is; count = omega (arith, one, here, count) }
+counted_here test x xs j false e rest lt more =
+    let less : j < 0 + rest = rw e at lt in
+    let its = more j (omega (arith, less)) in
+    let one = sum_by-cons (λ (y : ℕ). cond (test y) 1 0) x (take its.place xs) in
+    let here : ◌≡◌ {A = ℕ} (cond (test x) 1 0) 0 = rw e refl in
+    let count = its.count in
+    record { place = suc its.place; item = its.item; at = its.at; test_is = its.test_is; count = omega (arith, one, here, count) }
+
+pub counted_at : (test : ℕ → Bool) (xs : List ℕ) (number j : ℕ) → j < count_by test (take number xs) → IsCounted test xs j
+counted_at test xs zero j h = absurd (omega arith)
+counted_at test [] (suc number) j h = absurd (omega arith)
+counted_at test (x ∷ xs) (suc number) j h = counted_here test x xs j (test x) refl (count_by test (take number xs)) (let one = sum_by-cons (λ (y : ℕ). cond (test y) 1 0) x (take number xs) in omega (arith, one, h)) (λ i lt. counted_at test xs number i lt)
