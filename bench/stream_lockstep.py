@@ -1,11 +1,10 @@
 #!/usr/bin/env python3
 """Runs two modules of streams.py side by side over random beats, by Icarus Verilog:
-stream_lockstep.py OURS THEIRS FOLDER LATENCY WAY SYMBOLS FURTHER..
+stream_lockstep.py OURS THEIRS FOLDER LATENCY SYMBOLS FURTHER..
 
 The source has the ready latency and so many symbols in a beat, and keeps the rules: a beat stays until it is accepted, and packets begin and end.
-Both ends are at times often there and at times seldom. With the WAY cycles both modules must show the same in each cycle; with the WAY beats each
-has a source and a sink of its own, and both must give the same beats in the same order. What a beat shows counts where it is valid, and `empty`
-where it ends a packet. FURTHER are files with what THEIRS may be made of.
+Both ends are at times often there and at times seldom. Both modules must show the same in each cycle. What a beat shows counts where it is valid,
+and `empty` where it ends a packet. FURTHER are files with what THEIRS may be made of.
 """
 import subprocess
 import sys
@@ -14,21 +13,20 @@ from pathlib import Path
 from lockstep import ports_of, random, renamed
 
 CYCLES = 40000
-BEATS = 8000
 START = ["  initial begin", "    #5 clk = 1; #1 reset = 0;"]
 MOOD = "      if (cycle % 256 == 0) begin often_valid = $random & 7; often_ready = $random & 7; end"
 CLOCK = ["      #5 clk = 1; #1;", "    end"]
 
 
-def nets(ports, shared):
-    """The nets of both modules, with a_ before those of ours and b_ before those of theirs, and the modules. Shared inputs have neither."""
+def nets(ports):
+    """The nets of both modules, with a_ before the outputs of ours and b_ before those of theirs, and the modules. Inputs are shared."""
     lines = []
     for way, bits, name in ports:
-        for mark in [""] if shared and way == "input" else ["a_", "b_"]:
+        for mark in [""] if way == "input" else ["a_", "b_"]:
             kind, start = ("reg", " = 0") if way == "input" else ("wire", "")
             lines.append(f"  {kind} [{bits - 1}:0] {mark}{flat(name)}{start};")
     for mark, module in (("a_", "ours"), ("b_", "theirs")):
-        joins = [f".{name}({'' if shared and way == 'input' else mark}{flat(name)})" for way, _, name in ports]
+        joins = [f".{name}({'' if way == 'input' else mark}{flat(name)})" for way, _, name in ports]
         lines.append(f"  {module} {mark}module (.clk(clk), .reset(reset), {', '.join(joins)});")
     return lines
 
@@ -50,7 +48,7 @@ def drawn_beat(sizes, symbols):
 def in_cycles(ports, sizes, latency, symbols):
     """What the source shows goes to both, and it goes by the ready of ours."""
     lines = ["module bench;", "  reg clk = 0, reset = 1, open = 0; reg [2:0] often_valid, often_ready; integer cycle, errors = 0, beats = 0;"]
-    lines += [f"  reg [{max(latency, 1) - 1}:0] promised = 0;"] + nets(ports, True)
+    lines += [f"  reg [{max(latency, 1) - 1}:0] promised = 0;"] + nets(ports)
     lines += START + ["    " + line for line in drawn_beat(sizes, symbols)]
     lines += [f"    for (cycle = 0; cycle < {CYCLES}; cycle = cycle + 1) begin", MOOD]
     may = f"promised[{latency - 1}] && " if latency else ""
@@ -71,50 +69,15 @@ def in_cycles(ports, sizes, latency, symbols):
     return "\n".join(lines) + "\n"
 
 
-def in_beats(ports, sizes, symbols):
-    """Each beat is one number: what the source shows, and what the sink is given."""
-    shown = [flat(name) for way, _, name in ports if way == "input" and flat(name) not in ("out_valid", "into_ready")]
-    given = [flat(name) for way, _, name in ports if way == "output" and flat(name) not in ("out_ready", "into_valid", "into_dropped")]
-    joined = lambda names, mark: "{" + ", ".join(mark + name for name in names) + "}"
-    lines = ["module bench;", "  reg clk = 0, reset = 1, open = 0, valid, ready; reg [2:0] often_valid, often_ready; integer cycle, errors = 0, k, last = 0;"]
-    lines += [f"  reg [{sizes[name] - 1}:0] {name};" for name in shown]
-    lines += [f"  reg [{sum(sizes[name] for name in shown) - 1}:0] beats [0:{BEATS}];"]
-    for mark in "ab":
-        lines += [f"  integer {mark}_sent = 0, {mark}_came = 0;", f"  reg [{sum(sizes[name] for name in given) - 1}:0] {mark}_given [0:{BEATS}];"]
-    lines += nets(ports, False) + START + [f"    for (k = 0; k < {BEATS}; k = k + 1) begin"]
-    lines += ["      " + line for line in drawn_beat(sizes, symbols)] + [f"      beats[k] = {joined(shown, '')};", "    end"]
-    # 100 further cycles once both have sent all
-    lines += [f"    for (cycle = 0; last < 100 && cycle < {BEATS * 100}; cycle = cycle + 1) begin", MOOD]
-    lines += ["      valid = ($random & 7) <= often_valid;", "      ready = ($random & 7) <= often_ready;"]
-    lines += [f"      if (a_sent == {BEATS} && b_sent == {BEATS}) begin last = last + 1; ready = 1; end"]
-    for mark in "ab":
-        lines += [f"      {mark}_out_valid = valid && {mark}_sent < {BEATS}; {mark}_into_ready = ready;"]
-        lines += [f"      {joined(shown, mark + '_')} = beats[{mark}_sent];"]
-    lines += ["      #4 clk = 0;"]
-    for mark in "ab":
-        values = joined(given, mark + "_")
-        if "into_empty" in given:
-            empty = f"{mark}_into_empty & {{{sizes['into_empty']}{{{mark}_into_endofpacket}}}}"
-            values = values.replace(f"{mark}_into_empty", empty)
-        lines += [f"      if ({mark}_into_valid && ready) begin {mark}_given[{mark}_came] = {values}; {mark}_came = {mark}_came + 1; end"]
-        lines += [f"      if ({mark}_out_valid && {mark}_out_ready) {mark}_sent = {mark}_sent + 1;"]
-    lines += CLOCK + ["    for (k = 0; k < a_came; k = k + 1) errors = errors + (a_given[k] !== b_given[k]);"]
-    lines += ['    if (errors == 0 && a_came == b_came && a_came > 1000 && last == 100) $display("same %0d beats of %0d", a_came, a_sent);']
-    lines += ['    else $display("%0d differences, %0d and %0d beats", errors, a_came, b_came);', "    $finish;", "  end", "endmodule"]
-    return "\n".join(lines) + "\n"
-
-
 def main():
     ours, theirs, folder = Path(sys.argv[1]).read_text(), Path(sys.argv[2]).read_text(), Path(sys.argv[3])
-    latency, way = int(sys.argv[4]), sys.argv[5]
+    latency, symbols = int(sys.argv[4]), int(sys.argv[5])
     ports = [port for port in ports_of(ours) if port[2] not in ("clk", "reset")]
     sizes = {flat(name): bits for _, bits, name in ports}
-    symbols = int(sys.argv[6])
-    text = in_cycles(ports, sizes, latency, symbols) if way == "cycles" else in_beats(ports, sizes, symbols)
     (folder / "ours.v").write_text(renamed(ours, "ours"))
     (folder / "theirs.v").write_text(renamed(theirs, "theirs"))
-    (folder / "lockstep.v").write_text(text)
-    files = [folder / "lockstep.v", folder / "ours.v", folder / "theirs.v"] + sys.argv[7:]
+    (folder / "lockstep.v").write_text(in_cycles(ports, sizes, latency, symbols))
+    files = [folder / "lockstep.v", folder / "ours.v", folder / "theirs.v"] + sys.argv[6:]
     subprocess.run(["iverilog", "-g2005", "-s", "bench", "-o", folder / "lockstep"] + files, check=True)
     said = subprocess.run(["vvp", folder / "lockstep"], check=True, capture_output=True, text=True).stdout
     print(said, end="")

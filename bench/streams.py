@@ -3,8 +3,7 @@
 
 SOURCE and SINK are the symbols of their beats, BITS those of a symbol. The source has the ready latency and the sink 0, and before the sink
 stands a queue of so many beats. The KIND is plain or packets. Written are stream.tcl, source.tcl, sink.tcl, and, where by_hand/streams.v has
-it, stream.v, which rests on that. From some symbols to one more there is in_one.v too, which takes and gives no beats in the same cycles, but
-the same beats.
+it, stream.v, which rests on that.
 """
 import sys
 from pathlib import Path
@@ -58,10 +57,7 @@ def between(source, sink, bits, latency, depth, packets, ins, outs):
     if source == 1:
         return [instance("widen" if packets else "widen_plain", {"SYMBOLS": sink, "BITS": bits}, ins, outs)]
     if sink == source + 1 and packets:
-        parts = [(role, f"part_{role}") for role, _ in ports_of(1, bits, packets)]
-        wires = [f"  wire [{width - 1}:0] part_{role};" for role, width in ports_of(1, bits, packets)]
-        cut = instance("narrow", {"SYMBOLS": source, "BITS": bits}, ins, parts)
-        return wires + [cut, instance("widen", {"SYMBOLS": sink, "BITS": bits}, parts, outs)]
+        return [instance("one_more", {"SYMBOLS": source, "BITS": bits}, ins, outs)]
     return []
 
 
@@ -79,9 +75,6 @@ def main():
     found = between(source, sink, bits, latency, depth, packets, ins, outs)
     if found:
         (folder / "stream.v").write_text(by_hand(found, source_ports, sink_ports))
-    if sink == source + 1 and source > 1 and packets and latency == depth == 0:
-        whole = [instance("one_more", {"SYMBOLS": source, "BITS": bits}, ins, outs)]
-        (folder / "in_one.v").write_text(by_hand(whole, source_ports, sink_ports))
 
 
 main()

@@ -3,8 +3,7 @@
 # fast beats of other symbols go: streams.sh [PROGRAM].
 #
 # The first table has of both the logic cells, how many of these are bits of memory, the flip-flops and the levels of logic, as hardware.sh has
-# them, and then ours to theirs. Each pair is first run in lock step with Icarus Verilog over 40,000 cycles of random beats; where it says `its
-# beats alone`, both give the same beats for 8,000 of the source, which may come in other cycles.
+# them, and then ours to theirs. Each pair is first run in lock step with Icarus Verilog over 40,000 cycles of random beats.
 # The second has a row for each number of symbols of a source's beat, and a column for each of a sink's: the symbols a cycle that ours carries
 # where both ends never stall, beside the smaller one of both numbers. The third has how many cycles behind the source's first beat the sink's
 # first one comes, beside the least number of cycles. Not part of the gate.
@@ -22,19 +21,14 @@ generate() {
   (cd "$folder" && "$program" generate stream.tcl source.tcl sink.tcl) >"$folder/generated.v" || { cat "$folder/generated.v"; exit 1; }
 }
 
-# What it is, a file of what was written by hand, whether cycles or beats are the same, and the words of streams.py, by which it is generated.
-row() {
-  local what=$1 hand=$folder/$2 way=$3 ours theirs
-  "$top/bench/stream_lockstep.py" "$folder/generated.v" "$hand" "$folder" "$7" "$way" "$4" "$top/bench/by_hand/streams.v" >"$folder/same" || { cat "$folder/same"; exit 1; }
+# What it is, and the words of streams.py.
+weigh() {
+  local what=$1 hand=$folder/stream.v ours theirs
+  generate "${@:2}"
+  "$top/bench/stream_lockstep.py" "$folder/generated.v" "$hand" "$folder" "$5" "$2" "$top/bench/by_hand/streams.v" >"$folder/same" || { cat "$folder/same"; exit 1; }
   ours=$(cells_of stream_interconnect "$folder/generated.v") && theirs=$(cells_of stream_interconnect "$hand" "$top/bench/by_hand/streams.v") || exit 1
   echo "$ours $theirs" | awk -v what="$what" '
     { printf "%-40s %6d %6d %6d %6d %6d %6d %6d %6d %6.1f %6.1f\n", what, $1, $4, $2, $3, $5, $8, $6, $7, $1 / $5, $2 / $6 }'
-}
-
-# What it is, and the words of streams.py.
-weigh() {
-  generate "${@:2}"
-  row "$1" stream.v cycles "${@:2}"
 }
 
 printf '%-40s %27s %27s %13s\n' "" ours "by hand" ratio
@@ -48,10 +42,7 @@ done
 for symbols in 2 4 16; do weigh "$symbols symbols to 1, packets" $symbols 1 8 0 0 packets; done
 for symbols in 2 4 16; do weigh "1 symbol to $symbols, packets" 1 $symbols 8 0 0 packets; done
 for bits in 8 32; do weigh "1 symbol to 4, $bits bits a symbol" 1 4 $bits 0 0 plain; done
-for bits in 8 32; do
-  weigh "3 symbols to 4, packets, $bits bits a symbol" 3 4 $bits 0 0 packets
-  row "  its beats alone, in one step" in_one.v beats 3 4 $bits 0 0 packets
-done
+for bits in 8 32; do weigh "3 symbols to 4, packets, $bits bits a symbol" 3 4 $bits 0 0 packets; done
 
 printf '\nsymbols a cycle\n%6s' ""
 printf ' %7d' 1 2 3 4 5 6 7 8
