@@ -1,3 +1,4 @@
+pub mod FewBits
 pub mod Counts
 pub mod Written
 pub mod Shifts

@@ -38,6 +38,7 @@ queue_lasts old new like queue h e = record {
   some = h.some;
   count_net = e.nets _ _ h.count_net;
   wide = h.wide;
+  least = h.least;
   storage = storage_lasts old new like queue.bound queue.storage h.storage e;
   before = h.before;
 }

@@ -6,4 +6,5 @@ pub mod Memories
 pub mod Stored
 pub mod Storages
 pub mod Queues
+pub mod RegisterBits
 pub mod Laws

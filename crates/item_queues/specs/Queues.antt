@@ -17,11 +17,12 @@ owns queue n = (n ≡ queue.count.number) ⊎ owns_in queue.bound queue.storage 
 abbrev pub owns_memories : {N : ℕ} → ItemQueue N → ℕ → Type 0
 owns_memories queue m = owns_memories_in queue.storage m
 
--- the nets of a queue of items like this one: a count that reaches the bound, and registers or memories for so many items
+-- the nets of a queue of items like this one: a count no wider than it takes to reach the bound, and registers or memories for so many items
 pub record IsQueueMade {N : ℕ} (netlist : Netlist) (like : List NetValue) (queue : ItemQueue N) : Type 0 where
   pub some : 1 ≤ queue.bound
   pub count_net : IsNet netlist queue.count
   pub wide : queue.bound < 2 ^ queue.count.width
+  pub least : (bits : ℕ) → 1 ≤ bits → queue.bound < 2 ^ bits → queue.count.width ≤ bits
   pub storage : IsStorage netlist like queue.bound queue.storage
   pub before : (n : ℕ) → owns_in queue.bound queue.storage n → queue.count.number < n
 

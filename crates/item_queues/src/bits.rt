@@ -2,33 +2,8 @@
 
 ghost use Rattle.std.specs.Prelude.{ℕ, ◌^◌, ◌<◌, ◌≤◌};
 
-/// How many bits a count up to this bound needs.
-pub(crate) fn bits_to(bound: u8) -> u8
-    ensures some { 1 ≤ result }
-    ensures few { result ≤ 8 }
-    ensures fits { bound < 2 ^ result }
-{
-    if bound < 2 {
-        1
-    } else if bound < 4 {
-        2
-    } else if bound < 8 {
-        3
-    } else if bound < 16 {
-        4
-    } else if bound < 32 {
-        5
-    } else if bound < 64 {
-        6
-    } else if bound < 128 {
-        7
-    } else {
-        8
-    }
-}
-
 /// How many bits the address in a memory of so many words needs: one at least.
-pub(crate) fn address_bits(words: u8) -> u8
+pub fn address_bits(words: u8) -> u8
     ensures some { 1 ≤ result }
     ensures few { result ≤ 8 }
     ensures fits { words ≤ 2 ^ result }
@@ -50,5 +25,19 @@ pub(crate) fn address_bits(words: u8) -> u8
         7
     } else {
         8
+    }
+}
+
+/// How many bits a count up to this bound needs: one at least.
+pub fn count_bits(bound: u8) -> u8
+    ensures some { 1 ≤ result }
+    ensures few { result ≤ 8 }
+    ensures fits { bound < 2 ^ result }
+    ensures least { (bits : ℕ) → 1 ≤ bits → bound < 2 ^ bits → result ≤ bits }
+{
+    if bound == 255 {
+        8
+    } else {
+        address_bits(bound + 1)
     }
 }

@@ -7,7 +7,7 @@ ghost use Rattle.net_parts.specs.Nets.{IsBit, IsNetOfWidth, StartsLow, TakesNext
 ghost use Rattle.net_parts.specs.Growth.{GrowsBy, AddsNets, StillWait, WaitsBeside, WaitsWithout};
 ghost use Rattle.item_queues.specs.Steps.{CountsOn, IsNextCount};
 
-use crate::bits::bits_to;
+use crate::bits::count_bits;
 use av_base::Val;
 use net_parts::fit_bits;
 use netlist::{Builder, Net, NetFault};
@@ -47,6 +47,7 @@ pub(crate) fn take_next(builder: &mut Builder, register: Net, next: Net)
 pub(crate) fn hold_count(builder: &mut Builder, bound: u8) -> Result<Net, NetFault>
     ensures net { IfOk result (λ made. IsNet builder.new made) }
     ensures wide { IfOk result (λ made. bound < 2 ^ made.width) }
+    ensures least { IfOk result (λ made. (bits : ℕ) → 1 ≤ bits → bound < 2 ^ bits → made.width ≤ bits) }
     ensures number { IfOk result (λ made. made.number ≡ length builder.old.lines) }
     ensures count { OnOk result (length builder.new.lines ≡ length builder.old.lines + 1) }
     ensures starts { IfOk result (λ made. StartsLow builder.new made) }
@@ -56,7 +57,7 @@ pub(crate) fn hold_count(builder: &mut Builder, bound: u8) -> Result<Net, NetFau
     ensures newly { IfOk result (λ made. WaitsBeside (λ n. n ≡ made.number) builder.old builder.new) }
     ensures full { result ≡ Err NetFault.TooManyNets → 2 ^ 20 < length builder.old.lines + 1 }
 {
-    register(builder, bits_to(bound))
+    register(builder, count_bits(bound))
 }
 
 /// The count after a cycle in which an item comes or one goes.

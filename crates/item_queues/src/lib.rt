@@ -3,6 +3,7 @@
 
 mod bits;
 mod count;
+mod laws;
 mod memories;
 mod places;
 mod pointers;
@@ -10,6 +11,8 @@ mod queue;
 mod storage;
 mod stored;
 
+pub use bits::{address_bits, count_bits};
+pub use laws::stored_queue_keeps_few_bits;
 pub use pointers::Pointers;
 pub use queue::{ItemQueue, finish_queue, has_room, make_queue, show_oldest};
 pub use storage::{FEWEST_STORED, Storage};

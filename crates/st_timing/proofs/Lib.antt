@@ -4,4 +4,5 @@ pub mod DelayLaw
 pub mod PromiseCounts
 pub mod QueueOf
 pub mod BufferLaw
+pub mod FewBits
 pub mod TimingLaw

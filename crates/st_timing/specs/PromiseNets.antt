@@ -15,10 +15,12 @@ use Rattle.st_timing.specs.declared.promises.Promises.{Promises}
 abbrev pub owns_promises : Promises → ℕ → Type 0
 owns_promises promises n = (n ≡ promises.free.number) ⊎ (n ≡ promises.history.number)
 
--- a count that reaches a place more than the latency says, and a bit for each cycle of the latency; both wait for their next nets
+-- a count of four bits at most that reaches a place more than the latency says, and a bit for each cycle of the latency; both wait
+-- for their next nets
 pub record ArePromises (netlist : Netlist) (latency : ℕ) (promises : Promises) : Type 0 where
   pub free : IsNet netlist promises.free
   pub wide : latency + 1 < 2 ^ promises.free.width
+  pub narrow : promises.free.width ≤ 4
   pub waits : IsWaiting netlist promises.free.number
   pub history : IsHistory netlist promises.history latency
   pub apart : promises.free.number < promises.history.number
@@ -54,6 +56,7 @@ pub promises_last : (latency : ℕ) (promises : Promises) (old new : Netlist) �
 promises_last latency promises old new h e w = record {
   free = e.nets _ _ h.free;
   wide = h.wide;
+  narrow = h.narrow;
   waits = w promises.free.number (inl refl) h.waits;
   history = history_lasts old new promises.history latency e (w promises.history.number (inr refl)) h.history;
   apart = h.apart;

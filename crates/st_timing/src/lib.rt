@@ -4,6 +4,7 @@
 pub mod buffer;
 mod buffer_nets;
 pub mod delay;
+mod laws;
 pub mod promises;
 pub mod tie;
 pub mod timing;
@@ -11,5 +12,6 @@ mod transfer;
 
 pub use buffer::ReadyBuffer;
 pub use delay::ReadyDelay;
+pub use laws::buffer_keeps_few_bits;
 pub use tie::TieReady;
 pub use timing::{Timing, timing_of};

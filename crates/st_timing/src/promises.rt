@@ -10,6 +10,7 @@ ghost use Rattle.net_parts.specs.Growth.{GrowsBy, AddsNets, StillWait, WaitsBesi
 ghost use Rattle.st_timing.specs.PromiseNets.{owns_promises, ArePromises, StartsFree, BeginsWith, IsNextFree, is_unused, PromisesGoOn};
 
 use av_base::Val;
+use item_queues::count_bits;
 use net_parts::{bit_before, fit_bits, make_history, set_history};
 use netlist::{Builder, Net, NetFault};
 
@@ -22,29 +23,12 @@ pub struct Promises {
     pub history: Net,
 }
 
-/// How many bits a count of so many places needs.
-fn count_bits(places: u8) -> u8
-    requires { places < 16 }
-    ensures some { 1 ≤ result }
-    ensures few { result ≤ 4 }
-    ensures fits { places < 2 ^ result }
-{
-    if places < 2 {
-        1
-    } else if places < 4 {
-        2
-    } else if places < 8 {
-        3
-    } else {
-        4
-    }
-}
-
 /// A register that begins with so many places.
 fn hold_places(builder: &mut Builder, places: u8) -> Result<Net, NetFault>
     requires { places < 16 }
     ensures net { IfOk result (λ free. IsNet builder.new free) }
     ensures wide { IfOk result (λ free. places < 2 ^ free.width) }
+    ensures narrow { IfOk result (λ free. free.width ≤ 4) }
     ensures number { IfOk result (λ free. free.number ≡ length builder.old.lines) }
     ensures count { OnOk result (length builder.new.lines ≡ length builder.old.lines + 1) }
     ensures begins { IfOk result (λ free. BeginsWith builder.new free places) }

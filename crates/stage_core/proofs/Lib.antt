@@ -1,1 +1,2 @@
 pub mod BeatGroups
+pub mod FewBits

@@ -3,6 +3,7 @@
 
 pub mod beat;
 pub mod chain;
+mod laws;
 pub mod makers;
 pub mod maybe;
 pub mod pass;
@@ -15,6 +16,7 @@ pub mod stream;
 
 pub use beat::BeatNets;
 pub use chain::Chain;
+pub use laws::fifo_keeps_few_bits;
 pub use maybe::Maybe;
 pub use pass::Pass;
 pub use queue::Fifo;

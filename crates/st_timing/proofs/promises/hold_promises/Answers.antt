@@ -25,6 +25,7 @@ pub returns-clause-promises : goal.returns-clause-promises
 returns-clause-promises c = record {
   free = c.make_history.ensures.grows.extends.nets _ _ c.in_ok-free.ensures.net;
   wide = c.in_ok-free.ensures.wide;
+  narrow = c.in_ok-free.ensures.narrow;
   waits = c.make_history.ensures.still_wait _ c.in_ok-free.ensures.waits;
   history = c.in_ok-history.ensures.history;
   apart = (let free = c.in_ok-free.ensures.number in let count = c.in_ok-free.ensures.count in let history = c.in_ok-history.ensures.number in omega (arith, free, count, history));
