@@ -193,7 +193,7 @@ module _ (n : Numbers) (source : EndView) (ready : ℕ → ℕ) where
           asks = λ c. bit_is (ready_3 (held c) c) ∙ (ap (λ b. not b || ready_4 (held c) c) (sym (completes_is c)) ∙ ap (λ b. not (completes n.wide_parts line.parted (held c).beats c) || b) (sym (bit_is (ready_4 (held c) c))));
           valid = λ c. bit_is (valid_4 (held c) c) ∙ sym (completes_is c);
           shows = λ c legal _. joined_is (side_three n) (side_four n) n.wide_parts some refl refl high high (held c).beats (beat_3 (held c) c) (gathers_few c);
-          same = λ b c e f.
+          same = λ b c _ _ _ _ e f.
               ap (λ (xs : List Beat). joined_beat (side_three n) (side_four n) n.wide_parts xs (beat_3 (held b) b)) e ∙ ap (joined_beat (side_three n) (side_four n) n.wide_parts (held c).beats) f;
           moves = λ c.
               ap (λ b. cond b (cond (valid_4 (held c) c) [] ((held c).beats ++ beat_3 (held c) c ∷ [])) (held c).beats) (sym (moves_2 (λ d. valid_3 (held d) d) (λ d. beat_3 (held d) d) (λ d. ready_3 (held d) d) c))

@@ -236,7 +236,7 @@ module _ (parts : ℕ) (narrow wide : Side) (earlier : List Beat) (latest whole 
           let wide_held : symbol_count wide whole ≡ wide.symbols - whole.empty = cond-true _ _ _ (same_last ∙ ends) in
           let narrow_held : symbol_count narrow latest ≡ narrow.symbols - latest.empty = cond-true _ _ _ ends in
           let least : narrow.symbols * (length earlier + 1) ≤ narrow.symbols * parts = mul-le-mul_left narrow.symbols fits in
-          omega (arith, wide_held, narrow_held, sum, one_more, size, joined.empty, least, some)
+          omega (arith, wide_held, narrow_held, sum, one_more, size, joined.empty ends, least, some)
       by_last false goes =
           let wide_held : symbol_count wide whole ≡ wide.symbols = cond-false _ _ _ (same_last ∙ goes) in
           let narrow_held : symbol_count narrow latest ≡ narrow.symbols = cond-false _ _ _ goes in

@@ -228,7 +228,7 @@ module _ (passes : ℕ → Bool) (parts : ℕ) (narrow wide : Side) (up down : E
       ∙ (ap (λ (x : Beat). is_high up.valid c && (eqb x.last 1 || eqb (length (gathered c) + 1) parts)) (sym held.beat) ∙ done)) in
       record {
         valid = eqb-true (down.valid c) 1 valid ∙ sym (eqb-true (down.valid (suc c)) 1 (run.valid (suc c) ∙ done'));
-        beat = run.same c (suc c) (sym next) held.beat;
+        beat = run.same c (suc c) (omega arith) legal valid (run.valid (suc c) ∙ done') (sym next) held.beat;
       }
     where
       still : (a b : Bool) → b ≡ true → (a && b) ≡ false → a ≡ false

@@ -171,7 +171,7 @@ module _ (narrow wide : Side) (parts : ℕ) (positive : 0 < narrow.symbols) (siz
         error = refl;
         first = refl;
         last = refl;
-        empty = refl;
+        empty = λ _. refl;
       }
 
 -- ---- turned words

@@ -21,14 +21,14 @@ abbrev pub first_of_row : List Beat → Beat → ℕ
 first_of_row [] latest = latest.first
 first_of_row (beat ∷ beats) latest = beat.first
 
--- the wide beat that joins the beats that came earlier and the latest one
+-- the wide beat that joins the beats that came earlier and the latest one. Its empty counts where it ends a packet
 pub record IsJoined (narrow wide : Side) (earlier : List Beat) (latest joined : Beat) : Type 0 where
   pub words : HoldsWords narrow wide joined.word 0 (earlier ++ latest ∷ [])
   pub channel : joined.channel ≡ latest.channel
   pub error : joined.error ≡ joined_errors (earlier ++ latest ∷ [])
   pub first : joined.first ≡ first_of_row earlier latest
   pub last : joined.last ≡ latest.last
-  pub empty : joined.empty ≡ wide.symbols - narrow.symbols * (length earlier + 1) + latest.empty
+  pub empty : IsTrue (latest.last == 1) → joined.empty ≡ wide.symbols - narrow.symbols * (length earlier + 1) + latest.empty
 
 -- the beat that is shown upstream makes a wide beat complete
 abbrev pub completes : ℕ → EndView → List Beat → ℕ → Bool
@@ -42,7 +42,8 @@ pub record IsWidenRun (parts : ℕ) (narrow wide : Side) (up down : EndView) (ga
   pub valid : (c : ℕ) → is_high down.valid c ≡ completes parts up (gathered c) c
   pub shows : (c : ℕ) → IsLegalSource narrow up (suc c) → IsTrue (is_high down.valid c)
       → IsJoined narrow wide (gathered c) (beat_at up c) (beat_at down c)
-  pub same : (b c : ℕ) → gathered b ≡ gathered c → beat_at up b ≡ beat_at up c → beat_at down b ≡ beat_at down c
+  pub same : (b c : ℕ) → b < c → IsLegalSource narrow up (suc c) → IsTrue (is_high down.valid b) → IsTrue (is_high down.valid c)
+      → gathered b ≡ gathered c → beat_at up b ≡ beat_at up c → beat_at down b ≡ beat_at down c
   pub moves : (c : ℕ) → gathered (suc c) ≡ (if is_transfer narrow.pace up c then (if completes parts up (gathered c) c then [] else gathered c ++ beat_at up c ∷ []) else gathered c)
 
 -- what the machine promises
