@@ -52,7 +52,7 @@ fn nets_with(alloc: Global, name: &str) -> Result<u32, NetFault> {
         "turned_one" => nets_of(alloc, &Reorder::new(1, 8), 8),
         "cleared" => nets_of(alloc, &Clear::new(4, 8), 32),
         "narrowed" => nets_of(alloc, &Narrow::new(Sizes::new(1, 4, 8)), 32),
-        "widened" => nets_of(alloc, &Widen::new(Sizes::new(1, 4, 8)), 8),
+        "widened" => nets_of(alloc, &Widen::new(Sizes::new(1, 4, 8), true), 8),
         "four_to_six" => nets_between(alloc, &source(false), &sink(6)),
         _ => nets_between(alloc, &source(true), &sink(4)),
     }

@@ -1,6 +1,7 @@
 -- Where the empty symbols of wide beats are 0, those of their parts are.
 use Rattle.std.proofs.Common.{◌≡◌, ℕ, zero, suc, ◌+◌, ◌-◌, ◌*◌, ◌/◌, ◌%◌, ◌^◌, ◌<◌, ◌≤◌, Bool, true, false, ◌&&◌, ◌==◌, if◌then◌else◌, IsTrue, refl, sym, subst, ap, ◌∙◌, arith, ◌⊎◌, inl, inr}
 use Rattle.std.proofs.lemmas.Bool.{ltb-false, cases_lt, and_parts}
+use Rattle.std.proofs.Math.Nat.{mod-le}
 use Rattle.netlist.specs.Nets.{NetValue}
 use Rattle.netlist.specs.Netlists.{Netlist}
 use Rattle.netlist.specs.Runs.{Run, cycle_of, IsEndlessRun, IsValuation}
@@ -85,11 +86,12 @@ module _ (sizes : Sizes) (side : Side) (symbols_are : side.symbols ≡ sizes.sym
       by_last true h = omega (arith, h, gone)
       by_last false h = absurd (omega (arith, h, below))
 
-pub counted_clear : (side : Side) (x : Beat) → HasClearEmpty side x → HasClearEmpty side (counted_beat x)
-counted_clear side x clear k from below = clear k (by_last (x.last == 1) from) below
+-- where bits of empty are cut off, there are fewer empty symbols
+pub counted_clear : (count : ℕ) (side : Side) (x : Beat) → HasClearEmpty side x → HasClearEmpty side (counted_beat count x)
+counted_clear count side x clear k from below = clear k (by_last (x.last == 1) from) below
   where
-    by_last : (l : Bool) → (if l then side.symbols - (if l then x.empty else 0) else side.symbols) ≤ k → (if l then side.symbols - x.empty else side.symbols) ≤ k
-    by_last true h = h
+    by_last : (l : Bool) → (if l then side.symbols - (if l then x.empty % 2 ^ count else 0) else side.symbols) ≤ k → (if l then side.symbols - x.empty else side.symbols) ≤ k
+    by_last true h = let less = mod-le x.empty (2 ^ count) in omega (arith, h, less)
     by_last false h = h
 
 module _ (sizes : Sizes) (side : Side) (symbols_are : side.symbols ≡ sizes.symbols * sizes.parts) (bits_are : side.symbol_bits ≡ sizes.bits) (high : side.first_high ≡ true)
@@ -98,7 +100,7 @@ module _ (sizes : Sizes) (side : Side) (symbols_are : side.symbols ≡ sizes.sym
   valued c = (endless (c + 1)).valuations c (omega arith)
 
   abbrev now : ℕ → Shown
-  now c = shown_now (cycle_of run c) kept.held from
+  now c = shown_now sizes (cycle_of run c) kept.held from
 
   -- where a beat is shown, its empty symbols are 0
   abbrev IsClear : Shown → Type 0
@@ -107,9 +109,9 @@ module _ (sizes : Sizes) (side : Side) (symbols_are : side.symbols ≡ sizes.sym
   now_clear : (c : ℕ) → IsClear (shown_in (cycle_of run c) kept.held) → IsClear (shown_in (cycle_of run c) from) → IsClear (now c)
   now_clear c held coming = by_held (run.net c kept.held.valid.number == 1) refl
     where
-      by_held : (t : Bool) → (run.net c kept.held.valid.number == 1) ≡ t → IsClear (if t then shown_in (cycle_of run c) kept.held else counted (shown_in (cycle_of run c) from))
+      by_held : (t : Bool) → (run.net c kept.held.valid.number == 1) ≡ t → IsClear (if t then shown_in (cycle_of run c) kept.held else counted sizes.count (shown_in (cycle_of run c) from))
       by_held true e = held
-      by_held false e = λ v. counted_clear side (beat_in (cycle_of run c) from) (coming v)
+      by_held false e = λ v. counted_clear sizes.count side (beat_in (cycle_of run c) from) (coming v)
 
   next_clear : (c : ℕ) → IsClear (shown_in (cycle_of run c) kept.held) → IsClear (shown_in (cycle_of run c) from) → IsClear (shown_in (cycle_of run (c + 1)) kept.held)
   next_clear c held coming = subst IsClear (sym (b.moves run (c + 2) (endless (c + 2)) c (omega arith))) (by_gone ((run.net c kept.shown.number == 1) && (run.net c ready.number == 1)) refl)

@@ -16,13 +16,14 @@ use Rattle.stage_core.specs.declared.beat.BeatNets.{BeatNets}
 use Rattle.stage_core.specs.Beats.{view_of}
 use Rattle.stage_core.specs.Groups.{Shown, shown_in}
 use Rattle.st_format.specs.declared.sizes.Sizes.{Sizes}
+use Rattle.st_format.specs.declared.widen.Widen.{Widen}
 use Rattle.st_format.specs.declared.widen.WidenKept.{WidenKept}
 use Rattle.st_format.specs.WidenNets.{IsWidenShape, WidenForward, WidenBackward, shown_joined}
 use Rattle.stream_machines.specs.Words.{ShowsClear}
-use Rattle.st_format.proofs.PartsLemmas.{parts_sum, few_symbols}
+use Rattle.st_format.proofs.PartsLemmas.{parts_sum}
 use Rattle.st_format.proofs.JoinedLemmas.{joined_below}
 use Rattle.st_format.proofs.SymbolLemmas.{cut_symbol, shifted_symbol, shifted_none, high_value}
-use Rattle.st_format.proofs.WidenLaw.{held_by, word_joined, counted_few, gathered, holds, shown, full_is}
+use Rattle.st_format.proofs.WidenLaw.{held_by, word_joined, counted_few, empty_joined, gathered, holds, shown, full_is, in_last}
 
 module _ (side : Side) (some : 1 ≤ side.symbols) where
   abbrev b : ℕ
@@ -78,49 +79,55 @@ module _ (side : Side) (some : 1 ≤ side.symbols) where
           ∙ sym (high_value side latest.word (k - s * length beats) high)
           ∙ none (omega (arith, all, top, from, below, most))
 
-module _ (sizes : Sizes) (side : Side) (symbols_are : side.symbols ≡ sizes.symbols) (bits_are : side.symbol_bits ≡ sizes.bits) (high : side.first_high ≡ true) where
+module _ (stage : Widen) (side : Side) (symbols_are : side.symbols ≡ stage.sizes.symbols) (bits_are : side.symbol_bits ≡ stage.sizes.bits) (high : side.first_high ≡ true) where
+  abbrev sizes : Sizes
+  sizes = stage.sizes
+
   some_symbols : 1 ≤ side.symbols
   some_symbols = let some = sizes.some in omega (arith, symbols_are, some)
 
-  pub joined_clear : (beats : List Beat) (x : Shown) → length beats < sizes.parts → x.beat.word < 2 ^ (sizes.bits * sizes.symbols) → (IsTrue (x.beat.last == 1) → x.beat.empty < side.symbols) → HasClearEmpty side x.beat
-      → HasClearEmpty (of_symbols side (sizes.symbols * sizes.parts)) (shown_joined sizes (held_by sizes side symbols_are bits_are beats) x).beat
-  joined_clear beats x few fits holds_data clear k from below =
-      ap (λ n. value_of (of_symbols side (sizes.symbols * sizes.parts)) n k) (word_joined sizes side symbols_are bits_are beats x.beat few fits)
+  pub joined_clear : (beats : List Beat) (x : Shown) → length beats < sizes.parts → x.beat.word < 2 ^ (sizes.bits * sizes.symbols) → (stage.packets ≡ false → length beats + 1 ≡ sizes.parts) → (IsTrue (x.beat.last == 1) → x.beat.empty < side.symbols) → HasClearEmpty side x.beat
+      → HasClearEmpty (of_symbols side (sizes.symbols * sizes.parts)) (shown_joined stage (held_by stage side symbols_are bits_are beats) x).beat
+  joined_clear beats x few fits place holds_data clear k from below =
+      ap (λ n. value_of (of_symbols side (sizes.symbols * sizes.parts)) n k) (word_joined stage side symbols_are bits_are beats x.beat few fits place)
       ∙ by_last (x.beat.last == 1) refl (clear (k - side.symbols * length beats)) from
     where
       most : side.symbols * length beats ≤ sizes.symbols * (sizes.parts - 1)
-      most = (counted_few sizes side symbols_are bits_are beats few).0
+      most = counted_few stage side symbols_are bits_are beats few
 
       sum : sizes.symbols * (sizes.parts - 1) + sizes.symbols ≡ sizes.symbols * sizes.parts
       sum = parts_sum sizes
 
-      few_gone : (shown_joined sizes (held_by sizes side symbols_are bits_are beats) x).beat.empty ≤ sizes.symbols * (sizes.parts - 1) - side.symbols * length beats + x.beat.empty
-      few_gone = let small = few_symbols sizes in omega (arith, most, sum, small)
+      gone : side.symbols * (length beats + 1) ≡ side.symbols * length beats + side.symbols
+      gone = omega arith
 
       size : sizes.symbols * sizes.parts ≡ side.symbols * sizes.parts
       size = ap (λ n. n * sizes.parts) (sym symbols_are)
 
       by_last : (l : Bool) → (x.beat.last == 1) ≡ l → ((if l then side.symbols - x.beat.empty else side.symbols) ≤ k - side.symbols * length beats → k - side.symbols * length beats < side.symbols → value_of side x.beat.word (k - side.symbols * length beats) ≡ 0)
-          → (if l then sizes.symbols * sizes.parts - (shown_joined sizes (held_by sizes side symbols_are bits_are beats) x).beat.empty else sizes.symbols * sizes.parts) ≤ k
+          → (if l then sizes.symbols * sizes.parts - (shown_joined stage (held_by stage side symbols_are bits_are beats) x).beat.empty else sizes.symbols * sizes.parts) ≤ k
           → value_of (of_symbols side (sizes.symbols * sizes.parts)) (joined_word side sizes.parts (beats ++ x.beat ∷ [])) k ≡ 0
       by_last false e none h = absurd (omega (arith, h, below))
       by_last true e none h =
           let held = holds_data e in
-          row_clear side some_symbols sizes.parts (sizes.symbols * sizes.parts) (sizes.parts - 1 - length beats) k beats x.beat high size (omega (arith, few)) (omega (arith, h, few_gone, most, sum, held, symbols_are)) below
-          (none (omega (arith, h, few_gone, most, sum, held, symbols_are)))
+          let is = empty_joined stage side symbols_are bits_are beats x.beat.empty few held in
+          row_clear side some_symbols sizes.parts (sizes.symbols * sizes.parts) (sizes.parts - 1 - length beats) k beats x.beat high size (omega (arith, few)) (omega (arith, h, is, gone, most, sum, held, symbols_are)) below
+          (none (omega (arith, h, is, gone, most, sum, held, symbols_are)))
 
-pub widen_clear : (sizes : Sizes) (shape : Shape) (from to : BeatNets) (kept : WidenKept) (ready up : NetValue) (netlist : Netlist) → IsWidenShape sizes shape → WidenForward sizes from to kept netlist → WidenBackward kept ready up netlist → (run : Run) → IsEndlessRun netlist run → (count : ℕ) →
+pub widen_clear : (stage : Widen) (shape : Shape) (from to : BeatNets) (kept : WidenKept) (ready up : NetValue) (netlist : Netlist) → IsWidenShape stage shape → WidenForward stage from to kept netlist → WidenBackward kept ready up netlist → (run : Run) → IsEndlessRun netlist run → (count : ℕ) →
     IsLegalSource shape.up (view_of run from up) count → ShowsClear shape.up (view_of run from up) count → ShowsClear shape.down (view_of run to ready) count
-widen_clear sizes shape from to kept ready up netlist p f b run endless count legal clear =
+widen_clear stage shape from to kept ready up netlist p f b run endless count legal clear =
     subst (λ (s : Shape). ShowsClear s.down (view_of run to ready) count) (sym p.is) joined
   where
-    joined : ShowsClear (of_symbols shape.up (sizes.symbols * sizes.parts)) (view_of run to ready) count
+    joined : ShowsClear (of_symbols shape.up (stage.sizes.symbols * stage.sizes.parts)) (view_of run to ready) count
     joined c lt v =
-        let beats = gathered sizes from to kept ready up netlist run f b endless shape.up p.symbols_are p.bits_are p.at_once c in
-        let h = holds sizes from to kept ready up netlist run f b endless shape.up p.symbols_are p.bits_are p.at_once c in
-        let is = shown sizes from to kept ready up netlist run f b endless shape.up p.symbols_are p.bits_are p.at_once c beats h in
-        let full = full_is sizes from to kept ready up netlist run f b endless shape.up p.symbols_are p.bits_are p.at_once c beats h in
-        let valid : IsTrue (run.net c from.valid.number == 1) = (and_parts (run.net c from.valid.number == 1) _ (sym full ∙ v)).0 in
-        subst (HasClearEmpty (of_symbols shape.up (sizes.symbols * sizes.parts))) (sym (ap (λ (x : Shown). x.beat) is))
-        (joined_clear sizes shape.up p.symbols_are p.bits_are p.first_high beats (shown_in (cycle_of run c) from) h.few (f.word_fits (cycle_of run c) ((endless (c + 1)).valuations c (omega arith)))
+        let beats = gathered stage from to kept ready up netlist run f b endless shape.up p.symbols_are p.bits_are p.unmarked p.at_once c in
+        let h = holds stage from to kept ready up netlist run f b endless shape.up p.symbols_are p.bits_are p.unmarked p.at_once c in
+        let full = full_is stage from to kept ready up netlist run f b endless shape.up p.symbols_are p.bits_are p.unmarked p.at_once c beats h in
+        let done = sym full ∙ v in
+        let valid : IsTrue (run.net c from.valid.number == 1) = (and_parts (run.net c from.valid.number == 1) _ done).0 in
+        let place = in_last stage from to kept ready up netlist run f b endless shape.up p.symbols_are p.bits_are p.unmarked p.at_once c beats (λ n below. legal n (omega (arith, below, lt))) done in
+        let is = shown stage from to kept ready up netlist run f b endless shape.up p.symbols_are p.bits_are p.unmarked p.at_once c beats h place in
+        subst (HasClearEmpty (of_symbols shape.up (stage.sizes.symbols * stage.sizes.parts))) (sym (ap (λ (x : Shown). x.beat) is))
+        (joined_clear stage shape.up p.symbols_are p.bits_are p.first_high beats (shown_in (cycle_of run c) from) h.few (f.word_fits (cycle_of run c) ((endless (c + 1)).valuations c (omega arith))) place
         ((legal c lt).formed valid).holds_data (clear c lt valid))

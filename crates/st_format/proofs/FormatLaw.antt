@@ -5,13 +5,12 @@ use Rattle.std.proofs.lemmas.Bool.{and_parts, or_right, eqb-true, eq-eqb, both_w
 use Rattle.iface_roles.specs.declared.records.StreamPort.{StreamPort}
 use Rattle.stream_runs.specs.View.{Side}
 use Rattle.stream_machines.specs.Stage.{PassesAll}
-use Rattle.stream_machines.specs.Line.{of_symbols}
 use Rattle.stage_core.specs.Beats.{Widths}
 use Rattle.st_format.specs.declared.reorder.Reorder.{Reorder}
 use Rattle.st_format.specs.declared.clear.Clear.{Clear}
 use Rattle.st_format.specs.declared.resize.Resize.{Resize}
 use Rattle.st_format.specs.declared.resize.Resize.TheVariants.{Equal, Cut, Join, Slide}
-use Rattle.st_format.specs.ResizeNets.{IsResizeOf, keeps_ready, resize_has, resize_passes, resize_takes, resize_gives, resize_nets}
+use Rattle.st_format.specs.ResizeNets.{IsResizeOf, keeps_ready, resize_has, resize_passes, resize_nets}
 use Rattle.st_format.specs.FormatNets.{Stages, changes, turns_first, clears, IsTurn, IsClearing, IsFormatOf, front_has, front_passes, IsSideOf, LeadsTo, Orders, Resizes, turned, formatted, TakesTo, OrderTakes, ResizeTakes, turn_gives, front_gives, nets_where, format_nets, order_nets}
 use Rattle.st_format.proofs.Leading.{Leads, chain_leads, turn_leads, clear_leads, resize_leads}
 use Rattle.st_format.proofs.PartsLemmas.{few_symbols}
@@ -65,7 +64,7 @@ module _ (source : StreamPort) (sink : StreamPort) (format : Stages) (is : IsFor
     -- what changes how many symbols a beat has
     resize_part : Leads (resize_has format.second) (resize_passes format.second) (IsTrue (keeps_ready format.second)) passes (turned source sink side) (formatted source sink side) (side.symbols + sink.symbols) (sink.symbols - 1) 0 0
     resize_part =
-        resize_leads format.second passes (turned source sink side) sink.symbols source.symbol_bits (subst (λ n. IsResizeOf n sink.symbols source.symbol_bits format.second) (sym at.symbols) is.resize) at.bits here sink_some all at.latency at.allowance
+        resize_leads format.second passes (turned source sink side) sink.symbols source.symbol_bits (subst (λ p. IsResizeOf side.symbols sink.symbols source.symbol_bits p format.second) (sym at.packets) (subst (λ n. IsResizeOf n sink.symbols source.symbol_bits source.packets format.second) (sym at.symbols) is.resize)) at.bits here sink_some all at.latency at.allowance
         (λ apart. high_where (not_equal source.symbols sink.symbols (λ same. apart (at.symbols ∙ same)))) at.channels
 
     pub format_orders : Orders format.first passes side (turned source sink side)
@@ -140,32 +139,32 @@ module _ (source : StreamPort) (sink : StreamPort) (format : Stages) (is : IsFor
         gives = front_same turn format.first.second.stage widths;
       }
 
-  sized : (resize : Resize) (from into bits : ℕ) (widths : Widths) → IsResizeOf from into bits resize → widths.word ≡ bits * from → widths.empty ≤ 8 → ResizeTakes resize widths (bits * into)
-  sized Equal from into bits widths is word few = record { takes = tt; gives = word ∙ ap (λ n. bits * n) is; channel = refl; error = refl; few = few }
-  sized (Cut s) from into bits widths is word few = record {
+  sized : (resize : Resize) (from into bits : ℕ) (packets : Bool) (widths : Widths) → IsResizeOf from into bits packets resize → widths.word ≡ bits * from → widths.empty ≤ 8 → ResizeTakes resize widths (bits * into)
+  sized Equal from into bits packets widths is word few = record { takes = tt; gives = word ∙ ap (λ n. bits * n) is; channel = refl; error = refl; few = few }
+  sized (Cut s) from into bits packets widths is word few = record {
     takes = (word ∙ ap (λ n. bits * n) (is.0 ∙ ap (λ n. n * s.sizes.parts) (sym is.1)) ∙ ap (λ b. b * (s.sizes.symbols * s.sizes.parts)) (sym is.2), few);
     gives = ap (λ b. b * s.sizes.symbols) is.2 ∙ ap (λ n. bits * n) is.1;
     channel = refl;
     error = refl;
-    few = omega arith;
+    few = s.sizes.few_count;
   }
-  sized (Join s) from into bits widths is word few = record {
+  sized (Join s) from into bits packets widths is word few = record {
     takes = (word ∙ ap (λ n. bits * n) (sym is.1) ∙ ap (λ b. b * s.sizes.symbols) (sym is.2), few);
     gives = ap (λ b. b * (s.sizes.symbols * s.sizes.parts)) is.2 ∙ ap (λ n. bits * (n * s.sizes.parts)) is.1 ∙ ap (λ n. bits * n) (sym is.0);
     channel = refl;
     error = refl;
-    few = omega arith;
+    few = s.sizes.few_count;
   }
-  sized (Slide s) from into bits widths is word few = record {
+  sized (Slide s) from into bits packets widths is word few = record {
     takes = (word ∙ ap (λ n. bits * n) (sym is.2) ∙ ap (λ b. b * s.sizes.from) (sym is.4), few);
     gives = ap (λ b. b * s.sizes.into) is.4 ∙ ap (λ n. bits * n) is.3;
     channel = refl;
     error = refl;
-    few = omega arith;
+    few = s.sizes.few_count;
   }
 
   pub resize_widths : (widths : Widths) → widths.word ≡ source.symbol_bits * source.symbols → widths.empty ≤ 8 → ResizeTakes format.second widths (source.symbol_bits * sink.symbols)
-  resize_widths widths word few = sized format.second source.symbols sink.symbols source.symbol_bits widths is.resize word few
+  resize_widths widths word few = sized format.second source.symbols sink.symbols source.symbol_bits source.packets widths is.resize word few
 
   pub format_takes : (widths : Widths) → widths.word ≡ source.symbol_bits * source.symbols → widths.empty ≤ 8 → TakesTo format widths (source.symbol_bits * sink.symbols)
   format_takes widths word few =
@@ -241,14 +240,14 @@ module _ (source : StreamPort) (sink : StreamPort) (format : Stages) (is : IsFor
       let d = no_nets (λ (s : Clear). 0) format.first.second.stage clear in
       omega (arith, a, b, c, d)
 
-  nets_none : (resize : Resize) (from into bits : ℕ) → IsResizeOf from into bits resize → from ≡ into → 1 ≤ from → resize_nets resize ≡ 0
-  nets_none Equal from into bits is same some = refl
-  nets_none (Cut s) from into bits is same some = absurd (let several = s.sizes.several in let size = is.0 in more_parts into s.sizes.parts several (subst (λ n. 1 ≤ n) same some) (sym same ∙ size))
-  nets_none (Join s) from into bits is same some = absurd (let several = s.sizes.several in let size = is.0 in more_parts from s.sizes.parts several some (same ∙ size))
-  nets_none (Slide s) from into bits is same some = absurd (is.0 (subst (λ n. from % n ≡ 0) same (mod_self from)))
+  nets_none : (resize : Resize) (from into bits : ℕ) (packets : Bool) → IsResizeOf from into bits packets resize → from ≡ into → 1 ≤ from → resize_nets resize ≡ 0
+  nets_none Equal from into bits packets is same some = refl
+  nets_none (Cut s) from into bits packets is same some = absurd (let several = s.sizes.several in let size = is.0 in more_parts into s.sizes.parts several (subst (λ n. 1 ≤ n) same some) (sym same ∙ size))
+  nets_none (Join s) from into bits packets is same some = absurd (let several = s.sizes.several in let size = is.0 in more_parts from s.sizes.parts several some (same ∙ size))
+  nets_none (Slide s) from into bits packets is same some = absurd (is.0 (subst (λ n. from % n ≡ 0) same (mod_self from)))
 
   pub resize_none : source.symbols ≡ sink.symbols → resize_nets format.second ≡ 0
-  resize_none same = nets_none format.second source.symbols sink.symbols source.symbol_bits is.resize same some
+  resize_none same = nets_none format.second source.symbols sink.symbols source.symbol_bits source.packets is.resize same some
 
   pub format_none : source.symbols ≡ sink.symbols → source.first_high ≡ sink.first_high → format_nets format ≡ 0
   format_none same high = let order = order_none same high in let resize = resize_none same in omega (arith, order, resize)

@@ -8,6 +8,12 @@ use Rattle.stream_machines.specs.Parts.{joined_errors}
 use Rattle.stream_machines.specs.Words.{joined_word}
 use Rattle.st_format.specs.WidenNets.{laid}
 
+gathered : (x p q w : ℕ) → x * (p * q) + w * q ≡ (x * p + w) * q
+gathered x p q w = omega arith
+
+spread : (x p q w l : ℕ) → (x * p + w) * q + l ≡ x * (p * q) + (w * q + l)
+spread x p q w l = omega arith
+
 module _ (narrow : Side) (parts : ℕ) (some : 1 ≤ narrow.symbols) where
   abbrev b : ℕ
   b = narrow.symbol_bits
@@ -17,6 +23,9 @@ module _ (narrow : Side) (parts : ℕ) (some : 1 ≤ narrow.symbols) where
 
   one_more : (q : ℕ) → b * (s * suc q) ≡ b * s + b * (s * q)
   one_more q = omega arith
+
+  one_behind : (q : ℕ) → b * (s * suc q) ≡ b * (s * q) + b * s
+  one_behind q = omega arith
 
   power : (q : ℕ) → 2 ^ (b * (s * suc q)) ≡ 2 ^ (b * s) * 2 ^ (b * (s * q))
   power q = ap (λ n. 2 ^ n) (one_more q) ∙ pow-add 2 (b * s) (b * (s * q))
@@ -28,6 +37,32 @@ module _ (narrow : Side) (parts : ℕ) (some : 1 ≤ narrow.symbols) where
       let below = mul-add-lt (x.word % 2 ^ (b * s)) (2 ^ (b * (s * q))) (joined_word narrow q xs) (2 ^ (b * s)) (mod-lt x.word (pow_pos (b * s))) (joined_below q xs) in
       let all = power q in
       omega (arith, below, all)
+
+  -- words in one place more
+  pub joined_up : (q : ℕ) (beats : List Beat) → length beats ≤ q → joined_word narrow (suc q) beats ≡ joined_word narrow q beats * 2 ^ (b * s)
+  joined_up q [] few = omega arith
+  joined_up zero (x ∷ xs) few = absurd (omega (arith, few))
+  joined_up (suc q) (x ∷ xs) few =
+      let high : 2 ^ (b * (s * suc q)) ≡ 2 ^ (b * (s * q)) * 2 ^ (b * s) = ap (λ n. 2 ^ n) (one_behind q) ∙ pow-add 2 (b * (s * q)) (b * s) in
+      ap (λ n. x.word % 2 ^ (b * s) * n + joined_word narrow (suc q) xs) high
+      ∙ ap (λ n. x.word % 2 ^ (b * s) * (2 ^ (b * (s * q)) * 2 ^ (b * s)) + n) (joined_up q xs (omega (arith, few)))
+      ∙ gathered (x.word % 2 ^ (b * s)) (2 ^ (b * (s * q))) (2 ^ (b * s)) (joined_word narrow q xs)
+
+  -- a word behind others that fill their places
+  pub joined_behind : (q : ℕ) (beats : List Beat) (latest : Beat) → q ≡ length beats → latest.word < 2 ^ (b * s) → joined_word narrow q beats * 2 ^ (b * s) + latest.word ≡ joined_word narrow (suc q) (beats ++ latest ∷ [])
+  joined_behind zero [] latest at fits =
+      let none : b * (s * 0) ≡ 0 = omega arith in
+      let one : 2 ^ (b * (s * 0)) ≡ 1 = ap (λ n. 2 ^ n) none in
+      let bare : 0 * 2 ^ (b * s) + latest.word ≡ latest.word * 1 + 0 = omega arith in
+      bare ∙ ap (λ n. n * 1 + 0) (sym (mod-eq_of_lt fits)) ∙ ap (λ n. latest.word % 2 ^ (b * s) * n + 0) (sym one)
+  joined_behind zero (x ∷ xs) latest at fits = absurd (omega (arith, at))
+  joined_behind (suc q) [] latest at fits = absurd (omega (arith, at))
+  joined_behind (suc q) (x ∷ xs) latest at fits =
+      let high : 2 ^ (b * (s * suc q)) ≡ 2 ^ (b * (s * q)) * 2 ^ (b * s) = ap (λ n. 2 ^ n) (one_behind q) ∙ pow-add 2 (b * (s * q)) (b * s) in
+      let apart : (x.word % 2 ^ (b * s) * 2 ^ (b * (s * q)) + joined_word narrow q xs) * 2 ^ (b * s) + latest.word ≡ x.word % 2 ^ (b * s) * (2 ^ (b * (s * q)) * 2 ^ (b * s)) + (joined_word narrow q xs * 2 ^ (b * s) + latest.word) = spread (x.word % 2 ^ (b * s)) (2 ^ (b * (s * q))) (2 ^ (b * s)) (joined_word narrow q xs) latest.word in
+      apart
+      ∙ ap (λ n. x.word % 2 ^ (b * s) * n + (joined_word narrow q xs * 2 ^ (b * s) + latest.word)) (sym high)
+      ∙ ap (λ n. x.word % 2 ^ (b * s) * 2 ^ (b * (s * suc q)) + n) (joined_behind q xs latest (omega (arith, at)) fits)
 
   -- the top part of a word and what stands below it
   split_top : (h q top low : ℕ) → h % 2 ^ (b * (s * suc q)) ≡ top * 2 ^ (b * (s * q)) + low → low < 2 ^ (b * (s * q)) → (h / 2 ^ (b * (s * q)) % 2 ^ (b * s) ≡ top) × (h % 2 ^ (b * (s * q)) ≡ low)

@@ -1,6 +1,5 @@
 -- Stages that lead from one side to another, one behind the other.
 use Rattle.std.proofs.Common.{◌≡◌, ℕ, ◌+◌, ◌-◌, ◌*◌, ◌%◌, ◌<◌, ◌≤◌, Bool, true, false, not, ◌||◌, nat_lt, nat_le, if◌then◌else◌, IsTrue, IsFalse, Option, Some, None, refl, sym, subst, ap, ◌∙◌, arith, ◌⊎◌, inl, inr}
-use Rattle.std.specs.Prelude.{IfSome, IsNone}
 use Rattle.std.proofs.lemmas.Bool.{ltb-true, leb-false, both_ways}
 use Rattle.std.proofs.lemmas.Nat.{mul-le}
 use Rattle.stream_runs.specs.View.{Side}
@@ -184,7 +183,7 @@ held_few from into = by_size (nat_le from into)
     by_size false = omega arith
 
 -- what changes how many symbols a beat has, from a side of this many symbols
-pub resize_leads : (resize : Resize) (passes : ℕ → Bool) (side : Side) (into bits : ℕ) → IsResizeOf side.symbols into bits resize → side.symbol_bits ≡ bits → 0 < side.symbols → 0 < into → PassesAll passes side → side.pace.latency ≡ 0 → side.pace.allowance ≡ 0 → ((side.symbols ≡ into → ⊥) → side.first_high ≡ true)
+pub resize_leads : (resize : Resize) (passes : ℕ → Bool) (side : Side) (into bits : ℕ) → IsResizeOf side.symbols into bits side.packets resize → side.symbol_bits ≡ bits → 0 < side.symbols → 0 < into → PassesAll passes side → side.pace.latency ≡ 0 → side.pace.allowance ≡ 0 → ((side.symbols ≡ into → ⊥) → side.first_high ≡ true)
     → (IsTrue (joins_beats resize) → IsFalse side.packets → side.max_channel ≡ 0) → Leads (resize_has resize) (resize_passes resize) (IsTrue (keeps_ready resize)) passes side (of_symbols side into) (side.symbols + into) (into - 1) 0 0
 resize_leads Equal passes side into bits is same_bits some some_into all direct strict high channels = record {
   shape = pass_shape passes side;
@@ -230,6 +229,7 @@ resize_leads (Join stage) passes side into bits is same_bits some some_into all 
       first_high = high (λ same. (let several = stage.sizes.several in let size = is.0 in more_parts side.symbols parts several some (same ∙ size)));
       at_once = direct;
       strict = strict;
+      unmarked = λ none. sym is.3 ∙ none;
       channels = channels refl;
       passes = all;
     } in

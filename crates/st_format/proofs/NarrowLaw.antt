@@ -26,7 +26,7 @@ abbrev left_of : Sizes → Shown → List Beat
 left_of sizes shown = if shown.valid == 1 then split sizes sizes.parts shown.beat else []
 
 abbrev parts_of : Sizes → Beat → List Beat
-parts_of sizes beat = split sizes sizes.parts (counted_beat beat)
+parts_of sizes beat = split sizes sizes.parts (counted_beat sizes.count beat)
 
 more_than_none : (sizes : Sizes) → 1 ≤ sizes.parts
 more_than_none sizes = let several = sizes.several in omega arith
@@ -48,18 +48,18 @@ none_left sizes x = by_test (x.valid == 1)
 
 -- the parts that are to be sent
 parts_now : (sizes : Sizes) (held from : Shown) (up : EndView) (c : ℕ) → (record { word = up.word c; channel = up.channel c; error = up.error c; first = up.first c; last = up.last c; empty = up.empty c }) ≡ from.beat →
-    pieces_now (parts_of sizes) up (left_of sizes held) c ≡ split sizes sizes.parts (if held.valid == 1 then held else counted from).beat
+    pieces_now (parts_of sizes) up (left_of sizes held) c ≡ split sizes sizes.parts (if held.valid == 1 then held else counted sizes.count from).beat
 parts_now sizes held from up c is = by_test (held.valid == 1)
   where
-    by_test : (t : Bool) → pieces_now (parts_of sizes) up (if t then split sizes sizes.parts held.beat else []) c ≡ split sizes sizes.parts (if t then held else counted from).beat
+    by_test : (t : Bool) → pieces_now (parts_of sizes) up (if t then split sizes sizes.parts held.beat else []) c ≡ split sizes sizes.parts (if t then held else counted sizes.count from).beat
     by_test true = now_some (parts_of sizes) up (split sizes sizes.parts held.beat) c (split_is_some sizes held.beat)
     by_test false = ap (parts_of sizes) is
 
 -- valid of the wide beat
-valid_now : (held from : Shown) → ((if held.valid == 1 then held else counted from).valid == 1) ≡ (not (not (held.valid == 1)) || (from.valid == 1))
-valid_now held from = by_test (held.valid == 1) refl
+valid_now : (sizes : Sizes) (held from : Shown) → ((if held.valid == 1 then held else counted sizes.count from).valid == 1) ≡ (not (not (held.valid == 1)) || (from.valid == 1))
+valid_now sizes held from = by_test (held.valid == 1) refl
   where
-    by_test : (t : Bool) → (held.valid == 1) ≡ t → ((if t then held else counted from).valid == 1) ≡ (not (not t) || (from.valid == 1))
+    by_test : (t : Bool) → (held.valid == 1) ≡ t → ((if t then held else counted sizes.count from).valid == 1) ≡ (not (not t) || (from.valid == 1))
     by_test true e = e
     by_test false e = refl
 
@@ -90,7 +90,7 @@ module _ (sizes : Sizes) (from to : BeatNets) (kept : NarrowKept) (ready up : Ne
   held c = shown_in (cycle_of run c) kept.held
 
   abbrev now : ℕ → Shown
-  now c = shown_now (cycle_of run c) kept.held from
+  now c = shown_now sizes (cycle_of run c) kept.held from
 
   abbrev left : ℕ → List Beat
   left c = left_of sizes (held c)
@@ -118,7 +118,7 @@ module _ (sizes : Sizes) (from to : BeatNets) (kept : NarrowKept) (ready up : Ne
   is_narrow_run = record {
     starts = ap (left_of sizes) (f.starts run 1 (endless 1) (omega arith));
     asks = λ c. b.asks (cycle_of run c) (valued c) ∙ ap (λ t. t && (run.net c ready.number == 1)) (sym (none_left sizes (held c)));
-    valid = λ c. ap (λ (x : Shown). x.valid == 1) (shown c) ∙ valid_now (held c) (shown_in (cycle_of run c) from) ∙ ap (λ t. not t || (run.net c from.valid.number == 1)) (sym (none_left sizes (held c)));
+    valid = λ c. ap (λ (x : Shown). x.valid == 1) (shown c) ∙ valid_now sizes (held c) (shown_in (cycle_of run c) from) ∙ ap (λ t. not t || (run.net c from.valid.number == 1)) (sym (none_left sizes (held c)));
     shows = λ c high. first_of sizes (beat_in (cycle_of run c) to) (now c).beat _ (ap (λ (x : Shown). x.beat) (shown c)) (to_send c);
     moves = moved;
   }
@@ -148,5 +148,5 @@ pub narrow_ignores : (sizes : Sizes) (from to : BeatNets) (kept : NarrowKept) (n
 narrow_ignores sizes from to kept netlist one other f v w state same =
     show_same to one other
     (f.shows one v
-    ∙ ap (shown_piece sizes) (ap (λ (x : Shown). if x.valid == 1 then x else counted (shown_in one from)) (same_state kept.held one other f.numbers state) ∙ ap (λ (x : Shown). if other.net kept.held.valid.number == 1 then shown_in other kept.held else counted x) (all_same from one other same))
+    ∙ ap (shown_piece sizes) (ap (λ (x : Shown). if x.valid == 1 then x else counted sizes.count (shown_in one from)) (same_state kept.held one other f.numbers state) ∙ ap (λ (x : Shown). if other.net kept.held.valid.number == 1 then shown_in other kept.held else counted sizes.count x) (all_same from one other same))
     ∙ sym (f.shows other w))

@@ -39,7 +39,7 @@ one_where t (suc (suc more)) h e = absurd (omega arith)
 
 pub rest_shown : (sizes : Sizes) (x y : Shown) (more word first empty : ℕ) → x ≡ y → more < 2 → (more == 1) ≡ has_more sizes y.beat
     → word ≡ y.beat.word % 2 ^ (sizes.bits * (sizes.symbols * (sizes.parts - 1))) * 2 ^ (sizes.bits * sizes.symbols)
-    → first ≡ 0 → empty ≡ (y.beat.empty + sizes.symbols) % 2 ^ 8 →
+    → first ≡ 0 → empty ≡ (y.beat.empty + sizes.symbols) % 2 ^ sizes.count →
     (record { valid = more; beat = record { word = word; channel = x.beat.channel; error = x.beat.error; first = first; last = x.beat.last; empty = empty } }) ≡ shown_rest sizes y
 rest_shown sizes x y more word first empty same small follows words firsts empties =
     ap (λ (z : Shown). record { valid = more; beat = record { word = word; channel = z.beat.channel; error = z.beat.error; first = first; last = z.beat.last; empty = empty } }) same

@@ -2,7 +2,7 @@
 use Rattle.std.proofs.Common.{◌≡◌, ℕ, zero, suc, ◌+◌, ◌-◌, ◌*◌, ◌/◌, ◌%◌, ◌^◌, ◌<◌, ◌≤◌, Bool, true, false, ◌==◌, nat_le, if◌then◌else◌, List, [], ◌∷◌, refl, sym, ap, ◌∙◌, arith}
 use Rattle.std.proofs.lemmas.Bool.{ltb-true, leb-true, leb-false, lt-ltb, le-ltb, ne_eqb}
 use Rattle.std.proofs.lemmas.Nat.{mod-pow-add, shr-shr, shl-shr, shr_high, pow_pos}
-use Rattle.std.proofs.Math.Nat.{mod-lt}
+use Rattle.std.proofs.Math.Nat.{mod-lt, mod-eq_of_lt}
 use Rattle.std.proofs.Math.Pow.{mod-mod-pow}
 use Rattle.stream_runs.specs.View.{Beat, Side}
 use Rattle.stream_runs.specs.Symbols.{symbol_count}
@@ -26,6 +26,10 @@ module _ (sizes : Sizes) where
   pub parts_sum : sizes.symbols * (sizes.parts - 1) + sizes.symbols ≡ sizes.symbols * sizes.parts
   parts_sum = split_symbols sizes.symbols sizes.parts (let several = sizes.several in omega arith)
 
+  -- and their bits
+  pub parts_wide : sizes.bits * (sizes.symbols * (sizes.parts - 1)) + sizes.bits * sizes.symbols ≡ sizes.bits * (sizes.symbols * sizes.parts)
+  parts_wide = (let spread : sizes.bits * (sizes.symbols * (sizes.parts - 1)) + sizes.bits * sizes.symbols ≡ sizes.bits * (sizes.symbols * (sizes.parts - 1) + sizes.symbols) = omega arith in spread) ∙ ap (λ n. sizes.bits * n) parts_sum
+
   pub few_symbols : sizes.symbols * sizes.parts ≤ 128
   few_symbols = by_bits sizes.bits sizes.some_bits sizes.small
     where
@@ -38,8 +42,8 @@ module _ (sizes : Sizes) where
   rest_empty beat more =
       let below : beat.empty < sizes.symbols * (sizes.parts - 1) = ltb-true beat.empty (sizes.symbols * (sizes.parts - 1)) more in
       let sum = parts_sum in
-      let few = few_symbols in
-      omega (arith, below, sum, few)
+      let counts = sizes.counts in
+      mod-eq_of_lt (omega (arith, below, sum, counts))
 
   -- more parts than there are don't matter
   pub enough : (f g : ℕ) (beat : Beat) → 1 ≤ f → 1 ≤ g → sizes.symbols * sizes.parts ≤ sizes.symbols * f + beat.empty → sizes.symbols * sizes.parts ≤ sizes.symbols * g + beat.empty → split sizes f beat ≡ split sizes g beat
@@ -206,18 +210,22 @@ module _ (sizes : Sizes) (wide : Side) (whole : Beat) (bits_are : wide.symbol_bi
           ∙ ap (λ (xs : List Beat). record { word = part_word narrow sizes.parts whole.word t; channel = whole.channel; error = whole.error; first = if t == 0 then whole.first else 0; last = 0; empty = 0 } ∷ xs) (rest (later many) (omega (arith, fits, spread)))
 
   -- the parts of a beat that holds a symbol are its pieces
-  pub parts_are : 0 < symbol_count wide whole → split sizes sizes.parts (counted_beat whole) ≡ pieces narrow wide sizes.parts whole
-  parts_are some = split_pieces sizes.parts 0 (symbol_count wide whole) (counted_beat whole) (begins (whole.last == 1) refl) (most (whole.last == 1))
+  pub parts_are : 0 < symbol_count wide whole → split sizes sizes.parts (counted_beat sizes.count whole) ≡ pieces narrow wide sizes.parts whole
+  parts_are some = split_pieces sizes.parts 0 (symbol_count wide whole) (counted_beat sizes.count whole) (begins (whole.last == 1) refl) (most (whole.last == 1))
     where
       most : (b : Bool) → (if b then wide.symbols - whole.empty else wide.symbols) ≤ sizes.symbols * sizes.parts
       most true = omega (arith, symbols_are)
       most false = omega (arith, symbols_are)
 
-      gone : (b : Bool) → 0 < (if b then wide.symbols - whole.empty else wide.symbols) → (if b then whole.empty else 0) ≡ sizes.symbols * sizes.parts - (if b then wide.symbols - whole.empty else wide.symbols)
-      gone true h = omega (arith, symbols_are, h)
+      -- where a symbol is held, its count has all bits of empty
+      gone : (b : Bool) → 0 < (if b then wide.symbols - whole.empty else wide.symbols) → (if b then whole.empty % 2 ^ sizes.count else 0) ≡ sizes.symbols * sizes.parts - (if b then wide.symbols - whole.empty else wide.symbols)
+      gone true h =
+          let counts = sizes.counts in
+          let whole_is : whole.empty % 2 ^ sizes.count ≡ whole.empty = mod-eq_of_lt (omega (arith, symbols_are, h, counts)) in
+          omega (arith, symbols_are, h, whole_is)
       gone false h = omega (arith, symbols_are, h)
 
-      begins : (b : Bool) → (whole.last == 1) ≡ b → IsLeft 0 sizes.parts (symbol_count wide whole) (counted_beat whole)
+      begins : (b : Bool) → (whole.last == 1) ≡ b → IsLeft 0 sizes.parts (symbol_count wide whole) (counted_beat sizes.count whole)
       begins b e = record {
         sum = omega arith;
         words = λ j lt. (let here : j ≡ 0 + j = omega arith in ap (part_word narrow sizes.parts whole.word) here);

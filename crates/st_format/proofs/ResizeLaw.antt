@@ -43,7 +43,7 @@ module _ (from to : BeatNets) (ready up : NetValue) (netlist : Netlist) (P : Typ
   when_cut stage holds (OfCut same held) f b = holds held f b
   when_cut stage holds _ f b = absurd f
 
-  pub when_joined : (stage : Widen) → ((held : WidenKept) → WidenForward stage.sizes from to held netlist → WidenBackward held ready up netlist → P) → (kept : ResizeKept) → ResizeForward (Join stage) from to kept netlist → ResizeBackward (Join stage) kept ready up netlist → P
+  pub when_joined : (stage : Widen) → ((held : WidenKept) → WidenForward stage from to held netlist → WidenBackward held ready up netlist → P) → (kept : ResizeKept) → ResizeForward (Join stage) from to kept netlist → ResizeBackward (Join stage) kept ready up netlist → P
   when_joined stage holds (OfJoin same held) f b = holds held f b
   when_joined stage holds _ f b = absurd f
 

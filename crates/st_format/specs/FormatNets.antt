@@ -1,5 +1,5 @@
 -- What stands between a source and a sink whose beats have other forms.
-use Rattle.std.specs.Prelude.{◌≡◌, ℕ, ◌+◌, ◌*◌, ◌<◌, ◌≤◌, Bool, false, not, ◌&&◌, ◌||◌, ◌==◌, nat_lt, IsTrue, IsFalse, Option, Some, None, IfSome, IsNone, option_map, unwrap_or}
+use Rattle.std.specs.Prelude.{◌≡◌, ℕ, ◌+◌, ◌*◌, ◌<◌, ◌≤◌, Bool, false, not, ◌&&◌, ◌||◌, ◌==◌, nat_lt, IsTrue, IsFalse, Option, Some, None, IfSome, option_map, unwrap_or}
 use Rattle.iface_roles.specs.declared.records.StreamPort.{StreamPort}
 use Rattle.stream_runs.specs.View.{Side}
 use Rattle.stream_machines.specs.Stage.{Shape, IsStill}
@@ -49,7 +49,7 @@ IsClearing clears symbols bits (Some stage) = IsTrue clears × (stage.symbols �
 pub record IsFormatOf (source : StreamPort) (sink : StreamPort) (format : Stages) : Type 0 where
   pub turn : IsTurn (turns_first source sink) source.symbols source.symbol_bits format.first.first.stage
   pub clear : IsClearing (clears source sink) source.symbols source.symbol_bits format.first.second.stage
-  pub resize : IsResizeOf source.symbols sink.symbols source.symbol_bits format.second
+  pub resize : IsResizeOf source.symbols sink.symbols source.symbol_bits source.packets format.second
 
 -- ---- as a stage
 
@@ -128,6 +128,7 @@ pub record IsSideOf (source : StreamPort) (format : Stages) (side : Side) : Type
   pub first_high : side.first_high ≡ source.first_high
   pub latency : side.pace.latency ≡ 0
   pub allowance : side.pace.allowance ≡ 0
+  pub packets : side.packets ≡ source.packets
   pub channels : IsTrue (joins_beats format.second) → IsFalse side.packets → side.max_channel ≡ 0
 
 -- behind the turn and clearing: the same side with the first symbol in the high-order bits where it was turned or stood there

@@ -61,7 +61,7 @@ rest_of sizes beat =
       error = beat.error;
       first = 0;
       last = beat.last;
-      empty = (beat.empty + sizes.symbols) % 2 ^ 8;
+      empty = (beat.empty + sizes.symbols) % 2 ^ sizes.count;
     }
 
 abbrev pub shown_piece : Sizes → Shown → Shown
@@ -71,8 +71,8 @@ abbrev pub shown_rest : Sizes → Shown → Shown
 shown_rest sizes shown = record { valid = if has_more sizes shown.beat then 1 else 0; beat = rest_of sizes shown.beat }
 
 -- the wide beat of the cycle: what is held of one, or else the one that is shown
-abbrev pub shown_now : Cycle → BeatNets → BeatNets → Shown
-shown_now cycle held from = if cycle.net held.valid.number == 1 then shown_in cycle held else counted (shown_in cycle from)
+abbrev pub shown_now : Sizes → Cycle → BeatNets → BeatNets → Shown
+shown_now sizes cycle held from = if cycle.net held.valid.number == 1 then shown_in cycle held else counted sizes.count (shown_in cycle from)
 
 -- between the calls
 pub record NarrowKeeps (kept : NarrowKept) (netlist : Netlist) : Type 0 where
@@ -87,8 +87,8 @@ pub record NarrowForward (sizes : Sizes) (from to : BeatNets) (kept : NarrowKept
   pub shown_is : kept.shown ≡ to.valid
   pub numbers : AreNumbered kept.held kept.held.valid.number
   pub starts : StartsEmpty netlist kept.held
-  pub shows : Always netlist (λ cycle. shown_in cycle to ≡ shown_piece sizes (shown_now cycle kept.held from))
-  pub rests : Always netlist (λ cycle. shown_in cycle kept.rest ≡ shown_rest sizes (shown_now cycle kept.held from))
+  pub shows : Always netlist (λ cycle. shown_in cycle to ≡ shown_piece sizes (shown_now sizes cycle kept.held from))
+  pub rests : Always netlist (λ cycle. shown_in cycle kept.rest ≡ shown_rest sizes (shown_now sizes cycle kept.held from))
 
 -- after the second call: ready is passed on while nothing is held, and where the part goes the rest is held
 pub record NarrowBackward (kept : NarrowKept) (ready up : NetValue) (netlist : Netlist) : Type 0 where

@@ -21,13 +21,13 @@ use Rattle.st_windows.specs.WindowNets as windows
 
 -- ---- which it is
 
--- beats of so many symbols become beats of so many others: by nothing where they are as many, by parts where one number divides the
+-- beats of so many symbols, of packets or not, become beats of so many others: by nothing where they are as many, by parts where one number divides the
 -- other, and else by a window
-abbrev pub IsResizeOf : ℕ → ℕ → ℕ → Resize → Type 0
-IsResizeOf from into bits Equal = from ≡ into
-IsResizeOf from into bits (Cut stage) = (from ≡ into * stage.sizes.parts) × (stage.sizes.symbols ≡ into) × (stage.sizes.bits ≡ bits)
-IsResizeOf from into bits (Join stage) = (into ≡ from * stage.sizes.parts) × (stage.sizes.symbols ≡ from) × (stage.sizes.bits ≡ bits)
-IsResizeOf from into bits (Slide stage) = ¬ (from % into ≡ 0) × ¬ (into % from ≡ 0) × (stage.sizes.from ≡ from) × (stage.sizes.into ≡ into) × (stage.sizes.bits ≡ bits)
+abbrev pub IsResizeOf : ℕ → ℕ → ℕ → Bool → Resize → Type 0
+IsResizeOf from into bits packets Equal = from ≡ into
+IsResizeOf from into bits packets (Cut stage) = (from ≡ into * stage.sizes.parts) × (stage.sizes.symbols ≡ into) × (stage.sizes.bits ≡ bits)
+IsResizeOf from into bits packets (Join stage) = (into ≡ from * stage.sizes.parts) × (stage.sizes.symbols ≡ from) × (stage.sizes.bits ≡ bits) × (stage.packets ≡ packets)
+IsResizeOf from into bits packets (Slide stage) = ¬ (from % into ≡ 0) × ¬ (into % from ≡ 0) × (stage.sizes.from ≡ from) × (stage.sizes.into ≡ into) × (stage.sizes.bits ≡ bits)
 
 -- a beat may have symbols of several
 abbrev pub joins_beats : Resize → Bool
@@ -48,13 +48,13 @@ keeps_ready (Slide stage) = false
 abbrev pub resize_has : Resize → Shape → Type 0
 resize_has Equal shape = IsPassShape shape
 resize_has (Cut stage) shape = IsNarrowShape stage.sizes shape
-resize_has (Join stage) shape = IsWidenShape stage.sizes shape
+resize_has (Join stage) shape = IsWidenShape stage shape
 resize_has (Slide stage) shape = IsWindowShape stage.sizes shape
 
 abbrev pub resize_passes : Resize → Shape → Type 0
 resize_passes Equal shape = IsPassShape shape
 resize_passes (Cut stage) shape = ⊥
-resize_passes (Join stage) shape = IsWidenShape stage.sizes shape
+resize_passes (Join stage) shape = IsWidenShape stage shape
 resize_passes (Slide stage) shape = ⊥
 
 abbrev pub resize_takes : Resize → Widths → Type 0
@@ -65,14 +65,14 @@ resize_takes (Slide stage) widths = (widths.word ≡ stage.sizes.bits * stage.si
 
 abbrev pub resize_gives : Resize → Widths → Widths
 resize_gives Equal widths = widths
-resize_gives (Cut stage) widths = record widths { word = stage.sizes.bits * stage.sizes.symbols; empty = 8 }
-resize_gives (Join stage) widths = record widths { word = stage.sizes.bits * (stage.sizes.symbols * stage.sizes.parts); empty = 8 }
-resize_gives (Slide stage) widths = record widths { word = stage.sizes.bits * stage.sizes.into; empty = 8 }
+resize_gives (Cut stage) widths = record widths { word = stage.sizes.bits * stage.sizes.symbols; empty = stage.sizes.count }
+resize_gives (Join stage) widths = record widths { word = stage.sizes.bits * (stage.sizes.symbols * stage.sizes.parts); empty = stage.sizes.count }
+resize_gives (Slide stage) widths = record widths { word = stage.sizes.bits * stage.sizes.into; empty = stage.sizes.count }
 
 abbrev pub resize_forward : Resize → ℕ
 resize_forward Equal = 0
 resize_forward (Cut stage) = 33
-resize_forward (Join stage) = 5 * stage.sizes.parts + 24
+resize_forward (Join stage) = 5 * stage.sizes.parts + 29
 resize_forward (Slide stage) = 16 * stage.sizes.into + 61
 
 abbrev pub resize_backward : Resize → ℕ
@@ -103,7 +103,7 @@ ResizeKeeps _ _ netlist = ⊥
 abbrev pub ResizeForward : Resize → BeatNets → BeatNets → ResizeKept → Netlist → Type 0
 ResizeForward Equal from to Straight netlist = to ≡ from
 ResizeForward (Cut stage) from to (OfCut same kept) netlist = NarrowForward stage.sizes from to kept netlist
-ResizeForward (Join stage) from to (OfJoin same kept) netlist = WidenForward stage.sizes from to kept netlist
+ResizeForward (Join stage) from to (OfJoin same kept) netlist = WidenForward stage from to kept netlist
 ResizeForward (Slide stage) from to (OfSlide same kept) netlist = WindowForward stage.sizes from to kept netlist
 ResizeForward _ from to _ netlist = ⊥
 
@@ -127,7 +127,7 @@ resize_keeps_lasts _ _ old new h e w = absurd h
 pub resize_forward_lasts : (resize : Resize) (from to : BeatNets) (kept : ResizeKept) (old new : Netlist) → ResizeForward resize from to kept old → Extends old new → ResizeForward resize from to kept new
 resize_forward_lasts Equal from to Straight old new h e = h
 resize_forward_lasts (Cut stage) from to (OfCut same kept) old new h e = narrows.forward_lasts stage.sizes from to kept old new h e
-resize_forward_lasts (Join stage) from to (OfJoin same kept) old new h e = widens.forward_lasts stage.sizes from to kept old new h e
+resize_forward_lasts (Join stage) from to (OfJoin same kept) old new h e = widens.forward_lasts stage from to kept old new h e
 resize_forward_lasts (Slide stage) from to (OfSlide same kept) old new h e = windows.forward_lasts stage.sizes from to kept old new h e
 resize_forward_lasts _ from to _ old new h e = absurd h
 

@@ -9,6 +9,7 @@ ghost use Rattle.net_parts.specs.Growth.{AddsNets};
 ghost use Rattle.st_format.specs.ClearNets.{IsClearShape, without_low, without_empty, ClearsBeat, clears_lasts};
 
 use crate::counted::count_empty;
+use item_queues::address_bits;
 use net_parts::constant;
 use netlist::{Builder, Net, NetFault};
 use stage_core::pass::Nothing;
@@ -73,7 +74,8 @@ fn clear_more(
 ) -> Result<Net, NetFault>
     requires word { IsNet builder.old word }
     requires cleared { IsNetOfWidth builder.old cleared word.width }
-    requires empty { IsNetOfWidth builder.old empty 8 }
+    requires empty { IsNet builder.old empty }
+    requires counts { count < 2 ^ empty.width }
     requires some_bits { 1 ≤ bits }
     requires inside { bits * count + bits ≤ word.width }
     requires small { word.width ≤ 128 }
@@ -82,7 +84,8 @@ fn clear_more(
     ensures adds { AddsNets 6 builder.old builder.new }
     ensures full { result ≡ Err NetFault.TooManyNets → 2 ^ 20 < length builder.old.lines + 6 }
 {
-    let number = constant(builder, 8, count)?;
+    let width = builder.width(empty);
+    let number = constant(builder, width, count)?;
     let more = builder.less(number, empty)?;
     let shorter = clear_low(builder, word, bits * count + bits)?;
     builder.mux(more, shorter, cleared)
@@ -98,7 +101,8 @@ fn clear_symbols(
     bits: u8,
 ) -> Result<Net, NetFault>
     requires word { IsNetOfWidth builder.old word (bits * symbols) }
-    requires empty { IsNetOfWidth builder.old empty 8 }
+    requires empty { IsNet builder.old empty }
+    requires counts { symbols ≤ 2 ^ empty.width }
     requires some_bits { 1 ≤ bits }
     requires small { bits * symbols ≤ 128 }
     ensures net { IfOk result (λ cleared. IsNetOfWidth builder.new cleared (bits * symbols)) }
@@ -148,7 +152,9 @@ impl Stage for Clear {
         builder: &mut Builder,
         from: BeatNets,
     ) -> Result<(BeatNets, Nothing), NetFault> {
-        let counted = count_empty(builder, &from)?;
+        // Each count of symbols fits, and all that `empty` may show.
+        let width = builder.width(from.empty).max(address_bits(self.symbols));
+        let counted = count_empty(builder, &from, width)?;
         let word = clear_symbols(builder, from.word, counted.empty, self.symbols, self.bits)?;
         let to = BeatNets {
             word,

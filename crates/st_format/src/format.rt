@@ -84,6 +84,6 @@ pub fn format_of(source: &SourcePort, sink: &SinkPort) -> Format
     };
     Chain {
         first: order,
-        second: resize_of(source.symbols, sink.symbols, bits),
+        second: resize_of(source.symbols, sink.symbols, bits, source.packets),
     }
 }

@@ -12,6 +12,7 @@ ghost use Rattle.stage_core.specs.declared.beat.BeatNets.{BeatNets};
 ghost use Rattle.stage_core.specs.Beats.{beat_in, view_of};
 ghost use Rattle.st_format.specs.declared.sizes.Sizes.{Sizes};
 ghost use Rattle.st_format.specs.declared.narrow.NarrowKept.{NarrowKept};
+ghost use Rattle.st_format.specs.declared.widen.Widen.{Widen};
 ghost use Rattle.st_format.specs.declared.widen.WidenKept.{WidenKept};
 ghost use Rattle.st_format.specs.ClearNets.{ClearsBeat};
 ghost use Rattle.st_format.specs.NarrowNets.{IsNarrowShape, NarrowForward, NarrowBackward};
@@ -35,8 +36,8 @@ pub fn empty_symbols_are_clear()
         (netlist : Netlist) → IsNarrowShape sizes shape → NarrowForward sizes from to kept netlist
         → NarrowBackward kept ready up netlist → (run : Run) → IsEndlessRun netlist run → (count : ℕ)
         → ShowsClear shape.up (view_of run from up) count → ShowsClear shape.down (view_of run to ready) count }
-    ensures widen { (sizes : Sizes) (shape : Shape) (from to : BeatNets) (kept : WidenKept) (ready up : NetValue)
-        (netlist : Netlist) → IsWidenShape sizes shape → WidenForward sizes from to kept netlist
+    ensures widen { (stage : Widen) (shape : Shape) (from to : BeatNets) (kept : WidenKept) (ready up : NetValue)
+        (netlist : Netlist) → IsWidenShape stage shape → WidenForward stage from to kept netlist
         → WidenBackward kept ready up netlist → (run : Run) → IsEndlessRun netlist run → (count : ℕ)
         → IsLegalSource shape.up (view_of run from up) count
         → ShowsClear shape.up (view_of run from up) count → ShowsClear shape.down (view_of run to ready) count }

@@ -55,23 +55,22 @@ struct Current {
 
 /// Makes the registers, and the wide beat of the cycle: what is held of one, or else the one that is shown.
 #[tactic(auto, using(net_parts::specs::Laws::growing))]
-fn show_current(builder: &mut Builder, from: &BeatNets) -> Result<Current, NetFault>
-    requires from { AreBeatNets builder.old from.now }
-    requires small { from.now.empty.width ≤ 8 }
+fn show_current(builder: &mut Builder, sizes: &Sizes, from: &BeatNets) -> Result<Current, NetFault>
+    requires { AreBeatNets builder.old from.now }
     ensures held { IfOk result (λ made. AreBeatNets builder.new made.held) }
     ensures registers { IfOk result (λ made. AreRegisters builder.new made.held made.held.valid.number) }
     ensures owned { IfOk result (λ made. AreMadeBetween (IsOfBeat made.held) builder.old builder.new) }
     ensures starts { IfOk result (λ made. StartsEmpty builder.new made.held) }
     ensures beat { IfOk result (λ made. AreBeatNets builder.new made.beat) }
     ensures widths { IfOk result (λ made. HaveSameWidths made.beat made.held) }
-    ensures counted { IfOk result (λ made. HaveCountedWidths made.beat from.now) }
-    ensures value { IfOk result (λ made. Always builder.new (λ cycle. shown_in cycle made.beat ≡ shown_now cycle made.held from.now)) }
+    ensures counted { IfOk result (λ made. HaveCountedWidths sizes.now.count made.beat from.now) }
+    ensures value { IfOk result (λ made. Always builder.new (λ cycle. shown_in cycle made.beat ≡ shown_now sizes.now cycle made.held from.now)) }
     ensures grows { GrowsBy 18 builder.old builder.new }
     ensures still_wait { StillWait builder.old builder.new }
     ensures newly { IfOk result (λ made. WaitsBeside (IsOfBeat made.held) builder.old builder.new) }
     ensures full { result ≡ Err NetFault.TooManyNets → 2 ^ 20 < length builder.old.lines + 18 }
 {
-    let counted = count_empty(builder, from)?;
+    let counted = count_empty(builder, from, sizes.count)?;
     let held = reg_beat(builder, &counted)?;
     let beat = mux_beat(builder, held.valid, &held, &counted)?;
     Ok(Current { held, beat })
@@ -80,30 +79,30 @@ fn show_current(builder: &mut Builder, from: &BeatNets) -> Result<Current, NetFa
 /// Whether a part follows the first one.
 #[tactic(auto, using(net_parts::specs::Laws::growing))]
 fn part_follows(builder: &mut Builder, sizes: &Sizes, empty: Net) -> Result<Net, NetFault>
-    requires { IsNetOfWidth builder.old empty 8 }
+    requires { IsNetOfWidth builder.old empty sizes.now.count }
     ensures net { IfOk result (λ more. IsBit builder.new more) }
     ensures value { IfOk result (λ more. Always builder.new (λ cycle. (cycle.net more.number == 1) ≡ more_follow sizes.now (cycle.net empty.number))) }
     ensures adds { AddsNets 2 builder.old builder.new }
     ensures full { result ≡ Err NetFault.TooManyNets → 2 ^ 20 < length builder.old.lines + 2 }
 {
-    let most = constant(builder, 8, sizes.rest_symbols())?;
+    let most = constant(builder, sizes.count, sizes.rest_symbols())?;
     builder.less(empty, most)
 }
 
 /// `empty` of the first part.
 #[tactic(auto, using(net_parts::specs::Laws::growing))]
 fn part_empty(builder: &mut Builder, sizes: &Sizes, empty: Net, more: Net) -> Result<Net, NetFault>
-    requires empty { IsNetOfWidth builder.old empty 8 }
+    requires empty { IsNetOfWidth builder.old empty sizes.now.count }
     requires more { IsBit builder.old more }
     requires follows { Always builder.old (λ cycle. (cycle.net more.number == 1) ≡ more_follow sizes.now (cycle.net empty.number)) }
-    ensures net { IfOk result (λ left. IsNetOfWidth builder.new left 8) }
+    ensures net { IfOk result (λ left. IsNetOfWidth builder.new left sizes.now.count) }
     ensures value { IfOk result (λ left. Always builder.new (λ cycle. cycle.net left.number ≡ piece_empty sizes.now (cycle.net empty.number))) }
     ensures adds { AddsNets 4 builder.old builder.new }
     ensures full { result ≡ Err NetFault.TooManyNets → 2 ^ 20 < length builder.old.lines + 4 }
 {
-    let behind = constant(builder, 8, sizes.rest_symbols())?;
+    let behind = constant(builder, sizes.count, sizes.rest_symbols())?;
     let left = builder.sub(empty, behind)?;
-    let none = constant(builder, 8, 0)?;
+    let none = constant(builder, sizes.count, 0)?;
     builder.mux(more, none, left)
 }
 
@@ -131,14 +130,14 @@ fn show_part(
 ) -> Result<BeatNets, NetFault>
     requires beat { AreBeatNets builder.old beat.now }
     requires word { beat.now.word.width ≡ sizes.now.bits * (sizes.now.symbols * sizes.now.parts) }
-    requires empty { beat.now.empty.width ≡ 8 }
+    requires empty { beat.now.empty.width ≡ sizes.now.count }
     requires more { IsBit builder.old more }
     requires follows { Always builder.old (λ cycle. (cycle.net more.number == 1) ≡ has_more sizes.now (beat_in cycle beat.now)) }
     ensures part { IfOk result (λ made. AreBeatNets builder.new made) }
     ensures word { IfOk result (λ made. made.word.width ≡ sizes.now.bits * sizes.now.symbols) }
     ensures channel { IfOk result (λ made. made.channel.width ≡ beat.now.channel.width) }
     ensures error { IfOk result (λ made. made.error.width ≡ beat.now.error.width) }
-    ensures empty { IfOk result (λ made. made.empty.width ≡ 8) }
+    ensures empty { IfOk result (λ made. made.empty.width ≡ sizes.now.count) }
     ensures value { IfOk result (λ made. Always builder.new (λ cycle. shown_in cycle made ≡ shown_piece sizes.now (shown_in cycle beat.now))) }
     ensures adds { AddsNets 7 builder.old builder.new }
     ensures full { result ≡ Err NetFault.TooManyNets → 2 ^ 20 < length builder.old.lines + 7 }
@@ -179,7 +178,7 @@ fn leave_rest(
 ) -> Result<BeatNets, NetFault>
     requires beat { AreBeatNets builder.old beat.now }
     requires word { beat.now.word.width ≡ sizes.now.bits * (sizes.now.symbols * sizes.now.parts) }
-    requires empty { beat.now.empty.width ≡ 8 }
+    requires empty { beat.now.empty.width ≡ sizes.now.count }
     requires more { IsBit builder.old more }
     requires follows { Always builder.old (λ cycle. (cycle.net more.number == 1) ≡ has_more sizes.now (beat_in cycle beat.now)) }
     ensures rest { IfOk result (λ made. AreBeatNets builder.new made) }
@@ -190,7 +189,7 @@ fn leave_rest(
 {
     let word = rest_word(builder, sizes, beat.word)?;
     let first = constant(builder, 1, 0)?;
-    let gone = constant(builder, 8, sizes.symbols)?;
+    let gone = constant(builder, sizes.count, sizes.symbols)?;
     let empty = builder.add(beat.empty, gone)?;
     Ok(BeatNets {
         valid: more,
@@ -213,12 +212,12 @@ struct Cut {
 fn cut_beat(builder: &mut Builder, sizes: &Sizes, beat: &BeatNets) -> Result<Cut, NetFault>
     requires beat { AreBeatNets builder.old beat.now }
     requires word { beat.now.word.width ≡ sizes.now.bits * (sizes.now.symbols * sizes.now.parts) }
-    requires empty { beat.now.empty.width ≡ 8 }
+    requires empty { beat.now.empty.width ≡ sizes.now.count }
     ensures part { IfOk result (λ made. AreBeatNets builder.new made.part) }
     ensures word { IfOk result (λ made. made.part.word.width ≡ sizes.now.bits * sizes.now.symbols) }
     ensures channel { IfOk result (λ made. made.part.channel.width ≡ beat.now.channel.width) }
     ensures error { IfOk result (λ made. made.part.error.width ≡ beat.now.error.width) }
-    ensures empty { IfOk result (λ made. made.part.empty.width ≡ 8) }
+    ensures empty { IfOk result (λ made. made.part.empty.width ≡ sizes.now.count) }
     ensures shows { IfOk result (λ made. Always builder.new (λ cycle. shown_in cycle made.part ≡ shown_piece sizes.now (shown_in cycle beat.now))) }
     ensures rest { IfOk result (λ made. AreBeatNets builder.new made.rest) }
     ensures widths { IfOk result (λ made. HaveSameWidths made.rest beat.now) }
@@ -243,7 +242,7 @@ impl Stage for Narrow {
 
     ghost takes = { λ s widths. (widths.word ≡ s.sizes.bits * (s.sizes.symbols * s.sizes.parts)) × (widths.empty ≤ 8) };
 
-    ghost gives = { λ s widths. record widths { word = s.sizes.bits * s.sizes.symbols; empty = 8 } };
+    ghost gives = { λ s widths. record widths { word = s.sizes.bits * s.sizes.symbols; empty = s.sizes.count } };
 
     ghost forward_nets = { λ s. 33 };
 
@@ -267,7 +266,7 @@ impl Stage for Narrow {
         builder: &mut Builder,
         from: BeatNets,
     ) -> Result<(BeatNets, NarrowKept), NetFault> {
-        let current = show_current(builder, &from)?;
+        let current = show_current(builder, &self.sizes, &from)?;
         let Cut { part, rest } = cut_beat(builder, &self.sizes, &current.beat)?;
         let kept = NarrowKept {
             held: current.held,

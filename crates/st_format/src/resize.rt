@@ -36,14 +36,14 @@ pub enum ResizeKept {
     OfSlide(Window, WindowKept),
 }
 
-/// The stage from beats of so many symbols to beats of so many others, each symbol of so many bits.
-pub(crate) fn resize_of(from: u8, into: u8, bits: u8) -> Resize
+/// The stage from beats of so many symbols, of packets or not, to beats of so many others, each symbol of so many bits.
+pub(crate) fn resize_of(from: u8, into: u8, bits: u8, packets: bool) -> Resize
     requires some_from { 1 ≤ from }
     requires some_into { 1 ≤ into }
     requires some_bits { 1 ≤ bits }
     requires from_fits { bits * from ≤ 128 }
     requires into_fits { bits * into ≤ 128 }
-    ensures { IsResizeOf from into bits result }
+    ensures { IsResizeOf from into bits packets result }
 {
     if from == into {
         return Resize::Equal;
@@ -52,7 +52,7 @@ pub(crate) fn resize_of(from: u8, into: u8, bits: u8) -> Resize
         return Resize::Cut(Narrow::new(Sizes::new(into, from / into, bits)));
     }
     if into % from == 0 {
-        return Resize::Join(Widen::new(Sizes::new(from, into / from, bits)));
+        return Resize::Join(Widen::new(Sizes::new(from, into / from, bits), packets));
     }
     Resize::Slide(Window::new(WindowSizes::new(from, into, bits)))
 }

@@ -1,6 +1,8 @@
 //! The sizes of a wide beat and of the narrow ones that it is made of.
 
-ghost use Rattle.std.specs.Prelude.{◌≡◌, ◌+◌, ◌-◌, ◌*◌, ◌<◌, ◌≤◌};
+ghost use Rattle.std.specs.Prelude.{◌≡◌, ℕ, ◌+◌, ◌-◌, ◌*◌, ◌^◌, ◌<◌, ◌≤◌};
+
+use item_queues::address_bits;
 
 /// How many narrow beats a wide one is made of.
 #[derive(Clone, Copy)]
@@ -11,10 +13,15 @@ pub struct Sizes {
     pub parts: u8,
     /// The bits of a symbol.
     pub bits: u8,
+    /// The bits of a count of less than all symbols of a wide beat.
+    pub count: u8,
     pub ghost some: { 1 ≤ symbols },
     pub ghost several: { 2 ≤ parts },
     pub ghost some_bits: { 1 ≤ bits },
     pub ghost small: { bits * (symbols * parts) ≤ 128 },
+    pub ghost some_count: { 1 ≤ count },
+    pub ghost few_count: { count ≤ 8 },
+    pub ghost counts: { symbols * parts ≤ 2 ^ count },
 }
 
 impl Sizes {
@@ -27,11 +34,14 @@ impl Sizes {
         ensures symbols { result.symbols ≡ symbols }
         ensures parts { result.parts ≡ parts }
         ensures bits { result.bits ≡ bits }
+        ensures least { (few : ℕ) → 1 ≤ few → symbols * parts ≤ 2 ^ few → result.count ≤ few }
     {
+        let count = address_bits(symbols * parts);
         Sizes {
             symbols,
             parts,
             bits,
+            count,
         }
     }
 
@@ -49,6 +59,7 @@ impl Sizes {
         ensures value { result ≡ self.now.symbols * (self.now.parts - 1) }
         ensures some { 1 ≤ result }
         ensures few { result + self.now.symbols ≤ 128 }
+        ensures counted { result + self.now.symbols ≤ 2 ^ self.now.count }
     {
         self.symbols * (self.parts - 1)
     }
@@ -60,15 +71,6 @@ impl Sizes {
         ensures few { result + self.now.bits * self.now.symbols ≤ 128 }
     {
         self.bits * self.rest_symbols()
-    }
-
-    /// The bits of a wide word.
-    pub(crate) fn wide_bits(&self) -> u8
-        ensures value { result ≡ self.now.bits * (self.now.symbols * self.now.parts) }
-        ensures some { 1 ≤ result }
-        ensures few { result ≤ 128 }
-    {
-        self.narrow_bits() + self.rest_bits()
     }
 
     /// The bits of the parts below one. Part 0 has the lowest-order bits of a wide word.
@@ -86,6 +88,7 @@ impl Sizes {
         requires { part < self.now.parts }
         ensures value { result ≡ self.now.symbols * (self.now.parts - 1 - part) }
         ensures few { result ≤ 128 }
+        ensures counted { result + self.now.symbols ≤ 2 ^ self.now.count }
     {
         self.symbols * (self.parts - 1 - part)
     }

@@ -7,12 +7,12 @@ use Rattle.st_windows.specs.declared.sizes.WindowSizes.{WindowSizes}
 use Rattle.st_windows.specs.Cuts.{front_at, chosen_at}
 use Rattle.st_windows.specs.Rows.{joined_count, is_alone, row_joined, row_alone, row_next, shown_front, shown_left}
 
-pub count_is : (w u held last wide none empty size coming out e from : ℕ) → w ≡ 8 → u ≡ 8 → last < 2 → wide ≡ e → none ≡ 0 → empty ≡ (if last == 0 then none else wide) → size ≡ from → coming ≡ (size + (2 ^ u - empty)) % 2 ^ u → out ≡ (held + coming) % 2 ^ w →
-    out ≡ (held + (from + (2 ^ 8 - (if last == 1 then e else 0))) % 2 ^ 8) % 2 ^ 8
-count_is w u held last wide none empty size coming out e from wide_w wide_u small is zeroed chosen sized came sum =
-    let empty_is : empty ≡ (if last == 1 then e else 0) = chosen ∙ chosen_high last wide none small ∙ ap (λ n. if last == 1 then n else none) is ∙ ap (λ n. if last == 1 then e else n) zeroed in
-    let coming_is : coming ≡ (from + (2 ^ 8 - (if last == 1 then e else 0))) % 2 ^ 8 = came ∙ ap (λ n. (size + (2 ^ n - empty)) % 2 ^ n) wide_u ∙ ap (λ n. (n + (2 ^ 8 - empty)) % 2 ^ 8) sized ∙ ap (λ n. (from + (2 ^ 8 - n)) % 2 ^ 8) empty_is in
-    sum ∙ ap (λ n. (held + coming) % 2 ^ n) wide_w ∙ ap (λ n. (held + n) % 2 ^ 8) coming_is
+pub count_is : (b w u held last fitted none empty size coming out e from : ℕ) → w ≡ b → u ≡ b → last < 2 → fitted ≡ e % 2 ^ b → none ≡ 0 → empty ≡ (if last == 0 then none else fitted) → size ≡ from → coming ≡ (size + (2 ^ u - empty)) % 2 ^ u → out ≡ (held + coming) % 2 ^ w →
+    out ≡ (held + (from + (2 ^ b - (if last == 1 then e % 2 ^ b else 0))) % 2 ^ b) % 2 ^ b
+count_is b w u held last fitted none empty size coming out e from wide_w wide_u small is zeroed chosen sized came sum =
+    let empty_is : empty ≡ (if last == 1 then e % 2 ^ b else 0) = chosen ∙ chosen_high last fitted none small ∙ ap (λ n. if last == 1 then n else none) is ∙ ap (λ n. if last == 1 then e % 2 ^ b else n) zeroed in
+    let coming_is : coming ≡ (from + (2 ^ b - (if last == 1 then e % 2 ^ b else 0))) % 2 ^ b = came ∙ ap (λ n. (size + (2 ^ n - empty)) % 2 ^ n) wide_u ∙ ap (λ n. (n + (2 ^ b - empty)) % 2 ^ b) sized ∙ ap (λ n. (from + (2 ^ b - n)) % 2 ^ b) empty_is in
+    sum ∙ ap (λ n. (held + coming) % 2 ^ n) wide_w ∙ ap (λ n. (held + n) % 2 ^ b) coming_is
 
 pub test_high : (t : Bool) (n : ℕ) → n ≡ (if t then 1 else 0) → (n == 1) ≡ t
 test_high true n e = ap (λ k. k == 1) e
@@ -52,22 +52,22 @@ pub picked : (t : Bool) (bit x y e : ℕ) → bit ≡ (if t then 1 else 0) → e
 picked true bit x y e is chosen = chosen ∙ ap (λ n. if n == 0 then y else x) is
 picked false bit x y e is chosen = chosen ∙ ap (λ n. if n == 0 then y else x) is
 
-pub front_shown : (sizes : WindowSizes) (x row : Shown) (more low last size empty w : ℕ) → x ≡ row → more ≡ (if nat_lt sizes.into row.beat.empty then 1 else 0) → low ≡ 0 → last ≡ (if more == 0 then row.beat.last else low) → w ≡ 8 → size ≡ sizes.into → empty ≡ (size + (2 ^ w - row.beat.empty)) % 2 ^ w →
+pub front_shown : (sizes : WindowSizes) (x row : Shown) (more low last size empty w : ℕ) → x ≡ row → more ≡ (if nat_lt sizes.into row.beat.empty then 1 else 0) → low ≡ 0 → last ≡ (if more == 0 then row.beat.last else low) → w ≡ sizes.count → size ≡ sizes.into → empty ≡ (size + (2 ^ w - row.beat.empty)) % 2 ^ w →
     (record { valid = x.valid; beat = record { word = x.beat.word; channel = x.beat.channel; error = x.beat.error; first = x.beat.first; last = last; empty = empty } }) ≡ shown_front sizes row
 front_shown sizes x row more low last size empty w same is zeroed lasts wide sized empties =
     shown_same _ (shown_front sizes row) (ap (λ (z : Shown). z.valid) same) (ap (λ (z : Shown). z.beat.word) same) (ap (λ (z : Shown). z.beat.channel) same) (ap (λ (z : Shown). z.beat.error) same) (ap (λ (z : Shown). z.beat.first) same)
     (picked (nat_lt sizes.into row.beat.empty) more low row.beat.last last is lasts ∙ ap (λ n. if nat_lt sizes.into row.beat.empty then n else row.beat.last) zeroed)
-    (empties ∙ ap (λ n. (size + (2 ^ n - row.beat.empty)) % 2 ^ n) wide ∙ ap (λ n. (n + (2 ^ 8 - row.beat.empty)) % 2 ^ 8) sized)
+    (empties ∙ ap (λ n. (size + (2 ^ n - row.beat.empty)) % 2 ^ n) wide ∙ ap (λ n. (n + (2 ^ sizes.count - row.beat.empty)) % 2 ^ sizes.count) sized)
 
-pub left_shown : (sizes : WindowSizes) (x row : Shown) (more low word error quiet none size left empty held_error last w : ℕ) → x ≡ row → more ≡ (if nat_lt sizes.into row.beat.empty then 1 else 0) → low ≡ 0 → quiet ≡ 0 → none ≡ 0 → size ≡ sizes.into → w ≡ 8 → left ≡ (row.beat.empty + (2 ^ w - size)) % 2 ^ w →
+pub left_shown : (sizes : WindowSizes) (x row : Shown) (more low word error quiet none size left empty held_error last w : ℕ) → x ≡ row → more ≡ (if nat_lt sizes.into row.beat.empty then 1 else 0) → low ≡ 0 → quiet ≡ 0 → none ≡ 0 → size ≡ sizes.into → w ≡ sizes.count → left ≡ (row.beat.empty + (2 ^ w - size)) % 2 ^ w →
     empty ≡ (if more == 0 then none else left) → held_error ≡ (if more == 0 then quiet else error) → last ≡ (if more == 0 then low else row.beat.last) →
     (record { valid = low; beat = record { word = word; channel = x.beat.channel; error = held_error; first = low; last = last; empty = empty } }) ≡ shown_left sizes row word error
 left_shown sizes x row more low word error quiet none size left empty held_error last w same is zeroed quiets nones sized wide lefts empties errors lasts =
-    let left_is : left ≡ (row.beat.empty + (2 ^ 8 - sizes.into)) % 2 ^ 8 = lefts ∙ ap (λ n. (row.beat.empty + (2 ^ n - size)) % 2 ^ n) wide ∙ ap (λ n. (row.beat.empty + (2 ^ 8 - n)) % 2 ^ 8) sized in
+    let left_is : left ≡ (row.beat.empty + (2 ^ sizes.count - sizes.into)) % 2 ^ sizes.count = lefts ∙ ap (λ n. (row.beat.empty + (2 ^ n - size)) % 2 ^ n) wide ∙ ap (λ n. (row.beat.empty + (2 ^ sizes.count - n)) % 2 ^ sizes.count) sized in
     shown_same _ (shown_left sizes row word error) zeroed refl (ap (λ (z : Shown). z.beat.channel) same)
     (picked (nat_lt sizes.into row.beat.empty) more error quiet held_error is errors ∙ ap (λ n. if nat_lt sizes.into row.beat.empty then error else n) quiets) zeroed
     (picked (nat_lt sizes.into row.beat.empty) more row.beat.last low last is lasts ∙ ap (λ n. if nat_lt sizes.into row.beat.empty then row.beat.last else n) zeroed)
-    (picked (nat_lt sizes.into row.beat.empty) more left none empty is empties ∙ ap (λ n. if nat_lt sizes.into row.beat.empty then n else none) left_is ∙ ap (λ n. if nat_lt sizes.into row.beat.empty then (row.beat.empty + (2 ^ 8 - sizes.into)) % 2 ^ 8 else n) nones)
+    (picked (nat_lt sizes.into row.beat.empty) more left none empty is empties ∙ ap (λ n. if nat_lt sizes.into row.beat.empty then n else none) left_is ∙ ap (λ n. if nat_lt sizes.into row.beat.empty then (row.beat.empty + (2 ^ sizes.count - sizes.into)) % 2 ^ sizes.count else n) nones)
 
 -- ---- the nets over what is held
 

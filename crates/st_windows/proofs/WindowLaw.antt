@@ -64,7 +64,7 @@ module _ (sizes : WindowSizes) (side : Side) (symbols_are : side.symbols ≡ siz
       by_alone false e = one_if ((x.valid == 1) && (nat_lt (sizes.into - 1) (joined_count sizes held.beat.empty x) || (x.beat.last == 1))) ∙ by_valid e (x.valid == 1) refl
 
   -- the nets of the next row have it
-  pub next_is : (held x : Shown) → held.beat.empty ≤ sizes.held → held.beat.empty < 2 ^ 8 → (is_alone sizes held ≡ false → HoldsData sizes side symbols_are bits_are high x.beat) →
+  pub next_is : (held x : Shown) → held.beat.empty ≤ sizes.held → held.beat.empty < 2 ^ sizes.count → (is_alone sizes held ≡ false → HoldsData sizes side symbols_are bits_are high x.beat) →
       IsRowOf sizes side symbols_are bits_are high (row_of held x) (row_next sizes held x)
   next_is held x few small holds =
       subst (λ t. IsRowOf sizes side symbols_are bits_are high (if t then held_row held else with_beat side (held_row held) x.beat) (row_next sizes held x)) (sym (alone_is sizes side symbols_are bits_are high held)) (by_alone (is_alone sizes held) refl)
@@ -74,7 +74,7 @@ module _ (sizes : WindowSizes) (side : Side) (symbols_are : side.symbols ≡ siz
       by_alone false e = joined_row sizes side symbols_are bits_are high held x (few_held sizes side symbols_are bits_are high held e) (holds e)
 
   -- and the registers hold what is left of it once a beat has gone
-  pub left_row : (held x : Shown) → held.beat.empty ≤ sizes.held → held.beat.empty < 2 ^ 8 → (is_alone sizes held ≡ false → HoldsData sizes side symbols_are bits_are high x.beat) →
+  pub left_row : (held x : Shown) → held.beat.empty ≤ sizes.held → held.beat.empty < 2 ^ sizes.count → (is_alone sizes held ≡ false → HoldsData sizes side symbols_are bits_are high x.beat) →
       AreSameRow (held_row (row_left sizes held x)) (behind_beat sizes.into (if whole_row (held_row held) then held.beat.error else x.beat.error) (row_of held x))
   left_row held x few small holds =
       subst (λ t. AreSameRow (held_row (row_left sizes held x)) (behind_beat sizes.into (if t then held.beat.error else x.beat.error) (if t then held_row held else with_beat side (held_row held) x.beat))) (sym (alone_is sizes side symbols_are bits_are high held)) (by_alone (is_alone sizes held) refl)
@@ -135,7 +135,7 @@ module _ (sizes : WindowSizes) (from to : BeatNets) (kept : WindowKept) (ready u
   pub data_holds : (c : ℕ) → IsLegalSource side upward (suc c) → is_high upward.valid c ≡ true → HoldsData sizes side symbols_are bits_are high (beat_at upward c)
   data_holds c legal shown ends = let below = ((legal c (omega arith)).formed shown).holds_data ends in omega (arith, below, symbols_are)
 
-  pub small : (c : ℕ) → (holding c).beat.empty < 2 ^ 8
+  pub small : (c : ℕ) → (holding c).beat.empty < 2 ^ sizes.count
   small c = f.count_fits (cycle_of run c) (valued c)
 
   alone : (c : ℕ) → (run.net c kept.alone.number == 1) ≡ is_whole sizes.into (held c)
@@ -167,6 +167,17 @@ module _ (sizes : WindowSizes) (from to : BeatNets) (kept : WindowKept) (ready u
   comes_is : (c : ℕ) → ((run.net c kept.coming.number == 1) && (run.net c up.number == 1)) ≡ is_transfer side.pace upward c
   comes_is c = rw direct (ap (λ (n : NetValue). (run.net c n.number == 1) && (run.net c up.number == 1)) f.coming_is)
 
+  pub transfer_parts : (view : EndView) (c : ℕ) → is_transfer side.pace view c ≡ (is_high view.valid c && is_high view.ready c)
+  transfer_parts view c = rw direct refl
+
+  -- one is taken only where none goes by what is held alone
+  not_alone : (c : ℕ) → is_transfer side.pace upward c ≡ true → is_alone sizes (holding c) ≡ false
+  not_alone c comes = sym (alone_is sizes side symbols_are bits_are high (holding c)) ∙ turned _ (and_parts _ _ (sym (asks c) ∙ (and_parts _ _ (sym (transfer_parts upward c) ∙ comes)).1)).0
+    where
+      turned : (t : Bool) → not t ≡ true → t ≡ false
+      turned true e = absurd (cc)
+      turned false e = refl
+
   pub moved : (c : ℕ) → holding (c + 1) ≡ (if is_transfer side.pace downward c then row_left sizes (holding c) (coming c) else (if is_transfer side.pace upward c then row_gathered sizes (row_joined sizes (holding c) (coming c)) else holding c))
   moved c =
       b.moves run (c + 2) (endless (c + 2)) c (omega arith)
@@ -174,15 +185,17 @@ module _ (sizes : WindowSizes) (from to : BeatNets) (kept : WindowKept) (ready u
       ∙ ap (λ t. if is_transfer side.pace downward c then shown_in (cycle_of run c) kept.rest else (if t then shown_in (cycle_of run c) kept.gathered else holding c)) (comes_is c)
       ∙ ap (λ (x : Shown). if is_transfer side.pace downward c then x else (if is_transfer side.pace upward c then shown_in (cycle_of run c) kept.gathered else holding c)) (f.leaves (cycle_of run c) (valued c))
       ∙ ap (λ (x : Shown). if is_transfer side.pace downward c then row_left sizes (holding c) (coming c) else (if is_transfer side.pace upward c then x else holding c)) (f.gathers (cycle_of run c) (valued c))
+      ∙ ap (λ (x : Shown). if is_transfer side.pace downward c then row_left sizes (holding c) (coming c) else x) (gathered_joined (is_transfer side.pace upward c) refl)
+    where
+      gathered_joined : (t : Bool) → is_transfer side.pace upward c ≡ t → (if t then row_gathered sizes (row_next sizes (holding c) (coming c)) else holding c) ≡ (if t then row_gathered sizes (row_joined sizes (holding c) (coming c)) else holding c)
+      gathered_joined true comes = ap (λ t. row_gathered sizes (if t then row_alone sizes (holding c) else row_joined sizes (holding c) (coming c))) (not_alone c comes)
+      gathered_joined false stands = refl
 
   -- a beat that comes while none goes makes none
   pub record Gathers (c : ℕ) : Type 0 where
     pub below : (holding c).beat.empty < sizes.into
     pub holds : HoldsData sizes side symbols_are bits_are high (beat_at upward c)
     pub few : (with_beat side (held c) (beat_at upward c)).count < sizes.into
-
-  pub transfer_parts : (view : EndView) (c : ℕ) → is_transfer side.pace view c ≡ (is_high view.valid c && is_high view.ready c)
-  transfer_parts view c = rw direct refl
 
   pub gathers : (c : ℕ) → IsLegalSource side upward (suc c) → is_transfer side.pace downward c ≡ false → is_transfer side.pace upward c ≡ true → Gathers c
   gathers c legal stands comes = by_tests (is_high upward.valid c) refl (is_whole sizes.into (held c)) refl (is_high downward.valid c) refl (is_high downward.ready c) refl (sym (transfer_parts upward c) ∙ comes)

@@ -1,7 +1,7 @@
 -- The rows of symbols on the nets of a window are those of the machine.
-use Rattle.std.proofs.Common.{◌≡◌, ℕ, ◌+◌, ◌-◌, ◌*◌, ◌%◌, ◌^◌, ◌<◌, ◌≤◌, Bool, true, false, ◌||◌, ◌==◌, nat_lt, nat_le, if◌then◌else◌, refl, sym, ap, ◌∙◌, arith, ◌⊎◌, inl, inr}
+use Rattle.std.proofs.Common.{◌≡◌, ℕ, ◌+◌, ◌-◌, ◌%◌, ◌^◌, ◌<◌, ◌≤◌, Bool, true, false, ◌||◌, ◌==◌, nat_lt, nat_le, if◌then◌else◌, refl, sym, ap, ◌∙◌, arith, ◌⊎◌, inl, inr}
 use Rattle.std.proofs.lemmas.Bool.{cases_lt, ltb-true, ltb-false, lt-ltb, le-ltb, le-leb, lt-leb, or_parts}
-use Rattle.std.proofs.Math.Nat.{mul-le-mul_right}
+use Rattle.std.proofs.Math.Nat.{mod-eq_of_lt, mod-eq-sub-mod}
 use Rattle.stream_runs.specs.View.{Side, Beat}
 use Rattle.stream_runs.specs.Symbols.{symbol_count, value_of}
 use Rattle.stream_machines.specs.Line.{of_symbols}
@@ -29,8 +29,18 @@ left_or size count x y = by_place (cases_lt size count)
     by_place (inl more) = ap (λ t. if t then x else y) (lt-ltb size count more) ∙ sym (ap (λ t. if t then y else x) (lt-leb count size more))
     by_place (inr few) = ap (λ t. if t then x else y) (le-ltb size count few) ∙ sym (ap (λ t. if t then y else x) (le-leb count size few))
 
-few_symbols : (bits size : ℕ) → 1 ≤ bits → bits * size ≤ 128 → size ≤ 128
-few_symbols bits size some small = let most : 1 * size ≤ bits * size = mul-le-mul_right size some in let one : 1 * size ≡ size = omega arith in omega (arith, most, one, small)
+-- a difference, by a sum with what the modulus leaves
+minus_is : (p a b : ℕ) → b ≤ a → a < p → (a + (p - b)) % p ≡ a - b
+minus_is p a b few small =
+    let over : a + (p - b) - p ≡ a - b = omega (arith, few, small) in
+    let below : a - b < p = omega (arith, small) in
+    mod-eq-sub-mod (omega (arith, few, small)) ∙ ap (λ n. n % p) over ∙ mod-eq_of_lt below
+
+-- and added to what is held
+coming_is : (p held size empty : ℕ) → empty ≤ size → held + size < p → (held + (size + (p - empty)) % p) % p ≡ held + (size - empty)
+coming_is p held size empty few small =
+    let below : held + (size - empty) < p = omega (arith, small) in
+    ap (λ n. (held + n) % p) (minus_is p size empty few (omega (arith, small))) ∙ mod-eq_of_lt below
 
 module _ (sizes : WindowSizes) (side : Side) (symbols_are : side.symbols ≡ sizes.from) (bits_are : side.symbol_bits ≡ sizes.bits) (high : side.first_high ≡ true) where
   abbrev pub into : Side
@@ -46,11 +56,12 @@ module _ (sizes : WindowSizes) (side : Side) (symbols_are : side.symbols ≡ siz
   pub value_from : (word k : ℕ) → value_of side word k ≡ symbol sizes.bits sizes.from word k
   value_from word k = rw (high, bits_are, symbols_are) refl
 
-  few_from : sizes.from ≤ 128
-  few_from = few_symbols sizes.bits sizes.from sizes.some_bits sizes.from_fits
+  -- counts have room for what is held and comes, so for a beat that goes
+  into_counts : sizes.into < 2 ^ sizes.count
+  into_counts = let all = sizes.counts in let some = sizes.some_from in let behind = sizes.into_behind in omega (arith, all, some, behind)
 
-  few_into : sizes.into ≤ 128
-  few_into = few_symbols sizes.bits sizes.into sizes.some_bits sizes.into_fits
+  sum_counts : (held : ℕ) → held < sizes.into → held + sizes.from < 2 ^ sizes.count
+  sum_counts held few = let all = sizes.counts in let behind = sizes.into_behind in omega (arith, all, behind, few)
 
   pub alone_is : (x : Shown) → is_whole sizes.into (row_in x) ≡ is_alone sizes x
   alone_is x = ap (λ t. t || (x.beat.last == 1)) (sym (at_least sizes.into x.beat.empty sizes.some_into))
@@ -73,9 +84,14 @@ module _ (sizes : WindowSizes) (side : Side) (symbols_are : side.symbols ≡ siz
   pub joined_is : (held : ℕ) (x : Shown) → held < sizes.into → HoldsData x.beat → joined_count sizes held x ≡ held + symbol_count side x.beat
   joined_is held x few holds = by_last (x.beat.last == 1) refl
     where
-      by_last : (t : Bool) → (x.beat.last == 1) ≡ t → (held + (sizes.from + (2 ^ 8 - (if t then x.beat.empty else 0))) % 2 ^ 8) % 2 ^ 8 ≡ held + (if t then side.symbols - x.beat.empty else side.symbols)
-      by_last true e = let below = holds e in let one = few_from in let two = few_into in omega (arith, below, one, two, few, symbols_are)
-      by_last false e = let one = few_from in let two = few_into in let some = sizes.some_from in omega (arith, one, two, some, few, symbols_are)
+      by_last : (t : Bool) → (x.beat.last == 1) ≡ t → (held + (sizes.from + (2 ^ sizes.count - (if t then x.beat.empty % 2 ^ sizes.count else 0))) % 2 ^ sizes.count) % 2 ^ sizes.count ≡ held + (if t then side.symbols - x.beat.empty else side.symbols)
+      by_last true e =
+          let below = holds e in
+          let small : x.beat.empty < 2 ^ sizes.count = (let most = sum_counts held few in omega (arith, most, below)) in
+          ap (λ n. (held + (sizes.from + (2 ^ sizes.count - n)) % 2 ^ sizes.count) % 2 ^ sizes.count) (mod-eq_of_lt small)
+          ∙ coming_is (2 ^ sizes.count) held sizes.from x.beat.empty (omega (arith, below)) (sum_counts held few)
+          ∙ ap (λ n. held + (n - x.beat.empty)) (sym symbols_are)
+      by_last false e = let bare : sizes.from - 0 ≡ sizes.from = omega arith in coming_is (2 ^ sizes.count) held sizes.from 0 (omega arith) (sum_counts held few) ∙ ap (λ n. held + n) (bare ∙ sym symbols_are)
 
   pub whole_is : (held x : Shown) → held.beat.empty < sizes.into → HoldsData x.beat →
       (nat_lt (sizes.into - 1) (joined_count sizes held.beat.empty x) || (x.beat.last == 1)) ≡ is_whole sizes.into (with_beat side (row_in held) x.beat)
@@ -86,14 +102,14 @@ module _ (sizes : WindowSizes) (side : Side) (symbols_are : side.symbols ≡ siz
   -- the nets show the row, as far as a beat has symbols
   pub record IsRowOf (row : Row) (x : Shown) : Type 0 where
     pub count : x.beat.empty ≡ row.count
-    pub small : row.count < 2 ^ 8
+    pub small : row.count < 2 ^ sizes.count
     pub values : (k : ℕ) → k < sizes.into → k < row.count → symbol sizes.bits sizes.into x.beat.word k ≡ row.value k
     pub channel : x.beat.channel ≡ row.channel
     pub error : x.beat.error ≡ row.error
     pub first : x.beat.first ≡ row.first
     pub last : x.beat.last ≡ row.last
 
-  pub alone_row : (held : Shown) → held.beat.empty ≤ sizes.held → held.beat.empty < 2 ^ 8 → IsRowOf (row_in held) (row_alone sizes held)
+  pub alone_row : (held : Shown) → held.beat.empty ≤ sizes.held → held.beat.empty < 2 ^ sizes.count → IsRowOf (row_in held) (row_alone sizes held)
   alone_row held few small = record {
     count = refl;
     small = small;
@@ -107,7 +123,7 @@ module _ (sizes : WindowSizes) (side : Side) (symbols_are : side.symbols ≡ siz
   pub joined_row : (held x : Shown) → held.beat.empty < sizes.into → HoldsData x.beat → IsRowOf (with_beat side (row_in held) x.beat) (row_joined sizes held x)
   joined_row held x few holds = record {
     count = joined_is held.beat.empty x few holds;
-    small = (let most = (count_bounds x.beat holds).1 in let one = few_from in let two = few_into in omega (arith, most, one, two, few));
+    small = (let most = (count_bounds x.beat holds).1 in let room = sum_counts held.beat.empty few in omega (arith, most, room));
     values = λ k inside within. ap (λ w. symbol sizes.bits sizes.into w k) word_is ∙ by_place k inside within (cases_lt k held.beat.empty);
     channel = refl;
     error = refl;
@@ -140,22 +156,15 @@ module _ (sizes : WindowSizes) (side : Side) (symbols_are : side.symbols ≡ siz
     last = left_or sizes.into x.beat.empty 0 x.beat.last ∙ ap (λ n. if nat_le n sizes.into then x.beat.last else 0) h.count ∙ ap (λ n. if nat_le row.count sizes.into then n else 0) h.last;
     empty = λ ends. empty_is (nat_lt sizes.into x.beat.empty) refl ends;
   } where
-    empty_is : (t : Bool) → nat_lt sizes.into x.beat.empty ≡ t → ((if t then 0 else x.beat.last) == 1) ≡ true → (sizes.into + (2 ^ 8 - x.beat.empty)) % 2 ^ 8 ≡ sizes.into - row.count
+    empty_is : (t : Bool) → nat_lt sizes.into x.beat.empty ≡ t → ((if t then 0 else x.beat.last) == 1) ≡ true → (sizes.into + (2 ^ sizes.count - x.beat.empty)) % 2 ^ sizes.count ≡ sizes.into - row.count
     empty_is true e ends = absurd (cc)
-    empty_is false e ends =
-        let few = ltb-false sizes.into x.beat.empty e in
-        let same = h.count in
-        by_size few (cases_lt x.beat.empty 1)
-      where
-        by_size : x.beat.empty ≤ sizes.into → (x.beat.empty < 1) ⊎ (1 ≤ x.beat.empty) → (sizes.into + (2 ^ 8 - x.beat.empty)) % 2 ^ 8 ≡ sizes.into - row.count
-        by_size few (inl none) = let two = few_into in let same = h.count in omega (arith, two, same, few, none)
-        by_size few (inr some) = let two = few_into in let same = h.count in omega (arith, two, same, few, some)
+    empty_is false e ends = minus_is (2 ^ sizes.count) sizes.into x.beat.empty (ltb-false sizes.into x.beat.empty e) into_counts ∙ ap (λ n. sizes.into - n) h.count
 
-  left_count : (x : Shown) (count : ℕ) → x.beat.empty ≡ count → count < 2 ^ 8 → (if nat_lt sizes.into x.beat.empty then (x.beat.empty + (2 ^ 8 - sizes.into)) % 2 ^ 8 else 0) ≡ count - sizes.into
+  left_count : (x : Shown) (count : ℕ) → x.beat.empty ≡ count → count < 2 ^ sizes.count → (if nat_lt sizes.into x.beat.empty then (x.beat.empty + (2 ^ sizes.count - sizes.into)) % 2 ^ sizes.count else 0) ≡ count - sizes.into
   left_count x count same small = by_more (nat_lt sizes.into x.beat.empty) refl
     where
-      by_more : (t : Bool) → nat_lt sizes.into x.beat.empty ≡ t → (if t then (x.beat.empty + (2 ^ 8 - sizes.into)) % 2 ^ 8 else 0) ≡ count - sizes.into
-      by_more true e = let more = ltb-true sizes.into x.beat.empty e in omega (arith, more, same, small)
+      by_more : (t : Bool) → nat_lt sizes.into x.beat.empty ≡ t → (if t then (x.beat.empty + (2 ^ sizes.count - sizes.into)) % 2 ^ sizes.count else 0) ≡ count - sizes.into
+      by_more true e = let more = ltb-true sizes.into x.beat.empty e in minus_is (2 ^ sizes.count) x.beat.empty sizes.into (omega (arith, more)) (omega (arith, same, small)) ∙ ap (λ n. n - sizes.into) same
       by_more false e = let few = ltb-false sizes.into x.beat.empty e in omega (arith, few, same)
 
   pub left_is : (row : Row) (x : Shown) (word error : ℕ) → IsRowOf row x → ((k : ℕ) → k + sizes.into < row.count → symbol sizes.bits sizes.held word k ≡ row.value (k + sizes.into)) →

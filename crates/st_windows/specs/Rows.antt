@@ -6,7 +6,7 @@ use Rattle.st_windows.specs.Cuts.{cut_of, front_at, rest_at, chosen_at}
 
 -- so many held and those of the beat that comes
 abbrev pub joined_count : WindowSizes → ℕ → Shown → ℕ
-joined_count sizes held from = (held + (sizes.from + (2 ^ 8 - (if from.beat.last == 1 then from.beat.empty else 0))) % 2 ^ 8) % 2 ^ 8
+joined_count sizes held from = (held + (sizes.from + (2 ^ sizes.count - (if from.beat.last == 1 then from.beat.empty % 2 ^ sizes.count else 0))) % 2 ^ sizes.count) % 2 ^ sizes.count
 
 -- what is held makes a beat by itself
 abbrev pub is_alone : WindowSizes → Shown → Bool
@@ -42,7 +42,7 @@ shown_front sizes row =
       valid = row.valid;
       beat = record row.beat {
         last = if nat_lt sizes.into row.beat.empty then 0 else row.beat.last;
-        empty = (sizes.into + (2 ^ 8 - row.beat.empty)) % 2 ^ 8;
+        empty = (sizes.into + (2 ^ sizes.count - row.beat.empty)) % 2 ^ sizes.count;
       };
     }
 
@@ -57,7 +57,7 @@ shown_left sizes row word error =
         error = if nat_lt sizes.into row.beat.empty then error else 0;
         first = 0;
         last = if nat_lt sizes.into row.beat.empty then row.beat.last else 0;
-        empty = if nat_lt sizes.into row.beat.empty then (row.beat.empty + (2 ^ 8 - sizes.into)) % 2 ^ 8 else 0;
+        empty = if nat_lt sizes.into row.beat.empty then (row.beat.empty + (2 ^ sizes.count - sizes.into)) % 2 ^ sizes.count else 0;
       };
     }
 
@@ -70,4 +70,4 @@ row_left sizes held from =
 
 -- and once one has come while none goes
 abbrev pub row_gathered : WindowSizes → Shown → Shown
-row_gathered sizes joined = record { valid = 0; beat = record joined.beat { word = cut_of sizes.bits sizes.into 0 sizes.held joined.beat.word } }
+row_gathered sizes row = record { valid = 0; beat = record row.beat { word = cut_of sizes.bits sizes.into 0 sizes.held row.beat.word } }

@@ -15,7 +15,7 @@ use Rattle.stage_core.specs.Groups.{shown_in, AreNumbered, IsOfBeat, AreRegister
 use Rattle.stage_core.specs.Lasting.{beat_lasts, registers_last}
 use Rattle.st_windows.specs.declared.sizes.WindowSizes.{WindowSizes}
 use Rattle.st_windows.specs.declared.window.WindowKept.{WindowKept}
-use Rattle.st_windows.specs.Rows.{is_alone, row_joined, row_next, shown_front, row_left, row_gathered}
+use Rattle.st_windows.specs.Rows.{is_alone, row_next, shown_front, row_left, row_gathered}
 
 -- a side of beats upstream, and downstream the same with beats of the other size, both with the first symbol in the high-order
 -- bits and ready latency 0, with a test that all channels pass; without packets there is one channel
@@ -47,11 +47,11 @@ pub record WindowForward (sizes : WindowSizes) (from to : BeatNets) (kept : Wind
   pub full_is : kept.full ≡ to.valid
   pub numbers : AreNumbered kept.held kept.held.valid.number
   pub starts : StartsEmpty netlist kept.held
-  pub count_fits : Always netlist (λ cycle. cycle.net kept.held.empty.number < 2 ^ 8)
+  pub count_fits : Always netlist (λ cycle. cycle.net kept.held.empty.number < 2 ^ sizes.count)
   pub alone_is : Always netlist (λ cycle. (cycle.net kept.alone.number == 1) ≡ is_alone sizes (shown_in cycle kept.held))
   pub shows : Always netlist (λ cycle. shown_in cycle to ≡ shown_front sizes (row_next sizes (shown_in cycle kept.held) (shown_in cycle from)))
   pub leaves : Always netlist (λ cycle. shown_in cycle kept.rest ≡ row_left sizes (shown_in cycle kept.held) (shown_in cycle from))
-  pub gathers : Always netlist (λ cycle. shown_in cycle kept.gathered ≡ row_gathered sizes (row_joined sizes (shown_in cycle kept.held) (shown_in cycle from)))
+  pub gathers : Always netlist (λ cycle. shown_in cycle kept.gathered ≡ row_gathered sizes (row_next sizes (shown_in cycle kept.held) (shown_in cycle from)))
 
 -- after the second call: ready is shown where no beat is held that goes by itself, and no beat is shown or with ready. What is
 -- held changes where a beat goes or comes

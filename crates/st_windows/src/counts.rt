@@ -1,6 +1,6 @@
 //! Counts of symbols, and whether so many make a beat.
 
-ghost use Rattle.std.specs.Prelude.{◌≡◌, ◌+◌, ◌-◌, ◌^◌, ◌<◌, ◌≤◌, ◌==◌, ◌||◌, nat_lt, length, IfOk};
+ghost use Rattle.std.specs.Prelude.{◌≡◌, ◌+◌, ◌-◌, ◌%◌, ◌^◌, ◌<◌, ◌≤◌, ◌==◌, ◌||◌, nat_lt, length, IfOk};
 ghost use Rattle.netlist.specs.Netlists.{IsNet};
 ghost use Rattle.netlist.specs.Runs.{Always};
 ghost use Rattle.net_parts.specs.Nets.{IsBit, IsNetOfWidth};
@@ -14,18 +14,17 @@ use net_parts::{constant, fit_bits, is_above};
 use netlist::{Builder, Net, NetFault};
 use stage_core::BeatNets;
 
-/// `empty` with 8 bits.
+/// `empty` with the bits of a count.
 #[tactic(auto, using(net_parts::specs::Laws::growing))]
-fn widen_empty(builder: &mut Builder, empty: Net) -> Result<Net, NetFault>
+fn fit_empty(builder: &mut Builder, sizes: &WindowSizes, empty: Net) -> Result<Net, NetFault>
     requires empty { IsNet builder.old empty }
-    requires small { empty.width ≤ 8 }
-    ensures net { IfOk result (λ n. IsNetOfWidth builder.new n 8) }
-    ensures value { IfOk result (λ n. Always builder.new (λ cycle. cycle.net n.number ≡ cycle.net empty.number)) }
+    ensures net { IfOk result (λ n. IsNetOfWidth builder.new n sizes.now.count) }
+    ensures value { IfOk result (λ n. Always builder.new (λ cycle. cycle.net n.number ≡ cycle.net empty.number % 2 ^ sizes.now.count)) }
     ensures adds { AddsNets 2 builder.old builder.new }
     ensures full { result ≡ Err NetFault.TooManyNets → 2 ^ 20 < length builder.old.lines + 2 }
 {
     let bits = builder.width(empty);
-    fit_bits(builder, empty, bits, 8)
+    fit_bits(builder, empty, bits, sizes.count)
 }
 
 /// How many symbols are held and come, as one count.
@@ -36,18 +35,17 @@ pub(crate) fn count_joined(
     held: Net,
     from: &BeatNets,
 ) -> Result<Net, NetFault>
-    requires held { IsNetOfWidth builder.old held 8 }
+    requires held { IsNetOfWidth builder.old held sizes.now.count }
     requires from { AreBeatNets builder.old from.now }
-    requires small { from.now.empty.width ≤ 8 }
-    ensures net { IfOk result (λ count. IsNetOfWidth builder.new count 8) }
+    ensures net { IfOk result (λ count. IsNetOfWidth builder.new count sizes.now.count) }
     ensures value { IfOk result (λ count. Always builder.new (λ cycle. cycle.net count.number ≡ joined_count sizes.now (cycle.net held.number) (shown_in cycle from.now))) }
     ensures adds { AddsNets 7 builder.old builder.new }
     ensures full { result ≡ Err NetFault.TooManyNets → 2 ^ 20 < length builder.old.lines + 7 }
 {
-    let wide = widen_empty(builder, from.empty)?;
-    let none = constant(builder, 8, 0)?;
-    let empty = builder.mux(from.last, wide, none)?;
-    let size = constant(builder, 8, sizes.from)?;
+    let fitted = fit_empty(builder, sizes, from.empty)?;
+    let none = constant(builder, sizes.count, 0)?;
+    let empty = builder.mux(from.last, fitted, none)?;
+    let size = constant(builder, sizes.count, sizes.from)?;
     let coming = builder.sub(size, empty)?;
     builder.add(held, coming)
 }
@@ -60,7 +58,7 @@ pub(crate) fn makes_beat(
     count: Net,
     last: Net,
 ) -> Result<Net, NetFault>
-    requires count { IsNetOfWidth builder.old count 8 }
+    requires count { IsNetOfWidth builder.old count sizes.now.count }
     requires last { IsBit builder.old last }
     ensures net { IfOk result (λ whole. IsBit builder.new whole) }
     ensures value { IfOk result (λ whole. Always builder.new (λ cycle. (cycle.net whole.number == 1) ≡ (nat_lt (sizes.now.into - 1) (cycle.net count.number) || (cycle.net last.number == 1)))) }
@@ -68,6 +66,6 @@ pub(crate) fn makes_beat(
     ensures full { result ≡ Err NetFault.TooManyNets → 2 ^ 20 < length builder.old.lines + 3 }
 {
     let most = u32::from(sizes.into - 1);
-    let enough = is_above(builder, count, 8, most)?;
+    let enough = is_above(builder, count, sizes.count, most)?;
     builder.or(enough, last)
 }

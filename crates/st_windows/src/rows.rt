@@ -30,10 +30,10 @@ pub(crate) fn join_row(
 ) -> Result<BeatNets, NetFault>
     requires held { AreBeatNets builder.old held.now }
     requires from { AreBeatNets builder.old from.now }
-    requires held_widths { HaveRowWidths sizes.now.bits sizes.now.held from.now held.now }
+    requires held_widths { HaveRowWidths sizes.now sizes.now.held from.now held.now }
     requires comes { ComesTo sizes.now from.now }
     ensures row { IfOk result (λ made. AreBeatNets builder.new made) }
-    ensures widths { IfOk result (λ made. HaveRowWidths sizes.now.bits sizes.now.into from.now made) }
+    ensures widths { IfOk result (λ made. HaveRowWidths sizes.now sizes.now.into from.now made) }
     ensures value { IfOk result (λ made. Always builder.new (λ cycle. shown_in cycle made ≡ row_joined sizes.now (shown_in cycle held.now) (shown_in cycle from.now))) }
     ensures adds { AddsNets (10 * sizes.now.into + 15) builder.old builder.new }
     ensures full { result ≡ Err NetFault.TooManyNets → 2 ^ 20 < length builder.old.lines + (10 * sizes.now.into + 15) }
@@ -43,7 +43,7 @@ pub(crate) fn join_row(
     let whole = makes_beat(builder, sizes, count, from.last)?;
     let valid = builder.and(from.valid, whole)?;
     let error = builder.or(held.error, from.error)?;
-    let none = constant(builder, 8, 0)?;
+    let none = constant(builder, sizes.count, 0)?;
     let starts = builder.eq(held.empty, none)?;
     let first = builder.mux(starts, from.first, held.first)?;
     Ok(BeatNets {
@@ -65,9 +65,9 @@ pub(crate) fn lone_row(
 ) -> Result<BeatNets, NetFault>
     requires held { AreBeatNets builder.old held.now }
     requires word { held.now.word.width ≡ sizes.now.bits * sizes.now.held }
-    requires empty { held.now.empty.width ≡ 8 }
+    requires empty { held.now.empty.width ≡ sizes.now.count }
     ensures row { IfOk result (λ made. AreBeatNets builder.new made) }
-    ensures widths { IfOk result (λ made. HaveRowWidths sizes.now.bits sizes.now.into held.now made) }
+    ensures widths { IfOk result (λ made. HaveRowWidths sizes.now sizes.now.into held.now made) }
     ensures value { IfOk result (λ made. Always builder.new (λ cycle. shown_in cycle made ≡ row_alone sizes.now (shown_in cycle held.now))) }
     ensures adds { AddsNets 4 builder.old builder.new }
     ensures full { result ≡ Err NetFault.TooManyNets → 2 ^ 20 < length builder.old.lines + 4 }
@@ -90,7 +90,7 @@ pub(crate) fn show_row(
     more: Net,
 ) -> Result<BeatNets, NetFault>
     requires row { AreBeatNets builder.old row.now }
-    requires empty { row.now.empty.width ≡ 8 }
+    requires empty { row.now.empty.width ≡ sizes.now.count }
     requires more { IsBit builder.old more }
     requires is_more { Always builder.old (λ cycle. cycle.net more.number ≡ (if nat_lt sizes.now.into (cycle.net row.now.empty.number) then 1 else 0)) }
     ensures beat { IfOk result (λ made. AreBeatNets builder.new made) }
@@ -101,7 +101,7 @@ pub(crate) fn show_row(
 {
     let low = level(builder, false)?;
     let last = builder.mux(more, low, row.last)?;
-    let size = constant(builder, 8, sizes.into)?;
+    let size = constant(builder, sizes.count, sizes.into)?;
     let empty = builder.sub(size, row.empty)?;
     Ok(BeatNets {
         last,
@@ -121,13 +121,13 @@ fn drop_front(
     error: Net,
 ) -> Result<BeatNets, NetFault>
     requires row { AreBeatNets builder.old row.now }
-    requires empty { row.now.empty.width ≡ 8 }
+    requires empty { row.now.empty.width ≡ sizes.now.count }
     requires more { IsBit builder.old more }
     requires is_more { Always builder.old (λ cycle. cycle.net more.number ≡ (if nat_lt sizes.now.into (cycle.net row.now.empty.number) then 1 else 0)) }
     requires word { IsNetOfWidth builder.old word (sizes.now.bits * sizes.now.held) }
     requires error { IsNetOfWidth builder.old error row.now.error.width }
     ensures rest { IfOk result (λ made. AreBeatNets builder.new made) }
-    ensures widths { IfOk result (λ made. HaveRowWidths sizes.now.bits sizes.now.held row.now made) }
+    ensures widths { IfOk result (λ made. HaveRowWidths sizes.now sizes.now.held row.now made) }
     ensures value { IfOk result (λ made. Always builder.new (λ cycle. shown_in cycle made ≡ shown_left sizes.now (shown_in cycle row.now) (cycle.net word.number) (cycle.net error.number))) }
     ensures adds { AddsNets 8 builder.old builder.new }
     ensures full { result ≡ Err NetFault.TooManyNets → 2 ^ 20 < length builder.old.lines + 8 }
@@ -135,8 +135,8 @@ fn drop_front(
     let error_bits = builder.width(error);
     let low = level(builder, false)?;
     let quiet = constant(builder, error_bits, 0)?;
-    let none = constant(builder, 8, 0)?;
-    let size = constant(builder, 8, sizes.into)?;
+    let none = constant(builder, sizes.count, 0)?;
+    let size = constant(builder, sizes.count, sizes.into)?;
     let left = builder.sub(row.empty, size)?;
     let empty = builder.mux(more, left, none)?;
     let error = builder.mux(more, error, quiet)?;
@@ -165,15 +165,15 @@ pub(crate) fn leave_row(
 ) -> Result<BeatNets, NetFault>
     requires held { AreBeatNets builder.old held.now }
     requires from { AreBeatNets builder.old from.now }
-    requires held_widths { HaveRowWidths sizes.now.bits sizes.now.held from.now held.now }
+    requires held_widths { HaveRowWidths sizes.now sizes.now.held from.now held.now }
     requires comes { ComesTo sizes.now from.now }
     requires alone { IsBit builder.old alone }
     requires row { AreBeatNets builder.old row.now }
-    requires widths { HaveRowWidths sizes.now.bits sizes.now.into from.now row.now }
+    requires widths { HaveRowWidths sizes.now sizes.now.into from.now row.now }
     requires more { IsBit builder.old more }
     requires is_more { Always builder.old (λ cycle. cycle.net more.number ≡ (if nat_lt sizes.now.into (cycle.net row.now.empty.number) then 1 else 0)) }
     ensures rest { IfOk result (λ made. AreBeatNets builder.new made) }
-    ensures widths { IfOk result (λ made. HaveRowWidths sizes.now.bits sizes.now.held row.now made) }
+    ensures widths { IfOk result (λ made. HaveRowWidths sizes.now sizes.now.held row.now made) }
     ensures value { IfOk result (λ made. Always builder.new (λ cycle. shown_in cycle made ≡ shown_left sizes.now (shown_in cycle row.now)
         (if cycle.net alone.number == 1 then cut_of sizes.now.bits sizes.now.held sizes.now.into sizes.now.held (cycle.net held.now.word.number) else chosen_at (cycle.net held.now.empty.number) (rest_at sizes.now.bits sizes.now.from sizes.now.into sizes.now.held (cycle.net from.now.word.number)) (sizes.now.into - 1))
         (if cycle.net alone.number == 1 then cycle.net held.now.error.number else cycle.net from.now.error.number))) }
@@ -194,22 +194,22 @@ pub(crate) fn leave_row(
 pub(crate) fn gather_row(
     builder: &mut Builder,
     sizes: &WindowSizes,
-    joined: &BeatNets,
+    row: &BeatNets,
 ) -> Result<BeatNets, NetFault>
-    requires joined { AreBeatNets builder.old joined.now }
-    requires word { joined.now.word.width ≡ sizes.now.bits * sizes.now.into }
-    requires empty { joined.now.empty.width ≡ 8 }
-    ensures row { IfOk result (λ made. AreBeatNets builder.new made) }
-    ensures widths { IfOk result (λ made. HaveRowWidths sizes.now.bits sizes.now.held joined.now made) }
-    ensures value { IfOk result (λ made. Always builder.new (λ cycle. shown_in cycle made ≡ row_gathered sizes.now (shown_in cycle joined.now))) }
+    requires row { AreBeatNets builder.old row.now }
+    requires word { row.now.word.width ≡ sizes.now.bits * sizes.now.into }
+    requires empty { row.now.empty.width ≡ sizes.now.count }
+    ensures gathered { IfOk result (λ made. AreBeatNets builder.new made) }
+    ensures widths { IfOk result (λ made. HaveRowWidths sizes.now sizes.now.held row.now made) }
+    ensures value { IfOk result (λ made. Always builder.new (λ cycle. shown_in cycle made ≡ row_gathered sizes.now (shown_in cycle row.now))) }
     ensures adds { AddsNets 4 builder.old builder.new }
     ensures full { result ≡ Err NetFault.TooManyNets → 2 ^ 20 < length builder.old.lines + 4 }
 {
-    let word = cut_symbols(builder, sizes.bits, joined.word, sizes.into, 0, sizes.held)?;
+    let word = cut_symbols(builder, sizes.bits, row.word, sizes.into, 0, sizes.held)?;
     let low = level(builder, false)?;
     Ok(BeatNets {
         valid: low,
         word,
-        ..joined.copied()
+        ..row.copied()
     })
 }

@@ -1,7 +1,9 @@
 //! The sizes of the beats on both sides of a window.
 
-ghost use Rattle.std.specs.Prelude.{◌≡◌, ◌+◌, ◌*◌, ◌<◌, ◌≤◌};
+ghost use Rattle.std.specs.Prelude.{◌≡◌, ℕ, ◌+◌, ◌*◌, ◌^◌, ◌<◌, ◌≤◌};
 ghost use Rattle.stream_machines.specs.Windows.{window_hold};
+
+use item_queues::count_bits;
 
 /// How many symbols beats have that come and that go, and how many are held between them at most.
 #[derive(Clone, Copy)]
@@ -14,6 +16,8 @@ pub struct WindowSizes {
     pub bits: u8,
     /// The most symbols that are held.
     pub held: u8,
+    /// The bits of a count of the symbols that are held and come.
+    pub count: u8,
     pub ghost some_from: { 1 ≤ from },
     pub ghost some_into: { 1 ≤ into },
     pub ghost some_bits: { 1 ≤ bits },
@@ -23,6 +27,9 @@ pub struct WindowSizes {
     pub ghost from_fits: { bits * from ≤ 128 },
     pub ghost into_fits: { bits * into ≤ 128 },
     pub ghost held_fits: { bits * held ≤ 128 },
+    pub ghost some_count: { 1 ≤ count },
+    pub ghost few_count: { count ≤ 8 },
+    pub ghost counts: { held + from < 2 ^ count },
 }
 
 impl WindowSizes {
@@ -38,13 +45,16 @@ impl WindowSizes {
         ensures into { result.into ≡ into }
         ensures bits { result.bits ≡ bits }
         ensures held { result.held ≡ window_hold from into }
+        ensures least { (few : ℕ) → 1 ≤ few → window_hold from into + from < 2 ^ few → result.count ≤ few }
     {
         let held = if from <= into { into - 1 } else { from - 1 };
+        let count = count_bits(held + from);
         WindowSizes {
             from,
             into,
             bits,
             held,
+            count,
         }
     }
 }

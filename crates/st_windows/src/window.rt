@@ -10,7 +10,7 @@ ghost use Rattle.net_parts.specs.Growth.{AddsNets};
 ghost use Rattle.stage_core.specs.Beats.{AreBeatNets};
 ghost use Rattle.stage_core.specs.Groups.{shown_in, IsOfBeat};
 ghost use Rattle.st_windows.specs.RowNets.{HaveRowWidths, ComesTo};
-ghost use Rattle.st_windows.specs.Rows.{is_alone, row_joined, row_next, shown_front, row_left, row_gathered};
+ghost use Rattle.st_windows.specs.Rows.{is_alone, row_next, shown_front, row_left, row_gathered};
 ghost use Rattle.st_windows.specs.WindowNets.{IsWindowShape, WindowKeeps, WindowForward, WindowBackward, keeps_lasts, forward_lasts, backward_lasts};
 
 use crate::counts::makes_beat;
@@ -73,12 +73,12 @@ fn like_held(
 ) -> Result<BeatNets, NetFault>
     requires from { AreBeatNets builder.old from.now }
     ensures nets { IfOk result (λ made. AreBeatNets builder.new made) }
-    ensures widths { IfOk result (λ made. HaveRowWidths sizes.now.bits sizes.now.held from.now made) }
+    ensures widths { IfOk result (λ made. HaveRowWidths sizes.now sizes.now.held from.now made) }
     ensures adds { AddsNets 2 builder.old builder.new }
     ensures full { result ≡ Err NetFault.TooManyNets → 2 ^ 20 < length builder.old.lines + 2 }
 {
     let word = constant(builder, sizes.bits * sizes.held, 0)?;
-    let empty = constant(builder, 8, 0)?;
+    let empty = constant(builder, sizes.count, 0)?;
     Ok(BeatNets {
         word,
         empty,
@@ -96,19 +96,19 @@ fn window_rows(
 ) -> Result<WindowRows, NetFault>
     requires held { AreBeatNets builder.old held.now }
     requires from { AreBeatNets builder.old from.now }
-    requires held_widths { HaveRowWidths sizes.now.bits sizes.now.held from.now held.now }
+    requires held_widths { HaveRowWidths sizes.now sizes.now.held from.now held.now }
     requires comes { ComesTo sizes.now from.now }
     ensures alone { IfOk result (λ made. IsBit builder.new made.alone) }
     ensures to { IfOk result (λ made. AreBeatNets builder.new made.to) }
     ensures rest { IfOk result (λ made. AreBeatNets builder.new made.rest) }
     ensures gathered { IfOk result (λ made. AreBeatNets builder.new made.gathered) }
-    ensures to_widths { IfOk result (λ made. HaveRowWidths sizes.now.bits sizes.now.into from.now made.to) }
-    ensures rest_widths { IfOk result (λ made. HaveRowWidths sizes.now.bits sizes.now.held from.now made.rest) }
-    ensures gathered_widths { IfOk result (λ made. HaveRowWidths sizes.now.bits sizes.now.held from.now made.gathered) }
+    ensures to_widths { IfOk result (λ made. HaveRowWidths sizes.now sizes.now.into from.now made.to) }
+    ensures rest_widths { IfOk result (λ made. HaveRowWidths sizes.now sizes.now.held from.now made.rest) }
+    ensures gathered_widths { IfOk result (λ made. HaveRowWidths sizes.now sizes.now.held from.now made.gathered) }
     ensures is_alone { IfOk result (λ made. Always builder.new (λ cycle. (cycle.net made.alone.number == 1) ≡ is_alone sizes.now (shown_in cycle held.now))) }
     ensures shows { IfOk result (λ made. Always builder.new (λ cycle. shown_in cycle made.to ≡ shown_front sizes.now (row_next sizes.now (shown_in cycle held.now) (shown_in cycle from.now)))) }
     ensures leaves { IfOk result (λ made. Always builder.new (λ cycle. shown_in cycle made.rest ≡ row_left sizes.now (shown_in cycle held.now) (shown_in cycle from.now))) }
-    ensures gathers { IfOk result (λ made. Always builder.new (λ cycle. shown_in cycle made.gathered ≡ row_gathered sizes.now (row_joined sizes.now (shown_in cycle held.now) (shown_in cycle from.now)))) }
+    ensures gathers { IfOk result (λ made. Always builder.new (λ cycle. shown_in cycle made.gathered ≡ row_gathered sizes.now (row_next sizes.now (shown_in cycle held.now) (shown_in cycle from.now)))) }
     ensures adds { AddsNets (16 * sizes.now.into + 52) builder.old builder.new }
     ensures full { result ≡ Err NetFault.TooManyNets → 2 ^ 20 < length builder.old.lines + (16 * sizes.now.into + 52) }
 {
@@ -116,10 +116,11 @@ fn window_rows(
     let joined = join_row(builder, sizes, held, from)?;
     let lone = lone_row(builder, sizes, held)?;
     let row = mux_beat(builder, alone, &lone, &joined)?;
-    let more = is_above(builder, row.empty, 8, u32::from(sizes.into))?;
+    let more = is_above(builder, row.empty, sizes.count, u32::from(sizes.into))?;
     let to = show_row(builder, sizes, &row, more)?;
     let rest = leave_row(builder, sizes, held, from, alone, &row, more)?;
-    let gathered = gather_row(builder, sizes, &joined)?;
+    // A beat comes only where what is held makes none alone, so what is gathered then is in this row.
+    let gathered = gather_row(builder, sizes, &row)?;
     Ok(WindowRows {
         alone,
         to,
@@ -156,7 +157,7 @@ impl Stage for Window {
 
     ghost takes = { λ s widths. (widths.word ≡ s.sizes.bits * s.sizes.from) × (widths.empty ≤ 8) };
 
-    ghost gives = { λ s widths. record widths { word = s.sizes.bits * s.sizes.into; empty = 8 } };
+    ghost gives = { λ s widths. record widths { word = s.sizes.bits * s.sizes.into; empty = s.sizes.count } };
 
     ghost forward_nets = { λ s. 16 * s.sizes.into + 61 };
 

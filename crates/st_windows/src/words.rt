@@ -42,12 +42,14 @@ fn lay_front(
 #[tactic(auto, using(net_parts::specs::Laws::growing))]
 fn choose_at(
     builder: &mut Builder,
+    sizes: &WindowSizes,
     held: Net,
     count: u8,
     word: Net,
     other: Net,
 ) -> Result<Net, NetFault>
-    requires held { IsNetOfWidth builder.old held 8 }
+    requires held { IsNetOfWidth builder.old held sizes.now.count }
+    requires few { count < sizes.now.into }
     requires word { IsNet builder.old word }
     requires other { IsNetOfWidth builder.old other word.width }
     ensures net { IfOk result (λ chosen. IsNetOfWidth builder.new chosen word.width) }
@@ -55,7 +57,7 @@ fn choose_at(
     ensures adds { AddsNets 3 builder.old builder.new }
     ensures full { result ≡ Err NetFault.TooManyNets → 2 ^ 20 < length builder.old.lines + 3 }
 {
-    let number = constant(builder, 8, count)?;
+    let number = constant(builder, sizes.count, count)?;
     let here = builder.eq(held, number)?;
     builder.mux(here, word, other)
 }
@@ -71,7 +73,7 @@ pub(crate) fn front_word(
 ) -> Result<Net, NetFault>
     requires held { IsNetOfWidth builder.old held (sizes.now.bits * sizes.now.held) }
     requires coming { IsNetOfWidth builder.old coming (sizes.now.bits * sizes.now.from) }
-    requires count { IsNetOfWidth builder.old count 8 }
+    requires count { IsNetOfWidth builder.old count sizes.now.count }
     ensures net { IfOk result (λ front. IsNetOfWidth builder.new front (sizes.now.bits * sizes.now.into)) }
     ensures value { IfOk result (λ front. Always builder.new (λ cycle. cycle.net front.number ≡ chosen_at (cycle.net count.number) (front_at sizes.now.bits sizes.now.from sizes.now.into sizes.now.held (cycle.net held.number) (cycle.net coming.number)) (sizes.now.into - 1))) }
     ensures adds { AddsNets (10 * sizes.now.into) builder.old builder.new }
@@ -80,7 +82,7 @@ pub(crate) fn front_word(
     let mut front = lay_front(builder, sizes, held, coming, 0)?;
     for most in 1..sizes.into {
         let laid = lay_front(builder, sizes, held, coming, most)?;
-        front = choose_at(builder, count, most, laid, front)?;
+        front = choose_at(builder, sizes, count, most, laid, front)?;
     }
     Ok(front)
 }
@@ -94,7 +96,7 @@ pub(crate) fn rest_word(
     count: Net,
 ) -> Result<Net, NetFault>
     requires coming { IsNetOfWidth builder.old coming (sizes.now.bits * sizes.now.from) }
-    requires count { IsNetOfWidth builder.old count 8 }
+    requires count { IsNetOfWidth builder.old count sizes.now.count }
     ensures net { IfOk result (λ rest. IsNetOfWidth builder.new rest (sizes.now.bits * sizes.now.held)) }
     ensures value { IfOk result (λ rest. Always builder.new (λ cycle. cycle.net rest.number ≡ chosen_at (cycle.net count.number) (rest_at sizes.now.bits sizes.now.from sizes.now.into sizes.now.held (cycle.net coming.number)) (sizes.now.into - 1))) }
     ensures adds { AddsNets (6 * sizes.now.into) builder.old builder.new }
@@ -105,7 +107,7 @@ pub(crate) fn rest_word(
     for most in 1..sizes.into {
         let skipped = sizes.into - most;
         let cut = cut_symbols(builder, bits, coming, sizes.from, skipped, sizes.held)?;
-        rest = choose_at(builder, count, most, cut, rest)?;
+        rest = choose_at(builder, sizes, count, most, cut, rest)?;
     }
     Ok(rest)
 }

@@ -27,18 +27,18 @@ several_more size (suc zero) some several = absurd (omega (arith, several))
 several_more size (suc (suc more)) some several = let spread : size * suc (suc more) ≡ size + size + size * more = omega arith in omega (arith, some, spread)
 
 -- beats are joined only where the sink's symbols don't divide the source's
-joins_where : (resize : Resize) (from into bits : ℕ) → 0 < from → IsResizeOf from into bits resize → IsTrue (joins_beats resize) → from % into ≡ 0 → ⊥
-joins_where Equal from into bits some is joins none = cc
-joins_where (Cut stage) from into bits some is joins none = cc
-joins_where (Join stage) from into bits some is joins none = not_divided from into some (let more = several_more from stage.sizes.parts some stage.sizes.several in let size = is.0 in omega (arith, more, size)) none
-joins_where (Slide stage) from into bits some is joins none = is.0 none
+joins_where : (resize : Resize) (from into bits : ℕ) (packets : Bool) → 0 < from → IsResizeOf from into bits packets resize → IsTrue (joins_beats resize) → from % into ≡ 0 → ⊥
+joins_where Equal from into bits packets some is joins none = cc
+joins_where (Cut stage) from into bits packets some is joins none = cc
+joins_where (Join stage) from into bits packets some is joins none = not_divided from into some (let more = several_more from stage.sizes.parts some stage.sizes.several in let size = is.0 in omega (arith, more, size)) none
+joins_where (Slide stage) from into bits packets some is joins none = is.0 none
 
 -- no beat goes in pieces where the source's symbols divide the sink's
-whole_keeps : (resize : Resize) (from into bits : ℕ) → 0 < into → IsResizeOf from into bits resize → into % from ≡ 0 → IsTrue (keeps_ready resize)
-whole_keeps Equal from into bits some is none = refl
-whole_keeps (Cut stage) from into bits some is none = absurd (not_divided into from some (let more = several_more into stage.sizes.parts some stage.sizes.several in let size = is.0 in omega (arith, more, size)) none)
-whole_keeps (Join stage) from into bits some is none = refl
-whole_keeps (Slide stage) from into bits some is none = absurd (is.1 none)
+whole_keeps : (resize : Resize) (from into bits : ℕ) (packets : Bool) → 0 < into → IsResizeOf from into bits packets resize → into % from ≡ 0 → IsTrue (keeps_ready resize)
+whole_keeps Equal from into bits packets some is none = refl
+whole_keeps (Cut stage) from into bits packets some is none = absurd (not_divided into from some (let more = several_more into stage.sizes.parts some stage.sizes.several in let size = is.0 in omega (arith, more, size)) none)
+whole_keeps (Join stage) from into bits packets some is none = refl
+whole_keeps (Slide stage) from into bits packets some is none = absurd (is.1 none)
 
 -- the numbers of what changes the symbols of a beat
 abbrev pub resize_bounds : Declared → Declared → Bounds
@@ -61,7 +61,7 @@ module _ (from : StreamPort) (to : StreamPort) (format : Stages) (join : CanJoin
     where
       by_port : (bits : ℕ) → from.channel_bits ≡ bits → joined_channel source sink ≡ 0
       by_port zero none = (let few = join.source_fits.channels in let small : from.max_channel < 2 ^ 0 = subst (λ n. from.max_channel < 2 ^ n) none few in omega (arith, small))
-      by_port (suc bits) some = absurd (joins_where format.second from.symbols to.symbols from.symbol_bits join.source_fits.some is.resize joins (join.channels (omega (arith, some))))
+      by_port (suc bits) some = absurd (joins_where format.second from.symbols to.symbols from.symbol_bits from.packets join.source_fits.some is.resize joins (join.channels (omega (arith, some))))
 
   side_is : IsSideOf from format (with_errors source sink)
   side_is = record {
@@ -70,6 +70,7 @@ module _ (from : StreamPort) (to : StreamPort) (format : Stages) (join : CanJoin
     first_high = refl;
     latency = refl;
     allowance = refl;
+    packets = refl;
     channels = λ joins packets. one_channel joins;
   }
 
@@ -77,7 +78,7 @@ module _ (from : StreamPort) (to : StreamPort) (format : Stages) (join : CanJoin
   all_pass = joined_all source sink (with_errors source sink) refl
 
   whole_beats : TakesWhole source sink → IsTrue (keeps_ready format.second)
-  whole_beats whole = whole_keeps format.second from.symbols to.symbols from.symbol_bits join.sink_fits.some is.resize whole.whole
+  whole_beats whole = whole_keeps format.second from.symbols to.symbols from.symbol_bits from.packets join.sink_fits.some is.resize whole.whole
 
   pub order_part : ((passes : ℕ → Bool) (side : Side) → IsSideOf from format side → PassesAll passes side → Orders format.first passes side (turned from to side))
       → LeadsOn source sink (with_errors source sink) between still (front_has format.first.first.stage format.first.second.stage) (front_passes format.first.first.stage format.first.second.stage)

@@ -1,4 +1,4 @@
-use Rattle.std.proofs.Common.{◌≡◌, ◌+◌, ◌*◌, nat_lt, if◌then◌else◌, ◌∙◌, arith, sym}
+use Rattle.std.proofs.Common.{◌≡◌, ◌+◌, ◌*◌, nat_lt, if◌then◌else◌, ◌∙◌, arith}
 use Rattle.netlist.specs.Runs.{Always}
 use Rattle.net_parts.specs.Nets.{IsNetOfWidth}
 use Rattle.net_parts.specs.Laws.{extends_twice, grows_once, adds_twice, adds_fewer, if_ok}
@@ -52,10 +52,10 @@ pub less-requires-clause-a_is : goal.less-requires-clause-a_is
 less-requires-clause-a_is c = c.in_ok-number.ensures.net.is_net
 
 pub less-requires-clause-b_is : goal.less-requires-clause-b_is
-less-requires-clause-b_is c = c.constant.ensures.adds.grows.extends.nets _ _ c.requires.empty.is_net
+less-requires-clause-b_is c = c.constant.ensures.adds.grows.extends.nets _ _ c.requires.empty
 
 pub less-requires-clause-widths : goal.less-requires-clause-widths
-less-requires-clause-widths c = c.in_ok-number.ensures.net.has_width ∙ sym c.requires.empty.has_width
+less-requires-clause-widths c = c.in_ok-number.ensures.net.has_width ∙ c.width-width.ensures.value
 
 pub clear_low-requires-clause-word : goal.clear_low-requires-clause-word
 clear_low-requires-clause-word c = (extends_twice _ _ _ c.constant.ensures.adds.grows.extends c.less.ensures.extends).nets _ _ c.requires.word

@@ -35,7 +35,7 @@ returns-clause-value c cycle v4 =
     let v0 = c.rest_word.ensures.adds.grows.extends.valuations cycle v1 in
     rest_shown c.args.sizes.now (shown_in cycle c.copied.result) (shown_in cycle c.args.beat.now) (cycle.net c.args.more.number) _ _ _ (ap (shown_in cycle) c.copied.ensures) (bit_fits _ _ c.requires.more cycle v0) (c.requires.follows cycle v0)
     (c.in_ok-word.ensures.value cycle v1) (c.in_ok-first.ensures.value cycle v2)
-    ((c.in_ok-empty.ensures.value cycle v4).1 ∙ ap (λ w. (cycle.net c.args.beat.now.empty.number + cycle.net c.in_ok-gone.gone.number) % 2 ^ w) c.requires.empty ∙ ap (λ n. (cycle.net c.args.beat.now.empty.number + n) % 2 ^ 8) (c.in_ok-gone.ensures.value cycle v3))
+    ((c.in_ok-empty.ensures.value cycle v4).1 ∙ ap (λ w. (cycle.net c.args.beat.now.empty.number + cycle.net c.in_ok-gone.gone.number) % 2 ^ w) c.requires.empty ∙ ap (λ n. (cycle.net c.args.beat.now.empty.number + n) % 2 ^ c.args.sizes.now.count) (c.in_ok-gone.ensures.value cycle v3))
 
 pub returns-clause-adds : goal.returns-clause-adds
 returns-clause-adds c = adds_fewer _ _ _ _ (omega arith) (adds_twice _ _ _ _ _ (adds_twice _ _ _ _ _ (adds_twice _ _ _ _ _ c.rest_word.ensures.adds c.constant.ensures.adds) c.constant-2.ensures.adds) (grows_once _ _ c.add.ensures.extends c.add.ensures.grows))

@@ -16,7 +16,7 @@ returns-clause-value c =
     let v2 = c.constant-2.ensures.adds.grows.extends.valuations cycle v3 in
     let v1 = c.sub.ensures.extends.valuations cycle v2 in
     let v0 = c.constant.ensures.adds.grows.extends.valuations cycle v1 in
-    left_where c.args.empty.width (cycle.net c.args.more.number) (cycle.net c.args.empty.number) _ _ _ (cycle.net left.number) _ c.requires.empty.has_width (valued_fits _ cycle v0 _ _ c.requires.empty.is_net) (bit_fits _ _ c.requires.more cycle v0) (c.requires.follows cycle v0)
+    left_where c.args.empty.width (cycle.net c.args.more.number) (cycle.net c.args.empty.number) _ _ _ (cycle.net left.number) _ (valued_fits _ cycle v0 _ _ c.requires.empty.is_net) (bit_fits _ _ c.requires.more cycle v0) (c.requires.follows cycle v0)
     (c.in_ok-behind.ensures.value cycle v1 ∙ c.rest_symbols.ensures.value) (c.in_ok-left.ensures.value cycle v2).1 (c.in_ok-none.ensures.value cycle v3) (value cycle v4).1))
     c.mux.ensures.value
 

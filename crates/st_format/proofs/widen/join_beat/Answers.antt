@@ -49,7 +49,7 @@ returns-clause-value c cycle v6 =
     let v0 = c.join_word.ensures.adds.grows.extends.valuations cycle v1 in
     let full = c.in_ok-full.ensures.value cycle v3 in
     let gated = high_and (cycle.net c.args.from.now.valid.number) (cycle.net c.in_ok-full.full.number) (cycle.net c.in_ok-valid.valid.number) (bit_fits _ _ c.requires.from.valid cycle v0) (bit_fits _ _ c.in_ok-full.ensures.net cycle v3) (c.in_ok-valid.ensures.value cycle v4).1 in
-    joined_shown c.args.sizes.now (shown_in cycle c.copied.result) (shown_in cycle c.args.held.now) (shown_in cycle c.args.from.now) _ _ _ _ _ (ap (shown_in cycle) c.copied.ensures)
+    joined_shown c.args.stage.now (shown_in cycle c.copied.result) (shown_in cycle c.args.held.now) (shown_in cycle c.args.from.now) _ _ _ _ _ (ap (shown_in cycle) c.copied.ensures)
     (bit_fits _ _ (record { is_net = c.in_ok-valid.ensures.net.0; has_width = c.in_ok-valid.ensures.net.1 ∙ c.requires.from.valid.has_width }) cycle v4)
     (gated ∙ ap (λ t. (cycle.net c.args.from.now.valid.number == 1) && t) full) (c.in_ok-word.ensures.value cycle v1) (c.in_ok-error.ensures.value cycle v5).1
     ((c.in_ok-first.ensures.value cycle v6).1 ∙ chosen_high (cycle.net c.args.held.now.valid.number) _ _ (bit_fits _ _ c.requires.held.valid cycle v0)) (c.in_ok-empty.ensures.value cycle v2)
@@ -230,9 +230,6 @@ join_empty-requires-clause-gathered c = net_lasts _ _ _ _ c.join_word.ensures.ad
 
 pub join_empty-requires-clause-empty : goal.join_empty-requires-clause-empty
 join_empty-requires-clause-empty c = c.join_word.ensures.adds.grows.extends.nets _ _ c.requires.from.empty
-
-pub join_empty-requires-clause-small : goal.join_empty-requires-clause-small
-join_empty-requires-clause-small c = c.requires.from_empty
 
 pub fills_up-requires-clause-gathered : goal.fills_up-requires-clause-gathered
 fills_up-requires-clause-gathered c = net_lasts _ _ _ _ (extends_twice _ _ _ c.join_word.ensures.adds.grows.extends c.join_empty.ensures.adds.grows.extends) (record { is_net = c.requires.held.empty; has_width = c.requires.held_empty })

@@ -15,11 +15,11 @@ returns-clause-value c =
     let v3 = c.constant-2.ensures.adds.grows.extends.valuations cycle v4 in
     let v2 = c.mux.ensures.extends.valuations cycle v3 in
     let v1 = c.constant.ensures.adds.grows.extends.valuations cycle v2 in
-    let v0 = c.widen_empty.ensures.adds.grows.extends.valuations cycle v1 in
-    count_is _ _ (cycle.net c.args.held.number) (cycle.net c.args.from.now.last.number) _ _ _ _ _ _ (cycle.net c.args.from.now.empty.number) c.args.sizes.now.from
-    c.requires.held.has_width c.in_ok-size.ensures.net.has_width (bit_fits _ _ c.requires.from.last cycle v0) (c.in_ok-wide.ensures.value cycle v1) (c.in_ok-none.ensures.value cycle v2) (c.in_ok-empty.ensures.value cycle v3).1
+    let v0 = c.fit_empty.ensures.adds.grows.extends.valuations cycle v1 in
+    count_is c.args.sizes.now.count _ _ (cycle.net c.args.held.number) (cycle.net c.args.from.now.last.number) _ _ _ _ _ _ (cycle.net c.args.from.now.empty.number) c.args.sizes.now.from
+    c.requires.held.has_width c.in_ok-size.ensures.net.has_width (bit_fits _ _ c.requires.from.last cycle v0) (c.in_ok-fitted.ensures.value cycle v1) (c.in_ok-none.ensures.value cycle v2) (c.in_ok-empty.ensures.value cycle v3).1
     (c.in_ok-size.ensures.value cycle v4) (c.in_ok-coming.ensures.value cycle v5).1 (value cycle v6).1))
     c.add.ensures.value
 
 pub returns-clause-adds : goal.returns-clause-adds
-returns-clause-adds c = adds_fewer _ _ _ _ (omega arith) (adds_twice _ _ _ _ _ (adds_twice _ _ _ _ _ (adds_twice _ _ _ _ _ (adds_twice _ _ _ _ _ (adds_twice _ _ _ _ _ c.widen_empty.ensures.adds c.constant.ensures.adds) (grows_once _ _ c.mux.ensures.extends c.mux.ensures.grows)) c.constant-2.ensures.adds) (grows_once _ _ c.sub.ensures.extends c.sub.ensures.grows)) (grows_once _ _ c.add.ensures.extends c.add.ensures.grows))
+returns-clause-adds c = adds_fewer _ _ _ _ (omega arith) (adds_twice _ _ _ _ _ (adds_twice _ _ _ _ _ (adds_twice _ _ _ _ _ (adds_twice _ _ _ _ _ (adds_twice _ _ _ _ _ c.fit_empty.ensures.adds c.constant.ensures.adds) (grows_once _ _ c.mux.ensures.extends c.mux.ensures.grows)) c.constant-2.ensures.adds) (grows_once _ _ c.sub.ensures.extends c.sub.ensures.grows)) (grows_once _ _ c.add.ensures.extends c.add.ensures.grows))

@@ -8,9 +8,9 @@ use Rattle.stage_core.specs.Lasting.{beat_lasts}
 use Rattle.st_windows.proofs.CountNets.{worded_shown}
 use Rattle.st_windows.proofs.rows.gather_row.Goals as goal
 
-pub returns-clause-row : goal.returns-clause-row
-returns-clause-row c =
-    let base = subst (AreBeatNets c.level.new.builder) (sym c.copied.ensures) (beat_lasts _ _ _ (extends_twice _ _ _ c.cut_symbols.ensures.adds.grows.extends c.level.ensures.adds.grows.extends) c.requires.joined) in
+pub returns-clause-gathered : goal.returns-clause-gathered
+returns-clause-gathered c =
+    let base = subst (AreBeatNets c.level.new.builder) (sym c.copied.ensures) (beat_lasts _ _ _ (extends_twice _ _ _ c.cut_symbols.ensures.adds.grows.extends c.level.ensures.adds.grows.extends) c.requires.row) in
     record { valid = c.in_ok-low.ensures.net; word = c.level.ensures.adds.grows.extends.nets _ _ c.in_ok-word.ensures.net.is_net; channel = base.channel; error = base.error; first = base.first; last = base.last; empty = base.empty }
 
 pub returns-clause-widths : goal.returns-clause-widths
@@ -25,7 +25,7 @@ returns-clause-widths c =
 pub returns-clause-value : goal.returns-clause-value
 returns-clause-value c cycle v2 =
     let v1 = c.level.ensures.adds.grows.extends.valuations cycle v2 in
-    worded_shown (shown_in cycle c.copied.result) (shown_in cycle c.args.joined.now) _ 0 _ _ (ap (shown_in cycle) c.copied.ensures) (c.in_ok-low.ensures.value cycle v2) (c.in_ok-word.ensures.value cycle v1)
+    worded_shown (shown_in cycle c.copied.result) (shown_in cycle c.args.row.now) _ 0 _ _ (ap (shown_in cycle) c.copied.ensures) (c.in_ok-low.ensures.value cycle v2) (c.in_ok-word.ensures.value cycle v1)
 
 pub returns-in_err-word-clause-adds : goal.returns-in_err-word-clause-adds
 returns-in_err-word-clause-adds c = adds_fewer _ _ _ _ (omega arith) c.cut_symbols.ensures.adds
@@ -46,4 +46,4 @@ pub returns-clause-full : goal.returns-clause-full
 returns-clause-full c e = cc
 
 pub cut_symbols-requires-clause-word : goal.cut_symbols-requires-clause-word
-cut_symbols-requires-clause-word c = record { is_net = c.requires.joined.word; has_width = c.requires.word }
+cut_symbols-requires-clause-word c = record { is_net = c.requires.row.word; has_width = c.requires.word }

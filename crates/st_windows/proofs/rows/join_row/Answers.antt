@@ -116,9 +116,6 @@ count_joined-requires-clause-held c = record { is_net = c.front_word.ensures.add
 pub count_joined-requires-clause-from : goal.count_joined-requires-clause-from
 count_joined-requires-clause-from c = beat_lasts _ _ _ c.front_word.ensures.adds.grows.extends c.requires.from
 
-pub count_joined-requires-clause-small : goal.count_joined-requires-clause-small
-count_joined-requires-clause-small c = c.requires.comes.empty
-
 pub makes_beat-requires-clause-last : goal.makes_beat-requires-clause-last
 makes_beat-requires-clause-last c = net_lasts _ _ _ _ (extends_twice _ _ _ c.front_word.ensures.adds.grows.extends c.count_joined.ensures.adds.grows.extends) c.requires.from.last
 

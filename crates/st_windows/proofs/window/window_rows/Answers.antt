@@ -78,14 +78,14 @@ leave_row-requires-clause-more c = net_lasts _ _ _ _ c.show_row.ensures.adds.gro
 pub leave_row-requires-clause-is_more : goal.leave_row-requires-clause-is_more
 leave_row-requires-clause-is_more c cycle v = c.in_ok-more.ensures.value cycle (c.show_row.ensures.adds.grows.extends.valuations cycle v) ∙ ap (λ n. if nat_lt n (cycle.net c.in_ok-row.row.empty.number) then 1 else 0) c.from.ensures
 
-pub gather_row-requires-clause-joined : goal.gather_row-requires-clause-joined
-gather_row-requires-clause-joined c = beat_lasts _ _ _ (extends_twice _ _ _ c.lone_row.ensures.adds.grows.extends (extends_twice _ _ _ c.mux_beat.ensures.adds.grows.extends (extends_twice _ _ _ c.is_above.ensures.adds.grows.extends (extends_twice _ _ _ c.show_row.ensures.adds.grows.extends c.leave_row.ensures.adds.grows.extends)))) c.in_ok-joined.ensures.row
+pub gather_row-requires-clause-row : goal.gather_row-requires-clause-row
+gather_row-requires-clause-row c = beat_lasts _ _ _ (extends_twice _ _ _ c.is_above.ensures.adds.grows.extends (extends_twice _ _ _ c.show_row.ensures.adds.grows.extends c.leave_row.ensures.adds.grows.extends)) c.in_ok-row.ensures.beat
 
 pub gather_row-requires-clause-word : goal.gather_row-requires-clause-word
-gather_row-requires-clause-word c = c.in_ok-joined.ensures.widths.word
+gather_row-requires-clause-word c = (widths_as _ _ _ _ _ c.in_ok-row.ensures.widths (widths_through _ _ _ _ _ _ c.in_ok-lone.ensures.widths c.requires.held_widths)).word
 
 pub gather_row-requires-clause-empty : goal.gather_row-requires-clause-empty
-gather_row-requires-clause-empty c = c.in_ok-joined.ensures.widths.empty
+gather_row-requires-clause-empty c = (widths_as _ _ _ _ _ c.in_ok-row.ensures.widths (widths_through _ _ _ _ _ _ c.in_ok-lone.ensures.widths c.requires.held_widths)).empty
 
 pub returns-clause-alone : goal.returns-clause-alone
 returns-clause-alone c = net_lasts _ _ _ _ (extends_twice _ _ _ c.join_row.ensures.adds.grows.extends (extends_twice _ _ _ c.lone_row.ensures.adds.grows.extends (extends_twice _ _ _ c.mux_beat.ensures.adds.grows.extends (extends_twice _ _ _ c.is_above.ensures.adds.grows.extends (extends_twice _ _ _ c.show_row.ensures.adds.grows.extends (extends_twice _ _ _ c.leave_row.ensures.adds.grows.extends c.gather_row.ensures.adds.grows.extends)))))) c.in_ok-alone.ensures.net
@@ -97,7 +97,7 @@ pub returns-clause-rest : goal.returns-clause-rest
 returns-clause-rest c = beat_lasts _ _ _ c.gather_row.ensures.adds.grows.extends c.in_ok-rest.ensures.rest
 
 pub returns-clause-gathered : goal.returns-clause-gathered
-returns-clause-gathered c = c.in_ok-gathered.ensures.row
+returns-clause-gathered c = c.in_ok-gathered.ensures.gathered
 
 pub returns-clause-to_widths : goal.returns-clause-to_widths
 returns-clause-to_widths c = widths_as _ _ _ _ _ c.in_ok-to.ensures.widths (widths_as _ _ _ _ _ c.in_ok-row.ensures.widths (widths_through _ _ _ _ _ _ c.in_ok-lone.ensures.widths c.requires.held_widths))
@@ -106,7 +106,7 @@ pub returns-clause-rest_widths : goal.returns-clause-rest_widths
 returns-clause-rest_widths c = widths_through _ _ _ _ _ _ c.in_ok-rest.ensures.widths (widths_as _ _ _ _ _ c.in_ok-row.ensures.widths (widths_through _ _ _ _ _ _ c.in_ok-lone.ensures.widths c.requires.held_widths))
 
 pub returns-clause-gathered_widths : goal.returns-clause-gathered_widths
-returns-clause-gathered_widths c = widths_through _ _ _ _ _ _ c.in_ok-gathered.ensures.widths c.in_ok-joined.ensures.widths
+returns-clause-gathered_widths c = widths_through _ _ _ _ _ _ c.in_ok-gathered.ensures.widths (widths_as _ _ _ _ _ c.in_ok-row.ensures.widths (widths_through _ _ _ _ _ _ c.in_ok-lone.ensures.widths c.requires.held_widths))
 
 pub returns-clause-is_alone : goal.returns-clause-is_alone
 returns-clause-is_alone c cycle v = c.in_ok-alone.ensures.value cycle ((extends_twice _ _ _ c.join_row.ensures.adds.grows.extends (extends_twice _ _ _ c.lone_row.ensures.adds.grows.extends (extends_twice _ _ _ c.mux_beat.ensures.adds.grows.extends (extends_twice _ _ _ c.is_above.ensures.adds.grows.extends (extends_twice _ _ _ c.show_row.ensures.adds.grows.extends (extends_twice _ _ _ c.leave_row.ensures.adds.grows.extends c.gather_row.ensures.adds.grows.extends)))))).valuations cycle v)
@@ -144,7 +144,9 @@ returns-clause-gathers c cycle v8 =
     let v4 = c.is_above.ensures.adds.grows.extends.valuations cycle v5 in
     let v3 = c.mux_beat.ensures.adds.grows.extends.valuations cycle v4 in
     let v2 = c.lone_row.ensures.adds.grows.extends.valuations cycle v3 in
-    c.in_ok-gathered.ensures.value cycle v8 ∙ ap (row_gathered c.args.sizes.now) (c.in_ok-joined.ensures.value cycle v2)
+    let v1 = c.join_row.ensures.adds.grows.extends.valuations cycle v2 in
+    let row = next_shown c.args.sizes.now (cycle.net c.in_ok-alone.alone.number) (shown_in cycle c.in_ok-row.row) (shown_in cycle c.in_ok-lone.lone) (shown_in cycle c.in_ok-joined.joined) (shown_in cycle c.args.held.now) (shown_in cycle c.args.from.now) (c.in_ok-alone.ensures.value cycle v1) (c.in_ok-row.ensures.value cycle v4) (c.in_ok-lone.ensures.value cycle v3) (c.in_ok-joined.ensures.value cycle v2) in
+    c.in_ok-gathered.ensures.value cycle v8 ∙ ap (row_gathered c.args.sizes.now) row
 
 pub returns-in_err-alone-clause-adds : goal.returns-in_err-alone-clause-adds
 returns-in_err-alone-clause-adds c = adds_fewer _ _ _ _ (omega arith) c.makes_beat.ensures.adds

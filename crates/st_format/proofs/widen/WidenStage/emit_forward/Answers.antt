@@ -3,7 +3,7 @@ use Rattle.net_parts.specs.Laws.{valued_fits, net_lasts, extends_twice, adds_gro
 use Rattle.stage_core.specs.Groups.{shown_in}
 use Rattle.stage_core.specs.Lasting.{beat_lasts, registers_last}
 use Rattle.stage_core.specs.BeatLaws.{widths_turned, widths_twice, numbered_here}
-use Rattle.st_format.proofs.WidenLemmas.{filled_shown, fits_more}
+use Rattle.st_format.proofs.WidenLemmas.{filled_shown}
 use Rattle.stage_core.specs.Refusing.{handed_on}
 use Rattle.st_format.proofs.widen.WidenStage.emit_forward.Goals as goal
 
@@ -60,7 +60,7 @@ returns-clause-made c =
       numbers = numbered_here _ _ c.in_ok-held.ensures.registers.numbers;
       starts = λ run cycles r. c.in_ok-held.ensures.starts run cycles (later.runs run cycles r);
       word_fits = λ cycle v. subst (λ w. cycle.net c.args.from.word.number < 2 ^ w) c.requires.widths.0 (valued_fits _ cycle (whole.valuations cycle v) _ _ c.requires.from.word);
-      empty_fits = λ cycle v. fits_more _ c.args.from.empty.width 8 c.requires.widths.1 (valued_fits _ cycle (whole.valuations cycle v) _ _ c.requires.from.empty);
+      held_fits = λ cycle v. subst (λ w. cycle.net c.in_ok-held.held.word.number < 2 ^ w) (c.in_ok-held.ensures.widths.word ∙ c.in_ok-none.ensures.word) (valued_fits _ cycle (later.valuations cycle v) _ _ c.in_ok-held.ensures.beat.word);
       shows = λ cycle v. c.in_ok-to.ensures.value cycle (c.gather_more.ensures.adds.grows.extends.valuations cycle v);
       fills = λ cycle v4. (
           let v3 = c.gather_more.ensures.adds.grows.extends.valuations cycle v4 in
@@ -69,7 +69,7 @@ returns-clause-made c =
           let v0 = c.gather_none.ensures.adds.grows.extends.valuations cycle v1 in
           let none = c.in_ok-none.ensures.value cycle v1 in
           let joined = c.in_ok-to.ensures.value cycle v3 in
-          c.in_ok-filled.ensures.value cycle v4 ∙ filled_shown c.args.self.now.sizes (shown_in cycle c.in_ok-held.held) (shown_in cycle c.args.from) (shown_in cycle c.in_ok-to.to) (shown_in cycle c.in_ok-none.none) joined none);
+          c.in_ok-filled.ensures.value cycle v4 ∙ filled_shown c.args.self.now (shown_in cycle c.in_ok-held.held) (shown_in cycle c.args.from) (shown_in cycle c.in_ok-to.to) (shown_in cycle c.in_ok-none.none) joined none);
       empties = λ cycle v. c.in_ok-none.ensures.value cycle ((extends_twice _ _ _ c.reg_beat.ensures.grows.extends (extends_twice _ _ _ c.join_beat.ensures.adds.grows.extends c.gather_more.ensures.adds.grows.extends)).valuations cycle v);
     }
 

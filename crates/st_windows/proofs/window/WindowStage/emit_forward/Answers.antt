@@ -16,7 +16,7 @@ pub window_rows-requires-clause-held_widths : goal.window_rows-requires-clause-h
 window_rows-requires-clause-held_widths c = (widths_as _ _ _ _ _ c.in_ok-held.ensures.widths c.in_ok-like.ensures.widths)
 
 pub window_rows-requires-clause-comes : goal.window_rows-requires-clause-comes
-window_rows-requires-clause-comes c = record { word = c.requires.widths.0; empty = c.requires.widths.1 }
+window_rows-requires-clause-comes c = record { word = c.requires.widths.0 }
 
 pub returns-clause-beat : goal.returns-clause-beat
 returns-clause-beat c = c.in_ok-rows.ensures.to
