@@ -1,13 +1,14 @@
 -- Where the empty symbols of wide beats are 0, those of their parts are.
-use Rattle.std.proofs.Common.{◌≡◌, ℕ, zero, suc, ◌+◌, ◌-◌, ◌*◌, ◌/◌, ◌%◌, ◌^◌, ◌<◌, ◌≤◌, Bool, true, false, ◌&&◌, ◌==◌, if◌then◌else◌, IsTrue, refl, sym, subst, ap, ◌∙◌, arith, ◌⊎◌, inl, inr}
+use Rattle.std.proofs.Common.{◌≡◌, ℕ, zero, suc, ◌+◌, ◌-◌, ◌*◌, ◌/◌, ◌%◌, ◌^◌, ◌<◌, ◌≤◌, Bool, true, false, not, ◌&&◌, ◌==◌, if◌then◌else◌, IsTrue, List, [], ◌∷◌, drop, refl, sym, subst, ap, ◌∙◌, arith, ◌⊎◌, inl, inr}
 use Rattle.std.proofs.lemmas.Bool.{ltb-false, cases_lt, and_parts}
 use Rattle.std.proofs.Math.Nat.{mod-le}
 use Rattle.netlist.specs.Nets.{NetValue}
 use Rattle.netlist.specs.Netlists.{Netlist}
-use Rattle.netlist.specs.Runs.{Run, cycle_of, IsEndlessRun, IsValuation}
-use Rattle.stream_runs.specs.View.{Side, Beat}
+use Rattle.netlist.specs.Runs.{Run, cycle_of, IsEndlessRun}
+use Rattle.stream_runs.specs.View.{EndView, Side, Beat}
 use Rattle.stream_runs.specs.Symbols.{symbol_count, value_of}
 use Rattle.stream_machines.specs.Stage.{Shape}
+use Rattle.stream_machines.specs.Parts.{is_none, pieces_now}
 use Rattle.stream_machines.specs.Line.{of_symbols}
 use Rattle.stream_machines.specs.Words.{HasClearEmpty}
 use Rattle.stage_core.specs.declared.beat.BeatNets.{BeatNets}
@@ -16,11 +17,11 @@ use Rattle.stage_core.specs.Groups.{Shown, shown_in}
 use Rattle.st_format.specs.declared.sizes.Sizes.{Sizes}
 use Rattle.st_format.specs.declared.narrow.NarrowKept.{NarrowKept}
 use Rattle.st_format.specs.Counted.{counted, counted_beat}
-use Rattle.st_format.specs.NarrowNets.{IsNarrowShape, NarrowForward, NarrowBackward, has_more, piece_of, rest_of, shown_now}
+use Rattle.st_format.specs.NarrowNets.{IsNarrowShape, NarrowForward, NarrowBackward, has_more, piece_of, rest_of, shown_piece, laid_above, shown_now}
 use Rattle.stream_machines.specs.Words.{ShowsClear}
-use Rattle.st_format.proofs.PartsLemmas.{parts_sum, rest_empty}
+use Rattle.st_format.proofs.NarrowLaw.{left_of, parts_of, none_left, shown, to_send as to_send_is, goes, moved}
+use Rattle.st_format.proofs.PartsLemmas.{split, split_some, parts_sum, rest_empty}
 use Rattle.st_format.proofs.SymbolLemmas.{cut_symbol, shifted_symbol, shifted_none, high_value}
-use Rattle.st_format.proofs.WidenLaw.{one_if}
 
 abbrev pub PartsFit : Type 0
 PartsFit = (word bits size part place : ℕ) → place < size → word / 2 ^ (bits * (size * part)) % 2 ^ (bits * size) / 2 ^ (bits * place) % 2 ^ bits ≡ word / 2 ^ (bits * (size * part + place)) % 2 ^ bits
@@ -94,50 +95,86 @@ counted_clear count side x clear k from below = clear k (by_last (x.last == 1) f
     by_last true h = let less = mod-le x.empty (2 ^ count) in omega (arith, h, less)
     by_last false h = h
 
-module _ (sizes : Sizes) (side : Side) (symbols_are : side.symbols ≡ sizes.symbols * sizes.parts) (bits_are : side.symbol_bits ≡ sizes.bits) (high : side.first_high ≡ true)
-    (from to : BeatNets) (kept : NarrowKept) (ready up : NetValue) (netlist : Netlist) (run : Run) (f : NarrowForward sizes from to kept netlist) (b : NarrowBackward kept ready up netlist) (endless : IsEndlessRun netlist run) where
-  valued : (c : ℕ) → IsValuation netlist (cycle_of run c)
-  valued c = (endless (c + 1)).valuations c (omega arith)
+-- in each of these beats the empty symbols are 0
+abbrev AreClear : Side → List Beat → Type 0
+AreClear side [] = Unit {0}
+AreClear side (x ∷ xs) = HasClearEmpty side x × AreClear side xs
 
+fewer_clear : (side : Side) (xs : List Beat) → AreClear side xs → AreClear side (drop 1 xs)
+fewer_clear side [] clear = tt
+fewer_clear side (x ∷ xs) clear = clear.1
+
+-- those to be sent are those that are left, or those of the beat that is shown
+pieces_clear : (side : Side) (p : Beat → List Beat) (up : EndView) (xs : List Beat) (c : ℕ) → AreClear side xs →
+    (is_none xs ≡ true → AreClear side (p (record { word = up.word c; channel = up.channel c; error = up.error c; first = up.first c; last = up.last c; empty = up.empty c }))) → AreClear side (pieces_now p up xs c)
+pieces_clear side p up [] c clear coming = coming refl
+pieces_clear side p up (x ∷ xs) c clear coming = clear
+
+split_clear : (sizes : Sizes) (side : Side) → side.symbols ≡ sizes.symbols * sizes.parts → side.symbol_bits ≡ sizes.bits → side.first_high ≡ true → PartsFit → (k : ℕ) (x : Beat) → HasClearEmpty side x → AreClear (of_symbols side sizes.symbols) (split sizes k x)
+split_clear sizes side symbols_are bits_are high fit zero x clear = tt
+split_clear sizes side symbols_are bits_are high fit (suc k) x clear =
+    (piece_clear sizes side symbols_are bits_are high fit x clear, by_more (has_more sizes x) refl (split_clear sizes side symbols_are bits_are high fit k (rest_of sizes x)))
+  where
+    by_more : (t : Bool) → has_more sizes x ≡ t → (HasClearEmpty side (rest_of sizes x) → AreClear (of_symbols side sizes.symbols) (split sizes k (rest_of sizes x))) →
+        AreClear (of_symbols side sizes.symbols) (if t then split sizes k (rest_of sizes x) else [])
+    by_more true more later = later (rest_clear sizes side symbols_are bits_are high x more clear)
+    by_more false more later = tt
+
+module _ (sizes : Sizes) (side : Side) (symbols_are : side.symbols ≡ sizes.symbols * sizes.parts) (bits_are : side.symbol_bits ≡ sizes.bits) (high : side.first_high ≡ true) (fit : PartsFit) (direct : side.pace.latency ≡ 0)
+    (from to : BeatNets) (kept : NarrowKept) (ready up : NetValue) (netlist : Netlist) (run : Run) (f : NarrowForward sizes from to kept netlist) (b : NarrowBackward kept ready up netlist) (endless : IsEndlessRun netlist run) where
   abbrev now : ℕ → Shown
   now c = shown_now sizes (cycle_of run c) kept.held from
 
-  -- where a beat is shown, its empty symbols are 0
-  abbrev IsClear : Shown → Type 0
-  IsClear shown = IsTrue (shown.valid == 1) → HasClearEmpty side shown.beat
+  abbrev left : ℕ → List Beat
+  left c = left_of sizes (shown_in (cycle_of run c) kept.held)
 
-  now_clear : (c : ℕ) → IsClear (shown_in (cycle_of run c) kept.held) → IsClear (shown_in (cycle_of run c) from) → IsClear (now c)
-  now_clear c held coming = by_held (run.net c kept.held.valid.number == 1) refl
+  abbrev to_send : ℕ → List Beat
+  to_send c = pieces_now (parts_of sizes) (view_of run from up) (left c) c
+
+  abbrev AllClear : List Beat → Type 0
+  AllClear = AreClear (of_symbols side sizes.symbols)
+
+  -- a beat that is shown has clear empty symbols
+  abbrev ComesClear : ℕ → Type 0
+  ComesClear c = IsTrue (run.net c from.valid.number == 1) → HasClearEmpty side (beat_in (cycle_of run c) from)
+
+  shown_is : (c : ℕ) → shown_in (cycle_of run c) to ≡ shown_piece sizes (now c)
+  shown_is = shown sizes from to kept ready up netlist run f b endless side direct
+
+  -- where nothing is left, a part that is shown is one of the beat that is shown
+  comes : (c : ℕ) → is_none (left c) ≡ true → IsTrue (run.net c to.valid.number == 1) → IsTrue (run.net c from.valid.number == 1)
+  comes c none v = by_held (run.net c kept.held.valid.number == 1) (sym (none_left sizes (shown_in (cycle_of run c) kept.held)) ∙ none) (sym (ap (λ (x : Shown). x.valid == 1) (shown_is c)) ∙ v)
     where
-      by_held : (t : Bool) → (run.net c kept.held.valid.number == 1) ≡ t → IsClear (if t then shown_in (cycle_of run c) kept.held else counted sizes.count (shown_in (cycle_of run c) from))
-      by_held true e = held
-      by_held false e = λ v. counted_clear sizes.count side (beat_in (cycle_of run c) from) (coming v)
+      by_held : (t : Bool) → not t ≡ true → IsTrue ((if t then laid_above sizes (shown_in (cycle_of run c) kept.held) (run.net c from.word.number) else counted sizes.count (shown_in (cycle_of run c) from)).valid == 1) → IsTrue (run.net c from.valid.number == 1)
+      by_held true e w = absurd (cc)
+      by_held false e w = w
 
-  next_clear : (c : ℕ) → IsClear (shown_in (cycle_of run c) kept.held) → IsClear (shown_in (cycle_of run c) from) → IsClear (shown_in (cycle_of run (c + 1)) kept.held)
-  next_clear c held coming = subst IsClear (sym (b.moves run (c + 2) (endless (c + 2)) c (omega arith))) (by_gone ((run.net c kept.shown.number == 1) && (run.net c ready.number == 1)) refl)
+  send_clear : (c : ℕ) → AllClear (left c) → ComesClear c → IsTrue (run.net c to.valid.number == 1) → AllClear (to_send c)
+  send_clear c clear coming v =
+      pieces_clear (of_symbols side sizes.symbols) (parts_of sizes) (view_of run from up) (left c) c clear
+      (λ none. split_clear sizes side symbols_are bits_are high fit sizes.parts (counted_beat sizes.count (beat_in (cycle_of run c) from)) (counted_clear sizes.count side (beat_in (cycle_of run c) from) (coming (comes c none v))))
+
+  next_clear : (c : ℕ) → AllClear (left c) → ComesClear c → AllClear (left (suc c))
+  next_clear c clear coming =
+      subst AllClear (sym (moved sizes from to kept ready up netlist run f b endless side direct c ∙ ap (λ t. if t then drop 1 (to_send c) else left c) (goes sizes from to kept ready up netlist run f b endless side direct c)))
+      (by_gone ((run.net c kept.shown.number == 1) && (run.net c ready.number == 1)) refl)
     where
-      shown_now_is : (run.net c kept.shown.number == 1) ≡ true → IsTrue ((now c).valid == 1)
-      shown_now_is v = sym (ap (λ (n : NetValue). run.net c n.number == 1) f.shown_is ∙ ap (λ (x : Shown). x.valid == 1) (f.shows (cycle_of run c) (valued c))) ∙ v
+      by_gone : (g : Bool) → ((run.net c kept.shown.number == 1) && (run.net c ready.number == 1)) ≡ g → AllClear (if g then drop 1 (to_send c) else left c)
+      by_gone false e = clear
+      by_gone true e = fewer_clear (of_symbols side sizes.symbols) (to_send c) (send_clear c clear coming (sym (ap (λ (n : NetValue). run.net c n.number == 1) f.shown_is) ∙ (and_parts _ _ e).0))
 
-      by_gone : (g : Bool) → ((run.net c kept.shown.number == 1) && (run.net c ready.number == 1)) ≡ g → IsClear (if g then shown_in (cycle_of run c) kept.rest else shown_in (cycle_of run c) kept.held)
-      by_gone false e = held
-      by_gone true e = subst IsClear (sym (f.rests (cycle_of run c) (valued c)))
-          (λ v. rest_clear sizes side symbols_are bits_are high (now c).beat (sym (one_if (has_more sizes (now c).beat)) ∙ v) (now_clear c held coming (shown_now_is (and_parts _ _ e).0)))
+  left_clear : (c : ℕ) → ((d : ℕ) → d < c → ComesClear d) → AllClear (left c)
+  left_clear zero before = subst AllClear (sym (ap (left_of sizes) (f.starts run 1 (endless 1) (omega arith)))) tt
+  left_clear (suc c) before = next_clear c (left_clear c (λ d lt. before d (omega (arith, lt)))) (before c (omega arith))
 
-  held_clear : (c : ℕ) → ((d : ℕ) → d < c → IsClear (shown_in (cycle_of run d) from)) → IsClear (shown_in (cycle_of run c) kept.held)
-  held_clear zero before = subst IsClear (sym (f.starts run 1 (endless 1) (omega arith))) (λ v. absurd (cc))
-  held_clear (suc c) before =
-      let next : c + 1 ≡ suc c = omega arith in
-      subst (λ n. IsClear (shown_in (cycle_of run n) kept.held)) next (next_clear c (held_clear c (λ d lt. before d (omega (arith, lt)))) (before c (omega arith)))
-
-  pub parts_clear : PartsFit → (count : ℕ) → ShowsClear side (view_of run from up) count → ShowsClear (of_symbols side sizes.symbols) (view_of run to ready) count
-  parts_clear fit count clear c lt v =
-      let is = f.shows (cycle_of run c) (valued c) in
-      subst (HasClearEmpty (of_symbols side sizes.symbols)) (sym (ap (λ (x : Shown). x.beat) is))
-      (piece_clear sizes side symbols_are bits_are high fit (now c).beat
-      (now_clear c (held_clear c (λ d before. clear d (omega (arith, before, lt)))) (clear c lt) (sym (ap (λ (x : Shown). x.valid == 1) is) ∙ v)))
+  pub parts_clear : (count : ℕ) → ShowsClear side (view_of run from up) count → ShowsClear (of_symbols side sizes.symbols) (view_of run to ready) count
+  parts_clear count clear c lt v =
+      let sent = send_clear c (left_clear c (λ d before. clear d (omega (arith, before, lt)))) (clear c lt) v in
+      let several = sizes.several in
+      let parts = subst AllClear (to_send_is sizes from to kept ready up netlist run f b endless side direct c ∙ split_some sizes sizes.parts (now c).beat (omega (arith, several))) sent in
+      subst (HasClearEmpty (of_symbols side sizes.symbols)) (sym (ap (λ (x : Shown). x.beat) (shown_is c))) parts.0
 
 pub narrow_clear : PartsFit → (sizes : Sizes) (shape : Shape) (from to : BeatNets) (kept : NarrowKept) (ready up : NetValue) (netlist : Netlist) → IsNarrowShape sizes shape → NarrowForward sizes from to kept netlist → NarrowBackward kept ready up netlist → (run : Run) → IsEndlessRun netlist run → (count : ℕ) →
     ShowsClear shape.up (view_of run from up) count → ShowsClear shape.down (view_of run to ready) count
 narrow_clear fit sizes shape from to kept ready up netlist p f b run endless count clear =
-    subst (λ (s : Shape). ShowsClear s.down (view_of run to ready) count) (sym p.is) (parts_clear sizes shape.up p.symbols_are p.bits_are p.first_high from to kept ready up netlist run f b endless fit count clear)
+    subst (λ (s : Shape). ShowsClear s.down (view_of run to ready) count) (sym p.is) (parts_clear sizes shape.up p.symbols_are p.bits_are p.first_high fit p.at_once from to kept ready up netlist run f b endless count clear)

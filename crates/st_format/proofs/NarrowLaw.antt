@@ -1,5 +1,7 @@
 -- The nets of a stage that takes beats apart are the machine that does.
-use Rattle.std.proofs.Common.{◌≡◌, ℕ, suc, ◌+◌, ◌-◌, ◌*◌, ◌<◌, ◌≤◌, Bool, true, false, not, ◌&&◌, ◌||◌, ◌==◌, if◌then◌else◌, List, [], ◌∷◌, drop, refl, sym, subst, ap, ◌∙◌, arith}
+use Rattle.std.proofs.Common.{◌≡◌, ℕ, zero, suc, ◌+◌, ◌-◌, ◌*◌, ◌%◌, ◌^◌, ◌<◌, ◌≤◌, Bool, true, false, not, ◌&&◌, ◌||◌, ◌==◌, if◌then◌else◌, List, [], ◌∷◌, drop, refl, sym, subst, ap, ◌∙◌, arith}
+use Rattle.std.proofs.lemmas.Nat.{pow_pos}
+use Rattle.std.proofs.Math.Nat.{mod-lt}
 use Rattle.netlist.specs.Nets.{NetValue}
 use Rattle.netlist.specs.Netlists.{Netlist}
 use Rattle.netlist.specs.Runs.{Cycle, Run, cycle_of, IsEndlessRun, IsValuation}
@@ -18,14 +20,22 @@ use Rattle.net_parts.specs.Bits.{of_chosen}
 use Rattle.st_format.specs.declared.sizes.Sizes.{Sizes}
 use Rattle.st_format.specs.declared.narrow.NarrowKept.{NarrowKept}
 use Rattle.st_format.specs.Counted.{counted, counted_beat}
-use Rattle.st_format.specs.NarrowNets.{IsNarrowShape, NarrowForward, NarrowBackward, has_more, piece_of, rest_of, shown_piece, shown_rest, shown_now}
-use Rattle.st_format.proofs.PartsLemmas.{split, split_some, enough, parts_sum, parts_are, rest_empty}
+use Rattle.st_format.specs.NarrowNets.{IsNarrowShape, NarrowForward, NarrowBackward, has_more, piece_of, rest_of, shown_piece, shown_rest, laid_above, now_of, shown_now}
+use Rattle.st_format.proofs.PartsLemmas.{split, split_some, enough, parts_sum, parts_are, rest_empty, lowest_is_none}
+
+-- what is held of a beat as a wide beat whose lowest part is 0
+abbrev whole_of : Sizes → Beat → Beat
+whole_of sizes beat = record beat { word = beat.word * 2 ^ (sizes.bits * sizes.symbols) }
 
 -- the parts that are held
-abbrev left_of : Sizes → Shown → List Beat
-left_of sizes shown = if shown.valid == 1 then split sizes sizes.parts shown.beat else []
+abbrev pub left_of : Sizes → Shown → List Beat
+left_of sizes shown = if shown.valid == 1 then split sizes sizes.parts (whole_of sizes shown.beat) else []
 
-abbrev parts_of : Sizes → Beat → List Beat
+-- where a beat is held, a part of it is gone
+abbrev pub IsLate : Sizes → Shown → Type 0
+IsLate sizes shown = (shown.valid == 1) ≡ true → sizes.symbols ≤ shown.beat.empty
+
+abbrev pub parts_of : Sizes → Beat → List Beat
 parts_of sizes beat = split sizes sizes.parts (counted_beat sizes.count beat)
 
 more_than_none : (sizes : Sizes) → 1 ≤ sizes.parts
@@ -39,27 +49,29 @@ now_some p up [] c e = absurd (cc)
 now_some p up (x ∷ xs) c e = refl
 
 -- whether parts are held
-none_left : (sizes : Sizes) (x : Shown) → is_none (left_of sizes x) ≡ not (x.valid == 1)
+pub none_left : (sizes : Sizes) (x : Shown) → is_none (left_of sizes x) ≡ not (x.valid == 1)
 none_left sizes x = by_test (x.valid == 1)
   where
-    by_test : (t : Bool) → is_none (if t then split sizes sizes.parts x.beat else []) ≡ not t
-    by_test true = split_is_some sizes x.beat
+    by_test : (t : Bool) → is_none (if t then split sizes sizes.parts (whole_of sizes x.beat) else []) ≡ not t
+    by_test true = split_is_some sizes (whole_of sizes x.beat)
     by_test false = refl
 
 -- the parts that are to be sent
-parts_now : (sizes : Sizes) (held from : Shown) (up : EndView) (c : ℕ) → (record { word = up.word c; channel = up.channel c; error = up.error c; first = up.first c; last = up.last c; empty = up.empty c }) ≡ from.beat →
-    pieces_now (parts_of sizes) up (left_of sizes held) c ≡ split sizes sizes.parts (if held.valid == 1 then held else counted sizes.count from).beat
-parts_now sizes held from up c is = by_test (held.valid == 1)
+parts_now : (sizes : Sizes) (held from : Shown) (up : EndView) (c : ℕ) → IsLate sizes held → (record { word = up.word c; channel = up.channel c; error = up.error c; first = up.first c; last = up.last c; empty = up.empty c }) ≡ from.beat →
+    pieces_now (parts_of sizes) up (left_of sizes held) c ≡ split sizes sizes.parts (now_of sizes held from).beat
+parts_now sizes held from up c late is = by_test (held.valid == 1) refl
   where
-    by_test : (t : Bool) → pieces_now (parts_of sizes) up (if t then split sizes sizes.parts held.beat else []) c ≡ split sizes sizes.parts (if t then held else counted sizes.count from).beat
-    by_test true = now_some (parts_of sizes) up (split sizes sizes.parts held.beat) c (split_is_some sizes held.beat)
-    by_test false = ap (parts_of sizes) is
+    by_test : (t : Bool) → (held.valid == 1) ≡ t → pieces_now (parts_of sizes) up (if t then split sizes sizes.parts (whole_of sizes held.beat) else []) c ≡ split sizes sizes.parts (if t then laid_above sizes held from.beat.word else counted sizes.count from).beat
+    by_test true e =
+        now_some (parts_of sizes) up (split sizes sizes.parts (whole_of sizes held.beat)) c (split_is_some sizes (whole_of sizes held.beat))
+        ∙ lowest_is_none sizes held.beat.word (from.beat.word % 2 ^ (sizes.bits * sizes.symbols)) held.beat (late e) (mod-lt from.beat.word (pow_pos (sizes.bits * sizes.symbols)))
+    by_test false e = ap (parts_of sizes) is
 
 -- valid of the wide beat
-valid_now : (sizes : Sizes) (held from : Shown) → ((if held.valid == 1 then held else counted sizes.count from).valid == 1) ≡ (not (not (held.valid == 1)) || (from.valid == 1))
+valid_now : (sizes : Sizes) (held from : Shown) → ((now_of sizes held from).valid == 1) ≡ (not (not (held.valid == 1)) || (from.valid == 1))
 valid_now sizes held from = by_test (held.valid == 1) refl
   where
-    by_test : (t : Bool) → (held.valid == 1) ≡ t → ((if t then held else counted sizes.count from).valid == 1) ≡ (not (not t) || (from.valid == 1))
+    by_test : (t : Bool) → (held.valid == 1) ≡ t → ((if t then laid_above sizes held from.beat.word else counted sizes.count from).valid == 1) ≡ (not (not t) || (from.valid == 1))
     by_test true e = e
     by_test false e = refl
 
@@ -82,6 +94,14 @@ left_behind sizes x =
         let back : sizes.parts ≡ suc (sizes.parts - 1) = omega (arith, several) in
         enough sizes sizes.parts (sizes.parts - 1) (rest_of sizes x.beat) (omega (arith, several)) (omega (arith, several)) (omega arith) (few (sizes.parts - 1) back e)
 
+-- what is left once the first part is gone lacks a part
+rest_late : (sizes : Sizes) (x : Shown) → IsLate sizes (shown_rest sizes x)
+rest_late sizes x = by_more (has_more sizes x.beat) refl
+  where
+    by_more : (t : Bool) → has_more sizes x.beat ≡ t → ((if t then 1 else 0) == 1) ≡ true → sizes.symbols ≤ (rest_of sizes x.beat).empty
+    by_more true more e = let gone = rest_empty sizes x.beat more in omega (arith, gone)
+    by_more false more e = absurd (cc)
+
 module _ (sizes : Sizes) (from to : BeatNets) (kept : NarrowKept) (ready up : NetValue) (netlist : Netlist) (run : Run) (f : NarrowForward sizes from to kept netlist) (b : NarrowBackward kept ready up netlist) (endless : IsEndlessRun netlist run) (side : Side) (direct : side.pace.latency ≡ 0) where
   valued : (c : ℕ) → IsValuation netlist (cycle_of run c)
   valued c = (endless (c + 1)).valuations c (omega arith)
@@ -89,22 +109,32 @@ module _ (sizes : Sizes) (from to : BeatNets) (kept : NarrowKept) (ready up : Ne
   abbrev held : ℕ → Shown
   held c = shown_in (cycle_of run c) kept.held
 
-  abbrev now : ℕ → Shown
+  abbrev pub now : ℕ → Shown
   now c = shown_now sizes (cycle_of run c) kept.held from
 
-  abbrev left : ℕ → List Beat
+  abbrev pub left : ℕ → List Beat
   left c = left_of sizes (held c)
 
-  shown : (c : ℕ) → shown_in (cycle_of run c) to ≡ shown_piece sizes (now c)
+  pub shown : (c : ℕ) → shown_in (cycle_of run c) to ≡ shown_piece sizes (now c)
   shown c = f.shows (cycle_of run c) (valued c)
 
-  to_send : (c : ℕ) → pieces_now (parts_of sizes) (view_of run from up) (left c) c ≡ split sizes sizes.parts (now c).beat
-  to_send c = parts_now sizes (held c) (shown_in (cycle_of run c) from) (view_of run from up) c refl
+  late : (c : ℕ) → IsLate sizes (held c)
+  late zero = subst (IsLate sizes) (sym (f.starts run 1 (endless 1) (omega arith))) (λ v. absurd (cc))
+  late (suc c) =
+      let next : c + 1 ≡ suc c = omega arith in
+      subst (λ n. IsLate sizes (held n)) next (subst (IsLate sizes) (sym (b.moves run (c + 2) (endless (c + 2)) c (omega arith))) (by_gone (late c) ((run.net c kept.shown.number == 1) && (run.net c ready.number == 1))))
+    where
+      by_gone : IsLate sizes (held c) → (t : Bool) → IsLate sizes (if t then shown_in (cycle_of run c) kept.rest else held c)
+      by_gone before true = subst (IsLate sizes) (sym (f.rests (cycle_of run c) (valued c))) (rest_late sizes (now c))
+      by_gone before false = before
 
-  goes : (c : ℕ) → is_transfer side.pace (view_of run to ready) c ≡ ((run.net c kept.shown.number == 1) && (run.net c ready.number == 1))
+  pub to_send : (c : ℕ) → pieces_now (parts_of sizes) (view_of run from up) (left c) c ≡ split sizes sizes.parts (now c).beat
+  to_send c = parts_now sizes (held c) (shown_in (cycle_of run c) from) (view_of run from up) c (late c) refl
+
+  pub goes : (c : ℕ) → is_transfer side.pace (view_of run to ready) c ≡ ((run.net c kept.shown.number == 1) && (run.net c ready.number == 1))
   goes c = rw direct (ap (λ (n : NetValue). (run.net c n.number == 1) && (run.net c ready.number == 1)) (sym f.shown_is))
 
-  moved : (c : ℕ) → left (suc c) ≡ (if is_transfer side.pace (view_of run to ready) c then drop 1 (pieces_now (parts_of sizes) (view_of run from up) (left c) c) else left c)
+  pub moved : (c : ℕ) → left (suc c) ≡ (if is_transfer side.pace (view_of run to ready) c then drop 1 (pieces_now (parts_of sizes) (view_of run from up) (left c) c) else left c)
   moved c =
       let next : c + 1 ≡ suc c = omega arith in
       let gone : Bool = (run.net c kept.shown.number == 1) && (run.net c ready.number == 1) in
@@ -148,5 +178,5 @@ pub narrow_ignores : (sizes : Sizes) (from to : BeatNets) (kept : NarrowKept) (n
 narrow_ignores sizes from to kept netlist one other f v w state same =
     show_same to one other
     (f.shows one v
-    ∙ ap (shown_piece sizes) (ap (λ (x : Shown). if x.valid == 1 then x else counted sizes.count (shown_in one from)) (same_state kept.held one other f.numbers state) ∙ ap (λ (x : Shown). if other.net kept.held.valid.number == 1 then shown_in other kept.held else counted sizes.count x) (all_same from one other same))
+    ∙ ap (shown_piece sizes) (ap (λ (x : Shown). now_of sizes x (shown_in one from)) (same_state kept.held one other f.numbers state) ∙ ap (now_of sizes (shown_in other kept.held)) (all_same from one other same))
     ∙ sym (f.shows other w))

@@ -108,6 +108,91 @@ next_part b s p x j h =
     one_more : (b s q : ℕ) → b * (s * suc q) ≡ b * s + b * (s * q)
     one_more b s q = omega arith
 
+-- bits that are cut off below
+cut_below : (x e r : ℕ) → x % 2 ^ (r + e) / 2 ^ e ≡ x / 2 ^ e % 2 ^ r
+cut_below x e r =
+    ap (λ n. n / 2 ^ e) (mod-pow-add x r e)
+    ∙ shr_high (x / 2 ^ e % 2 ^ r) e (x % 2 ^ e) (mod-lt x (pow_pos e))
+
+-- words that agree above some bits agree so once they are cut above and shifted
+agree_shifted : (x y e r m : ℕ) → x / 2 ^ e ≡ y / 2 ^ e → x % 2 ^ (r + e) * 2 ^ m / 2 ^ (m + e) ≡ y % 2 ^ (r + e) * 2 ^ m / 2 ^ (m + e)
+agree_shifted x y e r m same = shifted x ∙ ap (λ n. n % 2 ^ r) same ∙ sym (shifted y)
+  where
+    shifted : (z : ℕ) → z % 2 ^ (r + e) * 2 ^ m / 2 ^ (m + e) ≡ z / 2 ^ e % 2 ^ r
+    shifted z =
+        sym (shr-shr (z % 2 ^ (r + e) * 2 ^ m) m e)
+        ∙ ap (λ n. n / 2 ^ e) (shl-shr (z % 2 ^ (r + e)) m)
+        ∙ cut_below z e r
+
+-- ---- the lowest parts of a word, which count for nothing
+
+module _ (sizes : Sizes) where
+  -- the bits of so many parts
+  abbrev bits_of : ℕ → ℕ
+  bits_of parts = sizes.bits * (sizes.symbols * parts)
+
+  abbrev AgreeAbove : ℕ → ℕ → ℕ → Type 0
+  AgreeAbove low x y = x / 2 ^ bits_of low ≡ y / 2 ^ bits_of low
+
+  more_bits : (r low : ℕ) → bits_of (r + low) ≡ bits_of r + bits_of low
+  more_bits r low = let symbols : sizes.symbols * (r + low) ≡ sizes.symbols * r + sizes.symbols * low = omega arith in ap (λ n. sizes.bits * n) symbols ∙ (let spread : sizes.bits * (sizes.symbols * r + sizes.symbols * low) ≡ bits_of r + bits_of low = omega arith in spread)
+
+  one_more : (low : ℕ) → bits_of (low + 1) ≡ sizes.bits * sizes.symbols + bits_of low
+  one_more low = let symbols : sizes.symbols * (low + 1) ≡ sizes.symbols + sizes.symbols * low = omega arith in ap (λ n. sizes.bits * n) symbols ∙ (let spread : sizes.bits * (sizes.symbols + sizes.symbols * low) ≡ sizes.bits * sizes.symbols + bits_of low = omega arith in spread)
+
+  -- all parts but one are the lowest ones and others
+  most_bits : (low : ℕ) → low ≤ sizes.parts - 1 → bits_of (sizes.parts - 1) ≡ bits_of (sizes.parts - 1 - low) + bits_of low
+  most_bits low most = let sum : sizes.parts - 1 ≡ (sizes.parts - 1 - low) + low = omega (arith, most) in ap bits_of sum ∙ more_bits (sizes.parts - 1 - low) low
+
+  -- the first part is the same
+  first_agrees : (low x y : ℕ) → low ≤ sizes.parts - 1 → AgreeAbove low x y → x / 2 ^ bits_of (sizes.parts - 1) ≡ y / 2 ^ bits_of (sizes.parts - 1)
+  first_agrees low x y most same = whole x ∙ ap (λ n. n / 2 ^ bits_of (sizes.parts - 1 - low)) same ∙ sym (whole y)
+    where
+      sum : bits_of (sizes.parts - 1) ≡ bits_of low + bits_of (sizes.parts - 1 - low)
+      sum = let turned = most_bits low most in omega (arith, turned)
+
+      whole : (z : ℕ) → z / 2 ^ bits_of (sizes.parts - 1) ≡ z / 2 ^ bits_of low / 2 ^ bits_of (sizes.parts - 1 - low)
+      whole z = ap (λ n. z / 2 ^ n) sum ∙ sym (shr-shr z (bits_of low) (bits_of (sizes.parts - 1 - low)))
+
+  -- and what is left behind it, but for one part more
+  rest_agrees : (low x y : ℕ) → low ≤ sizes.parts - 1 → AgreeAbove low x y
+      → AgreeAbove (low + 1) (x % 2 ^ bits_of (sizes.parts - 1) * 2 ^ (sizes.bits * sizes.symbols)) (y % 2 ^ bits_of (sizes.parts - 1) * 2 ^ (sizes.bits * sizes.symbols))
+  rest_agrees low x y most same = cut x ∙ agree_shifted x y (bits_of low) (bits_of (sizes.parts - 1 - low)) (sizes.bits * sizes.symbols) same ∙ sym (cut y)
+    where
+      cut : (z : ℕ) → z % 2 ^ bits_of (sizes.parts - 1) * 2 ^ (sizes.bits * sizes.symbols) / 2 ^ bits_of (low + 1)
+          ≡ z % 2 ^ (bits_of (sizes.parts - 1 - low) + bits_of low) * 2 ^ (sizes.bits * sizes.symbols) / 2 ^ (sizes.bits * sizes.symbols + bits_of low)
+      cut z =
+          ap (λ n. z % 2 ^ n * 2 ^ (sizes.bits * sizes.symbols) / 2 ^ bits_of (low + 1)) (most_bits low most)
+          ∙ ap (λ n. z % 2 ^ (bits_of (sizes.parts - 1 - low) + bits_of low) * 2 ^ (sizes.bits * sizes.symbols) / 2 ^ n) (one_more low)
+
+  -- so many parts of a beat don't see the others of its word
+  pub same_parts : (k low x y : ℕ) (beat : Beat) → k + low ≤ sizes.parts → AgreeAbove low x y → split sizes k (record beat { word = x }) ≡ split sizes k (record beat { word = y })
+  same_parts zero low x y beat fits same = refl
+  same_parts (suc k) low x y beat fits same =
+      let most : low ≤ sizes.parts - 1 = omega (arith, fits) in
+      let rest : split sizes k (rest_of sizes (record beat { word = x })) ≡ split sizes k (rest_of sizes (record beat { word = y })) =
+      same_parts k (low + 1) _ _ (rest_of sizes beat) (omega (arith, fits)) (rest_agrees low x y most same) in
+      ap (λ n. record (piece_of sizes beat) { word = n % 2 ^ (sizes.bits * sizes.symbols) } ∷ (if has_more sizes beat then split sizes k (rest_of sizes (record beat { word = x })) else [])) (first_agrees low x y most same)
+      ∙ ap (λ (xs : List Beat). piece_of sizes (record beat { word = y }) ∷ (if has_more sizes beat then xs else [])) rest
+
+  -- where all symbols of the lowest part are empty, that part counts for nothing
+  pub lowest_is_none : (x lowest : ℕ) (beat : Beat) → sizes.symbols ≤ beat.empty → lowest < 2 ^ (sizes.bits * sizes.symbols)
+      → split sizes sizes.parts (record beat { word = x * 2 ^ (sizes.bits * sizes.symbols) }) ≡ split sizes sizes.parts (record beat { word = x * 2 ^ (sizes.bits * sizes.symbols) + lowest })
+  lowest_is_none x lowest beat late small =
+      let several = sizes.several in
+      fewer (x * 2 ^ (sizes.bits * sizes.symbols))
+      ∙ same_parts (sizes.parts - 1) 1 _ _ beat (omega (arith, several)) (ap (λ n. x * 2 ^ (sizes.bits * sizes.symbols) / 2 ^ n) one_part ∙ shl-shr x (sizes.bits * sizes.symbols) ∙ sym (shr_high x (sizes.bits * sizes.symbols) lowest small) ∙ ap (λ n. (x * 2 ^ (sizes.bits * sizes.symbols) + lowest) / 2 ^ n) (sym one_part))
+      ∙ sym (fewer (x * 2 ^ (sizes.bits * sizes.symbols) + lowest))
+    where
+      one_part : bits_of 1 ≡ sizes.bits * sizes.symbols
+      one_part = let one : sizes.symbols * 1 ≡ sizes.symbols = omega arith in ap (λ n. sizes.bits * n) one
+
+      fewer : (word : ℕ) → split sizes sizes.parts (record beat { word = word }) ≡ split sizes (sizes.parts - 1) (record beat { word = word })
+      fewer word =
+          let several = sizes.several in
+          let sum = parts_sum sizes in
+          enough sizes sizes.parts (sizes.parts - 1) (record beat { word = word }) (omega (arith, several)) (omega (arith, several)) (omega arith) (omega (arith, sum, late))
+
 -- ---- pieces
 
 module _ (sizes : Sizes) (wide : Side) (whole : Beat) (bits_are : wide.symbol_bits ≡ sizes.bits) (symbols_are : wide.symbols ≡ sizes.symbols * sizes.parts) where

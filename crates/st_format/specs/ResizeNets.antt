@@ -71,7 +71,7 @@ resize_gives (Slide stage) widths = record widths { word = stage.sizes.bits * st
 
 abbrev pub resize_forward : Resize → ℕ
 resize_forward Equal = 0
-resize_forward (Cut stage) = 33
+resize_forward (Cut stage) = 34
 resize_forward (Join stage) = 5 * stage.sizes.parts + 29
 resize_forward (Slide stage) = 16 * stage.sizes.into + 61
 

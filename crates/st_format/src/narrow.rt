@@ -1,16 +1,16 @@
 //! Wide beats that come apart: a beat is taken as its first part goes, and the rest of it is held and goes part by part. A part
-//! goes in each cycle with ready, and parts without a symbol aren't sent. Its state is one wide beat, its hold a wide beat
-//! without a part, and it makes 43 nets at most. Its law is that of `narrow_is_a_stage`.
+//! goes in each cycle with ready, and parts without a symbol aren't sent. Its state is a wide beat without a part, and so is its
+//! hold, and it makes 44 nets at most. Its law is that of `narrow_is_a_stage`.
 
 ghost use Rattle.std.specs.Prelude.{◌≡◌, ℕ, ◌+◌, ◌-◌, ◌*◌, ◌%◌, ◌^◌, ◌<◌, ◌≤◌, ◌==◌, ◌&&◌, not, nat_lt, if◌then◌else◌, length, IfOk};
 ghost use Rattle.netlist.specs.Netlists.{IsNet};
 ghost use Rattle.netlist.specs.Runs.{Always};
-ghost use Rattle.stage_core.specs.Beats.{Widths, AreBeatNets, HaveSameWidths, beat_in};
+ghost use Rattle.stage_core.specs.Beats.{Widths, AreBeatNets, beat_in};
 ghost use Rattle.net_parts.specs.Nets.{IsBit, IsNetOfWidth};
 ghost use Rattle.stage_core.specs.Groups.{shown_in, IsOfBeat, AreRegisters, StartsEmpty};
 ghost use Rattle.net_parts.specs.Growth.{GrowsBy, AddsNets, StillWait, WaitsBeside, AreMadeBetween};
 ghost use Rattle.st_format.specs.Counted.{HaveCountedWidths};
-ghost use Rattle.st_format.specs.NarrowNets.{IsNarrowShape, more_follow, has_more, piece_empty, piece_of, rest_of, shown_piece, shown_rest, shown_now, NarrowKeeps, NarrowForward, NarrowBackward, keeps_lasts, forward_lasts, backward_lasts};
+ghost use Rattle.st_format.specs.NarrowNets.{IsNarrowShape, more_follow, has_more, piece_empty, shown_piece, shown_rest, laid_above, shown_now, HaveRestWidths, NarrowKeeps, NarrowForward, NarrowBackward, keeps_lasts, forward_lasts, backward_lasts};
 
 use crate::counted::count_empty;
 use crate::sizes::Sizes;
@@ -53,26 +53,90 @@ struct Current {
     beat: BeatNets,
 }
 
-/// Makes the registers, and the wide beat of the cycle: what is held of one, or else the one that is shown.
+/// The word without its first part.
+#[tactic(auto, using(net_parts::specs::Laws::growing))]
+fn rest_word(builder: &mut Builder, sizes: &Sizes, word: Net) -> Result<Net, NetFault>
+    requires word { IsNetOfWidth builder.old word (sizes.now.bits * (sizes.now.symbols * sizes.now.parts)) }
+    ensures net { IfOk result (λ rest. IsNetOfWidth builder.new rest (sizes.now.bits * (sizes.now.symbols * (sizes.now.parts - 1)))) }
+    ensures value { IfOk result (λ rest. Always builder.new (λ cycle. cycle.net rest.number ≡ cycle.net word.number % 2 ^ (sizes.now.bits * (sizes.now.symbols * (sizes.now.parts - 1))))) }
+    ensures adds { AddsNets 1 builder.old builder.new }
+    ensures full { result ≡ Err NetFault.TooManyNets → 2 ^ 20 < length builder.old.lines + 1 }
+{
+    builder.slice(word, sizes.rest_bits() - 1, 0)
+}
+
+/// What is held of a beat above the lowest part of a word.
+#[tactic(auto, using(net_parts::specs::Laws::growing))]
+fn lay_above(
+    builder: &mut Builder,
+    sizes: &Sizes,
+    held: &BeatNets,
+    word: Net,
+) -> Result<BeatNets, NetFault>
+    requires held { AreBeatNets builder.old held.now }
+    requires rest { held.now.word.width ≡ sizes.now.bits * (sizes.now.symbols * (sizes.now.parts - 1)) }
+    requires word { IsNetOfWidth builder.old word (sizes.now.bits * (sizes.now.symbols * sizes.now.parts)) }
+    ensures beat { IfOk result (λ made. AreBeatNets builder.new made) }
+    ensures word { IfOk result (λ made. made.word.width ≡ sizes.now.bits * (sizes.now.symbols * sizes.now.parts)) }
+    ensures others { IfOk result (λ made. HaveRestWidths sizes.now held.now made) }
+    ensures value { IfOk result (λ made. Always builder.new (λ cycle. shown_in cycle made ≡ laid_above sizes.now (shown_in cycle held.now) (cycle.net word.number))) }
+    ensures adds { AddsNets 2 builder.old builder.new }
+    ensures full { result ≡ Err NetFault.TooManyNets → 2 ^ 20 < length builder.old.lines + 2 }
+{
+    let lowest = builder.slice(word, sizes.narrow_bits() - 1, 0)?;
+    let word = builder.concat(held.word, lowest)?;
+    Ok(BeatNets {
+        word,
+        ..held.copied()
+    })
+}
+
+/// Makes the registers, of all parts but one.
+#[tactic(auto, using(net_parts::specs::Laws::growing))]
+fn hold_parts(builder: &mut Builder, sizes: &Sizes, beat: &BeatNets) -> Result<BeatNets, NetFault>
+    requires beat { AreBeatNets builder.old beat.now }
+    requires word { beat.now.word.width ≡ sizes.now.bits * (sizes.now.symbols * sizes.now.parts) }
+    ensures held { IfOk result (λ made. AreBeatNets builder.new made) }
+    ensures registers { IfOk result (λ made. AreRegisters builder.new made made.valid.number) }
+    ensures owned { IfOk result (λ made. AreMadeBetween (IsOfBeat made) builder.old builder.new) }
+    ensures starts { IfOk result (λ made. StartsEmpty builder.new made) }
+    ensures widths { IfOk result (λ made. HaveRestWidths sizes.now made beat.now) }
+    ensures grows { GrowsBy 8 builder.old builder.new }
+    ensures still_wait { StillWait builder.old builder.new }
+    ensures newly { IfOk result (λ made. WaitsBeside (IsOfBeat made) builder.old builder.new) }
+    ensures full { result ≡ Err NetFault.TooManyNets → 2 ^ 20 < length builder.old.lines + 8 }
+{
+    let word = rest_word(builder, sizes, beat.word)?;
+    let like = BeatNets {
+        word,
+        ..beat.copied()
+    };
+    reg_beat(builder, &like)
+}
+
+/// Makes the registers, and the wide beat of the cycle: what is held of one, or else the one that is shown. The lowest part is that of
+/// the one that is shown in any case, so that nothing is chosen there: where one is held, all symbols of that part are empty.
 #[tactic(auto, using(net_parts::specs::Laws::growing))]
 fn show_current(builder: &mut Builder, sizes: &Sizes, from: &BeatNets) -> Result<Current, NetFault>
-    requires { AreBeatNets builder.old from.now }
+    requires from { AreBeatNets builder.old from.now }
+    requires word { from.now.word.width ≡ sizes.now.bits * (sizes.now.symbols * sizes.now.parts) }
     ensures held { IfOk result (λ made. AreBeatNets builder.new made.held) }
     ensures registers { IfOk result (λ made. AreRegisters builder.new made.held made.held.valid.number) }
     ensures owned { IfOk result (λ made. AreMadeBetween (IsOfBeat made.held) builder.old builder.new) }
     ensures starts { IfOk result (λ made. StartsEmpty builder.new made.held) }
     ensures beat { IfOk result (λ made. AreBeatNets builder.new made.beat) }
-    ensures widths { IfOk result (λ made. HaveSameWidths made.beat made.held) }
+    ensures widths { IfOk result (λ made. HaveRestWidths sizes.now made.held made.beat) }
     ensures counted { IfOk result (λ made. HaveCountedWidths sizes.now.count made.beat from.now) }
     ensures value { IfOk result (λ made. Always builder.new (λ cycle. shown_in cycle made.beat ≡ shown_now sizes.now cycle made.held from.now)) }
-    ensures grows { GrowsBy 18 builder.old builder.new }
+    ensures grows { GrowsBy 21 builder.old builder.new }
     ensures still_wait { StillWait builder.old builder.new }
     ensures newly { IfOk result (λ made. WaitsBeside (IsOfBeat made.held) builder.old builder.new) }
-    ensures full { result ≡ Err NetFault.TooManyNets → 2 ^ 20 < length builder.old.lines + 18 }
+    ensures full { result ≡ Err NetFault.TooManyNets → 2 ^ 20 < length builder.old.lines + 21 }
 {
     let counted = count_empty(builder, from, sizes.count)?;
-    let held = reg_beat(builder, &counted)?;
-    let beat = mux_beat(builder, held.valid, &held, &counted)?;
+    let held = hold_parts(builder, sizes, &counted)?;
+    let whole = lay_above(builder, sizes, &held, from.word)?;
+    let beat = mux_beat(builder, held.valid, &whole, &counted)?;
     Ok(Current { held, beat })
 }
 
@@ -154,20 +218,6 @@ fn show_part(
     })
 }
 
-/// The word without its first part.
-#[tactic(auto, using(net_parts::specs::Laws::growing))]
-fn rest_word(builder: &mut Builder, sizes: &Sizes, word: Net) -> Result<Net, NetFault>
-    requires word { IsNetOfWidth builder.old word (sizes.now.bits * (sizes.now.symbols * sizes.now.parts)) }
-    ensures net { IfOk result (λ rest. IsNetOfWidth builder.new rest (sizes.now.bits * (sizes.now.symbols * sizes.now.parts))) }
-    ensures value { IfOk result (λ rest. Always builder.new (λ cycle. cycle.net rest.number ≡ cycle.net word.number % 2 ^ (sizes.now.bits * (sizes.now.symbols * (sizes.now.parts - 1))) * 2 ^ (sizes.now.bits * sizes.now.symbols))) }
-    ensures adds { AddsNets 3 builder.old builder.new }
-    ensures full { result ≡ Err NetFault.TooManyNets → 2 ^ 20 < length builder.old.lines + 3 }
-{
-    let zeros = constant(builder, sizes.narrow_bits(), 0)?;
-    let rest = builder.slice(word, sizes.rest_bits() - 1, 0)?;
-    builder.concat(rest, zeros)
-}
-
 /// What is left of a wide beat behind its first part.
 #[tactic(auto, using(net_parts::specs::Laws::growing))]
 fn leave_rest(
@@ -182,10 +232,10 @@ fn leave_rest(
     requires more { IsBit builder.old more }
     requires follows { Always builder.old (λ cycle. (cycle.net more.number == 1) ≡ has_more sizes.now (beat_in cycle beat.now)) }
     ensures rest { IfOk result (λ made. AreBeatNets builder.new made) }
-    ensures widths { IfOk result (λ made. HaveSameWidths made beat.now) }
+    ensures widths { IfOk result (λ made. HaveRestWidths sizes.now made beat.now) }
     ensures value { IfOk result (λ made. Always builder.new (λ cycle. shown_in cycle made ≡ shown_rest sizes.now (shown_in cycle beat.now))) }
-    ensures adds { AddsNets 6 builder.old builder.new }
-    ensures full { result ≡ Err NetFault.TooManyNets → 2 ^ 20 < length builder.old.lines + 6 }
+    ensures adds { AddsNets 4 builder.old builder.new }
+    ensures full { result ≡ Err NetFault.TooManyNets → 2 ^ 20 < length builder.old.lines + 4 }
 {
     let word = rest_word(builder, sizes, beat.word)?;
     let first = constant(builder, 1, 0)?;
@@ -220,10 +270,10 @@ fn cut_beat(builder: &mut Builder, sizes: &Sizes, beat: &BeatNets) -> Result<Cut
     ensures empty { IfOk result (λ made. made.part.empty.width ≡ sizes.now.count) }
     ensures shows { IfOk result (λ made. Always builder.new (λ cycle. shown_in cycle made.part ≡ shown_piece sizes.now (shown_in cycle beat.now))) }
     ensures rest { IfOk result (λ made. AreBeatNets builder.new made.rest) }
-    ensures widths { IfOk result (λ made. HaveSameWidths made.rest beat.now) }
+    ensures widths { IfOk result (λ made. HaveRestWidths sizes.now made.rest beat.now) }
     ensures rests { IfOk result (λ made. Always builder.new (λ cycle. shown_in cycle made.rest ≡ shown_rest sizes.now (shown_in cycle beat.now))) }
-    ensures adds { AddsNets 15 builder.old builder.new }
-    ensures full { result ≡ Err NetFault.TooManyNets → 2 ^ 20 < length builder.old.lines + 15 }
+    ensures adds { AddsNets 13 builder.old builder.new }
+    ensures full { result ≡ Err NetFault.TooManyNets → 2 ^ 20 < length builder.old.lines + 13 }
 {
     let more = part_follows(builder, sizes, beat.empty)?;
     let part = show_part(builder, sizes, beat, more)?;
@@ -244,7 +294,7 @@ impl Stage for Narrow {
 
     ghost gives = { λ s widths. record widths { word = s.sizes.bits * s.sizes.symbols; empty = s.sizes.count } };
 
-    ghost forward_nets = { λ s. 33 };
+    ghost forward_nets = { λ s. 34 };
 
     ghost backward_nets = { λ s. 10 };
 

@@ -18,12 +18,9 @@ pub returns-clause-widths : goal.returns-clause-widths
 returns-clause-widths c =
     let same = c.copied.ensures in
     record {
-      valid = c.requires.more.has_width ∙ sym c.requires.beat.valid.has_width;
-      word = c.in_ok-word.ensures.net.has_width ∙ sym c.requires.word;
+      word = c.in_ok-word.ensures.net.has_width;
       channel = ap (λ (n : BeatNets). n.channel.width) same;
       error = ap (λ (n : BeatNets). n.error.width) same;
-      first = c.in_ok-first.ensures.net.has_width ∙ sym c.requires.beat.first.has_width;
-      last = ap (λ (n : BeatNets). n.last.width) same;
       empty = c.in_ok-empty.ensures.net.1;
     }
 

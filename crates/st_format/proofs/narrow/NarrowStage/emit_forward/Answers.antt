@@ -1,7 +1,7 @@
 use Rattle.std.proofs.Common.{refl, ap, ◌∙◌, arith}
 use Rattle.stage_core.specs.Lasting.{beat_lasts, registers_last}
-use Rattle.stage_core.specs.BeatLaws.{widths_twice}
 use Rattle.st_format.specs.NarrowNets.{shown_piece, shown_rest}
+use Rattle.st_format.proofs.NarrowLemmas.{rest_widths}
 use Rattle.net_parts.specs.Laws.{adds_grow, grows_fewer, grows_twice}
 use Rattle.stage_core.specs.Refusing.{handed_on}
 use Rattle.st_format.proofs.narrow.NarrowStage.emit_forward.Goals as goal
@@ -10,7 +10,7 @@ pub returns-clause-kept : goal.returns-clause-kept
 returns-clause-kept c = record {
   held = beat_lasts _ _ _ c.cut_beat.ensures.adds.grows.extends c.in_ok-current.ensures.held;
   rest = c.in_ok-part.ensures.rest;
-  widths = widths_twice _ _ _ c.in_ok-part.ensures.widths c.in_ok-current.ensures.widths;
+  widths = rest_widths _ _ _ _ _ _ c.in_ok-part.ensures.rest c.in_ok-current.ensures.held c.in_ok-part.ensures.widths c.in_ok-current.ensures.widths;
   registers = registers_last _ _ _ _ (λ n o. c.cut_beat.ensures.adds.grows.waits n) c.in_ok-current.ensures.registers;
   shown = c.in_ok-part.ensures.part.valid;
 }
