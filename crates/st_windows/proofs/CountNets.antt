@@ -4,8 +4,7 @@ use Rattle.net_parts.specs.Bits.{chosen_high, high_and, high_room, high_turned}
 use Rattle.stage_core.specs.Groups.{Shown}
 use Rattle.stage_core.specs.BeatLaws.{shown_same}
 use Rattle.st_windows.specs.declared.sizes.WindowSizes.{WindowSizes}
-use Rattle.st_windows.specs.Cuts.{front_at, chosen_at}
-use Rattle.st_windows.specs.Rows.{joined_count, is_alone, row_joined, row_alone, row_next, shown_front, shown_left}
+use Rattle.st_windows.specs.Rows.{joined_count, is_alone, front_of, joined_with, alone_with, row_joined, row_alone, row_next, shown_front, shown_left}
 
 pub count_is : (b w u held last fitted none empty size coming out e from : ℕ) → w ≡ b → u ≡ b → last < 2 → fitted ≡ e % 2 ^ b → none ≡ 0 → empty ≡ (if last == 0 then none else fitted) → size ≡ from → coming ≡ (size + (2 ^ u - empty)) % 2 ^ u → out ≡ (held + coming) % 2 ^ w →
     out ≡ (held + (from + (2 ^ b - (if last == 1 then e % 2 ^ b else 0))) % 2 ^ b) % 2 ^ b
@@ -30,11 +29,11 @@ one_where t n small e = by_bit n small refl ∙ ap (λ b. if b then 1 else 0) e
 -- ---- rows
 
 pub joined_shown : (sizes : WindowSizes) (x held from : Shown) (valid word error none starts first empty : ℕ) → x ≡ from → valid < 2 → (valid == 1) ≡ ((from.valid == 1) && (nat_lt (sizes.into - 1) (joined_count sizes held.beat.empty from) || (from.beat.last == 1)))
-    → word ≡ chosen_at held.beat.empty (front_at sizes.bits sizes.from sizes.into sizes.held held.beat.word from.beat.word) (sizes.into - 1) → error ≡ bit_or held.beat.error from.beat.error
+    → error ≡ bit_or held.beat.error from.beat.error
     → none ≡ 0 → starts ≡ (if held.beat.empty == none then 1 else 0) → first ≡ (if starts == 0 then held.beat.first else from.beat.first) → empty ≡ joined_count sizes held.beat.empty from →
-    (record { valid = valid; beat = record { word = word; channel = x.beat.channel; error = error; first = first; last = x.beat.last; empty = empty } }) ≡ row_joined sizes held from
-joined_shown sizes x held from valid word error none starts first empty same small shown words errors zeroed begins firsts empties =
-    shown_same _ (row_joined sizes held from) (one_where _ valid small shown) words (ap (λ (z : Shown). z.beat.channel) same) errors
+    (record { valid = valid; beat = record { word = word; channel = x.beat.channel; error = error; first = first; last = x.beat.last; empty = empty } }) ≡ joined_with sizes held from word
+joined_shown sizes x held from valid word error none starts first empty same small shown errors zeroed begins firsts empties =
+    shown_same _ (joined_with sizes held from word) (one_where _ valid small shown) refl (ap (λ (z : Shown). z.beat.channel) same) errors
     (firsts ∙ chosen (held.beat.empty == 0) starts (begins ∙ ap (λ n. if held.beat.empty == n then 1 else 0) zeroed)) (ap (λ (z : Shown). z.beat.last) same) empties
   where
     chosen : (t : Bool) (s : ℕ) → s ≡ (if t then 1 else 0) → (if s == 0 then held.beat.first else from.beat.first) ≡ (if t then from.beat.first else held.beat.first)
@@ -71,9 +70,28 @@ left_shown sizes x row more low word error quiet none size left empty held_error
 
 -- ---- the nets over what is held
 
-pub next_shown : (sizes : WindowSizes) (bit : ℕ) (row lone joined held from : Shown) → (bit == 1) ≡ is_alone sizes held → row ≡ (if bit == 1 then lone else joined) → lone ≡ row_alone sizes held → joined ≡ row_joined sizes held from → row ≡ row_next sizes held from
-next_shown sizes bit row lone joined held from is chosen lones joins =
-    chosen ∙ ap (λ t. if t then lone else joined) is ∙ ap (λ (x : Shown). if is_alone sizes held then x else joined) lones ∙ ap (λ (x : Shown). if is_alone sizes held then row_alone sizes held else x) joins
+pub next_shown : (sizes : WindowSizes) (bit word : ℕ) (x row lone joined held from : Shown) → x ≡ row → (bit == 1) ≡ is_alone sizes held → word ≡ front_of sizes held (if bit == 1 then 0 else from.beat.word) → row ≡ (if bit == 1 then lone else joined) → lone ≡ alone_with held word → joined ≡ joined_with sizes held from word →
+    (record { valid = x.valid; beat = record { word = word; channel = x.beat.channel; error = x.beat.error; first = x.beat.first; last = x.beat.last; empty = x.beat.empty } }) ≡ row_next sizes held from
+next_shown sizes bit word x row lone joined held from same is words chosen lones joins =
+    shown_same _ (row_next sizes held from) (ap (λ (z : Shown). z.valid) made) (worded (is_alone sizes held) word_is) (ap (λ (z : Shown). z.beat.channel) made) (ap (λ (z : Shown). z.beat.error) made) (ap (λ (z : Shown). z.beat.first) made) (ap (λ (z : Shown). z.beat.last) made) (ap (λ (z : Shown). z.beat.empty) made)
+  where
+    word_is : word ≡ front_of sizes held (if is_alone sizes held then 0 else from.beat.word)
+    word_is = words ∙ ap (λ t. front_of sizes held (if t then 0 else from.beat.word)) is
+
+    worded : (t : Bool) → word ≡ front_of sizes held (if t then 0 else from.beat.word) → word ≡ (if t then row_alone sizes held else row_joined sizes held from).beat.word
+    worded true e = e
+    worded false e = e
+
+    by_alone : (t : Bool) → word ≡ front_of sizes held (if t then 0 else from.beat.word) → (if t then alone_with held word else joined_with sizes held from word) ≡ (if t then row_alone sizes held else row_joined sizes held from)
+    by_alone true e = ap (alone_with held) e
+    by_alone false e = ap (joined_with sizes held from) e
+
+    made : x ≡ row_next sizes held from
+    made =
+        same ∙ chosen ∙ ap (λ t. if t then lone else joined) is
+        ∙ ap (λ (z : Shown). if is_alone sizes held then z else joined) lones
+        ∙ ap (λ (z : Shown). if is_alone sizes held then alone_with held word else z) joins
+        ∙ by_alone (is_alone sizes held) word_is
 
 pub loaded_shown : (loads goes comes : Bool) (next rest gathered held after : Shown) → loads ≡ (goes || comes) → next ≡ (if goes then rest else gathered) → after ≡ (if loads then next else held) → after ≡ (if goes then rest else (if comes then gathered else held))
 loaded_shown loads goes comes next rest gathered held after is chosen loaded =

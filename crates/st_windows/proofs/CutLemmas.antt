@@ -4,7 +4,7 @@ use Rattle.std.proofs.lemmas.Bool.{leb-true, leb-false, ne_eqb, eqb-true, eq-eqb
 use Rattle.std.proofs.lemmas.Nat.{mod-pow-add, shr-shr, shl-shr, shr_high, mod_low, pow_pos, pow-add, shl_below}
 use Rattle.std.proofs.Math.Nat.{mod-lt, mod-eq_of_lt, mul_assoc, mul-mod_left, zero-div}
 use Rattle.std.proofs.Math.Pow.{mod-mod-pow}
-use Rattle.st_windows.specs.Cuts.{symbol, cut_of, front_at, rest_at, chosen_at}
+use Rattle.st_windows.specs.Cuts.{symbol, cut_of, front_at, rest_at, chosen_at, chosen_below}
 
 -- ---- bits
 
@@ -165,3 +165,19 @@ chosen_is count choice (suc k) few = by_count (chosen_is count choice k) (count 
     by_count : (count ≤ k → chosen_at count choice k ≡ choice count) → (t : Bool) → (count == suc k) ≡ t → (if t then choice (suc k) else chosen_at count choice k) ≡ choice count
     by_count below true e = ap choice (sym (eqb-true count (suc k) e))
     by_count below false e = let apart : count ≡ suc k → ⊥ = (λ same. both_ways _ e (eq-eqb count (suc k) same)) in below (omega (arith, few, apart))
+
+-- the choice by a count below the bound
+pub below_is : (count : ℕ) (choice : ℕ → ℕ) (other k : ℕ) → count < k → chosen_below count choice other k ≡ choice count
+below_is count choice other zero few = absurd (omega (arith, few))
+below_is count choice other (suc k) few = by_count (below_is count choice other k) (count == k) refl
+  where
+    by_count : (count < k → chosen_below count choice other k ≡ choice count) → (t : Bool) → (count == k) ≡ t → (if t then choice k else chosen_below count choice other k) ≡ choice count
+    by_count below true e = ap choice (sym (eqb-true count k e))
+    by_count below false e = let apart : count ≡ k → ⊥ = (λ same. both_ways _ e (eq-eqb count k same)) in below (omega (arith, few, apart))
+
+-- and by one that isn't
+pub above_is : (count : ℕ) (choice : ℕ → ℕ) (other k : ℕ) → k ≤ count → chosen_below count choice other k ≡ other
+above_is count choice other zero many = refl
+above_is count choice other (suc k) many =
+    ap (λ t. if t then choice k else chosen_below count choice other k) (ne_eqb count k (λ same. (absurd (omega (arith, many, same)))))
+    ∙ above_is count choice other k (omega (arith, many))

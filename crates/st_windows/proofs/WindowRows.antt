@@ -9,8 +9,8 @@ use Rattle.stream_machines.specs.Windows.{Row, AreSameRow, IsFront, is_whole, wi
 use Rattle.stage_core.specs.Groups.{Shown}
 use Rattle.st_windows.specs.declared.sizes.WindowSizes.{WindowSizes}
 use Rattle.st_windows.specs.Cuts.{symbol, cut_of, front_at, rest_at, chosen_at}
-use Rattle.st_windows.specs.Rows.{joined_count, is_alone, row_joined, row_alone, shown_front, shown_left, row_gathered}
-use Rattle.st_windows.proofs.CutLemmas.{cut_symbol, front_older, front_newer, rest_symbol, chosen_is}
+use Rattle.st_windows.specs.Rows.{joined_count, is_alone, front_of, row_joined, row_alone, shown_front, shown_left, row_gathered}
+use Rattle.st_windows.proofs.CutLemmas.{cut_symbol, front_older, front_newer, rest_symbol, chosen_is, below_is, above_is}
 
 -- ---- tests of counts
 
@@ -109,11 +109,24 @@ module _ (sizes : WindowSizes) (side : Side) (symbols_are : side.symbols ≡ siz
     pub first : x.beat.first ≡ row.first
     pub last : x.beat.last ≡ row.last
 
+  -- a symbol of the front that is held
+  front_held : (held : Shown) (coming k : ℕ) → held.beat.empty ≤ sizes.held → k < sizes.into → k < held.beat.empty → symbol sizes.bits sizes.into (front_of sizes held coming) k ≡ symbol sizes.bits sizes.held held.beat.word k
+  front_held held coming k fits inside within = by_count (cases_lt held.beat.empty sizes.into)
+    where
+      by_count : (held.beat.empty < sizes.into) ⊎ (sizes.into ≤ held.beat.empty) → symbol sizes.bits sizes.into (front_of sizes held coming) k ≡ symbol sizes.bits sizes.held held.beat.word k
+      by_count (inl few) =
+          ap (λ w. symbol sizes.bits sizes.into w k) (below_is held.beat.empty (front_at sizes.bits sizes.from sizes.into sizes.held held.beat.word coming) (cut_of sizes.bits sizes.held 0 sizes.into held.beat.word) sizes.into few)
+          ∙ front_older sizes.bits sizes.from sizes.into sizes.held held.beat.word coming held.beat.empty k few fits within
+      by_count (inr many) =
+          ap (λ w. symbol sizes.bits sizes.into w k) (above_is held.beat.empty (front_at sizes.bits sizes.from sizes.into sizes.held held.beat.word coming) (cut_of sizes.bits sizes.held 0 sizes.into held.beat.word) sizes.into many)
+          ∙ cut_symbol sizes.bits sizes.held 0 sizes.into held.beat.word k inside (omega (arith, within, fits))
+          ∙ ap (λ n. symbol sizes.bits sizes.held held.beat.word n) (omega arith)
+
   pub alone_row : (held : Shown) → held.beat.empty ≤ sizes.held → held.beat.empty < 2 ^ sizes.count → IsRowOf (row_in held) (row_alone sizes held)
   alone_row held few small = record {
     count = refl;
     small = small;
-    values = λ k inside within. cut_symbol sizes.bits sizes.held 0 sizes.into held.beat.word k inside (omega (arith, within, few)) ∙ ap (λ n. symbol sizes.bits sizes.held held.beat.word n) (omega arith);
+    values = λ k inside within. front_held held 0 k few inside within;
     channel = refl;
     error = refl;
     first = refl;
@@ -131,7 +144,7 @@ module _ (sizes : WindowSizes) (side : Side) (symbols_are : side.symbols ≡ siz
     last = refl;
   } where
     word_is : (row_joined sizes held x).beat.word ≡ front_at sizes.bits sizes.from sizes.into sizes.held held.beat.word x.beat.word held.beat.empty
-    word_is = chosen_is held.beat.empty (front_at sizes.bits sizes.from sizes.into sizes.held held.beat.word x.beat.word) (sizes.into - 1) (omega (arith, few))
+    word_is = below_is held.beat.empty (front_at sizes.bits sizes.from sizes.into sizes.held held.beat.word x.beat.word) (cut_of sizes.bits sizes.held 0 sizes.into held.beat.word) sizes.into few
 
     by_place : (k : ℕ) → k < sizes.into → k < held.beat.empty + symbol_count side x.beat → (k < held.beat.empty) ⊎ (held.beat.empty ≤ k) →
         symbol sizes.bits sizes.into (front_at sizes.bits sizes.from sizes.into sizes.held held.beat.word x.beat.word held.beat.empty) k ≡ (if nat_lt k held.beat.empty then symbol sizes.bits sizes.held held.beat.word k else value_of side x.beat.word (k - held.beat.empty))

@@ -6,7 +6,7 @@ use Rattle.netlist.specs.Runs.{Always}
 use Rattle.net_parts.specs.Nets.{IsNetOfWidth}
 use Rattle.net_parts.specs.Growth.{AddsNets}
 use Rattle.st_windows.specs.declared.sizes.WindowSizes.{WindowSizes}
-use Rattle.st_windows.specs.Cuts.{front_at, rest_at, chosen_at}
+use Rattle.st_windows.specs.Cuts.{cut_of, front_at, rest_at, chosen_at, chosen_below}
 
 chosen_by : (t : Bool) (here old coming e : ℕ) → here ≡ (if t then 1 else 0) → e ≡ (if here == 0 then old else coming) → e ≡ (if t then coming else old)
 chosen_by true here old coming e is chosen = chosen ∙ ap (λ n. if n == 0 then old else coming) is
@@ -26,13 +26,18 @@ chosen_more count (suc d) choice chosen word other some before here is =
 pub chosen_none : (count : ℕ) (choice : ℕ → ℕ) (word : ℕ) → word ≡ choice 0 → word ≡ chosen_at count choice (1 - 1)
 chosen_none count choice word is = let none : 1 - 1 ≡ 0 = omega arith in is ∙ sym (ap (chosen_at count choice) none)
 
+-- one more choice below a bound
+pub below_more : (count done : ℕ) (choice : ℕ → ℕ) (rest chosen word other : ℕ) → other ≡ chosen_below count choice rest done → word ≡ choice done → chosen ≡ (if count == done then word else other) → chosen ≡ chosen_below count choice rest (done + 1)
+below_more count done choice rest chosen word other before here is =
+    let next : done + 1 ≡ suc done = omega arith in
+    is ∙ ap (λ n. if count == done then n else other) here ∙ ap (λ n. if count == done then choice done else n) before ∙ sym (ap (chosen_below count choice rest) next)
+
 -- the front of the fewest that are held
 pub record IsFrontOf (sizes : WindowSizes) (done : ℕ) (held coming count front : NetValue) (old new : Netlist) : Type 0 where
-  pub some : 1 ≤ done
   pub most : done ≤ sizes.into
-  pub adds : AddsNets (10 * done) old new
+  pub adds : AddsNets (10 * done + 3) old new
   pub net : IsNetOfWidth new front (sizes.bits * sizes.into)
-  pub value : Always new (λ cycle. cycle.net front.number ≡ chosen_at (cycle.net count.number) (front_at sizes.bits sizes.from sizes.into sizes.held (cycle.net held.number) (cycle.net coming.number)) (done - 1))
+  pub value : Always new (λ cycle. cycle.net front.number ≡ chosen_below (cycle.net count.number) (front_at sizes.bits sizes.from sizes.into sizes.held (cycle.net held.number) (cycle.net coming.number)) (cut_of sizes.bits sizes.held 0 sizes.into (cycle.net held.number)) done)
 
 -- and the rest behind it
 pub record IsRestOf (sizes : WindowSizes) (done : ℕ) (coming count rest : NetValue) (old new : Netlist) : Type 0 where

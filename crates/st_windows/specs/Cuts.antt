@@ -27,3 +27,8 @@ rest_at bits from into held coming k = cut_of bits from (into - k) held coming
 abbrev pub chosen_at : ℕ → (ℕ → ℕ) → ℕ → ℕ
 chosen_at count choice zero = choice 0
 chosen_at count choice (suc k) = if count == suc k then choice (suc k) else chosen_at count choice k
+
+-- a choice by a count below a bound: where it is none of these, this one
+abbrev pub chosen_below : ℕ → (ℕ → ℕ) → ℕ → ℕ → ℕ
+chosen_below count choice other zero = other
+chosen_below count choice other (suc k) = if count == k then choice k else chosen_below count choice other k

@@ -2,7 +2,7 @@
 use Rattle.std.specs.Prelude.{ℕ, ◌+◌, ◌-◌, ◌%◌, ◌^◌, Bool, ◌&&◌, ◌||◌, ◌==◌, nat_lt, if◌then◌else◌, bit_or}
 use Rattle.stage_core.specs.Groups.{Shown}
 use Rattle.st_windows.specs.declared.sizes.WindowSizes.{WindowSizes}
-use Rattle.st_windows.specs.Cuts.{cut_of, front_at, rest_at, chosen_at}
+use Rattle.st_windows.specs.Cuts.{cut_of, front_at, rest_at, chosen_at, chosen_below}
 
 -- so many held and those of the beat that comes
 abbrev pub joined_count : WindowSizes → ℕ → Shown → ℕ
@@ -12,13 +12,17 @@ joined_count sizes held from = (held + (sizes.from + (2 ^ sizes.count - (if from
 abbrev pub is_alone : WindowSizes → Shown → Bool
 is_alone sizes held = nat_lt (sizes.into - 1) held.beat.empty || (held.beat.last == 1)
 
--- what is held and behind it what comes, valid where it makes a beat; its word has the symbols of a beat
-abbrev pub row_joined : WindowSizes → Shown → Shown → Shown
-row_joined sizes held from =
+-- the symbols of a beat: those that are held, and behind them those of this word
+abbrev pub front_of : WindowSizes → Shown → ℕ → ℕ
+front_of sizes held coming = chosen_below held.beat.empty (front_at sizes.bits sizes.from sizes.into sizes.held held.beat.word coming) (cut_of sizes.bits sizes.held 0 sizes.into held.beat.word) sizes.into
+
+-- what is held and behind it what comes, valid where it makes a beat, with this word
+abbrev pub joined_with : WindowSizes → Shown → Shown → ℕ → Shown
+joined_with sizes held from word =
     record {
       valid = if (from.valid == 1) && (nat_lt (sizes.into - 1) (joined_count sizes held.beat.empty from) || (from.beat.last == 1)) then 1 else 0;
       beat = record {
-        word = chosen_at held.beat.empty (front_at sizes.bits sizes.from sizes.into sizes.held held.beat.word from.beat.word) (sizes.into - 1);
+        word = word;
         channel = from.beat.channel;
         error = bit_or held.beat.error from.beat.error;
         first = if held.beat.empty == 0 then from.beat.first else held.beat.first;
@@ -27,9 +31,17 @@ row_joined sizes held from =
       };
     }
 
--- what is held, alone
+-- and with the word of a beat
+abbrev pub row_joined : WindowSizes → Shown → Shown → Shown
+row_joined sizes held from = joined_with sizes held from (front_of sizes held from.beat.word)
+
+-- what is held, alone, with this word
+abbrev pub alone_with : Shown → ℕ → Shown
+alone_with held word = record { valid = 1; beat = record held.beat { word = word } }
+
+-- and with the word of a beat, in which nothing comes behind what is held
 abbrev pub row_alone : WindowSizes → Shown → Shown
-row_alone sizes held = record { valid = 1; beat = record held.beat { word = cut_of sizes.bits sizes.held 0 sizes.into held.beat.word } }
+row_alone sizes held = alone_with held (front_of sizes held 0)
 
 -- what goes out next
 abbrev pub row_next : WindowSizes → Shown → Shown → Shown

@@ -9,7 +9,7 @@ ghost use Rattle.net_parts.specs.Growth.{AddsNets};
 ghost use Rattle.stage_core.specs.Beats.{AreBeatNets, HaveSameWidths};
 ghost use Rattle.stage_core.specs.Groups.{shown_in};
 ghost use Rattle.st_windows.specs.Cuts.{cut_of, rest_at, chosen_at};
-ghost use Rattle.st_windows.specs.Rows.{row_joined, row_alone, shown_front, shown_left, row_gathered};
+ghost use Rattle.st_windows.specs.Rows.{is_alone, front_of, joined_with, alone_with, row_next, shown_front, shown_left, row_gathered};
 ghost use Rattle.st_windows.specs.RowNets.{HaveRowWidths, ComesTo};
 
 use crate::counts::{count_joined, makes_beat};
@@ -19,26 +19,51 @@ use crate::words::{front_word, rest_word};
 use net_parts::{constant, level};
 use netlist::{Builder, Net, NetFault};
 use stage_core::BeatNets;
+use stage_core::makers::mux_beat;
 
-/// What is held with what comes behind it, valid where these make a beat.
+/// The word of the beat that goes out next. Nothing comes behind what is held where that goes alone.
 #[tactic(auto, using(net_parts::specs::Laws::growing))]
-pub(crate) fn join_row(
+fn next_word(
     builder: &mut Builder,
     sizes: &WindowSizes,
     held: &BeatNets,
     from: &BeatNets,
-) -> Result<BeatNets, NetFault>
+    alone: Net,
+) -> Result<Net, NetFault>
     requires held { AreBeatNets builder.old held.now }
     requires from { AreBeatNets builder.old from.now }
     requires held_widths { HaveRowWidths sizes.now sizes.now.held from.now held.now }
     requires comes { ComesTo sizes.now from.now }
+    requires alone { IsBit builder.old alone }
+    ensures net { IfOk result (λ word. IsNetOfWidth builder.new word (sizes.now.bits * sizes.now.into)) }
+    ensures value { IfOk result (λ word. Always builder.new (λ cycle. cycle.net word.number ≡ front_of sizes.now (shown_in cycle held.now) (if cycle.net alone.number == 1 then 0 else cycle.net from.now.word.number))) }
+    ensures adds { AddsNets (10 * sizes.now.into + 5) builder.old builder.new }
+    ensures full { result ≡ Err NetFault.TooManyNets → 2 ^ 20 < length builder.old.lines + (10 * sizes.now.into + 5) }
+{
+    let nothing = constant(builder, sizes.bits * sizes.from, 0)?;
+    let coming = builder.mux(alone, nothing, from.word)?;
+    front_word(builder, sizes, held.word, coming, held.empty)
+}
+
+/// What is held with what comes behind it, with this word, valid where these make a beat.
+#[tactic(auto, using(net_parts::specs::Laws::growing))]
+fn join_row(
+    builder: &mut Builder,
+    sizes: &WindowSizes,
+    held: &BeatNets,
+    from: &BeatNets,
+    word: Net,
+) -> Result<BeatNets, NetFault>
+    requires held { AreBeatNets builder.old held.now }
+    requires from { AreBeatNets builder.old from.now }
+    requires held_widths { HaveRowWidths sizes.now sizes.now.held from.now held.now }
+    requires word { IsNetOfWidth builder.old word (sizes.now.bits * sizes.now.into) }
     ensures row { IfOk result (λ made. AreBeatNets builder.new made) }
     ensures widths { IfOk result (λ made. HaveRowWidths sizes.now sizes.now.into from.now made) }
-    ensures value { IfOk result (λ made. Always builder.new (λ cycle. shown_in cycle made ≡ row_joined sizes.now (shown_in cycle held.now) (shown_in cycle from.now))) }
-    ensures adds { AddsNets (10 * sizes.now.into + 15) builder.old builder.new }
-    ensures full { result ≡ Err NetFault.TooManyNets → 2 ^ 20 < length builder.old.lines + (10 * sizes.now.into + 15) }
+    ensures value { IfOk result (λ made. Always builder.new (λ cycle. shown_in cycle made ≡ joined_with sizes.now (shown_in cycle held.now) (shown_in cycle from.now) (cycle.net word.number))) }
+    ensures adds { AddsNets 15 builder.old builder.new }
+    ensures full { result ≡ Err NetFault.TooManyNets → 2 ^ 20 < length builder.old.lines + 15 }
 {
-    let word = front_word(builder, sizes, held.word, from.word, held.empty)?;
     let count = count_joined(builder, sizes, held.empty, from)?;
     let whole = makes_beat(builder, sizes, count, from.last)?;
     let valid = builder.and(from.valid, whole)?;
@@ -56,28 +81,60 @@ pub(crate) fn join_row(
     })
 }
 
-/// What is held, alone.
+/// What is held, alone, with this word.
 #[tactic(auto, using(net_parts::specs::Laws::growing))]
-pub(crate) fn lone_row(
+fn lone_row(
     builder: &mut Builder,
     sizes: &WindowSizes,
     held: &BeatNets,
+    word: Net,
 ) -> Result<BeatNets, NetFault>
     requires held { AreBeatNets builder.old held.now }
-    requires word { held.now.word.width ≡ sizes.now.bits * sizes.now.held }
     requires empty { held.now.empty.width ≡ sizes.now.count }
+    requires word { IsNetOfWidth builder.old word (sizes.now.bits * sizes.now.into) }
     ensures row { IfOk result (λ made. AreBeatNets builder.new made) }
     ensures widths { IfOk result (λ made. HaveRowWidths sizes.now sizes.now.into held.now made) }
-    ensures value { IfOk result (λ made. Always builder.new (λ cycle. shown_in cycle made ≡ row_alone sizes.now (shown_in cycle held.now))) }
-    ensures adds { AddsNets 4 builder.old builder.new }
-    ensures full { result ≡ Err NetFault.TooManyNets → 2 ^ 20 < length builder.old.lines + 4 }
+    ensures value { IfOk result (λ made. Always builder.new (λ cycle. shown_in cycle made ≡ alone_with (shown_in cycle held.now) (cycle.net word.number))) }
+    ensures adds { AddsNets 1 builder.old builder.new }
+    ensures full { result ≡ Err NetFault.TooManyNets → 2 ^ 20 < length builder.old.lines + 1 }
 {
-    let word = cut_symbols(builder, sizes.bits, held.word, sizes.held, 0, sizes.into)?;
     let valid = level(builder, true)?;
     Ok(BeatNets {
         valid,
         word,
         ..held.copied()
+    })
+}
+
+/// What goes out next.
+#[tactic(auto, using(net_parts::specs::Laws::growing))]
+pub(crate) fn next_row(
+    builder: &mut Builder,
+    sizes: &WindowSizes,
+    held: &BeatNets,
+    from: &BeatNets,
+    alone: Net,
+) -> Result<BeatNets, NetFault>
+    requires held { AreBeatNets builder.old held.now }
+    requires from { AreBeatNets builder.old from.now }
+    requires held_widths { HaveRowWidths sizes.now sizes.now.held from.now held.now }
+    requires comes { ComesTo sizes.now from.now }
+    requires alone { IsBit builder.old alone }
+    requires is_alone { Always builder.old (λ cycle. (cycle.net alone.number == 1) ≡ is_alone sizes.now (shown_in cycle held.now)) }
+    ensures row { IfOk result (λ made. AreBeatNets builder.new made) }
+    ensures widths { IfOk result (λ made. HaveRowWidths sizes.now sizes.now.into from.now made) }
+    ensures value { IfOk result (λ made. Always builder.new (λ cycle. shown_in cycle made ≡ row_next sizes.now (shown_in cycle held.now) (shown_in cycle from.now))) }
+    ensures adds { AddsNets (10 * sizes.now.into + 28) builder.old builder.new }
+    ensures full { result ≡ Err NetFault.TooManyNets → 2 ^ 20 < length builder.old.lines + (10 * sizes.now.into + 28) }
+{
+    let word = next_word(builder, sizes, held, from, alone)?;
+    let joined = join_row(builder, sizes, held, from, word)?;
+    let lone = lone_row(builder, sizes, held, word)?;
+    let row = mux_beat(builder, alone, &lone, &joined)?;
+    // Both have this word, so it needs no choice.
+    Ok(BeatNets {
+        word,
+        ..row.copied()
     })
 }
 

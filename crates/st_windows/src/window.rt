@@ -1,6 +1,6 @@
 //! A window of symbols: beats of one size become beats of another, any two, as soon as there are enough symbols or a packet ends.
 //! A beat is taken in each cycle in which what is held makes none by itself, and no beat is shown or it goes. Its state is a beat
-//! of the larger size without a symbol, and it makes 16 nets for each symbol of a beat that goes, and 82 more at most. Its law
+//! of the larger size without a symbol, and it makes 16 nets for each symbol of a beat that goes, and 84 more at most. Its law
 //! is that of `window_is_a_stage`.
 
 ghost use Rattle.std.specs.Prelude.{◌≡◌, ℕ, ◌+◌, ◌*◌, ◌^◌, ◌<◌, ◌≤◌, ◌==◌, ◌&&◌, ◌||◌, not, length, IfOk};
@@ -14,7 +14,7 @@ ghost use Rattle.st_windows.specs.Rows.{is_alone, row_next, shown_front, row_lef
 ghost use Rattle.st_windows.specs.WindowNets.{IsWindowShape, WindowKeeps, WindowForward, WindowBackward, keeps_lasts, forward_lasts, backward_lasts};
 
 use crate::counts::makes_beat;
-use crate::rows::{gather_row, join_row, leave_row, lone_row, show_row};
+use crate::rows::{gather_row, leave_row, next_row, show_row};
 use crate::sizes::WindowSizes;
 use net_parts::{constant, is_above};
 use netlist::{Builder, Net, NetFault};
@@ -109,13 +109,11 @@ fn window_rows(
     ensures shows { IfOk result (λ made. Always builder.new (λ cycle. shown_in cycle made.to ≡ shown_front sizes.now (row_next sizes.now (shown_in cycle held.now) (shown_in cycle from.now)))) }
     ensures leaves { IfOk result (λ made. Always builder.new (λ cycle. shown_in cycle made.rest ≡ row_left sizes.now (shown_in cycle held.now) (shown_in cycle from.now))) }
     ensures gathers { IfOk result (λ made. Always builder.new (λ cycle. shown_in cycle made.gathered ≡ row_gathered sizes.now (row_next sizes.now (shown_in cycle held.now) (shown_in cycle from.now)))) }
-    ensures adds { AddsNets (16 * sizes.now.into + 52) builder.old builder.new }
-    ensures full { result ≡ Err NetFault.TooManyNets → 2 ^ 20 < length builder.old.lines + (16 * sizes.now.into + 52) }
+    ensures adds { AddsNets (16 * sizes.now.into + 54) builder.old builder.new }
+    ensures full { result ≡ Err NetFault.TooManyNets → 2 ^ 20 < length builder.old.lines + (16 * sizes.now.into + 54) }
 {
     let alone = makes_beat(builder, sizes, held.empty, held.last)?;
-    let joined = join_row(builder, sizes, held, from)?;
-    let lone = lone_row(builder, sizes, held)?;
-    let row = mux_beat(builder, alone, &lone, &joined)?;
+    let row = next_row(builder, sizes, held, from, alone)?;
     let more = is_above(builder, row.empty, sizes.count, u32::from(sizes.into))?;
     let to = show_row(builder, sizes, &row, more)?;
     let rest = leave_row(builder, sizes, held, from, alone, &row, more)?;
@@ -159,7 +157,7 @@ impl Stage for Window {
 
     ghost gives = { λ s widths. record widths { word = s.sizes.bits * s.sizes.into; empty = s.sizes.count } };
 
-    ghost forward_nets = { λ s. 16 * s.sizes.into + 61 };
+    ghost forward_nets = { λ s. 16 * s.sizes.into + 63 };
 
     ghost backward_nets = { λ s. 21 };
 

@@ -5,7 +5,7 @@ ghost use Rattle.netlist.specs.Netlists.{IsNet};
 ghost use Rattle.netlist.specs.Runs.{Always};
 ghost use Rattle.net_parts.specs.Nets.{IsNetOfWidth};
 ghost use Rattle.net_parts.specs.Growth.{AddsNets};
-ghost use Rattle.st_windows.specs.Cuts.{front_at, rest_at, chosen_at};
+ghost use Rattle.st_windows.specs.Cuts.{cut_of, front_at, rest_at, chosen_at, chosen_below};
 
 use crate::sizes::WindowSizes;
 use crate::symbols::cut_symbols;
@@ -62,7 +62,7 @@ fn choose_at(
     builder.mux(here, word, other)
 }
 
-/// The front of the symbols that are held, so many, and those that come.
+/// The front of the symbols that are held, so many, and those that come: of those that are held alone, where these fill it.
 #[tactic(auto, using(net_parts::specs::Laws::growing))]
 pub(crate) fn front_word(
     builder: &mut Builder,
@@ -75,12 +75,12 @@ pub(crate) fn front_word(
     requires coming { IsNetOfWidth builder.old coming (sizes.now.bits * sizes.now.from) }
     requires count { IsNetOfWidth builder.old count sizes.now.count }
     ensures net { IfOk result (λ front. IsNetOfWidth builder.new front (sizes.now.bits * sizes.now.into)) }
-    ensures value { IfOk result (λ front. Always builder.new (λ cycle. cycle.net front.number ≡ chosen_at (cycle.net count.number) (front_at sizes.now.bits sizes.now.from sizes.now.into sizes.now.held (cycle.net held.number) (cycle.net coming.number)) (sizes.now.into - 1))) }
-    ensures adds { AddsNets (10 * sizes.now.into) builder.old builder.new }
-    ensures full { result ≡ Err NetFault.TooManyNets → 2 ^ 20 < length builder.old.lines + 10 * sizes.now.into }
+    ensures value { IfOk result (λ front. Always builder.new (λ cycle. cycle.net front.number ≡ chosen_below (cycle.net count.number) (front_at sizes.now.bits sizes.now.from sizes.now.into sizes.now.held (cycle.net held.number) (cycle.net coming.number)) (cut_of sizes.now.bits sizes.now.held 0 sizes.now.into (cycle.net held.number)) sizes.now.into)) }
+    ensures adds { AddsNets (10 * sizes.now.into + 3) builder.old builder.new }
+    ensures full { result ≡ Err NetFault.TooManyNets → 2 ^ 20 < length builder.old.lines + (10 * sizes.now.into + 3) }
 {
-    let mut front = lay_front(builder, sizes, held, coming, 0)?;
-    for most in 1..sizes.into {
+    let mut front = cut_symbols(builder, sizes.bits, held, sizes.held, 0, sizes.into)?;
+    for most in 0..sizes.into {
         let laid = lay_front(builder, sizes, held, coming, most)?;
         front = choose_at(builder, sizes, count, most, laid, front)?;
     }

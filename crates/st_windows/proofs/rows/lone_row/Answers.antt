@@ -1,5 +1,5 @@
-use Rattle.std.proofs.Common.{◌∙◌, sym, subst, ap, arith}
-use Rattle.net_parts.specs.Laws.{extends_twice, adds_twice, adds_fewer}
+use Rattle.std.proofs.Common.{◌∙◌, refl, sym, subst, ap, arith}
+use Rattle.net_parts.specs.Laws.{adds_fewer}
 use Rattle.net_parts.specs.Refusing.{handed_on}
 use Rattle.stage_core.specs.Beats.{AreBeatNets}
 use Rattle.stage_core.specs.Groups.{shown_in}
@@ -10,40 +10,29 @@ use Rattle.st_windows.proofs.rows.lone_row.Goals as goal
 
 pub returns-clause-row : goal.returns-clause-row
 returns-clause-row c =
-    let base = subst (AreBeatNets c.level.new.builder) (sym c.copied.ensures) (beat_lasts _ _ _ (extends_twice _ _ _ c.cut_symbols.ensures.adds.grows.extends c.level.ensures.adds.grows.extends) c.requires.held) in
-    record { valid = c.in_ok-valid.ensures.net; word = c.level.ensures.adds.grows.extends.nets _ _ c.in_ok-word.ensures.net.is_net; channel = base.channel; error = base.error; first = base.first; last = base.last; empty = base.empty }
+    let base = subst (AreBeatNets c.level.new.builder) (sym c.copied.ensures) (beat_lasts _ _ _ c.level.ensures.adds.grows.extends c.requires.held) in
+    record { valid = c.in_ok-valid.ensures.net; word = c.level.ensures.adds.grows.extends.nets _ _ c.requires.word.is_net; channel = base.channel; error = base.error; first = base.first; last = base.last; empty = base.empty }
 
 pub returns-clause-widths : goal.returns-clause-widths
 returns-clause-widths c =
     record {
-      word = c.in_ok-word.ensures.net.has_width;
+      word = c.requires.word.has_width;
       channel = ap (λ (n : BeatNets). n.channel.width) c.copied.ensures;
       error = ap (λ (n : BeatNets). n.error.width) c.copied.ensures;
       empty = ap (λ (n : BeatNets). n.empty.width) c.copied.ensures ∙ c.requires.empty;
     }
 
 pub returns-clause-value : goal.returns-clause-value
-returns-clause-value c cycle v2 =
-    let v1 = c.level.ensures.adds.grows.extends.valuations cycle v2 in
-    worded_shown (shown_in cycle c.copied.result) (shown_in cycle c.args.held.now) _ 1 _ _ (ap (shown_in cycle) c.copied.ensures) (c.in_ok-valid.ensures.value cycle v2) (c.in_ok-word.ensures.value cycle v1)
-
-pub returns-in_err-word-clause-adds : goal.returns-in_err-word-clause-adds
-returns-in_err-word-clause-adds c = adds_fewer _ _ _ _ (omega arith) c.cut_symbols.ensures.adds
+returns-clause-value c cycle v = worded_shown (shown_in cycle c.copied.result) (shown_in cycle c.args.held.now) _ 1 _ _ (ap (shown_in cycle) c.copied.ensures) (c.in_ok-valid.ensures.value cycle v) refl
 
 pub returns-in_err-valid-clause-adds : goal.returns-in_err-valid-clause-adds
-returns-in_err-valid-clause-adds c = adds_fewer _ _ _ _ (omega arith) (adds_twice _ _ _ _ _ c.cut_symbols.ensures.adds c.level.ensures.adds)
+returns-in_err-valid-clause-adds c = adds_fewer _ _ _ _ (omega arith) c.level.ensures.adds
 
 pub returns-clause-adds : goal.returns-clause-adds
-returns-clause-adds c = adds_fewer _ _ _ _ (omega arith) (adds_twice _ _ _ _ _ c.cut_symbols.ensures.adds c.level.ensures.adds)
-
-pub returns-in_err-word-clause-full : goal.returns-in_err-word-clause-full
-returns-in_err-word-clause-full c e = let full = c.cut_symbols.ensures.full (handed_on _ _ _ _ c.in_err-word.was c.from_residual.ensures.1 e) in omega (arith, full)
+returns-clause-adds c = adds_fewer _ _ _ _ (omega arith) c.level.ensures.adds
 
 pub returns-in_err-valid-clause-full : goal.returns-in_err-valid-clause-full
-returns-in_err-valid-clause-full c e = let most0 = c.cut_symbols.ensures.adds.most in let full = c.level.ensures.full (handed_on _ _ _ _ c.in_err-valid.was c.from_residual-in_err-valid.ensures.1 e) in omega (arith, most0, full)
+returns-in_err-valid-clause-full c e = let full = c.level.ensures.full (handed_on _ _ _ _ c.in_err-valid.was c.from_residual.ensures.1 e) in omega (arith, full)
 
 pub returns-clause-full : goal.returns-clause-full
 returns-clause-full c e = cc
-
-pub cut_symbols-requires-clause-word : goal.cut_symbols-requires-clause-word
-cut_symbols-requires-clause-word c = record { is_net = c.requires.held.word; has_width = c.requires.word }
