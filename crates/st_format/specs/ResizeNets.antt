@@ -73,7 +73,7 @@ abbrev pub resize_forward : Resize → ℕ
 resize_forward Equal = 0
 resize_forward (Cut stage) = 34
 resize_forward (Join stage) = 5 * stage.sizes.parts + 29
-resize_forward (Slide stage) = 16 * stage.sizes.into + 63
+resize_forward (Slide stage) = 16 * stage.sizes.into + 73
 
 abbrev pub resize_backward : Resize → ℕ
 resize_backward Equal = 0

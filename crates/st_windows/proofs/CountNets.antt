@@ -1,10 +1,13 @@
 -- What nets make of counts and of rows.
-use Rattle.std.proofs.Common.{◌≡◌, ℕ, zero, suc, ◌+◌, ◌-◌, ◌%◌, ◌^◌, ◌<◌, Bool, true, false, ◌&&◌, ◌||◌, ◌==◌, nat_lt, not, if◌then◌else◌, bit_and, bit_or, refl, sym, ap, ◌∙◌, arith}
+use Rattle.std.proofs.Common.{◌≡◌, ℕ, zero, suc, ◌+◌, ◌-◌, ◌%◌, ◌^◌, ◌<◌, ◌≤◌, Bool, true, false, ◌&&◌, ◌||◌, ◌==◌, nat_lt, not, if◌then◌else◌, bit_and, bit_or, refl, sym, ap, ◌∙◌, arith}
+use Rattle.std.proofs.Math.Nat.{mod-lt, mod-eq_of_lt}
+use Rattle.std.proofs.Math.Pow.{pow_mono}
+use Rattle.std.proofs.lemmas.Nat.{pow_pos}
 use Rattle.net_parts.specs.Bits.{chosen_high, high_and, high_room, high_turned}
 use Rattle.stage_core.specs.Groups.{Shown}
 use Rattle.stage_core.specs.BeatLaws.{shown_same}
 use Rattle.st_windows.specs.declared.sizes.WindowSizes.{WindowSizes}
-use Rattle.st_windows.specs.Rows.{joined_count, is_alone, front_of, joined_with, alone_with, row_joined, row_alone, row_next, shown_front, shown_left}
+use Rattle.st_windows.specs.Rows.{joined_count, is_alone, front_of, joined_with, alone_with, row_joined, row_alone, row_next, shown_front, shown_left, held_few}
 
 pub count_is : (b w u held last fitted none empty size coming out e from : ℕ) → w ≡ b → u ≡ b → last < 2 → fitted ≡ e % 2 ^ b → none ≡ 0 → empty ≡ (if last == 0 then none else fitted) → size ≡ from → coming ≡ (size + (2 ^ u - empty)) % 2 ^ u → out ≡ (held + coming) % 2 ^ w →
     out ≡ (held + (from + (2 ^ b - (if last == 1 then e % 2 ^ b else 0))) % 2 ^ b) % 2 ^ b
@@ -45,6 +48,19 @@ pub worded_shown : (x y : Shown) (valid valued word wanted : ℕ) → x ≡ y �
     (record { valid = valid; beat = record { word = word; channel = x.beat.channel; error = x.beat.error; first = x.beat.first; last = x.beat.last; empty = x.beat.empty } }) ≡ (let z : Shown = record { valid = valued; beat = record y.beat { word = wanted } } in z)
 worded_shown x y valid valued word wanted same valids words =
     shown_same _ _ valids words (ap (λ (z : Shown). z.beat.channel) same) (ap (λ (z : Shown). z.beat.error) same) (ap (λ (z : Shown). z.beat.first) same) (ap (λ (z : Shown). z.beat.last) same) (ap (λ (z : Shown). z.beat.empty) same)
+
+-- a row whose count has the bits that what is held needs
+pub few_shown : (sizes : WindowSizes) (x y : Shown) (low empty : ℕ) → x ≡ y → low ≡ y.beat.empty % 2 ^ sizes.held_count → empty ≡ low % 2 ^ sizes.count →
+    (record { valid = x.valid; beat = record { word = x.beat.word; channel = x.beat.channel; error = x.beat.error; first = x.beat.first; last = x.beat.last; empty = empty } }) ≡ held_few sizes y
+few_shown sizes x y low empty same is fitted =
+    shown_same _ (held_few sizes y) (ap (λ (z : Shown). z.valid) same) (ap (λ (z : Shown). z.beat.word) same) (ap (λ (z : Shown). z.beat.channel) same) (ap (λ (z : Shown). z.beat.error) same) (ap (λ (z : Shown). z.beat.first) same) (ap (λ (z : Shown). z.beat.last) same)
+    (fitted ∙ mod-eq_of_lt (omega (arith, is, below, more)) ∙ is)
+  where
+    below : y.beat.empty % 2 ^ sizes.held_count < 2 ^ sizes.held_count
+    below = mod-lt y.beat.empty (pow_pos sizes.held_count)
+
+    more : 2 ^ sizes.held_count ≤ 2 ^ sizes.count
+    more = pow_mono sizes.few_held_count
 
 -- a choice by a bit that says what a test says
 pub picked : (t : Bool) (bit x y e : ℕ) → bit ≡ (if t then 1 else 0) → e ≡ (if bit == 0 then y else x) → e ≡ (if t then x else y)

@@ -1,6 +1,6 @@
 -- The symbols of words that are cut and joined.
 use Rattle.std.proofs.Common.{◌≡◌, ℕ, zero, suc, ◌+◌, ◌-◌, ◌*◌, ◌/◌, ◌%◌, ◌^◌, ◌<◌, ◌≤◌, Bool, true, false, ◌==◌, nat_le, if◌then◌else◌, refl, sym, subst, ap, ◌∙◌, arith}
-use Rattle.std.proofs.lemmas.Bool.{leb-true, leb-false, ne_eqb, eqb-true, eq-eqb, both_ways}
+use Rattle.std.proofs.lemmas.Bool.{leb-true, leb-false, le-leb, ne_eqb, eqb-true, eq-eqb, both_ways}
 use Rattle.std.proofs.lemmas.Nat.{mod-pow-add, shr-shr, shl-shr, shr_high, mod_low, pow_pos, pow-add, shl_below}
 use Rattle.std.proofs.Math.Nat.{mod-lt, mod-eq_of_lt, mul_assoc, mul-mod_left, zero-div}
 use Rattle.std.proofs.Math.Pow.{mod-mod-pow}
@@ -181,3 +181,35 @@ above_is count choice other zero many = refl
 above_is count choice other (suc k) many =
     ap (λ t. if t then choice k else chosen_below count choice other k) (ne_eqb count k (λ same. (absurd (omega (arith, many, same)))))
     ∙ above_is count choice other k (omega (arith, many))
+
+-- nothing is left of a word of nothing
+cut_none : (b size skipped wanted : ℕ) → cut_of b size skipped wanted 0 ≡ 0
+cut_none b size skipped wanted = by_size (nat_le size skipped)
+  where
+    by_wanted : (t : Bool) → (if t then 0 / 2 ^ (b * (size - skipped - wanted)) % 2 ^ (b * wanted) else 0 % 2 ^ (b * (size - skipped)) * 2 ^ (b * (wanted - (size - skipped)))) ≡ 0
+    by_wanted true = ap (λ n. n % 2 ^ (b * wanted)) (zero-div (2 ^ (b * (size - skipped - wanted)))) ∙ mod-eq_of_lt (pow_pos (b * wanted))
+    by_wanted false = ap (λ n. n * 2 ^ (b * (wanted - (size - skipped)))) (mod-eq_of_lt (pow_pos (b * (size - skipped)))) ∙ omega arith
+
+    by_size : (t : Bool) → (if t then 0 else (if nat_le wanted (size - skipped) then 0 / 2 ^ (b * (size - skipped - wanted)) % 2 ^ (b * wanted) else 0 % 2 ^ (b * (size - skipped)) * 2 ^ (b * (wanted - (size - skipped))))) ≡ 0
+    by_size true = refl
+    by_size false = by_wanted (nat_le wanted (size - skipped))
+
+rest_none : (b from into held count k : ℕ) → chosen_at count (rest_at b from into held 0) k ≡ 0
+rest_none b from into held count zero = cut_none b from (into - 0) held
+rest_none b from into held count (suc k) = by_test (count == suc k) (rest_none b from into held count k)
+  where
+    by_test : (t : Bool) → chosen_at count (rest_at b from into held 0) k ≡ 0 → (if t then cut_of b from (into - suc k) held 0 else chosen_at count (rest_at b from into held 0) k) ≡ 0
+    by_test true none = cut_none b from (into - suc k) held
+    by_test false none = none
+
+-- where no more is held than a beat has, what is left is the same whether it goes alone or a masked word comes
+pub masked_rest : (b from into held count word coming k : ℕ) (alone : Bool) → held ≤ into →
+    chosen_at count (rest_at b from into held (if alone then 0 else coming)) k ≡ (if alone then cut_of b held into held word else chosen_at count (rest_at b from into held coming) k)
+masked_rest b from into held count word coming k true few = rest_none b from into held count k ∙ sym (ap (λ t. if t then 0 else (if nat_le held (held - into) then word / 2 ^ (b * (held - into - held)) % 2 ^ (b * held) else word % 2 ^ (b * (held - into)) * 2 ^ (b * (held - (held - into))))) (le-leb held into few))
+masked_rest b from into held count word coming k false few = refl
+
+-- and where more is held
+pub chosen_rest : (b from into held count word coming k : ℕ) (alone : Bool) →
+    (if alone then cut_of b held into held word else chosen_at count (rest_at b from into held (if alone then 0 else coming)) k) ≡ (if alone then cut_of b held into held word else chosen_at count (rest_at b from into held coming) k)
+chosen_rest b from into held count word coming k true = refl
+chosen_rest b from into held count word coming k false = refl

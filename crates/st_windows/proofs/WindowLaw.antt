@@ -18,9 +18,9 @@ use Rattle.stage_core.specs.BeatLaws.{same_state, show_same, all_same}
 use Rattle.st_windows.specs.declared.sizes.WindowSizes.{WindowSizes}
 use Rattle.st_windows.specs.declared.window.WindowKept.{WindowKept}
 use Rattle.st_windows.specs.Cuts.{cut_of, rest_at, chosen_at}
-use Rattle.st_windows.specs.Rows.{joined_count, is_alone, row_joined, row_alone, row_next, shown_front, shown_left, row_left, row_gathered}
+use Rattle.st_windows.specs.Rows.{joined_count, is_alone, row_joined, row_alone, row_next, shown_front, shown_left, row_behind, row_left, row_gathered}
 use Rattle.st_windows.specs.WindowNets.{IsWindowShape, WindowForward, WindowBackward}
-use Rattle.st_windows.proofs.WindowRows.{into, row_in, HoldsData, alone_is, few_held, whole_is, IsRowOf, alone_row, joined_row, front_is, left_is, alone_left, joined_left, gathered_is, left_few}
+use Rattle.st_windows.proofs.WindowRows.{into, row_in, HoldsData, alone_is, few_held, whole_is, IsRowOf, alone_row, joined_row, front_is, left_is, alone_left, joined_left, few_same, gathered_is, left_few}
 
 one_if : (t : Bool) → ((if t then 1 else 0) == 1) ≡ t
 one_if true = refl
@@ -73,11 +73,11 @@ module _ (sizes : WindowSizes) (side : Side) (symbols_are : side.symbols ≡ siz
       by_alone true e = alone_row sizes side symbols_are bits_are high held few small
       by_alone false e = joined_row sizes side symbols_are bits_are high held x (few_held sizes side symbols_are bits_are high held e) (holds e)
 
-  -- and the registers hold what is left of it once a beat has gone
-  pub left_row : (held x : Shown) → held.beat.empty ≤ sizes.held → held.beat.empty < 2 ^ sizes.count → (is_alone sizes held ≡ false → HoldsData sizes side symbols_are bits_are high x.beat) →
-      AreSameRow (held_row (row_left sizes held x)) (behind_beat sizes.into (if whole_row (held_row held) then held.beat.error else x.beat.error) (row_of held x))
-  left_row held x few small holds =
-      subst (λ t. AreSameRow (held_row (row_left sizes held x)) (behind_beat sizes.into (if t then held.beat.error else x.beat.error) (if t then held_row held else with_beat side (held_row held) x.beat))) (sym (alone_is sizes side symbols_are bits_are high held)) (by_alone (is_alone sizes held) refl)
+  -- what is left of it once a beat has gone
+  left_behind : (held x : Shown) → held.beat.empty ≤ sizes.held → held.beat.empty < 2 ^ sizes.count → (is_alone sizes held ≡ false → HoldsData sizes side symbols_are bits_are high x.beat) →
+      AreSameRow (held_row (row_behind sizes held x)) (behind_beat sizes.into (if whole_row (held_row held) then held.beat.error else x.beat.error) (row_of held x))
+  left_behind held x few small holds =
+      subst (λ t. AreSameRow (held_row (row_behind sizes held x)) (behind_beat sizes.into (if t then held.beat.error else x.beat.error) (if t then held_row held else with_beat side (held_row held) x.beat))) (sym (alone_is sizes side symbols_are bits_are high held)) (by_alone (is_alone sizes held) refl)
     where
       by_alone : (t : Bool) → is_alone sizes held ≡ t →
           AreSameRow (held_row (shown_left sizes (if t then row_alone sizes held else row_joined sizes held x)
@@ -98,6 +98,16 @@ module _ (sizes : WindowSizes) (side : Side) (symbols_are : side.symbols ≡ siz
       by_alone : (t : Bool) → is_alone sizes held ≡ t → (if t then held_row held else with_beat side (held_row held) x.beat).count - sizes.into ≤ sizes.held
       by_alone true e = omega (arith, few)
       by_alone false e = left_few sizes side symbols_are bits_are high held x (few_held sizes side symbols_are bits_are high held e) (holds e)
+
+  -- and the registers hold it
+  pub left_row : (held x : Shown) → held.beat.empty ≤ sizes.held → held.beat.empty < 2 ^ sizes.count → (is_alone sizes held ≡ false → HoldsData sizes side symbols_are bits_are high x.beat) →
+      AreSameRow (held_row (row_left sizes held x)) (behind_beat sizes.into (if whole_row (held_row held) then held.beat.error else x.beat.error) (row_of held x))
+  left_row held x few small holds =
+      let left = left_behind held x few small holds in
+      let count = left.count in
+      let within = left_within held x few holds in
+      subst (λ (y : Shown). AreSameRow (held_row y) (behind_beat sizes.into (if whole_row (held_row held) then held.beat.error else x.beat.error) (row_of held x)))
+      (sym (few_same sizes side symbols_are bits_are high (row_behind sizes held x) (omega (arith, count, within)))) left
 
   -- where it makes no beat, it is few
   pub few_gathered : (row : Row) → whole_row row ≡ false → row.count < sizes.into

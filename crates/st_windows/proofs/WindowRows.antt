@@ -7,9 +7,10 @@ use Rattle.stream_runs.specs.Symbols.{symbol_count, value_of}
 use Rattle.stream_machines.specs.Line.{of_symbols}
 use Rattle.stream_machines.specs.Windows.{Row, AreSameRow, IsFront, is_whole, with_beat, behind_beat}
 use Rattle.stage_core.specs.Groups.{Shown}
+use Rattle.stage_core.specs.BeatLaws.{shown_same}
 use Rattle.st_windows.specs.declared.sizes.WindowSizes.{WindowSizes}
 use Rattle.st_windows.specs.Cuts.{symbol, cut_of, front_at, rest_at, chosen_at}
-use Rattle.st_windows.specs.Rows.{joined_count, is_alone, front_of, row_joined, row_alone, shown_front, shown_left, row_gathered}
+use Rattle.st_windows.specs.Rows.{joined_count, is_alone, front_of, row_joined, row_alone, shown_front, shown_left, held_few, row_gathered}
 use Rattle.st_windows.proofs.CutLemmas.{cut_symbol, front_older, front_newer, rest_symbol, chosen_is, below_is, above_is}
 
 -- ---- tests of counts
@@ -209,16 +210,22 @@ module _ (sizes : WindowSizes) (side : Side) (symbols_are : side.symbols ≡ siz
       ∙ sym (value_from x.beat.word (k + sizes.into - held.beat.empty))
       ∙ sym (ap (λ t. if t then symbol sizes.bits sizes.held held.beat.word (k + sizes.into) else value_of side x.beat.word (k + sizes.into - held.beat.empty)) (le-ltb (k + sizes.into) held.beat.empty (omega (arith, few))))
 
+  -- what is held has a count of few bits
+  pub few_same : (x : Shown) → x.beat.empty ≤ sizes.held → held_few sizes x ≡ x
+  few_same x few = shown_same (held_few sizes x) x refl refl refl refl refl refl (mod-eq_of_lt (let all = sizes.counts_held in omega (arith, few, all)))
+
   -- what is gathered is the row, where it makes no beat
   pub gathered_is : (row : Row) (x : Shown) → IsRowOf row x → row.count < sizes.into → AreSameRow (row_in (row_gathered sizes x)) row
   gathered_is row x h few = record {
-    count = h.count;
+    count = mod-eq_of_lt (let same = h.count in let behind = sizes.into_behind in let all = sizes.counts_held in omega (arith, same, few, behind, all)) ∙ h.count;
     values = λ k within. (
         let same = h.count in
         let behind = sizes.into_behind in
-        cut_symbol sizes.bits sizes.into 0 sizes.held x.beat.word k (omega (arith, same, few, behind, within)) (omega (arith, same, few, within))
+        let all = sizes.counts_held in
+        let kept : x.beat.empty % 2 ^ sizes.held_count ≡ x.beat.empty = mod-eq_of_lt (omega (arith, same, few, behind, all)) in
+        cut_symbol sizes.bits sizes.into 0 sizes.held x.beat.word k (omega (arith, same, few, behind, within, kept)) (omega (arith, same, few, within, kept))
         ∙ ap (λ n. symbol sizes.bits sizes.into x.beat.word n) (omega arith)
-        ∙ h.values k (omega (arith, same, few, within)) (omega (arith, same, within)));
+        ∙ h.values k (omega (arith, same, few, within, kept)) (omega (arith, same, within, kept)));
     channel = h.channel;
     error = h.error;
     first = h.first;

@@ -73,13 +73,21 @@ shown_left sizes row word error =
       };
     }
 
--- what is held once a beat has gone
-abbrev pub row_left : WindowSizes → Shown → Shown → Shown
-row_left sizes held from =
+-- of the bits of a count those that what is held needs
+abbrev pub held_few : WindowSizes → Shown → Shown
+held_few sizes x = record { valid = x.valid; beat = record x.beat { empty = x.beat.empty % 2 ^ sizes.held_count } }
+
+-- what is left once a beat has gone
+abbrev pub row_behind : WindowSizes → Shown → Shown → Shown
+row_behind sizes held from =
     shown_left sizes (row_next sizes held from)
     (if is_alone sizes held then cut_of sizes.bits sizes.held sizes.into sizes.held held.beat.word else chosen_at held.beat.empty (rest_at sizes.bits sizes.from sizes.into sizes.held from.beat.word) (sizes.into - 1))
     (if is_alone sizes held then held.beat.error else from.beat.error)
 
+-- what is held then
+abbrev pub row_left : WindowSizes → Shown → Shown → Shown
+row_left sizes held from = held_few sizes (row_behind sizes held from)
+
 -- and once one has come while none goes
 abbrev pub row_gathered : WindowSizes → Shown → Shown
-row_gathered sizes row = record { valid = 0; beat = record row.beat { word = cut_of sizes.bits sizes.into 0 sizes.held row.beat.word } }
+row_gathered sizes row = held_few sizes (record { valid = 0; beat = record row.beat { word = cut_of sizes.bits sizes.into 0 sizes.held row.beat.word } })

@@ -9,17 +9,36 @@ ghost use Rattle.net_parts.specs.Growth.{AddsNets};
 ghost use Rattle.stage_core.specs.Beats.{AreBeatNets, HaveSameWidths};
 ghost use Rattle.stage_core.specs.Groups.{shown_in};
 ghost use Rattle.st_windows.specs.Cuts.{cut_of, rest_at, chosen_at};
-ghost use Rattle.st_windows.specs.Rows.{is_alone, front_of, joined_with, alone_with, row_next, shown_front, shown_left, row_gathered};
+ghost use Rattle.st_windows.specs.Rows.{is_alone, front_of, joined_with, alone_with, row_next, shown_front, shown_left, held_few, row_gathered};
 ghost use Rattle.st_windows.specs.RowNets.{HaveRowWidths, ComesTo};
 
 use crate::counts::{count_joined, makes_beat};
 use crate::sizes::WindowSizes;
 use crate::symbols::cut_symbols;
 use crate::words::{front_word, rest_word};
-use net_parts::{constant, level};
+use net_parts::{constant, fit_bits, level};
 use netlist::{Builder, Net, NetFault};
 use stage_core::BeatNets;
 use stage_core::makers::mux_beat;
+
+/// The word that comes, and 0 where what is held goes alone.
+#[tactic(auto, using(net_parts::specs::Laws::growing))]
+fn mask_word(
+    builder: &mut Builder,
+    sizes: &WindowSizes,
+    coming: Net,
+    alone: Net,
+) -> Result<Net, NetFault>
+    requires coming { IsNetOfWidth builder.old coming (sizes.now.bits * sizes.now.from) }
+    requires alone { IsBit builder.old alone }
+    ensures net { IfOk result (λ word. IsNetOfWidth builder.new word (sizes.now.bits * sizes.now.from)) }
+    ensures value { IfOk result (λ word. Always builder.new (λ cycle. cycle.net word.number ≡ (if cycle.net alone.number == 1 then 0 else cycle.net coming.number))) }
+    ensures adds { AddsNets 2 builder.old builder.new }
+    ensures full { result ≡ Err NetFault.TooManyNets → 2 ^ 20 < length builder.old.lines + 2 }
+{
+    let nothing = constant(builder, sizes.bits * sizes.from, 0)?;
+    builder.mux(alone, nothing, coming)
+}
 
 /// The word of the beat that goes out next. Nothing comes behind what is held where that goes alone.
 #[tactic(auto, using(net_parts::specs::Laws::growing))]
@@ -40,8 +59,7 @@ fn next_word(
     ensures adds { AddsNets (10 * sizes.now.into + 5) builder.old builder.new }
     ensures full { result ≡ Err NetFault.TooManyNets → 2 ^ 20 < length builder.old.lines + (10 * sizes.now.into + 5) }
 {
-    let nothing = constant(builder, sizes.bits * sizes.from, 0)?;
-    let coming = builder.mux(alone, nothing, from.word)?;
+    let coming = mask_word(builder, sizes, from.word, alone)?;
     front_word(builder, sizes, held.word, coming, held.empty)
 }
 
@@ -209,9 +227,62 @@ fn drop_front(
     })
 }
 
-/// What is held once a beat has gone.
+/// The word of what is left of a row once a beat has gone. Where no more is held than a beat has, nothing of it is left.
 #[tactic(auto, using(net_parts::specs::Laws::growing))]
-pub(crate) fn leave_row(
+fn left_word(
+    builder: &mut Builder,
+    sizes: &WindowSizes,
+    held: Net,
+    coming: Net,
+    alone: Net,
+    count: Net,
+) -> Result<Net, NetFault>
+    requires held { IsNetOfWidth builder.old held (sizes.now.bits * sizes.now.held) }
+    requires coming { IsNetOfWidth builder.old coming (sizes.now.bits * sizes.now.from) }
+    requires alone { IsBit builder.old alone }
+    requires count { IsNetOfWidth builder.old count sizes.now.count }
+    ensures net { IfOk result (λ word. IsNetOfWidth builder.new word (sizes.now.bits * sizes.now.held)) }
+    ensures value { IfOk result (λ word. Always builder.new (λ cycle. cycle.net word.number ≡ (if cycle.net alone.number == 1 then cut_of sizes.now.bits sizes.now.held sizes.now.into sizes.now.held (cycle.net held.number) else chosen_at (cycle.net count.number) (rest_at sizes.now.bits sizes.now.from sizes.now.into sizes.now.held (cycle.net coming.number)) (sizes.now.into - 1)))) }
+    ensures adds { AddsNets (6 * sizes.now.into + 6) builder.old builder.new }
+    ensures full { result ≡ Err NetFault.TooManyNets → 2 ^ 20 < length builder.old.lines + (6 * sizes.now.into + 6) }
+{
+    let masked = mask_word(builder, sizes, coming, alone)?;
+    let newer = rest_word(builder, sizes, masked, count)?;
+    if sizes.held <= sizes.into {
+        return Ok(newer);
+    }
+    let older = cut_symbols(
+        builder, sizes.bits, held, sizes.held, sizes.into, sizes.held,
+    )?;
+    builder.mux(alone, older, newer)
+}
+
+/// A row with the bits of its count that what is held needs, and zeros above them.
+#[tactic(auto, using(net_parts::specs::Laws::growing))]
+fn hold_few(
+    builder: &mut Builder,
+    sizes: &WindowSizes,
+    row: &BeatNets,
+) -> Result<BeatNets, NetFault>
+    requires row { AreBeatNets builder.old row.now }
+    requires widths { HaveRowWidths sizes.now sizes.now.held row.now row.now }
+    ensures held { IfOk result (λ made. AreBeatNets builder.new made) }
+    ensures widths { IfOk result (λ made. HaveRowWidths sizes.now sizes.now.held row.now made) }
+    ensures value { IfOk result (λ made. Always builder.new (λ cycle. shown_in cycle made ≡ held_few sizes.now (shown_in cycle row.now))) }
+    ensures adds { AddsNets 4 builder.old builder.new }
+    ensures full { result ≡ Err NetFault.TooManyNets → 2 ^ 20 < length builder.old.lines + 4 }
+{
+    let low = fit_bits(builder, row.empty, sizes.count, sizes.held_count)?;
+    let empty = fit_bits(builder, low, sizes.held_count, sizes.count)?;
+    Ok(BeatNets {
+        empty,
+        ..row.copied()
+    })
+}
+
+/// What is left once a beat has gone.
+#[tactic(auto, using(net_parts::specs::Laws::growing))]
+fn leave_behind(
     builder: &mut Builder,
     sizes: &WindowSizes,
     held: &BeatNets,
@@ -234,16 +305,44 @@ pub(crate) fn leave_row(
     ensures value { IfOk result (λ made. Always builder.new (λ cycle. shown_in cycle made ≡ shown_left sizes.now (shown_in cycle row.now)
         (if cycle.net alone.number == 1 then cut_of sizes.now.bits sizes.now.held sizes.now.into sizes.now.held (cycle.net held.now.word.number) else chosen_at (cycle.net held.now.empty.number) (rest_at sizes.now.bits sizes.now.from sizes.now.into sizes.now.held (cycle.net from.now.word.number)) (sizes.now.into - 1))
         (if cycle.net alone.number == 1 then cycle.net held.now.error.number else cycle.net from.now.error.number))) }
-    ensures adds { AddsNets (6 * sizes.now.into + 13) builder.old builder.new }
-    ensures full { result ≡ Err NetFault.TooManyNets → 2 ^ 20 < length builder.old.lines + (6 * sizes.now.into + 13) }
+    ensures adds { AddsNets (6 * sizes.now.into + 15) builder.old builder.new }
+    ensures full { result ≡ Err NetFault.TooManyNets → 2 ^ 20 < length builder.old.lines + (6 * sizes.now.into + 15) }
 {
-    let newer = rest_word(builder, sizes, from.word, held.empty)?;
-    let older = cut_symbols(
-        builder, sizes.bits, held.word, sizes.held, sizes.into, sizes.held,
-    )?;
-    let word = builder.mux(alone, older, newer)?;
+    let word = left_word(builder, sizes, held.word, from.word, alone, held.empty)?;
     let error = builder.mux(alone, held.error, from.error)?;
     drop_front(builder, sizes, row, more, word, error)
+}
+
+/// What is held once a beat has gone.
+#[tactic(auto, using(net_parts::specs::Laws::growing))]
+pub(crate) fn leave_row(
+    builder: &mut Builder,
+    sizes: &WindowSizes,
+    held: &BeatNets,
+    from: &BeatNets,
+    alone: Net,
+    row: &BeatNets,
+    more: Net,
+) -> Result<BeatNets, NetFault>
+    requires held { AreBeatNets builder.old held.now }
+    requires from { AreBeatNets builder.old from.now }
+    requires held_widths { HaveRowWidths sizes.now sizes.now.held from.now held.now }
+    requires comes { ComesTo sizes.now from.now }
+    requires alone { IsBit builder.old alone }
+    requires row { AreBeatNets builder.old row.now }
+    requires widths { HaveRowWidths sizes.now sizes.now.into from.now row.now }
+    requires more { IsBit builder.old more }
+    requires is_more { Always builder.old (λ cycle. cycle.net more.number ≡ (if nat_lt sizes.now.into (cycle.net row.now.empty.number) then 1 else 0)) }
+    ensures rest { IfOk result (λ made. AreBeatNets builder.new made) }
+    ensures widths { IfOk result (λ made. HaveRowWidths sizes.now sizes.now.held row.now made) }
+    ensures value { IfOk result (λ made. Always builder.new (λ cycle. shown_in cycle made ≡ held_few sizes.now (shown_left sizes.now (shown_in cycle row.now)
+        (if cycle.net alone.number == 1 then cut_of sizes.now.bits sizes.now.held sizes.now.into sizes.now.held (cycle.net held.now.word.number) else chosen_at (cycle.net held.now.empty.number) (rest_at sizes.now.bits sizes.now.from sizes.now.into sizes.now.held (cycle.net from.now.word.number)) (sizes.now.into - 1))
+        (if cycle.net alone.number == 1 then cycle.net held.now.error.number else cycle.net from.now.error.number)))) }
+    ensures adds { AddsNets (6 * sizes.now.into + 19) builder.old builder.new }
+    ensures full { result ≡ Err NetFault.TooManyNets → 2 ^ 20 < length builder.old.lines + (6 * sizes.now.into + 19) }
+{
+    let rest = leave_behind(builder, sizes, held, from, alone, row, more)?;
+    hold_few(builder, sizes, &rest)
 }
 
 /// What is held once a beat has come while none goes.
@@ -259,14 +358,15 @@ pub(crate) fn gather_row(
     ensures gathered { IfOk result (λ made. AreBeatNets builder.new made) }
     ensures widths { IfOk result (λ made. HaveRowWidths sizes.now sizes.now.held row.now made) }
     ensures value { IfOk result (λ made. Always builder.new (λ cycle. shown_in cycle made ≡ row_gathered sizes.now (shown_in cycle row.now))) }
-    ensures adds { AddsNets 4 builder.old builder.new }
-    ensures full { result ≡ Err NetFault.TooManyNets → 2 ^ 20 < length builder.old.lines + 4 }
+    ensures adds { AddsNets 8 builder.old builder.new }
+    ensures full { result ≡ Err NetFault.TooManyNets → 2 ^ 20 < length builder.old.lines + 8 }
 {
     let word = cut_symbols(builder, sizes.bits, row.word, sizes.into, 0, sizes.held)?;
     let low = level(builder, false)?;
-    Ok(BeatNets {
+    let gathered = BeatNets {
         valid: low,
         word,
         ..row.copied()
-    })
+    };
+    hold_few(builder, sizes, &gathered)
 }

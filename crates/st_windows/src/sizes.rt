@@ -18,6 +18,8 @@ pub struct WindowSizes {
     pub held: u8,
     /// The bits of a count of the symbols that are held and come.
     pub count: u8,
+    /// The bits of a count of those that are held.
+    pub held_count: u8,
     pub ghost some_from: { 1 ≤ from },
     pub ghost some_into: { 1 ≤ into },
     pub ghost some_bits: { 1 ≤ bits },
@@ -30,6 +32,9 @@ pub struct WindowSizes {
     pub ghost some_count: { 1 ≤ count },
     pub ghost few_count: { count ≤ 8 },
     pub ghost counts: { held + from < 2 ^ count },
+    pub ghost some_held_count: { 1 ≤ held_count },
+    pub ghost few_held_count: { held_count ≤ count },
+    pub ghost counts_held: { held < 2 ^ held_count },
 }
 
 impl WindowSizes {
@@ -45,16 +50,19 @@ impl WindowSizes {
         ensures into { result.into ≡ into }
         ensures bits { result.bits ≡ bits }
         ensures held { result.held ≡ window_hold from into }
+        ensures least_held { (few : ℕ) → 1 ≤ few → window_hold from into < 2 ^ few → result.held_count ≤ few }
         ensures least { (few : ℕ) → 1 ≤ few → window_hold from into + from < 2 ^ few → result.count ≤ few }
     {
         let held = if from <= into { into - 1 } else { from - 1 };
         let count = count_bits(held + from);
+        let held_count = count_bits(held);
         WindowSizes {
             from,
             into,
             bits,
             held,
             count,
+            held_count,
         }
     }
 }

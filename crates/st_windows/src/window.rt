@@ -1,6 +1,6 @@
 //! A window of symbols: beats of one size become beats of another, any two, as soon as there are enough symbols or a packet ends.
 //! A beat is taken in each cycle in which what is held makes none by itself, and no beat is shown or it goes. Its state is a beat
-//! of the larger size without a symbol, and it makes 16 nets for each symbol of a beat that goes, and 84 more at most. Its law
+//! of the larger size without a symbol, and it makes 16 nets for each symbol of a beat that goes, and 94 more at most. Its law
 //! is that of `window_is_a_stage`.
 
 ghost use Rattle.std.specs.Prelude.{◌≡◌, ℕ, ◌+◌, ◌*◌, ◌^◌, ◌<◌, ◌≤◌, ◌==◌, ◌&&◌, ◌||◌, not, length, IfOk};
@@ -109,8 +109,8 @@ fn window_rows(
     ensures shows { IfOk result (λ made. Always builder.new (λ cycle. shown_in cycle made.to ≡ shown_front sizes.now (row_next sizes.now (shown_in cycle held.now) (shown_in cycle from.now)))) }
     ensures leaves { IfOk result (λ made. Always builder.new (λ cycle. shown_in cycle made.rest ≡ row_left sizes.now (shown_in cycle held.now) (shown_in cycle from.now))) }
     ensures gathers { IfOk result (λ made. Always builder.new (λ cycle. shown_in cycle made.gathered ≡ row_gathered sizes.now (row_next sizes.now (shown_in cycle held.now) (shown_in cycle from.now)))) }
-    ensures adds { AddsNets (16 * sizes.now.into + 54) builder.old builder.new }
-    ensures full { result ≡ Err NetFault.TooManyNets → 2 ^ 20 < length builder.old.lines + (16 * sizes.now.into + 54) }
+    ensures adds { AddsNets (16 * sizes.now.into + 64) builder.old builder.new }
+    ensures full { result ≡ Err NetFault.TooManyNets → 2 ^ 20 < length builder.old.lines + (16 * sizes.now.into + 64) }
 {
     let alone = makes_beat(builder, sizes, held.empty, held.last)?;
     let row = next_row(builder, sizes, held, from, alone)?;
@@ -157,7 +157,7 @@ impl Stage for Window {
 
     ghost gives = { λ s widths. record widths { word = s.sizes.bits * s.sizes.into; empty = s.sizes.count } };
 
-    ghost forward_nets = { λ s. 16 * s.sizes.into + 63 };
+    ghost forward_nets = { λ s. 16 * s.sizes.into + 73 };
 
     ghost backward_nets = { λ s. 21 };
 

@@ -1,107 +1,13 @@
-use Rattle.std.proofs.Common.{◌≡◌, ◌-◌, ◌==◌, if◌then◌else◌, ◌∙◌, sym, ap, arith}
+use Rattle.std.proofs.Common.{◌≡◌, ◌-◌, ◌==◌, if◌then◌else◌, ◌∙◌, ap}
 use Rattle.netlist.specs.Runs.{Always}
-use Rattle.net_parts.specs.Laws.{net_lasts, extends_twice, grows_once, adds_twice, adds_fewer, bit_fits, if_ok}
-use Rattle.net_parts.specs.Bits.{chosen_high}
-use Rattle.net_parts.specs.Refusing.{handed_on}
+use Rattle.net_parts.specs.Laws.{if_ok}
 use Rattle.stage_core.specs.Groups.{shown_in}
-use Rattle.stage_core.specs.Lasting.{beat_lasts}
 use Rattle.st_windows.specs.Cuts.{cut_of, rest_at, chosen_at}
-use Rattle.st_windows.specs.Rows.{shown_left}
+use Rattle.st_windows.specs.Rows.{shown_left, held_few}
 use Rattle.st_windows.proofs.rows.leave_row.Goals as goal
 
 pub returns-clause-value : goal.returns-clause-value
 returns-clause-value c =
-    if_ok c.drop_front.result _ (λ made. Always c.drop_front.new.builder (λ cycle. shown_in cycle made ≡ shown_left c.args.sizes.now (shown_in cycle c.args.row.now) (if cycle.net c.args.alone.number == 1 then cut_of c.args.sizes.now.bits c.args.sizes.now.held c.args.sizes.now.into c.args.sizes.now.held (cycle.net c.args.held.now.word.number) else chosen_at (cycle.net c.args.held.now.empty.number) (rest_at c.args.sizes.now.bits c.args.sizes.now.from c.args.sizes.now.into c.args.sizes.now.held (cycle.net c.args.from.now.word.number)) (c.args.sizes.now.into - 1)) (if cycle.net c.args.alone.number == 1 then cycle.net c.args.held.now.error.number else cycle.net c.args.from.now.error.number)))
-    (λ made value cycle v5.
-    (let v4 = c.drop_front.ensures.adds.grows.extends.valuations cycle v5 in
-    let v3 = c.mux-2.ensures.extends.valuations cycle v4 in
-    let v2 = c.mux.ensures.extends.valuations cycle v3 in
-    let v1 = c.cut_symbols.ensures.adds.grows.extends.valuations cycle v2 in
-    let v0 = c.rest_word.ensures.adds.grows.extends.valuations cycle v1 in
-    let word = (c.in_ok-word.ensures.value cycle v3).1 ∙ chosen_high (cycle.net c.args.alone.number) _ _ (bit_fits _ _ c.requires.alone cycle v0) in
-    let error = (c.in_ok-error.ensures.value cycle v4).1 ∙ chosen_high (cycle.net c.args.alone.number) _ _ (bit_fits _ _ c.requires.alone cycle v0) in
-    value cycle v5
-    ∙ ap (λ n. shown_left c.args.sizes.now (shown_in cycle c.args.row.now) n (cycle.net c.in_ok-error.error.number)) (word ∙ ap (λ n. if cycle.net c.args.alone.number == 1 then n else cycle.net c.in_ok-newer.newer.number) (c.in_ok-older.ensures.value cycle v2) ∙ ap (λ n. if cycle.net c.args.alone.number == 1 then cut_of c.args.sizes.now.bits c.args.sizes.now.held c.args.sizes.now.into c.args.sizes.now.held (cycle.net c.args.held.now.word.number) else n) (c.in_ok-newer.ensures.value cycle v1))
-    ∙ ap (λ n. shown_left c.args.sizes.now (shown_in cycle c.args.row.now) (if cycle.net c.args.alone.number == 1 then cut_of c.args.sizes.now.bits c.args.sizes.now.held c.args.sizes.now.into c.args.sizes.now.held (cycle.net c.args.held.now.word.number) else chosen_at (cycle.net c.args.held.now.empty.number) (rest_at c.args.sizes.now.bits c.args.sizes.now.from c.args.sizes.now.into c.args.sizes.now.held (cycle.net c.args.from.now.word.number)) (c.args.sizes.now.into - 1)) n) error))
-    c.drop_front.ensures.value
-
-pub returns-in_err-newer-clause-adds : goal.returns-in_err-newer-clause-adds
-returns-in_err-newer-clause-adds c = adds_fewer _ _ _ _ (omega arith) c.rest_word.ensures.adds
-
-pub returns-in_err-older-clause-adds : goal.returns-in_err-older-clause-adds
-returns-in_err-older-clause-adds c = adds_fewer _ _ _ _ (omega arith) (adds_twice _ _ _ _ _ c.rest_word.ensures.adds c.cut_symbols.ensures.adds)
-
-pub returns-in_err-word-clause-adds : goal.returns-in_err-word-clause-adds
-returns-in_err-word-clause-adds c = adds_fewer _ _ _ _ (omega arith) (adds_twice _ _ _ _ _ (adds_twice _ _ _ _ _ c.rest_word.ensures.adds c.cut_symbols.ensures.adds) (grows_once _ _ c.mux.ensures.extends c.mux.ensures.grows))
-
-pub returns-in_err-error-clause-adds : goal.returns-in_err-error-clause-adds
-returns-in_err-error-clause-adds c = adds_fewer _ _ _ _ (omega arith) (adds_twice _ _ _ _ _ (adds_twice _ _ _ _ _ (adds_twice _ _ _ _ _ c.rest_word.ensures.adds c.cut_symbols.ensures.adds) (grows_once _ _ c.mux.ensures.extends c.mux.ensures.grows)) (grows_once _ _ c.mux-2.ensures.extends c.mux-2.ensures.grows))
-
-pub returns-clause-adds : goal.returns-clause-adds
-returns-clause-adds c = adds_fewer _ _ _ _ (omega arith) (adds_twice _ _ _ _ _ (adds_twice _ _ _ _ _ (adds_twice _ _ _ _ _ (adds_twice _ _ _ _ _ c.rest_word.ensures.adds c.cut_symbols.ensures.adds) (grows_once _ _ c.mux.ensures.extends c.mux.ensures.grows)) (grows_once _ _ c.mux-2.ensures.extends c.mux-2.ensures.grows)) c.drop_front.ensures.adds)
-
-pub returns-in_err-newer-clause-full : goal.returns-in_err-newer-clause-full
-returns-in_err-newer-clause-full c e = let full = c.rest_word.ensures.full (handed_on _ _ _ _ c.in_err-newer.was c.from_residual.ensures.1 e) in omega (arith, full)
-
-pub returns-in_err-older-clause-full : goal.returns-in_err-older-clause-full
-returns-in_err-older-clause-full c e = let most0 = c.rest_word.ensures.adds.most in let full = c.cut_symbols.ensures.full (handed_on _ _ _ _ c.in_err-older.was c.from_residual-in_err-older.ensures.1 e) in omega (arith, most0, full)
-
-pub returns-in_err-word-clause-full : goal.returns-in_err-word-clause-full
-returns-in_err-word-clause-full c e = let most0 = c.rest_word.ensures.adds.most in let most1 = c.cut_symbols.ensures.adds.most in let full = c.mux.ensures.full.0 (handed_on _ _ _ _ c.in_err-word.was c.from_residual-in_err-word.ensures.1 e) in omega (arith, most0, most1, full)
-
-pub returns-in_err-error-clause-full : goal.returns-in_err-error-clause-full
-returns-in_err-error-clause-full c e = let most0 = c.rest_word.ensures.adds.most in let most1 = c.cut_symbols.ensures.adds.most in let most2 = c.mux.ensures.grows.most in let full = c.mux-2.ensures.full.0 (handed_on _ _ _ _ c.in_err-error.was c.from_residual-in_err-error.ensures.1 e) in omega (arith, most0, most1, most2, full)
-
-pub returns-clause-full : goal.returns-clause-full
-returns-clause-full c e = let most0 = c.rest_word.ensures.adds.most in let most1 = c.cut_symbols.ensures.adds.most in let most2 = c.mux.ensures.grows.most in let most3 = c.mux-2.ensures.grows.most in let full = c.drop_front.ensures.full e in omega (arith, most0, most1, most2, most3, full)
-
-pub rest_word-requires-clause-coming : goal.rest_word-requires-clause-coming
-rest_word-requires-clause-coming c = record { is_net = c.requires.from.word; has_width = c.requires.comes.word }
-
-pub rest_word-requires-clause-count : goal.rest_word-requires-clause-count
-rest_word-requires-clause-count c = record { is_net = c.requires.held.empty; has_width = c.requires.held_widths.empty }
-
-pub cut_symbols-requires-clause-word : goal.cut_symbols-requires-clause-word
-cut_symbols-requires-clause-word c = record { is_net = c.rest_word.ensures.adds.grows.extends.nets _ _ c.requires.held.word; has_width = c.requires.held_widths.word }
-
-pub mux-requires-clause-s_is : goal.mux-requires-clause-s_is
-mux-requires-clause-s_is c = (extends_twice _ _ _ c.rest_word.ensures.adds.grows.extends c.cut_symbols.ensures.adds.grows.extends).nets _ _ c.requires.alone.is_net
-
-pub mux-requires-clause-a_is : goal.mux-requires-clause-a_is
-mux-requires-clause-a_is c = c.in_ok-older.ensures.net.is_net
-
-pub mux-requires-clause-b_is : goal.mux-requires-clause-b_is
-mux-requires-clause-b_is c = c.cut_symbols.ensures.adds.grows.extends.nets _ _ c.in_ok-newer.ensures.net.is_net
-
-pub mux-requires-clause-widths : goal.mux-requires-clause-widths
-mux-requires-clause-widths c = c.in_ok-older.ensures.net.has_width ∙ sym c.in_ok-newer.ensures.net.has_width
-
-pub mux-requires-2-clause-s_is : goal.mux-requires-2-clause-s_is
-mux-requires-2-clause-s_is c = (extends_twice _ _ _ c.rest_word.ensures.adds.grows.extends (extends_twice _ _ _ c.cut_symbols.ensures.adds.grows.extends c.mux.ensures.extends)).nets _ _ c.requires.alone.is_net
-
-pub mux-requires-2-clause-a_is : goal.mux-requires-2-clause-a_is
-mux-requires-2-clause-a_is c = (extends_twice _ _ _ c.rest_word.ensures.adds.grows.extends (extends_twice _ _ _ c.cut_symbols.ensures.adds.grows.extends c.mux.ensures.extends)).nets _ _ c.requires.held.error
-
-pub mux-requires-2-clause-b_is : goal.mux-requires-2-clause-b_is
-mux-requires-2-clause-b_is c = (extends_twice _ _ _ c.rest_word.ensures.adds.grows.extends (extends_twice _ _ _ c.cut_symbols.ensures.adds.grows.extends c.mux.ensures.extends)).nets _ _ c.requires.from.error
-
-pub mux-requires-2-clause-widths : goal.mux-requires-2-clause-widths
-mux-requires-2-clause-widths c = c.requires.held_widths.error
-
-pub drop_front-requires-clause-row : goal.drop_front-requires-clause-row
-drop_front-requires-clause-row c = beat_lasts _ _ _ (extends_twice _ _ _ c.rest_word.ensures.adds.grows.extends (extends_twice _ _ _ c.cut_symbols.ensures.adds.grows.extends (extends_twice _ _ _ c.mux.ensures.extends c.mux-2.ensures.extends))) c.requires.row
-
-pub drop_front-requires-clause-empty : goal.drop_front-requires-clause-empty
-drop_front-requires-clause-empty c = c.requires.widths.empty
-
-pub drop_front-requires-clause-more : goal.drop_front-requires-clause-more
-drop_front-requires-clause-more c = net_lasts _ _ _ _ (extends_twice _ _ _ c.rest_word.ensures.adds.grows.extends (extends_twice _ _ _ c.cut_symbols.ensures.adds.grows.extends (extends_twice _ _ _ c.mux.ensures.extends c.mux-2.ensures.extends))) c.requires.more
-
-pub drop_front-requires-clause-is_more : goal.drop_front-requires-clause-is_more
-drop_front-requires-clause-is_more c cycle v = c.requires.is_more cycle ((extends_twice _ _ _ c.rest_word.ensures.adds.grows.extends (extends_twice _ _ _ c.cut_symbols.ensures.adds.grows.extends (extends_twice _ _ _ c.mux.ensures.extends c.mux-2.ensures.extends))).valuations cycle v)
-
-pub drop_front-requires-clause-word : goal.drop_front-requires-clause-word
-drop_front-requires-clause-word c = record { is_net = c.mux-2.ensures.extends.nets _ _ c.in_ok-word.ensures.net.0; has_width = c.in_ok-word.ensures.net.1 ∙ c.in_ok-older.ensures.net.has_width }
-
-pub drop_front-requires-clause-error : goal.drop_front-requires-clause-error
-drop_front-requires-clause-error c = record { is_net = c.in_ok-error.ensures.net.0; has_width = c.in_ok-error.ensures.net.1 ∙ c.requires.held_widths.error ∙ sym c.requires.widths.error }
+    if_ok c.hold_few.result _ (λ made. Always c.hold_few.new.builder (λ cycle. shown_in cycle made ≡ held_few c.args.sizes.now (shown_left c.args.sizes.now (shown_in cycle c.args.row.now) (if cycle.net c.args.alone.number == 1 then cut_of c.args.sizes.now.bits c.args.sizes.now.held c.args.sizes.now.into c.args.sizes.now.held (cycle.net c.args.held.now.word.number) else chosen_at (cycle.net c.args.held.now.empty.number) (rest_at c.args.sizes.now.bits c.args.sizes.now.from c.args.sizes.now.into c.args.sizes.now.held (cycle.net c.args.from.now.word.number)) (c.args.sizes.now.into - 1)) (if cycle.net c.args.alone.number == 1 then cycle.net c.args.held.now.error.number else cycle.net c.args.from.now.error.number))))
+    (λ made value cycle v. value cycle v ∙ ap (held_few c.args.sizes.now) (c.in_ok-rest.ensures.value cycle (c.hold_few.ensures.adds.grows.extends.valuations cycle v)))
+    c.hold_few.ensures.value

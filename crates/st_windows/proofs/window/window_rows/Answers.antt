@@ -4,7 +4,7 @@ use Rattle.net_parts.specs.Refusing.{handed_on}
 use Rattle.stage_core.specs.Groups.{Shown, shown_in}
 use Rattle.stage_core.specs.Lasting.{beat_lasts}
 use Rattle.st_windows.specs.Cuts.{cut_of, rest_at, chosen_at}
-use Rattle.st_windows.specs.Rows.{is_alone, shown_front, shown_left, row_gathered}
+use Rattle.st_windows.specs.Rows.{is_alone, shown_front, shown_left, held_few, row_gathered}
 use Rattle.st_windows.proofs.RowWidths.{widths_as, widths_through}
 use Rattle.st_windows.proofs.window.window_rows.Goals as goal
 
@@ -100,8 +100,8 @@ returns-clause-leaves c cycle v6 =
     let v2 = c.is_above.ensures.adds.grows.extends.valuations cycle v3 in
     let v1 = c.next_row.ensures.adds.grows.extends.valuations cycle v2 in
     let row = c.in_ok-row.ensures.value cycle v2 in
-    c.in_ok-rest.ensures.value cycle v5 ∙ ap (λ t. shown_left c.args.sizes.now (shown_in cycle c.in_ok-row.row) (if t then cut_of c.args.sizes.now.bits c.args.sizes.now.held c.args.sizes.now.into c.args.sizes.now.held (cycle.net c.args.held.now.word.number) else chosen_at (cycle.net c.args.held.now.empty.number) (rest_at c.args.sizes.now.bits c.args.sizes.now.from c.args.sizes.now.into c.args.sizes.now.held (cycle.net c.args.from.now.word.number)) (c.args.sizes.now.into - 1)) (if t then cycle.net c.args.held.now.error.number else cycle.net c.args.from.now.error.number)) (c.in_ok-alone.ensures.value cycle v1)
-    ∙ ap (λ (x : Shown). shown_left c.args.sizes.now x (if is_alone c.args.sizes.now (shown_in cycle c.args.held.now) then cut_of c.args.sizes.now.bits c.args.sizes.now.held c.args.sizes.now.into c.args.sizes.now.held (cycle.net c.args.held.now.word.number) else chosen_at (cycle.net c.args.held.now.empty.number) (rest_at c.args.sizes.now.bits c.args.sizes.now.from c.args.sizes.now.into c.args.sizes.now.held (cycle.net c.args.from.now.word.number)) (c.args.sizes.now.into - 1)) (if is_alone c.args.sizes.now (shown_in cycle c.args.held.now) then cycle.net c.args.held.now.error.number else cycle.net c.args.from.now.error.number)) row
+    c.in_ok-rest.ensures.value cycle v5 ∙ ap (λ t. held_few c.args.sizes.now (shown_left c.args.sizes.now (shown_in cycle c.in_ok-row.row) (if t then cut_of c.args.sizes.now.bits c.args.sizes.now.held c.args.sizes.now.into c.args.sizes.now.held (cycle.net c.args.held.now.word.number) else chosen_at (cycle.net c.args.held.now.empty.number) (rest_at c.args.sizes.now.bits c.args.sizes.now.from c.args.sizes.now.into c.args.sizes.now.held (cycle.net c.args.from.now.word.number)) (c.args.sizes.now.into - 1)) (if t then cycle.net c.args.held.now.error.number else cycle.net c.args.from.now.error.number))) (c.in_ok-alone.ensures.value cycle v1)
+    ∙ ap (λ (x : Shown). held_few c.args.sizes.now (shown_left c.args.sizes.now x (if is_alone c.args.sizes.now (shown_in cycle c.args.held.now) then cut_of c.args.sizes.now.bits c.args.sizes.now.held c.args.sizes.now.into c.args.sizes.now.held (cycle.net c.args.held.now.word.number) else chosen_at (cycle.net c.args.held.now.empty.number) (rest_at c.args.sizes.now.bits c.args.sizes.now.from c.args.sizes.now.into c.args.sizes.now.held (cycle.net c.args.from.now.word.number)) (c.args.sizes.now.into - 1)) (if is_alone c.args.sizes.now (shown_in cycle c.args.held.now) then cycle.net c.args.held.now.error.number else cycle.net c.args.from.now.error.number))) row
 
 pub returns-clause-gathers : goal.returns-clause-gathers
 returns-clause-gathers c cycle v6 =
