@@ -8,8 +8,7 @@ use Rattle.netlist.specs.Runs.{Run, cycle_of, IsEndlessRun}
 use Rattle.stream_runs.specs.View.{EndView, Side, Beat}
 use Rattle.stream_runs.specs.Symbols.{symbol_count, value_of}
 use Rattle.stream_machines.specs.Stage.{Shape}
-use Rattle.stream_machines.specs.Parts.{is_none, pieces_now}
-use Rattle.stream_machines.specs.Line.{of_symbols}
+use Rattle.stream_machines.specs.Parts.{is_none, pieces_now, of_symbols}
 use Rattle.stream_machines.specs.Words.{HasClearEmpty}
 use Rattle.stage_core.specs.declared.beat.BeatNets.{BeatNets}
 use Rattle.stage_core.specs.Beats.{view_of, beat_in}

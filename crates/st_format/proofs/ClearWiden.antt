@@ -10,7 +10,7 @@ use Rattle.stream_runs.specs.View.{Side, Beat}
 use Rattle.stream_runs.specs.Symbols.{value_of}
 use Rattle.stream_runs.specs.Source.{IsLegalSource}
 use Rattle.stream_machines.specs.Stage.{Shape}
-use Rattle.stream_machines.specs.Line.{of_symbols}
+use Rattle.stream_machines.specs.Parts.{of_symbols}
 use Rattle.stream_machines.specs.Words.{HasClearEmpty, joined_word}
 use Rattle.stage_core.specs.declared.beat.BeatNets.{BeatNets}
 use Rattle.stage_core.specs.Beats.{view_of}

@@ -4,10 +4,9 @@ use Rattle.std.proofs.lemmas.Bool.{ltb-true, leb-false, both_ways}
 use Rattle.std.proofs.lemmas.Nat.{mul-le}
 use Rattle.stream_runs.specs.View.{Side}
 use Rattle.stream_machines.specs.Stage.{Shape, PassesAll, chain_shape, pass_shape}
-use Rattle.stream_machines.specs.Parts.{narrow_shape, widen_shape}
+use Rattle.stream_machines.specs.Parts.{narrow_shape, widen_shape, of_symbols}
 use Rattle.stream_machines.specs.Windows.{window_shape, window_hold}
 use Rattle.stream_machines.specs.Wires.{wire_shape, turned_side}
-use Rattle.stream_machines.specs.Line.{of_symbols}
 use Rattle.stage_core.specs.ChainNets.{IsChainOf, ShapesFit}
 use Rattle.stage_core.specs.MaybeNets.{shape_of}
 use Rattle.st_format.specs.declared.reorder.Reorder.{Reorder}

@@ -8,8 +8,7 @@ use Rattle.netlist.specs.Runs.{Cycle, Run, cycle_of, IsEndlessRun, IsValuation}
 use Rattle.stream_runs.specs.View.{EndView, Side, Beat, is_transfer}
 use Rattle.stream_runs.specs.Symbols.{symbol_count}
 use Rattle.stream_machines.specs.Stage.{Shape, KeepsStageLaw, PassesAll}
-use Rattle.stream_machines.specs.Parts.{plain_run, IsNarrowRun, IsSplit, is_none, pieces_now, IsFirstOf, narrow_shape}
-use Rattle.stream_machines.specs.Line.{of_symbols}
+use Rattle.stream_machines.specs.Parts.{plain_run, IsNarrowRun, IsSplit, is_none, pieces_now, IsFirstOf, narrow_shape, of_symbols}
 use Rattle.stream_machines.specs.Words.{pieces}
 use Rattle.stage_core.specs.declared.beat.BeatNets.{BeatNets}
 use Rattle.stage_core.specs.Beats.{view_of, ShowSame, beat_in}

@@ -6,7 +6,7 @@ use Rattle.std.proofs.Math.Nat.{mod-lt, mod-eq_of_lt}
 use Rattle.std.proofs.Math.Pow.{mod-mod-pow}
 use Rattle.stream_runs.specs.View.{Beat, Side}
 use Rattle.stream_runs.specs.Symbols.{symbol_count}
-use Rattle.stream_machines.specs.Line.{of_symbols}
+use Rattle.stream_machines.specs.Parts.{of_symbols}
 use Rattle.stream_machines.specs.Words.{part_word, pieces_from, pieces}
 use Rattle.st_format.specs.declared.sizes.Sizes.{Sizes}
 use Rattle.st_format.specs.Counted.{counted_beat}

@@ -10,8 +10,7 @@ use Rattle.netlist.specs.Runs.{Cycle, Run, cycle_of, IsEndlessRun, IsValuation}
 use Rattle.stream_runs.specs.View.{EndView, Side, Beat, beat_at, is_high, is_transfer}
 use Rattle.stream_runs.specs.Source.{IsLegalSource}
 use Rattle.stream_machines.specs.Stage.{Shape, KeepsStageLaw, PassesReady, PassesAll}
-use Rattle.stream_machines.specs.Parts.{plain_run, IsWidenRun, IsJoined, completes, is_none, first_of_row, joined_errors, widen_shape, HoldsWords}
-use Rattle.stream_machines.specs.Line.{of_symbols}
+use Rattle.stream_machines.specs.Parts.{plain_run, IsWidenRun, IsJoined, completes, is_none, first_of_row, joined_errors, widen_shape, HoldsWords, of_symbols}
 use Rattle.stream_machines.specs.Words.{joined_word, joined_beat}
 use Rattle.stage_core.specs.declared.beat.BeatNets.{BeatNets}
 use Rattle.stage_core.specs.Beats.{view_of, ShowSame}

@@ -6,8 +6,7 @@ use Rattle.netlist.specs.Runs.{Cycle, Run, cycle_of, IsRun, Always}
 use Rattle.netlist.specs.Longer.{Extends}
 use Rattle.stream_runs.specs.View.{Beat}
 use Rattle.stream_machines.specs.Stage.{Shape, PassesAll}
-use Rattle.stream_machines.specs.Parts.{narrow_shape}
-use Rattle.stream_machines.specs.Line.{of_symbols}
+use Rattle.stream_machines.specs.Parts.{narrow_shape, of_symbols}
 use Rattle.stage_core.specs.declared.beat.BeatNets.{BeatNets}
 use Rattle.net_parts.specs.Nets.{IsBit}
 use Rattle.stage_core.specs.Beats.{AreBeatNets, HaveSameWidths}

@@ -8,7 +8,7 @@ use Rattle.stream_runs.specs.View.{EndView, Side, Beat, is_high}
 use Rattle.stream_runs.specs.Symbols.{symbol_count, value_of}
 use Rattle.stream_runs.specs.Source.{IsLegalSource}
 use Rattle.stream_machines.specs.Stage.{Shape}
-use Rattle.stream_machines.specs.Line.{of_symbols}
+use Rattle.stream_machines.specs.Parts.{of_symbols}
 use Rattle.stream_machines.specs.Windows.{is_whole, with_beat}
 use Rattle.stream_machines.specs.Words.{HasClearEmpty, ShowsClear}
 use Rattle.stage_core.specs.declared.beat.BeatNets.{BeatNets}

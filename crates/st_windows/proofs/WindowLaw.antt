@@ -7,8 +7,7 @@ use Rattle.netlist.specs.Runs.{Cycle, Run, cycle_of, IsEndlessRun, IsValuation}
 use Rattle.stream_runs.specs.View.{EndView, Side, Beat, beat_at, is_high, is_transfer}
 use Rattle.stream_runs.specs.Source.{IsLegalSource, ShowsSame}
 use Rattle.stream_machines.specs.Stage.{Shape, KeepsStageLaw, PassesAll}
-use Rattle.stream_machines.specs.Parts.{plain_run}
-use Rattle.stream_machines.specs.Line.{of_symbols}
+use Rattle.stream_machines.specs.Parts.{plain_run, of_symbols}
 use Rattle.stream_machines.specs.Windows.{Row, AreSameRow, IsFront, IsWindowRun, is_whole, with_beat, behind_beat, next_row, error_left, row_after, window_shape}
 use Rattle.stage_core.specs.declared.beat.BeatNets.{BeatNets}
 use Rattle.stage_core.specs.Beats.{view_of, ShowSame}

@@ -4,7 +4,7 @@ use Rattle.std.proofs.lemmas.Bool.{cases_lt, ltb-true, ltb-false, lt-ltb, le-ltb
 use Rattle.std.proofs.Math.Nat.{mod-eq_of_lt, mod-eq-sub-mod}
 use Rattle.stream_runs.specs.View.{Side, Beat}
 use Rattle.stream_runs.specs.Symbols.{symbol_count, value_of}
-use Rattle.stream_machines.specs.Line.{of_symbols}
+use Rattle.stream_machines.specs.Parts.{of_symbols}
 use Rattle.stream_machines.specs.Windows.{Row, AreSameRow, IsFront, is_whole, with_beat, behind_beat}
 use Rattle.stage_core.specs.Groups.{Shown}
 use Rattle.stage_core.specs.BeatLaws.{shown_same}

@@ -6,7 +6,7 @@ use Rattle.netlist.specs.Runs.{Run, cycle_of, IsRun, Always}
 use Rattle.netlist.specs.Longer.{Extends}
 use Rattle.stream_machines.specs.Stage.{Shape, PassesAll}
 use Rattle.stream_machines.specs.Windows.{window_shape}
-use Rattle.stream_machines.specs.Line.{of_symbols}
+use Rattle.stream_machines.specs.Parts.{of_symbols}
 use Rattle.net_parts.specs.Nets.{IsBit}
 use Rattle.net_parts.specs.Laws.{net_lasts}
 use Rattle.stage_core.specs.declared.beat.BeatNets.{BeatNets}

@@ -4,7 +4,6 @@ pub mod Quiet
 pub mod Errors
 pub mod Chains
 pub mod ChainLaw
-pub mod ChainNumbers
 pub mod PassLaw
 pub mod AwakeLaw
 pub mod BeatCounts
@@ -22,9 +21,4 @@ pub mod BuffersLaw
 pub mod WiresLaw
 pub mod WordLemmas
 pub mod QueueTakesIn
-pub mod LineLaw
-pub mod TiedLaw
-pub mod DirectLaw
-pub mod Existence
-pub mod BufferedExistence
 pub mod FaultLemmas

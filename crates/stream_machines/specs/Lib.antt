@@ -6,5 +6,4 @@ pub mod Windows
 pub mod Buffers
 pub mod Wires
 pub mod Words
-pub mod Line
 pub mod Faults

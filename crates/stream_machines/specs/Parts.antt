@@ -6,6 +6,10 @@ use Rattle.stream_runs.specs.Symbols.{symbol_count, value_of}
 use Rattle.stream_runs.specs.Source.{IsLegalSource}
 use Rattle.stream_machines.specs.Stage.{Shape, StageRun}
 
+-- the same side with so many symbols in a beat
+abbrev pub of_symbols : Side → ℕ → Side
+of_symbols side symbols = record side { symbols = symbols }
+
 -- from part number t on the word holds the data of these beats
 abbrev pub HoldsWords : Side → Side → ℕ → ℕ → List Beat → Type 0
 HoldsWords narrow wide word t [] = Unit {0}

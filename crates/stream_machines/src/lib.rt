@@ -1,7 +1,6 @@
-//! Machines that pass a stream on, the law that each keeps, and whole lines of them.
+//! Machines that pass a stream on, and the law that each keeps.
 #![tactic(auto)]
 
 pub mod faults;
-pub mod lines;
 pub mod machines;
 pub mod stages;

@@ -5,7 +5,7 @@ ghost use Rattle.stream_runs.specs.View.{Side, EndView, is_high, is_transfer, is
 ghost use Rattle.stream_runs.specs.Symbols.{Symbol};
 ghost use Rattle.stream_runs.specs.Source.{IsLegalSource};
 ghost use Rattle.stream_runs.specs.Awake.{Throughout, Sometime, makes_beat, undelivered};
-ghost use Rattle.stream_machines.specs.Stage.{Shape, StageRun, StageLaw, KeepsStageLaw, PassesReady, IsStill, Fits, chain_shape, chain_run, pass_shape, pass_run};
+ghost use Rattle.stream_machines.specs.Stage.{Shape, StageRun, StageLaw, KeepsStageLaw, PassesReady, Fits, chain_shape, chain_run, pass_shape, pass_run};
 ghost use Rattle.stream_machines.specs.Flow.{IsFlow};
 
 /// A stage that passes each beat as it is keeps the law, between ends of any pace, and passes ready.
@@ -29,28 +29,6 @@ pub fn chain_is_a_stage()
     ensures step { (first second : Shape) → (first.hold ≡ 0 → first.step ≡ 0)
         → (second.hold ≡ 0 → second.step ≡ 0)
         → (chain_shape first second).hold ≡ 0 → (chain_shape first second).step ≡ 0 }
-{}
-
-/// The numbers of a chain; those of its rank are of one whose middle has ready latency 0.
-pub fn chain_numbers()
-    ensures hold { (first second : Shape)
-        → (chain_shape first second).hold ≡ first.hold + second.hold }
-    ensures rest { (first second : Shape)
-        → (chain_shape first second).rest ≡ first.rest + second.rest }
-    ensures step { (first second : Shape) → second.up.pace.latency ≡ 0
-        → (chain_shape first second).step ≤ first.step + second.step + 1 }
-    ensures step_of_none { (first second : Shape) → second.up.pace.latency ≡ 0
-        → second.hold ≡ 0
-        → (chain_shape first second).step ≡ first.step + second.step }
-    ensures largest { (first second : Shape) → second.up.pace.latency ≡ 0
-        → (chain_shape first second).largest
-        ≡ first.largest + second.largest + (first.step + 1) * second.hold }
-{}
-
-/// A chain of two still shapes is still.
-pub fn chain_still()
-    ensures { (first second : Shape) → IsStill first → IsStill second
-        → IsStill (chain_shape first second) }
 {}
 
 /// An adapter that passes symbols on as a flow does keeps the law of a stage.
