@@ -14,7 +14,7 @@ ghost use Rattle.mm_machines.specs.Turns.{TakesTurnsByRule, others_begun};
 ghost use Rattle.ranks.specs.Turns.{shares_of_others};
 ghost use Rattle.mm_examples.specs.DefaultRows.{odd_word_run, strayed_read_run, behind_default_run, past_default_run, default_first_run, around_default_run};
 ghost use Rattle.mm_examples.specs.WidthRows.{short_agent, short_system, bursts_read, parts_run};
-ghost use Rattle.mm_examples.specs.WireRows.{one_read, one_read_system, held_back_host, held_back_agent, held_back_count, held_back_run, let_through_host, let_through_agent};
+ghost use Rattle.mm_examples.specs.WireRows.{agent_side, one_read, one_read_system, held_back_host, held_back_run, let_through_agent};
 ghost use Rattle.mm_examples.specs.TurnRows.{seats, askers, granted, by_shares, one_share_each, first_host_first, twice_system, twice_tags, one_each_system, with_empty_write};
 ghost use Rattle.mm_machines.specs.Begun.{owners_of_groups};
 ghost use Rattle.mm_runs.specs.Packed.{operations_touched, beats_between, ReadsEachTouchedWordOnce};
@@ -44,7 +44,6 @@ ghost use Rattle.mm_runs.specs.Views.Responses.{AreZero, AreCodes};
 ghost use Rattle.mm_machines.specs.Lines.{target_of, Wired, AgentCarriesAnswers, AreFitToAsk, AreSingle, IsFit, OwesBelow, RouteCarriesCommands};
 ghost use Rattle.mm_runs.specs.Plan.{IsMemoryPlan};
 ghost use Rattle.mm_examples.specs.LineRows.{marked_side, empty_write, mistagged, some_reads, writing_system, odd_system, answering_system, answering_run, answered_side};
-ghost use Rattle.mm_machines.specs.BoundedWire.{IsBoundedWire, IsWireForm, agent_side};
 ghost use Rattle.mm_runs.specs.Whole.{IsLegalRun, IsSafe};
 ghost use Rattle.mm_examples.specs.Examples.{host_of, shape_of, system_of, run_of, no_host, narrow_system, narrow_run, narrow_host, all_lanes_run};
 ghost use Rattle.mm_examples.specs.Examples.{stray_run, busy_run, wide_system, wrap_run, whole_bursts_run, mixed_bursts_run, packed_system, read_run};
@@ -342,19 +341,13 @@ pub fn turns_at_ports()
     ensures starved { others_begun seats askers (granted first_host_first) 1 0 4 ≡ 4 }
 {}
 
-/// A wire to an agent that bears one unanswered read holds the second read back until the first is answered. One that lets it through is past the bound.
+/// A second read is held back before an agent that bears one unanswered read until the first is answered. Letting it through is past the bound.
 pub fn wire_holds_read_back()
-    ensures form { IsWireForm one_read }
-    ensures wire { IsBoundedWire one_read held_back_host held_back_agent held_back_count 4 }
     ensures legal { IsLegalRun one_read_system held_back_run 4 }
-    ensures safe { IsSafe AreZero one_read_system held_back_run 4 }
     ensures taken { of_host 0 (taken one_read_system held_back_run 0 4) ≡ map Read (numbers 8 8) ++ Write 5 0xcc ∷ Write 6 0xbb ∷ [] }
     ensures given { map (λ w. w.word) (given (one_read_system.host 0) held_back_host 4) ≡ 0x11 ∷ 0x22 ∷ [] }
     ensures past_bound { IsWithinPendingBound (agent_side one_read) let_through_agent 2 → ⊥ }
-    ensures no_wire { (count : ℕ → ℕ) → IsBoundedWire one_read let_through_host let_through_agent count 2 → ⊥ }
-{
-    mm_machines::wires::bounded_wire_is_safe()
-}
+{}
 
 /// An asker and a route under another host's tag, a read before an agent that only writes, a last beat with `more`, a second word that is owed
 /// where there is room for one, and codes that aren't the agent's are refused. Where codes aren't read, nothing is said of them.

@@ -26,7 +26,6 @@ pub mod RegisterTags
 pub mod OnePipe
 pub mod PipeRow
 pub mod TagOrder
-pub mod GateLine
 mod Lasting
 mod Flow
 mod Chained
@@ -46,10 +45,4 @@ pub mod SelectLink
 mod WireStraight
 mod WireMoves
 mod FairTurns
-pub mod BoundedWireCommands
-pub mod BoundedWireCount
-pub mod BoundedWireLegal
-pub mod BoundedWireOrder
-pub mod BoundedWireAnswers
-pub mod BoundedWire
 mod Boundaries

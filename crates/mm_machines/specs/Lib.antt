@@ -8,8 +8,6 @@ pub mod Straight
 pub mod PartRanks
 pub mod Turns
 pub mod Register
-pub mod Gate
-pub mod BoundedWire
 pub mod Machines
 pub mod Shorter
 pub mod SideLaws

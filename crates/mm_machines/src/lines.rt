@@ -1,12 +1,9 @@
 //! The lines that the parts of a module keep, and what they give together.
 
-ghost use Rattle.std.specs.Prelude.{ℕ, Bool};
+ghost use Rattle.std.specs.Prelude.{ℕ};
 ghost use Rattle.mm_runs.specs.Views.{Responses, System, Run};
-ghost use Rattle.mm_runs.specs.Legal.{IsLegalHost};
-ghost use Rattle.mm_machines.specs.Link.{Port};
-ghost use Rattle.mm_machines.specs.Gate.{HasGate};
 ghost use Rattle.mm_machines.specs.Register.{AreRegisters};
-ghost use Rattle.mm_machines.specs.Lines.{HostCarriesCommands, AreTaggedInOrder, AreOwedByTag, Inside, Holds, Wired, TaggedPort, IsPipeLine, Pipe, KeepsPipeLine, joined_pipe};
+ghost use Rattle.mm_machines.specs.Lines.{AreTaggedInOrder, AreOwedByTag, Inside, Holds, Wired, TaggedPort, IsPipeLine, Pipe, KeepsPipeLine, joined_pipe};
 ghost use Rattle.mm_runs.specs.Whole.{IsLegalRun, IsSafe};
 
 /// The lines of the parts give what is promised at the ports, for any number of hosts, agents and stages.
@@ -31,11 +28,4 @@ pub fn registers_are_a_pipe()
 pub fn tags_in_order()
     ensures { (system : System) (tagged : TaggedPort) (end : ℕ) → AreTaggedInOrder tagged end
         → AreOwedByTag system tagged end }
-{}
-
-/// Wires and a gate on reads keep the commands of the line next to a host.
-pub fn gate_is_a_host_part()
-    ensures { (system : System) (run : Run) (host : ℕ) (down : Port) (shut : ℕ → Bool) (end : ℕ)
-        → HasGate system run host down shut → IsLegalHost (system.host host) (run.at_host host) end
-        → HostCarriesCommands system run host 0 down end }
 {}

@@ -2,24 +2,9 @@
 
 ghost use Rattle.std.specs.Prelude.{◌≤◌, ◌+◌, ◌-◌, ◌∷◌, [], ℕ};
 ghost use Rattle.histories.specs.History.{unreached, AreWithin};
-ghost use Rattle.mm_machines.specs.LinkPair.{LinkPair, KeepLinkLaws, KeepRows, AddsNoPieces, BringsRightBytes};
-ghost use Rattle.mm_machines.specs.Link.{Target, Port, AreLegalAt, AnswersAreOwed, CarriesCommands, KeepsLinkLaw, shown_at, taken_at, sizes};
+ghost use Rattle.mm_machines.specs.LinkPair.{LinkPair, KeepRows, AddsNoPieces};
+ghost use Rattle.mm_machines.specs.Link.{Target, Port, AreLegalAt, AnswersAreOwed, KeepsLinkLaw, shown_at, taken_at, sizes};
 ghost use Rattle.mm_machines.specs.Lines.{KeepsRow, IsWordForWord, HandsOn};
-
-/// Two links in a row are one link in all that is said of commands, and pass legality down and owed answers up.
-pub fn links_compose()
-    ensures commands { (pair : LinkPair) (end : ℕ) → KeepLinkLaws pair end → AddsNoPieces pair → (c : ℕ)
-        → c ≤ end → AreLegalAt pair.up c → AnswersAreOwed pair.down (c - 1)
-        → CarriesCommands pair.target (pair.first_hold + pair.second_hold) pair.up pair.down c }
-    ensures owed { (pair : LinkPair) (end : ℕ) → KeepLinkLaws pair end → (c : ℕ) → c ≤ end
-        → AreLegalAt pair.up c → AnswersAreOwed pair.down c → AnswersAreOwed pair.up c }
-{}
-
-/// Two links in a row bring back the right bytes.
-pub fn links_answer()
-    ensures { (pair : LinkPair) (end : ℕ) → KeepLinkLaws pair end → AreLegalAt pair.up end
-        → AnswersAreOwed pair.down end → BringsRightBytes pair.target pair.up pair.down end }
-{}
 
 /// One link that makes no tags and no kinds is a row.
 pub fn link_is_a_row()

@@ -1,14 +1,11 @@
-//! Wires between a host and an agent, with and without a bound on reads.
+//! Wires between a host and an agent.
 
 ghost use Rattle.std.specs.Prelude.{◌<◌, ℕ, Bool};
 ghost use Rattle.mm_machines.specs.Rank.{LinkRankFalls};
 ghost use Rattle.mm_machines.specs.PartRanks.{KeepsMoving};
-ghost use Rattle.mm_runs.specs.Views.{HostView, AgentView};
 ghost use Rattle.mm_machines.specs.Link.{Target, Port, KeepsLinkLaw, AreLegalAt};
 ghost use Rattle.mm_machines.specs.Lines.{KeepsRow, IsWordForWord};
 ghost use Rattle.mm_machines.specs.Straight.{GoesStraightThrough, IsShownPromptly};
-ghost use Rattle.mm_runs.specs.Plan.{IsMemoryPlan};
-ghost use Rattle.mm_machines.specs.BoundedWire.{WireForm, IsWireForm, IsBoundedWire, IsLegalWireRun, IsSafeWireRun, wire_system};
 
 /// A wire is a link that holds nothing.
 pub fn wire_is_a_link()
@@ -41,12 +38,4 @@ pub fn wire_falls()
 pub fn wire_keeps_moving()
     ensures { (target : Target) (port : Port) (end : ℕ) → AreLegalAt port end
         → KeepsMoving 0 target port port (λ c. 0) 0 end }
-{}
-
-/// A wire that holds reads back at the agent's bound keeps all that is promised, and its plan is one.
-pub fn bounded_wire_is_safe()
-    ensures safe { (form : WireForm) (host : HostView) (agent : AgentView) (count : ℕ → ℕ) (end : ℕ)
-        → IsWireForm form → IsBoundedWire form host agent count end → IsLegalWireRun form host agent end
-        → IsSafeWireRun form host agent end }
-    ensures plan { (form : WireForm) → IsWireForm form → IsMemoryPlan (wire_system form) }
 {}

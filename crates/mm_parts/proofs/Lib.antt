@@ -1,7 +1,6 @@
 mod MachineRuns
 mod SystemRuns
 mod WholeSystem
-mod SameMoment
 mod PlanLaws
 mod AgentShown
 mod Alike

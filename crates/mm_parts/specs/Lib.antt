@@ -8,7 +8,6 @@ pub mod AgentRun
 pub mod ArbiterRun
 pub mod RouteRun
 pub mod HostRun
-pub mod Moments
 pub mod System
 pub mod SystemRun
 pub mod Steps

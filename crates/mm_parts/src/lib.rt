@@ -3,7 +3,6 @@
 
 pub mod joins;
 pub mod lines;
-pub mod moments;
 pub mod plans;
 pub mod runs;
 pub mod steps;
