@@ -1,11 +1,9 @@
 -- Laws of what scripts name: places in lists, what is asked of a command, kinds, roles and properties.
-use Rattle.std.proofs.Common.{◌≡◌, ℕ, zero, suc, ◌+◌, ◌<◌, ◌≤◌, Bool, true, false, cond, not, ◌&&◌, IsTrue, List, [], ◌∷◌, ◌++◌, length, map, get_or, nat_lt, Option, Some, None, Decides, refl, sym, ap, ◌∙◌, subst, arith}
+use Rattle.std.proofs.Common.{◌≡◌, ℕ, zero, suc, ◌+◌, ◌<◌, ◌≤◌, Bool, true, false, cond, not, ◌&&◌, IsTrue, List, [], ◌∷◌, length, map, get_or, nat_lt, Option, Some, None, Decides, refl, ap, subst, arith}
 use Rattle.std.specs.Prelude.{find, position, IsNone, ◌||◌}
-use Rattle.std.specs.List.{prefix_len, position_from, position_or_len, list_any}
-use Rattle.std.specs.Map.{update}
+use Rattle.std.specs.List.{prefix_len, position_or_len, list_any}
 use Rattle.std.specs.Option.{option_map}
 use Rattle.std.proofs.lemmas.Bool.Decides.{nat_tests, Decides-and}
-use Rattle.std.proofs.lemmas.Iterator.Adapters.{position_from-zero}
 use Rattle.std.proofs.lemmas.List.{length-map}
 use Rattle.std.proofs.lemmas.List.Sums.{prefix_len-le-length}
 use Rattle.std.proofs.lemmas.Option.{cond_some}
@@ -57,46 +55,6 @@ pub position_within : {A : Type 0} (p : A → Bool) (xs : List A) (k : ℕ) → 
 position_within p xs k h =
     let parts = cond_some (nat_lt (position_or_len p xs) (length xs)) (position_or_len p xs) k h in
     subst (λ n. n < length xs) parts.1 (let e = parts.0 in grind (arith, nat_tests))
-
--- what comes behind the others
-position_from-pass : {A : Type 0} (p : A → Bool) (i : ℕ) (xs : List A) (y : A) → p y ≡ false → position_from p i (xs ++ y ∷ []) ≡ position_from p i xs
-position_from-pass p i [] y h = ap (λ b. cond b (Some i) None) h
-position_from-pass p i (x ∷ xs) y h = ap (cond (p x) (Some i)) (position_from-pass p (i + 1) xs y h)
-
-position_from-last : {A : Type 0} (p : A → Bool) (i : ℕ) (xs : List A) (y : A) → list_any p xs ≡ false → p y ≡ true → position_from p i (xs ++ y ∷ []) ≡ Some (i + length xs)
-position_from-last p i [] y none h = ap (λ b. cond b (Some i) None) h ∙ ap Some (omega arith)
-position_from-last p i (x ∷ xs) y none h = by (p x) refl (λ rest. position_from-last p (i + 1) xs y rest h)
-  where
-    by : (b : Bool) → p x ≡ b → (list_any p xs ≡ false → position_from p (i + 1) (xs ++ y ∷ []) ≡ Some (i + 1 + length xs))
-        → cond (p x) (Some i) (position_from p (i + 1) (xs ++ y ∷ [])) ≡ Some (i + length (x ∷ xs))
-    by true t later = absurd (let no : true ≡ false = sym (ap (λ b. b || list_any p xs) t) ∙ none in cc)
-    by false t later =
-        ap (λ b. cond b (Some i) (position_from p (i + 1) (xs ++ y ∷ []))) t
-        ∙ later (sym (ap (λ b. b || list_any p xs) t) ∙ none)
-        ∙ ap Some (omega arith)
-
-decides-swapped : {A : Type 0} {eq : A → A → Bool} → ((a b : A) → Decides (eq a b) (a ≡ b)) → (x y : A) → eq x y ≡ false → eq y x ≡ false
-decides-swapped {eq = eq} same x y h = by (eq y x) refl
-  where
-    by : (b : Bool) → eq y x ≡ b → eq y x ≡ false
-    by false e = e
-    by true e = absurd (let no : true ≡ false = sym ((same x y).1 (sym ((same y x).0 e))) ∙ h in cc)
-
--- what isn't there yet gets the place behind the others, and these keep theirs
-pub position-added : {A : Type 0} {eq : A → A → Bool} → ((a b : A) → Decides (eq a b) (a ≡ b)) → (xs : List A) (x other : A) → list_any (eq x) xs ≡ false
-    → position (eq other) (xs ++ x ∷ []) ≡ update eq (λ y. position (eq y) xs) x (Some (length xs)) other
-position-added {eq = eq} same xs x other none = position_from-zero (eq other) (xs ++ x ∷ []) ∙ by (eq x other) refl
-  where
-    by : (b : Bool) → eq x other ≡ b → position_from (eq other) 0 (xs ++ x ∷ []) ≡ cond (eq x other) (Some (length xs)) (position (eq other) xs)
-    by true h =
-        let is : x ≡ other = (same x other).0 h in
-        position_from-last (eq other) 0 xs x (subst (λ q. list_any (eq q) xs ≡ false) is none) (subst (λ q. eq q x ≡ true) is ((same x x).1 refl))
-        ∙ ap Some (omega arith)
-        ∙ sym (ap (λ b. cond b (Some (length xs)) (position (eq other) xs)) h)
-    by false h =
-        position_from-pass (eq other) 0 xs x (decides-swapped same x other h)
-        ∙ sym (position_from-zero (eq other) xs)
-        ∙ sym (ap (λ b. cond b (Some (length xs)) (position (eq other) xs)) h)
 
 -- where a search finds nothing, no item passes
 pub find-fails : {X : Type 0} (p : X → Bool) (xs : List X) (k : ℕ) (x : X) → find p xs ≡ None → k < length xs → get_or xs k x ≡ x → p x ≡ false

@@ -1,24 +1,11 @@
 -- Places of names, and words that name two parts.
-use Rattle.std.specs.Prelude.{◌≡◌, ℕ, String, Bool, ◌&&◌, ◌||◌, ◌==◌, not, List, length, position, Option, Some, None, option_and_then, if◌then◌else◌}
-use Rattle.std.specs.List.{list_any, before_first, after_first, IsDistinct}
-use Rattle.std.specs.HashMap.{get_by_text, HashMap}
+use Rattle.std.specs.Prelude.{ℕ, Bool, ◌&&◌, ◌||◌, ◌==◌, not, List, length, position, Option, Some, None, option_and_then, if◌then◌else◌}
+use Rattle.std.specs.List.{list_any, before_first, after_first}
 use Rattle.std.specs.Str.{bytes_eq}
-use Rattle.std.specs.declared.alloc.Global.{Global}
-use Rattle.std.specs.declared.hash.FoldHasher.{FoldHasher}
-use Rattle.std.specs.declared.hash.BuildHasherDefault.{BuildHasherDefault}
 
 -- the place of a name in a list of names
 abbrev pub place_of : List (List ℕ) → List ℕ → Option ℕ
 place_of names name = position (bytes_eq name) names
-
--- what finds the number of each name
-abbrev pub Numbers : Type 0
-Numbers = HashMap (String Global) ℕ (BuildHasherDefault FoldHasher)
-
--- each name of the list comes once, and has its place as its number
-pub record AreNumbered (names : List (List ℕ)) (numbers : Numbers) : Type 0 where
-  pub number : (name : List ℕ) → get_by_text numbers name ≡ place_of names name
-  pub distinct : IsDistinct bytes_eq names
 
 abbrev pub is_empty : List ℕ → Bool
 is_empty text = length text == 0

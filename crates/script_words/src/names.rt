@@ -4,35 +4,28 @@ ghost use Rattle.std.specs.Str.{bytes_eq};
 ghost use Rattle.script_words.specs.Names.{place_of};
 
 use av_base::NoMemory;
+use indexmap::IndexSet;
 use std::alloc::Global;
-use std::collections::HashMap;
 use std::marker::Model;
 
 /// Names by number, in the order in which they were added.
 pub struct Names {
-    names: Vec<String>,
-    numbers: HashMap<String, usize>,
+    names: IndexSet<String>,
 }
 
 /// By hand, so that what drops names calls this, and isn't followed through the fields.
 impl Drop for Names {
     fn drop(self) {
-        let Names {
-            names: _,
-            numbers: _,
-        } = self;
+        let Names { names: _ } = self;
     }
 }
 
 impl Model for Names {
     ghost use Rattle.std.specs.Prelude.{ℕ, List, map, string_bytes};
-    ghost use Rattle.script_words.specs.Names.{AreNumbered};
 
     ghost Value = { List (List ℕ) };
 
-    ghost view = { λ n. map string_bytes n.names.items };
-
-    ghost invariant = { λ n. AreNumbered (map string_bytes n.names.items) n.numbers };
+    ghost view = { λ n. map string_bytes n.names.keys };
 }
 
 impl Names {
@@ -41,8 +34,7 @@ impl Names {
         ensures { result ≡ [] }
     {
         Names {
-            names: Vec::new(alloc),
-            numbers: HashMap::new(alloc),
+            names: IndexSet::new(alloc),
         }
     }
 
@@ -50,7 +42,7 @@ impl Names {
     pub fn find(&self, name: &str) -> Option<usize>
         ensures { result ≡ place_of self.now name.now }
     {
-        self.numbers.get(name).copied()
+        self.names.get_index_of(name)
     }
 
     /// No two names are the same.
@@ -66,11 +58,7 @@ impl Names {
         ensures ok { OnOk result (self.new ≡ self.old ++ name.now ∷ []) }
         ensures err { OnErr result (self.new ≡ self.old) }
     {
-        self.names.reserve(1)?;
-        let added = String::from_str(alloc, name)?;
-        self.numbers
-            .insert(String::from_str(alloc, name)?, self.names.len())?;
-        self.names.push(added)?;
+        self.names.insert(String::from_str(alloc, name)?)?;
         Ok(())
     }
 
