@@ -1,4 +1,3 @@
 pub mod Commands
 pub mod Joints
-pub mod Links
 pub mod Roots

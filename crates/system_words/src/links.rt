@@ -5,36 +5,30 @@ ghost use Rattle.system_words.specs.Joints.{same_end, same_link};
 
 use crate::joints::{Link, Terminal};
 use av_base::NoMemory;
+use indexmap::IndexSet;
 use std::alloc::Global;
-use std::collections::{HashMap, HashSet};
+use std::collections::HashSet;
 use std::marker::Model;
 
 /// The ends of connections, by the numbers of the connections.
 pub struct Links {
-    links: Vec<Link>,
-    numbers: HashMap<Link, usize>,
+    links: IndexSet<Link>,
 }
 
 /// By hand, so that what drops links calls this, and isn't followed through the fields.
 impl Drop for Links {
     fn drop(self) {
-        let Links {
-            links: _,
-            numbers: _,
-        } = self;
+        let Links { links: _ } = self;
     }
 }
 
 impl Model for Links {
     ghost use Rattle.std.specs.Prelude.{List};
     ghost use Rattle.system_words.specs.declared.joints.Link.{Link};
-    ghost use Rattle.system_words.specs.Links.{AreNumbered};
 
     ghost Value = { List Link };
 
-    ghost view = { λ l. l.links.items };
-
-    ghost invariant = { λ l. AreNumbered l.links.items l.numbers };
+    ghost view = { λ l. l.links.keys };
 }
 
 impl Links {
@@ -43,8 +37,7 @@ impl Links {
         ensures { result ≡ [] }
     {
         Links {
-            links: Vec::new(alloc),
-            numbers: HashMap::new(alloc),
+            links: IndexSet::new(alloc),
         }
     }
 
@@ -52,7 +45,7 @@ impl Links {
     pub fn find(&self, link: Link) -> Option<usize>
         ensures { result ≡ position (same_link link) self.now }
     {
-        self.numbers.get(&link).copied()
+        self.links.get_index_of(&link)
     }
 }
 
@@ -122,12 +115,9 @@ pub fn add_link(
     ensures not_taken { OnErr result (taken.new ≡ taken.old) }
 {
     links.links.reserve(1)?;
-    links.numbers.reserve(1)?;
     if takes {
         taken.add_both(link)?;
     }
-    let number: Result<_, _> = links.numbers.insert(link, links.links.len());
-    let _ = number.unwrap();
-    links.links.push(link).unwrap();
+    let _ = links.links.insert(link).unwrap();
     Ok(())
 }
