@@ -4,9 +4,8 @@ use Rattle.std.specs.Prelude.{filter, position, All, AllPairs, is_some, slice_ge
 use Rattle.std.specs.List.{list_any, position_or_len}
 use Rattle.std.proofs.lemmas.Bool.Decides.{nat_tests, Decides-eqb}
 use Rattle.std.proofs.lemmas.List.Elements.{filter-append, filter_passes}
-use Rattle.std.proofs.lemmas.List.Folds.{position_or_len_push}
 use Rattle.std.proofs.lemmas.List.Kept.{AllPairs-filter}
-use Rattle.std.proofs.lemmas.List.{length_push, append-nil}
+use Rattle.std.proofs.lemmas.List.{append-nil}
 use Rattle.std.proofs.lemmas.Bool.{cases_lt}
 use Rattle.std.proofs.lemmas.List.Quantifiers.{position-Some}
 use Rattle.std.proofs.lemmas.Option.{slice_get_within, slice_get-get_or, get_or_from_slice_get}
@@ -58,66 +57,12 @@ lt-position : {X : Type 0} (p : X → Bool) (xs : List X) → nat_lt (position_o
 lt-position p [] = refl
 lt-position p (x ∷ xs) = first-step (p x) (list_any p xs) (position_or_len p xs) (length xs) (lt-position p xs)
 
-within-step : (b : Bool) (n len : ℕ) → n ≤ len → cond (not b) (1 + n) 0 ≤ suc len
-within-step true n len h = omega arith
-within-step false n len h = omega arith
-
-position-within : {X : Type 0} (p : X → Bool) (xs : List X) → position_or_len p xs ≤ length xs
-position-within p [] = omega arith
-position-within p (x ∷ xs) = within-step (p x) (position_or_len p xs) (length xs) (position-within p xs)
-
 is_some-cond : (b : Bool) (n : ℕ) → is_some (cond b (Some n) None) ≡ b
 is_some-cond true n = refl
 is_some-cond false n = refl
 
 pub is_some-position : {X : Type 0} (p : X → Bool) (xs : List X) → is_some (position p xs) ≡ list_any p xs
 is_some-position p xs = is_some-cond (nat_lt (position_or_len p xs) (length xs)) (position_or_len p xs) ∙ lt-position p xs
-
-abbrev place_below : ℕ → ℕ → Option ℕ
-place_below n len = cond (nat_lt n len) (Some n) None
-
-push_cases : (n len : ℕ) (r b : Bool) → n ≤ len → nat_lt n len ≡ r → place_below (cond (nat_eq n len) (len + cond b 0 1) n) (len + 1) ≡ cond r (place_below n len) (cond b (Some len) None)
-push_cases n len true b le h =
-    let apart : nat_eq n len ≡ false = grind (arith, nat_tests) in
-    let more : nat_lt n (len + 1) ≡ true = grind (arith, nat_tests) in
-    rw (apart, more, h) refl
-push_cases n len false true le h =
-    let same : nat_eq n len ≡ true = grind (arith, nat_tests) in
-    let more : nat_lt (len + 0) (len + 1) ≡ true = grind (arith, nat_tests) in
-    let zero : len + 0 ≡ len = omega arith in
-    rw (same, more, zero) refl
-push_cases n len false false le h =
-    let same : nat_eq n len ≡ true = grind (arith, nat_tests) in
-    let more : nat_lt (len + 1) (len + 1) ≡ false = grind (arith, nat_tests) in
-    rw (same, more) refl
-
-pub position_push : {X : Type 0} (p : X → Bool) (xs : List X) (y : X) → position p (xs ++ y ∷ []) ≡ cond (list_any p xs) (position p xs) (cond (p y) (Some (length xs)) None)
-position_push p xs y =
-    let places = position_or_len_push p xs y in
-    ap (λ n. place_below n (length (xs ++ y ∷ []))) places
-    ∙ ap (place_below (cond (nat_eq (position_or_len p xs) (length xs)) (length xs + cond (p y) 0 1) (position_or_len p xs))) (length_push xs y)
-    ∙ push_cases (position_or_len p xs) (length xs) (list_any p xs) (p y) (position-within p xs) (lt-position p xs)
-
-none-position : {X : Type 0} (p : X → Bool) (xs : List X) → list_any p xs ≡ false → position p xs ≡ None
-none-position p xs h = ap (λ b. cond b (Some (position_or_len p xs)) None) (lt-position p xs ∙ h)
-
--- the places after one more end, which isn't among the others
-pub place_in-push : (ends : List EndId) (end q : EndId) → list_any (is_same_end end) ends ≡ false → place_in (ends ++ end ∷ []) q ≡ cond (is_same_end end q) (Some (length ends)) (place_in ends q)
-place_in-push ends end q fresh = position_push (is_same_end q) ends end ∙ by (is_same_end end q) refl
-  where
-    by : (b : Bool) → is_same_end end q ≡ b → cond (list_any (is_same_end q) ends) (place_in ends q) (cond (is_same_end q end) (Some (length ends)) None) ≡ cond (is_same_end end q) (Some (length ends)) (place_in ends q)
-    by true h =
-        let same = same_end end q h in
-        let none : list_any (is_same_end q) ends ≡ false = subst (λ (x : EndId). list_any (is_same_end x) ends ≡ false) same fresh in
-        let here : is_same_end q end ≡ true = is_same_end-sym q end ∙ h in
-        rw (none, here, h) refl
-    by false h =
-        let other : is_same_end q end ≡ false = is_same_end-sym q end ∙ h in
-        rw (other, h) (found (list_any (is_same_end q) ends) refl)
-      where
-        found : (b : Bool) → list_any (is_same_end q) ends ≡ b → cond (list_any (is_same_end q) ends) (place_in ends q) None ≡ place_in ends q
-        found true h = rw h refl
-        found false h = rw h (sym (none-position (is_same_end q) ends h))
 
 -- leaving another end out leaves an end where it was
 any-filter_other : (x end : EndId) (ends : List EndId) → is_same_end end x ≡ false → list_any (is_same_end end) (filter (λ other. not (is_same_end x other)) ends) ≡ list_any (is_same_end end) ends

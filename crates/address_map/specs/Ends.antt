@@ -1,9 +1,6 @@
 -- Ends of connections, each once.
-use Rattle.std.specs.Prelude.{◌≡◌, ℕ, Bool, ◌&&◌, ◌++◌, ◌==◌, not, List, [], ◌∷◌, filter, Option, position, if◌then◌else◌}
+use Rattle.std.specs.Prelude.{ℕ, Bool, ◌&&◌, ◌++◌, ◌==◌, not, List, [], ◌∷◌, filter, Option, position, if◌then◌else◌}
 use Rattle.std.specs.List.{list_any}
-use Rattle.std.specs.HashMap.{get, HashMap}
-use Rattle.std.specs.declared.hash.FoldHasher.{FoldHasher}
-use Rattle.std.specs.declared.hash.BuildHasherDefault.{BuildHasherDefault}
 use Rattle.system_tables.specs.declared.tables.EndId.{EndId}
 
 abbrev pub is_same_end : EndId → EndId → Bool
@@ -21,10 +18,3 @@ place_in ends end = position (is_same_end end) ends
 -- a list of ends with one more, unless it is there
 abbrev pub with_end : List EndId → EndId → List EndId
 with_end ends end = if list_any (is_same_end end) ends then ends else ends ++ end ∷ []
-
--- what finds the place of each end in the list
-abbrev pub Places : Type 0
-Places = HashMap EndId ℕ (BuildHasherDefault FoldHasher)
-
-abbrev pub ArePlacesIn : List EndId → Places → Type 0
-ArePlacesIn ends places = (end : EndId) → get is_same_end places end ≡ place_in ends end
