@@ -1,5 +1,5 @@
 #!/usr/bin/env python3
-"""What crates/workload_rows must print: workload systems and drawn scenarios, from docs/FORMATS.md alone."""
+"""What crates/scenario_rows must print behind its rows: workload systems and drawn scenarios, from docs/FORMATS.md alone."""
 
 
 class Generator:

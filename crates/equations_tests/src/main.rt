@@ -1,4 +1,5 @@
-//! Makes the modules that the rows of the standard input name, steps some of them, and prints their lines and values.
+//! Makes the modules that the rows of the standard input name, steps some of them, and prints their lines and values; then reads the texts
+//! behind the rows as modules, whole, cut and changed.
 #![tactic(auto)]
 
 mod headers;
@@ -7,6 +8,8 @@ mod modules;
 mod pruned;
 mod room;
 mod steps;
+mod tally;
+mod texts;
 mod values;
 mod wave_files;
 
@@ -16,6 +19,7 @@ use room::NoRoom;
 use std::alloc::Global;
 use std::io;
 use steps::{push_bytes, push_counted, push_joined, push_operators, push_outputs, push_run};
+use texts::tell_texts;
 use wave_files::{push_read_back, push_replayed, push_waves};
 
 /// Appends what is said of a row.
@@ -42,14 +46,18 @@ fn answer_of(alloc: Global, row: &str) -> Result<String, NoRoom> {
     Ok(text)
 }
 
+fn tell_row(rt: &HostRuntime, row: &str) -> io::Result<()> {
+    let Ok(answer) = answer_of(rt.alloc(), row) else {
+        return Err(io::ErrorKind::OutOfMemory.into());
+    };
+    println!(rt; "{row}:{answer}")
+}
+
 fn main(rt: HostRuntime) -> io::Result<()> {
-    let alloc = rt.alloc();
-    for row in rt.lines(alloc) {
-        let row = row?;
-        let Ok(answer) = answer_of(alloc, row.as_str()) else {
-            return Err(io::ErrorKind::OutOfMemory.into());
-        };
-        println!(rt; "{row}:{answer}")?;
+    let text = io::read_to_string(rt.alloc(), rt.reader())?;
+    let (rows, texts) = text.split_once(":text ").unwrap_or((text.as_str(), ""));
+    for row in rows.lines() {
+        tell_row(&rt, row)?;
     }
-    Ok(())
+    tell_texts(&rt, texts)
 }

@@ -1,11 +1,13 @@
 //! Reads rows of scenarios from the standard input, and prints of each how many statements each interface has, or the line and the rule
-//! that refuse it.
+//! that refuse it; then the systems and scenarios that are drawn by some numbers.
 #![tactic(auto)]
 
+mod drawn;
 mod row;
 mod systems;
 
 use av_base::{Bytes, NoMemory};
+use drawn::tell_workloads;
 use link_rules::Plan;
 use row::Row;
 use scenario_tables::{Scenario, Scripts};
@@ -79,5 +81,6 @@ fn tell_rows(rt: &HostRuntime, text: &str) -> io::Result<()> {
 
 fn main(rt: HostRuntime) -> io::Result<()> {
     let text = io::read_to_string(rt.alloc(), rt.reader())?;
-    tell_rows(&rt, text.as_str())
+    tell_rows(&rt, text.as_str())?;
+    tell_workloads(&rt)
 }

@@ -1,5 +1,4 @@
-//! Prints the workload systems of some numbers, and the scenarios that are drawn for them, statement by statement.
-#![tactic(auto)]
+//! The workload systems of some numbers, and the scenarios that are drawn for them, statement by statement.
 
 ghost use Rattle.std.specs.Prelude.{◌<◌, ◌≤◌};
 
@@ -126,13 +125,14 @@ fn tell_drawn(rt: &HostRuntime, number: u32, lane: u8, cycles: u32) -> io::Resul
     }
 }
 
-fn main(rt: HostRuntime) -> io::Result<()> {
+/// Tells the systems of some numbers, and then scenarios of some of them.
+pub fn tell_workloads(rt: &HostRuntime) -> io::Result<()> {
     for number in 0..48 {
-        tell_system(&rt, number)?;
+        tell_system(rt, number)?;
     }
-    tell_system(&rt, u32::MAX)?;
-    tell_drawn(&rt, 0, 0, 1)?;
-    tell_drawn(&rt, 7, 0, 2000)?;
-    tell_drawn(&rt, 23, 5, 256)?;
-    tell_drawn(&rt, u32::MAX, 7, 65536)
+    tell_system(rt, u32::MAX)?;
+    tell_drawn(rt, 0, 0, 1)?;
+    tell_drawn(rt, 7, 0, 2000)?;
+    tell_drawn(rt, 23, 5, 256)?;
+    tell_drawn(rt, u32::MAX, 7, 65536)
 }

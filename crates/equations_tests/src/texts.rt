@@ -1,13 +1,10 @@
-//! Reads the texts of the standard input as modules, and each text that is one of them with one byte changed or cut short, and prints
-//! what is answered: of each text by itself, and of those that are made of it how many answers there are of each kind.
-#![tactic(auto)]
+//! Reads texts as modules, and each text that is one of them with one byte changed or cut short, and prints what is answered: of each
+//! text by itself, and of those that are made of it how many answers there are of each kind.
 
-mod tally;
-
+use crate::tally::Tally;
 use netlist::Module;
 use std::alloc::Global;
 use std::io;
-use tally::Tally;
 use verilog_reader::{TextFault, read_module};
 use verilog_writer::write_module;
 
@@ -76,11 +73,10 @@ fn tell_row(rt: &HostRuntime, row: &str) -> io::Result<()> {
     }
 }
 
-fn main(rt: HostRuntime) -> io::Result<()> {
-    let text = io::read_to_string(rt.alloc(), rt.reader())?;
-    let (_, rows) = text.split_once(":text ").unwrap_or(("", ""));
-    for row in rows.split("\n:text ") {
-        tell_row(&rt, row)?;
+/// Tells of texts, each behind a line of its title.
+pub fn tell_texts(rt: &HostRuntime, texts: &str) -> io::Result<()> {
+    for text in texts.split("\n:text ") {
+        tell_row(rt, text)?;
     }
     Ok(())
 }
