@@ -20,5 +20,7 @@ add_connection cpu_0.data flash_0.s avalon
 set_connection_parameter_value cpu_0.data/flash_0.s baseAddress {0x1000}
 add_connection cpu_0.data port_0.s avalon
 set_connection_parameter_value cpu_0.data/port_0.s baseAddress {0x2000}
+add_interface told conduit end
+set_interface_property told EXPORT_OF cpu_0.told
 add_interface pins conduit end
 set_interface_property pins EXPORT_OF port_0.pins

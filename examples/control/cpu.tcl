@@ -17,5 +17,5 @@ add_interface_port data d_waitrequest waitrequest Input 1
 add_interface_port data d_readdata readdata Input 32
 add_interface_port data d_readdatavalid readdatavalid Input 1
 add_interface told conduit end
-add_interface_port told done export Output 1
-add_interface_port told good export Output 1
+add_interface_port told done done Output 1
+add_interface_port told good good Output 1

@@ -1,6 +1,10 @@
 # a host that writes some words, reads them back, and says whether they are right
 package require -exact qsys 16.0
 set_module_property NAME cpu
+add_parameter PLACE INTEGER 0
+set_parameter_property PLACE HDL_PARAMETER true
+add_parameter FIRST INTEGER 0
+set_parameter_property FIRST HDL_PARAMETER true
 add_interface clk clock end
 add_interface_port clk clk clk Input 1
 add_interface reset reset end
@@ -17,5 +21,5 @@ add_interface_port data d_waitrequest waitrequest Input 1
 add_interface_port data d_readdata readdata Input 32
 add_interface_port data d_readdatavalid readdatavalid Input 1
 add_interface told conduit end
-add_interface_port told done export Output 1
-add_interface_port told good export Output 1
+add_interface_port told done done Output 1
+add_interface_port told good good Output 1

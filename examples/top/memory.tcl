@@ -1,6 +1,8 @@
 # stands for memory_hw.tcl where ADDRESS_BITS is 6: what its callback does, as literal commands
 package require -exact qsys 16.0
 set_module_property NAME memory
+add_parameter ADDRESS_BITS INTEGER 6
+set_parameter_property ADDRESS_BITS HDL_PARAMETER true
 add_interface clk clock end
 add_interface_port clk clk clk Input 1
 add_interface reset reset end
