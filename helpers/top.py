@@ -59,7 +59,7 @@ def literal(kind, word):
 class Top:
     def __init__(self, header, system, notes):
         self.header, self.system, self.notes = header, system, notes
-        self.ports, self.wires, self.body = {}, {}, []
+        self.ports, self.wires, self.body, self.partly = {}, {}, [], set()
         self.sources = [name for name, it in system.instances.items() if it.name == "clock_source"]
         self.main = self.main_source()
 
@@ -221,15 +221,38 @@ class Top:
             return f"{name}${word}" if "$" in word or word in it.given else word
         return re.sub(r"(?<!['\w$])[A-Za-z_][\w$]*", net, text)
 
+    def begins(self, name, it, interface):
+        """A net that is high in the first cycle of each transfer of an agent."""
+        at, net = it.interfaces[interface], f"{name}${interface}$"
+        asks = " | ".join(net + role for role in ("read", "write") if at.has(role))
+        if at.has("waitrequest"):
+            ends = f"~{net}waitrequest"
+        else:
+            waits = [at.number(f"{kind}WaitTime", at.number(f"{kind}WaitStates", default)) for kind, default in (("read", 1), ("write", 0))]
+            ends = f"{net}stood >= ({net}read ? 8'd{waits[0]} : 8'd{waits[1]})" if at.has("read") else f"{net}stood >= 8'd{waits[1]}"
+        root = self.system.root(f"{name}.{interface}")
+        clock = self.clock_from(root) if root else self.source_port(self.main, "clk")
+        self.body.append(f"""
+  // how long a command of {name}.{interface} has stood
+  reg [7:0] {net}stood;
+  always @(posedge {clock})
+    if (reset || !({asks}) || ({ends})) {net}stood <= 0;
+    else if ({net}stood != 8'hff) {net}stood <= {net}stood + 8'd1;""")
+        return f"({asks}) & {net}stood == 0"
+
     def instance(self, name, it):
         rows = []
         for port, width in it.given.items():
             rows.append((port, self.wire(f"{name}${port}", width)))
+        # a stand-in's nets, of which the component may use a part or nothing
+        if it.driven or it.absent:
+            self.partly |= {f"{name}${interface}${port.role}" for interface, at in it.interfaces.items() for port in at.ports}
         for target, text in it.driven.items():
             if "$" in target:
                 self.body.append(f"  assign {name}${target} = {self.of_instance(name, it, text)};")
             else:
                 rows.append((target, self.of_instance(name, it, text)))
+        rows += [(port, self.begins(name, it, interface)) for port, interface in it.begins]
         told = {port for port, _ in rows} | it.absent
         for interface, at in it.interfaces.items():
             rows += [(port.name, self.value(f"{name}.{interface}", port)) for port in at.ports if port.name not in told]
@@ -275,27 +298,48 @@ class Top:
         ports = ",\n".join(f"  {ways[way]} {ranged(width)}{name}" for name, (way, width) in self.ports.items())
         lines = [f"// The top level of the system {self.header.name}: its components, and the generated module that lies between them.",
                  f"module {self.header.name}_top (\n{ports}\n);"]
-        told = {name: width for name, width, _ in self.header.ports if name.endswith(("$grant", "$dropped"))}
+        told = {name: width for name, width, _ in self.header.ports if name.endswith(("$grant", "$dropped")) or name in self.partly}
         joined = {name: width for name, width, _ in self.header.ports if name not in told}
         lines += [f"  wire {ranged(width)}{name};" for name, width in (joined | self.wires).items()]
         if told:
-            lines += ["  // to look at: the host that is served, and beats that a sink doesn't take", "  /* verilator lint_off UNUSEDSIGNAL */"]
+            lines += ["  // to look at, as the host that is served and beats that a sink doesn't take, or used in part",
+                      "  /* verilator lint_off UNUSEDSIGNAL */"]
             lines += [f"  wire {ranged(width)}{name};" for name, width in told.items()]
             lines.append("  /* verilator lint_on UNUSEDSIGNAL */")
         return "\n".join(lines + self.body + ["endmodule", ""])
 
 
+BENCH = """
+// Runs the top level behind a reset for {cycles} cycles, and writes all waves to {name}.vcd.
+module {name}_bench;
+  reg clk = 0;
+  reg reset = 1;
+{signals}
+  {name}_top {name}_top (
+{rows}
+  );
+
+  always #5 clk = ~clk;
+  initial begin
+    $dumpfile("{name}.vcd");
+    $dumpvars(0, {name}_bench);
+    // the first cycle begins behind the second edge
+    repeat (2) @(posedge clk);
+    #1 reset = 0;
+    repeat ({cycles}) @(posedge clk);
+    $finish;
+  end
+endmodule
+"""
+
+
 def bench(name, ports, cycles):
-    """A test bench: clock, reset, so many cycles, and a file of waves."""
-    lines = [f"\n// Runs the top level behind a reset for {cycles} cycles, and writes all waves to {name}.vcd.",
-             f"module {name}_bench;", "  reg clk = 0;", "  reg reset = 1;"]
+    """A test bench: clock, reset, so many cycles, and a file of waves. Further inputs are 0."""
+    signals = ""
     for port, (way, width) in ports.items():
         if port not in ("clk", "reset"):
-            lines.append(f"  {'reg' if way == 'input' else 'wire'} {ranged(width)}{port}{' = 0' if way == 'input' else ''};")
-    rows = ",\n".join(f"    .{port}({port})" for port in ports)
-    lines += ["", f"  {name}_top {name}_top (\n{rows}\n  );", "", "  always #5 clk = ~clk;", "  initial begin", f'    $dumpfile("{name}.vcd");',
-              f"    $dumpvars(0, {name}_bench);", "    // the first cycle begins behind the second edge", "    repeat (2) @(posedge clk);", "    #1 reset = 0;", f"    repeat ({cycles}) @(posedge clk);", "    $finish;", "  end", "endmodule", ""]
-    return "\n".join(lines)
+            signals += f"  reg {ranged(width)}{port} = 0;\n" if way == "input" else f"  wire {ranged(width)}{port};\n"
+    return BENCH.format(name=name, cycles=cycles, signals=signals, rows=",\n".join(f"    .{port}({port})" for port in ports))
 
 
 def main():
@@ -303,7 +347,8 @@ def main():
     words.add_argument("text")
     words.add_argument("system")
     words.add_argument("components", nargs="*", metavar="component")
-    words.add_argument("--bench", type=int, metavar="CYCLES", help="also write a test bench, NAME_bench, that runs so many cycles and writes NAME.vcd")
+    words.add_argument("--bench", type=int, metavar="CYCLES", 
+                       help="also write a test bench, NAME_bench, that runs so many cycles and writes NAME.vcd")
     words.add_argument("--checks", action="store_true", help="also put in NAME_checks, which checks.py writes")
     it = words.parse_args()
     header = Header(read_text(it.text), it.text)

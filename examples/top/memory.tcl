@@ -1,4 +1,4 @@
-# stands for memory_hw.tcl where ADDRESS_BITS is 6: what its callback does, as literal commands
+# written by flatten.tcl from memory_hw.tcl ADDRESS_BITS=6
 package require -exact qsys 16.0
 set_module_property NAME memory
 add_parameter ADDRESS_BITS INTEGER 6

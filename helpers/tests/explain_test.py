@@ -13,11 +13,14 @@ import explain
 # what a first try meets, and a word of what is said of it
 CAUSES = [
     ("a component that wasn't named", "C5", ["create_system s\nadd_instance a @cpu\n"], "no component file that was named states the type cpu"),
-    ("a system that is named last", "C13", ["@set_module_property NAME cpu\nadd_interface m avalon host\nadd_interface_port m a address Output 8\n",
-                                            "create_system s\n"], "1.tcl is a component: the system is the first file"),
+    ("a system that is named last", "C13",
+     ["@set_module_property NAME cpu\nadd_interface m avalon host\nadd_interface_port m a address Output 8\n", "create_system s\n"],
+     "1.tcl is a component: the system is the first file"),
     ("a system among the components", "C1", ["create_system s\n", "@create_system s\n"], "2.tcl is a system: name it first"),
-    ("a clock that is misspelt", "I14", ["create_system s\n", "set_module_property NAME c\nadd_interface clk clock end\nadd_interface @s avalon agent\n"
-                                         "set_interface_property s associatedClock clock\n"], "associatedClock is clock, and the component's clock interfaces are: clk"),
+    ("a clock that is misspelt", "I14",
+     ["create_system s\n", "set_module_property NAME c\nadd_interface clk clock end\nadd_interface @s avalon agent\n"
+                            "set_interface_property s associatedClock clock\n"],
+     "associatedClock is clock, and the component's clock interfaces are: clk"),
     ("a byte order mark", "C1", ["@\ufeffcreate_system s\n"], "byte order mark"),
     ("a .qsys file", "C1", ["@<?xml version=\"1.0\"?>\n<system name=\"s\">\n"], "this is XML"),
 ]
