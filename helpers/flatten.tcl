@@ -13,7 +13,8 @@ What a component has and `avalon` doesn't know is made at the top level: a stand
     #top output PORT BITS          an output that the next line uses
     #top INTERFACE$role = VALUE    what the module is shown in its place
     #top begins PORT INTERFACE     an input that is high in the first cycle of each transfer
-    #top without PORT              no such port, or one that stays open
+    #top open PORT                 an output that nothing reads
+    #top without PORT              the component has no such port
 
 Data of native alignment are made as wide as the words of the host, 32 bits where --native says nothing.
 }
@@ -284,7 +285,7 @@ proc put_avalon_port {interface port role direction bits} {
       return
     }
     clken - outputenable { puts "#top $port = 1'b[expr {$is_low ? 0 : 1}]"; return }
-    dataavailable - readyfordata - endofpacket { puts "#top without $port"; return }
+    dataavailable - readyfordata - endofpacket { puts "#top open $port"; return }
     debugaccess - beginbursttransfer {
       if {!$is_input} { put_port $interface $port $plain $direction $bits $bits 0; return }
       if {$plain eq "beginbursttransfer"} { puts stderr "flatten.tcl: $port is tied to 0: beginbursttransfer isn't made" }
@@ -293,13 +294,13 @@ proc put_avalon_port {interface port role direction bits} {
     }
     lock - writeresponsevalid {
       left_out "$port of $interface ($plain)"
-      puts [expr {$is_input ? "#top $port = 1'b0" : "#top without $port"}]
+      puts [expr {$is_input ? "#top $port = 1'b0" : "#top open $port"}]
       return
     }
   }
   if {$plain ni $roles(avalon)} {
     left_out "$port of $interface ($role)"
-    puts [expr {$is_input ? "#top $port = $bits'd0" : "#top without $port"}]
+    puts [expr {$is_input ? "#top $port = $bits'd0" : "#top open $port"}]
     return
   }
   set shown $bits
@@ -341,7 +342,7 @@ foreach interface $interfaces {
     if {$bits == 0} { puts "#top without $port"; continue }
     if {[info exists ended($port)] || $is_left} {
       set value [expr {[info exists ended($port)] ? $ended($port) : 0}]
-      puts [expr {$is_input ? "#top $port = $bits'd$value" : "#top without $port"}]
+      puts [expr {$is_input ? "#top $port = $bits'd$value" : "#top open $port"}]
       continue
     }
     if {$kind eq "avalon"} {
@@ -353,7 +354,7 @@ foreach interface $interfaces {
       put_avalon_port $interface $port $role $direction $bits
     } elseif {$kind eq "avalon_streaming" && $role ni $roles(avalon_streaming)} {
       left_out "$port of $interface ($role)"
-      puts [expr {$is_input ? "#top $port = $bits'd0" : "#top without $port"}]
+      puts [expr {$is_input ? "#top $port = $bits'd0" : "#top open $port"}]
     } else {
       put add_interface_port $interface $port $role $direction $bits
     }

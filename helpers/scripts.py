@@ -121,6 +121,7 @@ class Component:
         self.driven = dict(re.findall(r"^#top ([\w$]+) = (.+?)\r?$", text, re.M))
         self.given = {name: int(width) for name, width in re.findall(r"^#top output (\w+) (\d+)\r?$", text, re.M)}
         self.begins = re.findall(r"^#top begins (\w+) (\w+)\r?$", text, re.M)
+        self.open = re.findall(r"^#top open (\w+)\r?$", text, re.M)
         self.absent = set(re.findall(r"^#top without (\w+)\r?$", text, re.M))
 
     def take(self, words):

@@ -252,6 +252,7 @@ class Top:
                 self.body.append(f"  assign {name}${target} = {self.of_instance(name, it, text)};")
             else:
                 rows.append((target, self.of_instance(name, it, text)))
+        rows += [(port, "") for port in it.open]
         rows += [(port, self.begins(name, it, interface)) for port, interface in it.begins]
         told = {port for port, _ in rows} | it.absent
         for interface, at in it.interfaces.items():
@@ -306,7 +307,10 @@ class Top:
                       "  /* verilator lint_off UNUSEDSIGNAL */"]
             lines += [f"  wire {ranged(width)}{name};" for name, width in told.items()]
             lines.append("  /* verilator lint_on UNUSEDSIGNAL */")
-        return "\n".join(lines + self.body + ["endmodule", ""])
+        body = "\n".join(self.body)
+        if "()" in body:
+            lines.append("  /* verilator lint_off PINCONNECTEMPTY */")
+        return "\n".join(lines + [body, "endmodule", ""])
 
 
 BENCH = """

@@ -23,8 +23,8 @@ add_interface_port s1 writedata writedata Input 32
 add_interface_port s1 readdata readdata Output 32
 #top output readdata 16
 #top s1$readdata = {16'd0, readdata}
-#top without dataavailable
-#top without readyfordata
+#top open dataavailable
+#top open readyfordata
 add_interface external_connection conduit end
 add_interface_port external_connection rxd rxd Input 1
 add_interface_port external_connection txd txd Output 1

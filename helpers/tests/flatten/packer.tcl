@@ -33,4 +33,4 @@ add_interface_port out out_startofpacket startofpacket Output 1
 add_interface_port out out_endofpacket endofpacket Output 1
 add_interface_port out out_empty empty Output 2
 add_interface_port out out_channel channel Output 2
-#top without out_error
+#top open out_error
