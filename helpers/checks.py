@@ -50,6 +50,7 @@ class Checks:
         return f"""// Beside {name}_interconnect: tells where a component breaks the rules of its interfaces.
 /* verilator lint_off UNUSEDSIGNAL */
 /* verilator lint_off BLKSEQ */
+/* verilator lint_off WIDTH */
 module {name}_checks (
   input wire clk,
   input wire reset,
@@ -160,7 +161,7 @@ class Signals:
     def unknown(self, *roles):
         for role in roles:
             if self.has(role):
-                self.rule(f"{role} is unknown", f"{self.net(role)} === 1'bx || {self.net(role)} === 1'bz")
+                self.rule(f"{role} is unknown", f"(^{self.net(role)}) === 1'bx")
 
     def holds(self, signals, waits, what):
         """These signals stand unchanged in the cycle behind one in which they wait."""

@@ -12,6 +12,7 @@ from parts import PROGRAM, TOP, helper, must
 
 import draw_scenarios
 from judge_drawn_traces import Faultless, systems_of
+from judge_scenarios import judge
 from judge_traces import Simulation, generated
 from script_systems import System
 from workload_scripts import scripts_of
@@ -85,6 +86,13 @@ class Run:
         return subprocess.run(["vvp", "bench"], cwd=folder, capture_output=True, text=True, check=True).stdout
 
 
+def legal(random, system):
+    while True:
+        scenario = Faultless(random, system).scenario()
+        if not judge(system, scenario).startswith("line "):
+            return scenario
+
+
 def drawn_runs(count):
     """Runs of workload systems, and of the systems of crates/scenario_rows with drawn scenarios, which have bursts and channels."""
     random = Random(54)
@@ -92,7 +100,7 @@ def drawn_runs(count):
     for number in range(count):
         if number % 2:
             files = others[number // 2 % len(others)]
-            scenario = Faultless(random, System(files[0], files[1:])).scenario()
+            scenario = legal(random, System(files[0], files[1:]))
         else:
             files = scripts_of(number // 2)
             lines = draw_scenarios.drawn(number // 2, 0, 300)[1:]
@@ -130,15 +138,21 @@ add_interface_port s bc burstcount Input 3
 add_interface_port s wr waitrequest Output 1
 add_interface_port s rd readdata Output 32
 add_interface_port s rv readdatavalid Output 1
-"""] + [f"""set_module_property NAME {name}
-add_interface {interface} avalon_streaming {side}
-set_interface_property {interface} readyLatency {latency}
-set_interface_property {interface} maxChannel 2
-set_interface_property {interface} symbolsPerBeat 3
-add_interface_port {interface} r ready {'Input' if side == 'source' else 'Output'} 1
-""" + "".join(f"add_interface_port {interface} {role} {role} {'Output' if side == 'source' else 'Input'} {width}\n" for role, width in
-              (("valid", 1), ("data", 24), ("channel", 2), ("startofpacket", 1), ("endofpacket", 1), ("empty", 2)))
-        for name, interface, side, latency in (("gen", "o", "source", 0), ("chk", "i", "sink", 0), ("late", "o", "source", 2), ("led", "i", "sink", 2))]
+"""]
+
+
+def stream_end(name, interface, side, latency):
+    """A component with an end of a stream: packets of three symbols a beat on three channels."""
+    ways = ("Output", "Input") if side == "source" else ("Input", "Output")
+    lines = [f"set_module_property NAME {name}", f"add_interface {interface} avalon_streaming {side}"]
+    lines += [f"set_interface_property {interface} {key} {value}" for key, value in
+              (("readyLatency", latency), ("maxChannel", 2), ("symbolsPerBeat", 3))]
+    lines += [f"add_interface_port {interface} {role} {role} {ways[role == 'ready']} {width}" for role, width in
+              (("ready", 1), ("valid", 1), ("data", 24), ("channel", 2), ("startofpacket", 1), ("endofpacket", 1), ("empty", 2))]
+    return "\n".join(lines) + "\n"
+
+
+SYSTEM += [stream_end("gen", "o", "source", 0), stream_end("chk", "i", "sink", 0), stream_end("late", "o", "source", 2), stream_end("led", "i", "sink", 2)]
 
 SCENARIO = b"""cycles 60
 stall ram.s 0110

@@ -81,3 +81,34 @@ def written(row, folder):
         (Path(folder) / name).write_bytes(data)
         names.append(name)
     return names
+
+
+# ---- the systems of the examples
+
+class Example:
+    """A system of examples/: its folder, its script, and the components that it names."""
+
+    def __init__(self, script, types):
+        from scripts import commands_of
+        self.folder, self.script = script.parent, script.name
+        named = [words[2] for words in commands_of(script.read_text()) if words[0] == "add_instance"]
+        self.components = [types[name] for name in dict.fromkeys(named) if name != "clock_source"]
+
+    def title(self):
+        return f"{self.folder.name}/{self.script}"
+
+    def generate(self):
+        return called([PROGRAM, "generate", self.script, *self.components], folder=self.folder)
+
+
+def examples():
+    from scripts import Component
+    found = []
+    for folder in sorted((TOP / "examples").iterdir()):
+        scripts = sorted(folder.glob("*.tcl"))
+        systems = [it for it in scripts if re.search("^create_system", it.read_text(), re.M)]
+        types = {}
+        for file in [*(HELPERS / "stock").glob("*.tcl"), *(it for it in scripts if it not in systems and not it.name.endswith("_hw.tcl"))]:
+            types[Component(file.read_text()).name] = file
+        found += [Example(it, types) for it in systems]
+    return found
