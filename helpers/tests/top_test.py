@@ -2,10 +2,11 @@
 import re
 import shutil
 import subprocess
+import sys
 import tempfile
 from pathlib import Path
 
-from parts import TOP, examples, helper, must, silent
+from parts import called, examples, helper, must, silent
 
 from scripts import Component
 
@@ -48,16 +49,31 @@ def take(example, folder):
                 "top.v", "text.v", "checks.v", "stubs.v"], folder)
 
 
-def run_bench(example, folder):
-    """The bench of an example passes, with the waves of its README, and no component breaks a rule."""
-    words = [folder / "text.v", example.folder / example.script, *example.components]
-    (folder / "top.v").write_text(helper("top.py", "--checks", *words))
-    verilog = sorted(example.folder.glob("*.v"))
-    silent(["iverilog", "-g2005", "-Wall", "-o", folder / "run", *verilog, folder / "top.v", folder / "text.v", folder / "checks.v"])
+def run_bench(systems, folder):
+    """The bench of a folder passes, with the waves of its README, and no component breaks a rule."""
+    there, files = systems[0].folder, []
+    for number, example in enumerate(systems):
+        files += [folder / f"{name}{number}.v" for name in ("text", "checks", "top")]
+        words = [files[-3], example.folder / example.script, *example.components]
+        files[-3].write_text(example.generate())
+        files[-2].write_text(helper("checks.py", *words))
+        files[-1].write_text(helper("top.py", "--checks", *words))
+    silent(["iverilog", "-g2005", "-Wall", "-o", folder / "run", *sorted(there.glob("*.v")), *files])
     said = subprocess.run(["vvp", folder / "run"], capture_output=True, text=True, check=True).stdout
-    must("passed" in said and "checks:" not in said, f"the bench of {example.title()} doesn't pass", said)
-    shown = re.findall(r"^```\n((?:cycle |passed).*?)^```$", (example.folder / "README.md").read_text(), re.S | re.M)
-    must(said in shown, f"the bench of {example.title()} prints what its README doesn't show", said)
+    must("passed" in said and "checks:" not in said, f"the bench of examples/{there.name} doesn't pass", said)
+    must(said in shown_in(there), f"the bench of examples/{there.name} prints what its README doesn't show", said)
+
+
+def shown_in(there):
+    """The waves and results that a README shows."""
+    return re.findall(r"^```\n((?:cycle |passed).*?)^```$", (there / "README.md").read_text(), re.S | re.M)
+
+
+def run_script(example, folder):
+    """The bench in Python of an example prints the waves of its README."""
+    (folder / "text.v").write_text(example.generate())
+    said = called([sys.executable, example.folder / "bench.py", folder / "text.v"])
+    must(said in shown_in(example.folder), f"bench.py of {example.title()} prints what its README doesn't show", said)
 
 
 def main():
@@ -66,10 +82,16 @@ def main():
     for example in found:
         with tempfile.TemporaryDirectory() as folder:
             take(example, Path(folder))
-            if (example.folder / "bench.v").exists():
-                run_bench(example, Path(folder))
+    for there in dict.fromkeys(example.folder for example in found):
+        systems = [example for example in found if example.folder == there]
+        with tempfile.TemporaryDirectory() as folder:
+            if (there / "bench.v").exists():
+                run_bench(systems, Path(folder))
                 ran += 1
-    must(len(found) >= 11 and ran >= 4, f"only {len(found)} systems and {ran} benches were found")
+            if (there / "bench.py").exists():
+                run_script(systems[0], Path(folder))
+                ran += 1
+    must(len(found) >= 15 and ran >= 6, f"only {len(found)} systems and {ran} benches were found")
     tools = "Icarus and Verilator" if VERILATOR else "Icarus"
     print(f"top.py: {tools} take the top levels of {len(found)} systems without a word, {ran} benches pass with the waves of their READMEs")
 
