@@ -26,12 +26,13 @@ take() {
 show() {
   local example=$1 text=$folder/${2%.tcl}.v
   shift
+  scripts=("$@")
   (cd "$top/examples/$example" && "$top/avalon" generate "$@") >"$text"
   take "$text" iverilog -Wall -t null
   take "$text" verilator --lint-only
 }
 
-# A folder of examples with a bench, the name of its system, and its Verilog: the bench passes, and prints the waves of its README.
+# A folder of examples with a bench, the name of its system, which was shown last, and its Verilog: the bench passes, and prints the waves of its README.
 run_bench() {
   local example=$1 name=$2
   shift 2
@@ -39,7 +40,8 @@ run_bench() {
     echo "iverilog isn't installed, so the bench of examples/$example wasn't run"
     return
   fi
-  (cd "$top/examples/$example" && iverilog -g2005 -Wall -o "$folder/$name" "$@" "$folder/$name.v") >"$folder/said" 2>&1 || { cat "$folder/said"; exit 1; }
+  (cd "$top/examples/$example" && python3 "$top/helpers/top.py" "$folder/$name.v" "${scripts[@]}") >"$folder/${name}_top.v"
+  (cd "$top/examples/$example" && iverilog -g2005 -Wall -o "$folder/$name" "$@" "$folder/${name}_top.v" "$folder/$name.v") >"$folder/said" 2>&1 || { cat "$folder/said"; exit 1; }
   vvp "$folder/$name" >"$folder/waves"
   # the block of the README that begins with the cycles
   sed -n '/^cycle /,/^```$/{/^```$/d;p}' "$top/examples/$example/README.md" | diff - "$folder/waves" || {
@@ -55,9 +57,9 @@ show pair pair.tcl master.tcl memory.tcl
 show stream stream.tcl camera.tcl scaler.tcl
 show stream packets.tcl tuner.tcl framer.tcl voices.tcl mixer.tcl
 show top board.tcl master.tcl memory.tcl counter.tcl display.tcl
-run_bench top board bench.v board.v master.v memory.v counter.v display.v
+run_bench top board bench.v master.v memory.v counter.v display.v
 show video video.tcl cpu.tcl rom.tcl dram.tcl camera.tcl writer.tcl reader.tcl screen.tcl
 show control control.tcl cpu.tcl ram.tcl flash.tcl port.tcl
-run_bench control control bench.v control.v cpu.v ram.v flash.v port.v
+run_bench control control bench.v cpu.v ram.v flash.v port.v
 show shared shared.tcl cpu.tcl ram.tcl
-run_bench shared shared bench.v shared.v cpu.v ram.v
+run_bench shared shared bench.v cpu.v ram.v
