@@ -6,7 +6,7 @@ import sys
 import tempfile
 from pathlib import Path
 
-from parts import called, examples, helper, must, silent
+from parts import ENVIRONMENT, HELPERS, PROGRAM, TOP, called, examples, helper, must, silent
 
 from scripts import Component
 
@@ -76,8 +76,23 @@ def run_script(example, folder):
     must(said in shown_in(example.folder), f"bench.py of {example.title()} prints what its README doesn't show", said)
 
 
+def run_commands():
+    """The commands that the README shows, from scripts to waves, as they stand there."""
+    block = next(it for it in re.findall(r"^```sh\n(.*?)^```$", (TOP / "README.md").read_text(), re.S | re.M) if "--bench" in it)
+    with tempfile.TemporaryDirectory() as folder:
+        there = Path(folder)
+        shutil.copytree(TOP / "examples/top", there / "examples/top", ignore=shutil.ignore_patterns("out"))
+        (there / "helpers").symlink_to(HELPERS)
+        (there / "avalon").symlink_to(PROGRAM)
+        run = subprocess.run(["bash", "-ec", block], cwd=there, capture_output=True, text=True, env=ENVIRONMENT, check=False)
+        waves = there / "examples/top/board.vcd"
+        must(run.returncode == 0 and waves.exists(), "the commands of the README don't come to waves", run.stdout, run.stderr)
+        must("counter_0$out$valid" in waves.read_text(), "the waves of the README's commands lack a signal")
+
+
 def main():
     ran = 0
+    run_commands()
     found = examples()
     for example in found:
         with tempfile.TemporaryDirectory() as folder:
