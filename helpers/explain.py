@@ -20,6 +20,7 @@ ends; then the row of the rule in docs/RULES.md: what is wrong, and what to do. 
 """
 RULES = Path(__file__).resolve().parent.parent / "docs" / "RULES.md"
 MOST = 100  # letters of a line that are shown
+FILES = {"verilog": 1, "dump": 1, "packet": 2}  # which file an answer is about that names none
 
 
 def rules():
@@ -141,26 +142,23 @@ def explain_link(files, rule, numbers):
 def explain(answer, files):
     """What is said below an answer, if it is a refusal."""
     first = answer.split("\n", 1)[0]
-    found = re.search(r"^(?:script|link|scenario|verilog) refused: .*?rule ([A-Z]\d+)", first) or re.match(r"limit: (L\d)", first)
     fault = re.match(r"read fault: file (\d+)$", first)
     if fault:
         print(f"  {files[int(fault[1]) - 1]} can't be read: is it there, is it a file, and may you read it?")
+    found = re.match(r"\w+ refused: .*?rule ([A-Z]\d+)", first) or re.match(r"limit: (L\d)", first)
     if not found:
         return
-    rule = found[1]
-    place = re.match(r"(?:script|scenario) refused: file (\d+) line (\d+)(?: byte (\d+))?", first)
-    text = re.match(r"verilog refused: byte (\d+)", first)
+    rule, cause = found[1], None
+    place = re.match(r"\w+ refused: (?:file (\d+) )?(?:line (\d+) )?(?:byte (\d+) )?rule", first)
     link = re.match(r"link refused: connection (\d+) rule \w+(?: with (\d+))?", first)
-    cause = None
-    if place:
-        number, line, byte = int(place[1]), int(place[2]), int(place[3]) if place[3] else None
-        show(files[number - 1], line, byte)
-        cause = cause_of_script(rule, files, number, byte) if byte is not None else None
-    if text:
-        show(files[0], read_bytes(files[0])[:int(text[1])].count(b"\n") + 1, int(text[1]))
     if link:
         explain_link(files, rule, [it for it in link.groups() if it])
-    wrong, todo = rules()[rule]
+    elif place and (place[2] or place[3]):
+        number, byte = int(place[1] or FILES.get(first.split(" ")[0], 1)), int(place[3]) if place[3] else None
+        line = int(place[2]) if place[2] else read_bytes(files[number - 1])[:byte].count(b"\n") + 1
+        show(files[number - 1], line, byte)
+        cause = cause_of_script(rule, files, number, byte) if first.startswith("script") else None
+    wrong, todo = rules().get(rule, ("a rule that docs/RULES.md doesn't have", "see docs/FORMATS.md"))
     print(f"  {rule}: {wrong}")
     if cause:
         print(f"  here: {cause}")

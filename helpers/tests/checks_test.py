@@ -152,7 +152,8 @@ def stream_end(name, interface, side, latency):
     return "\n".join(lines) + "\n"
 
 
-SYSTEM += [stream_end("gen", "o", "source", 0), stream_end("chk", "i", "sink", 0), stream_end("late", "o", "source", 2), stream_end("led", "i", "sink", 2)]
+SYSTEM += [stream_end("gen", "o", "source", 0), stream_end("chk", "i", "sink", 0)]
+SYSTEM += [stream_end("late", "o", "source", 2), stream_end("led", "i", "sink", 2)]
 
 SCENARIO = b"""cycles 60
 stall ram.s 0110

@@ -87,6 +87,40 @@ def check_waves():
             must(cycles[cycle][name] == int(value, 16), f"waves.py: cycle {cycle} has another {name}")
 
 
+DUMP = """$timescale 1 ns $end
+$scope module inv_interconnect $end
+$var wire 1 ! a$b$valid $end
+$var wire 8 " a$b$data [7:0] $end
+$var wire 1 # clk $end
+$upscope $end
+$enddefinitions $end
+#0
+0!
+"""
+
+SCOPED = """$timescale 1 ns $end
+$scope module inv_interconnect $end
+$var wire 1 # clk $end
+$scope module a $end
+$scope module b $end
+$var wire 1 ! valid $end
+$var wire 8 " data $end
+$upscope $end
+$upscope $end
+$upscope $end
+$enddefinitions $end
+#0
+0!
+"""
+
+
+def check_scopes(folder):
+    """Signals of another file of waves get scopes by their names, and the changes stay."""
+    (folder / "flat.vcd").write_text(DUMP)
+    told = helper("waves.py", "flat.vcd", folder=folder)
+    must(told == SCOPED, "waves.py gives other scopes", told)
+
+
 def check_quartus(folder, example):
     (folder / "text.v").write_text(example.generate())
     words = [example.script, *example.components]
@@ -107,8 +141,9 @@ def check_calls():
     for file in sorted(HELPERS.glob("*.py")):
         if file.name not in ("scripts.py", "pybench.py"):
             must(len(helper(file.name, "--help")) > 200, f"{file.name} --help says little")
-    for name, words in (("top.py", ["/nowhere", "/nowhere"]), ("checks.py", ["/nowhere", "/nowhere"]), ("waves.py", ["/nowhere"] * 3),
-                        ("quartus.py", ["vhdl", "/nowhere"]), ("top.py", [HELPERS / "top.py", HELPERS / "top.py"])):
+    here, nowhere = HELPERS / "top.py", "/nowhere"
+    for name, words in (("top.py", [nowhere, nowhere]), ("top.py", [here, here]), ("checks.py", [nowhere, nowhere]), ("waves.py", [nowhere] * 3),
+                        ("waves.py", [here]), ("quartus.py", ["vhdl", nowhere])):
         run = subprocess.run([sys.executable, HELPERS / name, *words], capture_output=True, text=True, env=ENVIRONMENT, check=False)
         must(run.returncode == 1 and run.stderr.count("\n") == 1 and not run.stdout, f"{name}: a bad call isn't told in a line", run.stderr)
 
@@ -119,6 +154,7 @@ def main():
         check_header(Path(folder), found["desk/desk.tcl"])
         check_pybench(Path(folder), found["bus/bus.tcl"])
         check_waves()
+        check_scopes(Path(folder))
         check_quartus(Path(folder), found["top/board.tcl"])
     check_calls()
     tools = [tool for tool in ("gcc", "ghdl") if shutil.which(tool)]
